@@ -1,0 +1,10 @@
+pub mod Bytes
+pub mod Token
+pub mod Modes
+pub mod Words
+pub mod Vocabulary
+pub mod Rules
+pub mod Numbers
+pub mod Outcomes
+pub mod Lexing
+pub mod Pieces

@@ -1,0 +1,4 @@
+//! From devicetree source to a blob.
+#![tactic(auto)]
+
+mod lexer;
