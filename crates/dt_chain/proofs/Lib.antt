@@ -1,0 +1,4 @@
+pub mod WordLemmas
+pub mod NumberLemmas
+pub mod Cuts
+pub mod Lexed

@@ -69,8 +69,8 @@ fn give<'a>(
     kind: Option<Kind<'a>>,
     start: usize,
 ) -> Result<Mode, LexError>
-    ensures tokens { OnOk result (map view out.new.items ≡ map view out.old.items ++ tokens_of kind start) }
-    ensures mode { IfOk result (λ m. m ≡ mode_behind kind mode) }
+    ensures tokens { OnOk result (map view out.new.items ≡ map view out.old.items ++ tokens_of kind.entry start) }
+    ensures mode { IfOk result (λ m. m ≡ mode_behind kind.entry mode) }
     ensures err { IfErr result (λ e. e ≡ LexError.Memory) }
 {
     match kind {

@@ -73,7 +73,7 @@ pub fn spelling(mark: Mark) -> &'static [u8]
 
 /// The mode that a token leaves.
 pub fn mode_after(kind: Kind<'_>, mode: Mode) -> Mode
-    ensures { result ≡ mode_after (token_of kind) mode }
+    ensures { result ≡ mode_after (token_of kind.entry) mode }
 {
     match kind {
         Kind::Mark(Mark::OpenBrace) => Mode::Name,

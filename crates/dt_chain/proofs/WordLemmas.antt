@@ -1,0 +1,253 @@
+-- The longest front of a text in a set of words that is made of smaller sets.
+use Rattle.std.proofs.Common.{◌≡◌, ◌≢◌, ℕ, zero, suc, ◌+◌, ◌<◌, ◌≤◌, Bool, true, false, List, [], ◌∷◌, ◌++◌, length, Option, Some, None, ◌⊎◌, inl, inr, refl, sym, ◌∙◌, ap, subst, append_assoc, arith, length-append}
+use Rattle.std.proofs.lemmas.List.{append-nil}
+use Rattle.std.proofs.lemmas.Bool.Decides.{nat_tests}
+use Rattle.std.specs.Prelude.{IfSome, MatchOption, ◌||◌, ◌==◌}
+use Rattle.std.specs.Int.{is_in_range}
+use Rattle.dt_chain.specs.declared.lexer.byte.Class.{Class}
+use Rattle.dt_chain.specs.declared.lexer.byte.Class.TheVariants as class
+use Rattle.dt_chain.specs.Bytes.{is_in}
+use Rattle.dt_chain.specs.Vocabulary.{Closing, IntegerSuffix, Digits, IsDigits, suffixes}
+use Rattle.std.specs.Borrow.{Bor}
+use Rattle.dt_chain.specs.Words.{Each, Word, Without, Begins, Starting, Then, AnyOf, Stops, RunsTo, IsLongestWord, NoneFits, Skips}
+
+-- the same text behind the same front
+cancel : (k s t : List ℕ) → k ++ s ≡ k ++ t → s ≡ t
+cancel [] s t e = e
+cancel (b ∷ k) s t e = cancel k s t cc
+
+-- one word
+pub word_some : (k s t : List ℕ) → s ≡ k ++ t → IsLongestWord (Word k) s k t
+word_some k s t e = record { split = e; fits = refl; longest = λ v more f h. let l = ap length h in omega arith }
+
+pub word_none : (k s : List ℕ) → ((t : List ℕ) → s ≢ k ++ t) → NoneFits (Word k) s
+word_none k s h v more e f = h more (e ∙ ap (λ (x : List ℕ). x ++ more) f)
+
+-- where the first part has no front, the whole has none
+pub no_first : {P Q : List ℕ → Type 0} (s : List ℕ) → NoneFits P s → NoneFits (Then P Q) s
+no_first s h x more e f = h f.0 (f.1 ++ more) (e ∙ ap (λ (y : List ℕ). y ++ more) f.2 ∙ append_assoc f.0 f.1 more) f.3
+
+behind : (Q : List ℕ → Type 0) (k s t x more : List ℕ) → s ≡ k ++ t → s ≡ x ++ more → (f : Then (Word k) Q x) → t ≡ f.1 ++ more
+behind Q k s t x more e g f =
+    cancel k t (f.1 ++ more) (sym e ∙ g ∙ ap (λ (y : List ℕ). y ++ more) (f.2 ∙ ap (λ (y : List ℕ). y ++ f.1) f.3) ∙ append_assoc k f.1 more)
+
+-- a word, and then a word of a set
+pub then_word : (Q : List ℕ → Type 0) (k s t : List ℕ) → s ≡ k ++ t → (r : Option (Bor (List ℕ))) → Skips Q t r → Skips (Then (Word k) Q) s r
+then_word Q k s t e None h = λ x more g f. h f.1 more (behind Q k s t x more e g f) f.4
+then_word Q k s t e (Some rest) (w, l) = (
+  k ++ w,
+  record {
+    split = e ∙ ap (λ (y : List ℕ). k ++ y) l.split ∙ sym (append_assoc k w rest.now);
+    fits = (k, w, refl, refl, l.fits);
+    longest = λ x more g f.
+        let b = l.longest f.1 more (behind Q k s t x more e g f) f.4 in
+        let a = ap length (f.2 ∙ ap (λ (y : List ℕ). y ++ f.1) f.3) in
+        omega (arith, a, b, length-append k f.1, length-append k w);
+  },
+)
+
+-- a front of bytes that pass a test ends where a byte doesn't
+each_most : (p : ℕ → Bool) (w t u x : List ℕ) → w ++ t ≡ u ++ x → Each p w → Stops p t → Each p u → length u ≤ length w
+each_most p w t [] x e a b c = omega arith
+each_most p [] [] (d ∷ u) x e a b c = cc
+each_most p [] (f ∷ t) (d ∷ u) x e a b c = let same : f ≡ d = cc in let g = ap p same in let h = c.0 in cc
+each_most p (f ∷ w) t (d ∷ u) x e a b c = let h = each_most p w t u x (cc) a.1 b c.1 in omega arith
+
+each_cut : (p : ℕ → Bool) (w t u x : List ℕ) → w ++ t ≡ u ++ x → Each p w → Stops p t → Each p u → (b : ℕ) (y : List ℕ) → x ≡ b ∷ y → p b ≡ false → (w ≡ u) × (t ≡ x)
+each_cut p [] t [] x e a b c d y f g = (refl, e)
+each_cut p [] [] (h ∷ u) x e a b c d y f g = cc
+each_cut p [] (i ∷ t) (h ∷ u) x e a b c d y f g = let same : i ≡ h = cc in let k = ap p same in let l = c.0 in cc
+each_cut p (h ∷ w) t [] x e a b c d y f g = let same : h ≡ d = cc in let k = ap p same in let l = a.0 in cc
+each_cut p (h ∷ w) t (i ∷ u) x e a b c d y f g =
+    let r = each_cut p w t u x (cc) a.1 b c.1 d y f g in
+    let heads : h ≡ i = cc in
+    let tails = r.0 in
+    (cc, r.1)
+
+pub each_some : (p : ℕ → Bool) (s w t : List ℕ) → s ≡ w ++ t → Each p w → Stops p t → IsLongestWord (Each p) s w t
+each_some p s w t e a b = record { split = e; fits = a; longest = λ v more f c. each_most p w t v more (sym e ∙ f) a b c }
+
+pub all_some : (p : ℕ → Bool) (s : List ℕ) (rest : Bor (List ℕ)) → RunsTo p s rest.now → Skips (Each p) s (Some rest)
+all_some p s rest (w, e, a, b) = (w, each_some p s w rest.now e a b)
+
+-- no word of the set begins with a byte that passes the test
+abbrev pub StopsAll : (ℕ → Bool) → (List ℕ → Type 0) → Type 0
+StopsAll p Q = (v : List ℕ) → Q v → Stops p v
+
+module _ (p : ℕ → Bool) (Q : List ℕ → Type 0) (apart : StopsAll p Q) (s w t : List ℕ) (e : s ≡ w ++ t) (a : Each p w) (b : Stops p t) where
+  -- where a longer front would begin
+  each_behind : (u v more : List ℕ) → s ≡ (u ++ v) ++ more → Each p u → Q v → ((length u ≤ length w) × (v ≡ [])) ⊎ ((w ≡ u) × (t ≡ v ++ more))
+  each_behind u [] more g c q = inl (each_most p w t u ([] ++ more) (sym e ∙ g ∙ append_assoc u [] more) a b c, refl)
+  each_behind u (d ∷ v) more g c q = inr (each_cut p w t u (d ∷ (v ++ more)) (sym e ∙ g ∙ append_assoc u (d ∷ v) more) a b c d (v ++ more) refl (apart (d ∷ v) q))
+
+  each_none : NoneFits Q t → NoneFits (Then (Each p) Q) s
+  each_none h x more g (u, v, f, c, q) = at (each_behind u v more (g ∙ ap (λ (y : List ℕ). y ++ more) f) c q)
+    where
+      at : ((length u ≤ length w) × (v ≡ [])) ⊎ ((w ≡ u) × (t ≡ v ++ more)) → ⊥
+      at (inl l) = h [] t refl (subst Q l.1 q)
+      at (inr l) = h v more l.1 q
+
+  each_longest : (z rest : List ℕ) → IsLongestWord Q t z rest → (x more : List ℕ) → s ≡ x ++ more → Then (Each p) Q x → length x ≤ length (w ++ z)
+  each_longest z rest l x more g (u, v, f, c, q) = at (each_behind u v more (g ∙ ap (λ (y : List ℕ). y ++ more) f) c q)
+    where
+      at : ((length u ≤ length w) × (v ≡ [])) ⊎ ((w ≡ u) × (t ≡ v ++ more)) → length x ≤ length (w ++ z)
+      at (inl i) = omega (arith, i.0, ap length i.1, ap length f, length-append u v, length-append w z)
+      at (inr i) = omega (arith, ap length i.0, l.longest v more i.1 q, ap length f, length-append u v, length-append w z)
+
+  pub then_each_at : (r : Option (Bor (List ℕ))) → Skips Q t r → Skips (Then (Each p) Q) s r
+  then_each_at None h = each_none h
+  then_each_at (Some rest) (z, l) = (
+    w ++ z,
+    record {
+      split = e ∙ ap (λ (y : List ℕ). w ++ y) l.split ∙ sym (append_assoc w z rest.now);
+      fits = (w, z, refl, a, l.fits);
+      longest = each_longest z rest.now l;
+    },
+  )
+
+-- bytes that pass a test, and then a word that begins with none
+pub then_each : (p : ℕ → Bool) (Q : List ℕ → Type 0) → StopsAll p Q → (s t : List ℕ) → RunsTo p s t → (r : Option (Bor (List ℕ))) → Skips Q t r → Skips (Then (Each p) Q) s r
+then_each p Q apart s t (w, e, a, b) = then_each_at p Q apart s w t e a b
+
+begins_front : (p : ℕ → Bool) (s w rest : List ℕ) → s ≡ w ++ rest → length rest < length s → Begins p s → Begins p w
+begins_front p s [] rest e l h = let f = ap length e in absurd (omega arith)
+begins_front p [] (b ∷ w) rest e l h = absurd h
+begins_front p (c ∷ s) (b ∷ w) rest e l h = let same : c ≡ b = cc in subst (λ (x : ℕ). p x ≡ true) same h
+
+begins_of : (p : ℕ → Bool) (s w rest : List ℕ) → s ≡ w ++ rest → Begins p w → Begins p s
+begins_of p s [] rest e h = absurd h
+begins_of p [] (b ∷ w) rest e h = cc
+begins_of p (c ∷ s) (b ∷ w) rest e h = let same : b ≡ c = cc in subst (λ (x : ℕ). p x ≡ true) same h
+
+-- a word whose first byte passes a test
+pub starting : (p : ℕ → Bool) (P : List ℕ → Type 0) (s : List ℕ) → Begins p s → (r : Option (Bor (List ℕ))) → IfSome r (λ rest. length rest.now < length s) → Skips P s r → Skips (Starting p P) s r
+starting p P s b None short h = λ v more e f. h v more e f.1
+starting p P s b (Some rest) short (w, l) = (
+  w,
+  record {
+    split = l.split;
+    fits = (begins_front p s w rest.now l.split short b, l.fits);
+    longest = λ v more e f. l.longest v more e f.1;
+  },
+)
+
+pub not_starting : (p : ℕ → Bool) (P : List ℕ → Type 0) (s : List ℕ) → (Begins p s → ⊥) → NoneFits (Starting p P) s
+not_starting p P s b v more e f = b (begins_of p s v more e f.0)
+
+pub closing_empty : (s : List ℕ) → s ≡ [] → NoneFits Closing s
+closing_empty s e v more f ([], y, g, h, k) = let l : v ≡ 42 ∷ 47 ∷ [] = g ∙ k in cc
+closing_empty s e v more f (b ∷ u, y, g, h, k) = cc
+
+pub closing_here : (s t : List ℕ) → s ≡ 42 ∷ 47 ∷ t → IsLongestWord Closing s (42 ∷ 47 ∷ []) t
+closing_here s t e = record { split = e; fits = ([], 42 ∷ 47 ∷ [], refl, λ u v f. nothing u v f, refl); longest = λ v more f g. at v more f g.0 g.1 g.2 g.3 g.4 }
+  where
+    nothing : (u v : List ℕ) → [] ≡ u ++ 42 ∷ 47 ∷ v → ⊥
+    nothing [] v f = cc
+    nothing (b ∷ u) v f = cc
+
+    at : (v more : List ℕ) → s ≡ v ++ more → (u k : List ℕ) → v ≡ u ++ k → Without (42 ∷ 47 ∷ []) u → Word (42 ∷ 47 ∷ []) k → length v ≤ 2
+    at v more f [] k g h i = omega (arith, ap length (g ∙ i))
+    at v more f (b ∷ []) k g h i = let whole : 42 ∷ 47 ∷ t ≡ b ∷ 42 ∷ 47 ∷ more = sym e ∙ f ∙ ap (λ (x : List ℕ). x ++ more) (g ∙ ap (λ (x : List ℕ). b ∷ x) i) in let same : 47 ≡ 42 = cc in absurd (omega (arith, same))
+    at v more f (b ∷ c ∷ u) k g h i = let whole : 42 ∷ 47 ∷ t ≡ b ∷ c ∷ ((u ++ k) ++ more) = sym e ∙ f ∙ ap (λ (x : List ℕ). x ++ more) g in let first : b ≡ 42 = cc in let second : c ≡ 47 = cc in absurd (h [] u (λ j. first j ∷ second j ∷ u))
+
+module _ (s : List ℕ) (b : ℕ) (t : List ℕ) (e : s ≡ b ∷ t) (not_here : NoneFits (Word (42 ∷ 47 ∷ [])) s) where
+  -- a longer front closes behind the first byte
+  closing_later : (v more : List ℕ) → s ≡ v ++ more → Closing v → (u : List ℕ) × (v ≡ b ∷ u) × (t ≡ u ++ more) × Closing u
+  closing_later v more f ([], k, g, h, i) = absurd (not_here v more f (g ∙ i))
+  closing_later v more f (c ∷ u, k, g, h, i) =
+      let whole : b ∷ t ≡ c ∷ ((u ++ k) ++ more) = sym e ∙ f ∙ ap (λ (x : List ℕ). x ++ more) g in
+      let same : c ≡ b = cc in
+      (u ++ k, g ∙ ap (λ (x : ℕ). x ∷ (u ++ k)) same, cc, (u, k, refl, λ x y j. h (c ∷ x) y (ap (λ (z : List ℕ). c ∷ z) j), i))
+
+  -- and a front that closes behind it is one with it
+  closing_sooner : (w rest : List ℕ) → t ≡ w ++ rest → Closing w → Closing (b ∷ w)
+  closing_sooner w rest f (u, k, g, h, i) = (b ∷ u, k, ap (λ (x : List ℕ). b ∷ x) g, none, i)
+    where
+      none : (x y : List ℕ) → b ∷ u ≡ x ++ 42 ∷ 47 ∷ y → ⊥
+      none [] y j = not_here (42 ∷ 47 ∷ []) (y ++ (k ++ rest)) (e ∙ ap (λ (z : List ℕ). b ∷ z) (f ∙ ap (λ (z : List ℕ). z ++ rest) g ∙ append_assoc u k rest) ∙ ap (λ (z : List ℕ). z ++ (k ++ rest)) j) refl
+      none (c ∷ x) y j = h x y (cc)
+
+  pub closing_go : (r : Option (Bor (List ℕ))) → Skips Closing t r → Skips Closing s r
+  closing_go None h = λ v more f g. let l = closing_later v more f g in h l.0 more l.2 l.3
+  closing_go (Some rest) (w, k) = (
+    b ∷ w,
+    record {
+      split = e ∙ ap (λ (y : List ℕ). b ∷ y) k.split;
+      fits = closing_sooner w rest.now k.split k.fits;
+      longest = λ v more f g.
+          let l = closing_later v more f g in
+          omega (arith, ap length l.1, k.longest l.0 more l.2 l.3);
+    },
+  )
+
+-- one of several words, the longest first
+abbrev pub NoLonger : List (List ℕ) → ℕ → Type 0
+NoLonger [] n = Unit {0}
+NoLonger (k ∷ ks) n = (length k ≤ n) × NoLonger ks n
+
+no_longer : (ks : List (List ℕ)) (n : ℕ) → NoLonger ks n → (v : List ℕ) → AnyOf ks v → length v ≤ n
+no_longer [] n h v f = absurd f
+no_longer (k ∷ ks) n h v (inl f) = let l = ap length f in let m = h.0 in omega arith
+no_longer (k ∷ ks) n h v (inr f) = no_longer ks n h.1 v f
+
+pub any_here : (k : List ℕ) (ks : List (List ℕ)) (s : List ℕ) (rest : Bor (List ℕ)) → s ≡ k ++ rest.now → NoLonger ks (length k) → Skips (AnyOf (k ∷ ks)) s (Some rest)
+any_here k ks s rest e n = (k, record { split = e; fits = inl refl; longest = λ v more f h. no_longer (k ∷ ks) (length k) (omega arith, n) v h })
+
+pub any_later : (k : List ℕ) (ks : List (List ℕ)) (s : List ℕ) → NoneFits (Word k) s → (r : Option (Bor (List ℕ))) → Skips (AnyOf ks) s r → Skips (AnyOf (k ∷ ks)) s r
+any_later k ks s h None n = λ v more e f. none v more e f
+  where
+    none : (v more : List ℕ) → s ≡ v ++ more → AnyOf (k ∷ ks) v → ⊥
+    none v more e (inl f) = h v more e f
+    none v more e (inr f) = n v more e f
+any_later k ks s h (Some rest) (w, l) = (w, record { split = l.split; fits = inr l.fits; longest = at })
+  where
+    at : (v more : List ℕ) → s ≡ v ++ more → AnyOf (k ∷ ks) v → length v ≤ length w
+    at v more e (inl f) = absurd (h v more e f)
+    at v more e (inr f) = l.longest v more e f
+
+abbrev pub AllStop : (ℕ → Bool) → List (List ℕ) → Type 0
+AllStop p [] = Unit {0}
+AllStop p (k ∷ ks) = Stops p k × AllStop p ks
+
+pub stops_any : (p : ℕ → Bool) (ks : List (List ℕ)) → AllStop p ks → StopsAll p (AnyOf ks)
+stops_any p [] h v f = absurd f
+stops_any p (k ∷ ks) h v (inl f) = subst (Stops p) (sym f) h.0
+stops_any p (k ∷ ks) h v (inr f) = stops_any p ks h.1 v f
+
+pub stops_word : (p : ℕ → Bool) (k : List ℕ) → Stops p k → StopsAll p (Word k)
+stops_word p k h v f = subst (Stops p) (sym f) h
+
+pub each_push : (p : ℕ → Bool) (w : List ℕ) (b : ℕ) → Each p w → p b ≡ true → Each p (w ++ b ∷ [])
+each_push p [] b h t = (t, tt)
+each_push p (c ∷ w) b h t = (h.0, each_push p w b h.1 t)
+
+pub word_after : (k s : List ℕ) (r : Option (Bor (List ℕ))) → MatchOption r ((rest : List ℕ) → s ≢ k ++ rest) (λ x. s ≡ k ++ x.now) → Skips (Word k) s r
+word_after k s None h = word_none k s h
+word_after k s (Some x) h = (k, word_some k s x.now h)
+
+-- a first byte that passes the test is skipped
+pub runs_shorter : (p q : ℕ → Bool) → ((b : ℕ) → q b ≡ true → p b ≡ true) → (s rest : List ℕ) → Begins q s → RunsTo p s rest → length rest < length s
+runs_shorter p q sub [] rest b r = absurd b
+runs_shorter p q sub (c ∷ s) [] b r = omega arith
+runs_shorter p q sub (c ∷ s) (d ∷ rest) b ([], e, a, f) = let same : c ≡ d = cc in let t = ap p same in let g = sub c b in absurd (let h : true ≡ false = cc in cc)
+runs_shorter p q sub (c ∷ s) (d ∷ rest) b (x ∷ w, e, a, f) = omega (arith, ap length e, length-append w (d ∷ rest))
+
+pub digits_stop : (c : Class) → IsDigits c → StopsAll (is_in c) IntegerSuffix
+digits_stop class.Digit h = stops_any (is_in class.Digit) suffixes (refl, (refl, (refl, (refl, (refl, (tt, tt))))))
+digits_stop class.Hex h = stops_any (is_in class.Hex) suffixes (refl, (refl, (refl, (refl, (refl, (tt, tt))))))
+digits_stop _ h = absurd h
+
+pub still_shorter : (r : Option (Bor (List ℕ))) (s t : List ℕ) → length t < length s → IfSome r (λ rest. length rest.now ≤ length t) → IfSome r (λ rest. length rest.now < length s)
+still_shorter None s t l h = tt
+still_shorter (Some rest) s t l h = omega arith
+
+pub word_split : (k s t : List ℕ) → (w : List ℕ) × IsLongestWord (Word k) s w t → s ≡ k ++ t
+word_split k s t (w, l) = l.split ∙ ap (λ (x : List ℕ). x ++ t) l.fits
+
+-- a word that was read, and then a word of a set
+pub word_then : (Q : List ℕ → Type 0) (k s t : List ℕ) → (w : List ℕ) × IsLongestWord (Word k) s w t → (r : Option (Bor (List ℕ))) → Skips Q t r → Skips (Then (Word k) Q) s r
+word_then Q k s t w r h = then_word Q k s t (word_split k s t w) r h
+
+pub shorter_word : (r : Option (Bor (List ℕ))) (k s t : List ℕ) → 0 < length k → length t ≤ length s → IfSome r (λ rest. length rest.now + length k ≡ length t) → IfSome r (λ rest. length rest.now < length s)
+shorter_word None k s t f l h = tt
+shorter_word (Some rest) k s t f l h = omega arith

@@ -1,0 +1,20 @@
+use Rattle.std.proofs.Common.{◌≡◌, ℕ, ◌<◌, ◌≤◌, List, [], ◌∷◌, ◌++◌, length, Option, Some, None, refl, sym, ◌∙◌, ap, arith}
+use Rattle.std.specs.Borrow.{Bor}
+use Rattle.dt_chain.specs.declared.lexer.byte.Class.TheVariants as class
+use Rattle.dt_chain.specs.Bytes.{is_in}
+use Rattle.dt_chain.specs.Words.{Each, Word, Then, Skips}
+use Rattle.dt_chain.specs.Vocabulary.{Closing, Digits}
+use Rattle.dt_chain.proofs.WordLemmas.{word_then, starting, then_each, stops_word, all_some, runs_shorter, closing_empty, closing_here, closing_go, word_split}
+use Rattle.dt_chain.proofs.lexer.word.after_closing.Goals as goal
+
+pub returns-in-Some-clause-exact : goal.returns-in-Some-clause-exact
+returns-in-Some-clause-exact c =
+    let s = c.loop-later.rest.now in
+    let rest = c.in-Some.behind in
+    c.loop-later.invariant.follows (Some rest) (42 ∷ 47 ∷ [], closing_here s rest.now (word_split (42 ∷ 47 ∷ []) s rest.now c.in-Some.ensures.exact))
+
+pub loop-later-preserved : goal.loop-later-preserved
+loop-later-preserved c = ?
+
+pub returns-clause-exact : goal.returns-clause-exact
+returns-clause-exact c = c.loop-later.invariant.follows None (closing_empty c.loop-later.rest.now c.in_default.ensures.none)

@@ -1,0 +1,13 @@
+use Rattle.std.proofs.Common.{◌≡◌, ℕ, ◌<◌, ◌≤◌, List, [], ◌∷◌, ◌++◌, length, Option, Some, None, refl, sym, ◌∙◌, ap, arith}
+use Rattle.std.specs.Borrow.{Bor}
+use Rattle.dt_chain.specs.declared.lexer.byte.Class.TheVariants as class
+use Rattle.dt_chain.specs.Bytes.{is_in}
+use Rattle.dt_chain.specs.Words.{Each, Word, Then, Skips}
+use Rattle.dt_chain.specs.Vocabulary.{Closing, Digits}
+use Rattle.dt_chain.proofs.WordLemmas.{word_then, starting, then_each, stops_word, all_some, runs_shorter, closing_empty, closing_here, closing_go, word_split}
+use Rattle.dt_chain.proofs.lexer.word.after_line_comment.Goals as goal
+
+pub returns-clause-exact : goal.returns-clause-exact
+returns-clause-exact c =
+    let t = c.in_ok-after_word.field-0.now in
+    word_then (Each (is_in class.Line)) (47 ∷ 47 ∷ []) c.args.text.now t c.in_ok-after_word.ensures.exact (Some c.after_all.result) (all_some (is_in class.Line) t c.after_all.result c.after_all.ensures.exact)
