@@ -13,8 +13,10 @@ use Rattle.dt_chain.specs.Modes.{mode_after}
 use Rattle.dt_chain.specs.Words.{IsLongestWord, NoneFits}
 use Rattle.dt_chain.specs.Rules.{In, rules}
 use Rattle.dt_chain.specs.Outcomes.{Outcome, outcome, given_by}
-use Rattle.dt_chain.specs.Lexing.{IsCut, HasNoCut, Lexed, with_tokens, placed, Lexes, done, no_rule, faulty, skipped, given}
-use Rattle.dt_chain.specs.Pieces.{tokens_of, mode_behind}
+use Rattle.dt_chain.specs.Lexing.{IsCut, HasNoCut, Lexed, IsRead, with_tokens, placed, Lexes, done, no_rule, faulty, skipped, given}
+use Rattle.dt_chain.specs.declared.lexer.LexError.{LexError}
+use Rattle.dt_chain.specs.declared.lexer.LexError.TheVariants as error
+use Rattle.dt_chain.specs.Pieces.{tokens_of, mode_behind, Reports, IsReason}
 
 -- two fronts of one length are one
 same_front : (w v s t : List ℕ) → w ++ s ≡ v ++ t → length w ≡ length v → (w ≡ v) × (s ≡ t)
@@ -124,3 +126,8 @@ fault_here m at (b ∷ s) f e (inr h) = faulty h.0 h.1 h.2 h.3 h.4
 pub end_here : (m : Mode) (at : ℕ) (s : List ℕ) → length s ≡ 0 → Lexes m at s (Ok [])
 end_here m at [] e = done
 end_here m at (b ∷ s) e = absurd (omega arith)
+
+pub reason_of : (text : List ℕ) (e : LexError) (a : Lexed) → Reports e a → IsRead text a → IsReason text e
+reason_of s error.Memory a r d = tt
+reason_of s (error.BadToken at) a r d = subst (IsRead s) r d
+reason_of s (error.BadInteger at) a r d = subst (IsRead s) r d

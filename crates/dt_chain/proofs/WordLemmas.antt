@@ -134,51 +134,86 @@ starting p P s b (Some rest) short (w, l) = (
 pub not_starting : (p : ℕ → Bool) (P : List ℕ → Type 0) (s : List ℕ) → (Begins p s → ⊥) → NoneFits (Starting p P) s
 not_starting p P s b v more e f = b (begins_of p s v more e f.0)
 
+-- bytes in which two bytes don't stand side by side, and those two
+abbrev pub Closed : ℕ → ℕ → List ℕ → Type 0
+Closed p q = Then (Without (p ∷ q ∷ [])) (Word (p ∷ q ∷ []))
+
+same_tail : (b c : ℕ) (u v : List ℕ) → b ∷ u ≡ c ∷ v → u ≡ v
+same_tail b c u v e = cc
+
+same_head : (b c : ℕ) (u v : List ℕ) → b ∷ u ≡ c ∷ v → b ≡ c
+same_head b c u v e = cc
+
+module _ (p q : ℕ) where
+  closed_empty : (s : List ℕ) → s ≡ [] → NoneFits (Closed p q) s
+  closed_empty s e v more f ([], y, g, h, k) = let l : v ≡ p ∷ q ∷ [] = g ∙ k in cc
+  closed_empty s e v more f (b ∷ u, y, g, h, k) = cc
+
+  stands_not : (u v : List ℕ) → [] ≡ u ++ (p ∷ q ∷ v) → ⊥
+  stands_not [] v f = cc
+  stands_not (b ∷ u) v f = cc
+
+  module _ (apart : p ≡ q → ⊥) (s t : List ℕ) (e : s ≡ p ∷ q ∷ t) where
+    closed_shortest : (v more : List ℕ) → s ≡ v ++ more → (u k : List ℕ) → v ≡ u ++ k → Without (p ∷ q ∷ []) u → k ≡ p ∷ q ∷ [] → length v ≤ 2
+    closed_shortest v more f [] k g h i = omega (arith, ap length (g ∙ i))
+    closed_shortest v more f (b ∷ []) k g h i =
+        let whole : p ∷ q ∷ t ≡ b ∷ p ∷ q ∷ more = sym e ∙ f ∙ ap (λ (x : List ℕ). x ++ more) (g ∙ ap (λ (x : List ℕ). b ∷ x) i) in
+        absurd (apart (sym (same_head q p t (q ∷ more) (same_tail p b (q ∷ t) (p ∷ q ∷ more) whole))))
+    closed_shortest v more f (b ∷ c ∷ u) k g h i =
+        let whole : p ∷ q ∷ t ≡ b ∷ c ∷ ((u ++ k) ++ more) = sym e ∙ f ∙ ap (λ (x : List ℕ). x ++ more) g in
+        let first : b ≡ p = sym (same_head p b (q ∷ t) (c ∷ ((u ++ k) ++ more)) whole) in
+        let second : c ≡ q = sym (same_head q c t ((u ++ k) ++ more) (same_tail p b (q ∷ t) (c ∷ ((u ++ k) ++ more)) whole)) in
+        absurd (h [] u (λ j. first j ∷ second j ∷ u))
+
+    closed_here : IsLongestWord (Closed p q) s (p ∷ q ∷ []) t
+    closed_here = record {
+      split = e;
+      fits = ([], p ∷ q ∷ [], refl, stands_not, refl);
+      longest = λ v more f g. closed_shortest v more f g.0 g.1 g.2 g.3 g.4;
+    }
+
+  module _ (s : List ℕ) (b : ℕ) (t : List ℕ) (e : s ≡ b ∷ t) (not_here : NoneFits (Word (p ∷ q ∷ [])) s) where
+    -- a longer front closes behind the first byte
+    closed_later : (v more : List ℕ) → s ≡ v ++ more → Closed p q v → (u : List ℕ) × (v ≡ b ∷ u) × (t ≡ u ++ more) × Closed p q u
+    closed_later v more f ([], k, g, h, i) = absurd (not_here v more f (g ∙ i))
+    closed_later v more f (c ∷ u, k, g, h, i) =
+        let whole : b ∷ t ≡ c ∷ ((u ++ k) ++ more) = sym e ∙ f ∙ ap (λ (x : List ℕ). x ++ more) g in
+        let same : c ≡ b = sym (same_head b c t ((u ++ k) ++ more) whole) in
+        (u ++ k, g ∙ ap (λ (x : ℕ). x ∷ (u ++ k)) same, same_tail b c t ((u ++ k) ++ more) whole, (u, k, refl, λ x y j. h (c ∷ x) y (ap (λ (z : List ℕ). c ∷ z) j), i))
+
+    -- and a front that closes behind it is one with it
+    closed_sooner : (w rest : List ℕ) → t ≡ w ++ rest → Closed p q w → Closed p q (b ∷ w)
+    closed_sooner w rest f (u, k, g, h, i) = (b ∷ u, k, ap (λ (x : List ℕ). b ∷ x) g, none, i)
+      where
+        none : (x y : List ℕ) → b ∷ u ≡ x ++ (p ∷ q ∷ y) → ⊥
+        none [] y j = not_here (p ∷ q ∷ []) (y ++ (k ++ rest)) (e ∙ ap (λ (z : List ℕ). b ∷ z) (f ∙ ap (λ (z : List ℕ). z ++ rest) g ∙ append_assoc u k rest) ∙ ap (λ (z : List ℕ). z ++ (k ++ rest)) j) refl
+        none (c ∷ x) y j = h x y (same_tail b c u (x ++ (p ∷ q ∷ y)) j)
+
+    closed_go : (r : Option (Bor (List ℕ))) → Skips (Closed p q) t r → Skips (Closed p q) s r
+    closed_go None h = λ v more f g. let l = closed_later v more f g in h l.0 more l.2 l.3
+    closed_go (Some rest) (w, k) = (
+      b ∷ w,
+      record {
+        split = e ∙ ap (λ (y : List ℕ). b ∷ y) k.split;
+        fits = closed_sooner w rest.now k.split k.fits;
+        longest = λ v more f g.
+            let l = closed_later v more f g in
+            omega (arith, ap length l.1, k.longest l.0 more l.2 l.3);
+      },
+    )
+
+different : (p q : ℕ) → p < q → p ≡ q → ⊥
+different p q l e = omega (arith, l, e)
+
+-- up to the next `*/`
 pub closing_empty : (s : List ℕ) → s ≡ [] → NoneFits Closing s
-closing_empty s e v more f ([], y, g, h, k) = let l : v ≡ 42 ∷ 47 ∷ [] = g ∙ k in cc
-closing_empty s e v more f (b ∷ u, y, g, h, k) = cc
+closing_empty = closed_empty 42 47
 
 pub closing_here : (s t : List ℕ) → s ≡ 42 ∷ 47 ∷ t → IsLongestWord Closing s (42 ∷ 47 ∷ []) t
-closing_here s t e = record { split = e; fits = ([], 42 ∷ 47 ∷ [], refl, λ u v f. nothing u v f, refl); longest = λ v more f g. at v more f g.0 g.1 g.2 g.3 g.4 }
-  where
-    nothing : (u v : List ℕ) → [] ≡ u ++ 42 ∷ 47 ∷ v → ⊥
-    nothing [] v f = cc
-    nothing (b ∷ u) v f = cc
+closing_here = closed_here 42 47 (different 42 47 (omega arith))
 
-    at : (v more : List ℕ) → s ≡ v ++ more → (u k : List ℕ) → v ≡ u ++ k → Without (42 ∷ 47 ∷ []) u → Word (42 ∷ 47 ∷ []) k → length v ≤ 2
-    at v more f [] k g h i = omega (arith, ap length (g ∙ i))
-    at v more f (b ∷ []) k g h i = let whole : 42 ∷ 47 ∷ t ≡ b ∷ 42 ∷ 47 ∷ more = sym e ∙ f ∙ ap (λ (x : List ℕ). x ++ more) (g ∙ ap (λ (x : List ℕ). b ∷ x) i) in let same : 47 ≡ 42 = cc in absurd (omega (arith, same))
-    at v more f (b ∷ c ∷ u) k g h i = let whole : 42 ∷ 47 ∷ t ≡ b ∷ c ∷ ((u ++ k) ++ more) = sym e ∙ f ∙ ap (λ (x : List ℕ). x ++ more) g in let first : b ≡ 42 = cc in let second : c ≡ 47 = cc in absurd (h [] u (λ j. first j ∷ second j ∷ u))
-
-module _ (s : List ℕ) (b : ℕ) (t : List ℕ) (e : s ≡ b ∷ t) (not_here : NoneFits (Word (42 ∷ 47 ∷ [])) s) where
-  -- a longer front closes behind the first byte
-  closing_later : (v more : List ℕ) → s ≡ v ++ more → Closing v → (u : List ℕ) × (v ≡ b ∷ u) × (t ≡ u ++ more) × Closing u
-  closing_later v more f ([], k, g, h, i) = absurd (not_here v more f (g ∙ i))
-  closing_later v more f (c ∷ u, k, g, h, i) =
-      let whole : b ∷ t ≡ c ∷ ((u ++ k) ++ more) = sym e ∙ f ∙ ap (λ (x : List ℕ). x ++ more) g in
-      let same : c ≡ b = cc in
-      (u ++ k, g ∙ ap (λ (x : ℕ). x ∷ (u ++ k)) same, cc, (u, k, refl, λ x y j. h (c ∷ x) y (ap (λ (z : List ℕ). c ∷ z) j), i))
-
-  -- and a front that closes behind it is one with it
-  closing_sooner : (w rest : List ℕ) → t ≡ w ++ rest → Closing w → Closing (b ∷ w)
-  closing_sooner w rest f (u, k, g, h, i) = (b ∷ u, k, ap (λ (x : List ℕ). b ∷ x) g, none, i)
-    where
-      none : (x y : List ℕ) → b ∷ u ≡ x ++ 42 ∷ 47 ∷ y → ⊥
-      none [] y j = not_here (42 ∷ 47 ∷ []) (y ++ (k ++ rest)) (e ∙ ap (λ (z : List ℕ). b ∷ z) (f ∙ ap (λ (z : List ℕ). z ++ rest) g ∙ append_assoc u k rest) ∙ ap (λ (z : List ℕ). z ++ (k ++ rest)) j) refl
-      none (c ∷ x) y j = h x y (cc)
-
-  pub closing_go : (r : Option (Bor (List ℕ))) → Skips Closing t r → Skips Closing s r
-  closing_go None h = λ v more f g. let l = closing_later v more f g in h l.0 more l.2 l.3
-  closing_go (Some rest) (w, k) = (
-    b ∷ w,
-    record {
-      split = e ∙ ap (λ (y : List ℕ). b ∷ y) k.split;
-      fits = closing_sooner w rest.now k.split k.fits;
-      longest = λ v more f g.
-          let l = closing_later v more f g in
-          omega (arith, ap length l.1, k.longest l.0 more l.2 l.3);
-    },
-  )
+pub closing_go : (s : List ℕ) (b : ℕ) (t : List ℕ) → s ≡ b ∷ t → NoneFits (Word (42 ∷ 47 ∷ [])) s → (r : Option (Bor (List ℕ))) → Skips Closing t r → Skips Closing s r
+closing_go = closed_go 42 47
 
 -- one of several words, the longest first
 abbrev pub NoLonger : List (List ℕ) → ℕ → Type 0

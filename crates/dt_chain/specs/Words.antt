@@ -13,7 +13,7 @@ Word k w = w ≡ k
 
 -- this word stands nowhere in it
 abbrev pub Without : List ℕ → List ℕ → Type 0
-Without k w = (u v : List ℕ) → w ≡ u ++ k ++ v → ⊥
+Without k w = (u v : List ℕ) → w ≡ u ++ (k ++ v) → ⊥
 
 -- the first byte passes the test
 abbrev pub Begins : (ℕ → Bool) → List ℕ → Type 0
