@@ -1,2 +1,9 @@
 pub mod Names
 pub mod Path
+pub mod Meaning
+pub mod Tree
+pub mod Valid
+pub mod Format
+pub mod Represents
+pub mod Event
+pub mod Source
