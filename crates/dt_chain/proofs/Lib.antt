@@ -2,3 +2,5 @@ pub mod WordLemmas
 pub mod NumberLemmas
 pub mod Cuts
 pub mod Lexed
+pub mod Values
+pub mod Nested

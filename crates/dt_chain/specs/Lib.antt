@@ -7,4 +7,6 @@ pub mod Rules
 pub mod Numbers
 pub mod Outcomes
 pub mod Lexing
+pub mod Grammar
+pub mod Parsing
 pub mod Pieces
