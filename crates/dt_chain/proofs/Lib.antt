@@ -4,3 +4,5 @@ pub mod Cuts
 pub mod Lexed
 pub mod Values
 pub mod Nested
+pub mod Walks
+pub mod Grown

@@ -9,4 +9,5 @@ pub mod Outcomes
 pub mod Lexing
 pub mod Grammar
 pub mod Parsing
+pub mod Building
 pub mod Pieces

@@ -1,3 +1,4 @@
 pub mod ByPath
 pub mod AfterChild
 pub mod AfterProperty
+pub mod Edges
