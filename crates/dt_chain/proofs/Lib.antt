@@ -6,3 +6,4 @@ pub mod Values
 pub mod Nested
 pub mod Walks
 pub mod Grown
+pub mod Standing
