@@ -1,5 +1,5 @@
 -- The bytes of a node's name from some place on.
-use Rattle.std.proofs.Common.{◌≡◌, ◌≢◌, ◌↔◌, ℕ, ◌+◌, ◌<◌, ◌≤◌, ◌==◌, ◌||◌, Bool, true, false, cond, List, [], ◌∷◌, IsTrue, length, slice_index, refl, sym, ap, ◌∙◌, subst, arith, rules}
+use Rattle.std.proofs.Common.{◌≡◌, ◌≢◌, ◌↔◌, ℕ, ◌+◌, ◌<◌, ◌≤◌, ◌==◌, ◌||◌, Bool, true, false, cond, List, [], ◌∷◌, IsTrue, length, slice_index, sym, ap, ◌∙◌, subst, arith, rules}
 use Rattle.std.specs.List.{All, count_by}
 use Rattle.std.proofs.lemmas.Bool.{eq-eqb, ne_eqb}
 use Rattle.std.proofs.lemmas.List.Sums.{sum_by-cons}
@@ -27,17 +27,19 @@ allowed_other b h = search rules
 pub first_at : (b : ℕ) (xs ys : List ℕ) → xs ≡ b ∷ ys → b ≡ 64 → IsRest false xs ↔ IsRest true ys
 first_at b xs ys e at =
     let counted = one_more b xs ys e in
-    let one : ◌≡◌ {A = ℕ} (cond (b == 64) 1 0) 1 = ap (λ v. cond v 1 0) (eq-eqb b 64 at) in
-    ( λ r. record { allowed = All-rest Allowed b ys xs e r.allowed; one_at = omega (arith, counted, one, r.one_at) }
-    , λ r. record { allowed = subst (All Allowed) (sym e) (All-cons Allowed b ys (allowed_at b at) r.allowed); one_at = omega (arith, counted, one, r.one_at) } )
+    let one : ◌≡◌ {A = ℕ} (cond (b == 64) 1 0) 1 = ap (λ v. cond v 1 0) (eq-eqb b 64 at) in (
+      λ r. record { allowed = All-rest Allowed b ys xs e r.allowed; one_at = omega (arith, counted, one, r.one_at) },
+      λ r. record { allowed = subst (All Allowed) (sym e) (All-cons Allowed b ys (allowed_at b at) r.allowed); one_at = omega (arith, counted, one, r.one_at) },
+    )
 
 -- any other byte of a name
 pub other_byte : (has_at : Bool) (b : ℕ) (xs ys : List ℕ) → xs ≡ b ∷ ys → b ≢ 64 → IsTrue (is_name_byte b) → IsRest has_at xs ↔ IsRest has_at ys
 other_byte has_at b xs ys e no_at named =
     let counted = one_more b xs ys e in
-    let none : ◌≡◌ {A = ℕ} (cond (b == 64) 1 0) 0 = ap (λ v. cond v 1 0) (ne_eqb b 64 no_at) in
-    ( λ r. record { allowed = All-rest Allowed b ys xs e r.allowed; one_at = omega (arith, counted, none, r.one_at) }
-    , λ r. record { allowed = subst (All Allowed) (sym e) (All-cons Allowed b ys (allowed_other b named) r.allowed); one_at = omega (arith, counted, none, r.one_at) } )
+    let none : ◌≡◌ {A = ℕ} (cond (b == 64) 1 0) 0 = ap (λ v. cond v 1 0) (ne_eqb b 64 no_at) in (
+      λ r. record { allowed = All-rest Allowed b ys xs e r.allowed; one_at = omega (arith, counted, none, r.one_at) },
+      λ r. record { allowed = subst (All Allowed) (sym e) (All-cons Allowed b ys (allowed_other b named) r.allowed); one_at = omega (arith, counted, none, r.one_at) },
+    )
 
 -- a second @
 pub second_at : (b : ℕ) (xs ys : List ℕ) → xs ≡ b ∷ ys → b ≡ 64 → IsRest true xs → ⊥
