@@ -1,5 +1,5 @@
 -- A list in two parts, and a stream that gave an answer.
-use Rattle.std.proofs.Common.{◌≡◌, ℕ, ◌+◌, ◌-◌, ◌<◌, Bool, true, false, Option, None, Some, List, ◌++◌, take, drop, length, refl, sym, ap, ◌∙◌, append_assoc, take-append-drop, length-append, arith}
+use Rattle.std.proofs.Common.{◌≡◌, ℕ, ◌-◌, ◌<◌, Bool, true, false, Option, None, Some, List, ◌++◌, take, drop, length, refl, sym, ap, ◌∙◌, append_assoc, take-append-drop, length-append, arith}
 use Rattle.std.proofs.lemmas.List.{take_rest}
 use lib.Seq.{take-append_seam}
 

@@ -3,7 +3,7 @@ use Rattle.std.specs.Prelude.{ℕ, List, codes}
 use Rattle.dt_names.specs.declared.fault.FaultKind.{FaultKind}
 use Rattle.dt_names.specs.declared.fault.FaultKind.TheVariants.{NoMemory, Limit, BadVersionTag, BadToken, Syntax, BadInteger, OutOfRange, PropertyAfterNode, DuplicateProperty, DuplicateNode, BadPhandle, ReservedName, BadName, Duplicate, BlobPhandle, WriteFault, ReadFault}
 
--- the number of a kind; no two kinds share one
+-- the number of a kind
 abbrev pub fault_number : FaultKind → ℕ
 fault_number NoMemory = 1
 fault_number Limit = 2

@@ -9,3 +9,5 @@ pub use fault::{Fault, FaultKind};
 pub use name::{NodeName, PropName};
 pub use stream::{Feed, In, Out, Sink, put_all};
 
+#[cfg(test)]
+mod tests;

@@ -7,7 +7,7 @@ ghost use Rattle.dt_names.specs.declared.fault.FaultKind.TheVariants.{BadName};
 use crate::fault::{Fault, FaultKind};
 use std::marker::Model;
 
-/// The most bytes that a name has.
+/// The most bytes that a name may have.
 const MOST_BYTES: usize = 255;
 
 /// The name of a node that isn't the root: a name, and perhaps an `@` and a unit address.
@@ -18,7 +18,6 @@ pub struct NodeName<'a> {
 
 impl<'a> Model for NodeName<'a> {
     ghost use Rattle.std.specs.Prelude.{List, ℕ};
-
     ghost use Rattle.dt_model.specs.Names.{IsNodeName};
 
     ghost Value = { List ℕ };
@@ -31,19 +30,18 @@ impl<'a> Model for NodeName<'a> {
 /// The name of a property.
 #[derive(Drop)]
 pub struct PropName<'a> {
-    bytes: &'a [u8],
+    name: &'a [u8],
 }
 
 impl<'a> Model for PropName<'a> {
     ghost use Rattle.std.specs.Prelude.{List, ℕ};
-
     ghost use Rattle.dt_model.specs.Names.{IsPropertyName};
 
     ghost Value = { List ℕ };
 
-    ghost view = { λ n. n.bytes.now };
+    ghost view = { λ n. n.name.now };
 
-    ghost invariant = { λ n. IsPropertyName n.bytes.now };
+    ghost invariant = { λ n. IsPropertyName n.name.now };
 }
 
 fn may_stand_in_a_name(byte: u8) -> bool
@@ -111,7 +109,7 @@ impl<'a> PropName<'a> {
         ensures fault { IfErr result (λ fault. (fault.kind ≡ BadName) × (fault.at ≡ None)) }
     {
         if is_property_name(bytes) {
-            Ok(PropName { bytes })
+            Ok(PropName { name: bytes })
         } else {
             Err(Fault::of(FaultKind::BadName))
         }
@@ -122,6 +120,6 @@ impl<'a> PropName<'a> {
         ensures value { result.now ≡ self.now }
         ensures valid { IsPropertyName self.now }
     {
-        self.bytes
+        self.name
     }
 }

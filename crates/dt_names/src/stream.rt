@@ -39,7 +39,7 @@ pub trait Feed {
         ensures bound { IfSome result (λ n. n ≤ length buffer.new) }
         ensures bytes { MatchOption result (Keeps (remaining self.old) (remaining self.new))
             (λ n. Consumes (remaining self.old) (remaining self.new) (take n buffer.new)
-                × (n ≡ 0 → 0 < length buffer.new → IsAtEnd (remaining self.new))) }
+            × (n ≡ 0 → 0 < length buffer.new → IsAtEnd (remaining self.new))) }
         ensures failed { has_failed self.new ≡ is_none result }
         ensures for_good { has_failed self.old ≡ true → result ≡ None };
 }
@@ -62,6 +62,13 @@ impl<W: Write> Out<W> {
             writer,
             has_failed: false,
         }
+    }
+
+    /// The writer, with what the sink holds.
+    pub fn into_inner(self) -> W
+        ensures { W.contents result ≡ ⟦<Out<W> as Sink>⟧.contents self }
+    {
+        self.writer
     }
 }
 
@@ -116,6 +123,13 @@ impl<R: Read> In<R> {
             has_failed: false,
         }
     }
+
+    /// The reader, with what the feed has left.
+    pub fn into_inner(self) -> R
+        ensures { R.remaining result ≡ ⟦<In<R> as Feed>⟧.remaining self }
+    {
+        self.reader
+    }
 }
 
 impl<R: Read> Feed for In<R> {
@@ -138,7 +152,7 @@ fn read_once<R: Read>(reader: &mut R, buffer: &mut [u8]) -> Option<usize>
     ensures bound { IfSome result (λ n. n ≤ length buffer.new) }
     ensures bytes { MatchOption result (Keeps (R.remaining reader.old) (R.remaining reader.new))
         (λ n. Consumes (R.remaining reader.old) (R.remaining reader.new) (take n buffer.new)
-            × (n ≡ 0 → 0 < length buffer.new → IsAtEnd (R.remaining reader.new))) }
+        × (n ≡ 0 → 0 < length buffer.new → IsAtEnd (R.remaining reader.new))) }
 {
     for _ in 0..u64::MAX {
         match reader.read(buffer) {
