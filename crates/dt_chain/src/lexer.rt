@@ -8,8 +8,8 @@ ghost use Rattle.dt_chain.specs.Pieces.{IsPiece, IsReason, Reports, mode_behind,
 pub mod byte;
 pub mod outcome;
 pub mod rule;
-
-
+#[cfg(test)]
+mod tests;
 pub mod token;
 pub mod word;
 
