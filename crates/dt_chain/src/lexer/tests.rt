@@ -21,29 +21,25 @@ fn word_of(kind: Kind<'_>) -> &[u8] {
     }
 }
 
+/// The places of a text's tokens, and their words.
+fn places(rt: &HostRuntime, text: &[u8]) -> Result<Vec<u8>, Fail> {
+    let mut out = Vec::new(rt.alloc());
+    let all = tokens(rt.alloc(), text).or(Err("a fault"))?;
+    for token in &all {
+        let place = format!(in rt.alloc(); "{} ", token.start)?;
+        out.extend_from_slice(place.as_str().as_bytes())?;
+        out.extend_from_slice(word_of(token.kind))?;
+        out.push(b'\n')?;
+    }
+    Ok(out)
+}
+
 #[test]
 fn tokens_and_places(rt: HostRuntime) -> Result<(), Fail> {
-    let wanted: [(&[u8], usize); 13] = [
-        (b"version", 0),
-        (b";", 8),
-        (b"slash", 10),
-        (b"{", 12),
-        (b"a", 14),
-        (b"=", 16),
-        (b"<", 18),
-        (b"integer", 19),
-        (b">", 20),
-        (b",", 21),
-        (b"x y", 23),
-        (b";", 28),
-        (b"}", 30),
-    ];
-    let all = tokens(rt.alloc(), b"/dts-v1/; / { a = <1>, \"x y\"; }").or(Err("a fault"))?;
-    assert_eq!(rt; all.len(), wanted.len());
-    for (token, (word, start)) in all.iter().zip(wanted.iter()) {
-        assert_eq!(rt; word_of(token.kind), *word);
-        assert_eq!(rt; token.start, *start);
-    }
+    let found = places(&rt, b"/dts-v1/; / { a = <1>, \"x y\"; };")?;
+    let wanted: &[u8] =
+        b"0 version\n8 ;\n10 slash\n12 {\n14 a\n16 =\n18 <\n19 integer\n20 >\n21 ,\n23 x y\n28 ;\n30 }\n31 ;\n";
+    assert_eq!(rt; found.as_slice(), wanted);
     Ok(())
 }
 
