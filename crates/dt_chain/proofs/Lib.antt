@@ -1,4 +1,5 @@
 pub mod WordLemmas
 pub mod NumberLemmas
+pub mod LeaderLemmas
 pub mod Cuts
 pub mod Lexed

@@ -6,5 +6,6 @@ pub mod Vocabulary
 pub mod Rules
 pub mod Numbers
 pub mod Outcomes
+pub mod Leaders
 pub mod Lexing
 pub mod Pieces

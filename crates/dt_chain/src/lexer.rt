@@ -6,6 +6,7 @@ ghost use Rattle.dt_chain.specs.Lexing.{Lexed, IsRead};
 ghost use Rattle.dt_chain.specs.Pieces.{IsPiece, IsReason, Reports, mode_behind, tokens_of};
 
 pub mod byte;
+pub mod leader;
 pub mod outcome;
 pub mod rule;
 #[cfg(test)]
