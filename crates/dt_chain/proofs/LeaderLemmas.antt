@@ -1,9 +1,8 @@
 -- A rule that the first byte of a text doesn't leave has no word there.
-use Rattle.std.proofs.Common.{◌≡◌, ℕ, zero, suc, ◌+◌, ◌<◌, Bool, true, false, List, [], ◌∷◌, ◌++◌, length, Option, Some, None, refl, sym, ◌∙◌, ap, subst, arith}
+use Rattle.std.proofs.Common.{◌≡◌, ℕ, zero, suc, ◌<◌, Bool, true, false, List, [], ◌∷◌, ◌++◌, Some, refl, sym, ◌∙◌, ap, subst, arith}
 use Rattle.std.specs.Prelude.{◌==◌, if◌then◌else◌, slice_get, slice_index}
 use Rattle.std.specs.List.{filter}
 use Rattle.std.proofs.lemmas.Bool.{eqb-true}
-use Rattle.dt_chain.specs.declared.lexer.byte.Class.{Class}
 use Rattle.dt_chain.specs.declared.lexer.byte.Class.TheVariants as class
 use Rattle.dt_chain.specs.declared.lexer.token.Mark.{Mark}
 use Rattle.dt_chain.specs.declared.lexer.token.Mark.TheVariants as mark
@@ -14,8 +13,7 @@ use Rattle.dt_chain.specs.declared.lexer.leader.Leader.{Leader}
 use Rattle.dt_chain.specs.declared.lexer.leader.Leader.TheVariants.{Slash, Quote, OpenBrace, CloseBrace, Less, Greater, Semicolon, Equals, Comma, Zero, Other}
 use Rattle.dt_chain.specs.Bytes.{is_in}
 use Rattle.dt_chain.specs.Modes.{spelling}
-use Rattle.dt_chain.specs.Words.{Each, Word, Begins, Starting, Then, NoneFits}
-use Rattle.dt_chain.specs.Vocabulary.{Run}
+use Rattle.dt_chain.specs.Words.{Word, Begins, Then, NoneFits}
 use Rattle.dt_chain.specs.Rules.{words, In}
 use Rattle.dt_chain.specs.Leaders.{leader_of, leads}
 

@@ -21,10 +21,11 @@ pub enum Leader {
     Equals,
     Comma,
     Zero,
+    /// Any other byte, or none.
     Other,
 }
 
-/// What the first byte of a text is, or of nothing `Other`.
+/// What the first byte of a text is.
 pub fn leader_of(text: &[u8]) -> Leader
     ensures { result ≡ leader_of (slice_index text.now 0) }
 {

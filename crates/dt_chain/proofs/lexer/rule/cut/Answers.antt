@@ -1,4 +1,4 @@
-use Rattle.std.proofs.Common.{◌≡◌, ℕ, ◌<◌, List, length, ◌∙◌, ap, arith}
+use Rattle.std.proofs.Common.{◌<◌, length, ◌∙◌, ap, arith}
 use Rattle.std.specs.List.{filter}
 use Rattle.dt_chain.specs.declared.lexer.leader.Leader.{Leader}
 use Rattle.dt_chain.specs.Rules.{rules}
