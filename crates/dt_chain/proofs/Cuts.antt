@@ -1,10 +1,14 @@
 -- Rules that are tried in order.
-use Rattle.std.proofs.Common.{◌≡◌, ℕ, zero, suc, ◌+◌, ◌<◌, ◌≤◌, Bool, true, false, List, [], ◌∷◌, ◌++◌, length, Option, Some, None, ◌⊎◌, inl, inr, ⊎_elim, refl, sym, ◌∙◌, ap, subst, arith}
-use Rattle.std.specs.Prelude.{slice_get, slice_index_or}
+use Rattle.std.proofs.Common.{◌≡◌, ℕ, zero, suc, ◌+◌, ◌<◌, ◌≤◌, List, [], ◌∷◌, length, Some, ⊎_elim, refl, ap, subst, arith, length-append}
+use Rattle.std.specs.Prelude.{slice_get, slice_index, slice_index_or}
+use Rattle.std.specs.List.{filter}
 use Rattle.std.proofs.str.Laws.{order}
 use Rattle.dt_chain.specs.declared.lexer.token.Mode.{Mode}
 use Rattle.dt_chain.specs.declared.lexer.rule.Rule.{Rule}
-use Rattle.dt_chain.specs.Words.{NoneFits}
+use Rattle.dt_chain.specs.Words.{IsLongestWord, NoneFits}
+use Rattle.dt_chain.specs.Leaders.{leader_of, leads}
+use Rattle.dt_chain.specs.Lexing.{IsCut, HasNoCut}
+use Rattle.dt_chain.proofs.LeaderLemmas.{FirstAt, first_of_all, none_of_all, not_led}
 use Rattle.dt_chain.specs.Rules.{In, rules}
 
 pub at_place : {A : Type 0} (xs : List A) (i : ℕ) (d : A) → i < length xs → slice_get xs i ≡ Some (slice_index_or xs i d)
@@ -17,14 +21,27 @@ place_below [] i x e = cc
 place_below (y ∷ xs) zero x e = omega arith
 place_below (y ∷ xs) (suc i) x e = let h = place_below xs i x e in omega arith
 
-module _ (m : Mode) (s : List ℕ) where
-  pub tried_more : (k : ℕ) (r : Rule) → ((i : ℕ) (q : Rule) → i < k → slice_get rules i ≡ Some q → NoneFits (In q m) s) → slice_get rules k ≡ Some r → NoneFits (In r m) s → (i : ℕ) (q : Rule) → i < k + 1 → slice_get rules i ≡ Some q → NoneFits (In q m) s
-  tried_more k r before here none i q l e =
-      ⊎_elim
-      (λ (below : i < k). before i q below e)
-      (λ (above : k ≤ i).
-      let same : k ≡ i = omega arith in
-      let at : slice_get rules i ≡ Some r = subst (λ (j : ℕ). slice_get rules j ≡ Some r) same here in
-      let equal : r ≡ q = cc in
-      subst (λ (x : Rule). NoneFits (In x m) s) equal none)
-      (order i k)
+pub tried_more : (m : Mode) (s : List ℕ) (tried : List Rule) (k : ℕ) (r : Rule) → ((i : ℕ) (q : Rule) → i < k → slice_get tried i ≡ Some q → NoneFits (In q m) s) → slice_get tried k ≡ Some r → NoneFits (In r m) s → (i : ℕ) (q : Rule) → i < k + 1 → slice_get tried i ≡ Some q → NoneFits (In q m) s
+tried_more m s tried k r before here none i q l e =
+    ⊎_elim
+    (λ (below : i < k). before i q below e)
+    (λ (above : k ≤ i).
+    let same : k ≡ i = omega arith in
+    let at : slice_get tried i ≡ Some r = subst (λ (j : ℕ). slice_get tried j ≡ Some r) same here in
+    let equal : r ≡ q = cc in
+    subst (λ (x : Rule). NoneFits (In x m) s) equal none)
+    (order i k)
+
+module _ (m : Mode) (s : List ℕ) (tried : List Rule) (kept : tried ≡ filter (leads (leader_of (slice_index s 0))) rules) where
+  -- the first rule that fits, of those that the first byte leaves
+  pub cut_here : (k : ℕ) (r : Rule) → slice_get tried k ≡ Some r → ((i : ℕ) (q : Rule) → i < k → slice_get tried i ≡ Some q → NoneFits (In q m) s) → (w rest : List ℕ) → IsLongestWord (In r m) s w rest → length rest < length s → IsCut m s r w rest
+  cut_here k r e before w rest l short =
+      let fits : Rule → Type 0 = λ q. NoneFits (In q m) s in
+      let here : FirstAt fits tried r = record { place = k; tried = e; first = before } in
+      let all = first_of_all (leads (leader_of (slice_index s 0))) fits (not_led m s) rules r (subst (λ (xs : List Rule). FirstAt fits xs r) kept here) in
+      record { place = all.place; tried = all.tried; longest = l; some = omega (arith, short, ap length l.split, length-append w rest); first = all.first }
+
+  pub no_cut_here : ((i : ℕ) (q : Rule) → slice_get tried i ≡ Some q → NoneFits (In q m) s) → HasNoCut m s
+  no_cut_here none =
+      none_of_all (leads (leader_of (slice_index s 0))) (λ q. NoneFits (In q m) s) (not_led m s) rules
+      (subst (λ (xs : List Rule). (i : ℕ) (q : Rule) → slice_get xs i ≡ Some q → NoneFits (In q m) s) kept none)

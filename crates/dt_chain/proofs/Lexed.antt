@@ -1,8 +1,7 @@
 -- A text has one token list or one first fault, and what a word adds to it.
-use Rattle.std.proofs.Common.{◌≡◌, ℕ, zero, suc, ◌+◌, ◌<◌, ◌≤◌, Bool, true, false, List, [], ◌∷◌, ◌++◌, length, Option, Some, None, Result, Ok, Err, ◌⊎◌, inl, inr, ⊎_elim, refl, sym, ◌∙◌, ap, subst, append_assoc, arith, length-append}
+use Rattle.std.proofs.Common.{◌≡◌, ℕ, ◌+◌, ◌<◌, ◌≤◌, List, [], ◌∷◌, ◌++◌, length, map, Option, Some, None, Ok, Err, ◌⊎◌, inl, inr, ⊎_elim, refl, sym, ◌∙◌, ap, subst, append_assoc, arith, length-append}
 use Rattle.std.specs.Prelude.{slice_get}
 use Rattle.std.proofs.str.Laws.{order}
-use Rattle.std.proofs.lemmas.List.{append-nil}
 use Rattle.dt_chain.specs.declared.lexer.token.Mode.{Mode}
 use Rattle.dt_chain.specs.declared.lexer.token.Kind.{Kind}
 use Rattle.dt_chain.specs.declared.lexer.token.Flaw.{Flaw}
@@ -10,10 +9,10 @@ use Rattle.dt_chain.specs.declared.lexer.token.Flaw.TheVariants.{BadToken}
 use Rattle.dt_chain.specs.declared.lexer.rule.Rule.{Rule}
 use Rattle.dt_chain.specs.Token.{Token, Placed, token_of}
 use Rattle.dt_chain.specs.Modes.{mode_after}
-use Rattle.dt_chain.specs.Words.{IsLongestWord, NoneFits}
+use Rattle.dt_chain.specs.Words.{IsLongestWord}
 use Rattle.dt_chain.specs.Rules.{In, rules}
 use Rattle.dt_chain.specs.Outcomes.{Outcome, outcome, given_by}
-use Rattle.dt_chain.specs.Lexing.{IsCut, HasNoCut, Lexed, IsRead, with_tokens, placed, Lexes, done, no_rule, faulty, skipped, given}
+use Rattle.dt_chain.specs.Lexing.{IsCut, HasNoCut, Lexed, IsRead, HasOneList, with_tokens, placed, Lexes, done, no_rule, faulty, skipped, given}
 use Rattle.dt_chain.specs.declared.lexer.LexError.{LexError}
 use Rattle.dt_chain.specs.declared.lexer.LexError.TheVariants as error
 use Rattle.dt_chain.specs.Pieces.{tokens_of, mode_behind, Reports, IsReason}
@@ -131,3 +130,11 @@ pub reason_of : (text : List ℕ) (e : LexError) (a : Lexed) → Reports e a →
 reason_of s error.Memory a r d = tt
 reason_of s (error.BadToken at) a r d = subst (IsRead s) r d
 reason_of s (error.BadInteger at) a r d = subst (IsRead s) r d
+
+same_list : (ps qs : List Placed) (a : Lexed) → Ok ps ≡ a → Ok qs ≡ a → ps ≡ qs
+same_list ps qs a e f = cc
+
+-- so it has one token list
+pub one_list : (text : List ℕ) → HasOneList text
+one_list s ts us (ps, d, e) (qs, f, g) =
+    sym e ∙ ap (λ (xs : List Placed). map (λ (p : Placed). p.token) xs) (same_list ps qs (Ok qs) (unique d f) refl) ∙ g

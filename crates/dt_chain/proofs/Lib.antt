@@ -1,5 +1,6 @@
 pub mod WordLemmas
 pub mod NumberLemmas
+pub mod LeaderLemmas
 pub mod Cuts
 pub mod Lexed
 pub mod Values

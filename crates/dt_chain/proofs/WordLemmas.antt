@@ -1,13 +1,10 @@
 -- The longest front of a text in a set of words that is made of smaller sets.
-use Rattle.std.proofs.Common.{◌≡◌, ◌≢◌, ℕ, zero, suc, ◌+◌, ◌<◌, ◌≤◌, Bool, true, false, List, [], ◌∷◌, ◌++◌, length, Option, Some, None, ◌⊎◌, inl, inr, refl, sym, ◌∙◌, ap, subst, append_assoc, arith, length-append}
-use Rattle.std.proofs.lemmas.List.{append-nil}
-use Rattle.std.proofs.lemmas.Bool.Decides.{nat_tests}
-use Rattle.std.specs.Prelude.{IfSome, MatchOption, ◌||◌, ◌==◌}
-use Rattle.std.specs.Int.{is_in_range}
+use Rattle.std.proofs.Common.{◌≡◌, ◌≢◌, ℕ, ◌+◌, ◌<◌, ◌≤◌, Bool, true, false, List, [], ◌∷◌, ◌++◌, length, Option, Some, None, ◌⊎◌, inl, inr, refl, sym, ◌∙◌, ap, subst, append_assoc, arith, length-append}
+use Rattle.std.specs.Prelude.{IfSome, MatchOption}
 use Rattle.dt_chain.specs.declared.lexer.byte.Class.{Class}
 use Rattle.dt_chain.specs.declared.lexer.byte.Class.TheVariants as class
 use Rattle.dt_chain.specs.Bytes.{is_in}
-use Rattle.dt_chain.specs.Vocabulary.{Closing, IntegerSuffix, Digits, IsDigits, suffixes}
+use Rattle.dt_chain.specs.Vocabulary.{Closing, IntegerSuffix, IsDigits, suffixes}
 use Rattle.std.specs.Borrow.{Bor}
 use Rattle.dt_chain.specs.Words.{Each, Word, Without, Begins, Starting, Then, AnyOf, Stops, RunsTo, IsLongestWord, NoneFits, Skips}
 

@@ -64,3 +64,7 @@ IsRead text result = Lexes mode.Name 0 text result
 -- a text has this token list
 abbrev pub IsLexed : List ℕ → List Token → Type 0
 IsLexed text ts = (ps : List Placed) × IsRead text (Ok ps) × (map (λ (p : Placed). p.token) ps ≡ ts)
+
+-- a text has at most one token list
+abbrev pub HasOneList : List ℕ → Type 0
+HasOneList text = (ts us : List Token) → IsLexed text ts → IsLexed text us → ts ≡ us

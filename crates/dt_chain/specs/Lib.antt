@@ -6,6 +6,7 @@ pub mod Vocabulary
 pub mod Rules
 pub mod Numbers
 pub mod Outcomes
+pub mod Leaders
 pub mod Lexing
 pub mod Grammar
 pub mod Parsing

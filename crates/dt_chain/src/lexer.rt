@@ -1,15 +1,20 @@
-//! The tokens of a text (Devicetree Specification v0.4, chapter 6).
+//! The tokens of a text (Devicetree Specification v0.4, 6).
+//!
+//! A text is read in one of two modes: names stand at its start and after `{` and `;`, integers and texts behind a
+//! name. Blanks and comments are skipped. At each place the first rule that has a word there gives the token, which is
+//! as long as it can be; where no rule has one, the text has its first fault.
 
 ghost use Rattle.std.specs.Prelude.{◌≡◌, ◌<◌, ◌+◌, ◌^◌, ◌++◌, Ok, map, List, ℕ, IfOk, IfErr, OnOk, MatchResult, length};
 ghost use Rattle.dt_chain.specs.Token.{view};
-ghost use Rattle.dt_chain.specs.Lexing.{Lexed, IsRead};
+ghost use Rattle.dt_chain.specs.Lexing.{Lexed, IsRead, HasOneList};
 ghost use Rattle.dt_chain.specs.Pieces.{IsPiece, IsReason, Reports, mode_behind, tokens_of};
 
 pub mod byte;
+pub mod leader;
 pub mod outcome;
 pub mod rule;
-
-
+#[cfg(test)]
+mod tests;
 pub mod token;
 pub mod word;
 
@@ -25,7 +30,8 @@ pub enum LexError {
     Memory,
     /// The first fault: at this byte no token begins.
     BadToken(usize),
-    /// The first fault: the integer that begins at this byte has a digit that its base lacks, or is 2^64 or more.
+    /// The first fault: the integer that begins at this byte has a digit that its base lacks, or is
+    /// 2^64 or more.
     BadInteger(usize),
 }
 
@@ -69,7 +75,9 @@ fn give<'a>(
     kind: Option<Kind<'a>>,
     start: usize,
 ) -> Result<Mode, LexError>
-    ensures tokens { OnOk result (map view out.new.items ≡ map view out.old.items ++ tokens_of kind.entry start) }
+    ensures tokens {
+      OnOk result (map view out.new.items ≡ map view out.old.items ++ tokens_of kind.entry start)
+    }
     ensures mode { IfOk result (λ m. m ≡ mode_behind kind.entry mode) }
     ensures err { IfErr result (λ e. e ≡ LexError.Memory) }
 {
@@ -98,7 +106,10 @@ pub fn tokens<'a>(alloc: Global, text: &'a [u8]) -> Result<Vec<Token<'a>>, LexEr
     // A fault is the text's first, and then it has no token list.
     ensures err { IfErr result (λ e. IsReason text.now e) }
     // Nothing else is answered, unless memory is wanted.
-    ensures only { (a : Lexed) → IsRead text.now a → MatchResult result (λ v. a ≡ Ok (map view v.items)) (λ e. Reports e a) }
+    ensures only {
+      (a : Lexed) → IsRead text.now a →
+      MatchResult result (λ v. a ≡ Ok (map view v.items)) (λ e. Reports e a)
+    }
 {
     let mut out = Vec::new(alloc);
     let mut mode = Mode::Name;
@@ -118,5 +129,6 @@ pub fn tokens<'a>(alloc: Global, text: &'a [u8]) -> Result<Vec<Token<'a>>, LexEr
 
 /// A text has one token list, or one first fault, and not both.
 pub fn one_answer()
-    ensures { (text : List ℕ) (a b : Lexed) → IsRead text a → IsRead text b → a ≡ b }
+    ensures answer { (text : List ℕ) (a b : Lexed) → IsRead text a → IsRead text b → a ≡ b }
+    ensures tokens { (text : List ℕ) → HasOneList text }
 {}

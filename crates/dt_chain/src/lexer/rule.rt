@@ -6,6 +6,7 @@ ghost use Rattle.dt_chain.specs.Rules.{words, allowed, In};
 ghost use Rattle.dt_chain.specs.Lexing.{CutsTo};
 
 use crate::lexer::byte::Class;
+use crate::lexer::leader::{candidates, leader_of};
 use crate::lexer::token::{Mark, Mode, spelling};
 use crate::lexer::word::{
     after_block_comment, after_digits, after_hexadecimal, after_line_comment, after_quoted,
@@ -28,28 +29,6 @@ pub enum Rule {
     Text,
     Mark(Mark),
 }
-
-/// The rules, in the order in which they are tried.
-pub const RULES: [Rule; 18] = [
-    Rule::Blanks,
-    Rule::BlockComment,
-    Rule::OpenComment,
-    Rule::LineComment,
-    Rule::Version,
-    Rule::Name,
-    Rule::Hexadecimal,
-    Rule::CapitalHexadecimal,
-    Rule::Decimal,
-    Rule::Text,
-    Rule::Mark(Mark::Slash),
-    Rule::Mark(Mark::OpenBrace),
-    Rule::Mark(Mark::CloseBrace),
-    Rule::Mark(Mark::Less),
-    Rule::Mark(Mark::Greater),
-    Rule::Mark(Mark::Semicolon),
-    Rule::Mark(Mark::Equals),
-    Rule::Mark(Mark::Comma),
-];
 
 /// After the longest word of a rule.
 fn after_rule(rule: Rule, text: &[u8]) -> Option<&[u8]>
@@ -105,7 +84,8 @@ pub fn cut(mode: Mode, text: &[u8]) -> Option<(Rule, &[u8])>
     ensures exact { CutsTo mode text.now result }
     ensures shorter { IfSome result (λ found. length found.1.now < length text.now) }
 {
-    for rule in &RULES {
+    let tried = candidates(leader_of(text));
+    for rule in tried {
         if let Some(rest) = after(*rule, mode, text) {
             return Some((*rule, rest));
         }

@@ -1,4 +1,4 @@
-use Rattle.std.proofs.Common.{◌≡◌, ℕ, ◌+◌, List, [], ◌∷◌, ◌++◌, length, map, Result, Ok, Err, refl, sym, ◌∙◌, ap, subst, arith, false-eqb}
+use Rattle.std.proofs.Common.{ℕ, ◌+◌, List, [], length, map, Ok, Err, refl, sym, ◌∙◌, ap, subst, arith, false-eqb}
 use Rattle.std.proofs.lemmas.List.{append-nil}
 use Rattle.std.proofs.lemmas.Bool.{eqb-true}
 use Rattle.dt_chain.specs.declared.lexer.token.Mode.TheVariants as mode

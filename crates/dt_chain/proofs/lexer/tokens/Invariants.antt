@@ -1,4 +1,4 @@
-use Rattle.std.proofs.Common.{◌≡◌, ℕ, ◌+◌, length, map}
+use Rattle.std.proofs.Common.{◌≡◌, ◌+◌, length, map}
 use Rattle.dt_chain.specs.declared.lexer.token.Mode.TheVariants as mode
 use Rattle.dt_chain.specs.Token.{view}
 use Rattle.dt_chain.specs.Lexing.{Lexed, Lexes, with_tokens}

@@ -1,7 +1,7 @@
-use Rattle.std.proofs.Common.{◌≡◌, ℕ, ◌<◌, ◌≤◌, List, [], ◌∷◌, Some, None, refl, sym, ◌∙◌, ap, subst, arith}
+use Rattle.std.proofs.Common.{ℕ, ◌<◌, ◌≤◌, List, sym, ◌∙◌, ap, subst, arith}
 use Rattle.dt_chain.specs.Bytes.{is_in}
 use Rattle.dt_chain.specs.Numbers.{digits, digit_of}
-use Rattle.dt_chain.proofs.NumberLemmas.{value_at, value_is_integer, digits_end, digits_more, value_bad, value_large, value_more, scaled_none}
+use Rattle.dt_chain.proofs.NumberLemmas.{value_at, value_is_integer, digits_end, digits_more, value_bad, value_large, scaled_none}
 use Rattle.dt_chain.proofs.lexer.outcome.integer.Goals as goal
 
 pub returns-then-not-is_in : goal.returns-then-not-is_in

@@ -1,20 +1,29 @@
-use Rattle.std.proofs.Common.{◌≡◌, ℕ, ◌<◌, List, [], ◌∷◌, Some, None, length, refl, sym, ◌∙◌, ap, arith, length-append}
-use Rattle.dt_chain.specs.Rules.{In, rules}
-use Rattle.dt_chain.proofs.Cuts.{at_place, place_below, tried_more}
+use Rattle.std.proofs.Common.{◌<◌, length, ◌∙◌, ap, arith}
+use Rattle.std.specs.List.{filter}
+use Rattle.dt_chain.specs.declared.lexer.leader.Leader.{Leader}
+use Rattle.dt_chain.specs.Rules.{rules}
+use Rattle.dt_chain.specs.Leaders.{leads}
+use Rattle.dt_chain.proofs.Cuts.{at_place, place_below, tried_more, cut_here, no_cut_here}
 use Rattle.dt_chain.proofs.lexer.rule.cut.Goals as goal
 
 pub returns-in-Some-clause-exact : goal.returns-in-Some-clause-exact
 returns-in-Some-clause-exact c =
+    let k = c.loop-rule.rule-index in
+    let tried = c.candidates-tried.result.now in
     let found = c.in-Some.ensures.exact in
-    let below : c.loop-rule.rule-index < length rules = omega (arith, c.loop-rule-test.true) in
-    (found.0, record { place = c.loop-rule.rule-index; tried = at_place rules c.loop-rule.rule-index _ below; longest = found.1; some = (let l = c.in-Some.ensures.shorter in let e = ap length found.1.split in omega (arith, length-append found.0 c.in-Some.rest.now)); first = c.loop-rule.invariant })
+    let below : k < length tried = omega (arith, c.loop-rule-test.true) in
+    let kept = c.candidates-tried.ensures ∙ ap (λ (x : Leader). filter (leads x) rules) c.leader_of.ensures in
+    (found.0, cut_here c.args.mode c.args.text.now tried kept k _ (at_place tried k _ below) c.loop-rule.invariant found.0 c.in-Some.rest.now found.1 c.in-Some.ensures.shorter)
 
 pub loop-rule-preserved : goal.loop-rule-preserved
 loop-rule-preserved c =
-    let below : c.loop-rule.rule-index < length rules = omega (arith, c.loop-rule-test.true) in
-    tried_more c.args.mode c.args.text.now c.loop-rule.rule-index _ c.loop-rule.invariant (at_place rules c.loop-rule.rule-index _ below) c.in_default.ensures.exact
+    let k = c.loop-rule.rule-index in
+    let tried = c.candidates-tried.result.now in
+    let below : k < length tried = omega (arith, c.loop-rule-test.true) in
+    tried_more c.args.mode c.args.text.now tried k _ c.loop-rule.invariant (at_place tried k _ below) c.in_default.ensures.exact
 
 pub returns-clause-exact : goal.returns-clause-exact
-returns-clause-exact c i q e =
-    let below : i < length rules = place_below rules i q e in
-    c.loop-rule.invariant i q (omega arith) e
+returns-clause-exact c =
+    let tried = c.candidates-tried.result.now in
+    let kept = c.candidates-tried.ensures ∙ ap (λ (x : Leader). filter (leads x) rules) c.leader_of.ensures in
+    no_cut_here c.args.mode c.args.text.now tried kept (λ i q e. let below : i < length tried = place_below tried i q e in c.loop-rule.invariant i q (omega arith) e)

@@ -1,10 +1,5 @@
-use Rattle.std.proofs.Common.{◌≡◌, ℕ, ◌<◌, ◌≤◌, List, [], ◌∷◌, ◌++◌, length, Option, Some, None, refl, sym, ◌∙◌, ap, arith}
-use Rattle.std.specs.Borrow.{Bor}
-use Rattle.dt_chain.specs.declared.lexer.byte.Class.TheVariants as class
-use Rattle.dt_chain.specs.Bytes.{is_in}
-use Rattle.dt_chain.specs.Words.{Each, Word, Then, Skips}
-use Rattle.dt_chain.specs.Vocabulary.{Closing, Digits}
-use Rattle.dt_chain.proofs.WordLemmas.{word_then, starting, then_each, stops_word, all_some, runs_shorter, closing_empty, closing_here, closing_go, word_split}
+use Rattle.std.proofs.Common.{[], ◌∷◌, length, Some, None, ap, arith}
+use Rattle.dt_chain.proofs.WordLemmas.{closing_empty, closing_here, closing_go, word_split}
 use Rattle.dt_chain.proofs.lexer.word.after_closing.Goals as goal
 
 pub returns-in-Some-after_word-clause-exact : goal.returns-in-Some-after_word-clause-exact

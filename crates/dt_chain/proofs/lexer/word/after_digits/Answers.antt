@@ -1,8 +1,7 @@
-use Rattle.std.proofs.Common.{ℕ, List, Some}
 use Rattle.dt_chain.specs.Bytes.{is_in}
 use Rattle.dt_chain.specs.Words.{Each, Then}
 use Rattle.dt_chain.specs.Vocabulary.{IntegerSuffix}
-use Rattle.dt_chain.proofs.WordLemmas.{starting, not_starting, then_each, digits_stop, runs_shorter, still_shorter}
+use Rattle.dt_chain.proofs.WordLemmas.{starting, then_each, digits_stop, runs_shorter, still_shorter}
 use Rattle.dt_chain.proofs.lexer.word.after_digits.Goals as goal
 
 pub returns-clause-exact : goal.returns-clause-exact
