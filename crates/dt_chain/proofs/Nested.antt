@@ -7,14 +7,11 @@ use Rattle.dt_chain.specs.declared.lexer.token.Mark.{Mark}
 use Rattle.dt_chain.specs.declared.lexer.token.Mark.TheVariants as mark
 use Rattle.dt_chain.specs.Token as token
 use Rattle.dt_chain.specs.Grammar.{Tokens, SpellsProperty, empty, valued, SpellsProperties, SpellsNodes, SpellsSource, place_of_property, places_of_forest, places_of}
-use Rattle.dt_chain.specs.Parsing.{ItemAt, child_at, flag_at, property_at, close_at, depth_behind, late_behind, Parses, over, next, value_in, before}
+use Rattle.dt_chain.specs.Parsing.{ItemAt, child_at, flag_at, property_at, close_at, depth_behind, late_behind, Parses, over, next, value_in, before, begun}
 use Rattle.dt_chain.proofs.Values.{value_takes, value_again, inside}
 
 abbrev pub closing : Tokens → Tokens
 closing ts = token.mark mark.CloseBrace ∷ token.mark mark.Semicolon ∷ ts
-
-abbrev pub header : Tokens → Tokens
-header ts = token.version ∷ token.mark mark.Semicolon ∷ token.mark mark.Slash ∷ token.mark mark.OpenBrace ∷ ts
 
 -- ---- one answer
 
@@ -94,13 +91,13 @@ closes d late ts is (next d1 l us rest i is' (close_at l' vs) more) =
     ([], no_nodes, [], [], vs, is', (λ _. refl), refl, refl, refl, refl, closes d1 true vs is' more)
 
 -- a body that is parsed to its end is a tree's
-pub parsed_is_spelled : (ts : Tokens) (is : List Place) → Parses 1 false ts is → (ps : List Property) × (cs : Forest) × SpellsSource ps cs (header ts) × (root ∷ is ≡ places_of ps cs)
+pub parsed_is_spelled : (ts : Tokens) (is : List Place) → Parses 1 false ts is → (ps : List Property) × (cs : Forest) × SpellsSource ps cs (begun ts) × (root ∷ is ≡ places_of ps cs)
 parsed_is_spelled ts is h =
     by (closes 1 false ts is h)
   where
-    by : Closes (suc zero) false ts is → (ps : List Property) × (cs : Forest) × SpellsSource ps cs (header ts) × (root ∷ is ≡ places_of ps cs)
+    by : Closes (suc zero) false ts is → (ps : List Property) × (cs : Forest) × SpellsSource ps cs (begun ts) × (root ∷ is ≡ places_of ps cs)
     by (ps, cs, properties, children, rest, more, free, sp, sn, e, f, (none, over_is)) =
-        (ps, cs, (properties, children, sp, sn, ap header (e ∙ ap (λ (x : Tokens). properties ++ (children ++ closing x)) none)),
+        (ps, cs, (properties, children, sp, sn, ap begun (e ∙ ap (λ (x : Tokens). properties ++ (children ++ closing x)) none)),
           ap (λ (x : List Place). root ∷ x) (f ∙ ap (λ (x : List Place). map place_of_property ps ++ (places_of_forest cs ++ close ∷ x)) over_is))
 
 -- ---- what is spelled is parsed
@@ -141,7 +138,7 @@ nodes_parse d (branch name ps cs ss) own rest more (properties, children, siblin
 
 -- a spelled source begins as it has to, and its body is parsed to its end
 pub spelled_is_parsed : (ps : List Property) (cs : Forest) (ts : Tokens) → SpellsSource ps cs ts
-    → (body : Tokens) × (is : List Place) × (ts ≡ header body) × (places_of ps cs ≡ root ∷ is) × Parses 1 false body is
+    → (body : Tokens) × (is : List Place) × (ts ≡ begun body) × (places_of ps cs ≡ root ∷ is) × Parses 1 false body is
 spelled_is_parsed ps cs ts (properties, children, sp, sn, e) =
     (properties ++ (children ++ closing []), map place_of_property ps ++ (places_of_forest cs ++ close ∷ []), e, refl,
       properties_parse zero ps properties (children ++ closing []) (places_of_forest cs ++ close ∷ []) sp

@@ -11,4 +11,5 @@ pub mod Lexing
 pub mod Grammar
 pub mod Parsing
 pub mod Building
+pub mod Items
 pub mod Pieces

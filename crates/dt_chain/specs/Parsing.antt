@@ -12,6 +12,10 @@ use Rattle.dt_chain.specs.Grammar.{Tokens, cell_of}
 abbrev pub fits_cell : ℕ → Bool
 fits_cell n = nat_lt n (2 ^ 32) || (n / 2 ^ 32 == 2 ^ 32 - 1)
 
+-- a source's front: `/dts-v1/;` and `/ {`
+abbrev pub begun : Tokens → Tokens
+begun ts = token.version ∷ token.mark mark.Semicolon ∷ token.mark mark.Slash ∷ token.mark mark.OpenBrace ∷ ts
+
 -- where in a value: before a component, in a cell list, behind a component
 pub data Within : Type 0 where
   before : Within

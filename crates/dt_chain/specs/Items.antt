@@ -1,0 +1,75 @@
+-- What the parser's items say, and why tokens are refused.
+use Rattle.std.specs.Prelude.{◌≡◌, ℕ, suc, ◌-◌, ◌≤◌, ◌⊎◌, Bool, false, List, [], ◌∷◌, ◌++◌, map, Option, Some, None}
+use Rattle.dt_model.specs.Source.{Place, child, property, close, one}
+use Rattle.dt_names.specs.declared.fault.FaultKind.{FaultKind}
+use Rattle.dt_names.specs.declared.fault.FaultKind.TheVariants.{NoMemory, Limit, BadVersionTag, Syntax, OutOfRange, PropertyAfterNode, BadName}
+use Rattle.dt_chain.specs.declared.lexer.token.Mark.{Mark}
+use Rattle.dt_chain.specs.declared.lexer.token.Mark.TheVariants as mark
+use Rattle.dt_chain.specs.declared.lexer.token.Token as lexer
+use Rattle.dt_chain.specs.declared.parser.Item.{Item}
+use Rattle.dt_chain.specs.declared.parser.Item.TheVariants as item
+use Rattle.dt_chain.specs.Token as token
+use Rattle.dt_chain.specs.Grammar.{Tokens}
+use Rattle.dt_chain.specs.Parsing.{Taken, Within, value_in, with_bytes, ItemAt, Parses, begun}
+
+-- what an item says
+abbrev pub place_of : Item → Place
+place_of (item.Child name) = child name.now
+place_of (item.Property name value) = property name.now (map one value.items)
+place_of item.Close = close
+
+-- the tokens of a list, without their places
+abbrev pub kinds : List lexer.Token → Tokens
+kinds ts = map (λ (t : lexer.Token). token.token_of t.kind) ts
+
+-- the bytes at the end of new are what the tokens say, up to the place that is left
+pub record TakesBytes (from to : Within) (ts : Tokens) (old new : List ℕ) (rest : Tokens) : Type 0 where
+  pub bytes : List ℕ
+  pub grown : new ≡ old ++ bytes
+  pub taken : value_in from ts ≡ with_bytes bytes (value_in to rest)
+
+-- the tokens are no value, or memory is wanted
+abbrev pub WhyNoValue : FaultKind → Taken → Type 0
+WhyNoValue NoMemory taken = Unit {0}
+WhyNoValue Syntax taken = taken ≡ None
+WhyNoValue OutOfRange taken = taken ≡ None
+WhyNoValue _ taken = ⊥
+
+abbrev pub HasNoItem : Bool → Tokens → Type 0
+HasNoItem late ts = (i : Place) (rest : Tokens) → ItemAt late ts i rest → ⊥
+
+-- no item stands at the front of the tokens, or memory is wanted
+abbrev pub WhyNoItem : FaultKind → Bool → Tokens → Type 0
+WhyNoItem NoMemory late ts = Unit {0}
+WhyNoItem Syntax late ts = HasNoItem late ts
+WhyNoItem OutOfRange late ts = HasNoItem late ts
+WhyNoItem PropertyAfterNode late ts = HasNoItem late ts
+WhyNoItem BadName late ts = HasNoItem late ts
+WhyNoItem _ late ts = ⊥
+
+-- more than 65 bodies lie in one another, where so many are open
+abbrev pub IsTooDeep : ℕ → Tokens → Type 0
+IsTooDeep open_bodies [] = ⊥
+IsTooDeep open_bodies (token.mark mark.OpenBrace ∷ ts) = (65 ≤ open_bodies) ⊎ IsTooDeep (suc open_bodies) ts
+IsTooDeep open_bodies (token.mark mark.CloseBrace ∷ ts) = IsTooDeep (open_bodies - 1) ts
+IsTooDeep open_bodies (_ ∷ ts) = IsTooDeep open_bodies ts
+
+-- the tokens are a source of these items, of which the last closes the root
+pub record IsParsed (ts : Tokens) (places : List Place) : Type 0 where
+  pub body : Tokens
+  pub whole : ts ≡ begun body
+  pub parses : Parses 1 false body places
+
+abbrev pub IsNoSource : Tokens → Type 0
+IsNoSource ts = (places : List Place) → IsParsed ts places → ⊥
+
+-- the tokens are no source, or one whose bodies lie too deep, or memory is wanted
+abbrev pub WhyNotParsed : FaultKind → Tokens → Type 0
+WhyNotParsed NoMemory ts = Unit {0}
+WhyNotParsed Limit ts = (body : Tokens) × (ts ≡ begun body) × IsTooDeep 1 body
+WhyNotParsed BadVersionTag ts = IsNoSource ts
+WhyNotParsed Syntax ts = IsNoSource ts
+WhyNotParsed OutOfRange ts = IsNoSource ts
+WhyNotParsed PropertyAfterNode ts = IsNoSource ts
+WhyNotParsed BadName ts = IsNoSource ts
+WhyNotParsed _ ts = ⊥
