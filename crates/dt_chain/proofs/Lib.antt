@@ -8,3 +8,6 @@ pub mod Nested
 pub mod Walks
 pub mod Grown
 pub mod Standing
+pub mod Parsed
+pub mod Fronts
+pub mod Ways

@@ -47,6 +47,18 @@ WhyNoItem PropertyAfterNode late ts = HasNoItem late ts
 WhyNoItem BadName late ts = HasNoItem late ts
 WhyNoItem _ late ts = ⊥
 
+-- the fault of a name that isn't one, or of a property behind a child
+abbrev pub IsOutOfPlace : FaultKind → Type 0
+IsOutOfPlace kind = (kind ≡ BadName) ⊎ (kind ≡ PropertyAfterNode)
+
+abbrev pub IsOpening : Place → Type 0
+IsOpening (child name) = Unit {0}
+IsOpening _ = ⊥
+
+-- the fault of a source's front
+abbrev pub IsFrontFault : FaultKind → Type 0
+IsFrontFault kind = (kind ≡ BadVersionTag) ⊎ (kind ≡ Syntax)
+
 -- more than 65 bodies lie in one another, where so many are open
 abbrev pub IsTooDeep : ℕ → Tokens → Type 0
 IsTooDeep open_bodies [] = ⊥
@@ -73,3 +85,12 @@ WhyNotParsed OutOfRange ts = IsNoSource ts
 WhyNotParsed PropertyAfterNode ts = IsNoSource ts
 WhyNotParsed BadName ts = IsNoSource ts
 WhyNotParsed _ ts = ⊥
+
+-- Behind these places of a body, with so many bodies open, the tokens that are left decide as the body's do.
+pub record IsOnTheWay (body : Tokens) (places : List Place) (depth : ℕ) (late : Bool) (rest : Tokens) : Type 0 where
+  -- what goes on from here is what goes on from the start
+  pub forward : (more : List Place) → Parses depth late rest more → Parses 1 false body (places ++ more)
+  -- and nothing else does
+  pub back : (all : List Place) → Parses 1 false body all → (more : List Place) × (all ≡ places ++ more) × Parses depth late rest more
+  -- bodies that lie too deep from here on do so from the start
+  pub deep : IsTooDeep depth rest → IsTooDeep 1 body
