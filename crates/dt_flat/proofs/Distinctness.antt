@@ -1,5 +1,5 @@
 -- Lists in which no two are the same.
-use Rattle.std.proofs.Common.{◌≡◌, ◌≢◌, List, [], ◌∷◌, ◌++◌, sym}
+use Rattle.std.proofs.Common.{◌≢◌, List, [], ◌∷◌, ◌++◌, sym}
 use Rattle.std.specs.List.{AllByRecursion}
 use Rattle.dt_model.specs.Valid.{AreDistinct}
 

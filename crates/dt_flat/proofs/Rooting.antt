@@ -3,7 +3,7 @@ use Rattle.std.proofs.Common.{◌≡◌, ◌≢◌, ℕ, zero, suc, ◌+◌, ◌
 use Rattle.std.proofs.lemmas.Bool.{cases_eq, cases_lt, eqb-true}
 use Rattle.std.proofs.lemmas.List.{length-drop}
 use Rattle.dt_model.specs.Names.{Name}
-use Rattle.dt_model.specs.Tree.{Forest, branch}
+use Rattle.dt_model.specs.Tree.{branch}
 use Rattle.dt_model.specs.Valid.{node_count, IsNoDeeper, IsWithinLimits}
 use Rattle.dt_flat.specs.Arena.{Arena, Slot, parent_of, depth_of, name_of, forest_among, with_child, with_property, reading, IsRooted}
 use Rattle.dt_flat.proofs.AfterChild.{tested, differs, length-with_child}

@@ -1,15 +1,14 @@
 -- What holds of each tree holds of the first one, and goes on to.
-use Rattle.std.proofs.Common.{◌≡◌, ◌≢◌, ℕ, zero, suc, ◌<◌, ◌≤◌, ◌^◌, eqb, List, [], ◌∷◌, ◌++◌, length, map, Option, None, Some, arith, refl, sym, ap, subst, ◌∙◌}
+use Rattle.std.proofs.Common.{◌≡◌, ◌≢◌, ℕ, zero, suc, ◌+◌, ◌<◌, ◌≤◌, ◌^◌, eqb, List, [], ◌∷◌, ◌++◌, length, map, Option, None, Some, arith, refl, sym, ap, subst, ◌∙◌}
 use Rattle.std.specs.Prelude.{codes}
 use Rattle.std.specs.Int.{w32, from_be_bytes}
-use Rattle.std.specs.List.{AllByRecursion}
 use Rattle.std.specs.Map.{lookup}
 use Rattle.std.proofs.lemmas.List.{drop_all}
 use Rattle.dt_model.specs.Names.{Name, IsNodeName, IsPropertyName}
 use Rattle.dt_model.specs.Valid.{AreDistinct, IsPhandle, IsReservation}
 use Rattle.dt_flat.specs.Arena.{Arena, Slot, root_alone, named_among, named_children, child_of, depth_of, phandle_at, with_child, with_property}
-use Rattle.dt_flat.specs.Numbers.{Table, holder, given, IsNumbered}
-use Rattle.dt_flat.specs.Sound.{AreValid, IsSound}
+use Rattle.dt_flat.specs.Numbers.{Table, holder, given}
+use Rattle.dt_flat.specs.Sound.{IsSound}
 use Rattle.dt_flat.proofs.Numbering.{IsNumbered-added, IsNumbered-kept, IsNumbered-set}
 use Rattle.dt_flat.proofs.Rooting.{IsRooted-child, IsRooted-property}
 use Rattle.dt_flat.proofs.Validity.{AreValid-added, AreValid-set, reserved}

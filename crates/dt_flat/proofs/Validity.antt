@@ -1,5 +1,5 @@
 -- A tree stays one that a blob may hold, and what its numbers say holds of what it is read as.
-use Rattle.std.proofs.Common.{◌≡◌, ◌≢◌, ℕ, zero, suc, ◌^◌, ◌<◌, Bool, true, false, cond, eqb, List, [], ◌∷◌, ◌++◌, length, map, drop, Option, Some, None, refl, sym, ap, subst, ◌∙◌, arith, inl, inr, true≢false}
+use Rattle.std.proofs.Common.{◌≡◌, ◌≢◌, ℕ, zero, suc, ◌<◌, Bool, true, false, cond, eqb, List, [], ◌∷◌, ◌++◌, length, map, drop, Option, Some, None, refl, sym, ap, subst, ◌∙◌, arith, inl, inr, true≢false}
 use Rattle.std.specs.Prelude.{codes}
 use Rattle.std.specs.Option.{option_to_list}
 use Rattle.std.specs.List.{AllByRecursion, flat_map}
@@ -14,7 +14,7 @@ use Rattle.dt_model.specs.Valid.{AreDistinct, AreProperties, names, AreNodes, ph
 use Rattle.dt_flat.specs.Arena.{Arena, Slot, Child, named_among, named_children, child_of, forest_among, properties, set_property, with_property, number_in, phandle_at, reading}
 use Rattle.dt_flat.specs.Numbers.{Table, holder, IsNumbered}
 use Rattle.dt_flat.specs.Sound.{AreValid, IsSound}
-use Rattle.dt_flat.proofs.AfterChild.{named_children-push}
+use Rattle.dt_flat.proofs.AfterChild.{tested, named_children-push}
 use Rattle.dt_flat.proofs.AfterProperty.{SameShape, same_with, same_drop, children-with_property}
 use Rattle.dt_flat.proofs.ByPath.{first_slot}
 use Rattle.dt_flat.proofs.Distinctness.{Apart, all-append, all-front, all-back, distinct-append, distinct-front, distinct-back, distinct-apart, apart-left, apart-flip}

@@ -173,7 +173,8 @@ impl Places {
     {
         let depth = self.get(parent).depth + 1;
         let made = Place::new(alloc, parent, depth, Vec::from_slice(alloc, name)?);
-        link(&mut self.root, &mut self.others, alloc, name, made)
+        link(&mut self.root, &mut self.others, alloc, name, made)?;
+        Ok(())
     }
 
     /// Sets a property of a node.
@@ -188,6 +189,7 @@ impl Places {
         ensures ok { OnOk result (self.new ≡ with_property self.old node name.now value.now) }
         ensures err { OnErr result (self.new ≡ self.old) }
     {
-        put(&mut self.root, &mut self.others, alloc, node, name, value)
+        put(&mut self.root, &mut self.others, alloc, node, name, value)?;
+        Ok(())
     }
 }

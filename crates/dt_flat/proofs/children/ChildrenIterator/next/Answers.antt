@@ -1,4 +1,4 @@
-use Rattle.std.proofs.Common.{◌≡◌, ◌∙◌, sym, List, ℕ, map, drop, slice_get, Some}
+use Rattle.std.proofs.Common.{◌∙◌, sym, ℕ, map}
 use Rattle.dt_flat.specs.Arena.{Child}
 use Rattle.dt_flat.proofs.Linking.{drop_item, slice_get-map}
 use Rattle.dt_flat.proofs.children.ChildrenIterator.next.Goals as goal
