@@ -7,6 +7,8 @@ mod laws;
 mod phandles;
 mod places;
 mod properties;
+#[cfg(test)]
+mod tests;
 mod tree;
 
 pub use children::Children;
