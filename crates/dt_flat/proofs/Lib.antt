@@ -2,3 +2,10 @@ pub mod ByPath
 pub mod AfterChild
 pub mod AfterProperty
 pub mod Edges
+pub mod KeptLemmas
+pub mod Linking
+pub mod Numbering
+pub mod Distinctness
+pub mod Validity
+pub mod Rooting
+pub mod Soundness
