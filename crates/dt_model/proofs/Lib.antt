@@ -1,0 +1,5 @@
+pub mod Words
+pub mod Lexed
+pub mod Parsed
+pub mod Pairs
+pub mod Blobs
