@@ -3,3 +3,4 @@ pub mod Lexed
 pub mod Parsed
 pub mod Pairs
 pub mod Blobs
+pub mod SampleBlobs

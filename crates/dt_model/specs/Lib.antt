@@ -6,6 +6,7 @@ pub mod Valid
 pub mod Format
 pub mod Lexing
 pub mod Parsing
+pub mod Samples
 pub mod Represents
 pub mod Event
 pub mod Source
