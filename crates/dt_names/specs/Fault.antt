@@ -1,0 +1,44 @@
+-- The number and the name of each kind of fault, which a caller may show or compare.
+use Rattle.std.specs.Prelude.{ℕ, List, codes}
+use Rattle.dt_names.specs.declared.fault.FaultKind.{FaultKind}
+use Rattle.dt_names.specs.declared.fault.FaultKind.TheVariants.{NoMemory, Limit, BadVersionTag, BadToken, Syntax, BadInteger, OutOfRange, PropertyAfterNode, DuplicateProperty, DuplicateNode, BadPhandle, ReservedName, BadName, Duplicate, BlobPhandle, WriteFault, ReadFault}
+
+-- the number of a kind
+abbrev pub fault_number : FaultKind → ℕ
+fault_number NoMemory = 1
+fault_number Limit = 2
+fault_number BadVersionTag = 10
+fault_number BadToken = 11
+fault_number Syntax = 12
+fault_number BadInteger = 13
+fault_number OutOfRange = 15
+fault_number PropertyAfterNode = 17
+fault_number DuplicateProperty = 20
+fault_number DuplicateNode = 21
+fault_number BadPhandle = 25
+fault_number ReservedName = 27
+fault_number BadName = 49
+fault_number Duplicate = 53
+fault_number BlobPhandle = 55
+fault_number WriteFault = 90
+fault_number ReadFault = 91
+
+-- the name of a kind, as its variant is written
+abbrev pub fault_name : FaultKind → List ℕ
+fault_name NoMemory = codes "NoMemory"
+fault_name Limit = codes "Limit"
+fault_name BadVersionTag = codes "BadVersionTag"
+fault_name BadToken = codes "BadToken"
+fault_name Syntax = codes "Syntax"
+fault_name BadInteger = codes "BadInteger"
+fault_name OutOfRange = codes "OutOfRange"
+fault_name PropertyAfterNode = codes "PropertyAfterNode"
+fault_name DuplicateProperty = codes "DuplicateProperty"
+fault_name DuplicateNode = codes "DuplicateNode"
+fault_name BadPhandle = codes "BadPhandle"
+fault_name ReservedName = codes "ReservedName"
+fault_name BadName = codes "BadName"
+fault_name Duplicate = codes "Duplicate"
+fault_name BlobPhandle = codes "BlobPhandle"
+fault_name WriteFault = codes "WriteFault"
+fault_name ReadFault = codes "ReadFault"

@@ -1,0 +1,125 @@
+//! Names as borrowed bytes that were looked at (Devicetree Specification v0.4, 2.2.1 and 2.2.4.1).
+
+ghost use Rattle.std.specs.Prelude.{◌≡◌, ◌↔◌, None, IfOk, IfErr, IsOk, IsTrue};
+ghost use Rattle.dt_model.specs.Names.{is_name_byte, IsNodeName, IsPropertyName};
+ghost use Rattle.dt_names.specs.declared.fault.FaultKind.TheVariants.{BadName};
+
+use crate::fault::{Fault, FaultKind};
+use std::marker::Model;
+
+/// The most bytes that a name may have.
+const MOST_BYTES: usize = 255;
+
+/// The name of a node that isn't the root: a name, and perhaps an `@` and a unit address.
+#[derive(Drop)]
+pub struct NodeName<'a> {
+    bytes: &'a [u8],
+}
+
+impl<'a> Model for NodeName<'a> {
+    ghost use Rattle.std.specs.Prelude.{List, ℕ};
+    ghost use Rattle.dt_model.specs.Names.{IsNodeName};
+
+    ghost Value = { List ℕ };
+
+    ghost view = { λ n. n.bytes.now };
+
+    ghost invariant = { λ n. IsNodeName n.bytes.now };
+}
+
+/// The name of a property.
+#[derive(Drop)]
+pub struct PropName<'a> {
+    name: &'a [u8],
+}
+
+impl<'a> Model for PropName<'a> {
+    ghost use Rattle.std.specs.Prelude.{List, ℕ};
+    ghost use Rattle.dt_model.specs.Names.{IsPropertyName};
+
+    ghost Value = { List ℕ };
+
+    ghost view = { λ n. n.name.now };
+
+    ghost invariant = { λ n. IsPropertyName n.name.now };
+}
+
+fn may_stand_in_a_name(byte: u8) -> bool
+    ensures { result ≡ is_name_byte byte }
+{
+    matches!(byte, b'a'..=b'z' | b'A'..=b'Z' | b'0'..=b'9' | b',' | b'.' | b'_' | b'+' | b'-' | b'*' | b'#' | b'?')
+}
+
+fn is_node_name(bytes: &[u8]) -> bool
+    ensures { IsTrue result ↔ IsNodeName bytes.now }
+{
+    if bytes.is_empty() || bytes.len() > MOST_BYTES || bytes[0] == b'@' {
+        return false;
+    }
+    let mut has_at = false;
+    for byte in bytes {
+        if *byte == b'@' {
+            if has_at {
+                return false;
+            }
+            has_at = true;
+        } else if !may_stand_in_a_name(*byte) {
+            return false;
+        }
+    }
+    true
+}
+
+fn is_property_name(bytes: &[u8]) -> bool
+    ensures { IsTrue result ↔ IsPropertyName bytes.now }
+{
+    !bytes.is_empty()
+        && bytes.len() <= MOST_BYTES
+        && bytes.iter().all(|byte| may_stand_in_a_name(*byte))
+}
+
+impl<'a> NodeName<'a> {
+    /// The bytes as a node's name; a fault of the kind `BadName`, and without a place, where they are none.
+    pub fn new(bytes: &'a [u8]) -> Result<NodeName<'a>, Fault>
+        ensures valid { IsOk result ↔ IsNodeName bytes.now }
+        ensures value { IfOk result (λ name. name ≡ bytes.now) }
+        ensures fault { IfErr result (λ fault. (fault.kind ≡ BadName) × (fault.at ≡ None)) }
+    {
+        if is_node_name(bytes) {
+            Ok(NodeName { bytes })
+        } else {
+            Err(Fault::of(FaultKind::BadName))
+        }
+    }
+
+    /// The bytes of the name.
+    pub fn as_bytes(&self) -> &'a [u8]
+        ensures value { result.now ≡ self.now }
+        ensures valid { IsNodeName self.now }
+    {
+        self.bytes
+    }
+}
+
+impl<'a> PropName<'a> {
+    /// The bytes as a property's name; a fault of the kind `BadName`, and without a place, where they are none.
+    pub fn new(bytes: &'a [u8]) -> Result<PropName<'a>, Fault>
+        ensures valid { IsOk result ↔ IsPropertyName bytes.now }
+        ensures value { IfOk result (λ name. name ≡ bytes.now) }
+        ensures fault { IfErr result (λ fault. (fault.kind ≡ BadName) × (fault.at ≡ None)) }
+    {
+        if is_property_name(bytes) {
+            Ok(PropName { name: bytes })
+        } else {
+            Err(Fault::of(FaultKind::BadName))
+        }
+    }
+
+    /// The bytes of the name.
+    pub fn as_bytes(&self) -> &'a [u8]
+        ensures value { result.now ≡ self.now }
+        ensures valid { IsPropertyName self.now }
+    {
+        self.name
+    }
+}
