@@ -1,0 +1,3 @@
+pub mod ByPath
+pub mod AfterChild
+pub mod AfterProperty
