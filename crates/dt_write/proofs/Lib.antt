@@ -1,0 +1,6 @@
+pub mod Strings
+pub mod Spelled
+pub mod WrittenReads
+pub mod NamesTable
+pub mod Puts
+pub mod Sizes

@@ -1,0 +1,4 @@
+//! A tree as a blob, the flattened format of the Devicetree Specification v0.4, chapter 5.
+#![tactic(auto)]
+
+mod laws;
