@@ -4,3 +4,4 @@ pub mod WrittenReads
 pub mod NamesTable
 pub mod Puts
 pub mod Sizes
+pub mod Left

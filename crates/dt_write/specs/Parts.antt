@@ -32,3 +32,15 @@ properties_size names ps = length (strings_block (used_by names ps)) + length (f
 -- how many bytes the nodes take, with all names that are used then
 abbrev pub nodes_size : List Name → Forest → ℕ
 nodes_size names f = length (strings_block (used_below names f)) + length (nodes_block [] f)
+
+-- ---- while a loop puts one after the other
+
+-- these are left of all the properties: whatever puts them puts all, and they take no more than all
+pub record PropertiesLeft (all left : List Property) (old new : List Name) (before after : List ℕ) : Type 0 where
+  pub put : (names : List Name) (bytes : List ℕ) → PutsProperties left new names after bytes → PutsProperties all old names before bytes
+  pub size : properties_size new left ≤ properties_size old all
+
+-- the same of nodes
+pub record NodesLeft (all left : Forest) (old new : List Name) (before after : List ℕ) : Type 0 where
+  pub put : (names : List Name) (bytes : List ℕ) → PutsNodes left new names after bytes → PutsNodes all old names before bytes
+  pub size : nodes_size new left ≤ nodes_size old all

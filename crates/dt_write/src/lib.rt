@@ -2,3 +2,7 @@
 #![tactic(auto)]
 
 mod laws;
+mod names;
+mod structure;
+mod whole;
+mod words;
