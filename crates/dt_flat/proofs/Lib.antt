@@ -1,3 +1,10 @@
 pub mod ByPath
 pub mod AfterChild
 pub mod AfterProperty
+pub mod KeptLemmas
+pub mod Linking
+pub mod Numbering
+pub mod Distinctness
+pub mod Validity
+pub mod Rooting
+pub mod Soundness

@@ -1,1 +1,6 @@
 pub mod Arena
+pub mod Kept
+pub mod Linked
+pub mod Numbers
+pub mod Refusals
+pub mod Sound

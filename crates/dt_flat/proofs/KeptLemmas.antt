@@ -1,0 +1,60 @@
+-- What the maps of a node stand for, after a look or an insertion.
+use Rattle.std.proofs.Common.{◌≡◌, ℕ, zero, suc, Bool, true, false, cond, List, [], ◌∷◌, ◌++◌, length, slice_get, Option, Some, None, option_map, refl, ap}
+use Rattle.std.specs.Global.{Vec}
+use Rattle.std.specs.Map.{lookup}
+use Rattle.std.specs.Str.{bytes_eq}
+use Rattle.indexmap.specs.IndexMap.{insert_entry}
+use Rattle.dt_model.specs.Tree.{Property, value_of}
+use Rattle.dt_flat.specs.Arena.{set_property, Child, child_of}
+use Rattle.dt_flat.specs.Kept.{properties_kept, children_kept}
+
+pub length-kept : (es : List (Vec ℕ × Vec ℕ)) → length (properties_kept es) ≡ length es
+length-kept [] = refl
+length-kept (e ∷ es) = ap suc (length-kept es)
+
+pub at-kept : (es : List (Vec ℕ × Vec ℕ)) (i : ℕ) → slice_get (properties_kept es) i ≡ option_map (λ e. record { name = e.0.items; value = e.1.items }) (slice_get es i)
+at-kept [] i = refl
+at-kept (e ∷ es) zero = refl
+at-kept (e ∷ es) (suc i) = at-kept es i
+
+pub get-kept : (es : List (Vec ℕ × Vec ℕ)) (name : List ℕ) → value_of (properties_kept es) name ≡ option_map (λ v. v.items) (lookup (λ (k : Vec ℕ). bytes_eq name k.items) es)
+get-kept [] name = refl
+get-kept (e ∷ es) name = by (bytes_eq name e.0.items) (get-kept es name)
+  where
+    by : (b : Bool) → value_of (properties_kept es) name ≡ option_map (λ v. v.items) (lookup (λ (k : Vec ℕ). bytes_eq name k.items) es)
+        → cond b (Some e.1.items) (value_of (properties_kept es) name) ≡ option_map (λ v. v.items) (cond b (Some e.1) (lookup (λ (k : Vec ℕ). bytes_eq name k.items) es))
+    by true h = refl
+    by false h = h
+
+pub set-kept : (es : List (Vec ℕ × Vec ℕ)) (k v : Vec ℕ) → properties_kept (insert_entry (λ x y. bytes_eq x.items y.items) es k v) ≡ set_property (properties_kept es) k.items v.items
+set-kept [] k v = refl
+set-kept (e ∷ es) k v = by (bytes_eq k.items e.0.items) (set-kept es k v)
+  where
+    by : (b : Bool) → properties_kept (insert_entry (λ x y. bytes_eq x.items y.items) es k v) ≡ set_property (properties_kept es) k.items v.items
+        → properties_kept (cond b ((e.0, v) ∷ es) (e ∷ insert_entry (λ x y. bytes_eq x.items y.items) es k v))
+        ≡ cond b (record { name = e.0.items; value = v.items } ∷ properties_kept es) (record { name = e.0.items; value = e.1.items } ∷ set_property (properties_kept es) k.items v.items)
+    by true h = refl
+    by false h = ap (λ (ps : List Property). record { name = e.0.items; value = e.1.items } ∷ ps) h
+
+pub length-children : (es : List (Vec ℕ × ℕ)) → length (children_kept es) ≡ length es
+length-children [] = refl
+length-children (e ∷ es) = ap suc (length-children es)
+
+pub at-children : (es : List (Vec ℕ × ℕ)) (i : ℕ) → slice_get (children_kept es) i ≡ option_map (λ e. record { name = e.0.items; node = e.1 }) (slice_get es i)
+at-children [] i = refl
+at-children (e ∷ es) zero = refl
+at-children (e ∷ es) (suc i) = at-children es i
+
+pub find-children : (es : List (Vec ℕ × ℕ)) (name : List ℕ) → child_of (children_kept es) name ≡ lookup (λ (k : Vec ℕ). bytes_eq name k.items) es
+find-children [] name = refl
+find-children (e ∷ es) name = ap (λ (o : Option ℕ). cond (bytes_eq name e.0.items) (Some e.1) o) (find-children es name)
+
+pub add-children : (es : List (Vec ℕ × ℕ)) (k : Vec ℕ) (node : ℕ) → child_of (children_kept es) k.items ≡ None → children_kept (insert_entry (λ x y. bytes_eq x.items y.items) es k node) ≡ children_kept es ++ record { name = k.items; node = node } ∷ []
+add-children [] k node none = refl
+add-children (e ∷ es) k node none = by (bytes_eq k.items e.0.items) (add-children es k node) none
+  where
+    by : (b : Bool) → (child_of (children_kept es) k.items ≡ None → children_kept (insert_entry (λ x y. bytes_eq x.items y.items) es k node) ≡ children_kept es ++ record { name = k.items; node = node } ∷ [])
+        → cond b (Some e.1) (child_of (children_kept es) k.items) ≡ None
+        → children_kept (cond b ((e.0, node) ∷ es) (e ∷ insert_entry (λ x y. bytes_eq x.items y.items) es k node)) ≡ record { name = e.0.items; node = e.1 } ∷ (children_kept es ++ record { name = k.items; node = node } ∷ [])
+    by true h none = absurd cc
+    by false h none = ap (λ (cs : List Child). record { name = e.0.items; node = e.1 } ∷ cs) (h none)

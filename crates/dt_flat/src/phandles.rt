@@ -1,0 +1,59 @@
+//! The numbers of nodes.
+
+ghost use Rattle.std.specs.Prelude.{◌≡◌, ◌≤◌, ◌<◌, ℕ, ◌↔◌, Option, Some, None, IfSome, IfNone, OnOk, IsSome, IsTrue};
+ghost use Rattle.std.specs.Int.{w32, from_be_bytes};
+ghost use Rattle.indexmap.specs.IndexMap.{IsUnchanged, spare};
+ghost use Rattle.dt_flat.specs.Numbers.{holder, given};
+ghost use Rattle.dt_model.specs.Valid.{IsPhandle};
+
+use crate::NodeId;
+use indexmap::IndexMap;
+use std::alloc::{AllocError, Global};
+
+/// Which node has a number.
+pub type Phandles = IndexMap<u32, NodeId>;
+
+/// The node that has the number.
+pub fn find(phandles: &Phandles, number: u32) -> Option<NodeId>
+    ensures { result ≡ holder phandles.now number }
+{
+    phandles.get(&number).copied()
+}
+
+/// Has no other node the number?
+pub fn is_free(phandles: &Phandles, number: u32, node: NodeId) -> bool
+    ensures { IsTrue result ↔ ((i : ℕ) → holder phandles.now number ≡ Some i → i ≡ node) }
+{
+    match find(phandles, number) {
+        Some(holder) => holder == node,
+        None => true,
+    }
+}
+
+/// Gives a node a number in the place of the one before. No node has the number yet, or this node has it.
+pub fn give(phandles: &mut Phandles, before: Option<u32>, number: u32, node: NodeId)
+    requires { 0 < spare phandles.old }
+    ensures { (n : ℕ) → holder phandles.new n ≡ given phandles.old before number node n }
+{
+    if let Some(before) = before {
+        phandles.swap_remove(&before);
+    }
+    if phandles.insert(number, node).is_err() {
+        unreachable!();
+    }
+}
+
+/// The number that a value of the property `phandle` gives.
+pub fn number_of(value: &[u8]) -> Option<u32>
+    ensures valid { IsSome result ↔ IsPhandle value.now }
+    ensures number { IfSome result (λ number. number ≡ from_be_bytes w32 value.now) }
+{
+    let [a, b, c, d] = value else {
+        return None;
+    };
+    let number = u32::from_be_bytes([*a, *b, *c, *d]);
+    if number == 0 || number == u32::MAX {
+        return None;
+    }
+    Some(number)
+}

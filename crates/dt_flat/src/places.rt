@@ -1,0 +1,195 @@
+//! The nodes of a tree, each with what it has.
+
+ghost use Rattle.std.specs.Prelude.{◌≡◌, ◌<◌, ◌++◌, ◌∷◌, [], suc, None, length, vec_len, vec_capacity, OnOk, OnErr};
+ghost use Rattle.dt_flat.specs.Linked.{children_at, listed, added, with_value};
+ghost use Rattle.dt_flat.specs.Arena.{Slot, named_children, child_of, with_child, with_property, properties, name_of, depth_of};
+
+use crate::NodeId;
+use crate::children::ChildTable;
+use crate::properties::PropertyTable;
+use std::alloc::{AllocError, Global};
+use std::marker::Model;
+
+/// What is kept of a node.
+#[derive(Drop)]
+pub struct Place {
+    pub parent: NodeId,
+    pub depth: usize,
+    pub name: Vec<u8>,
+    pub properties: PropertyTable,
+    pub children: ChildTable,
+}
+
+/// All nodes by their numbers. The root stands beside the others, so that a tree of a root alone takes no memory.
+#[derive(Drop)]
+pub struct Places {
+    root: Place,
+    others: Vec<Place>,
+}
+
+impl Model for Places {
+    ghost use Rattle.std.specs.Prelude.{List, ◌∷◌};
+    ghost use Rattle.dt_flat.specs.Arena.{Slot};
+    ghost use Rattle.dt_flat.specs.Linked.{slots_kept, AreLinked};
+
+    ghost Value = { List Slot };
+
+    ghost view = { λ a. slots_kept (a.root ∷ a.others.items) };
+
+    ghost invariant = { λ a. AreLinked (slots_kept (a.root ∷ a.others.items)) 0 (a.root ∷ a.others.items) };
+}
+
+impl Place {
+    fn new(alloc: Global, parent: NodeId, depth: usize, name: Vec<u8>) -> Self
+        ensures parent { result.parent ≡ parent }
+        ensures depth { result.depth ≡ depth }
+        ensures name { result.name.items ≡ name.items }
+        ensures properties { result.properties ≡ [] }
+        ensures children { result.children ≡ [] }
+    {
+        Place {
+            parent,
+            depth,
+            name,
+            properties: PropertyTable::new(alloc),
+            children: ChildTable::new(alloc),
+        }
+    }
+}
+
+// Adds to the children that a node lists.
+fn list(
+    root: &mut Place,
+    others: &mut Vec<Place>,
+    alloc: Global,
+    parent: NodeId,
+    name: &[u8],
+    node: NodeId,
+) -> Result<(), AllocError>
+    requires parent { parent < suc (length others.old.items) }
+    requires absent { child_of (children_at (root.old ∷ others.old.items) parent) name.now ≡ None }
+    ensures ok { OnOk result (root.new ∷ others.new.items ≡ listed (root.old ∷ others.old.items) parent (record { name = name.now; node = node })) }
+    ensures count { vec_len others.new ≡ vec_len others.old }
+    ensures room { vec_capacity others.new ≡ vec_capacity others.old }
+    ensures root { OnErr result (root.new ≡ root.old) }
+    ensures others { OnErr result (others.new.items ≡ others.old.items) }
+{
+    if parent == 0 {
+        root.children.add(alloc, name, node)
+    } else {
+        others[parent - 1].children.add(alloc, name, node)
+    }
+}
+
+// Adds a node at the end, and to the children of its parent.
+fn link(
+    root: &mut Place,
+    others: &mut Vec<Place>,
+    alloc: Global,
+    name: &[u8],
+    made: Place,
+) -> Result<(), AllocError>
+    requires parent { made.parent < suc (length others.old.items) }
+    requires absent { child_of (children_at (root.old ∷ others.old.items) made.parent) name.now ≡ None }
+    ensures ok { OnOk result (root.new ∷ others.new.items ≡ added (root.old ∷ others.old.items) name.now made) }
+    ensures root { OnErr result (root.new ≡ root.old) }
+    ensures others { OnErr result (others.new.items ≡ others.old.items) }
+{
+    let node = 1 + others.len();
+    others.reserve(1)?;
+    list(root, others, alloc, made.parent, name, node)?;
+    others.push(made)?;
+    Ok(())
+}
+
+// Sets a property of a node.
+fn put(
+    root: &mut Place,
+    others: &mut Vec<Place>,
+    alloc: Global,
+    node: NodeId,
+    name: &[u8],
+    value: &[u8],
+) -> Result<(), AllocError>
+    requires { node < suc (length others.old.items) }
+    ensures ok { OnOk result (root.new ∷ others.new.items ≡ with_value (root.old ∷ others.old.items) node name.now value.now) }
+    ensures root { OnErr result (root.new ≡ root.old) }
+    ensures others { OnErr result (others.new.items ≡ others.old.items) }
+{
+    if node == 0 {
+        root.properties.set(alloc, name, value)
+    } else {
+        others[node - 1].properties.set(alloc, name, value)
+    }
+}
+
+impl Places {
+    /// A root alone.
+    pub fn new(alloc: Global) -> Self
+        ensures { result ≡ record { parent = 0; depth = 0; name = []; properties = [] } ∷ [] }
+    {
+        Places {
+            root: Place::new(alloc, 0, 0, Vec::new(alloc)),
+            others: Vec::new(alloc),
+        }
+    }
+
+    /// The number of the root.
+    pub fn root(&self) -> NodeId
+        ensures { result ≡ 0 }
+    {
+        0
+    }
+
+    /// How many nodes there are.
+    pub fn len(&self) -> usize
+        ensures { result ≡ length self.now }
+    {
+        1 + self.others.len()
+    }
+
+    /// What is kept of a node.
+    pub fn get(&self, node: NodeId) -> &Place
+        requires { node < length self.now }
+        ensures depth { result.now.depth ≡ depth_of self.now node }
+        ensures name { result.now.name.items ≡ name_of self.now node }
+        ensures properties { result.now.properties ≡ properties self.now node }
+        ensures children { result.now.children ≡ named_children self.now node }
+    {
+        if node == 0 {
+            &self.root
+        } else {
+            &self.others[node - 1]
+        }
+    }
+
+    /// Adds a child at the end, to a parent that has none of this name and isn't too deep.
+    pub fn add(&mut self, alloc: Global, parent: NodeId, name: &[u8]) -> Result<(), AllocError>
+        requires parent { parent < length self.old }
+        requires absent { child_of (named_children self.old parent) name.now ≡ None }
+        requires shallow { depth_of self.old parent < 64 }
+        ensures ok { OnOk result (self.new ≡ with_child self.old parent name.now) }
+        ensures err { OnErr result (self.new ≡ self.old) }
+    {
+        let depth = self.get(parent).depth + 1;
+        let made = Place::new(alloc, parent, depth, Vec::from_slice(alloc, name)?);
+        link(&mut self.root, &mut self.others, alloc, name, made)?;
+        Ok(())
+    }
+
+    /// Sets a property of a node.
+    pub fn set(
+        &mut self,
+        alloc: Global,
+        node: NodeId,
+        name: &[u8],
+        value: &[u8],
+    ) -> Result<(), AllocError>
+        requires { node < length self.old }
+        ensures ok { OnOk result (self.new ≡ with_property self.old node name.now value.now) }
+        ensures err { OnErr result (self.new ≡ self.old) }
+    {
+        put(&mut self.root, &mut self.others, alloc, node, name, value)?;
+        Ok(())
+    }
+}

@@ -1,0 +1,191 @@
+use super::*;
+use dt_names::{Fault, FaultKind, NodeName, PropName};
+use std::test::*;
+
+// How many nodes, reservations, children and properties a tree has, and how long their names and values are.
+fn measure(tree: &FlatTree) -> (usize, usize, u64) {
+    let mut sum = 0u64;
+    for node in 0..tree.node_count() {
+        for _ in tree.children(node) {
+            sum = sum.wrapping_add(1);
+        }
+        for (name, value) in tree.props(node) {
+            sum = sum
+                .wrapping_mul(31)
+                .wrapping_add(name.len() as u64)
+                .wrapping_mul(31)
+                .wrapping_add(value.len() as u64);
+        }
+    }
+    (tree.node_count(), tree.reservations().len(), sum)
+}
+
+fn is_of<T: Drop>(res: Result<T, Fault>, kind: FaultKind) -> bool {
+    matches!(res, Err(fault) if fault.kind == kind && fault.at.is_none())
+}
+
+#[test]
+fn as_many_nodes_as_may_be(rt: HostRuntime) -> Result<(), Fail> {
+    let mut tree = FlatTree::new(rt.alloc(), 0);
+    let phandle = PropName::new(b"phandle".as_slice())?;
+    for number in 1..65536u32 {
+        let text = format!(in rt.alloc(); "n{number}")?;
+        let root = tree.root();
+        let node = tree.add_node(root, &NodeName::new(text.as_bytes())?)?;
+        assert!(rt; node < tree.node_count());
+        tree.set_prop(node, &phandle, number.to_be_bytes().as_slice())?;
+    }
+    assert_eq!(rt; tree.node_count(), NODE_LIMIT);
+    let root = tree.root();
+    let more = NodeName::new(b"more".as_slice())?;
+    assert!(rt; is_of(tree.add_node(root, &more), FaultKind::Limit));
+    let root = tree.root();
+    let last = NodeName::new(b"n65535".as_slice())?;
+    assert!(rt; is_of(tree.add_node(root, &last), FaultKind::Duplicate));
+    Ok(())
+}
+
+#[test]
+fn as_deep_as_may_be(rt: HostRuntime) -> Result<(), Fail> {
+    let mut tree = FlatTree::new(rt.alloc(), 0);
+    let name = NodeName::new(b"n".as_slice())?;
+    let mut node = tree.root();
+    for _ in 0..DEPTH_LIMIT {
+        assert!(rt; node < tree.node_count());
+        node = tree.add_node(node, &name)?;
+    }
+    assert!(rt; node < tree.node_count());
+    assert!(rt; is_of(tree.add_node(node, &name), FaultKind::Limit));
+    assert_eq!(rt; tree.node_count(), 65);
+    Ok(())
+}
+
+#[test]
+fn what_is_refused(rt: HostRuntime) -> Result<(), Fail> {
+    let mut tree = FlatTree::new(rt.alloc(), 3);
+    assert_eq!(rt; tree.boot_cpu(), 3);
+    assert!(rt; is_of(tree.reserve(0, 0), FaultKind::OutOfRange));
+    tree.reserve(0x1000, 0)?;
+    assert_eq!(rt; tree.reservations(), [(0x1000, 0)].as_slice());
+
+    let cpu = NodeName::new(b"cpu@0".as_slice())?;
+    let root = tree.root();
+    let node = tree.add_node(root, &cpu)?;
+    let root = tree.root();
+    assert!(rt; is_of(tree.add_node(root, &cpu), FaultKind::Duplicate));
+
+    let phandle = PropName::new(b"phandle".as_slice())?;
+    for value in [
+        b"".as_slice(),
+        b"\0\0\x01".as_slice(),
+        b"\0\0\0\0\x01".as_slice(),
+        b"\0\0\0\0".as_slice(),
+        b"\xff\xff\xff\xff".as_slice(),
+    ] {
+        let root = tree.root();
+        assert!(rt; is_of(tree.set_prop(root, &phandle, value), FaultKind::BlobPhandle));
+    }
+    assert!(rt; node < tree.node_count());
+    tree.set_prop(node, &phandle, b"\xff\xff\xff\xfe".as_slice())?;
+    let root = tree.root();
+    assert!(rt;
+        is_of(
+            tree.set_prop(root, &phandle, b"\xff\xff\xff\xfe".as_slice()),
+            FaultKind::BlobPhandle
+        )
+    );
+    assert!(rt; node < tree.node_count());
+    tree.set_prop(node, &phandle, b"\xff\xff\xff\xfe".as_slice())?;
+    assert!(rt; node < tree.node_count());
+    tree.set_prop(node, &phandle, b"\0\0\0\x01".as_slice())?;
+    let root = tree.root();
+    tree.set_prop(root, &phandle, b"\xff\xff\xff\xfe".as_slice())?;
+    Ok(())
+}
+
+#[test]
+fn the_order_is_kept(rt: HostRuntime) -> Result<(), Fail> {
+    let mut tree = FlatTree::new(rt.alloc(), 0);
+    for (name, value) in [
+        (b"reg".as_slice(), b"1".as_slice()),
+        (b"compatible".as_slice(), b"22".as_slice()),
+        (b"#size-cells".as_slice(), b"".as_slice()),
+        (b"reg".as_slice(), b"333".as_slice()),
+    ] {
+        let root = tree.root();
+        tree.set_prop(root, &PropName::new(name)?, value)?;
+    }
+    for name in [b"uart@10".as_slice(), b"cpus".as_slice(), b"soc".as_slice()] {
+        let root = tree.root();
+        tree.add_node(root, &NodeName::new(name)?)?;
+    }
+    let root = tree.root();
+    let mut text = String::new(rt.alloc());
+    for (name, value) in tree.props(root) {
+        text.push_str(std::str::from_utf8(name).unwrap_or("?"))?;
+        text.push_str("=")?;
+        text.push_str(std::str::from_utf8(value).unwrap_or("?"))?;
+        text.push_str(";")?;
+    }
+    for child in tree.children(root) {
+        assert!(rt; child < tree.node_count());
+        text.push_str(std::str::from_utf8(tree.name(child)).unwrap_or("?"))?;
+        text.push_str(";")?;
+    }
+    assert_eq!(rt;
+        text.as_str(),
+        "reg=333;compatible=22;#size-cells=;uart@10;cpus;soc;"
+    );
+    assert_eq!(rt;
+        tree.value(root, b"reg".as_slice()),
+        Some(b"333".as_slice())
+    );
+    assert_eq!(rt; tree.value(root, b"status".as_slice()), None);
+    assert_eq!(rt; tree.name(root), b"".as_slice());
+    Ok(())
+}
+
+// One of some changes.
+fn change(tree: &mut FlatTree, step: u8) -> Result<(), Fault> {
+    let root = tree.root();
+    let text = match step / 4 {
+        0 => b"a".as_slice(),
+        1 => b"b".as_slice(),
+        2 => b"c".as_slice(),
+        _ => b"d".as_slice(),
+    };
+    match step % 4 {
+        0 => tree.reserve(1, 2),
+        1 => {
+            tree.add_node(root, &NodeName::new(text)?)?;
+            Ok(())
+        }
+        2 => tree.set_prop(
+            root,
+            &PropName::new(b"phandle".as_slice())?,
+            [0, 0, 1, step].as_slice(),
+        ),
+        _ => tree.set_prop(root, &PropName::new(text)?, text),
+    }
+}
+
+// To be run with each allocation failing in turn.
+#[test]
+fn refused_memory_changes_nothing(rt: HostRuntime) -> Result<(), Fail> {
+    let mut tree = FlatTree::new(rt.alloc(), 0);
+    for step in 0..16u8 {
+        let before = measure(&tree);
+        if let Err(fault) = change(&mut tree, step) {
+            assert!(rt; fault.kind == FaultKind::NoMemory && fault.at.is_none());
+            assert!(rt; measure(&tree) == before);
+            change(&mut tree, step)?;
+        }
+    }
+    let root = tree.root();
+    assert_eq!(rt; tree.node_count(), 5);
+    assert_eq!(rt; tree.reservations().len(), 4);
+    assert_eq!(rt; tree.children(root).count(), 4);
+    let root = tree.root();
+    assert_eq!(rt; tree.props(root).count(), 5);
+    Ok(())
+}

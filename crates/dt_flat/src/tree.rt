@@ -1,0 +1,202 @@
+//! Ordered trees with byte values.
+
+ghost use Rattle.std.specs.Prelude.{◌≡◌, ◌<◌, ◌++◌, ◌∷◌, [], ℕ, None, length, All, IsOk, OnOk, OnErr, IfOk, IfErr, option_map};
+ghost use Rattle.dt_model.specs.Tree.{value_of};
+ghost use Rattle.dt_model.specs.Valid.{IsValid, IsWithinLimits};
+ghost use Rattle.dt_flat.specs.Refusals.{WhyNoNode, WhyNotReserved, WhyNotSet, MaySet};
+ghost use Rattle.dt_flat.specs.Arena.{Arena, IsRooted, root_alone, children, named_children, child_of, with_child, with_property, properties, name_of, depth_of, phandle_at, reading};
+
+use crate::NodeId;
+use crate::children::Children;
+use crate::phandles::{Phandles, give, is_free, number_of};
+use crate::places::Places;
+use crate::properties::Props;
+use dt_names::{Fault, FaultKind, NodeName, PropName};
+use std::alloc::Global;
+use std::marker::Model;
+
+/// The most nodes that a tree has, the root included.
+pub const NODE_LIMIT: usize = 65536;
+/// The most names that the path of a node has.
+pub const DEPTH_LIMIT: usize = 64;
+
+/// A tree of nodes, in which nothing is ever taken away. It is seen as the list of its nodes in the order in which they
+/// were made, each with its parent, its depth, its name and its properties.
+#[derive(Drop)]
+pub struct FlatTree {
+    alloc: Global,
+    boot_cpu: u32,
+    reservations: Vec<(u64, u64)>,
+    places: Places,
+    phandles: Phandles,
+}
+
+impl Model for FlatTree {
+    ghost use Rattle.dt_flat.specs.Arena.{Arena};
+
+    ghost Value = { Arena };
+
+    ghost use Rattle.dt_flat.specs.Sound.{IsSound};
+
+    ghost view = { λ a. record { boot_cpu = a.boot_cpu; reservations = a.reservations.items; slots = a.places } };
+
+    ghost invariant = { λ a. IsSound (record { boot_cpu = a.boot_cpu; reservations = a.reservations.items; slots = a.places }) a.phandles };
+}
+
+impl FlatTree {
+    /// A tree of a root alone, without reservations. Takes no memory.
+    pub fn new(alloc: Global, boot_cpu: u32) -> FlatTree
+        ensures { result ≡ root_alone boot_cpu }
+    {
+        FlatTree {
+            alloc,
+            boot_cpu,
+            reservations: Vec::new(alloc),
+            places: Places::new(alloc),
+            phandles: Phandles::new(alloc),
+        }
+    }
+
+    /// Adds a memory reservation at the end (Devicetree Specification v0.4, 5.3). `OutOfRange`: both numbers are 0, which
+    /// would end the list. `NoMemory`: memory was refused. At a fault the tree is unchanged.
+    pub fn reserve(&mut self, address: u64, size: u64) -> Result<(), Fault>
+        ensures ok { OnOk result (self.new ≡ record self.old { reservations = self.old.reservations ++ (address, size) ∷ [] }) }
+        ensures some { IsOk result → ¬ ((address ≡ 0) × (size ≡ 0)) }
+        ensures err { OnErr result (self.new ≡ self.old) }
+        ensures refused { IfErr result (λ fault. WhyNotReserved fault.kind address size × (fault.at ≡ None)) }
+    {
+        if address == 0 && size == 0 {
+            return Err(Fault::of(FaultKind::OutOfRange));
+        }
+        self.reservations.push((address, size))?;
+        Ok(())
+    }
+
+    /// Adds a child at the end of a node's children, and answers its number. `Duplicate`: the node has a child of that
+    /// name. `Limit`: the tree has 65,536 nodes, or the path of the node 64 names. `NoMemory`: memory was refused. Where
+    /// the first two hold, it answers `Duplicate`. At a fault the tree is unchanged.
+    pub fn add_node(&mut self, parent: NodeId, name: &NodeName<'_>) -> Result<NodeId, Fault>
+        requires { parent < length self.old.slots }
+        ensures ok { IfOk result (λ node. (node ≡ length self.old.slots) × (self.new ≡ record self.old { slots = with_child self.old.slots parent name.now })) }
+        ensures fresh { IsOk result → child_of (named_children self.old.slots parent) name.now ≡ None }
+        ensures room { IsOk result → (length self.old.slots < 65536) × (depth_of self.old.slots parent < 64) }
+        ensures err { OnErr result (self.new ≡ self.old) }
+        ensures refused { IfErr result (λ fault. WhyNoNode fault.kind self.old.slots parent name.now × (fault.at ≡ None)) }
+    {
+        let name = name.as_bytes();
+        let node = self.places.len();
+        let above = self.places.get(parent);
+        if above.children.find(name).is_some() {
+            return Err(Fault::of(FaultKind::Duplicate));
+        }
+        if node >= NODE_LIMIT || above.depth >= DEPTH_LIMIT {
+            return Err(Fault::of(FaultKind::Limit));
+        }
+        self.places.add(self.alloc, parent, name)?;
+        Ok(node)
+    }
+
+    /// Sets a property of a node: one that is there keeps its place, a new one goes last. `BlobPhandle`: the property is
+    /// `phandle`, and the value isn't four bytes of a number from 1 to 0xfffffffe that no other node has (Devicetree
+    /// Specification v0.4, 2.3.3). `NoMemory`: memory was refused. At a fault the tree is unchanged.
+    pub fn set_prop(&mut self, node: NodeId, name: &PropName<'_>, value: &[u8]) -> Result<(), Fault>
+        requires { node < length self.old.slots }
+        ensures ok { OnOk result (self.new ≡ record self.old { slots = with_property self.old.slots node name.now value.now }) }
+        ensures allowed { IsOk result → MaySet self.old.slots node name.now value.now }
+        ensures err { OnErr result (self.new ≡ self.old) }
+        ensures refused { IfErr result (λ fault. WhyNotSet fault.kind self.old.slots node name.now value.now × (fault.at ≡ None)) }
+    {
+        let name = name.as_bytes();
+        if name != b"phandle".as_slice() {
+            self.places.set(self.alloc, node, name, value)?;
+            return Ok(());
+        }
+        let Some(number) = number_of(value) else {
+            return Err(Fault::of(FaultKind::BlobPhandle));
+        };
+        if !is_free(&self.phandles, number, node) {
+            return Err(Fault::of(FaultKind::BlobPhandle));
+        }
+        let before = self.phandle(node);
+        self.phandles.reserve(1)?;
+        self.places.set(self.alloc, node, name, value)?;
+        give(&mut self.phandles, before, number, node);
+        Ok(())
+    }
+
+    // The number that a node's property `phandle` gives it.
+    fn phandle(&self, node: NodeId) -> Option<u32>
+        requires { node < length self.now.slots }
+        ensures { result ≡ phandle_at self.now.slots node }
+    {
+        let value = self.value(node, b"phandle".as_slice())?;
+        if value.len() != 4 {
+            return None;
+        }
+        Some(u32::from_be_bytes([value[0], value[1], value[2], value[3]]))
+    }
+
+    /// The root, which has no name.
+    pub fn root(&self) -> NodeId
+        ensures node { result ≡ 0 }
+        ensures rooted { IsRooted self.now.slots }
+        ensures valid { IsValid (reading self.now) }
+        ensures within { IsWithinLimits (reading self.now) }
+    {
+        self.places.root()
+    }
+
+    /// The number of the processor that boots.
+    pub fn boot_cpu(&self) -> u32
+        ensures { result ≡ self.now.boot_cpu }
+    {
+        self.boot_cpu
+    }
+
+    /// The memory reservations, as pairs of an address and a size in bytes.
+    pub fn reservations(&self) -> &[(u64, u64)]
+        ensures { result.now ≡ self.now.reservations }
+    {
+        &self.reservations
+    }
+
+    /// How many nodes there are, the root included: the numbers below it are the nodes.
+    pub fn node_count(&self) -> usize
+        ensures { result ≡ length self.now.slots }
+    {
+        self.places.len()
+    }
+
+    /// The name of a node; the root's is empty.
+    pub fn name(&self, node: NodeId) -> &[u8]
+        requires { node < length self.now.slots }
+        ensures { result.now ≡ name_of self.now.slots node }
+    {
+        self.places.get(node).name.as_slice()
+    }
+
+    /// The value of a property of a node, None where it has no property of that name.
+    pub fn value(&self, node: NodeId, name: &[u8]) -> Option<&[u8]>
+        requires { node < length self.now.slots }
+        ensures { option_map (λ value. value.now) result ≡ value_of (properties self.now.slots node) name.now }
+    {
+        self.places.get(node).properties.get(name)
+    }
+
+    /// The properties of a node in order, as names and values.
+    pub fn props(&self, node: NodeId) -> Props<'_>
+        requires { node < length self.now.slots }
+        ensures { result ≡ properties self.now.slots node }
+    {
+        self.places.get(node).properties.iter()
+    }
+
+    /// The children of a node in order. Each has a higher number than the node.
+    pub fn children(&self, node: NodeId) -> Children<'_>
+        requires { node < length self.now.slots }
+        ensures rest { result ≡ children self.now.slots node }
+        ensures below { All (λ child. (node < child) × (child < length self.now.slots)) (children self.now.slots node) }
+    {
+        self.places.get(node).children.iter()
+    }
+}
