@@ -5,3 +5,4 @@ pub mod NamesTable
 pub mod Puts
 pub mod Sizes
 pub mod Left
+pub mod WholeLemmas
