@@ -1,10 +1,9 @@
 -- What is left to be put, as a loop goes on.
-use Rattle.std.proofs.Common.{◌≡◌, ℕ, zero, suc, ◌+◌, ◌<◌, ◌≤◌, Bool, true, false, cond, eqb, List, [], ◌∷◌, ◌++◌, length, drop, refl, sym, ap, subst, ◌∙◌, arith}
-use Rattle.std.specs.List.{flat_map, AllByRecursion}
+use Rattle.std.proofs.Common.{◌≡◌, ℕ, ◌≤◌, List, [], ◌∷◌, sym, ap, subst, ◌∙◌, arith}
 use Rattle.dt_model.specs.Names.{Name}
-use Rattle.dt_model.specs.Tree.{Property, Forest, no_nodes, branch}
+use Rattle.dt_model.specs.Tree.{Property, Forest}
 use Rattle.dt_flat.specs.Arena.{Slot, name_of, properties, children, below}
-use Rattle.dt_write.specs.Written.{used, used_by, used_below, property_block, nodes_block}
+use Rattle.dt_write.specs.Written.{used, used_by}
 use Rattle.dt_write.specs.Parts.{trees_at, tree_at, PutsProperties, PutsNodes, properties_size, nodes_size, PropertiesLeft, NodesLeft}
 use Rattle.dt_write.proofs.Puts.{below_is, PutsProperties-none, PutsProperties-more, PutsNodes-none, PutsNodes-more}
 use Rattle.dt_write.proofs.Sizes.{first_property, other_properties, first_node, other_nodes, children_in}

@@ -1,5 +1,5 @@
 -- Sizes: a part takes no more bytes than the whole.
-use Rattle.std.proofs.Common.{◌≡◌, ℕ, ◌+◌, ◌<◌, ◌≤◌, List, [], ◌∷◌, ◌++◌, length, refl, ap, arith}
+use Rattle.std.proofs.Common.{◌≡◌, ℕ, ◌+◌, ◌≤◌, List, [], ◌∷◌, ◌++◌, length, refl, ap, arith}
 use Rattle.std.specs.List.{flat_map}
 use Rattle.std.proofs.lemmas.List.{length-append}
 use Rattle.std.proofs.lemmas.List.Concat.{flat_map-append}
@@ -77,4 +77,3 @@ block_same a b (branch name ps cs ss) =
   where
     parts : (v w x y z : List ℕ) → length (v ++ w ++ x ++ y ++ z) ≡ length v + length w + length x + length y + length z
     parts v w x y z = omega (arith, length-append v w, length-append (v ++ w) x, length-append (v ++ w ++ x) y, length-append (v ++ w ++ x ++ y) z)
-

@@ -1,5 +1,5 @@
 -- What is written is read as the tree.
-use Rattle.std.proofs.Common.{◌≡◌, ◌≢◌, ℕ, ◌+◌, ◌*◌, ◌%◌, ◌^◌, ◌<◌, ◌≤◌, ◌||◌, List, [], ◌∷◌, ◌++◌, length, take, drop, Option, Some, refl, sym, ap, subst, ◌∙◌, append_assoc, arith}
+use Rattle.std.proofs.Common.{◌≡◌, ℕ, ◌+◌, ◌*◌, ◌^◌, ◌<◌, ◌≤◌, ◌||◌, List, [], ◌∷◌, ◌++◌, length, take, drop, Some, refl, sym, ap, subst, ◌∙◌, append_assoc, arith}
 use Rattle.std.specs.Prelude.{IsTrue, ◌==◌}
 use Rattle.std.specs.List.{flat_map, AllByRecursion}
 use Rattle.std.specs.Int.{w32, from_be_bytes}
@@ -9,9 +9,9 @@ use Rattle.std.proofs.lemmas.List.Elements.{recursion_from_All}
 use Rattle.std.proofs.lemmas.Nat.{from_be_bytes-to_be_bytes_4}
 use Rattle.dt_model.specs.Names.{is_name_byte, IsNodeName, IsPropertyName}
 use Rattle.dt_model.specs.Tree.{Property, Forest, no_nodes, branch, Reading}
-use Rattle.dt_model.specs.Valid.{AreProperties, AreNodes, IsValid, IsWithinLimits}
-use Rattle.dt_model.specs.Format.{word, word_at, pair, reservation_block, IsText, SpellsTree, part, Header, HasHeader, Reads, IsWithin}
-use Rattle.dt_write.specs.Written.{used_below, nodes_block, header, assembled, written, root_of, structure_block, strings_block, names_of}
+use Rattle.dt_model.specs.Valid.{AreNodes, IsValid, IsWithinLimits}
+use Rattle.dt_model.specs.Format.{word_at, pair, reservation_block, IsText, SpellsTree, part, Header, HasHeader, Reads, IsWithin}
+use Rattle.dt_write.specs.Written.{assembled, written, root_of, structure_block, strings_block, names_of}
 use Rattle.dt_write.proofs.Spelled.{AreTexts, structure_spelled}
 
 -- ---- names have no NUL

@@ -27,6 +27,7 @@ pub fn write_blob(alloc: Global, tree: &FlatTree) -> Result<Vec<u8>, Fault>
     ensures size { IfOk result (λ blob. length blob.items ≤ 16777216) }
     ensures refused { IfErr result (λ fault. WhyNoBlob fault.kind (length (written (reading tree.now))) × (fault.at ≡ None)) }
 {
+    // the contract of `root` says that a blob may hold the tree
     let _root = tree.root();
     whole::blob_of(alloc, tree)
 }

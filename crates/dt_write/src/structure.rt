@@ -13,7 +13,9 @@ use dt_names::{Fault, FaultKind};
 use std::alloc::AllocError;
 
 const BEGIN_NODE: u32 = 1;
+
 const END_NODE: u32 = 2;
+
 const PROP: u32 = 3;
 
 fn put_begin(out: &mut Vec<u8>, name: &[u8]) -> Result<(), AllocError>
@@ -46,11 +48,7 @@ fn put_property(
     Ok(())
 }
 
-fn put_properties(
-    props: Props<'_>,
-    names: &mut Names,
-    out: &mut Vec<u8>,
-) -> Result<(), Fault>
+fn put_properties(props: Props<'_>, names: &mut Names, out: &mut Vec<u8>) -> Result<(), Fault>
     ensures put { OnOk result (PutsProperties props.entry names.old names.new out.old.items out.new.items) }
     ensures refused { IfErr result (λ fault. WhyNoBlob fault.kind (properties_size names.old props.entry) × (fault.at ≡ None)) }
 {

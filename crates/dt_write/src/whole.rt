@@ -14,9 +14,13 @@ use dt_names::{Fault, FaultKind};
 use std::alloc::{AllocError, Global};
 
 const MAGIC: u32 = 0xd00d_feed;
+
 const VERSION: u32 = 17;
+
 const LAST_COMPATIBLE_VERSION: u32 = 16;
+
 const HEADER_SIZE: usize = 40;
+
 const END: u32 = 9;
 
 fn put_header(

@@ -1,4 +1,4 @@
-use Rattle.std.proofs.Common.{◌≤◌, sym}
+use Rattle.std.proofs.Common.{sym}
 use Rattle.std.proofs.lemmas.Result.{err_from_is_err_and}
 use Rattle.dt_model.specs.Tree.{Property}
 use Rattle.dt_write.proofs.Sizes.{longer}

@@ -1,4 +1,3 @@
-use Rattle.std.proofs.Common.{◌≡◌}
 use Rattle.dt_write.proofs.Puts.{property_put}
 use Rattle.dt_write.proofs.structure.put_property.Goals as goal
 

@@ -1,4 +1,4 @@
-use Rattle.std.proofs.Common.{◌≡◌, ◌+◌}
+use Rattle.std.proofs.Common.{◌+◌}
 use Rattle.dt_model.specs.Format.{word}
 use Rattle.dt_write.proofs.Puts.{ten_put}
 use Rattle.dt_write.proofs.whole.put_header.Goals as goal

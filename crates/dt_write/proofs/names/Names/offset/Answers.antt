@@ -1,13 +1,9 @@
-use Rattle.std.proofs.Common.{◌≡◌, ◌<◌, ◌≤◌, ◌∙◌, sym, ap, subst, ℕ, List, ◌+◌, ◌++◌, ◌∷◌, [], Bool, true, false, Option, Some, None, length, arith, refl}
-use Rattle.std.specs.Global.{Vec}
-use Rattle.std.specs.Map.{lookup}
-use Rattle.std.specs.Str.{bytes_eq}
-use Rattle.std.proofs.lemmas.List.{length-append, append_assoc}
-use Rattle.dt_write.specs.Written.{has, used, terminated, strings_block, offset_of}
-use Rattle.dt_write.specs.Places.{names_kept, AreOffsets, IsTable}
-use Rattle.dt_write.specs.Refusals.{WhyNoBlob}
+use Rattle.std.proofs.Common.{◌≡◌, ◌<◌, ◌∙◌, sym, ap, ℕ, List, ◌++◌, ◌∷◌, [], length, arith}
+use Rattle.std.proofs.lemmas.List.{length-append}
+use Rattle.dt_write.specs.Written.{used, terminated, strings_block, offset_of}
+use Rattle.dt_write.specs.Places.{names_kept}
 use Rattle.dt_write.proofs.Strings.{offset_within}
-use Rattle.dt_write.proofs.NamesTable.{Found, found, not_found, used_there, used_new, inserted, names-push, block-push, offsets-push, offset-new, added}
+use Rattle.dt_write.proofs.NamesTable.{found, not_found, used_there, used_new, block-push, offset-new, added}
 use Rattle.dt_write.proofs.names.Names.offset.Goals as goal
 
 pub returns-in-Some-clause-names : goal.returns-in-Some-clause-names
