@@ -4,6 +4,9 @@ pub mod Meaning
 pub mod Tree
 pub mod Valid
 pub mod Format
+pub mod Lexing
+pub mod Parsing
+pub mod Samples
 pub mod Represents
 pub mod Event
 pub mod Source

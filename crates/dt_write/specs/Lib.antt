@@ -1,0 +1,4 @@
+pub mod Written
+pub mod Refusals
+pub mod Parts
+pub mod Places

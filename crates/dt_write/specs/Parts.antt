@@ -1,0 +1,46 @@
+-- What each part of the writer adds to the structure block and to the names.
+use Rattle.std.specs.Prelude.{◌≡◌, ℕ, ◌+◌, ◌≤◌, List, [], ◌∷◌, ◌++◌, length}
+use Rattle.std.specs.List.{flat_map}
+use Rattle.dt_model.specs.Names.{Name}
+use Rattle.dt_model.specs.Tree.{Property, Forest, no_nodes, branch}
+use Rattle.dt_flat.specs.Arena.{Slot, name_of, properties, below}
+use Rattle.dt_write.specs.Written.{used_by, used_below, strings_block, property_block, nodes_block}
+
+-- the trees at these nodes
+abbrev pub trees_at : List Slot → List ℕ → Forest
+trees_at slots [] = no_nodes
+trees_at slots (p ∷ ps) = branch (name_of slots p) (properties slots p) (below slots p) (trees_at slots ps)
+
+-- node p with what stands below it
+abbrev pub tree_at : List Slot → ℕ → Forest
+tree_at slots p = branch (name_of slots p) (properties slots p) (below slots p) no_nodes
+
+-- properties were put behind what was there, whatever names are used later
+pub record PutsProperties (ps : List Property) (old new : List Name) (before after : List ℕ) : Type 0 where
+  pub names : new ≡ used_by old ps
+  pub bytes : (later : List Name) → after ≡ before ++ flat_map (property_block (new ++ later)) ps
+
+-- nodes were put behind what was there, whatever names are used later
+pub record PutsNodes (f : Forest) (old new : List Name) (before after : List ℕ) : Type 0 where
+  pub names : new ≡ used_below old f
+  pub bytes : (later : List Name) → after ≡ before ++ nodes_block (new ++ later) f
+
+-- how many bytes the properties take, with all names that are used then
+abbrev pub properties_size : List Name → List Property → ℕ
+properties_size names ps = length (strings_block (used_by names ps)) + length (flat_map (property_block []) ps)
+
+-- how many bytes the nodes take, with all names that are used then
+abbrev pub nodes_size : List Name → Forest → ℕ
+nodes_size names f = length (strings_block (used_below names f)) + length (nodes_block [] f)
+
+-- ---- while a loop puts one after the other
+
+-- these are left of all the properties: whatever puts them puts all, and they take no more than all
+pub record PropertiesLeft (all left : List Property) (old new : List Name) (before after : List ℕ) : Type 0 where
+  pub put : (names : List Name) (bytes : List ℕ) → PutsProperties left new names after bytes → PutsProperties all old names before bytes
+  pub size : properties_size new left ≤ properties_size old all
+
+-- the same of nodes
+pub record NodesLeft (all left : Forest) (old new : List Name) (before after : List ℕ) : Type 0 where
+  pub put : (names : List Name) (bytes : List ℕ) → PutsNodes left new names after bytes → PutsNodes all old names before bytes
+  pub size : nodes_size new left ≤ nodes_size old all

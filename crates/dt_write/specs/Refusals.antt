@@ -1,0 +1,10 @@
+-- Why a tree isn't written.
+use Rattle.std.specs.Prelude.{ℕ, ◌<◌}
+use Rattle.dt_names.specs.declared.fault.FaultKind.{FaultKind}
+use Rattle.dt_names.specs.declared.fault.FaultKind.TheVariants.{NoMemory, Limit}
+
+-- memory may be refused at any time, a limit only where the blob would be longer than 16 MiB
+abbrev pub WhyNoBlob : FaultKind → ℕ → Type 0
+WhyNoBlob NoMemory size = Unit {0}
+WhyNoBlob Limit size = 16777216 < size
+WhyNoBlob _ size = ⊥

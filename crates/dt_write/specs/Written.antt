@@ -1,0 +1,91 @@
+-- The one blob that the writer makes of a tree: header, reservations, structure, strings, with no NOP and zeros as padding
+-- (Devicetree Specification v0.4, chapter 5).
+use Rattle.std.specs.Prelude.{ℕ, ◌+◌, ◌-◌, ◌%◌, Bool, if◌then◌else◌, List, [], ◌∷◌, ◌++◌, length, replicate}
+use Rattle.std.specs.List.{flat_map, list_any}
+use Rattle.std.specs.Str.{bytes_eq}
+use Rattle.dt_model.specs.Names.{Name}
+use Rattle.dt_model.specs.Tree.{Property, Forest, no_nodes, branch, Reading}
+use Rattle.dt_model.specs.Format.{word, reservation_block}
+
+-- ---- the strings block (5.5)
+
+-- is the name among these?
+abbrev pub has : List Name → Name → Bool
+has names name = list_any (bytes_eq name) names
+
+-- the names after one more is used, each once, in the order of first use
+abbrev pub used : List Name → Name → List Name
+used names name = if has names name then names else names ++ name ∷ []
+
+-- the same after the names of properties are used
+abbrev pub used_by : List Name → List Property → List Name
+used_by names [] = names
+used_by names (p ∷ ps) = used_by (used names p.name) ps
+
+-- the same after those of the properties of nodes, in preorder
+abbrev pub used_below : List Name → Forest → List Name
+used_below names no_nodes = names
+used_below names (branch name ps cs ss) = used_below (used_below (used_by names ps) cs) ss
+
+-- a name and a NUL
+abbrev pub terminated : Name → List ℕ
+terminated name = name ++ 0 ∷ []
+
+abbrev pub strings_block : List Name → List ℕ
+strings_block names = flat_map terminated names
+
+-- where a name begins in the strings block
+abbrev pub offset_of : List Name → Name → ℕ
+offset_of [] name = 0
+offset_of (n ∷ ns) name = if bytes_eq name n then 0 else length (terminated n) + offset_of ns name
+
+-- ---- the structure block (5.4)
+
+-- zeros after so many bytes, up to a multiple of 4
+abbrev pub zeros_after : ℕ → List ℕ
+zeros_after size = replicate ((4 - size % 4) % 4) 0
+
+-- PROP, the length of the value, the offset of the name, the value
+abbrev pub property_block : List Name → Property → List ℕ
+property_block names p =
+    word 3 ++ word (length p.value) ++ word (offset_of names p.name) ++ p.value ++ zeros_after (length p.value)
+
+-- BEGIN_NODE, and the name with a NUL
+abbrev pub begin_block : Name → List ℕ
+begin_block name = word 1 ++ name ++ 0 ∷ zeros_after (length name + 1)
+
+-- each node's begin, properties, children and END_NODE
+abbrev pub nodes_block : List Name → Forest → List ℕ
+nodes_block names no_nodes = []
+nodes_block names (branch name ps cs ss) =
+    begin_block name ++ flat_map (property_block names) ps ++ nodes_block names cs ++ word 2 ++ nodes_block names ss
+
+-- the root and its name, which is empty, with all that stands below it
+abbrev pub root_of : Reading → Forest
+root_of t = branch [] t.properties t.children no_nodes
+
+-- the names of all properties, in the order of first use
+abbrev pub names_of : Reading → List Name
+names_of t = used_below [] (root_of t)
+
+-- the root's node, and END
+abbrev pub structure_block : Reading → List ℕ
+structure_block t = nodes_block (names_of t) (root_of t) ++ word 9
+
+-- ---- the blob
+
+-- the ten words of the header (5.2), from the boot CPU and the sizes of the blocks
+abbrev pub header : (boot_cpu reservations structure strings : ℕ) → List ℕ
+header boot_cpu reservations structure strings =
+    word 0xd00dfeed ++ word (40 + reservations + structure + strings) ++ word (40 + reservations)
+    ++ word (40 + reservations + structure) ++ word 40 ++ word 17 ++ word 16 ++ word boot_cpu ++ word strings
+    ++ word structure
+
+-- a blob of its blocks
+abbrev pub assembled : (boot_cpu : ℕ) (reservations structure strings : List ℕ) → List ℕ
+assembled boot_cpu reservations structure strings =
+    header boot_cpu (length reservations) (length structure) (length strings) ++ reservations ++ structure ++ strings
+
+-- the blob of a tree
+abbrev pub written : Reading → List ℕ
+written t = assembled t.boot_cpu (reservation_block t.reservations) (structure_block t) (strings_block (names_of t))

@@ -1,0 +1,36 @@
+//! A tree as a blob, the flattened format of the Devicetree Specification v0.4, chapter 5.
+#![tactic(auto)]
+
+ghost use Rattle.std.specs.Prelude.{◌≡◌, ◌≤◌, length, IfOk, IfErr, None};
+ghost use Rattle.dt_model.specs.Format.{Reads, IsWithin};
+ghost use Rattle.dt_flat.specs.Arena.{reading};
+ghost use Rattle.dt_write.specs.Written.{written};
+ghost use Rattle.dt_write.specs.Refusals.{WhyNoBlob};
+
+mod laws;
+mod names;
+mod structure;
+mod whole;
+mod words;
+
+use dt_flat::FlatTree;
+use dt_names::Fault;
+use std::alloc::Global;
+
+/// The blob of a tree: header, reservations, structure, strings, nothing between them (Devicetree Specification v0.4,
+/// chapter 5). Version 17, last compatible version 16, each name once in the order of first use, no NOP, zeros as padding.
+/// Refused: NoMemory, and Limit where the blob would be longer than 16,777,216 bytes.
+pub fn write_blob(alloc: Global, tree: &FlatTree) -> Result<Vec<u8>, Fault>
+    ensures written { IfOk result (λ blob. blob.items ≡ written (reading tree.now)) }
+    ensures reads { IfOk result (λ blob. Reads blob.items (reading tree.now)) }
+    ensures within { IfOk result (λ blob. IsWithin blob.items (reading tree.now)) }
+    ensures size { IfOk result (λ blob. length blob.items ≤ 16777216) }
+    ensures refused { IfErr result (λ fault. WhyNoBlob fault.kind (length (written (reading tree.now))) × (fault.at ≡ None)) }
+{
+    // the contract of `root` says that a blob may hold the tree
+    let _root = tree.root();
+    whole::blob_of(alloc, tree)
+}
+
+#[cfg(test)]
+mod tests;

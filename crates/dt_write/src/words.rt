@@ -1,0 +1,48 @@
+//! Numbers at the end of some bytes, the highest byte first.
+
+ghost use Rattle.std.specs.Prelude.{◌≡◌, ◌++◌, OnOk};
+ghost use Rattle.std.specs.Int.{w64, to_be_bytes};
+ghost use Rattle.dt_model.specs.Format.{word, pair};
+ghost use Rattle.dt_write.specs.Written.{zeros_after};
+
+use byteorder::{BigEndian, ByteOrder};
+use std::alloc::AllocError;
+
+/// Bytes that a blob may have.
+pub const SIZE_LIMIT: usize = 16_777_216;
+
+/// Puts a 32-bit word at the end.
+pub fn put_word(out: &mut Vec<u8>, number: u32) -> Result<(), AllocError>
+    ensures { OnOk result (out.new.items ≡ out.old.items ++ word number) }
+{
+    let mut bytes = [0; 4];
+    BigEndian::write_u32(&mut bytes, number);
+    out.extend_from_slice(&bytes)
+}
+
+// Puts a 64-bit number at the end.
+fn put_long(out: &mut Vec<u8>, number: u64) -> Result<(), AllocError>
+    ensures { OnOk result (out.new.items ≡ out.old.items ++ to_be_bytes w64 number) }
+{
+    let mut bytes = [0; 8];
+    BigEndian::write_u64(&mut bytes, number);
+    out.extend_from_slice(&bytes)
+}
+
+/// Puts a pair of 64-bit numbers at the end.
+pub fn put_pair(out: &mut Vec<u8>, address: u64, size: u64) -> Result<(), AllocError>
+    ensures { OnOk result (out.new.items ≡ out.old.items ++ pair (address, size)) }
+{
+    put_long(out, address)?;
+    put_long(out, size)
+}
+
+/// Puts zeros after so many bytes, up to a multiple of four.
+pub fn put_zeros(out: &mut Vec<u8>, size: usize) -> Result<(), AllocError>
+    ensures { OnOk result (out.new.items ≡ out.old.items ++ zeros_after size) }
+{
+    for _ in 0..(4 - size % 4) % 4 {
+        out.push(0)?;
+    }
+    Ok(())
+}
