@@ -14,8 +14,8 @@ use Rattle.dt_chain.specs.Parsing.{Taken, Within, value_in, with_bytes, ItemAt, 
 
 -- what an item says
 abbrev pub place_of : Item → Place
-place_of (item.Child name) = child name.now
-place_of (item.Property name value) = property name.now (map one value.items)
+place_of (item.Child name) = child name
+place_of (item.Property name value) = property name (map one value.items)
 place_of item.Close = close
 
 -- the tokens of a list, without their places

@@ -22,9 +22,9 @@ const BODY_LIMIT: usize = 65;
 #[derive(Drop)]
 pub enum Item<'a> {
     /// `name {`
-    Child(&'a [u8]),
+    Child(NodeName<'a>),
     /// `name;`, or `name = value;` with the bytes of the value.
-    Property(&'a [u8], Vec<u8>),
+    Property(PropName<'a>, Vec<u8>),
     /// `};`
     Close,
 }
@@ -226,25 +226,25 @@ fn value<'t, 'a>(
     Ok((bytes, rest))
 }
 
-/// Whether a property of the name may stand here: BadName at the name, or PropertyAfterNode at the token behind it
-/// where a child has stood in the body.
-fn check_property(
+/// The name of a property that may stand here: BadName at the name where it isn't one, or PropertyAfterNode at the token
+/// behind it where a child has stood in the body.
+fn property_name<'a>(
     tokens: &[Token<'_>],
-    name: &[u8],
+    name: &'a [u8],
     behind: &[Token<'_>],
     late: bool,
     end: usize,
-) -> Result<(), Fault>
-    ensures ok { IsOk result → IsPropertyName name.now × (late ≡ false) }
+) -> Result<PropName<'a>, Fault>
+    ensures ok { IfOk result (λ found. (found ≡ name.now) × IsPropertyName name.now × (late ≡ false)) }
     ensures err { IfErr result (λ fault. IsOutOfPlace fault.kind × (IsPropertyName name.now → late ≡ false → ⊥)) }
 {
-    if PropName::new(name).is_err() {
+    let Ok(name) = PropName::new(name) else {
         return Err(fault_at(FaultKind::BadName, tokens, end));
-    }
+    };
     if late {
         return Err(fault_at(FaultKind::PropertyAfterNode, behind, end));
     }
-    Ok(())
+    Ok(name)
 }
 
 /// A property whose name stands at the front, and the tokens behind it.
@@ -263,11 +263,11 @@ fn property<'t, 'a>(
         return Err(fault_at(FaultKind::Syntax, tokens, end));
     };
     if let Some(rest) = after_mark(behind, Mark::Semicolon) {
-        check_property(tokens, name, behind, late, end)?;
+        let name = property_name(tokens, name, behind, late, end)?;
         return Ok((Item::Property(name, Vec::new(alloc)), rest));
     }
     let rest = expect(behind, Mark::Equals, end)?;
-    check_property(tokens, name, behind, late, end)?;
+    let name = property_name(tokens, name, behind, late, end)?;
     let (bytes, rest) = value(alloc, rest, end)?;
     Ok((Item::Property(name, bytes), rest))
 }
@@ -287,9 +287,9 @@ fn next_item<'t, 'a>(
         return Ok((Item::Close, rest));
     }
     if let Some((name, rest)) = after_opening(tokens) {
-        if NodeName::new(name).is_err() {
+        let Ok(name) = NodeName::new(name) else {
             return Err(fault_at(FaultKind::BadName, tokens, end));
-        }
+        };
         return Ok((Item::Child(name), rest));
     }
     property(alloc, tokens, late, end)

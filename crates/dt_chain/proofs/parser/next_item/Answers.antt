@@ -1,5 +1,7 @@
-use Rattle.std.proofs.Common.{rules}
+use Rattle.std.proofs.Common.{sym, subst, List, ℕ, rules}
+use Rattle.dt_model.specs.Source.{child}
 use Rattle.dt_chain.specs.Items.{kinds}
+use Rattle.dt_chain.specs.Parsing.{ItemAt}
 use Rattle.dt_chain.proofs.Fronts.{closes_at, opens_at}
 use Rattle.dt_chain.proofs.parser.next_item.Goals as goal
 
@@ -9,4 +11,5 @@ returns-in-Some-clause-exact c =
 
 pub returns-in-Some-after_opening-clause-exact : goal.returns-in-Some-after_opening-clause-exact
 returns-in-Some-after_opening-clause-exact c =
-    opens_at c.args.late c.in-Some-after_opening.name.now (kinds c.args.tokens.now) (kinds c.in-Some-after_opening.rest.now) c.in-Some-after_opening.ensures.some (c.new.ensures.valid.0 (search rules))
+    subst (λ (n : List ℕ). ItemAt c.args.late (kinds c.args.tokens.now) (child n) (kinds c.in-Some-after_opening.rest.now)) (sym c.in-Ok.ensures.value)
+      (opens_at c.args.late c.in-Some-after_opening.name.now (kinds c.args.tokens.now) (kinds c.in-Some-after_opening.rest.now) c.in-Some-after_opening.ensures.some (search rules))
