@@ -19,13 +19,17 @@ use Rattle.dt_flat.proofs.Edges.{Edge, edge}
 use Rattle.dt_chain.specs.Building.{walk, bytes_of, IsByte, IsPlain, Shows, IsOpen, AreOpen, opened, Holds}
 use Rattle.dt_chain.proofs.Walks.{bool_cases, option_cases, same_then, none_then, walk_within, walk_once, walk-with_property, walk-with_child}
 
-all-push : {X : Type 0} (P : X → Type 0) (xs : List X) (x : X) → AllByRecursion P xs → P x → AllByRecursion P (xs ++ x ∷ [])
+pub all-push : {X : Type 0} (P : X → Type 0) (xs : List X) (x : X) → AllByRecursion P xs → P x → AllByRecursion P (xs ++ x ∷ [])
 all-push P [] x h p = (p, tt)
 all-push P (y ∷ xs) x h p = (h.0, all-push P xs x h.1 p)
 
-all-under : (xs : List ℕ) (j k : ℕ) → j < k → AllByRecursion (λ i. i < j) xs → AllByRecursion (λ i. i < k) xs
+pub all-under : (xs : List ℕ) (j k : ℕ) → j < k → AllByRecursion (λ i. i < j) xs → AllByRecursion (λ i. i < k) xs
 all-under [] j k h all = tt
 all-under (x ∷ xs) j k h all = (omega (arith, all.0), all-under xs j k h all.1)
+
+pub all-split : (P : ℕ → Type 0) (xs : List ℕ) (x : ℕ) → AllByRecursion P (xs ++ x ∷ []) → AllByRecursion P xs × P x
+all-split P [] x h = (tt, h.0)
+all-split P (y ∷ xs) x h = let r = all-split P xs x h.1 in ((h.0, r.0), r.1)
 
 pub opened-push : (es : Events) (e : Event (List Part)) → opened (es ++ e ∷ []) ≡ opened es + opened (e ∷ [])
 opened-push [] e = omega arith
@@ -45,7 +49,7 @@ bytes-plain (b ∷ bytes) = (tt, bytes-plain bytes)
 
 -- ---- a child is added
 
-shows-child : (slots : List Slot) (es : Events) → 0 < length slots → Shows slots es → (q : Stack) (a : ℕ) (y : Name) → walk slots q ≡ Some a → child_of (named_children slots a) y ≡ None
+pub shows-child : (slots : List Slot) (es : Events) → 0 < length slots → Shows slots es → (q : Stack) (a : ℕ) (y : Name) → walk slots q ≡ Some a → child_of (named_children slots a) y ≡ None
     → Shows (with_child slots a y) (es ++ opening (y ∷ q) ∷ [])
 shows-child slots es some h q a y at none = record {
   nodes = λ p.
@@ -87,7 +91,7 @@ shows-child slots es some h q a y at none = record {
 
 -- ---- a property is set
 
-shows-property : (slots : List Slot) (es : Events) → 0 < length slots → Shows slots es → (q : Stack) (a : ℕ) (m : Name) (bytes : List ℕ) → walk slots q ≡ Some a → m ≢ codes "phandle"
+pub shows-property : (slots : List Slot) (es : Events) → 0 < length slots → Shows slots es → (q : Stack) (a : ℕ) (m : Name) (bytes : List ℕ) → walk slots q ≡ Some a → m ≢ codes "phandle"
     → Shows (with_property slots a m bytes) (es ++ definition q m (map one bytes) ∷ [])
 shows-property slots es some h q a m bytes at other = record {
   nodes = λ p. ap is_some (walk-with_property slots a m bytes p) ∙ h.nodes p ∙ sym (stands-push es (definition q m (map one bytes)) p);
@@ -159,17 +163,13 @@ outer-child slots some q a y at none p numbers (b ∷ bs) below (outer, k, e, he
         children = λ x. is_open.children x ∙ ap is_some (sym (child-with_child slots a y k x low none ∙ ap (λ t. cond (t && bytes_eq x y) (Some (length slots)) (child_of (named_children slots k) x)) test));
       },
       under, outer-child slots some q a y at none (drop 1 p) outer bs split.0 others)
-  where
-    all-split : (P : ℕ → Type 0) (xs : List ℕ) (x : ℕ) → AllByRecursion P (xs ++ x ∷ []) → AllByRecursion P xs × P x
-    all-split P [] x h = (tt, h.0)
-    all-split P (y ∷ xs) x h = let r = all-split P xs x h.1 in ((h.0, r.0), r.1)
 
 or-some : (t : Bool) (n : ℕ) (o : Option ℕ) → (t || is_some o) ≡ is_some (cond t (Some n) o)
 or-some true n o = refl
 or-some false n o = refl
 
 -- the body of a new child is opened
-open-child : (slots : List Slot) → 0 < length slots → (q : Stack) (numbers : List ℕ) (y : Name) (b : Body) (bs : List Body) (k : ℕ) (outer : List ℕ) → numbers ≡ outer ++ k ∷ [] → walk slots q ≡ Some k
+pub open-child : (slots : List Slot) → 0 < length slots → (q : Stack) (numbers : List ℕ) (y : Name) (b : Body) (bs : List Body) (k : ℕ) (outer : List ℕ) → numbers ≡ outer ++ k ∷ [] → walk slots q ≡ Some k
     → IsOpen slots k b → AllByRecursion (λ j. j < k) outer → AreOpen slots (drop 1 q) outer bs → child_of (named_children slots k) y ≡ None
     → AreOpen (with_child slots k y) (y ∷ q) (numbers ++ length slots ∷ []) ((record { properties = []; children = [] }) ∷ (record { properties = b.properties; children = y ∷ b.children }) ∷ bs)
 open-child slots some q numbers y b bs k outer e here is_open under others none =
@@ -207,17 +207,13 @@ outer-property slots a m v low p numbers (b ∷ bs) below (outer, k, e, here, is
         children = λ x. is_open.children x ∙ ap (λ cs. is_some (child_of cs x)) (sym (children-with_property slots a m v k));
       },
       under, outer-property slots a m v low (drop 1 p) outer bs split.0 others)
-  where
-    all-split : (P : ℕ → Type 0) (xs : List ℕ) (x : ℕ) → AllByRecursion P (xs ++ x ∷ []) → AllByRecursion P xs × P x
-    all-split P [] x h = (tt, h.0)
-    all-split P (y ∷ xs) x h = let r = all-split P xs x h.1 in ((h.0, r.0), r.1)
 
 or-value : (t : Bool) (v : List ℕ) (o : Option (List ℕ)) → (t || is_some o) ≡ is_some (cond t (Some v) o)
 or-value true v o = refl
 or-value false v o = refl
 
 -- a property is defined in the innermost body
-open-property : (slots : List Slot) → 0 < length slots → (q : Stack) (numbers : List ℕ) (m : Name) (v : List ℕ) (b : Body) (bs : List Body) (k : ℕ) (outer : List ℕ) → numbers ≡ outer ++ k ∷ [] → walk slots q ≡ Some k
+pub open-property : (slots : List Slot) → 0 < length slots → (q : Stack) (numbers : List ℕ) (m : Name) (v : List ℕ) (b : Body) (bs : List Body) (k : ℕ) (outer : List ℕ) → numbers ≡ outer ++ k ∷ [] → walk slots q ≡ Some k
     → IsOpen slots k b → AllByRecursion (λ j. j < k) outer → AreOpen slots (drop 1 q) outer bs
     → AreOpen (with_property slots k m v) q numbers ((record { properties = m ∷ b.properties; children = b.children }) ∷ bs)
 open-property slots some q numbers m v b bs k outer e here is_open under others =

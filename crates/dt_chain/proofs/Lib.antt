@@ -11,3 +11,4 @@ pub mod Standing
 pub mod Parsed
 pub mod Fronts
 pub mod Ways
+pub mod Builds

@@ -75,4 +75,6 @@ pub record Holds (a : Arena) (numbers : List ℕ) (s : SoFar) : Type 0 where
   pub shows : Shows a.slots s.events
   pub bodies : AreOpen a.slots s.node numbers s.bodies
   pub count : length a.slots ≡ opened s.events
+  pub boot_cpu : a.boot_cpu ≡ 0
+  pub reservations : a.reservations ≡ []
   pub bookkeeping : (x : Name) → stands s.events (x ∷ []) ≡ true → is_bookkeeping_name x ≡ false

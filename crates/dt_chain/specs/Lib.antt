@@ -12,5 +12,6 @@ pub mod Grammar
 pub mod Parsing
 pub mod Building
 pub mod Items
+pub mod Built
 pub mod Compiled
 pub mod Pieces

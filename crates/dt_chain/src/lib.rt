@@ -1,5 +1,6 @@
 //! From devicetree source to a blob.
 #![tactic(auto)]
 
+mod builder;
 mod lexer;
 mod parser;
