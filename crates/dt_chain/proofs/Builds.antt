@@ -319,7 +319,7 @@ start_holds a numbers e f =
 pub starts : (a : Arena) (numbers : List ℕ) (all : List Place) → Holds a numbers started → IsUnderWay a numbers all all
 starts a numbers all h = record { so_far = started; holds = h; same = refl; count = omega arith; unnumbered = λ u. u; unnumbered_left = λ u. u }
 
-children-cons : (p : Place) (left : List Place) → children_in (p ∷ left) ≡ children_in (p ∷ []) + children_in left
+pub children-cons : (p : Place) (left : List Place) → children_in (p ∷ left) ≡ children_in (p ∷ []) + children_in left
 children-cons (child n) left = omega arith
 children-cons root left = omega arith
 children-cons (block r) left = omega arith

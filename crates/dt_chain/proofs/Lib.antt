@@ -12,3 +12,4 @@ pub mod Parsed
 pub mod Fronts
 pub mod Ways
 pub mod Builds
+pub mod Whole

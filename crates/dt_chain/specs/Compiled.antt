@@ -1,16 +1,23 @@
 -- What the compiler answers.
-use Rattle.std.specs.Prelude.{◌≡◌, ◌<◌, ◌⊎◌, ℕ, List, length}
+use Rattle.std.specs.Prelude.{◌≡◌, ℕ, ◌+◌, ◌<◌, ◌≤◌, List, [], length, Err}
 use Rattle.dt_model.specs.Path.{Path}
 use Rattle.dt_model.specs.Meaning.{Meaning}
-use Rattle.dt_model.specs.Tree.{Reading}
+use Rattle.dt_model.specs.Tree.{Property, Forest, Reading}
+use Rattle.dt_model.specs.Valid.{node_count}
 use Rattle.dt_model.specs.Format.{Reads, IsWithin}
+use Rattle.dt_model.specs.Source.{base, nothing, read_all, too_deep}
 use Rattle.dt_model.specs.Represents.{Represents}
 use Rattle.dt_names.specs.declared.fault.FaultKind.{FaultKind}
 use Rattle.dt_names.specs.declared.fault.FaultKind.TheVariants.{NoMemory, Limit, BadVersionTag, BadToken, Syntax, BadInteger, OutOfRange, PropertyAfterNode, DuplicateProperty, DuplicateNode, BadPhandle, ReservedName, BadName}
-use Rattle.dt_chain.specs.Grammar.{TextMeans}
+use Rattle.dt_write.specs.Written.{written}
+use Rattle.dt_chain.specs.Lexing.{IsLexed}
+use Rattle.dt_chain.specs.Grammar.{Tokens, Says, places_of, TextMeans}
+use Rattle.dt_chain.specs.Parsing.{begun}
+use Rattle.dt_chain.specs.Items.{IsTooDeep}
 
--- the blob is read as a tree that represents what the text means, and its boot CPU is 0
+-- The text means something, and the blob is read as a tree that represents it, with boot CPU 0; both are within the limits.
 pub record IsCompiled (text blob : List ℕ) : Type 0 where
+  pub size : length text ≤ 16777216
   pub meaning : Meaning
   pub tree : Reading
   pub number : Path → ℕ
@@ -20,13 +27,27 @@ pub record IsCompiled (text blob : List ℕ) : Type 0 where
   pub represents : Represents tree meaning number
   pub boot_cpu : tree.boot_cpu ≡ 0
 
+-- the text isn't a source of the grammar, or one that is refused
 abbrev pub MeansNothing : List ℕ → Type 0
 MeansNothing text = (m : Meaning) → TextMeans text m → ⊥
 
--- why a text isn't compiled
+-- a limit that a text exceeds
+pub data IsTooLarge (text : List ℕ) : Type 0 where
+  -- it is longer than 16 MiB
+  long : 16777216 < length text → IsTooLarge text
+  -- more than 65 bodies lie in one another
+  nested : (tokens body : Tokens) → IsLexed text tokens → tokens ≡ begun body → IsTooDeep 1 body → IsTooLarge text
+  -- the path of a node has more than 64 names
+  deep : (ps : List Property) (cs : Forest) → Says text ps cs → read_all base nothing (places_of ps cs) ≡ Err too_deep → IsTooLarge text
+  -- its tree has more than 65,536 nodes, the root among them
+  many : (ps : List Property) (cs : Forest) → Says text ps cs → 65536 < 1 + node_count cs → IsTooLarge text
+  -- the blob would be longer than 16 MiB
+  big : (m : Meaning) (t : Reading) (number : Path → ℕ) → TextMeans text m → Represents t m number → 16777216 < length (written t) → IsTooLarge text
+
+-- why a text isn't compiled: memory may be refused at any time; a limit is exceeded; or the text means nothing
 abbrev pub WhyNotCompiled : FaultKind → List ℕ → Type 0
 WhyNotCompiled NoMemory text = Unit {0}
-WhyNotCompiled Limit text = 16777216 < length text
+WhyNotCompiled Limit text = IsTooLarge text
 WhyNotCompiled BadVersionTag text = MeansNothing text
 WhyNotCompiled BadToken text = MeansNothing text
 WhyNotCompiled Syntax text = MeansNothing text

@@ -15,3 +15,4 @@ pub mod Items
 pub mod Built
 pub mod Compiled
 pub mod Pieces
+pub mod Flaws

@@ -21,6 +21,7 @@ pub mod word;
 use crate::lexer::outcome::outcome;
 use crate::lexer::rule::cut;
 use crate::lexer::token::{Flaw, Kind, Mode, Token, mode_after};
+use dt_names::{Fault, FaultKind};
 use std::alloc::{AllocFailed, Global};
 
 /// Why a text has no token list here.
@@ -43,6 +44,21 @@ impl<T: Drop> From<AllocFailed<T>> for LexError {
 
     fn from(_error: AllocFailed<T>) -> LexError {
         LexError::Memory
+    }
+}
+
+impl From<LexError> for Fault {
+    ghost use Rattle.std.specs.Prelude.{◌≡◌};
+    ghost use Rattle.dt_chain.specs.Flaws.{fault_of};
+
+    ghost from_gives = { λ error fault. fault ≡ fault_of error };
+
+    fn from(error: LexError) -> Fault {
+        match error {
+            LexError::Memory => Fault::of(FaultKind::NoMemory),
+            LexError::BadToken(place) => Fault::at(FaultKind::BadToken, place),
+            LexError::BadInteger(place) => Fault::at(FaultKind::BadInteger, place),
+        }
     }
 }
 

@@ -1,6 +1,48 @@
-//! From devicetree source to a blob.
+//! From the source of a devicetree to the blob that a kernel boots (Devicetree Specification v0.4, chapters 5 and 6).
 #![tactic(auto)]
+
+ghost use Rattle.std.specs.Prelude.{◌≡◌, List, ℕ, IfOk, IfErr};
+ghost use Rattle.dt_model.specs.Meaning.{Meaning};
+ghost use Rattle.dt_chain.specs.Grammar.{TextMeans};
+ghost use Rattle.dt_chain.specs.Compiled.{IsCompiled, WhyNotCompiled};
 
 mod builder;
 mod lexer;
 mod parser;
+
+use builder::build;
+use dt_names::{Fault, FaultKind};
+use dt_write::write_blob;
+use lexer::tokens;
+use parser::parse;
+use std::alloc::Global;
+
+/// Bytes that a source may have.
+pub const TEXT_LIMIT: usize = 16_777_216;
+
+/// The blob of a source: version 17, boot CPU 0. So far a source is `/dts-v1/;` and one root block with nested children,
+/// whose values are texts without escapes and cell lists of integers (Devicetree Specification v0.4, chapter 6).
+///
+/// Refused are a text that is no such source, with the fault that shows first and its place: BadToken, BadInteger,
+/// BadVersionTag, Syntax, BadName, PropertyAfterNode, OutOfRange (a number that no cell can hold); a source that means
+/// nothing: ReservedName, DuplicateNode, DuplicateProperty, BadPhandle (any property `phandle`, so far); Limit, where the
+/// text, the blob, the number of nodes or their depth is too large; NoMemory.
+pub fn compile(alloc: Global, text: &[u8]) -> Result<Vec<u8>, Fault>
+    // There is a blob only where the text means something, and the blob is read as a tree that represents it.
+    ensures blob { IfOk result (λ blob. IsCompiled text.now blob.items) }
+    // There is none only where the text means nothing or is too large, or memory is wanted.
+    ensures refused { IfErr result (λ fault. WhyNotCompiled fault.kind text.now) }
+{
+    if text.len() > TEXT_LIMIT {
+        return Err(Fault::of(FaultKind::Limit));
+    }
+    let tokens = tokens(alloc, text)?;
+    let items = parse(alloc, tokens.as_slice(), text.len())?;
+    let tree = build(alloc, items.as_slice())?;
+    write_blob(alloc, &tree)
+}
+
+/// A text means one thing.
+pub fn one_meaning()
+    ensures { (text : List ℕ) (m n : Meaning) → TextMeans text m → TextMeans text n → m ≡ n }
+{}
