@@ -91,9 +91,7 @@ fn give<'a>(
     kind: Option<Kind<'a>>,
     start: usize,
 ) -> Result<Mode, LexError>
-    ensures tokens {
-      OnOk result (map view out.new.items ≡ map view out.old.items ++ tokens_of kind.entry start)
-    }
+    ensures tokens { OnOk result (map view out.new.items ≡ map view out.old.items ++ tokens_of kind.entry start) }
     ensures mode { IfOk result (λ m. m ≡ mode_behind kind.entry mode) }
     ensures err { IfErr result (λ e. e ≡ LexError.Memory) }
 {
@@ -122,10 +120,8 @@ pub fn tokens<'a>(alloc: Global, text: &'a [u8]) -> Result<Vec<Token<'a>>, LexEr
     // A fault is the text's first, and then it has no token list.
     ensures err { IfErr result (λ e. IsReason text.now e) }
     // Nothing else is answered, unless memory is wanted.
-    ensures only {
-      (a : Lexed) → IsRead text.now a →
-      MatchResult result (λ v. a ≡ Ok (map view v.items)) (λ e. Reports e a)
-    }
+    ensures only { (a : Lexed) → IsRead text.now a →
+        MatchResult result (λ v. a ≡ Ok (map view v.items)) (λ e. Reports e a) }
 {
     let mut out = Vec::new(alloc);
     let mut mode = Mode::Name;
