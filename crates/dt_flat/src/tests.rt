@@ -1,5 +1,6 @@
 use super::*;
 use dt_names::{Fault, FaultKind, NodeName, PropName};
+use std::alloc::{AllocError, Global};
 use std::test::*;
 
 // How many nodes, reservations, children and properties a tree has, and how long their names and values are.
@@ -61,81 +62,108 @@ fn as_deep_as_may_be(rt: HostRuntime) -> Result<(), Fail> {
 }
 
 #[test]
-fn what_is_refused(rt: HostRuntime) -> Result<(), Fail> {
+fn two_zeros_are_no_reservation(rt: HostRuntime) -> Result<(), Fail> {
     let mut tree = FlatTree::new(rt.alloc(), 3);
-    assert_eq!(rt; tree.boot_cpu(), 3);
     assert!(rt; is_of(tree.reserve(0, 0), FaultKind::OutOfRange));
     tree.reserve(0x1000, 0)?;
     assert_eq!(rt; tree.reservations(), [(0x1000, 0)].as_slice());
+    assert_eq!(rt; tree.boot_cpu(), 3);
+    Ok(())
+}
 
-    let cpu = NodeName::new(b"cpu@0".as_slice())?;
-    let root = tree.root();
-    let node = tree.add_node(root, &cpu)?;
-    let root = tree.root();
-    assert!(rt; is_of(tree.add_node(root, &cpu), FaultKind::Duplicate));
-
+// Is the value refused as a phandle of the root?
+fn is_no_phandle(tree: &mut FlatTree, value: &[u8]) -> Result<bool, Fault> {
     let phandle = PropName::new(b"phandle".as_slice())?;
-    for value in [
-        b"".as_slice(),
-        b"\0\0\x01".as_slice(),
-        b"\0\0\0\0\x01".as_slice(),
-        b"\0\0\0\0".as_slice(),
-        b"\xff\xff\xff\xff".as_slice(),
+    let root = tree.root();
+    let res = tree.set_prop(root, &phandle, value);
+    Ok(is_of(res, FaultKind::BlobPhandle))
+}
+
+#[test]
+fn phandles_are_in_range(rt: HostRuntime) -> Result<(), Fail> {
+    let mut tree = FlatTree::new(rt.alloc(), 0);
+    for (value, is_refused) in [
+        (b"".as_slice(), true),
+        (b"\0\0\x01".as_slice(), true),
+        (b"\0\0\0\0\x01".as_slice(), true),
+        (b"\0\0\0\0".as_slice(), true),
+        (b"\xff\xff\xff\xff".as_slice(), true),
+        (b"\xff\xff\xff\xfe".as_slice(), false),
+        (b"\0\0\0\x01".as_slice(), false),
     ] {
-        let root = tree.root();
-        assert!(rt; is_of(tree.set_prop(root, &phandle, value), FaultKind::BlobPhandle));
+        assert!(rt; is_no_phandle(&mut tree, value)? == is_refused);
     }
-    assert!(rt; node < tree.node_count());
-    tree.set_prop(node, &phandle, b"\xff\xff\xff\xfe".as_slice())?;
-    let root = tree.root();
-    assert!(rt;
-        is_of(
-            tree.set_prop(root, &phandle, b"\xff\xff\xff\xfe".as_slice()),
-            FaultKind::BlobPhandle
-        )
-    );
-    assert!(rt; node < tree.node_count());
-    tree.set_prop(node, &phandle, b"\xff\xff\xff\xfe".as_slice())?;
-    assert!(rt; node < tree.node_count());
-    tree.set_prop(node, &phandle, b"\0\0\0\x01".as_slice())?;
-    let root = tree.root();
-    tree.set_prop(root, &phandle, b"\xff\xff\xff\xfe".as_slice())?;
     Ok(())
 }
 
 #[test]
-fn the_order_is_kept(rt: HostRuntime) -> Result<(), Fail> {
+fn a_phandle_is_of_one_node(rt: HostRuntime) -> Result<(), Fail> {
     let mut tree = FlatTree::new(rt.alloc(), 0);
+    let phandle = PropName::new(b"phandle".as_slice())?;
+    let root = tree.root();
+    let node = tree.add_node(root, &NodeName::new(b"cpu@0".as_slice())?)?;
+    for (value, is_refused) in [
+        (b"\0\0\0\x07".as_slice(), true),
+        (b"\0\0\0\x08".as_slice(), false),
+    ] {
+        assert!(rt; node < tree.node_count());
+        tree.set_prop(node, &phandle, b"\0\0\0\x07".as_slice())?;
+        assert!(rt; is_no_phandle(&mut tree, value)? == is_refused);
+    }
+    Ok(())
+}
+
+// Some properties and children of the root, one of the properties set twice.
+fn sample(alloc: Global) -> Result<FlatTree, Fault> {
+    let mut tree = FlatTree::new(alloc, 0);
     for (name, value) in [
         (b"reg".as_slice(), b"1".as_slice()),
-        (b"compatible".as_slice(), b"22".as_slice()),
-        (b"#size-cells".as_slice(), b"".as_slice()),
+        (b"model".as_slice(), b"22".as_slice()),
         (b"reg".as_slice(), b"333".as_slice()),
     ] {
         let root = tree.root();
         tree.set_prop(root, &PropName::new(name)?, value)?;
     }
-    for name in [b"uart@10".as_slice(), b"cpus".as_slice(), b"soc".as_slice()] {
+    for name in [b"uart@10".as_slice(), b"cpus".as_slice()] {
         let root = tree.root();
         tree.add_node(root, &NodeName::new(name)?)?;
     }
+    Ok(tree)
+}
+
+// The names and the values of the root's properties, one after another.
+fn properties_of(alloc: Global, tree: &FlatTree) -> Result<Vec<u8>, AllocError> {
+    let mut bytes = Vec::new(alloc);
+    for (name, value) in tree.props(tree.root()) {
+        bytes.extend_from_slice(name)?;
+        bytes.extend_from_slice(value)?;
+    }
+    Ok(bytes)
+}
+
+// The names of the root's children, one after another.
+fn names_of(alloc: Global, tree: &FlatTree) -> Result<Vec<u8>, AllocError> {
+    let mut bytes = Vec::new(alloc);
+    for child in tree.children(tree.root()) {
+        bytes.extend_from_slice(tree.name(child))?;
+    }
+    Ok(bytes)
+}
+
+#[test]
+fn the_order_is_kept(rt: HostRuntime) -> Result<(), Fail> {
+    let tree = sample(rt.alloc())?;
+    let properties = properties_of(rt.alloc(), &tree)?;
+    assert_eq!(rt; properties.as_slice(), b"reg333model22".as_slice());
+    let names = names_of(rt.alloc(), &tree)?;
+    assert_eq!(rt; names.as_slice(), b"uart@10cpus".as_slice());
+    Ok(())
+}
+
+#[test]
+fn values_by_name(rt: HostRuntime) -> Result<(), Fail> {
+    let tree = sample(rt.alloc())?;
     let root = tree.root();
-    let mut text = String::new(rt.alloc());
-    for (name, value) in tree.props(root) {
-        text.push_str(std::str::from_utf8(name).unwrap_or("?"))?;
-        text.push_str("=")?;
-        text.push_str(std::str::from_utf8(value).unwrap_or("?"))?;
-        text.push_str(";")?;
-    }
-    for child in tree.children(root) {
-        assert!(rt; child < tree.node_count());
-        text.push_str(std::str::from_utf8(tree.name(child)).unwrap_or("?"))?;
-        text.push_str(";")?;
-    }
-    assert_eq!(rt;
-        text.as_str(),
-        "reg=333;compatible=22;#size-cells=;uart@10;cpus;soc;"
-    );
     assert_eq!(rt;
         tree.value(root, b"reg".as_slice()),
         Some(b"333".as_slice())
@@ -181,11 +209,10 @@ fn refused_memory_changes_nothing(rt: HostRuntime) -> Result<(), Fail> {
             change(&mut tree, step)?;
         }
     }
-    let root = tree.root();
     assert_eq!(rt; tree.node_count(), 5);
     assert_eq!(rt; tree.reservations().len(), 4);
-    assert_eq!(rt; tree.children(root).count(), 4);
     let root = tree.root();
-    assert_eq!(rt; tree.props(root).count(), 5);
+    assert!(rt; tree.value(root, b"d".as_slice()) == Some(b"d".as_slice()));
+    assert!(rt; tree.value(root, b"phandle".as_slice()) == Some(b"\0\0\x01\x0e".as_slice()));
     Ok(())
 }
