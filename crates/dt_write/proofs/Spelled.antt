@@ -4,7 +4,7 @@ use Rattle.std.specs.List.{flat_map, AllByRecursion}
 use Rattle.std.proofs.lemmas.List.{length-append, length-replicate}
 use Rattle.dt_model.specs.Tree.{Property, Forest, no_nodes, branch, Reading}
 use Rattle.dt_model.specs.Format.{Token, begin_node, end_node, prop, nop, end_tree, word, IsText, SpellsBegin, SpellsProperty, SpellsAll, tokens_of_forest, tokens_of, without_nops, SpellsTree}
-use Rattle.dt_write.specs.Written.{has, used, used_by, used_below, strings_block, offset_of, zeros_after, property_block, begin_block, nodes_block, root_of, structure_block, names_of}
+use Rattle.dt_write.specs.Written.{has, used, used_by, used_below, strings_block, offset_of, zeros_after, property_block, begin_block, nodes_block, root_node, structure_block, names_of}
 use Rattle.dt_write.proofs.Strings.{Extends, Extends-trans, Extends-used_by, Extends-used_below, has-append, has-used, holds, offset_within}
 
 -- ---- the names that are used
@@ -152,13 +152,13 @@ nodes_spelled names (branch name ps cs ss) h texts strings short =
         (omega arith, omega arith, omega arith)
 
 -- the structure block spells the tree
-pub structure_spelled : (t : Reading) → AreTexts (root_of t) → length (strings_block (names_of t)) < 2 ^ 32 → length (structure_block t) < 2 ^ 32 → SpellsTree (strings_block (names_of t)) t.properties t.children (structure_block t)
+pub structure_spelled : (t : Reading) → AreTexts (root_node t) → length (strings_block (names_of t)) < 2 ^ 32 → length (structure_block t) < 2 ^ 32 → SpellsTree (strings_block (names_of t)) t.properties t.children (structure_block t)
 structure_spelled t texts strings short =
     let names = names_of t in
-    let nodes = nodes_block names (root_of t) in
-    let inside = nodes_spelled names (root_of t) (HasBelow-used_below [] (root_of t)) texts strings (omega (arith, length-append nodes (word 9))) in
+    let nodes = nodes_block names (root_node t) in
+    let inside = nodes_spelled names (root_node t) (HasBelow-used_below [] (root_node t)) texts strings (omega (arith, length-append nodes (word 9))) in
     record {
       tokens = tokens_of t.properties t.children;
       spelled = spells_append (strings_block names) (tokens_of t.properties t.children) (end_tree ∷ []) nodes (word 9) inside (word 9, [], refl, refl, refl);
-      whole = no_nops (root_of t);
+      whole = no_nops (root_node t);
     }

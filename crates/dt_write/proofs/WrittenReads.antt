@@ -11,7 +11,7 @@ use Rattle.dt_model.specs.Names.{is_name_byte, IsNodeName, IsPropertyName}
 use Rattle.dt_model.specs.Tree.{Property, Forest, no_nodes, branch, Reading}
 use Rattle.dt_model.specs.Valid.{AreNodes, IsValid, IsWithinLimits}
 use Rattle.dt_model.specs.Format.{word_at, pair, reservation_block, IsText, SpellsTree, part, Header, HasHeader, Reads, IsWithin}
-use Rattle.dt_write.specs.Written.{assembled, written, root_of, structure_block, strings_block, names_of}
+use Rattle.dt_write.specs.Written.{assembled, written, root_node, structure_block, strings_block, names_of}
 use Rattle.dt_write.proofs.Spelled.{AreTexts, structure_spelled}
 
 -- ---- names have no NUL
@@ -123,7 +123,7 @@ written_reads t valid short =
     let s = structure_block t in
     let n = strings_block (names_of t) in
     let len = assembled_length t.boot_cpu r s n in
-    let texts : AreTexts (root_of t) = (tt, property_texts t.properties valid.properties.named, node_texts t.children valid.nodes, tt) in
+    let texts : AreTexts (root_node t) = (tt, property_texts t.properties valid.properties.named, node_texts t.children valid.nodes, tt) in
     assembled_reads t s n (omega arith) (structure_spelled t texts (omega arith) (omega arith)) valid
 
 -- and it is within the limits, where the tree is

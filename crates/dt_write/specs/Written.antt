@@ -61,16 +61,16 @@ nodes_block names (branch name ps cs ss) =
     begin_block name ++ flat_map (property_block names) ps ++ nodes_block names cs ++ word 2 ++ nodes_block names ss
 
 -- the root and its name, which is empty, with all that stands below it
-abbrev pub root_of : Reading → Forest
-root_of t = branch [] t.properties t.children no_nodes
+abbrev pub root_node : Reading → Forest
+root_node t = branch [] t.properties t.children no_nodes
 
 -- the names of all properties, in the order of first use
 abbrev pub names_of : Reading → List Name
-names_of t = used_below [] (root_of t)
+names_of t = used_below [] (root_node t)
 
 -- the root's node, and END
 abbrev pub structure_block : Reading → List ℕ
-structure_block t = nodes_block (names_of t) (root_of t) ++ word 9
+structure_block t = nodes_block (names_of t) (root_node t) ++ word 9
 
 -- ---- the blob
 
