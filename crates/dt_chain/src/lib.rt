@@ -9,6 +9,8 @@ ghost use Rattle.dt_chain.specs.Compiled.{IsCompiled, WhyNotCompiled};
 mod builder;
 mod lexer;
 mod parser;
+#[cfg(test)]
+mod tests;
 
 use builder::build;
 use dt_names::{Fault, FaultKind};
