@@ -12,4 +12,5 @@ pub mod Grammar
 pub mod Parsing
 pub mod Building
 pub mod Items
+pub mod Compiled
 pub mod Pieces
