@@ -13,4 +13,5 @@ pub mod Parsing
 pub mod Building
 pub mod Items
 pub mod Compiled
+pub mod Input
 pub mod Pieces

@@ -4,8 +4,11 @@
 ghost use Rattle.std.specs.Prelude.{IfOk, IfErr};
 ghost use Rattle.dt_chain.specs.Compiled.{IsCompiled, WhyNotCompiled};
 
+mod input;
 mod lexer;
 mod parser;
+
+pub use input::read_all;
 
 use dt_names::{Fault, FaultKind};
 use std::alloc::Global;
