@@ -1,0 +1,3 @@
+pub mod Job
+pub mod Report
+pub mod Words

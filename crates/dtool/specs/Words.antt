@@ -1,0 +1,48 @@
+-- What the words of a command line ask for, as clap reads them.
+use Rattle.std.specs.Prelude.{◌≡◌, ◌⊎◌, ◌∷◌, [], List, Some, None, true, false, codes}
+use Rattle.clap.specs.Words.{App, Row, Rule, Text, IsAmong, fault_of, first_of, kind_of, new_app, new_rule, one_of, subcommand_of, with_rule, with_subcommand}
+use Rattle.clap.specs.declared.builder.action.ArgAction.TheVariants.{SetTrue}
+use Rattle.clap.specs.declared.error.kind.ErrorKind.TheVariants.{MissingSubcommand}
+use Rattle.dtool.specs.declared.job.Job.{Job}
+use Rattle.dtool.specs.declared.job.Job.TheVariants.{Compile}
+use Rattle.dtool.specs.declared.words.Line.{Line}
+use Rattle.dtool.specs.declared.words.LineFault.{LineFault}
+use Rattle.dtool.specs.declared.words.LineFault.TheVariants.{Memory, Unread, Words}
+
+-- `--hex`
+abbrev pub hex_flag : Rule
+hex_flag = record (new_rule (codes "hex")) { long = Some (codes "hex"); action = Some SetTrue }
+
+-- `FILE`, which must be there
+abbrev pub file_word : Rule
+file_word = record (new_rule (codes "FILE")) { required = true }
+
+-- `compile [--hex] FILE`
+abbrev pub compile_command : App
+compile_command = with_rule (with_rule (new_app (codes "compile")) hex_flag) file_word
+
+-- `dtool`, with one of its commands
+abbrev pub dtool : App
+dtool =
+    let bare = new_app (codes "dtool") in
+    with_subcommand (record bare { top = record bare.top { subcommand_required = true } }) compile_command.top
+
+-- a job's command
+abbrev pub command_of : Job → Text
+command_of Compile = codes "compile"
+
+-- clap finds no fault in the words, and they are a command for the job, with the file, and with the flag or without
+pub record IsLine (words : List Text) (line : Line) : Type 0 where
+  pub rows : List Row
+  pub faultless : fault_of dtool words ≡ []
+  pub command : subcommand_of dtool words ≡ Some (command_of line.job, rows)
+  pub file : first_of (codes "FILE") rows ≡ Some line.file.now
+  pub hex : one_of (codes "hex") rows ≡ Some (codes "true") → line.hex ≡ true
+  pub bytes : one_of (codes "hex") rows ≡ Some (codes "false") → line.hex ≡ false
+
+-- clap finds such a fault in the words, or they name no command
+abbrev pub WhyNoLine : List Text → LineFault → Type 0
+WhyNoLine words (Memory _) = Unit {0}
+WhyNoLine words (Unread _) = ⊥
+WhyNoLine words (Words error) =
+    IsAmong (kind_of error) (fault_of dtool words) ⊎ (kind_of error ≡ MissingSubcommand)
