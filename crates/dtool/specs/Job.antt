@@ -1,10 +1,10 @@
 -- What a job makes of its inputs, and what is written of it.
-use Rattle.std.specs.Prelude.{◌≡◌, ◌<◌, ◌++◌, ◌∷◌, [], ℕ, List, Bool, true, Option, length, take, if◌then◌else◌}
-use Rattle.std.specs.Io.KnownBytes.{Keeps, Appends}
+use Rattle.std.specs.Prelude.{◌≡◌, ◌++◌, ◌∷◌, [], ℕ, List, Bool, Option, if◌then◌else◌}
 use Rattle.hex.specs.Hex.{encode_lower}
 use Rattle.dt_names.specs.declared.fault.FaultKind.{FaultKind}
 use Rattle.dt_names.specs.declared.fault.FaultKind.TheVariants.{NoMemory, WriteFault}
 use Rattle.dt_chain.specs.Compiled.{IsCompiled, WhyNotCompiled}
+use Rattle.dtool.specs.Written.{IsUntouched, IsCutShort}
 use Rattle.dtool.specs.declared.job.Job.{Job}
 use Rattle.dtool.specs.declared.job.Job.TheVariants.{Compile}
 
@@ -25,15 +25,6 @@ WhyNotMade kind Compile _ = ⊥
 -- how a blob is written: as it is, or as hexadecimal and a line feed
 abbrev pub printed : Bool → List ℕ → List ℕ
 printed hex blob = if hex then encode_lower blob ++ 10 ∷ [] else blob
-
--- nothing was written, and the sink works as before
-abbrev pub IsUntouched : (old new : Option (List ℕ)) (had_failed has_failed : Bool) → Type 0
-IsUntouched old new had_failed has_failed = Keeps old new × (has_failed ≡ had_failed)
-
--- the sink took a front of what was to be written, and has failed
-abbrev pub IsCutShort : List ℕ → (old new : Option (List ℕ)) (has_failed : Bool) → Type 0
-IsCutShort whole old new has_failed =
-    (has_failed ≡ true) × ((n : ℕ) × (n < length whole) × Appends old new (take n whole))
 
 -- why what is to be written wasn't
 abbrev pub WhyNotShown : FaultKind → List ℕ → (old new : Option (List ℕ)) (had_failed has_failed : Bool) → Type 0

@@ -1,3 +1,4 @@
+pub mod Written
 pub mod Job
 pub mod Report
 pub mod Words

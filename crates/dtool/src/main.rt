@@ -28,7 +28,7 @@ enum Refusal {
 impl From<LineFault> for Refusal {
     fn from(fault: LineFault) -> Refusal {
         match fault {
-            LineFault::Memory(error) => Refusal::Input(0, Fault::from(error)),
+            LineFault::Memory => Refusal::Input(0, Fault::of(FaultKind::NoMemory)),
             fault => Refusal::Words(fault),
         }
     }

@@ -1,12 +1,13 @@
 //! The words of the command line.
 
-ghost use Rattle.std.specs.Prelude.{◌≡◌, map, IfOk, IfErr};
-ghost use Rattle.clap.specs.Words.{app_of};
-ghost use Rattle.dtool.specs.Words.{IsLine, WhyNoLine, dtool};
+ghost use Rattle.std.specs.Prelude.{◌≡◌, map, IfOk, IfErr, MatchOption};
+ghost use Rattle.clap.specs.Words.{app_of, subcommand_rows_of};
+ghost use Rattle.dtool.specs.Words.{IsLine, Names, NamesNone, Tells, WhyNoLine, dtool};
+ghost use Rattle.dtool.specs.declared.words.LineFault.TheVariants.{Memory};
 
 use crate::job::Job;
 use clap::error::ErrorKind;
-use clap::{Arg, ArgAction, Command};
+use clap::{Arg, ArgAction, ArgMatches, Command};
 use std::alloc::{AllocError, Global};
 use std::convert::AsStr;
 use std::rt::Env;
@@ -29,7 +30,7 @@ pub struct Line<'a> {
 pub enum LineFault {
     /// Memory was refused.
     #[error("dtool: out of memory\n")]
-    Memory(#[from(alloc)] AllocError),
+    Memory,
     /// The words can't be had, or aren't text.
     #[error("dtool: the words of the command line: {0}\n")]
     Unread(io::Error),
@@ -38,19 +39,29 @@ pub enum LineFault {
     Words(clap::Error),
 }
 
+impl From<AllocError> for LineFault {
+    ghost from_gives = { λ _ fault. fault ≡ Memory };
+
+    fn from(_error: AllocError) -> LineFault {
+        LineFault::Memory
+    }
+}
+
 impl From<io::Error> for LineFault {
     fn from(error: io::Error) -> LineFault {
         match error.kind() {
-            io::ErrorKind::OutOfMemory => LineFault::Memory(AllocError),
+            io::ErrorKind::OutOfMemory => LineFault::Memory,
             _ => LineFault::Unread(error),
         }
     }
 }
 
 impl From<clap::Error> for LineFault {
+    ghost from_gives = { Tells };
+
     fn from(error: clap::Error) -> LineFault {
         match error.kind() {
-            ErrorKind::OutOfMemory => LineFault::Memory(AllocError),
+            ErrorKind::OutOfMemory => LineFault::Memory,
             _ => LineFault::Words(error),
         }
     }
@@ -76,17 +87,27 @@ pub fn parse<'a, S: AsStr>(alloc: Global, words: &'a [S]) -> Result<Line<'a>, Li
 {
     let mut command = tool(alloc)?;
     let matches = command.try_get_matches_from_mut(words)?;
-    if let Some(("compile", found)) = matches.subcommand()
-        && let Some(file) = found.get_str("FILE")
-    {
-        return Ok(Line {
+    match line_in(&matches) {
+        Some(line) => Ok(line),
+        None => {
+            let error = command.error(ErrorKind::MissingSubcommand, "a command and a file are wanted")?;
+            Err(LineFault::Words(error))
+        }
+    }
+}
+
+/// What is asked for, where there are a command and a file.
+fn line_in<'a>(matches: &ArgMatches<'a>) -> Option<Line<'a>>
+    ensures { MatchOption result (NamesNone (subcommand_rows_of matches.now)) (Names (subcommand_rows_of matches.now)) }
+{
+    match matches.subcommand() {
+        Some(("compile", found)) => Some(Line {
             job: Job::Compile,
             hex: found.get_flag("hex"),
-            file,
-        });
+            file: found.get_str("FILE")?,
+        }),
+        _ => None,
     }
-    let error = command.error(ErrorKind::MissingSubcommand, "a command and a file are wanted")?;
-    Err(LineFault::Words(error))
 }
 
 /// The commands that the tool has.
