@@ -7,6 +7,8 @@
 mod files;
 mod job;
 mod report;
+#[cfg(test)]
+mod tests;
 mod words;
 
 use crate::files::load;
