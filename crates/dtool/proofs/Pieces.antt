@@ -16,6 +16,6 @@ pub cut : (whole front bytes rest : List ℕ) (n : ℕ) → whole ≡ (front ++ 
 cut whole front bytes rest n split inside = (
   omega (arith, ap length split, length-append (front ++ bytes) rest, length-append front bytes, inside),
   sym
-    (ap (take (length front + n)) (split ∙ append_assoc front bytes rest) ∙ take-append-add front (bytes ++ rest) n
-    ∙ ap (λ (l : List ℕ). front ++ l) (take-append-le n bytes rest (omega (arith, inside)))),
+      (ap (take (length front + n)) (split ∙ append_assoc front bytes rest) ∙ take-append-add front (bytes ++ rest) n
+      ∙ ap (λ (l : List ℕ). front ++ l) (take-append-le n bytes rest (omega (arith, inside)))),
 )

@@ -48,13 +48,7 @@ fn run(rt: &HostRuntime) -> Result<(), Refusal> {
     let line = parse(rt.alloc(), words.as_slice())?;
     let text = load(rt, line.file).map_err(|fault| (0, fault))?;
     let mut out = Out::new(rt.stdout());
-    perform(
-        rt.alloc(),
-        line.job,
-        line.hex,
-        &[text.as_slice()],
-        &mut out,
-    )?;
+    perform(rt.alloc(), line.job, line.hex, &[text.as_slice()], &mut out)?;
     match out.into_inner().flush() {
         Ok(()) => Ok(()),
         Err(_) => Err(Refusal::Input(0, Fault::of(FaultKind::WriteFault))),

@@ -29,7 +29,13 @@ pub fn report<S: Sink>(err: &mut S, input: usize, fault: Fault) -> Result<(), Fa
         None => put_pieces(err, &pieces(input, number, fault.name(), "", "")),
         Some(place) => put_pieces(
             err,
-            &pieces(input, number, fault.name(), " at ", place_digits.format(place)),
+            &pieces(
+                input,
+                number,
+                fault.name(),
+                " at ",
+                place_digits.format(place),
+            ),
         ),
     }
 }

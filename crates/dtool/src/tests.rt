@@ -11,7 +11,8 @@ use std::test::*;
 
 const SOURCE: &[u8] = b"/dts-v1/; / { };";
 
-const BLOB: &str = "d00dfeed0000004800000038000000480000002800000011000000100000000000000000000000100000000000000000000000000000000000000001000000000000000200000009";
+const BLOB: &str =
+    "d00dfeed0000004800000038000000480000002800000011000000100000000000000000000000100000000000000000000000000000000000000001000000000000000200000009";
 
 // Takes at most `step` bytes at a call, and fails when it holds `room`.
 #[derive(Drop)]
@@ -180,9 +181,21 @@ fn words_that_are_a_command(rt: HostRuntime) -> Result<(), Fail> {
     let job = Job::Compile;
     for (words, hex, file) in [
         (["dtool", "compile", "stdin"].as_slice(), false, "stdin"),
-        (["dtool", "compile", "--hex", "a.dts"].as_slice(), true, "a.dts"),
-        (["dtool", "compile", "a.dts", "--hex"].as_slice(), true, "a.dts"),
-        (["dtool", "compile", "--", "--hex"].as_slice(), false, "--hex"),
+        (
+            ["dtool", "compile", "--hex", "a.dts"].as_slice(),
+            true,
+            "a.dts",
+        ),
+        (
+            ["dtool", "compile", "a.dts", "--hex"].as_slice(),
+            true,
+            "a.dts",
+        ),
+        (
+            ["dtool", "compile", "--", "--hex"].as_slice(),
+            false,
+            "--hex",
+        ),
     ] {
         assert!(rt; parse(rt.alloc(), words)? == Line { job, hex, file });
     }

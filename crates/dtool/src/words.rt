@@ -90,7 +90,10 @@ pub fn parse<'a, S: AsStr>(alloc: Global, words: &'a [S]) -> Result<Line<'a>, Li
     match line_in(&matches) {
         Some(line) => Ok(line),
         None => {
-            let error = command.error(ErrorKind::MissingSubcommand, "a command and a file are wanted")?;
+            let error = command.error(
+                ErrorKind::MissingSubcommand,
+                "a command and a file are wanted",
+            )?;
             Err(LineFault::Words(error))
         }
     }

@@ -10,7 +10,7 @@ returns-in_err-get_str-in-Some-compile-default c =
     let name : compile.field-0-0.now ≡ codes "compile" = search rules in
     let rows = rows_of (found_of compile.found.now) in
     let found : subcommand_rows_of c.args.matches.now ≡ Some (codes "compile", rows) =
-        entry_is _ _ _ _ _ (ap Some (sym name) ∙ compile.ensures.name) compile.ensures.rows in
+    entry_is _ _ _ _ _ (ap Some (sym name) ∙ compile.ensures.name) compile.ensures.rows in
     rw c.from_residual.ensures
     (no_file _ _ rows found (sym (first_value-rows (found_of compile.found.now) (codes "FILE")) ∙ sym c.in_err-get_str-in-Some-compile-default.ensures))
 
@@ -20,7 +20,7 @@ returns-in_ok-get_str-in-Some-compile-default c =
     let name : compile.field-0-0.now ≡ codes "compile" = search rules in
     let rows = rows_of (found_of compile.found.now) in
     let found : subcommand_rows_of c.args.matches.now ≡ Some (codes "compile", rows) =
-        entry_is _ _ _ _ _ (ap Some (sym name) ∙ compile.ensures.name) compile.ensures.rows in
+    entry_is _ _ _ _ _ (ap Some (sym name) ∙ compile.ensures.name) compile.ensures.rows in
     record {
       rows = rows;
       command = found;
