@@ -1,6 +1,6 @@
 -- What clap's matches say of the tool's words.
-use Rattle.std.proofs.Common.{◌≡◌, List, [], Option, Some, None, Bool, true, refl, sym, ap, subst, ◌∙◌, inl, inr, map, option_map, codes}
-use Rattle.clap.specs.Words.{App, FailsBy, HasKind, HasMatchesOf, IsAmong, Row, Text, fault_of, first_of, is_simple, is_simple_and_free, kind_of, subcommand_of, subcommand_rows_of}
+use Rattle.std.proofs.Common.{◌≡◌, List, [], Option, Some, None, true, refl, sym, ap, subst, ◌∙◌, inl, inr, option_map, codes}
+use Rattle.clap.specs.Words.{App, HasKind, HasMatchesOf, IsAmong, Row, Text, fault_of, first_of, is_simple, is_simple_and_free, kind_of, subcommand_of, subcommand_rows_of}
 use Rattle.clap.specs.declared.error.Error.{Error}
 use Rattle.clap.specs.declared.parser.matches.ArgMatches.{ArgMatches}
 use Rattle.clap.proofs.OnLiterals.{clap_on_literals}

@@ -203,22 +203,28 @@ fn words_that_are_a_command(rt: HostRuntime) -> Result<(), Fail> {
 }
 
 #[test]
-fn words_that_are_none(rt: HostRuntime) {
-    for words in [
-        [].as_slice(),
-        ["dtool"].as_slice(),
-        ["dtool", "compile"].as_slice(),
-        ["dtool", "compile", "a.dts", "b.dts"].as_slice(),
-        ["dtool", "compile", "--hex", "--hex", "a.dts"].as_slice(),
-        ["dtool", "compile", "--hexadecimal", "a.dts"].as_slice(),
-        ["dtool", "--hex", "compile", "a.dts"].as_slice(),
-        ["dtool", "decompile", "a.dts"].as_slice(),
-        ["dtool", "--help"].as_slice(),
-        ["dtool", "help"].as_slice(),
-        ["dtool", "compile", "--help"].as_slice(),
+fn words_that_are_none(rt: HostRuntime) -> Result<(), Fail> {
+    for line in [
+        "",
+        "dtool",
+        "dtool compile",
+        "dtool compile a.dts b.dts",
+        "dtool compile --hex --hex a.dts",
+        "dtool compile --hexadecimal a.dts",
+        "dtool --hex compile a.dts",
+        "dtool decompile a.dts",
+        "dtool --help",
+        "dtool help",
+        "dtool compile --help",
     ] {
-        assert!(rt; matches!(parse(rt.alloc(), words), Err(LineFault::Words(_))));
+        let words: Vec<&str> = line.split(' ').collect(rt.alloc())?;
+        let refused = matches!(
+            parse(rt.alloc(), words.as_slice()),
+            Err(LineFault::Words(_))
+        );
+        assert!(rt; refused, "{line}");
     }
+    Ok(())
 }
 
 #[test]

@@ -1,4 +1,4 @@
-use Rattle.dtool.proofs.JobLemmas.{made, not_made}
+use Rattle.dtool.proofs.JobLemmas.{made}
 use Rattle.dtool.proofs.job.make.Goals as goal
 
 pub returns-in-Ok-clause-made : goal.returns-in-Ok-clause-made

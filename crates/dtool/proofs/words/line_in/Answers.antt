@@ -1,5 +1,5 @@
-use Rattle.std.proofs.Common.{rules, ◌≡◌, ◌∙◌, sym, ap, codes, Some, None}
-use Rattle.clap.specs.Words.{found_of, rows_of, first_of, one_of, subcommand_rows_of}
+use Rattle.std.proofs.Common.{rules, ◌≡◌, ◌∙◌, sym, ap, codes, Some}
+use Rattle.clap.specs.Words.{found_of, rows_of, subcommand_rows_of}
 use Rattle.clap.proofs.WalkLemmas.{first_value-rows, one_text-rows}
 use Rattle.dtool.proofs.WordLemmas.{entry_is, no_file}
 use Rattle.dtool.proofs.words.line_in.Goals as goal

@@ -2,7 +2,7 @@ use Rattle.std.proofs.Common.{rules, ◌≡◌, ◌∙◌, ap, ap₂, true}
 use Rattle.std.proofs.lemmas.Result.{IfOk-weaker}
 use Rattle.clap.specs.Simple.{app_of_fields}
 use Rattle.clap.specs.Words.{App, app_of, rule_of, with_rule, with_subcommand}
-use Rattle.dtool.specs.Words.{compile_command, dtool, file_word, hex_flag}
+use Rattle.dtool.specs.Words.{compile_command, file_word, hex_flag}
 use Rattle.dtool.proofs.words.tool.Goals as goal
 
 required : App → App
