@@ -14,5 +14,6 @@ pub mod Building
 pub mod Items
 pub mod Built
 pub mod Compiled
+pub mod Input
 pub mod Pieces
 pub mod Flaws

@@ -7,20 +7,21 @@ ghost use Rattle.dt_chain.specs.Grammar.{TextMeans};
 ghost use Rattle.dt_chain.specs.Compiled.{IsCompiled, WhyNotCompiled};
 
 mod builder;
+mod input;
 mod lexer;
 mod parser;
 #[cfg(test)]
 mod tests;
 
+pub use input::read_all;
+
 use builder::build;
 use dt_names::{Fault, FaultKind};
 use dt_write::write_blob;
+use input::INPUT_LIMIT;
 use lexer::tokens;
 use parser::parse;
 use std::alloc::Global;
-
-/// Bytes that a source may have.
-pub const TEXT_LIMIT: usize = 16_777_216;
 
 /// The blob of a source: version 17, boot CPU 0. So far a source is `/dts-v1/;` and one root block with nested children,
 /// whose values are texts without escapes and cell lists of integers (Devicetree Specification v0.4, chapter 6).
@@ -35,7 +36,7 @@ pub fn compile(alloc: Global, text: &[u8]) -> Result<Vec<u8>, Fault>
     // There is none only where the text means nothing or is too large, or memory is wanted.
     ensures refused { IfErr result (λ fault. WhyNotCompiled fault.kind text.now) }
 {
-    if text.len() > TEXT_LIMIT {
+    if text.len() > INPUT_LIMIT {
         return Err(Fault::of(FaultKind::Limit));
     }
     let tokens = tokens(alloc, text)?;

@@ -54,7 +54,7 @@ returns-clause-blob c =
     let lexed : IsLexed text (kinds ts) = lexed_of text ts c.in_ok-tokens.ensures.ok in
     let parsed : IsParsed (kinds ts) (map place_of items) = subst (λ (x : List lexer.Token). IsParsed (kinds x) (map place_of items)) c.as_slice.ensures.value c.in_ok-items.ensures in
     let built : IsBuilt tree (map place_of items) = subst (λ (x : List Item). IsBuilt tree (map place_of x)) c.as_slice-2.ensures.value c.in_ok-tree.ensures in
-    let size : length text ≤ 16777216 = omega (arith, c.if-text-gt-TEXT_LIMIT.false) in
+    let size : length text ≤ 16777216 = omega (arith, c.if-text-gt-INPUT_LIMIT.false) in
     if_both (λ blob. Reads blob.items (reading tree)) (λ blob. IsWithin blob.items (reading tree)) (λ blob. IsCompiled text blob.items)
       (λ blob reads within. compiled text (kinds ts) (map place_of items) tree blob.items size lexed parsed built reads within)
       c.write_blob.result c.write_blob.ensures.reads c.write_blob.ensures.within

@@ -1,0 +1,3 @@
+pub mod JobLemmas
+pub mod Pieces
+pub mod WordLemmas

@@ -1,0 +1,5 @@
+pub mod Written
+pub mod Files
+pub mod Job
+pub mod Report
+pub mod Words

@@ -1,0 +1,64 @@
+-- What the words of a command line ask for, as clap reads them.
+use Rattle.std.specs.Prelude.{◌≡◌, ◌≢◌, ◌⊎◌, [], List, Option, Some, true, false, codes}
+use Rattle.clap.specs.Words.{App, Row, Rule, Text, IsAmong, fault_of, first_of, kind_of, new_app, new_rule, one_of, subcommand_of, with_rule, with_subcommand}
+use Rattle.clap.specs.declared.builder.action.ArgAction.TheVariants.{SetTrue}
+use Rattle.clap.specs.declared.error.kind.ErrorKind.TheVariants.{MissingSubcommand, OutOfMemory}
+use Rattle.clap.specs.declared.error.Error.{Error}
+use Rattle.dtool.specs.declared.job.Job.{Job}
+use Rattle.dtool.specs.declared.job.Job.TheVariants.{Compile}
+use Rattle.dtool.specs.declared.words.Line.{Line}
+use Rattle.dtool.specs.declared.words.LineFault.{LineFault}
+use Rattle.dtool.specs.declared.words.LineFault.TheVariants.{Memory, Unread, Words}
+
+-- `--hex`
+abbrev pub hex_flag : Rule
+hex_flag = record (new_rule (codes "hex")) { long = Some (codes "hex"); action = Some SetTrue }
+
+-- `FILE`, which must be there
+abbrev pub file_word : Rule
+file_word = record (new_rule (codes "FILE")) { required = true }
+
+-- `compile [--hex] FILE`
+abbrev pub compile_command : App
+compile_command = with_rule (with_rule (new_app (codes "compile")) hex_flag) file_word
+
+-- `dtool`, with one of its commands
+abbrev pub dtool : App
+dtool =
+    let bare = new_app (codes "dtool") in
+    with_subcommand (record bare { top = record bare.top { subcommand_required = true } }) compile_command.top
+
+-- a job's command
+abbrev pub command_of : Job → Text
+command_of Compile = codes "compile"
+
+-- a command that was found is the job's, with the file, and with the flag or without
+pub record Names (found : Option (Text × List Row)) (line : Line) : Type 0 where
+  pub rows : List Row
+  pub command : found ≡ Some (command_of line.job, rows)
+  pub file : first_of (codes "FILE") rows ≡ Some line.file.now
+  pub hex : one_of (codes "hex") rows ≡ Some (codes "true") → line.hex ≡ true
+  pub bytes : one_of (codes "hex") rows ≡ Some (codes "false") → line.hex ≡ false
+
+-- it is no job's, or has no file
+abbrev pub NamesNone : Option (Text × List Row) → Type 0
+NamesNone found =
+    (job : Job) (rows : List Row) (file : Text) → found ≡ Some (command_of job, rows) → first_of (codes "FILE") rows ≡ Some file → ⊥
+
+-- clap finds no fault in the words, and they ask for the line
+abbrev pub IsLine : List Text → Line → Type 0
+IsLine words line = (fault_of dtool words ≡ []) × Names (subcommand_of dtool words) line
+
+-- clap finds such a fault in the words, or no file
+abbrev pub WhyNoLine : List Text → LineFault → Type 0
+WhyNoLine words Memory = Unit {0}
+WhyNoLine words (Unread _) = ⊥
+WhyNoLine words (Words error) =
+    IsAmong (kind_of error) (fault_of dtool words)
+    ⊎ ((kind_of error ≡ MissingSubcommand) × NamesNone (subcommand_of dtool words))
+
+-- how clap's error is passed on
+abbrev pub Tells : Error → LineFault → Type 0
+Tells error Memory = kind_of error ≡ OutOfMemory
+Tells error (Unread _) = ⊥
+Tells error (Words same) = (same ≡ error) × (kind_of error ≢ OutOfMemory)

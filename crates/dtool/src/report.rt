@@ -1,0 +1,77 @@
+//! How a fault is told.
+
+ghost use Rattle.std.specs.Prelude.{◌≡◌, None, codes, ◌++◌, ◌∷◌, [], OnOk, IfErr};
+ghost use Rattle.std.specs.Io.KnownBytes.{Appends};
+ghost use Rattle.dt_names.specs.declared.fault.FaultKind.TheVariants.{WriteFault};
+ghost use Rattle.dtool.specs.Report.{fault_line, joined};
+ghost use Rattle.dtool.specs.Written.{IsCutShort};
+
+use dt_names::{Fault, Sink, put_all};
+use itoa::Buffer;
+
+/// Tells a fault of an input, counted from 0, in a line of its own: `dtool: input K: fault N Name`, and ` at P` where
+/// the fault has a place, in bytes from the input's start. It needs no memory.
+///
+/// # Errors
+///
+/// `WriteFault` where the sink fails: it took a front of the line.
+pub fn report<S: Sink>(err: &mut S, input: usize, fault: Fault) -> Result<(), Fault>
+    ensures told { OnOk result (Appends (S.contents err.old) (S.contents err.new) (fault_line input fault)) }
+    ensures refused { IfErr result (λ failure. (failure.kind ≡ WriteFault) × (failure.at ≡ None)
+        × IsCutShort (fault_line input fault) (S.contents err.old) (S.contents err.new) (S.has_failed err.new)) }
+{
+    let mut input_digits = Buffer::new();
+    let mut number_digits = Buffer::new();
+    let mut place_digits = Buffer::new();
+    let input = input_digits.format(input);
+    let number = number_digits.format(fault.number());
+    match fault.at {
+        None => put_pieces(err, &pieces(input, number, fault.name(), "", "")),
+        Some(place) => put_pieces(
+            err,
+            &pieces(
+                input,
+                number,
+                fault.name(),
+                " at ",
+                place_digits.format(place),
+            ),
+        ),
+    }
+}
+
+/// The pieces of the line.
+fn pieces<'a>(
+    input: &'a str,
+    number: &'a str,
+    name: &'a str,
+    at: &'a str,
+    place: &'a str,
+) -> [&'a str; 9]
+    ensures { joined result ≡ codes "dtool: input " ++ input.entry.now ++ codes ": fault " ++ number.entry.now ++ codes " "
+        ++ name.entry.now ++ (at.entry.now ++ place.entry.now) ++ 10 ∷ [] }
+{
+    [
+        "dtool: input ",
+        input,
+        ": fault ",
+        number,
+        " ",
+        name,
+        at,
+        place,
+        "\n",
+    ]
+}
+
+/// Gives a sink all of some texts, one behind the other.
+fn put_pieces<S: Sink>(sink: &mut S, pieces: &[&str]) -> Result<(), Fault>
+    ensures ok { OnOk result (Appends (S.contents sink.old) (S.contents sink.new) (joined pieces.now)) }
+    ensures err { IfErr result (λ failure. (failure.kind ≡ WriteFault) × (failure.at ≡ None)
+        × IsCutShort (joined pieces.now) (S.contents sink.old) (S.contents sink.new) (S.has_failed sink.new)) }
+{
+    for piece in pieces {
+        put_all(sink, piece.as_bytes())?;
+    }
+    Ok(())
+}

@@ -1,0 +1,135 @@
+//! The words of the command line.
+
+ghost use Rattle.std.specs.Prelude.{◌≡◌, map, IfOk, IfErr, MatchOption};
+ghost use Rattle.clap.specs.Words.{app_of, subcommand_rows_of};
+ghost use Rattle.dtool.specs.Words.{IsLine, Names, NamesNone, Tells, WhyNoLine, dtool};
+ghost use Rattle.dtool.specs.declared.words.LineFault.TheVariants.{Memory};
+
+use crate::job::Job;
+use clap::error::ErrorKind;
+use clap::{Arg, ArgAction, ArgMatches, Command};
+use std::alloc::{AllocError, Global};
+use std::convert::AsStr;
+use std::rt::Env;
+use std::{env, io};
+use thiserror::Error;
+
+/// What the words of a command line ask for.
+#[derive(Clone, Copy, Debug, PartialEq, Eq)]
+pub struct Line<'a> {
+    /// What to do.
+    pub job: Job,
+    /// Whether a blob is written as hexadecimal.
+    pub hex: bool,
+    /// The name of the input's file.
+    pub file: &'a str,
+}
+
+/// Why words ask for nothing. Its `Display` is the text for the user.
+#[derive(Debug, Drop, Error)]
+pub enum LineFault {
+    /// Memory was refused.
+    #[error("dtool: out of memory\n")]
+    Memory,
+    /// The words can't be had, or aren't text.
+    #[error("dtool: the words of the command line: {0}\n")]
+    Unread(io::Error),
+    /// The words are no command, or ask for help.
+    #[error("{0}")]
+    Words(clap::Error),
+}
+
+impl From<AllocError> for LineFault {
+    ghost from_gives = { λ _ fault. fault ≡ Memory };
+
+    fn from(_error: AllocError) -> LineFault {
+        LineFault::Memory
+    }
+}
+
+impl From<io::Error> for LineFault {
+    fn from(error: io::Error) -> LineFault {
+        match error.kind() {
+            io::ErrorKind::OutOfMemory => LineFault::Memory,
+            _ => LineFault::Unread(error),
+        }
+    }
+}
+
+impl From<clap::Error> for LineFault {
+    ghost from_gives = { Tells };
+
+    fn from(error: clap::Error) -> LineFault {
+        match error.kind() {
+            ErrorKind::OutOfMemory => LineFault::Memory,
+            _ => LineFault::Words(error),
+        }
+    }
+}
+
+/// The words of the command line, of which the first is the program's name.
+///
+/// # Errors
+///
+/// `Unread` where one isn't UTF-8, and `Memory`.
+pub fn given<R: Env + AllocGlobal>(rt: &R) -> Result<Vec<String>, LineFault> {
+    Ok(env::args(rt)?.collect(rt.alloc())?)
+}
+
+/// What the words of a command line ask for, of which the first is the program's name.
+///
+/// # Errors
+///
+/// `Words` where they are no command that the tool has, or ask for help; and `Memory`.
+pub fn parse<'a, S: AsStr>(alloc: Global, words: &'a [S]) -> Result<Line<'a>, LineFault>
+    ensures line { IfOk result (IsLine (map S.text words.entry.now)) }
+    ensures refused { IfErr result (WhyNoLine (map S.text words.entry.now)) }
+{
+    let mut command = tool(alloc)?;
+    let matches = command.try_get_matches_from_mut(words)?;
+    match line_in(&matches) {
+        Some(line) => Ok(line),
+        None => {
+            let error = command.error(
+                ErrorKind::MissingSubcommand,
+                "a command and a file are wanted",
+            )?;
+            Err(LineFault::Words(error))
+        }
+    }
+}
+
+/// What is asked for, where there are a command and a file.
+fn line_in<'a>(matches: &ArgMatches<'a>) -> Option<Line<'a>>
+    ensures { MatchOption result (NamesNone (subcommand_rows_of matches.now)) (Names (subcommand_rows_of matches.now)) }
+{
+    match matches.subcommand() {
+        Some(("compile", found)) => Some(Line {
+            job: Job::Compile,
+            hex: found.get_flag("hex"),
+            file: found.get_str("FILE")?,
+        }),
+        _ => None,
+    }
+}
+
+/// The commands that the tool has.
+fn tool<'a>(alloc: Global) -> Result<Command<'a>, AllocError>
+    ensures { IfOk result (λ command. app_of command ≡ dtool) }
+{
+    let hex = Arg::new(alloc, "hex")
+        .long("hex")
+        .action(ArgAction::SetTrue)
+        .help("Write the blob as lower-case hexadecimal and a line feed");
+    let file = Arg::new(alloc, "FILE")
+        .required(true)
+        .help("The source; the word stdin is standard input");
+    let compile = Command::new(alloc, "compile")
+        .about("Makes a blob of a devicetree source")
+        .arg(hex)?
+        .arg(file)?;
+    Command::new(alloc, "dtool")
+        .about("A tool for devicetrees")
+        .subcommand_required(true)
+        .subcommand(compile)
+}
