@@ -142,8 +142,8 @@ fn as_many_nodes_as_may_be(rt: HostRuntime) -> Result<(), Fail> {
 
 #[test]
 fn as_long_as_may_be(rt: HostRuntime) -> Result<(), Fail> {
-    let mut text = vec![in rt.alloc(); b' '; INPUT_LIMIT]?;
-    text[..16].copy_from_slice(b"/dts-v1/; / { };");
+    let mut text = vec![in rt.alloc(); b' '; INPUT_LIMIT - 16]?;
+    text.extend_from_slice(b"/dts-v1/; / { };".as_slice())?;
     assert_eq!(rt; compile(rt.alloc(), &text)?.len(), 72);
     text.push(b' ')?;
     assert!(rt; is_refused(&rt, &text, FaultKind::Limit, None));
