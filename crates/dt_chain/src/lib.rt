@@ -8,9 +8,8 @@ mod input;
 mod lexer;
 mod parser;
 
-pub use input::read_all;
-
 use dt_names::{Fault, FaultKind};
+pub use input::read_all;
 use std::alloc::Global;
 
 /// STUB in this worktree only.
