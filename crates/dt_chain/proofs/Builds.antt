@@ -62,7 +62,9 @@ top_of slots s numbers outer k e h = by s.bodies refl h
     by (b ∷ bs) are (outer', k', e', here, is_open, under, others) =
         let both = snoc_once outer' outer k' k (sym e' ∙ e) in
         record {
-          body = b; bodies = bs; are = are;
+          body = b;
+          bodies = bs;
+          are = are;
           here = here ∙ ap Some both.1;
           is_open = subst (λ (x : ℕ). IsOpen slots x b) both.1 is_open;
           under = subst (λ (x : List ℕ). AllByRecursion (λ j. j < k) x) both.0 (subst (λ (x : ℕ). AllByRecursion (λ j. j < x) outer') both.1 under);
@@ -120,14 +122,14 @@ define_goes a a' numbers k n v s (outer, e) low other absent new h =
       was_read = ap (λ (bs : List Body). inside bs (define s n (map one v))) top.are
           ∙ ap (λ x. cond x (Err duplicate_property) (Ok t)) (top.is_open.properties n ∙ absent);
       holds = subst (λ (x : Arena). Holds x numbers t) (sym new)
-        (record {
-          shows = shows-property a.slots s.events some h.shows s.node k n v top.here other;
-          bodies = open-property a.slots some s.node numbers n v b top.bodies k outer e top.here top.is_open top.under top.others;
-          count = length-with_property a.slots k n v ∙ h.count ∙ sym (opened-push s.events event ∙ plus_zero (opened s.events));
-          boot_cpu = h.boot_cpu;
-          reservations = h.reservations;
-          bookkeeping = λ x st. h.bookkeeping x (sym (stands-push s.events event (x ∷ [])) ∙ st);
-        });
+          (record {
+            shows = shows-property a.slots s.events some h.shows s.node k n v top.here other;
+            bodies = open-property a.slots some s.node numbers n v b top.bodies k outer e top.here top.is_open top.under top.others;
+            count = length-with_property a.slots k n v ∙ h.count ∙ sym (opened-push s.events event ∙ plus_zero (opened s.events));
+            boot_cpu = h.boot_cpu;
+            reservations = h.reservations;
+            bookkeeping = λ x st. h.bookkeeping x (sym (stands-push s.events event (x ∷ [])) ∙ st);
+          });
       unnumbered = other;
       count = opened-push s.events event;
     }
@@ -143,7 +145,7 @@ define_refused a numbers k n v s (outer, e) there h t read_ok =
     let b = top.body in
     let next : SoFar = record { events = s.events ++ definition s.node n (map one v) ∷ []; node = s.node; bodies = (record { properties = n ∷ b.properties; children = b.children }) ∷ top.bodies } in
     let gone : inside s.bodies (define s n (map one v)) ≡ Err duplicate_property =
-      ap (λ (bs : List Body). inside bs (define s n (map one v))) top.are ∙ ap (λ x. cond x (Err duplicate_property) (Ok next)) (top.is_open.properties n ∙ there) in
+    ap (λ (bs : List Body). inside bs (define s n (map one v))) top.are ∙ ap (λ x. cond x (Err duplicate_property) (Ok next)) (top.is_open.properties n ∙ there) in
     refused_is duplicate_property (inside s.bodies (define s n (map one v))) t gone read_ok
   where
     refused_is : (r : Refusal) (o : Result SoFar Refusal) (t : SoFar) → o ≡ Err r → o ≡ Ok t → ⊥
@@ -221,7 +223,7 @@ child_goes a a' numbers numbers' k n s rooted (outer, e) low free none shallow n
       was_read = ap (λ (bs : List Body). inside bs (open_child base s n)) top.are
           ∙ chosen (is_reserved base s.node n) (is_among n b.children) (nat_le 64 (length s.node)) t plain (top.is_open.children n ∙ is_absent (child_of (named_children a.slots k) n) none) deep;
       holds = subst (λ (x : Arena). Holds x numbers' t) (sym new)
-        (subst (λ (x : List ℕ). Holds (record a { slots = with_child a.slots k n }) x t) (sym new')
+          (subst (λ (x : List ℕ). Holds (record a { slots = with_child a.slots k n }) x t) (sym new')
           (record {
             shows = shows-child a.slots s.events some h.shows s.node k n top.here none;
             bodies = open-child a.slots some s.node numbers n b top.bodies k outer e top.here top.is_open top.under top.others none;
@@ -241,7 +243,7 @@ child_reserved a numbers k n s (outer, e) zero_k named h t read_ok =
     let at_root : s.node ≡ [] = root_node a.slots s.node (top.here ∙ ap Some zero_k) in
     let reserved : is_reserved base s.node n ≡ true = ap (λ (p : Stack). is_reserved base p n) at_root ∙ named in
     let gone : inside s.bodies (open_child base s n) ≡ Err reserved_name =
-      ap (λ (bs : List Body). inside bs (open_child base s n)) top.are ∙ one_r (is_reserved base s.node n) _ reserved in
+    ap (λ (bs : List Body). inside bs (open_child base s n)) top.are ∙ one_r (is_reserved base s.node n) _ reserved in
     refused_is reserved_name (inside s.bodies (open_child base s n)) t gone read_ok
   where
     one_r : (r : Bool) (x : Result SoFar Refusal) → r ≡ true → cond r (Err reserved_name) x ≡ Err reserved_name
@@ -259,11 +261,11 @@ child_refused Duplicate kind' a numbers k n s rooted (outer, e) low free why is 
     let b = top.body in
     let plain : is_reserved base s.node n ≡ false = reserved_at a.slots s.node k n top.here free in
     kind_known kind' s (child n) DuplicateNode is
-      (λ t read_ok.
-      let gone : inside s.bodies (open_child base s n) ≡ Err duplicate_node =
-        ap (λ (bs : List Body). inside bs (open_child base s n)) top.are
-        ∙ two (is_reserved base s.node n) (is_among n b.children) _ plain (top.is_open.children n ∙ why) in
-      refused_is duplicate_node (inside s.bodies (open_child base s n)) t gone read_ok)
+    (λ t read_ok.
+    let gone : inside s.bodies (open_child base s n) ≡ Err duplicate_node =
+    ap (λ (bs : List Body). inside bs (open_child base s n)) top.are
+    ∙ two (is_reserved base s.node n) (is_among n b.children) _ plain (top.is_open.children n ∙ why) in
+    refused_is duplicate_node (inside s.bodies (open_child base s n)) t gone read_ok)
   where
     two : (r m : Bool) (x : Result SoFar Refusal) → r ≡ false → m ≡ true → cond r (Err reserved_name) (cond m (Err duplicate_node) x) ≡ Err duplicate_node
     two r m x e f = rw (e, f) refl
@@ -275,8 +277,8 @@ child_refused Limit kind' a numbers k n s rooted (outer, e) low free (none, inr 
     let plain : is_reserved base s.node n ≡ false = reserved_at a.slots s.node k n top.here free in
     let far : nat_le 64 (length s.node) ≡ true = let d : depth_of a.slots k ≡ length s.node = walk_depth a.slots rooted s.node k top.here in grind (arith, nat_tests) in
     kind_known kind' s (child n) Limit is
-      (inl (ap (λ (bs : List Body). inside bs (open_child base s n)) top.are
-        ∙ three (is_reserved base s.node n) (is_among n b.children) (nat_le 64 (length s.node)) _ plain (top.is_open.children n ∙ is_absent (child_of (named_children a.slots k) n) none) far))
+    (inl (ap (λ (bs : List Body). inside bs (open_child base s n)) top.are
+    ∙ three (is_reserved base s.node n) (is_among n b.children) (nat_le 64 (length s.node)) _ plain (top.is_open.children n ∙ is_absent (child_of (named_children a.slots k) n) none) far))
   where
     three : (r m d : Bool) (x : Result SoFar Refusal) → r ≡ false → m ≡ false → d ≡ true → cond r (Err reserved_name) (cond m (Err duplicate_node) (cond d (Err too_deep) x)) ≡ Err too_deep
     three r m d x e f g = rw (e, f, g) refl
@@ -310,6 +312,7 @@ start_holds a numbers e f =
     there : (b : Bool) → is_some {T = ℕ} (cond b (Some 0) None) ≡ is_opening {V = List Part} (cond (b || false) (Some (opening [])) None)
     there true = refl
     there false = refl
+
     bare : (b : Bool) (n : Name) → option_and_then (λ i. value_of (properties (root_alone 0).slots i) n) (cond b (Some 0) None) ≡ None
     bare true n = refl
     bare false n = refl
@@ -406,7 +409,7 @@ pub inside_child : (a a' : Arena) (numbers numbers' : List ℕ) (k node : ℕ) (
 inside_child a a' numbers numbers' k node n both e h =
     let more : length a'.slots ≡ length a.slots + 1 = ap (λ (x : Arena). length x.slots) both.1 ∙ length-with_child a.slots k n in
     subst (λ (x : List ℕ). AreInside a' x) (sym e)
-      (all-push (λ j. j < length a'.slots) numbers node (all-under numbers (length a.slots) (length a'.slots) (omega (arith, more)) h) (omega (arith, more, both.0)))
+    (all-push (λ j. j < length a'.slots) numbers node (all-under numbers (length a.slots) (length a'.slots) (omega (arith, more)) h) (omega (arith, more, both.0)))
 
 pub absent_value : {X : Type 0} (f : X → List ℕ) (r : Option X) (o : Option (List ℕ)) (b : Bool) → option_map f r ≡ o → is_some r ≡ b → is_some o ≡ b
 absent_value f None o b e h = sym (ap is_some e) ∙ h

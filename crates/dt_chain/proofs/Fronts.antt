@@ -44,14 +44,14 @@ no_child late n ts us e invalid = along (HasNoItem late) ts (token.name n ∷ to
 pub flags_at : (late : Bool) (n : Name) (bytes : List ℕ) (ts us vs : Tokens) → ts ≡ token.name n ∷ us → us ≡ token.mark mark.Semicolon ∷ vs → IsPropertyName n × (late ≡ false) → bytes ≡ [] → ItemAt late ts (property n (map one bytes)) vs
 flags_at late n bytes ts us vs e f ok none =
     subst (λ b. ItemAt b ts (property n (map one bytes)) vs) (sym ok.1)
-      (subst (λ (x : List ℕ). ItemAt false ts (property n (map one x)) vs) (sym none)
-        (along (λ x. ItemAt false x (property n []) vs) ts (token.name n ∷ token.mark mark.Semicolon ∷ vs) (e ∙ ap (λ (x : Tokens). token.name n ∷ x) f) (flag_at n vs ok.0)))
+    (subst (λ (x : List ℕ). ItemAt false ts (property n (map one x)) vs) (sym none)
+    (along (λ x. ItemAt false x (property n []) vs) ts (token.name n ∷ token.mark mark.Semicolon ∷ vs) (e ∙ ap (λ (x : Tokens). token.name n ∷ x) f) (flag_at n vs ok.0)))
 
 pub values_at : (late : Bool) (n : Name) (bytes : List ℕ) (ts us vs rest : Tokens) → ts ≡ token.name n ∷ us → us ≡ token.mark mark.Equals ∷ vs → IsPropertyName n × (late ≡ false) → value_in before vs ≡ Some (bytes, rest)
     → ItemAt late ts (property n (map one bytes)) rest
 values_at late n bytes ts us vs rest e f ok read =
     subst (λ b. ItemAt b ts (property n (map one bytes)) rest) (sym ok.1)
-      (along (λ x. ItemAt false x (property n (map one bytes)) rest) ts (token.name n ∷ token.mark mark.Equals ∷ vs) (e ∙ ap (λ (x : Tokens). token.name n ∷ x) f) (property_at n bytes vs rest ok.0 read))
+    (along (λ x. ItemAt false x (property n (map one bytes)) rest) ts (token.name n ∷ token.mark mark.Equals ∷ vs) (e ∙ ap (λ (x : Tokens). token.name n ∷ x) f) (property_at n bytes vs rest ok.0 read))
 
 -- a property that may not stand there
 pub no_flag : (late : Bool) (n : Name) (ts us vs : Tokens) → ts ≡ token.name n ∷ us → us ≡ token.mark mark.Semicolon ∷ vs → (IsPropertyName n → late ≡ false → ⊥) → HasNoItem late ts

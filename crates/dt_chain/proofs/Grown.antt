@@ -72,7 +72,7 @@ shows-child slots es some h q a y at none = record {
       (λ yes.
       let n1 : walk new p ≡ Some (length slots) = rw yes at n in
       let left : option_and_then (λ i. value_of (properties new i) m) (walk new p) ≡ None =
-        ap (option_and_then (λ i. value_of (properties new i) m)) n1 ∙ ap (λ ps. value_of ps m) (bare-with_child slots a y) in
+      ap (option_and_then (λ i. value_of (properties new i) m)) n1 ∙ ap (λ ps. value_of ps m) (bare-with_child slots a y) in
       let was : walk slots p ≡ None = subst (λ (r : Stack). walk slots r ≡ None) (path_eq-is (y ∷ q) p yes) (ap (option_and_then (λ i. child_of (named_children slots i) y)) at ∙ none) in
       let old : option_map bytes_of (value_at es p m) ≡ None = sym (h.values p m) ∙ none_then (λ i. value_of (properties slots i) m) (walk slots p) was in
       left ∙ sym old ∙ ap (option_map bytes_of) (sym e))
@@ -100,8 +100,8 @@ shows-property slots es some h q a m bytes at other = record {
       let low : a < length slots = walk_within slots some q a at in
       let e : value_at (es ++ definition q m (map one bytes) ∷ []) p n ≡ cond ((path_eq q p && bytes_eq m n) || false) (Some (map one bytes)) (value_at es p n) = value_at-push es (definition q m (map one bytes)) p n in
       let left : option_and_then (λ i. value_of (properties new i) n) (walk new p) ≡ option_and_then (λ i. cond ((a == i) && bytes_eq n m) (Some bytes) (value_of (properties slots i) n)) (walk slots p) =
-        ap (option_and_then (λ i. value_of (properties new i) n)) (walk-with_property slots a m bytes p)
-        ∙ same_then _ _ (λ i. value-with_property slots a m bytes i n low) (walk slots p) in
+      ap (option_and_then (λ i. value_of (properties new i) n)) (walk-with_property slots a m bytes p)
+      ∙ same_then _ _ (λ i. value-with_property slots a m bytes i n low) (walk slots p) in
       bool_cases (path_eq q p && bytes_eq m n) _
       (λ yes.
       let both = and-true (path_eq q p) (bytes_eq m n) yes in
@@ -110,7 +110,7 @@ shows-property slots es some h q a m bytes at other = record {
       let here : walk slots p ≡ Some a = subst (λ (r : Stack). walk slots r ≡ Some a) qp at in
       let test : ((a == a) && bytes_eq n m) ≡ true = ap (λ b. b && bytes_eq n m) (eq-eqb a a refl) ∙ ap (λ (x : Name). bytes_eq n x) mn ∙ bytes_eq-refl n in
       let now : option_and_then (λ i. cond ((a == i) && bytes_eq n m) (Some bytes) (value_of (properties slots i) n)) (walk slots p) ≡ Some bytes =
-        ap (option_and_then (λ i. cond ((a == i) && bytes_eq n m) (Some bytes) (value_of (properties slots i) n))) here ∙ ap (λ b. cond b (Some bytes) (value_of (properties slots a) n)) test in
+      ap (option_and_then (λ i. cond ((a == i) && bytes_eq n m) (Some bytes) (value_of (properties slots i) n))) here ∙ ap (λ b. cond b (Some bytes) (value_of (properties slots a) n)) test in
       let e1 : value_at (es ++ definition q m (map one bytes) ∷ []) p n ≡ Some (map one bytes) = e ∙ ap (λ b. cond (b || false) (Some (map one bytes)) (value_at es p n)) yes in
       left ∙ now ∙ ap Some (sym (bytes-map bytes)) ∙ ap (option_map bytes_of) (sym e1))
       (λ no.
@@ -122,6 +122,7 @@ shows-property slots es some h q a m bytes at other = record {
     and-true : (a b : Bool) → (a && b) ≡ true → (a ≡ true) × (b ≡ true)
     and-true true b h = (refl, h)
     and-true false b h = cc
+
     elsewhere : (slots : List Slot) (q p : Stack) (a : ℕ) (m n : Name) (bytes : List ℕ) → walk slots q ≡ Some a → (path_eq q p && bytes_eq m n) ≡ false → (o : Option ℕ) → walk slots p ≡ o
         → option_and_then (λ i. cond ((a == i) && bytes_eq n m) (Some bytes) (value_of (properties slots i) n)) o ≡ option_and_then (λ i. value_of (properties slots i) n) o
     elsewhere slots q p a m n bytes at differ None e = refl
@@ -156,13 +157,18 @@ outer-child slots some q a y at none p numbers [] below h = h
 outer-child slots some q a y at none p numbers (b ∷ bs) below (outer, k, e, here, is_open, under, others) =
     let low : k < length slots = walk_within slots some p k here in
     let split = all-split (λ j. j < a) outer k (subst (AllByRecursion (λ j. j < a)) e below) in
-    let test : (a == k) ≡ false = differs a k (λ ak. omega (arith, ak, split.1)) in
-    (outer, k, e, walk_stays slots some q a y at none p k here,
+    let test : (a == k) ≡ false = differs a k (λ ak. omega (arith, ak, split.1)) in (
+      outer,
+      k,
+      e,
+      walk_stays slots some q a y at none p k here,
       record {
         properties = λ x. is_open.properties x ∙ ap (λ ps. is_some (value_of ps x)) (sym (properties-with_child slots a y k low));
         children = λ x. is_open.children x ∙ ap is_some (sym (child-with_child slots a y k x low none ∙ ap (λ t. cond (t && bytes_eq x y) (Some (length slots)) (child_of (named_children slots k) x)) test));
       },
-      under, outer-child slots some q a y at none (drop 1 p) outer bs split.0 others)
+      under,
+      outer-child slots some q a y at none (drop 1 p) outer bs split.0 others,
+    )
 
 or-some : (t : Bool) (n : ℕ) (o : Option ℕ) → (t || is_some o) ≡ is_some (cond t (Some n) o)
 or-some true n o = refl
@@ -177,15 +183,22 @@ open-child slots some q numbers y b bs k outer e here is_open under others none 
     let new : List Slot = with_child slots k y in
     let top : walk new (y ∷ q) ≡ Some (length slots) = walk-with_child slots some q k y here none (y ∷ q) ∙ ap (λ t. cond t (Some (length slots)) (walk slots (y ∷ q))) (path_eq-refl (y ∷ q)) in
     let all : AllByRecursion (λ j. j < length slots) numbers =
-      subst (AllByRecursion (λ j. j < length slots)) (sym e) (all-push (λ j. j < length slots) outer k (all-under outer k (length slots) low under) low) in
-    let test : (k == k) ≡ true = eq-eqb k k refl in
-    (numbers, length slots, refl, top,
+    subst (AllByRecursion (λ j. j < length slots)) (sym e) (all-push (λ j. j < length slots) outer k (all-under outer k (length slots) low under) low) in
+    let test : (k == k) ≡ true = eq-eqb k k refl in (
+      numbers,
+      length slots,
+      refl,
+      top,
       record {
         properties = λ x. ap (λ ps. is_some (value_of ps x)) (sym (bare-with_child slots k y));
         children = λ x. ap (λ cs. is_some (child_of cs x)) (sym (childless-with_child slots k y));
       },
       all,
-      (outer, k, e, walk_stays slots some q k y here none q k here,
+      (
+        outer,
+        k,
+        e,
+        walk_stays slots some q k y here none q k here,
         record {
           properties = λ x. is_open.properties x ∙ ap (λ ps. is_some (value_of ps x)) (sym (properties-with_child slots k y k low));
           children = λ x.
@@ -193,20 +206,28 @@ open-child slots some q numbers y b bs k outer e here is_open under others none 
               ∙ or-some (bytes_eq x y) (length slots) (child_of (named_children slots k) x)
               ∙ ap is_some (sym (child-with_child slots k y k x low none ∙ ap (λ t. cond (t && bytes_eq x y) (Some (length slots)) (child_of (named_children slots k) x)) test));
         },
-        under, outer-child slots some q k y here none (drop 1 q) outer bs under others))
+        under,
+        outer-child slots some q k y here none (drop 1 q) outer bs under others,
+      ),
+    )
 
 outer-property : (slots : List Slot) (a : ℕ) (m : Name) (v : List ℕ) → a < length slots
     → (p : Stack) (numbers : List ℕ) (bodies : List Body) → AllByRecursion (λ j. j < a) numbers → AreOpen slots p numbers bodies → AreOpen (with_property slots a m v) p numbers bodies
 outer-property slots a m v low p numbers [] below h = h
 outer-property slots a m v low p numbers (b ∷ bs) below (outer, k, e, here, is_open, under, others) =
     let split = all-split (λ j. j < a) outer k (subst (AllByRecursion (λ j. j < a)) e below) in
-    let test : (a == k) ≡ false = differs a k (λ ak. omega (arith, ak, split.1)) in
-    (outer, k, e, walk-with_property slots a m v p ∙ here,
+    let test : (a == k) ≡ false = differs a k (λ ak. omega (arith, ak, split.1)) in (
+      outer,
+      k,
+      e,
+      walk-with_property slots a m v p ∙ here,
       record {
         properties = λ x. is_open.properties x ∙ ap is_some (sym (value-with_property slots a m v k x low ∙ ap (λ t. cond (t && bytes_eq x m) (Some v) (value_of (properties slots k) x)) test));
         children = λ x. is_open.children x ∙ ap (λ cs. is_some (child_of cs x)) (sym (children-with_property slots a m v k));
       },
-      under, outer-property slots a m v low (drop 1 p) outer bs split.0 others)
+      under,
+      outer-property slots a m v low (drop 1 p) outer bs split.0 others,
+    )
 
 or-value : (t : Bool) (v : List ℕ) (o : Option (List ℕ)) → (t || is_some o) ≡ is_some (cond t (Some v) o)
 or-value true v o = refl
@@ -218,8 +239,11 @@ pub open-property : (slots : List Slot) → 0 < length slots → (q : Stack) (nu
     → AreOpen (with_property slots k m v) q numbers ((record { properties = m ∷ b.properties; children = b.children }) ∷ bs)
 open-property slots some q numbers m v b bs k outer e here is_open under others =
     let low : k < length slots = walk_within slots some q k here in
-    let test : (k == k) ≡ true = eq-eqb k k refl in
-    (outer, k, e, walk-with_property slots k m v q ∙ here,
+    let test : (k == k) ≡ true = eq-eqb k k refl in (
+      outer,
+      k,
+      e,
+      walk-with_property slots k m v q ∙ here,
       record {
         properties = λ x.
             ap (λ t. bytes_eq x m || t) (is_open.properties x)
@@ -227,4 +251,6 @@ open-property slots some q numbers m v b bs k outer e here is_open under others 
             ∙ ap is_some (sym (value-with_property slots k m v k x low ∙ ap (λ t. cond (t && bytes_eq x m) (Some v) (value_of (properties slots k) x)) test));
         children = λ x. is_open.children x ∙ ap (λ cs. is_some (child_of cs x)) (sym (children-with_property slots k m v k));
       },
-      under, outer-property slots k m v low (drop 1 q) outer bs under others)
+      under,
+      outer-property slots k m v low (drop 1 q) outer bs under others,
+    )

@@ -131,6 +131,6 @@ pub cells_end : (r : Result (Bor (List lexer.Token)) Fault) (ts us : Tokens) (ol
     → MatchResult r (λ rest. TakesBytes before behind ts old new (kinds rest.now)) (λ fault. WhyNoValue fault.kind (value_in before ts))
 cells_end (Ok rest) ts us old mid new p same none ok err =
     subst (λ (x : List ℕ). TakesBytes before behind ts old x (kinds rest.now)) (sym same)
-      (takes_on before parsing.cells behind ts us (kinds rest.now) old mid mid p (takes_greater us (kinds rest.now) mid ok))
+    (takes_on before parsing.cells behind ts us (kinds rest.now) old mid mid p (takes_greater us (kinds rest.now) mid ok))
 cells_end (Err fault) ts us old mid new p same none ok err =
     refused_on fault.kind before parsing.cells ts us old mid p (refused_none fault.kind (value_in parsing.cells us) err.0 (no_cells us none err.1))

@@ -157,6 +157,7 @@ not_keyed reservations es p all =
     labels_none q (definition r n v) h = refl
     labels_none q (undefinition r n) h = refl
     labels_none q (deletion r) h = refl
+
     refers_none : (q : Stack) (e : Event (List Part)) → IsPlain e → refers_there es q e ≡ false
     refers_none q (opening r) h = refl
     refers_none q (giving k r) h = refl
@@ -212,7 +213,7 @@ represents a es none h symbols =
           let is : n ≡ codes "phandle" = bytes_eq-is n (codes "phandle") yes in
           ap (λ x. option_map bytes_of (value_at es (reverse p) x)) is ∙ ap (option_map bytes_of) (no_number es (reverse p) h.plain)
           ∙ sym (ap (λ b. cond b (cond (m.keyed p) (Some (cell 1)) None) (option_map (value_bytes (λ _. 1)) (m.value p n))) yes
-            ∙ ap (λ b. cond b (Some (cell 1)) None) (not_keyed [] es p h.plain)))
+          ∙ ap (λ b. cond b (Some (cell 1)) None) (not_keyed [] es p h.plain)))
           (λ no.
           sym (ap (λ b. cond b (cond (m.keyed p) (Some (cell 1)) None) (option_map (value_bytes (λ _. 1)) (cond b None (option_and_then (all_bound es) (value_at es (reverse p) n))))) no
           ∙ instance-plain es (λ _. 1) (value_at es (reverse p) n) (λ v at. value-plain es (reverse p) n v h.plain at)));

@@ -113,7 +113,7 @@ walk-with_child slots some q a y at none (x ∷ p) =
     (λ i e.
     let low : i < size = walk_within slots some p i e in
     let left : walk new (x ∷ p) ≡ cond ((a == i) && bytes_eq x y) (Some size) (child_of (named_children slots i) x) =
-      ap (option_and_then (λ i. child_of (named_children new i) x)) (same ∙ e) ∙ child-with_child slots a y i x low none in
+    ap (option_and_then (λ i. child_of (named_children new i) x)) (same ∙ e) ∙ child-with_child slots a y i x low none in
     let right : walk slots (x ∷ p) ≡ child_of (named_children slots i) x = ap (option_and_then (λ i. child_of (named_children slots i) x)) e in
     bool_cases ((a == i) && bytes_eq x y) _
     (λ both.

@@ -47,10 +47,12 @@ deep_child d late ts after i (close_at l us) k e deep o = absurd (subst IsOpenin
 inverted : (d : ℕ) (late : Bool) (ts after : Tokens) (i : Place) (all : List Place) → ItemAt late ts i after → Parses (suc d) late ts all
     → (others : List Place) × (all ≡ i ∷ others) × Parses (depth_behind i (suc d)) (late_behind i) after others
 inverted d late ts after i all item (next d1 l us rest j js item' others) =
-    let both = same_item late ts after rest i j item item' in
-    (js, ap (λ (x : Place). x ∷ js) (sym both.0),
+    let both = same_item late ts after rest i j item item' in (
+      js,
+      ap (λ (x : Place). x ∷ js) (sym both.0),
       subst (λ (x : Place). Parses (depth_behind x (suc d)) (late_behind x) after js) (sym both.0)
-        (subst (λ (x : Tokens). Parses (depth_behind j (suc d)) (late_behind j) x js) (sym both.1) others))
+          (subst (λ (x : Tokens). Parses (depth_behind j (suc d)) (late_behind j) x js) (sym both.1) others),
+    )
 
 pub starts : (body : Tokens) → IsOnTheWay body [] 1 false body
 starts body = record { forward = λ later p. p; back = λ all p. (all, refl, p); deep = λ h. h }
@@ -62,14 +64,14 @@ goes_on body rest after places new i (suc d) depth' late late' some w item ed el
     subst (λ (n : List Place). IsOnTheWay body n depth' late' after) (sym en)
     (subst (λ b. IsOnTheWay body (places ++ i ∷ []) depth' b after) (sym el)
     (subst (λ (k : ℕ). IsOnTheWay body (places ++ i ∷ []) k (late_behind i) after) (sym ed)
-      (record {
-        forward = λ later p. subst (Parses 1 false body) (sym (append_assoc places (i ∷ []) later)) (w.forward (i ∷ later) (next d late rest after i later item p));
-        back = λ all p.
-            let b = w.back all p in
-            let v = inverted d late rest after i b.0 item b.2 in
-            (v.0, b.1 ∙ ap (λ (x : List Place). places ++ x) v.1 ∙ sym (append_assoc places (i ∷ []) v.0), v.2);
-        deep = λ h. w.deep (deep_item d late rest after i item h);
-      })))
+    (record {
+      forward = λ later p. subst (Parses 1 false body) (sym (append_assoc places (i ∷ []) later)) (w.forward (i ∷ later) (next d late rest after i later item p));
+      back = λ all p.
+          let b = w.back all p in
+          let v = inverted d late rest after i b.0 item b.2 in
+          (v.0, b.1 ∙ ap (λ (x : List Place). places ++ x) v.1 ∙ sym (append_assoc places (i ∷ []) v.0), v.2);
+      deep = λ h. w.deep (deep_item d late rest after i item h);
+    })))
 
 pub arrives : (ts body rest : Tokens) (places : List Place) (depth : ℕ) (late : Bool) → ts ≡ begun body → IsOnTheWay body places depth late rest → depth ≡ 0 → rest ≡ [] → IsParsed ts places
 arrives ts body rest places depth late e w none empty = record {

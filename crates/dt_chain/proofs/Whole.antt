@@ -152,8 +152,14 @@ children-properties (p ∷ ps) = children-properties ps
 children-forest : (cs : Forest) → children_in (places_of_forest cs) ≡ node_count cs
 children-forest no_nodes = refl
 children-forest (branch name ps cs ss) =
-    omega (arith, children-append (map place_of_property ps) (places_of_forest cs ++ close ∷ places_of_forest ss), children-properties ps,
-      children-append (places_of_forest cs) (close ∷ places_of_forest ss), children-forest cs, children-forest ss)
+    omega (
+      arith,
+      children-append (map place_of_property ps) (places_of_forest cs ++ close ∷ places_of_forest ss),
+      children-properties ps,
+      children-append (places_of_forest cs) (close ∷ places_of_forest ss),
+      children-forest cs,
+      children-forest ss,
+    )
 
 count_of : (ps : List Property) (cs : Forest) (places : List Place) → root ∷ places ≡ places_of ps cs → children_in places ≡ node_count cs
 count_of ps cs places e =

@@ -4,8 +4,6 @@ use Rattle.dt_model.specs.Names.{Name, IsNodeName, IsPropertyName}
 use Rattle.dt_model.specs.Source.{Place, child, property, close, one}
 use Rattle.dt_chain.specs.declared.lexer.token.Mark.{Mark}
 use Rattle.dt_chain.specs.declared.lexer.token.Mark.TheVariants as mark
-
-
 use Rattle.dt_chain.specs.Token as token
 use Rattle.dt_chain.specs.Grammar.{Tokens, cell_of}
 

@@ -13,12 +13,11 @@ mod parser;
 #[cfg(test)]
 mod tests;
 
-pub use input::read_all;
-
 use builder::build;
 use dt_names::{Fault, FaultKind};
 use dt_write::write_blob;
 use input::INPUT_LIMIT;
+pub use input::read_all;
 use lexer::tokens;
 use parser::parse;
 use std::alloc::Global;

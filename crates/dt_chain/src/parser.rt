@@ -8,7 +8,6 @@ ghost use Rattle.dt_chain.specs.Grammar.{Tokens, cell_of};
 ghost use Rattle.dt_chain.specs.Parsing.{fits_cell, value_in, Within, before, behind, cells, ItemAt, Parses, begun, depth_behind, late_behind};
 ghost use Rattle.dt_model.specs.Names.{IsPropertyName};
 ghost use Rattle.dt_chain.specs.Items.{place_of, kinds, IsOutOfPlace, IsOpening, IsFrontFault, TakesBytes, WhyNoValue, WhyNoItem, WhyNotParsed, IsParsed};
-
 ghost use Rattle.dt_names.specs.declared.fault.FaultKind.TheVariants.{Syntax};
 
 use crate::lexer::token::{Kind, Mark, Token};
@@ -336,11 +335,7 @@ fn after_front<'t, 'a>(tokens: &'t [Token<'a>], end: usize) -> Result<&'t [Token
 
 /// The items of a source, up to the end of the root's body, which is the end of the tokens; `end` is the length of the
 /// text. Where there is no such source the fault stands at the first token that shows it.
-pub fn parse<'a>(
-    alloc: Global,
-    tokens: &[Token<'a>],
-    end: usize,
-) -> Result<Vec<Item<'a>>, Fault>
+pub fn parse<'a>(alloc: Global, tokens: &[Token<'a>], end: usize) -> Result<Vec<Item<'a>>, Fault>
     ensures { MatchResult result (λ items. IsParsed (kinds tokens.now) (map place_of items.items)) (λ fault. WhyNotParsed fault.kind (kinds tokens.now)) }
 {
     let mut rest = after_front(tokens, end)?;

@@ -86,8 +86,22 @@ fn texts_that_are_no_source(rt: HostRuntime) -> Result<(), Fail> {
     assert!(rt; is_refused(&rt, b"/dts-v1/; / { }", Syntax, Some(15)));
     assert!(rt; is_refused(&rt, b"/dts-v1/; / { a = $; };", BadToken, Some(18)));
     assert!(rt; is_refused(&rt, b"/dts-v1/; / { a = \"b; };", BadToken, Some(18)));
-    assert!(rt; is_refused(&rt, b"/dts-v1/; / { n { }; a; };", PropertyAfterNode, Some(22)));
-    assert!(rt; is_refused(&rt, b"/dts-v1/; / { a = <0x100000000>; };", OutOfRange, Some(19)));
+    assert!(rt;
+        is_refused(
+            &rt,
+            b"/dts-v1/; / { n { }; a; };",
+            PropertyAfterNode,
+            Some(22)
+        )
+    );
+    assert!(rt;
+        is_refused(
+            &rt,
+            b"/dts-v1/; / { a = <0x100000000>; };",
+            OutOfRange,
+            Some(19)
+        )
+    );
     assert!(rt; is_refused(&rt, b"/dts-v1/; / { a = <09>; };", BadInteger, Some(19)));
     assert!(rt; is_refused(&rt, b"/dts-v1/; / { @n { }; };", BadName, Some(14)));
     assert!(rt; is_refused(&rt, b"/dts-v1/; / { a@b; };", BadName, Some(14)));
@@ -99,9 +113,23 @@ fn sources_that_mean_nothing(rt: HostRuntime) -> Result<(), Fail> {
     use FaultKind::*;
     assert!(rt; is_refused(&rt, b"/dts-v1/; / { a; a; };", DuplicateProperty, None));
     assert!(rt; is_refused(&rt, b"/dts-v1/; / { n { }; n { }; };", DuplicateNode, None));
-    assert!(rt; is_refused(&rt, b"/dts-v1/; / { __symbols__ { }; };", ReservedName, None));
+    assert!(rt;
+        is_refused(
+            &rt,
+            b"/dts-v1/; / { __symbols__ { }; };",
+            ReservedName,
+            None
+        )
+    );
     assert!(rt; is_refused(&rt, b"/dts-v1/; / { __fixups__ { }; };", ReservedName, None));
-    assert!(rt; is_refused(&rt, b"/dts-v1/; / { __local_fixups__ { }; };", ReservedName, None));
+    assert!(rt;
+        is_refused(
+            &rt,
+            b"/dts-v1/; / { __local_fixups__ { }; };",
+            ReservedName,
+            None
+        )
+    );
     assert!(rt; is_refused(&rt, b"/dts-v1/; / { phandle = <0>; };", BadPhandle, None));
     // Below the root the names of bookkeeping are plain ones, and equal names may stand in two nodes.
     let blob = compiled(
@@ -115,7 +143,10 @@ fn sources_that_mean_nothing(rt: HostRuntime) -> Result<(), Fail> {
 #[test]
 fn bodies_within_bodies(rt: HostRuntime) -> Result<(), Fail> {
     let deepest = nested(&rt, b"n { ", b"}; ", 64)?;
-    assert_eq!(rt; compile(rt.alloc(), &deepest)?.len(), 40 + 16 + 65 * (8 + 4) + 4);
+    assert_eq!(rt;
+        compile(rt.alloc(), &deepest)?.len(),
+        40 + 16 + 65 * (8 + 4) + 4
+    );
     let deeper = nested(&rt, b"n { ", b"}; ", 65)?;
     assert!(rt; is_refused(&rt, &deeper, FaultKind::Limit, None));
     let unclosed = nested(&rt, b"n { ", b"", 100_000)?;

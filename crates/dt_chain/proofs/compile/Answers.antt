@@ -56,8 +56,8 @@ returns-clause-blob c =
     let built : IsBuilt tree (map place_of items) = subst (λ (x : List Item). IsBuilt tree (map place_of x)) c.as_slice-2.ensures.value c.in_ok-tree.ensures in
     let size : length text ≤ 16777216 = omega (arith, c.if-text-gt-INPUT_LIMIT.false) in
     if_both (λ blob. Reads blob.items (reading tree)) (λ blob. IsWithin blob.items (reading tree)) (λ blob. IsCompiled text blob.items)
-      (λ blob reads within. compiled text (kinds ts) (map place_of items) tree blob.items size lexed parsed built reads within)
-      c.write_blob.result c.write_blob.ensures.reads c.write_blob.ensures.within
+    (λ blob reads within. compiled text (kinds ts) (map place_of items) tree blob.items size lexed parsed built reads within)
+    c.write_blob.result c.write_blob.ensures.reads c.write_blob.ensures.within
 
 pub returns-clause-refused : goal.returns-clause-refused
 returns-clause-refused c =
@@ -69,5 +69,5 @@ returns-clause-refused c =
     let parsed : IsParsed (kinds ts) (map place_of items) = subst (λ (x : List lexer.Token). IsParsed (kinds x) (map place_of items)) c.as_slice.ensures.value c.in_ok-items.ensures in
     let built : IsBuilt tree (map place_of items) = subst (λ (x : List Item). IsBuilt tree (map place_of x)) c.as_slice-2.ensures.value c.in_ok-tree.ensures in
     if_refused (λ fault. WhyNoBlob fault.kind (length (written (reading tree))) × (fault.at ≡ None)) (λ fault. WhyNotCompiled fault.kind text)
-      (λ fault h. not_written fault.kind text (kinds ts) (map place_of items) tree lexed parsed built h.0)
-      c.write_blob.result c.write_blob.ensures.refused
+    (λ fault h. not_written fault.kind text (kinds ts) (map place_of items) tree lexed parsed built h.0)
+    c.write_blob.result c.write_blob.ensures.refused

@@ -18,9 +18,10 @@ nothing_left (x ∷ xs) e = absurd (omega arith)
 pub loop-item-init : goal.loop-item-init
 loop-item-init c =
     let numbers : c.push.new.stack.items ≡ 0 ∷ [] = alone c.push.new.stack.items c.new-stack.result.items c.root.result c.in_ok-push.ensures c.new-stack.ensures.items c.root.ensures.node in
-    let tree = c.new-tree.result in
-    (subst (AreInside tree) (sym numbers) (c.root.ensures.rooted.some, tt),
-      starts tree c.push.new.stack.items (map place_of c.args.items.now) (start_holds tree c.push.new.stack.items c.new-tree.ensures numbers))
+    let tree = c.new-tree.result in (
+      subst (AreInside tree) (sym numbers) (c.root.ensures.rooted.some, tt),
+      starts tree c.push.new.stack.items (map place_of c.args.items.now) (start_holds tree c.push.new.stack.items c.new-tree.ensures numbers),
+    )
 
 pub returns-in_err-step : goal.returns-in_err-step
 returns-in_err-step c =
@@ -30,7 +31,7 @@ returns-in_err-step c =
     let place = place_of c.item-item.result in
     let left = map place_of (drop (c.loop-item.item-index + 1) items) in
     let way : IsUnderWay b.tree b.stack.items (place ∷ left) (map place_of items) =
-      subst (λ (ps : List Place). IsUnderWay b.tree b.stack.items ps (map place_of items)) (next_place items c.loop-item.item-index c.item-item.result c.loop-item-test.true c.item-item.is) c.loop-item.invariant.1 in
+    subst (λ (ps : List Place). IsUnderWay b.tree b.stack.items ps (map place_of items)) (next_place items c.loop-item.item-index c.item-item.result c.loop-item-test.true c.item-item.is) c.loop-item.invariant.1 in
     rw (e.1, e.2) (refused_on c.in_err-step.field-0.0.kind b.tree b.stack.items place left (map place_of items) way (c.in_err-step.ensures.meaning way.so_far way.holds))
 
 pub loop-item-preserved : goal.loop-item-preserved
@@ -40,9 +41,10 @@ loop-item-preserved c =
     let place = place_of c.item-item.result in
     let left = map place_of (drop (c.loop-item.item-index + 1) items) in
     let way : IsUnderWay b.tree b.stack.items (place ∷ left) (map place_of items) =
-      subst (λ (ps : List Place). IsUnderWay b.tree b.stack.items ps (map place_of items)) (next_place items c.loop-item.item-index c.item-item.result c.loop-item-test.true c.item-item.is) c.loop-item.invariant.1 in
-    (c.in_ok-step.ensures.inside,
-      goes_on b.tree c.step.new.self.tree b.stack.items c.step.new.self.stack.items place left (map place_of items) way (c.in_ok-step.ensures.meaning way.so_far way.holds))
+    subst (λ (ps : List Place). IsUnderWay b.tree b.stack.items ps (map place_of items)) (next_place items c.loop-item.item-index c.item-item.result c.loop-item-test.true c.item-item.is) c.loop-item.invariant.1 in (
+      c.in_ok-step.ensures.inside,
+      goes_on b.tree c.step.new.self.tree b.stack.items c.step.new.self.stack.items place left (map place_of items) way (c.in_ok-step.ensures.meaning way.so_far way.holds),
+    )
 
 pub returns : goal.returns
 returns c =

@@ -14,4 +14,4 @@ pub returns-clause-exact : goal.returns-clause-exact
 returns-clause-exact c =
     let none = rw c.in_default.is at c.in_ok-later.ensures.none in
     cells_end c.expect-2.result (kinds c.args.tokens.now) (kinds c.loop-later.rest.now) c.args.bytes.now.items c.loop-later.bytes.items c.cell.new.bytes.items
-      c.loop-later.invariant.0 none.0 none.1 c.expect-2.ensures.ok c.expect-2.ensures.err
+    c.loop-later.invariant.0 none.0 none.1 c.expect-2.ensures.ok c.expect-2.ensures.err

@@ -12,4 +12,4 @@ returns-in-Some-clause-exact c =
 pub returns-in-Some-after_opening-clause-exact : goal.returns-in-Some-after_opening-clause-exact
 returns-in-Some-after_opening-clause-exact c =
     subst (λ (n : List ℕ). ItemAt c.args.late (kinds c.args.tokens.now) (child n) (kinds c.in-Some-after_opening.rest.now)) (sym c.in-Ok.ensures.value)
-      (opens_at c.args.late c.in-Some-after_opening.name.now (kinds c.args.tokens.now) (kinds c.in-Some-after_opening.rest.now) c.in-Some-after_opening.ensures.some (search rules))
+    (opens_at c.args.late c.in-Some-after_opening.name.now (kinds c.args.tokens.now) (kinds c.in-Some-after_opening.rest.now) c.in-Some-after_opening.ensures.some (search rules))

@@ -12,4 +12,4 @@ returns-in_err-rest-3-clause-exact c =
     let k = c.in_err-rest-3.field-0.0.kind in
     let rest = kinds c.loop-later.rest.now in
     rw (e.1, e.2) (refused_on k before behind (kinds c.args.tokens.now) rest [] c.loop-later.bytes.items c.loop-later.invariant.0
-      (refused_none k (value_in behind rest) r.0 (no_more rest c.in_default.ensures.none r.1)))
+    (refused_none k (value_in behind rest) r.0 (no_more rest c.in_default.ensures.none r.1)))

@@ -14,5 +14,5 @@ returns-clause-meaning c = λ s h.
     let name = c.args.name.now in
     let other : name ≢ codes "phandle" = λ e. search rules in
     let absent : is_some (value_of (properties a.slots c.in-Some.node) name) ≡ false =
-      ap (λ (n : List ℕ). is_some (value_of (properties a.slots c.in-Some.node) n)) (sym c.as_bytes-2.ensures.value) ∙ absent_value _ c.value.result _ false c.value.ensures (sym c.is_some.ensures ∙ c.if-is_some.false) in
+    ap (λ (n : List ℕ). is_some (value_of (properties a.slots c.in-Some.node) n)) (sym c.as_bytes-2.ensures.value) ∙ absent_value _ c.value.result _ false c.value.ensures (sym c.is_some.ensures ∙ c.if-is_some.false) in
     define_goes a c.set_prop.new.self c.args.self.now.stack.items c.in-Some.node name c.args.value.now s c.in-Some.ensures.0 c.in-Some.ensures.1 other absent c.in_ok-set_prop.ensures.ok h

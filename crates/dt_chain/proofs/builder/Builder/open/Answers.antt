@@ -11,7 +11,7 @@ returns-then-is_reserved-clause-meaning c = λ s h.
     let r = c.if-is_reserved.ensures.reserved in
     let named : is_bookkeeping_name c.args.name.now ≡ true = ap is_bookkeeping_name (sym c.as_bytes.ensures.value) ∙ r.1 in
     subst (λ (k : FaultKind). WhyNotRead k s (child c.args.name.now)) (sym c.of-then-is_reserved.ensures.kind)
-      (child_reserved c.args.self.now.tree c.args.self.now.stack.items c.in-Some.parent c.args.name.now s c.in-Some.ensures.0 r.0 named h)
+    (child_reserved c.args.self.now.tree c.args.self.now.stack.items c.in-Some.parent c.args.name.now s c.in-Some.ensures.0 r.0 named h)
 
 pub returns-in_ok-push-in-Ok-clause-inside : goal.returns-in_ok-push-in-Ok-clause-inside
 returns-in_ok-push-in-Ok-clause-inside c =
@@ -21,14 +21,14 @@ pub returns-in_ok-push-in-Ok-clause-meaning : goal.returns-in_ok-push-in-Ok-clau
 returns-in_ok-push-in-Ok-clause-meaning c = λ s h.
     let a = c.args.self.now.tree in
     let free : (c.in-Some.parent ≢ 0) ⊎ (is_bookkeeping_name c.args.name.now ≡ false) =
-      subst (λ (n : List ℕ). (c.in-Some.parent ≢ 0) ⊎ (is_bookkeeping_name n ≡ false)) c.as_bytes.ensures.value c.if-is_reserved.ensures.free in
+    subst (λ (n : List ℕ). (c.in-Some.parent ≢ 0) ⊎ (is_bookkeeping_name n ≡ false)) c.as_bytes.ensures.value c.if-is_reserved.ensures.free in
     let numbers = c.in_ok-push-in-Ok.ensures ∙ ap (λ (k : ℕ). c.args.self.now.stack.items ++ k ∷ []) c.in-Ok.ensures.ok.0 in
     child_goes a c.add_node.new.self c.args.self.now.stack.items c.push.new.stack.items c.in-Some.parent c.args.name.now s c.root-root.ensures.rooted c.in-Some.ensures.0 c.in-Some.ensures.1 free
-      (c.in-Ok.ensures.fresh refl) (c.in-Ok.ensures.room refl).1 c.in-Ok.ensures.ok.1 numbers h
+    (c.in-Ok.ensures.fresh refl) (c.in-Ok.ensures.room refl).1 c.in-Ok.ensures.ok.1 numbers h
 
 pub returns-in-Err-clause-meaning : goal.returns-in-Err-clause-meaning
 returns-in-Err-clause-meaning c = λ s h.
     let free : (c.in-Some.parent ≢ 0) ⊎ (is_bookkeeping_name c.args.name.now ≡ false) =
-      subst (λ (n : List ℕ). (c.in-Some.parent ≢ 0) ⊎ (is_bookkeeping_name n ≡ false)) c.as_bytes.ensures.value c.if-is_reserved.ensures.free in
+    subst (λ (n : List ℕ). (c.in-Some.parent ≢ 0) ⊎ (is_bookkeeping_name n ≡ false)) c.as_bytes.ensures.value c.if-is_reserved.ensures.free in
     child_refused c.in-Err.fault.kind c.of_source.result.kind c.args.self.now.tree c.args.self.now.stack.items c.in-Some.parent c.args.name.now s c.root-root.ensures.rooted c.in-Some.ensures.0 c.in-Some.ensures.1 free
-      c.in-Err.ensures.refused.0 c.of_source.ensures h
+    c.in-Err.ensures.refused.0 c.of_source.ensures h
