@@ -1,6 +1,6 @@
 -- What the text of a source does, one event after another (Devicetree Specification v0.4, chapter 6), and what stands
 -- after a list of events. No tree is merged here: each answer is read off the last of the events that bear on it.
-use Rattle.std.specs.Prelude.{◌+◌, nat_lt, ℕ, Bool, true, false, ◌||◌, ◌&&◌, List, [], ◌∷◌, length, ◌<◌, Option, None, Some, cond}
+use Rattle.std.specs.Prelude.{ℕ, Bool, true, false, ◌||◌, ◌&&◌, List, [], ◌∷◌, length, ◌<◌, Option, None, Some, cond}
 use Rattle.std.specs.Option.{option_or}
 use Rattle.std.specs.List.{list_any}
 use Rattle.std.specs.Str.{bytes_eq}

@@ -1,5 +1,5 @@
 -- When a tree stands for a meaning.
-use Rattle.std.specs.Prelude.{◌≡◌, ℕ, false, List, [], ◌∷◌, option_map, codes}
+use Rattle.std.specs.Prelude.{◌≡◌, ℕ, false, [], ◌∷◌, option_map, codes}
 use Rattle.dt_model.specs.Names.{Name}
 use Rattle.dt_model.specs.Path.{Path, path_value, is_bookkeeping}
 use Rattle.dt_model.specs.Meaning.{Meaning, IsNaming, instance_value}
