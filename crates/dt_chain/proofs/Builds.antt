@@ -139,17 +139,12 @@ define_goes a a' numbers k n v s (outer, e) low other absent new h =
 
 -- a property that is there already
 pub define_refused : (a : Arena) (numbers : List ℕ) (k : ℕ) (n : Name) (v : List ℕ) (s : SoFar) → IsTop numbers k → is_some (value_of (properties a.slots k) n) ≡ true → Holds a numbers s
-    → IsRefused s (property n (map one v))
-define_refused a numbers k n v s (outer, e) there h t read_ok =
+    → read base s (property n (map one v)) ≡ Err duplicate_property
+define_refused a numbers k n v s (outer, e) there h =
     let top = top_of a.slots s numbers outer k e h.bodies in
     let b = top.body in
     let next : SoFar = record { events = s.events ++ definition s.node n (map one v) ∷ []; node = s.node; bodies = (record { properties = n ∷ b.properties; children = b.children }) ∷ top.bodies } in
-    let gone : inside s.bodies (define s n (map one v)) ≡ Err duplicate_property =
-    ap (λ (bs : List Body). inside bs (define s n (map one v))) top.are ∙ ap (λ x. cond x (Err duplicate_property) (Ok next)) (top.is_open.properties n ∙ there) in
-    refused_is duplicate_property (inside s.bodies (define s n (map one v))) t gone read_ok
-  where
-    refused_is : (r : Refusal) (o : Result SoFar Refusal) (t : SoFar) → o ≡ Err r → o ≡ Ok t → ⊥
-    refused_is r o t e f = let bad : Err r ≡ Ok t = sym e ∙ f in cc
+    ap (λ (bs : List Body). inside bs (define s n (map one v))) top.are ∙ ap (λ x. cond x (Err duplicate_property) (Ok next)) (top.is_open.properties n ∙ there)
 
 -- a tree refuses no other property than a `phandle`
 pub set_refused : (k : FaultKind) (slots : List Slot) (p : ℕ) (n : Name) (v : List ℕ) (s : SoFar) → n ≢ codes "phandle" → WhyNotSet k slots p n v → WhyNotRead k s (property n (map one v))
@@ -158,9 +153,6 @@ set_refused BlobPhandle slots p n v s other h = absurd (h (record { valid = λ e
 set_refused _ slots p n v s other h = absurd h
 
 -- ---- a child is opened
-
-refused_is : (r : Refusal) (o : Result SoFar Refusal) (t : SoFar) → o ≡ Err r → o ≡ Ok t → ⊥
-refused_is r o t e f = let bad : Err r ≡ Ok t = sym e ∙ f in cc
 
 root_node : (slots : List Slot) (p : Stack) → walk slots p ≡ Some 0 → p ≡ []
 root_node slots [] h = refl
@@ -237,14 +229,12 @@ child_goes a a' numbers numbers' k n s rooted (outer, e) low free none shallow n
     }
 
 -- a bookkeeping child of the root
-pub child_reserved : (a : Arena) (numbers : List ℕ) (k : ℕ) (n : Name) (s : SoFar) → IsTop numbers k → k ≡ 0 → is_bookkeeping_name n ≡ true → Holds a numbers s → IsRefused s (child n)
-child_reserved a numbers k n s (outer, e) zero_k named h t read_ok =
+pub child_reserved : (a : Arena) (numbers : List ℕ) (k : ℕ) (n : Name) (s : SoFar) → IsTop numbers k → k ≡ 0 → is_bookkeeping_name n ≡ true → Holds a numbers s → read base s (child n) ≡ Err reserved_name
+child_reserved a numbers k n s (outer, e) zero_k named h =
     let top = top_of a.slots s numbers outer k e h.bodies in
     let at_root : s.node ≡ [] = root_node a.slots s.node (top.here ∙ ap Some zero_k) in
     let reserved : is_reserved base s.node n ≡ true = ap (λ (p : Stack). is_reserved base p n) at_root ∙ named in
-    let gone : inside s.bodies (open_child base s n) ≡ Err reserved_name =
-    ap (λ (bs : List Body). inside bs (open_child base s n)) top.are ∙ one_r (is_reserved base s.node n) _ reserved in
-    refused_is reserved_name (inside s.bodies (open_child base s n)) t gone read_ok
+    ap (λ (bs : List Body). inside bs (open_child base s n)) top.are ∙ one_r (is_reserved base s.node n) _ reserved
   where
     one_r : (r : Bool) (x : Result SoFar Refusal) → r ≡ true → cond r (Err reserved_name) x ≡ Err reserved_name
     one_r r x e = rw e refl
@@ -261,11 +251,8 @@ child_refused Duplicate kind' a numbers k n s rooted (outer, e) low free why is 
     let b = top.body in
     let plain : is_reserved base s.node n ≡ false = reserved_at a.slots s.node k n top.here free in
     kind_known kind' s (child n) DuplicateNode is
-    (λ t read_ok.
-    let gone : inside s.bodies (open_child base s n) ≡ Err duplicate_node =
-    ap (λ (bs : List Body). inside bs (open_child base s n)) top.are
-    ∙ two (is_reserved base s.node n) (is_among n b.children) _ plain (top.is_open.children n ∙ why) in
-    refused_is duplicate_node (inside s.bodies (open_child base s n)) t gone read_ok)
+    (ap (λ (bs : List Body). inside bs (open_child base s n)) top.are
+    ∙ two (is_reserved base s.node n) (is_among n b.children) _ plain (top.is_open.children n ∙ why))
   where
     two : (r m : Bool) (x : Result SoFar Refusal) → r ≡ false → m ≡ true → cond r (Err reserved_name) (cond m (Err duplicate_node) x) ≡ Err duplicate_node
     two r m x e f = rw (e, f) refl
@@ -363,14 +350,17 @@ opening_counts (delete_property n) h = absurd h
 opening_counts (delete_child n) h = absurd h
 opening_counts close h = absurd h
 
+stopped : (a : Arena) (numbers : List ℕ) (p : Place) (left all : List Place) (r : Refusal) (w : IsUnderWay a numbers (p ∷ left) all) → read base w.so_far p ≡ Err r → read_all base started all ≡ Err r
+stopped a numbers p left all r w h = w.same ∙ ap (λ o. and_if_read o (λ t. read_all base t left)) h
+
 pub refused_on : (kind : FaultKind) (a : Arena) (numbers : List ℕ) (p : Place) (left all : List Place) (w : IsUnderWay a numbers (p ∷ left) all) → WhyNotRead kind w.so_far p → WhyNotBuilt kind all
 refused_on NoMemory a numbers p left all w h = tt
-refused_on Limit a numbers p left all w (inl deep) = inl (w.same ∙ ap (λ o. and_if_read o (λ t. read_all base t left)) deep)
+refused_on Limit a numbers p left all w (inl deep) = inl (stopped a numbers p left all too_deep w deep)
 refused_on Limit a numbers p left all w (inr many) = inr (omega (arith, w.count, many.0, children-cons p left, opening_counts p many.1))
 refused_on Syntax a numbers p left all w h = not_built a numbers p left all w h
-refused_on DuplicateProperty a numbers p left all w h = not_built a numbers p left all w h
-refused_on DuplicateNode a numbers p left all w h = not_built a numbers p left all w h
-refused_on ReservedName a numbers p left all w h = not_built a numbers p left all w h
+refused_on DuplicateProperty a numbers p left all w h = stopped a numbers p left all duplicate_property w h
+refused_on DuplicateNode a numbers p left all w h = stopped a numbers p left all duplicate_node w h
+refused_on ReservedName a numbers p left all w h = stopped a numbers p left all reserved_name w h
 refused_on BadPhandle a numbers p left all w h = λ u. h (w.unnumbered_left u).0
 refused_on _ a numbers p left all w h = absurd h
 

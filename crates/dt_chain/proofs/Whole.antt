@@ -1,5 +1,5 @@
 -- The compiler's stages together.
-use Rattle.std.proofs.Common.{◌≡◌, ℕ, zero, suc, ◌+◌, ◌<◌, ◌≤◌, ◌⊎◌, inl, inr, List, [], ◌∷◌, ◌++◌, length, map, drop, refl, sym, ap, subst, ◌∙◌, arith}
+use Rattle.std.proofs.Common.{◌≡◌, ℕ, zero, suc, ◌+◌, ◌<◌, ◌≤◌, ◌⊎◌, inl, inr, List, [], ◌∷◌, ◌++◌, Option, length, map, drop, refl, sym, ap, subst, ◌∙◌, arith}
 use Rattle.std.specs.Prelude.{Result, Ok, Err, codes, false, true, Bool}
 use Rattle.std.specs.List.{AllByRecursion}
 use Rattle.dt_names.specs.declared.fault.FaultKind.{FaultKind}
@@ -10,7 +10,7 @@ use Rattle.dt_model.specs.Tree.{Property, Forest, no_nodes, branch, Reading}
 use Rattle.dt_model.specs.Valid.{node_count}
 use Rattle.dt_model.specs.Format.{Reads, IsWithin}
 use Rattle.dt_model.specs.Event.{stands}
-use Rattle.dt_model.specs.Source.{Place, root, child, property, close, SoFar, Refusal, Events, base, nothing, read_all, too_deep, meaning_of, SourceMeans}
+use Rattle.dt_model.specs.Source.{Place, root, child, property, close, SoFar, Refusal, Events, base, nothing, read_all, too_deep, duplicate_property, duplicate_node, reserved_name, meaning_of, SourceMeans}
 use Rattle.dt_model.specs.Represents.{Represents}
 use Rattle.dt_flat.specs.Arena.{Arena, reading}
 use Rattle.dt_write.specs.Written.{written}
@@ -27,7 +27,7 @@ use Rattle.dt_chain.specs.Building.{children_in, started}
 use Rattle.dt_chain.specs.Built.{IsBuilt, IsNotBuilt, WhyNotBuilt}
 use Rattle.dt_chain.specs.Pieces.{IsReason}
 use Rattle.dt_chain.specs.Flaws.{fault_of}
-use Rattle.dt_chain.specs.Compiled.{IsCompiled, MeansNothing, IsTooLarge, long, nested, deep, many, big, WhyNotCompiled}
+use Rattle.dt_chain.specs.Compiled.{IsCompiled, MeansNothing, IsRefusedFor, IsTooLarge, long, nested, deep, many, big, WhyNotCompiled}
 use Rattle.dt_chain.proofs.Lexed.{unique}
 use Rattle.dt_chain.proofs.Nested.{same_places, parsed_is_spelled, spelled_is_parsed}
 use Rattle.dt_chain.proofs.Standing.{resolved, represents}
@@ -116,30 +116,42 @@ compiled text ts places a blob size lexed parsed built reads within = record {
 no_tokens : (text : List ℕ) (f : Lexed) → ((ps : List token.Placed) → f ≡ Ok ps → ⊥) → IsRead text f → MeansNothing text
 no_tokens text f bad h m t = let l = t.says.lexed in bad l.0 (unique h l.1)
 
-pub not_lexed : (e : LexError) (text : List ℕ) → IsReason text e → WhyNotCompiled (fault_of e).kind text
+pub not_lexed : (e : LexError) (text : List ℕ) → IsReason text e → WhyNotCompiled (fault_of e).kind (fault_of e).at text
 not_lexed errors.Memory text h = tt
-not_lexed (errors.BadToken at) text h = no_tokens text _ (λ ps e. cc) h
-not_lexed (errors.BadInteger at) text h = no_tokens text _ (λ ps e. cc) h
+not_lexed (errors.BadToken at) text h = (no_tokens text _ (λ ps e. cc) h, (at, refl, h))
+not_lexed (errors.BadInteger at) text h = (no_tokens text _ (λ ps e. cc) h, (at, refl, h))
 
 no_source : (text : List ℕ) (ts : Tokens) → IsLexed text ts → IsNoSource ts → MeansNothing text
 no_source text ts lexed none m t =
     let s = spelled_is_parsed t.properties t.children t.says.tokens t.says.spelled in
     none s.1 (record { body = s.0; whole = lexed_once text ts t.says.tokens lexed t.says.lexed ∙ s.2; parses = s.4 })
 
-pub not_parsed : (kind : FaultKind) (text : List ℕ) (ts : Tokens) → IsLexed text ts → WhyNotParsed kind ts → WhyNotCompiled kind text
-not_parsed NoMemory text ts lexed h = tt
-not_parsed Limit text ts lexed h = nested ts h.0 lexed h.1 h.2
-not_parsed BadVersionTag text ts lexed h = no_source text ts lexed h
-not_parsed Syntax text ts lexed h = no_source text ts lexed h
-not_parsed OutOfRange text ts lexed h = no_source text ts lexed h
-not_parsed PropertyAfterNode text ts lexed h = no_source text ts lexed h
-not_parsed BadName text ts lexed h = no_source text ts lexed h
-not_parsed _ text ts lexed h = absurd h
+pub not_parsed : (kind : FaultKind) (at : Option ℕ) (text : List ℕ) (ts : Tokens) → IsLexed text ts → WhyNotParsed kind ts → WhyNotCompiled kind at text
+not_parsed NoMemory at text ts lexed h = tt
+not_parsed Limit at text ts lexed h = nested ts h.0 lexed h.1 h.2
+not_parsed BadVersionTag at text ts lexed h = no_source text ts lexed h
+not_parsed Syntax at text ts lexed h = no_source text ts lexed h
+not_parsed OutOfRange at text ts lexed h = no_source text ts lexed h
+not_parsed PropertyAfterNode at text ts lexed h = no_source text ts lexed h
+not_parsed BadName at text ts lexed h = no_source text ts lexed h
+not_parsed _ at text ts lexed h = absurd h
 
 no_meaning : (text : List ℕ) (ts : Tokens) (places : List Place) → IsLexed text ts → IsParsed ts places → IsNotBuilt places → MeansNothing text
 no_meaning text ts places lexed parsed none m t =
     let same : places_of t.properties t.children ≡ root ∷ places = places_once text ts places t.properties t.children lexed parsed t.says in
     none t.means.so_far (ap (read_all base nothing) (sym same) ∙ t.means.all_read) t.means.closed
+
+refused_for : (text : List ℕ) (ts : Tokens) (places : List Place) (r : Refusal) → IsLexed text ts → IsParsed ts places → read_all base started places ≡ Err r → IsRefusedFor r text
+refused_for text ts places r lexed parsed h =
+    let s = says_parsed text ts places lexed parsed in
+    (s.0, s.1, s.2, ap (read_all base nothing) (sym s.3) ∙ h)
+
+-- places whose reading stops mean nothing
+stopped : (text : List ℕ) (ts : Tokens) (places : List Place) (r : Refusal) → IsLexed text ts → IsParsed ts places → read_all base started places ≡ Err r → MeansNothing text × IsRefusedFor r text
+stopped text ts places r lexed parsed h = (no_meaning text ts places lexed parsed none, refused_for text ts places r lexed parsed h)
+  where
+    none : IsNotBuilt places
+    none s e closed = let bad : Err r ≡ (let o : Result SoFar Refusal = Ok s in o) = sym h ∙ e in cc
 
 children-append : (xs ys : List Place) → children_in (xs ++ ys) ≡ children_in xs + children_in ys
 children-append [] ys = omega arith
@@ -167,9 +179,7 @@ count_of ps cs places e =
     omega (arith, same, children-append (map place_of_property ps) (places_of_forest cs ++ close ∷ []), children-properties ps, children-append (places_of_forest cs) (close ∷ []), children-forest cs)
 
 too_many : (text : List ℕ) (ts : Tokens) (places : List Place) → IsLexed text ts → IsParsed ts places → (read_all base started places ≡ Err too_deep) ⊎ (65536 < 1 + children_in places) → IsTooLarge text
-too_many text ts places lexed parsed (inl far) =
-    let s = says_parsed text ts places lexed parsed in
-    deep s.0 s.1 s.2 (ap (read_all base nothing) (sym s.3) ∙ far)
+too_many text ts places lexed parsed (inl far) = deep (refused_for text ts places too_deep lexed parsed far)
 too_many text ts places lexed parsed (inr more) =
     let s = says_parsed text ts places lexed parsed in
     many s.0 s.1 s.2 (omega (arith, more, count_of s.0 s.1 places s.3))
@@ -180,21 +190,21 @@ numbered text ts places lexed parsed none m t =
     let all : AllByRecursion IsUnnumbered (root ∷ places) = subst (AllByRecursion IsUnnumbered) same t.unnumbered in
     none all.1
 
-pub not_built : (kind : FaultKind) (text : List ℕ) (ts : Tokens) (places : List Place) → IsLexed text ts → IsParsed ts places → WhyNotBuilt kind places → WhyNotCompiled kind text
-not_built NoMemory text ts places lexed parsed h = tt
-not_built Limit text ts places lexed parsed h = too_many text ts places lexed parsed h
-not_built Syntax text ts places lexed parsed h = no_meaning text ts places lexed parsed h
-not_built DuplicateProperty text ts places lexed parsed h = no_meaning text ts places lexed parsed h
-not_built DuplicateNode text ts places lexed parsed h = no_meaning text ts places lexed parsed h
-not_built ReservedName text ts places lexed parsed h = no_meaning text ts places lexed parsed h
-not_built BadPhandle text ts places lexed parsed h = numbered text ts places lexed parsed h
-not_built _ text ts places lexed parsed h = absurd h
+pub not_built : (kind : FaultKind) (at : Option ℕ) (text : List ℕ) (ts : Tokens) (places : List Place) → IsLexed text ts → IsParsed ts places → WhyNotBuilt kind places → WhyNotCompiled kind at text
+not_built NoMemory at text ts places lexed parsed h = tt
+not_built Limit at text ts places lexed parsed h = too_many text ts places lexed parsed h
+not_built Syntax at text ts places lexed parsed h = no_meaning text ts places lexed parsed h
+not_built DuplicateProperty at text ts places lexed parsed h = stopped text ts places duplicate_property lexed parsed h
+not_built DuplicateNode at text ts places lexed parsed h = stopped text ts places duplicate_node lexed parsed h
+not_built ReservedName at text ts places lexed parsed h = stopped text ts places reserved_name lexed parsed h
+not_built BadPhandle at text ts places lexed parsed h = numbered text ts places lexed parsed h
+not_built _ at text ts places lexed parsed h = absurd h
 
-pub not_written : (kind : FaultKind) (text : List ℕ) (ts : Tokens) (places : List Place) (a : Arena) → IsLexed text ts → IsParsed ts places → IsBuilt a places → WhyNoBlob kind (length (written (reading a))) → WhyNotCompiled kind text
-not_written NoMemory text ts places a lexed parsed built h = tt
-not_written Limit text ts places a lexed parsed built h =
+pub not_written : (kind : FaultKind) (at : Option ℕ) (text : List ℕ) (ts : Tokens) (places : List Place) (a : Arena) → IsLexed text ts → IsParsed ts places → IsBuilt a places → WhyNoBlob kind (length (written (reading a))) → WhyNotCompiled kind at text
+not_written NoMemory at text ts places a lexed parsed built h = tt
+not_written Limit at text ts places a lexed parsed built h =
     big (meaning_of [] built.so_far.events) (reading a) (λ _. 1) (means_of text ts places a lexed parsed built) (represents_of a places built) h
-not_written _ text ts places a lexed parsed built h = absurd h
+not_written _ at text ts places a lexed parsed built h = absurd h
 
 -- ---- one meaning
 

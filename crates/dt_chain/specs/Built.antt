@@ -2,7 +2,7 @@
 use Rattle.std.specs.Prelude.{◌≡◌, ℕ, ◌+◌, ◌<◌, ◌≤◌, ◌⊎◌, List, [], ◌∷◌, ◌++◌, length, Result, Ok, Err, MatchResult}
 use Rattle.std.specs.List.{AllByRecursion}
 use Rattle.dt_model.specs.Names.{Name}
-use Rattle.dt_model.specs.Source.{Place, child, SoFar, base, read, read_all, too_deep}
+use Rattle.dt_model.specs.Source.{Place, child, SoFar, base, read, read_all, too_deep, duplicate_property, duplicate_node, reserved_name}
 use Rattle.dt_names.specs.declared.fault.Fault.{Fault}
 use Rattle.dt_names.specs.declared.fault.FaultKind.{FaultKind}
 use Rattle.dt_names.specs.declared.fault.FaultKind.TheVariants.{NoMemory, Limit, Syntax, DuplicateProperty, DuplicateNode, BadPhandle, ReservedName, Duplicate}
@@ -33,9 +33,9 @@ abbrev pub WhyNotRead : FaultKind → SoFar → Place → Type 0
 WhyNotRead NoMemory s place = Unit {0}
 WhyNotRead Limit s place = (read base s place ≡ Err too_deep) ⊎ ((65536 ≤ opened s.events) × IsOpening place)
 WhyNotRead Syntax s place = IsRefused s place
-WhyNotRead DuplicateProperty s place = IsRefused s place
-WhyNotRead DuplicateNode s place = IsRefused s place
-WhyNotRead ReservedName s place = IsRefused s place
+WhyNotRead DuplicateProperty s place = read base s place ≡ Err duplicate_property
+WhyNotRead DuplicateNode s place = read base s place ≡ Err duplicate_node
+WhyNotRead ReservedName s place = read base s place ≡ Err reserved_name
 WhyNotRead BadPhandle s place = IsUnnumbered place → ⊥
 WhyNotRead _ s place = ⊥
 
@@ -69,9 +69,9 @@ abbrev pub WhyNotBuilt : FaultKind → List Place → Type 0
 WhyNotBuilt NoMemory places = Unit {0}
 WhyNotBuilt Limit places = (read_all base started places ≡ Err too_deep) ⊎ (65536 < 1 + children_in places)
 WhyNotBuilt Syntax places = IsNotBuilt places
-WhyNotBuilt DuplicateProperty places = IsNotBuilt places
-WhyNotBuilt DuplicateNode places = IsNotBuilt places
-WhyNotBuilt ReservedName places = IsNotBuilt places
+WhyNotBuilt DuplicateProperty places = read_all base started places ≡ Err duplicate_property
+WhyNotBuilt DuplicateNode places = read_all base started places ≡ Err duplicate_node
+WhyNotBuilt ReservedName places = read_all base started places ≡ Err reserved_name
 WhyNotBuilt BadPhandle places = AllByRecursion IsUnnumbered places → ⊥
 WhyNotBuilt _ places = ⊥
 

@@ -1,16 +1,18 @@
 -- What the compiler answers.
-use Rattle.std.specs.Prelude.{◌≡◌, ℕ, ◌+◌, ◌<◌, ◌≤◌, List, [], length, Err}
+use Rattle.std.specs.Prelude.{◌≡◌, ℕ, ◌+◌, ◌<◌, ◌≤◌, List, [], length, Err, Option, Some}
 use Rattle.dt_model.specs.Path.{Path}
 use Rattle.dt_model.specs.Meaning.{Meaning}
 use Rattle.dt_model.specs.Tree.{Property, Forest, Reading}
 use Rattle.dt_model.specs.Valid.{node_count}
 use Rattle.dt_model.specs.Format.{Reads, IsWithin}
-use Rattle.dt_model.specs.Source.{base, nothing, read_all, too_deep}
+use Rattle.dt_model.specs.Source.{base, nothing, read_all, Refusal, too_deep, duplicate_property, duplicate_node, reserved_name}
 use Rattle.dt_model.specs.Represents.{Represents}
 use Rattle.dt_names.specs.declared.fault.FaultKind.{FaultKind}
 use Rattle.dt_names.specs.declared.fault.FaultKind.TheVariants.{NoMemory, Limit, BadVersionTag, BadToken, Syntax, BadInteger, OutOfRange, PropertyAfterNode, DuplicateProperty, DuplicateNode, BadPhandle, ReservedName, BadName}
 use Rattle.dt_write.specs.Written.{written}
-use Rattle.dt_chain.specs.Lexing.{IsLexed}
+use Rattle.dt_chain.specs.declared.lexer.token.Flaw.{Flaw}
+use Rattle.dt_chain.specs.declared.lexer.token.Flaw.TheVariants as flaw
+use Rattle.dt_chain.specs.Lexing.{IsRead, IsLexed}
 use Rattle.dt_chain.specs.Grammar.{Tokens, Says, places_of, TextMeans}
 use Rattle.dt_chain.specs.Parsing.{begun}
 use Rattle.dt_chain.specs.Items.{IsTooDeep}
@@ -31,6 +33,15 @@ pub record IsCompiled (text blob : List ℕ) : Type 0 where
 abbrev pub MeansNothing : List ℕ → Type 0
 MeansNothing text = (m : Meaning) → TextMeans text m → ⊥
 
+-- its first fault as a list of tokens is this one, there
+abbrev pub HasFlaw : Flaw → Option ℕ → List ℕ → Type 0
+HasFlaw flaw at text = (place : ℕ) × (at ≡ Some place) × IsRead text (Err (record { flaw = flaw; at = place }))
+
+-- the text is a source of the grammar, whose first place that is refused is refused for this
+abbrev pub IsRefusedFor : Refusal → List ℕ → Type 0
+IsRefusedFor refusal text =
+    (ps : List Property) × (cs : Forest) × Says text ps cs × (read_all base nothing (places_of ps cs) ≡ Err refusal)
+
 -- a limit that a text exceeds
 pub data IsTooLarge (text : List ℕ) : Type 0 where
   -- it is longer than 16 MiB
@@ -38,25 +49,26 @@ pub data IsTooLarge (text : List ℕ) : Type 0 where
   -- more than 65 bodies lie in one another
   nested : (tokens body : Tokens) → IsLexed text tokens → tokens ≡ begun body → IsTooDeep 1 body → IsTooLarge text
   -- the path of a node has more than 64 names
-  deep : (ps : List Property) (cs : Forest) → Says text ps cs → read_all base nothing (places_of ps cs) ≡ Err too_deep → IsTooLarge text
+  deep : IsRefusedFor too_deep text → IsTooLarge text
   -- its tree has more than 65,536 nodes, the root among them
   many : (ps : List Property) (cs : Forest) → Says text ps cs → 65536 < 1 + node_count cs → IsTooLarge text
   -- the blob would be longer than 16 MiB
   big : (m : Meaning) (t : Reading) (number : Path → ℕ) → TextMeans text m → Represents t m number → 16777216 < length (written t) → IsTooLarge text
 
--- why a text isn't compiled: memory may be refused at any time; a limit is exceeded; or the text means nothing
-abbrev pub WhyNotCompiled : FaultKind → List ℕ → Type 0
-WhyNotCompiled NoMemory text = Unit {0}
-WhyNotCompiled Limit text = IsTooLarge text
-WhyNotCompiled BadVersionTag text = MeansNothing text
-WhyNotCompiled BadToken text = MeansNothing text
-WhyNotCompiled Syntax text = MeansNothing text
-WhyNotCompiled BadInteger text = MeansNothing text
-WhyNotCompiled OutOfRange text = MeansNothing text
-WhyNotCompiled PropertyAfterNode text = MeansNothing text
-WhyNotCompiled DuplicateProperty text = MeansNothing text
-WhyNotCompiled DuplicateNode text = MeansNothing text
-WhyNotCompiled BadPhandle text = MeansNothing text
-WhyNotCompiled ReservedName text = MeansNothing text
-WhyNotCompiled BadName text = MeansNothing text
-WhyNotCompiled _ text = ⊥
+-- Why a text isn't compiled: memory may be refused at any time; a limit is exceeded; or the text means nothing, as it has
+-- this flaw at this place, or as its first place that is refused is refused for this.
+abbrev pub WhyNotCompiled : FaultKind → Option ℕ → List ℕ → Type 0
+WhyNotCompiled NoMemory at text = Unit {0}
+WhyNotCompiled Limit at text = IsTooLarge text
+WhyNotCompiled BadToken at text = MeansNothing text × HasFlaw flaw.BadToken at text
+WhyNotCompiled BadInteger at text = MeansNothing text × HasFlaw flaw.BadInteger at text
+WhyNotCompiled BadVersionTag at text = MeansNothing text
+WhyNotCompiled Syntax at text = MeansNothing text
+WhyNotCompiled OutOfRange at text = MeansNothing text
+WhyNotCompiled PropertyAfterNode at text = MeansNothing text
+WhyNotCompiled BadName at text = MeansNothing text
+WhyNotCompiled BadPhandle at text = MeansNothing text
+WhyNotCompiled DuplicateProperty at text = MeansNothing text × IsRefusedFor duplicate_property text
+WhyNotCompiled DuplicateNode at text = MeansNothing text × IsRefusedFor duplicate_node text
+WhyNotCompiled ReservedName at text = MeansNothing text × IsRefusedFor reserved_name text
+WhyNotCompiled _ at text = ⊥

@@ -32,8 +32,8 @@ use std::alloc::Global;
 pub fn compile(alloc: Global, text: &[u8]) -> Result<Vec<u8>, Fault>
     // There is a blob only where the text means something, and the blob is read as a tree that represents it.
     ensures blob { IfOk result (λ blob. IsCompiled text.now blob.items) }
-    // There is none only where the text means nothing or is too large, or memory is wanted.
-    ensures refused { IfErr result (λ fault. WhyNotCompiled fault.kind text.now) }
+    // There is none only where memory is wanted, or the text is too large or means nothing, for the fault that is told.
+    ensures refused { IfErr result (λ fault. WhyNotCompiled fault.kind fault.at text.now) }
 {
     if text.len() > INPUT_LIMIT {
         return Err(Fault::of(FaultKind::Limit));

@@ -18,9 +18,9 @@ IsMade Compile (text ∷ []) blob = IsCompiled text blob
 IsMade Compile _ blob = ⊥
 
 -- why the job made none
-abbrev pub WhyNotMade : FaultKind → Job → List (List ℕ) → Type 0
-WhyNotMade kind Compile (text ∷ []) = WhyNotCompiled kind text
-WhyNotMade kind Compile _ = ⊥
+abbrev pub WhyNotMade : FaultKind → Option ℕ → Job → List (List ℕ) → Type 0
+WhyNotMade kind at Compile (text ∷ []) = WhyNotCompiled kind at text
+WhyNotMade kind at Compile _ = ⊥
 
 -- how a blob is written: as it is, or as hexadecimal and a line feed
 abbrev pub printed : Bool → List ℕ → List ℕ
@@ -33,9 +33,9 @@ WhyNotShown WriteFault whole old new had_failed has_failed = IsCutShort whole ol
 WhyNotShown _ whole old new had_failed has_failed = ⊥
 
 -- why a job's blob wasn't written
-abbrev pub WhyNotPerformed : FaultKind → Job → Bool → List (List ℕ) → (old new : Option (List ℕ)) (had_failed has_failed : Bool) → Type 0
-WhyNotPerformed NoMemory job hex inputs old new had_failed has_failed = IsUntouched old new had_failed has_failed
-WhyNotPerformed WriteFault job hex inputs old new had_failed has_failed =
+abbrev pub WhyNotPerformed : FaultKind → Option ℕ → Job → Bool → List (List ℕ) → (old new : Option (List ℕ)) (had_failed has_failed : Bool) → Type 0
+WhyNotPerformed NoMemory at job hex inputs old new had_failed has_failed = IsUntouched old new had_failed has_failed
+WhyNotPerformed WriteFault at job hex inputs old new had_failed has_failed =
     (blob : List ℕ) × IsMade job inputs blob × IsCutShort (printed hex blob) old new has_failed
-WhyNotPerformed kind job hex inputs old new had_failed has_failed =
-    WhyNotMade kind job inputs × IsUntouched old new had_failed has_failed
+WhyNotPerformed kind at job hex inputs old new had_failed has_failed =
+    WhyNotMade kind at job inputs × IsUntouched old new had_failed has_failed

@@ -33,7 +33,7 @@ pub fn perform<S: Sink>(
     ensures written { OnOk result ((blob : List ℕ) × IsMade job (map (λ input. input.now) inputs.now) blob
         × Appends (S.contents out.old) (S.contents out.new) (printed hex blob)) }
     ensures sound { OnOk result (S.has_failed out.new ≡ S.has_failed out.old) }
-    ensures refused { IfErr result (λ e. (e.0 ≡ 0) × WhyNotPerformed e.1.kind job hex (map (λ input. input.now) inputs.now)
+    ensures refused { IfErr result (λ e. (e.0 ≡ 0) × WhyNotPerformed e.1.kind e.1.at job hex (map (λ input. input.now) inputs.now)
         (S.contents out.old) (S.contents out.new) (S.has_failed out.old) (S.has_failed out.new)) }
 {
     let blob = make(alloc, job, inputs)?;
@@ -47,7 +47,7 @@ pub fn perform<S: Sink>(
 fn make(alloc: Global, job: Job, inputs: &[&[u8]]) -> Result<Vec<u8>, (usize, Fault)>
     requires { IsAsked job (length inputs.now) }
     ensures made { IfOk result (λ blob. IsMade job (map (λ input. input.now) inputs.now) blob.items) }
-    ensures refused { IfErr result (λ e. (e.0 ≡ 0) × WhyNotMade e.1.kind job (map (λ input. input.now) inputs.now)) }
+    ensures refused { IfErr result (λ e. (e.0 ≡ 0) × WhyNotMade e.1.kind e.1.at job (map (λ input. input.now) inputs.now)) }
 {
     match job {
         Job::Compile => match compile(alloc, inputs[0]) {

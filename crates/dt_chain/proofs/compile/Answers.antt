@@ -31,7 +31,7 @@ returns-in_err-items-clause-refused c =
     let fault = c.in_err-items.field-0.0 in
     let e = err_from_is_err_and c.from_residual-in_err-items.result c.from_residual-in_err-items.ensures.1 in
     let why : WhyNotParsed fault.kind (kinds ts) = subst (λ (x : List lexer.Token). WhyNotParsed fault.kind (kinds x)) c.as_slice.ensures.value c.in_err-items.ensures in
-    rw (e.1, e.2) (not_parsed fault.kind text (kinds ts) lexed why)
+    rw (e.1, e.2) (not_parsed fault.kind fault.at text (kinds ts) lexed why)
 
 pub returns-in_err-tree-clause-refused : goal.returns-in_err-tree-clause-refused
 returns-in_err-tree-clause-refused c =
@@ -43,7 +43,7 @@ returns-in_err-tree-clause-refused c =
     let fault = c.in_err-tree.field-0.0 in
     let e = err_from_is_err_and c.from_residual-in_err-tree.result c.from_residual-in_err-tree.ensures.1 in
     let why : WhyNotBuilt fault.kind (map place_of items) = subst (λ (x : List Item). WhyNotBuilt fault.kind (map place_of x)) c.as_slice-2.ensures.value c.in_err-tree.ensures in
-    rw (e.1, e.2) (not_built fault.kind text (kinds ts) (map place_of items) lexed parsed why)
+    rw (e.1, e.2) (not_built fault.kind fault.at text (kinds ts) (map place_of items) lexed parsed why)
 
 pub returns-clause-blob : goal.returns-clause-blob
 returns-clause-blob c =
@@ -68,6 +68,6 @@ returns-clause-refused c =
     let lexed : IsLexed text (kinds ts) = lexed_of text ts c.in_ok-tokens.ensures.ok in
     let parsed : IsParsed (kinds ts) (map place_of items) = subst (λ (x : List lexer.Token). IsParsed (kinds x) (map place_of items)) c.as_slice.ensures.value c.in_ok-items.ensures in
     let built : IsBuilt tree (map place_of items) = subst (λ (x : List Item). IsBuilt tree (map place_of x)) c.as_slice-2.ensures.value c.in_ok-tree.ensures in
-    if_refused (λ fault. WhyNoBlob fault.kind (length (written (reading tree))) × (fault.at ≡ None)) (λ fault. WhyNotCompiled fault.kind text)
-    (λ fault h. not_written fault.kind text (kinds ts) (map place_of items) tree lexed parsed built h.0)
+    if_refused (λ fault. WhyNoBlob fault.kind (length (written (reading tree))) × (fault.at ≡ None)) (λ fault. WhyNotCompiled fault.kind fault.at text)
+    (λ fault h. not_written fault.kind fault.at text (kinds ts) (map place_of items) tree lexed parsed built h.0)
     c.write_blob.result c.write_blob.ensures.refused
