@@ -58,7 +58,9 @@ impl Builder {
     /// The innermost open node.
     fn node(&self) -> Option<NodeId>
         requires { AreInside self.now.tree self.now.stack.items }
-        ensures { MatchOption result (self.now.stack.items ≡ []) (λ node. IsTop self.now.stack.items node × (node < length self.now.tree.slots)) }
+        ensures { MatchOption result
+            (self.now.stack.items ≡ [])
+            (λ node. IsTop self.now.stack.items node × (node < length self.now.tree.slots)) }
     {
         self.stack.last().copied()
     }
@@ -67,7 +69,8 @@ impl Builder {
     fn open(&mut self, name: &NodeName<'_>) -> Result<(), Fault>
         requires { AreInside self.old.tree self.old.stack.items }
         ensures inside { OnOk result (AreInside self.new.tree self.new.stack.items) }
-        ensures meaning { Follows (child name.now) self.old.tree self.old.stack.items self.new.tree self.new.stack.items result }
+        ensures meaning { Follows (child name.now)
+            self.old.tree self.old.stack.items self.new.tree self.new.stack.items result }
     {
         let Some(parent) = self.node() else {
             return Err(Fault::of(FaultKind::Syntax));
@@ -90,7 +93,8 @@ impl Builder {
     fn define(&mut self, name: &PropName<'_>, value: &[u8]) -> Result<(), Fault>
         requires { AreInside self.old.tree self.old.stack.items }
         ensures inside { OnOk result (AreInside self.new.tree self.new.stack.items) }
-        ensures meaning { Follows (property name.now (map one value.now)) self.old.tree self.old.stack.items self.new.tree self.new.stack.items result }
+        ensures meaning { Follows (property name.now (map one value.now))
+            self.old.tree self.old.stack.items self.new.tree self.new.stack.items result }
     {
         let Some(node) = self.node() else {
             return Err(Fault::of(FaultKind::Syntax));
@@ -121,7 +125,8 @@ impl Builder {
     fn step(&mut self, item: &Item<'_>) -> Result<(), Fault>
         requires { AreInside self.old.tree self.old.stack.items }
         ensures inside { OnOk result (AreInside self.new.tree self.new.stack.items) }
-        ensures meaning { Follows (place_of item.now) self.old.tree self.old.stack.items self.new.tree self.new.stack.items result }
+        ensures meaning { Follows (place_of item.now)
+            self.old.tree self.old.stack.items self.new.tree self.new.stack.items result }
     {
         match item {
             Item::Child(name) => self.open(name),
@@ -133,7 +138,9 @@ impl Builder {
 
 /// The tree of a root's items, or the first refusal.
 pub fn build(alloc: Global, items: &[Item<'_>]) -> Result<FlatTree, Fault>
-    ensures { MatchResult result (λ tree. IsBuilt tree (map place_of items.now)) (λ fault. WhyNotBuilt fault.kind (map place_of items.now)) }
+    ensures { MatchResult result
+        (λ tree. IsBuilt tree (map place_of items.now))
+        (λ fault. WhyNotBuilt fault.kind (map place_of items.now)) }
 {
     let tree = FlatTree::new(alloc, 0);
     let mut stack = Vec::new(alloc);

@@ -58,7 +58,8 @@ fn expect<'t, 'a>(
     end: usize,
 ) -> Result<&'t [Token<'a>], Fault>
     ensures ok { IfOk result (λ rest. kinds tokens.now ≡ mark wanted ∷ kinds rest.now) }
-    ensures err { IfErr result (λ fault. (fault.kind ≡ Syntax) × ((ts : Tokens) → kinds tokens.now ≡ mark wanted ∷ ts → ⊥)) }
+    ensures err { IfErr result
+        (λ fault. (fault.kind ≡ Syntax) × ((ts : Tokens) → kinds tokens.now ≡ mark wanted ∷ ts → ⊥)) }
     ensures shorter { IfOk result (λ rest. length rest.now < length tokens.now) }
 {
     match after_mark(tokens, wanted) {
@@ -94,8 +95,10 @@ fn after_name<'t, 'a>(tokens: &'t [Token<'a>]) -> Option<(&'a [u8], &'t [Token<'
 
 /// A name with `{`, and the tokens behind them.
 fn after_opening<'t, 'a>(tokens: &'t [Token<'a>]) -> Option<(&'a [u8], &'t [Token<'a>])>
-    ensures some { IfSome result (λ found. kinds tokens.now ≡ name found.0.now ∷ mark marks.OpenBrace ∷ kinds found.1.now) }
-    ensures none { IfNone result ((n : List ℕ) (ts : Tokens) → kinds tokens.now ≡ name n ∷ mark marks.OpenBrace ∷ ts → ⊥) }
+    ensures some { IfSome result
+        (λ found. kinds tokens.now ≡ name found.0.now ∷ mark marks.OpenBrace ∷ kinds found.1.now) }
+    ensures none { IfNone result
+        ((n : List ℕ) (ts : Tokens) → kinds tokens.now ≡ name n ∷ mark marks.OpenBrace ∷ ts → ⊥) }
     ensures shorter { IfSome result (λ found. length found.1.now < length tokens.now) }
 {
     let (name, behind) = after_name(tokens)?;
@@ -159,8 +162,10 @@ fn cell<'t, 'a>(
     bytes: &mut Vec<u8>,
     end: usize,
 ) -> Result<Option<&'t [Token<'a>]>, Fault>
-    ensures some { IfOk result (λ found. IfSome found (λ rest. TakesBytes cells cells (kinds tokens.now) bytes.old.items bytes.new.items (kinds rest.now))) }
-    ensures none { IfOk result (λ found. IfNone found ((bytes.new.items ≡ bytes.old.items) × ((n : ℕ) (ts : Tokens) → kinds tokens.now ≡ integer n ∷ ts → ⊥))) }
+    ensures some { IfOk result (λ found. IfSome found
+        (λ rest. TakesBytes cells cells (kinds tokens.now) bytes.old.items bytes.new.items (kinds rest.now))) }
+    ensures none { IfOk result (λ found. IfNone found
+        ((bytes.new.items ≡ bytes.old.items) × ((n : ℕ) (ts : Tokens) → kinds tokens.now ≡ integer n ∷ ts → ⊥))) }
     ensures err { IfErr result (λ fault. WhyNoValue fault.kind (value_in cells (kinds tokens.now))) }
     ensures shorter { IfOk result (λ found. IfSome found (λ rest. length rest.now < length tokens.now)) }
 {
@@ -181,7 +186,9 @@ fn cells<'t, 'a>(
     end: usize,
 ) -> Result<&'t [Token<'a>], Fault>
     requires { (text_bytes : List ℕ) (ts : Tokens) → kinds tokens.now ≡ text text_bytes ∷ ts → ⊥ }
-    ensures exact { MatchResult result (λ rest. TakesBytes before behind (kinds tokens.now) bytes.old.items bytes.new.items (kinds rest.now)) (λ fault. WhyNoValue fault.kind (value_in before (kinds tokens.now))) }
+    ensures exact { MatchResult result
+        (λ rest. TakesBytes before behind (kinds tokens.now) bytes.old.items bytes.new.items (kinds rest.now))
+        (λ fault. WhyNoValue fault.kind (value_in before (kinds tokens.now))) }
     ensures shorter { IfOk result (λ rest. length rest.now < length tokens.now) }
 {
     let mut rest = expect(tokens, Mark::Less, end)?;
@@ -197,7 +204,9 @@ fn component<'t, 'a>(
     bytes: &mut Vec<u8>,
     end: usize,
 ) -> Result<&'t [Token<'a>], Fault>
-    ensures exact { MatchResult result (λ rest. TakesBytes before behind (kinds tokens.now) bytes.old.items bytes.new.items (kinds rest.now)) (λ fault. WhyNoValue fault.kind (value_in before (kinds tokens.now))) }
+    ensures exact { MatchResult result
+        (λ rest. TakesBytes before behind (kinds tokens.now) bytes.old.items bytes.new.items (kinds rest.now))
+        (λ fault. WhyNoValue fault.kind (value_in before (kinds tokens.now))) }
     ensures shorter { IfOk result (λ rest. length rest.now < length tokens.now) }
 {
     let Some((text, rest)) = after_text(tokens) else {
@@ -213,7 +222,9 @@ fn value<'t, 'a>(
     tokens: &'t [Token<'a>],
     end: usize,
 ) -> Result<(Vec<u8>, &'t [Token<'a>]), Fault>
-    ensures exact { MatchResult result (λ found. value_in before (kinds tokens.now) ≡ Some (found.0.items, kinds found.1.now)) (λ fault. WhyNoValue fault.kind (value_in before (kinds tokens.now))) }
+    ensures exact { MatchResult result
+        (λ found. value_in before (kinds tokens.now) ≡ Some (found.0.items, kinds found.1.now))
+        (λ fault. WhyNoValue fault.kind (value_in before (kinds tokens.now))) }
     ensures shorter { IfOk result (λ found. length found.1.now < length tokens.now) }
 {
     let mut bytes = Vec::new(alloc);
@@ -255,7 +266,9 @@ fn property<'t, 'a>(
 ) -> Result<(Item<'a>, &'t [Token<'a>]), Fault>
     requires no_child { (n : List ℕ) (ts : Tokens) → kinds tokens.now ≡ name n ∷ mark marks.OpenBrace ∷ ts → ⊥ }
     requires no_end { (ts : Tokens) → kinds tokens.now ≡ mark marks.CloseBrace ∷ ts → ⊥ }
-    ensures exact { MatchResult result (λ found. ItemAt late (kinds tokens.now) (place_of found.0) (kinds found.1.now)) (λ fault. WhyNoItem fault.kind late (kinds tokens.now)) }
+    ensures exact { MatchResult result
+        (λ found. ItemAt late (kinds tokens.now) (place_of found.0) (kinds found.1.now))
+        (λ fault. WhyNoItem fault.kind late (kinds tokens.now)) }
     ensures shorter { IfOk result (λ found. length found.1.now < length tokens.now) }
 {
     let Some((name, behind)) = after_name(tokens) else {
@@ -278,7 +291,9 @@ fn next_item<'t, 'a>(
     late: bool,
     end: usize,
 ) -> Result<(Item<'a>, &'t [Token<'a>]), Fault>
-    ensures exact { MatchResult result (λ found. ItemAt late (kinds tokens.now) (place_of found.0) (kinds found.1.now)) (λ fault. WhyNoItem fault.kind late (kinds tokens.now)) }
+    ensures exact { MatchResult result
+        (λ found. ItemAt late (kinds tokens.now) (place_of found.0) (kinds found.1.now))
+        (λ fault. WhyNoItem fault.kind late (kinds tokens.now)) }
     ensures shorter { IfOk result (λ found. length found.1.now < length tokens.now) }
 {
     if let Some(behind) = after_mark(tokens, Mark::CloseBrace) {
@@ -297,7 +312,9 @@ fn next_item<'t, 'a>(
 /// How many bodies are open behind an item, or None where more than 65 would be.
 fn depth_behind(item: &Item<'_>, depth: usize) -> Option<usize>
     requires { 0 < depth }
-    ensures { MatchOption result (IsOpening (place_of item.now) × (65 ≤ depth)) (λ behind. behind ≡ depth_behind (place_of item.now) depth) }
+    ensures { MatchOption result
+        (IsOpening (place_of item.now) × (65 ≤ depth))
+        (λ behind. behind ≡ depth_behind (place_of item.now) depth) }
 {
     match item {
         Item::Child(_) if depth >= BODY_LIMIT => None,
@@ -324,7 +341,8 @@ fn put_item<'a>(items: &mut Vec<Item<'a>>, item: Item<'a>) -> Result<(), AllocEr
 /// The tokens behind the version tag and the opening of the root's body.
 fn after_front<'t, 'a>(tokens: &'t [Token<'a>], end: usize) -> Result<&'t [Token<'a>], Fault>
     ensures ok { IfOk result (λ rest. kinds tokens.now ≡ begun (kinds rest.now)) }
-    ensures err { IfErr result (λ fault. IsFrontFault fault.kind × ((body : Tokens) → kinds tokens.now ≡ begun body → ⊥)) }
+    ensures err { IfErr result
+        (λ fault. IsFrontFault fault.kind × ((body : Tokens) → kinds tokens.now ≡ begun body → ⊥)) }
 {
     let Some(rest) = after_version(tokens) else {
         return Err(Fault::at(FaultKind::BadVersionTag, 0));
@@ -336,7 +354,9 @@ fn after_front<'t, 'a>(tokens: &'t [Token<'a>], end: usize) -> Result<&'t [Token
 /// The items of a source, up to the end of the root's body, which is the end of the tokens; `end` is the length of the
 /// text. Where there is no such source the fault stands at the first token that shows it.
 pub fn parse<'a>(alloc: Global, tokens: &[Token<'a>], end: usize) -> Result<Vec<Item<'a>>, Fault>
-    ensures { MatchResult result (λ items. IsParsed (kinds tokens.now) (map place_of items.items)) (λ fault. WhyNotParsed fault.kind (kinds tokens.now)) }
+    ensures { MatchResult result
+        (λ items. IsParsed (kinds tokens.now) (map place_of items.items))
+        (λ fault. WhyNotParsed fault.kind (kinds tokens.now)) }
 {
     let mut rest = after_front(tokens, end)?;
     let mut items = Vec::new(alloc);

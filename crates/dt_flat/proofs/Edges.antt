@@ -26,6 +26,7 @@ found_among k (n ∷ ns) p x j h = by (found_among (suc k) ns p x j) (eqb n.pare
         → cond b (Some k) (child_of (named_among (suc k) ns p) x) ≡ Some j → Found k (n ∷ ns) p x j
     first true e at rec h' = let kj : k ≡ j = cc in record { distance = 0; place = omega (arith, kj); within = omega arith; parent = at; name = e }
     first false e at rec h' = later k n ns p x j (rec h')
+
     by : (child_of (named_among (suc k) ns p) x ≡ Some j → Found (suc k) ns p x j) → (b : Bool) → eqb n.parent p ≡ b
         → child_of (cond b (record { name = n.name; node = k } ∷ named_among (suc k) ns p) (named_among (suc k) ns p)) x ≡ Some j → Found k (n ∷ ns) p x j
     by rec true e h' = first (bytes_eq x n.name) refl (eqb-true n.parent p e) rec h'

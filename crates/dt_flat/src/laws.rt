@@ -9,21 +9,32 @@ ghost use Rattle.dt_flat.specs.Arena.{Arena, Slot, reading, named_children, chil
 
 /// The node of a path in the reading is what the arena has at the number to which the path leads.
 pub fn reading_by_path()
-    ensures { (a : Arena) (p : Path) → node_at (reading a) p ≡ option_map (λ i. record { properties = properties a.slots i; children = below a.slots i }) (node_from a.slots 0 p) }
+    ensures { (a : Arena) (p : Path) →
+        node_at (reading a) p ≡
+        option_map (λ i. record { properties = properties a.slots i; children = below a.slots i }) (node_from a.slots 0 p) }
 {}
 
 /// What the nodes have after a child is added to a node that has none of this name.
 pub fn after_a_child()
     ensures count { (slots : List Slot) (p : ℕ) (name : Name) → length (with_child slots p name) ≡ length slots + 1 }
-    ensures children { (slots : List Slot) (p : ℕ) (name : Name) (i : ℕ) (x : Name) → i < length slots → child_of (named_children slots p) name ≡ None → child_of (named_children (with_child slots p name) i) x ≡ (if (p == i) && bytes_eq x name then Some (length slots) else child_of (named_children slots i) x) }
-    ensures childless { (slots : List Slot) (p : ℕ) (name : Name) → named_children (with_child slots p name) (length slots) ≡ [] }
-    ensures properties { (slots : List Slot) (p : ℕ) (name : Name) (i : ℕ) → i < length slots → properties (with_child slots p name) i ≡ properties slots i }
+    ensures children { (slots : List Slot) (p : ℕ) (name : Name) (i : ℕ) (x : Name) →
+        i < length slots → child_of (named_children slots p) name ≡ None →
+        child_of (named_children (with_child slots p name) i) x ≡
+        (if (p == i) && bytes_eq x name then Some (length slots) else child_of (named_children slots i) x) }
+    ensures childless { (slots : List Slot) (p : ℕ) (name : Name) →
+        named_children (with_child slots p name) (length slots) ≡ [] }
+    ensures properties { (slots : List Slot) (p : ℕ) (name : Name) (i : ℕ) → i < length slots →
+        properties (with_child slots p name) i ≡ properties slots i }
     ensures bare { (slots : List Slot) (p : ℕ) (name : Name) → properties (with_child slots p name) (length slots) ≡ [] }
 {}
 
 /// What the nodes have after a property of a node is set.
 pub fn after_a_property()
-    ensures count { (slots : List Slot) (p : ℕ) (n : Name) (v : List ℕ) → length (with_property slots p n v) ≡ length slots }
-    ensures children { (slots : List Slot) (p : ℕ) (n : Name) (v : List ℕ) (i : ℕ) → named_children (with_property slots p n v) i ≡ named_children slots i }
-    ensures values { (slots : List Slot) (p : ℕ) (n : Name) (v : List ℕ) (i : ℕ) (m : Name) → p < length slots → value_of (properties (with_property slots p n v) i) m ≡ (if (p == i) && bytes_eq m n then Some v else value_of (properties slots i) m) }
+    ensures count { (slots : List Slot) (p : ℕ) (n : Name) (v : List ℕ) →
+        length (with_property slots p n v) ≡ length slots }
+    ensures children { (slots : List Slot) (p : ℕ) (n : Name) (v : List ℕ) (i : ℕ) →
+        named_children (with_property slots p n v) i ≡ named_children slots i }
+    ensures values { (slots : List Slot) (p : ℕ) (n : Name) (v : List ℕ) (i : ℕ) (m : Name) → p < length slots →
+        value_of (properties (with_property slots p n v) i) m ≡
+        (if (p == i) && bytes_eq m n then Some v else value_of (properties slots i) m) }
 {}

@@ -68,7 +68,8 @@ fn list(
 ) -> Result<(), AllocError>
     requires parent { parent < suc (length others.old.items) }
     requires absent { child_of (children_at (root.old ∷ others.old.items) parent) name.now ≡ None }
-    ensures ok { OnOk result (root.new ∷ others.new.items ≡ listed (root.old ∷ others.old.items) parent (record { name = name.now; node = node })) }
+    ensures ok { OnOk result (root.new ∷ others.new.items ≡
+        listed (root.old ∷ others.old.items) parent (record { name = name.now; node = node })) }
     ensures count { vec_len others.new ≡ vec_len others.old }
     ensures room { vec_capacity others.new ≡ vec_capacity others.old }
     ensures root { OnErr result (root.new ≡ root.old) }

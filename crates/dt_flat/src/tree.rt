@@ -60,7 +60,8 @@ impl FlatTree {
     /// Adds a memory reservation at the end (Devicetree Specification v0.4, 5.3). `OutOfRange`: both numbers are 0, which
     /// would end the list. `NoMemory`: memory was refused. At a fault the tree is unchanged.
     pub fn reserve(&mut self, address: u64, size: u64) -> Result<(), Fault>
-        ensures ok { OnOk result (self.new ≡ record self.old { reservations = self.old.reservations ++ (address, size) ∷ [] }) }
+        ensures ok { OnOk result
+            (self.new ≡ record self.old { reservations = self.old.reservations ++ (address, size) ∷ [] }) }
         ensures some { IsOk result → ¬ ((address ≡ 0) × (size ≡ 0)) }
         ensures err { OnErr result (self.new ≡ self.old) }
         ensures refused { IfErr result (λ fault. WhyNotReserved fault.kind address size × (fault.at ≡ None)) }
@@ -77,11 +78,13 @@ impl FlatTree {
     /// the first two hold, it answers `Duplicate`. At a fault the tree is unchanged.
     pub fn add_node(&mut self, parent: NodeId, name: &NodeName<'_>) -> Result<NodeId, Fault>
         requires { parent < length self.old.slots }
-        ensures ok { IfOk result (λ node. (node ≡ length self.old.slots) × (self.new ≡ record self.old { slots = with_child self.old.slots parent name.now })) }
+        ensures ok { IfOk result (λ node. (node ≡ length self.old.slots)
+            × (self.new ≡ record self.old { slots = with_child self.old.slots parent name.now })) }
         ensures fresh { IsOk result → child_of (named_children self.old.slots parent) name.now ≡ None }
         ensures room { IsOk result → (length self.old.slots < 65536) × (depth_of self.old.slots parent < 64) }
         ensures err { OnErr result (self.new ≡ self.old) }
-        ensures refused { IfErr result (λ fault. WhyNoNode fault.kind self.old.slots parent name.now × (fault.at ≡ None)) }
+        ensures refused { IfErr result
+            (λ fault. WhyNoNode fault.kind self.old.slots parent name.now × (fault.at ≡ None)) }
     {
         let name = name.as_bytes();
         let node = self.places.len();
@@ -101,10 +104,12 @@ impl FlatTree {
     /// Specification v0.4, 2.3.3). `NoMemory`: memory was refused. At a fault the tree is unchanged.
     pub fn set_prop(&mut self, node: NodeId, name: &PropName<'_>, value: &[u8]) -> Result<(), Fault>
         requires { node < length self.old.slots }
-        ensures ok { OnOk result (self.new ≡ record self.old { slots = with_property self.old.slots node name.now value.now }) }
+        ensures ok { OnOk result
+            (self.new ≡ record self.old { slots = with_property self.old.slots node name.now value.now }) }
         ensures allowed { IsOk result → MaySet self.old.slots node name.now value.now }
         ensures err { OnErr result (self.new ≡ self.old) }
-        ensures refused { IfErr result (λ fault. WhyNotSet fault.kind self.old.slots node name.now value.now × (fault.at ≡ None)) }
+        ensures refused { IfErr result
+            (λ fault. WhyNotSet fault.kind self.old.slots node name.now value.now × (fault.at ≡ None)) }
     {
         let name = name.as_bytes();
         if name != b"phandle".as_slice() {

@@ -33,8 +33,11 @@ fn put_property(
     name: &[u8],
     value: &[u8],
 ) -> Result<(), Fault>
-    ensures put { OnOk result (PutsProperties (record { name = name.now; value = value.now } ∷ []) names.old names.new out.old.items out.new.items) }
-    ensures refused { IfErr result (λ fault. WhyNoBlob fault.kind (properties_size names.old (record { name = name.now; value = value.now } ∷ [])) × (fault.at ≡ None)) }
+    ensures put { OnOk result
+        (PutsProperties (record { name = name.now; value = value.now } ∷ [])
+        names.old names.new out.old.items out.new.items) }
+    ensures refused { IfErr result (λ fault.
+        WhyNoBlob fault.kind (properties_size names.old (record { name = name.now; value = value.now } ∷ [])) × (fault.at ≡ None)) }
 {
     if value.len() > SIZE_LIMIT {
         return Err(Fault::of(FaultKind::Limit));
