@@ -1,5 +1,6 @@
 pub mod Written
 pub mod Files
 pub mod Job
+pub mod Refused
 pub mod Report
 pub mod Words

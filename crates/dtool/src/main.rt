@@ -4,6 +4,10 @@
 //! on standard error, or 2 where the words of the command line aren't a command.
 #![tactic(auto)]
 
+ghost use Rattle.std.specs.Prelude.{◌≡◌};
+ghost use Rattle.dtool.specs.Refused.{Passes};
+ghost use Rattle.dtool.specs.declared.Refusal.TheVariants.{Input};
+
 mod files;
 mod job;
 mod report;
@@ -28,6 +32,8 @@ enum Refusal {
 }
 
 impl From<LineFault> for Refusal {
+    ghost from_gives = { Passes };
+
     fn from(fault: LineFault) -> Refusal {
         match fault {
             LineFault::Memory => Refusal::Input(0, Fault::of(FaultKind::NoMemory)),
@@ -37,6 +43,8 @@ impl From<LineFault> for Refusal {
 }
 
 impl From<(usize, Fault)> for Refusal {
+    ghost from_gives = { λ e refusal. refusal ≡ Input e.0 e.1 };
+
     fn from((input, fault): (usize, Fault)) -> Refusal {
         Refusal::Input(input, fault)
     }
