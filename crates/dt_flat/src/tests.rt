@@ -25,17 +25,22 @@ fn is_of<T: Drop>(res: Result<T, Fault>, kind: FaultKind) -> bool {
     matches!(res, Err(fault) if fault.kind == kind && fault.at.is_none())
 }
 
-#[test]
-fn as_many_nodes_as_may_be(rt: HostRuntime) -> Result<(), Fail> {
-    let mut tree = FlatTree::new(rt.alloc(), 0);
+// A tree with as many nodes as may be, each of them with a phandle.
+fn full(alloc: Global) -> Result<FlatTree, Fault> {
+    let mut tree = FlatTree::new(alloc, 0);
     let phandle = PropName::new(b"phandle".as_slice())?;
     for number in 1..65536u32 {
-        let text = format!(in rt.alloc(); "n{number}")?;
+        let text = format!(in alloc; "n{number}")?;
         let root = tree.root();
         let node = tree.add_node(root, &NodeName::new(text.as_bytes())?)?;
-        assert!(rt; node < tree.node_count());
         tree.set_prop(node, &phandle, number.to_be_bytes().as_slice())?;
     }
+    Ok(tree)
+}
+
+#[test]
+fn as_many_nodes_as_may_be(rt: HostRuntime) -> Result<(), Fail> {
+    let mut tree = full(rt.alloc())?;
     assert_eq!(rt; tree.node_count(), NODE_LIMIT);
     let root = tree.root();
     let more = NodeName::new(b"more".as_slice())?;
