@@ -17,3 +17,5 @@ pub mod Object
 pub mod Numbers
 pub mod Changes
 pub mod Applied
+pub mod Ordered
+pub mod OverlaySource
