@@ -1,6 +1,6 @@
 -- The order of a tree's nodes and properties: that of the text which opened and defined them (Devicetree Specification
 -- v0.4, 6.3 and 6.4).
-use Rattle.std.specs.Prelude.{◌≡◌, ℕ, Bool, true, List, [], ◌∷◌, ◌++◌, Option, Some, None, map, reverse, is_some, not, ◌&&◌, if◌then◌else◌, IsSome, codes}
+use Rattle.std.specs.Prelude.{◌≡◌, List, [], ◌∷◌, ◌++◌, Option, Some, None, map, reverse, is_some, not, ◌&&◌, if◌then◌else◌, codes}
 use Rattle.dt_model.specs.Names.{Name}
 use Rattle.dt_model.specs.Path.{Path}
 use Rattle.dt_model.specs.Event.{stands, value_at, age, property_age}
@@ -18,7 +18,7 @@ unwritten m p = if m.keyed p && not (is_some (m.number p)) then codes "phandle" 
 -- they were defined first, after the last deletion that took them; a number that isn't written stands last.
 pub record IsInOrder (es : Events) (m : Meaning) (t : Reading) : Type 0 where
   pub children : (p : Path) (n : Node) → node_at t p ≡ Some n →
-      AreInOrder (λ x. age es (x ∷ reverse p)) (λ x. stands es (x ∷ reverse p) ≡ true) (names n.children)
+      AreInOrder (λ x. age es (x ∷ reverse p)) (λ x. stands es (x ∷ reverse p)) (names n.children)
   pub properties : (p : Path) (n : Node) → node_at t p ≡ Some n →
       (written : List Name) × (map (λ (x : Property). x.name) n.properties ≡ written ++ unwritten m p)
-      × AreInOrder (λ x. property_age es (reverse p) x) (λ x. IsSome (value_at es (reverse p) x)) written
+      × AreInOrder (λ x. property_age es (reverse p) x) (λ x. is_some (value_at es (reverse p) x)) written

@@ -146,7 +146,7 @@ pub record OverlayMeans (places : List Place) (o : Overlay) : Type 0 where
   pub closed : so_far.source.bodies ≡ []
   pub means : o ≡ overlay_of so_far.source.events o.fragments
   -- the fragments stand in the order in which they were opened first
-  pub ordered : AreInOrder (λ f. age so_far.source.events (f ∷ [])) (λ f. o.stands (content f) ≡ true) (map (λ (f : Fragment). f.name) o.fragments)
+  pub ordered : AreInOrder (λ f. age so_far.source.events (f ∷ [])) (λ f. o.stands (content f)) (map (λ (f : Fragment). f.name) o.fragments)
   pub targeted : (f : Fragment) → IsIn f o.fragments → HoldsTarget o f.name f.target
   pub contained : (p : Path) (name : Name) (items : List (Item OverlayReference)) → IsBrought o p → o.value p name ≡ Some items → EachReference (IsContained o) items
   pub targets_contained : (f : Fragment) (r : OverlayReference) → IsIn f o.fragments → f.target ≡ at_reference r → IsContained o r
