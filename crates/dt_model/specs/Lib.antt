@@ -19,3 +19,4 @@ pub mod Changes
 pub mod Applied
 pub mod Ordered
 pub mod OverlaySource
+pub mod Rows

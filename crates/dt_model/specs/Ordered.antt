@@ -1,12 +1,12 @@
 -- The order of a tree's nodes and properties: that of the text which opened and defined them (Devicetree Specification
 -- v0.4, 6.3 and 6.4).
-use Rattle.std.specs.Prelude.{◌≡◌, List, [], ◌∷◌, ◌++◌, Option, Some, None, map, reverse, is_some, not, ◌&&◌, if◌then◌else◌, codes}
+use Rattle.std.specs.Prelude.{◌≡◌, List, [], ◌∷◌, ◌++◌, Some, map, reverse, is_some, not, ◌&&◌, if◌then◌else◌, codes}
 use Rattle.dt_model.specs.Names.{Name}
 use Rattle.dt_model.specs.Path.{Path}
 use Rattle.dt_model.specs.Event.{stands, value_at, age, property_age}
 use Rattle.dt_model.specs.Lists.{AreInOrder}
 use Rattle.dt_model.specs.Meaning.{Meaning}
-use Rattle.dt_model.specs.Source.{Events, written_number}
+use Rattle.dt_model.specs.Source.{Events}
 use Rattle.dt_model.specs.Tree.{Property, Reading, Node, node_at}
 use Rattle.dt_model.specs.Valid.{names}
 

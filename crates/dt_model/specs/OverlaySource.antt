@@ -1,16 +1,16 @@
 -- What an overlay's source means (dtc's notes on overlay objects; Devicetree Specification v0.4, chapter 6): its places are
 -- those of any source, but a block that names a node of some other tree opens a fragment.
-use Rattle.std.specs.Prelude.{◌≡◌, ℕ, zero, suc, ◌+◌, Bool, true, false, ◌&&◌, ◌||◌, not, List, [], ◌∷◌, ◌++◌, length, Option, Some, None, Result, Ok, Err, option_map, map, drop, reverse, if◌then◌else◌, codes, decimal}
+use Rattle.std.specs.Prelude.{◌≡◌, ℕ, zero, suc, ◌+◌, Bool, true, false, ◌||◌, not, List, [], ◌∷◌, ◌++◌, length, Option, Some, None, Result, Ok, Err, option_map, map, reverse, if◌then◌else◌, codes, decimal}
 use Rattle.std.specs.List.{list_any, flat_map}
 use Rattle.std.specs.Option.{option_map_or}
 use Rattle.std.specs.Str.{bytes_eq}
 use Rattle.dt_model.specs.Names.{Name}
-use Rattle.dt_model.specs.Path.{Path, path_value, is_bookkeeping_name}
+use Rattle.dt_model.specs.Path.{Path, path_value}
 use Rattle.dt_model.specs.Lists.{IsIn, AreInOrder}
 use Rattle.dt_model.specs.Meaning.{Item, byte, reference, EachReference}
-use Rattle.dt_model.specs.Event.{Stack, Event, opening, definition, stands, value_at, age}
-use Rattle.dt_model.specs.Overlay.{OverlayReference, inside, outside, Target, at_reference, Fragment, Overlay, content, IsBrought, IsContained, HoldsTarget}
-use Rattle.dt_model.specs.Source.{Reference, by_label, by_path, Part, one, number_of, text_of, Place, root, block, delete_node, child, label, property, delete_property, delete_child, close, base, Refusal, Events, SoFar, labelled, is_among, enter, outside as at_top, read, labels_there, refers_there}
+use Rattle.dt_model.specs.Event.{opening, definition, stands, value_at, age}
+use Rattle.dt_model.specs.Overlay.{OverlayReference, inside, outside, at_reference, Fragment, Overlay, content, IsBrought, IsContained, HoldsTarget}
+use Rattle.dt_model.specs.Source.{by_label, by_path, Part, one, number_of, text_of, Place, root, block, delete_node, child, label, property, delete_property, delete_child, close, base, Refusal, Events, SoFar, labelled, is_among, enter, outside as at_top, read, labels_there, refers_there}
 
 -- ---- the names of new fragments
 
