@@ -19,4 +19,5 @@ pub mod Changes
 pub mod Applied
 pub mod Ordered
 pub mod OverlaySource
+pub mod Checks
 pub mod Rows
