@@ -1,6 +1,6 @@
 -- What an overlay's source means (dtc's notes on overlay objects; Devicetree Specification v0.4, chapter 6): its places are
 -- those of any source, but a block that names a node of some other tree opens a fragment.
-use Rattle.std.specs.Prelude.{◌≡◌, ℕ, zero, suc, ◌+◌, Bool, true, false, ◌||◌, not, List, [], ◌∷◌, ◌++◌, length, Option, Some, None, Result, Ok, Err, option_map, map, reverse, if◌then◌else◌, codes, decimal}
+use Rattle.std.specs.Prelude.{◌≡◌, ◌↔◌, ◌⊎◌, ℕ, zero, suc, ◌+◌, Bool, true, false, ◌||◌, not, List, [], ◌∷◌, ◌++◌, length, Option, Some, None, Result, Ok, Err, option_map, map, reverse, if◌then◌else◌, codes, decimal}
 use Rattle.std.specs.List.{list_any, flat_map}
 use Rattle.std.specs.Option.{option_map_or}
 use Rattle.std.specs.Str.{bytes_eq}
@@ -9,7 +9,7 @@ use Rattle.dt_model.specs.Path.{Path, path_value}
 use Rattle.dt_model.specs.Lists.{IsIn, AreInOrder}
 use Rattle.dt_model.specs.Meaning.{Item, byte, reference, EachReference}
 use Rattle.dt_model.specs.Event.{opening, definition, stands, value_at, age}
-use Rattle.dt_model.specs.Overlay.{OverlayReference, inside, outside, at_reference, Fragment, Overlay, content, IsBrought, IsContained, HoldsTarget}
+use Rattle.dt_model.specs.Overlay.{OverlayReference, inside, outside, Target, at_reference, Fragment, Overlay, content, IsBrought, IsContained, HoldsTarget}
 use Rattle.dt_model.specs.Source.{by_label, by_path, Part, one, number_of, text_of, Place, root, block, delete_node, child, label, property, delete_property, delete_child, close, base, Refusal, Events, SoFar, labelled, is_among, enter, outside as at_top, read, labels_there, refers_there}
 
 -- ---- the names of new fragments
@@ -150,3 +150,29 @@ pub record OverlayMeans (places : List Place) (o : Overlay) : Type 0 where
   pub targeted : (f : Fragment) → IsIn f o.fragments → HoldsTarget o f.name f.target
   pub contained : (p : Path) (name : Name) (items : List (Item OverlayReference)) → IsBrought o p → o.value p name ≡ Some items → EachReference (IsContained o) items
   pub targets_contained : (f : Fragment) (r : OverlayReference) → IsIn f o.fragments → f.target ≡ at_reference r → IsContained o r
+
+-- ---- why places that are all read mean no overlay
+
+pub data LateOverlayRefusal : Type 0 where
+  -- a fragment holds no target
+  bad_fragment : LateOverlayRefusal
+  -- a reference that a fragment brings, or its target, names a node of the overlay that no fragment brings
+  outside_content : LateOverlayRefusal
+
+-- a fragment's node has neither one reference as `target` nor, without a `target`, a path's text as `target-path`
+abbrev pub HasBadFragment : Overlay → Type 0
+HasBadFragment o = (f : Name) × (o.stands (content f) ≡ true) × ((target : Target) → HoldsTarget o f target → ⊥)
+
+-- the reference, of a property that a fragment brings or of a fragment's target, names a node that no fragment brings
+abbrev pub HasOutsideContent : Overlay → Type 0
+HasOutsideContent o =
+    ((p : Path) × (name : Name) × (items : List (Item OverlayReference)) × IsBrought o p × (o.value p name ≡ Some items) × ¬ EachReference (IsContained o) items)
+    ⊎ ((f : Fragment) × (r : OverlayReference) × IsIn f o.fragments × (f.target ≡ at_reference r) × ¬ IsContained o r)
+
+-- The first of these that holds of the events; a fragment's target counts as held only where all of them are.
+abbrev pub IsLateOverlayRefusal : Events → LateOverlayRefusal → Type 0
+IsLateOverlayRefusal es bad_fragment = HasBadFragment (overlay_of es [])
+IsLateOverlayRefusal es outside_content =
+    (fragments : List Fragment) × ((f : Name) → (stands es (reverse (content f)) ≡ true) ↔ ((target : Target) × IsIn (record { name = f; target = target }) fragments))
+    × ((f : Fragment) → IsIn f fragments → HoldsTarget (overlay_of es fragments) f.name f.target)
+    × HasOutsideContent (overlay_of es fragments)

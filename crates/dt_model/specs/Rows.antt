@@ -1,5 +1,5 @@
 -- Some sources, trees and objects by which the definitions can be tried. The text of each stands above it.
-use Rattle.std.specs.Prelude.{ℕ, ◌+◌, List, [], ◌∷◌, ◌++◌, Option, Some, None, Result, Ok, Err, map, codes}
+use Rattle.std.specs.Prelude.{ℕ, zero, suc, ◌+◌, List, [], ◌∷◌, ◌++◌, Option, Some, None, Result, Ok, Err, map, codes}
 use Rattle.dt_model.specs.Names.{Name}
 use Rattle.dt_model.specs.Path.{Path, path_value}
 use Rattle.dt_model.specs.Meaning.{Meaning, cell}
@@ -138,6 +138,15 @@ no_target = block (by_label (codes "x")) ∷ close ∷ []
 -- / { __symbols__ { }; };
 abbrev pub reserved : List Place
 reserved = root ∷ child (codes "__symbols__") ∷ close ∷ close ∷ []
+
+-- so many nodes `n { }`, each in the one before
+abbrev pub nested : ℕ → List Place
+nested zero = []
+nested (suc n) = child (codes "n") ∷ (nested n ++ close ∷ [])
+
+-- / { n { n { .. }; }; }; so many levels deep
+abbrev pub levels : ℕ → List Place
+levels n = root ∷ (nested n ++ close ∷ [])
 
 -- ---- overlay sources
 

@@ -1,6 +1,6 @@
 -- What a source means (Devicetree Specification v0.4, chapter 6): its places in the order of its text, the event that
 -- each one adds to those before it, or its refusal, and the meaning of the events.
-use Rattle.std.specs.Prelude.{◌≡◌, ℕ, ◌<◌, Bool, true, false, ◌&&◌, ◌||◌, List, [], ◌∷◌, ◌++◌, length, Option, Some, None, Result, Ok, Err, option_map, option_and_then, is_some, IsSome, map, drop, reverse, nat_le, if◌then◌else◌, codes}
+use Rattle.std.specs.Prelude.{◌≡◌, ◌≢◌, ℕ, ◌<◌, Bool, true, false, ◌&&◌, ◌||◌, List, [], ◌∷◌, ◌++◌, length, Option, Some, None, Result, Ok, Err, option_map, option_and_then, is_some, IsSome, map, drop, reverse, nat_le, if◌then◌else◌, codes}
 use Rattle.std.specs.List.{AllByRecursion, list_any}
 use Rattle.std.specs.Option.{option_map_or}
 use Rattle.std.specs.Int.{w32, from_be_bytes}
@@ -278,3 +278,31 @@ pub record SourceMeans (mode : Mode) (reservations : List (ℕ × ℕ)) (places 
   pub closed : so_far.bodies ≡ []
   pub resolved : IsResolved so_far.events
   pub means : m ≡ meaning_of reservations so_far.events
+
+-- ---- why places that are all read mean nothing
+
+pub data LateRefusal : Type 0 where
+  -- a reference names no node
+  unresolved : LateRefusal
+  -- a `phandle` writes no number
+  bad_phandle : LateRefusal
+  -- two nodes write one number
+  duplicate_phandle : LateRefusal
+
+-- a reference that is left names no node
+abbrev pub HasUnresolved : Events → Type 0
+HasUnresolved es = (p : Stack) × (n : Name) × (v : List Part) × (value_at es p n ≡ Some v) × (all_bound es v ≡ None)
+
+-- a `phandle` that is left writes no number
+abbrev pub HasBadPhandle : Events → Type 0
+HasBadPhandle es = (p : Stack) × (v : List Part) × (value_at es p (codes "phandle") ≡ Some v) × (written v ≡ None)
+
+-- two nodes that are left write one number
+abbrev pub HasDuplicatePhandle : Events → Type 0
+HasDuplicatePhandle es = (p q : Stack) × (n : ℕ) × (p ≢ q) × (written_number es p ≡ Some n) × (written_number es q ≡ Some n)
+
+-- the first of these that holds
+abbrev pub IsLateRefusal : Events → LateRefusal → Type 0
+IsLateRefusal es unresolved = HasUnresolved es
+IsLateRefusal es bad_phandle = ¬ HasUnresolved es × HasBadPhandle es
+IsLateRefusal es duplicate_phandle = ¬ HasUnresolved es × ¬ HasBadPhandle es × HasDuplicatePhandle es

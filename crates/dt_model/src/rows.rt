@@ -32,12 +32,14 @@ ghost use Rattle.dt_model.specs.Source.{
   duplicate_property,
   no_such_target,
   reserved_name,
+  too_deep,
   all_bound,
   number_of,
   by_label,
 };
 ghost use Rattle.dt_model.specs.OverlaySource.{overlay_delete, overlay_phandle, overlay_path};
 ghost use Rattle.dt_model.specs.Rows.{
+  levels,
   events,
   refusal,
   meaning,
@@ -166,6 +168,12 @@ pub fn refused_places()
     ensures absent { refusal deleted_nothing ≡ None }
     ensures target { refusal no_target ≡ Some no_such_target }
     ensures bookkeeping { refusal reserved ≡ Some reserved_name }
+{}
+
+/// A node may have 64 names in its path, and no more.
+pub fn depth_limit()
+    ensures deepest { refusal (levels 64) ≡ None }
+    ensures deeper { refusal (levels 65) ≡ Some too_deep }
 {}
 
 /// Of two nodes, and of two properties, the older one was opened or defined first; one that comes again after a deletion is new.
