@@ -147,3 +147,11 @@ module _ {V : Type 0} where
   -- of two properties of a node the first was defined first
   abbrev pub property_before : List (Event V) → Stack → Name → Name → Type 0
   property_before es p m n = property_age es p n < property_age es p m
+
+  -- from the label's first giving to the node on that follows the last deletion of it or of a node above it
+  abbrev pub label_age : List (Event V) → Name → Stack → ℕ
+  label_age es l p = age_by (gives l p) (takes p) es
+
+  -- of two labels of a node the first was given first
+  abbrev pub label_before : List (Event V) → Stack → Name → Name → Type 0
+  label_before es p k l = label_age es l p < label_age es k p

@@ -20,4 +20,5 @@ pub mod Applied
 pub mod Ordered
 pub mod OverlaySource
 pub mod Checks
+pub mod Joined
 pub mod Rows

@@ -247,6 +247,19 @@ inner_sites = record { fragment = codes "g"; at = [] } ∷ record { fragment = c
 
 -- ---- trees and objects
 
+-- the tree of / { p = <&b &{/c}>; l: a { phandle = <2>; }; b: b { }; c { x: d { }; }; };
+abbrev pub gap_tree : Reading
+gap_tree = tree (set (codes "p") (cell 1 ++ cell 3) ∷ [])
+    (branch (codes "a") (set (codes "phandle") (cell 2) ∷ []) no_nodes
+    (branch (codes "b") (set (codes "phandle") (cell 1) ∷ []) no_nodes
+    (branch (codes "c") (set (codes "phandle") (cell 3) ∷ []) (branch (codes "d") (set (codes "phandle") (cell 4) ∷ []) no_nodes no_nodes)
+    (symbols (symbol_of (codes "l") (codes "a" ∷ []) ∷ symbol_of (codes "b") (codes "b" ∷ []) ∷ symbol_of (codes "x") (codes "c" ∷ codes "d" ∷ []) ∷ [])))))
+
+-- / { b: a: n { }; }; / { b: n { }; };
+abbrev pub two_labels : List Place
+two_labels =
+    root ∷ child (codes "n") ∷ label (codes "b") ∷ label (codes "a") ∷ close ∷ close ∷ root ∷ child (codes "n") ∷ label (codes "b") ∷ close ∷ close ∷ []
+
 -- / { gic: ic { }; };
 abbrev pub controller : Reading
 controller = tree [] (branch (codes "ic") (set (codes "phandle") (cell 1) ∷ []) no_nodes (symbols (symbol_of (codes "gic") (codes "ic" ∷ []) ∷ [])))

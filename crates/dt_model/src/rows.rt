@@ -18,8 +18,8 @@ ghost use Rattle.std.specs.Prelude.{
 };
 ghost use Rattle.dt_model.specs.Meaning.{Meaning, byte, reference, cell, instance_value};
 ghost use Rattle.dt_model.specs.Overlay.{Overlay, inside, outside};
-ghost use Rattle.dt_model.specs.Event.{age, property_age, stands};
-ghost use Rattle.dt_model.specs.Numbers.{AreNewNumbers, numbers_of, new_paths};
+ghost use Rattle.dt_model.specs.Event.{age, label_age, property_age, stands};
+ghost use Rattle.dt_model.specs.Numbers.{AreNewNumbers, AreNumbers, unwritten_paths, written_numbers, numbers_of, new_paths};
 ghost use Rattle.dt_model.specs.Merged.{AreSites, Site, merged};
 ghost use Rattle.dt_model.specs.Object.{Cell, local_cells, fragment_names, words_of};
 ghost use Rattle.dt_model.specs.Applied.{applied};
@@ -39,6 +39,8 @@ ghost use Rattle.dt_model.specs.Source.{
 };
 ghost use Rattle.dt_model.specs.OverlaySource.{overlay_delete, overlay_phandle, overlay_path};
 ghost use Rattle.dt_model.specs.Rows.{
+  gap_tree,
+  two_labels,
   levels,
   events,
   refusal,
@@ -151,6 +153,12 @@ pub fn referred_nodes_are_keyed()
         Some (reference (codes "b" ∷ []) ∷ reference (codes "c" ∷ []) ∷ []) }
 {}
 
+/// The keyed nodes get, in preorder, the least numbers that are not written; other nodes get none.
+pub fn numbers_of_a_source()
+    ensures { AreNumbers (written_numbers (meaning gap_of_numbers) gap_tree) (unwritten_paths (meaning gap_of_numbers) gap_tree)
+        ((codes "b" ∷ [], 1) ∷ (codes "c" ∷ [], 3) ∷ (codes "c" ∷ codes "d" ∷ [], 4) ∷ []) }
+{}
+
 /// A label can be given to another node once the node that it named is deleted, and not before.
 pub fn label_moves_after_a_deletion()
     ensures moved { (meaning label_again).label (codes "l") ≡ Some (codes "b" ∷ []) }
@@ -182,6 +190,8 @@ pub fn order_of_the_text()
     ensures later { age (events written_phandle) (codes "b" ∷ []) ≡ 3 }
     ensures again { age (events opened_again) (codes "n" ∷ []) ≡ 2 }
     ensures redefined { property_age (events opened_again) [] (codes "a") ≡ 10 }
+    ensures first_label { label_age (events two_labels) (codes "b") (codes "n" ∷ []) ≡ 5 }
+    ensures second_label { label_age (events two_labels) (codes "a") (codes "n" ∷ []) ≡ 4 }
     ensures dropped { property_age (events deleted_property) [] (codes "a") ≡ 0 }
 {}
 

@@ -21,3 +21,11 @@ returns-clause-redefined c = refl
 pub returns-clause-dropped : goal.returns-clause-dropped
 unfolding age_by
 returns-clause-dropped c = refl
+
+pub returns-clause-first_label : goal.returns-clause-first_label
+unfolding age_by
+returns-clause-first_label c = refl
+
+pub returns-clause-second_label : goal.returns-clause-second_label
+unfolding age_by
+returns-clause-second_label c = refl
