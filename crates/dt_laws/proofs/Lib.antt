@@ -1,3 +1,4 @@
 pub mod Fronts
 pub mod Stops
 pub mod FirstFaults
+pub mod NameTests
