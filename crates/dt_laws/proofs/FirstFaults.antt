@@ -77,13 +77,13 @@ no_stop strings block offset fault properties children a b =
 
 -- ---- the tree
 
-spelled_tree : (strings block : List ℕ) (properties : List Property) (children : Forest) → IsSpelled strings block properties children → SpellsTree strings properties children block
+pub spelled_tree : (strings block : List ℕ) (properties : List Property) (children : Forest) → IsSpelled strings block properties children → SpellsTree strings properties children block
 spelled_tree strings block properties children s = record { tokens = s.tokens; spelled = s.spelled; whole = s.whole }
 
 pub one_spelled : (strings block : List ℕ) (ps qs : List Property) (cs ds : Forest) → IsSpelled strings block ps cs → SpellsTree strings qs ds block → (ps ≡ qs) × (cs ≡ ds)
 one_spelled strings block ps qs cs ds a b = one_tree strings block ps qs cs ds (spelled_tree strings block ps cs a) b
 
-not_apart : (strings block : List ℕ) (ps qs : List Property) (cs ds : Forest) → IsSpelled strings block ps cs → ¬ AreApart ps cs → IsSpelled strings block qs ds → AreApart qs ds → ⊥
+pub not_apart : (strings block : List ℕ) (ps qs : List Property) (cs ds : Forest) → IsSpelled strings block ps cs → ¬ AreApart ps cs → IsSpelled strings block qs ds → AreApart qs ds → ⊥
 not_apart strings block ps qs cs ds a differ b apart =
     let same = one_spelled strings block ps qs cs ds a (spelled_tree strings block qs ds b) in
     differ (subst (λ (c : Forest). AreApart ps c) (sym same.1) (subst (λ (p : List Property). AreApart p ds) (sym same.0) apart))

@@ -2,3 +2,5 @@ pub mod Fronts
 pub mod Stops
 pub mod FirstFaults
 pub mod NameTests
+pub mod Leads
+pub mod NoFaults
