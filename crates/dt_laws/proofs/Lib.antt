@@ -4,3 +4,4 @@ pub mod FirstFaults
 pub mod NameTests
 pub mod Leads
 pub mod NoFaults
+pub mod DamagedHeaders
