@@ -5,3 +5,4 @@ pub mod NameTests
 pub mod Leads
 pub mod NoFaults
 pub mod DamagedHeaders
+pub mod DamagedTokens
