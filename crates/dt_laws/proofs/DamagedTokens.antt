@@ -6,11 +6,11 @@ use Rattle.dt_model.specs.Samples.{words, blob_of, blob_with_late_property}
 use Rattle.dt_model.specs.Checks.{BlobFault, over_limit, bad_tag, structure_cut, bad_name, bad_name_offset, bad_nesting, late_property, bad_end, number, counted, header_fault, strings_of, structure_of, Position, front, lead_all, token_fault, StopsAt, IsFirstFault, at_a_token}
 use Rattle.dt_laws.specs.Samples.{one_cell_blob, with_word}
 
-abbrev at : ℕ → Bool → ℕ → Position
+abbrev pub at : ℕ → Bool → ℕ → Position
 at depth late nodes = record { depth = depth; late = late; nodes = nodes }
 
 -- a blob with no reservations, in which a token is wrong
-stopped : (bytes behind : List ℕ) (fault : BlobFault) (offset : ℕ) → header_fault bytes ≡ None → drop (number bytes 16) (counted bytes) ≡ reservation_block [] ++ behind → fault ≢ over_limit → StopsAt (strings_of bytes) (structure_of bytes) offset fault → IsFirstFault bytes fault (Some (number bytes 8 + offset))
+pub stopped : (bytes behind : List ℕ) (fault : BlobFault) (offset : ℕ) → header_fault bytes ≡ None → drop (number bytes 16) (counted bytes) ≡ reservation_block [] ++ behind → fault ≢ over_limit → StopsAt (strings_of bytes) (structure_of bytes) offset fault → IsFirstFault bytes fault (Some (number bytes 8 + offset))
 stopped bytes behind fault offset passes reservations other stops = at_a_token passes ([], behind, tt, reservations) fault offset other stops
 
 -- the first token is wrong

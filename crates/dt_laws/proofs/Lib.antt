@@ -6,3 +6,5 @@ pub mod Leads
 pub mod NoFaults
 pub mod DamagedHeaders
 pub mod DamagedTokens
+pub mod DamagedNesting
+pub mod DamagedTrees
