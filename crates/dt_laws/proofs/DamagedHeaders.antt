@@ -1,9 +1,9 @@
 -- Blobs with a damage in the header or in the reservations.
-use Rattle.std.proofs.Common.{◌≡◌, ℕ, ◌+◌, List, [], ◌∷◌, ◌++◌, length, drop, take, Option, Some, None, get_or, refl, sym, ap, ◌∙◌, arith}
+use Rattle.std.proofs.Common.{◌≡◌, ℕ, ◌+◌, List, [], ◌∷◌, ◌++◌, length, drop, take, None, get_or, refl, ap, ◌∙◌, arith}
 use Rattle.std.specs.List.{flat_map}
 use Rattle.std.proofs.lemmas.List.{length-append}
 use Rattle.dt_model.specs.Format.{pair, reservation_block}
-use Rattle.dt_model.specs.Checks.{short_header, bad_magic, bad_total, bad_version, misaligned, block_outside, no_reservation_end, HasReservations, header_fault, IsFirstFault, in_header, in_reservations}
+use Rattle.dt_model.specs.Checks.{short_header, bad_magic, bad_total, bad_version, misaligned, block_outside, no_reservation_end, IsFirstFault, in_header, in_reservations}
 use Rattle.dt_laws.specs.Samples.{one_cell_blob, with_word}
 
 pub short_faulted : IsFirstFault (take 39 one_cell_blob) short_header None

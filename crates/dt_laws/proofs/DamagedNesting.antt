@@ -1,12 +1,12 @@
 -- Blobs with a token that may not stand behind those before it.
-use Rattle.std.proofs.Common.{◌≡◌, ℕ, ◌+◌, true, false, List, [], ◌∷◌, ◌++◌, drop, codes, Some, None, refl, arith}
-use Rattle.dt_model.specs.Names.{Name}
+use Rattle.std.proofs.Common.{ℕ, true, false, List, [], ◌∷◌, ◌++◌, drop, codes, Some, refl, arith}
 use Rattle.dt_model.specs.Tree.{Property}
-use Rattle.dt_model.specs.Format.{Token, begin_node, end_node, prop, nop, word, IsText, Spells}
+use Rattle.dt_model.specs.Format.{begin_node, end_node, prop, nop, word, IsText, Spells}
 use Rattle.dt_model.specs.Samples.{words, blob_with_late_property}
-use Rattle.dt_model.specs.Checks.{structure_cut, bad_nesting, late_property, strings_of, structure_of, StopsAt, IsFirstFault}
+use Rattle.dt_model.specs.Checks.{structure_cut, bad_nesting, late_property, structure_of, StopsAt, IsFirstFault}
 use Rattle.dt_laws.specs.Samples.{one_cell_blob, with_word}
-use Rattle.dt_laws.proofs.DamagedTokens.{at, stopped, root_spelled}
+use Rattle.dt_laws.proofs.Leads.{at}
+use Rattle.dt_laws.proofs.DamagedTokens.{stopped, root_spelled}
 
 -- a strings block that has the name a, and nothing else
 abbrev pub a_strings : List ℕ

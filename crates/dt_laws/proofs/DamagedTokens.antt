@@ -1,13 +1,10 @@
 -- Blobs with a damage in one token.
-use Rattle.std.proofs.Common.{◌≡◌, ◌≢◌, ℕ, ◌+◌, Bool, true, false, List, [], ◌∷◌, ◌++◌, length, drop, take, codes, Option, Some, None, refl, arith}
-use Rattle.dt_model.specs.Tree.{Property}
-use Rattle.dt_model.specs.Format.{Token, begin_node, end_node, prop, nop, word, IsText, Spells, SpellsAll, reservation_block}
-use Rattle.dt_model.specs.Samples.{words, blob_of, blob_with_late_property}
-use Rattle.dt_model.specs.Checks.{BlobFault, over_limit, bad_tag, structure_cut, bad_name, bad_name_offset, bad_nesting, late_property, bad_end, number, counted, header_fault, strings_of, structure_of, Position, front, lead_all, token_fault, StopsAt, IsFirstFault, at_a_token}
+use Rattle.std.proofs.Common.{◌≡◌, ◌≢◌, ℕ, ◌+◌, true, false, List, [], ◌∷◌, ◌++◌, drop, take, codes, Some, None, refl, arith}
+use Rattle.dt_model.specs.Format.{begin_node, end_node, word, Spells, reservation_block}
+use Rattle.dt_model.specs.Samples.{words, blob_of}
+use Rattle.dt_model.specs.Checks.{BlobFault, over_limit, bad_tag, structure_cut, bad_name, bad_name_offset, bad_nesting, bad_end, number, counted, header_fault, strings_of, structure_of, front, token_fault, StopsAt, IsFirstFault, at_a_token}
 use Rattle.dt_laws.specs.Samples.{one_cell_blob, with_word}
-
-abbrev pub at : ℕ → Bool → ℕ → Position
-at depth late nodes = record { depth = depth; late = late; nodes = nodes }
+use Rattle.dt_laws.proofs.Leads.{at}
 
 -- a blob with no reservations, in which a token is wrong
 pub stopped : (bytes behind : List ℕ) (fault : BlobFault) (offset : ℕ) → header_fault bytes ≡ None → drop (number bytes 16) (counted bytes) ≡ reservation_block [] ++ behind → fault ≢ over_limit → StopsAt (strings_of bytes) (structure_of bytes) offset fault → IsFirstFault bytes fault (Some (number bytes 8 + offset))

@@ -1,14 +1,12 @@
 -- Blobs with a tree that no blob may hold.
-use Rattle.std.proofs.Common.{◌≡◌, ℕ, ◌+◌, ◌≤◌, true, false, List, [], ◌∷◌, ◌++◌, drop, codes, Some, None, refl, arith}
-use Rattle.std.specs.Prelude.{IsTrue}
-use Rattle.dt_model.specs.Names.{IsPropertyName, is_property_name}
+use Rattle.std.proofs.Common.{ℕ, ◌≤◌, true, List, [], ◌∷◌, ◌++◌, codes, None, refl, arith}
 use Rattle.dt_model.specs.Tree.{Property, no_nodes}
-use Rattle.dt_model.specs.Valid.{AreProperties}
-use Rattle.dt_model.specs.Format.{Token, begin_node, end_node, prop, end_tree, word, IsText, Spells}
+use Rattle.dt_model.specs.Format.{begin_node, end_node, prop, word, IsText, Spells}
 use Rattle.dt_model.specs.Samples.{words, blob_of}
 use Rattle.dt_model.specs.Checks.{duplicate, bad_phandle, IsSpelled, AreApart, AreNumbered, IsFirstFault, in_names, in_phandles}
 use Rattle.dt_laws.proofs.NameTests.{property_tests}
-use Rattle.dt_laws.proofs.DamagedTokens.{at, root_spelled}
+use Rattle.dt_laws.proofs.Leads.{at}
+use Rattle.dt_laws.proofs.DamagedTokens.{root_spelled}
 use Rattle.dt_laws.proofs.DamagedNesting.{a_strings, a_flag, a_flag_spelled}
 
 -- ---- two properties of one name

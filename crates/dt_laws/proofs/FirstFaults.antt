@@ -1,11 +1,10 @@
 -- Bytes have one first fault at most.
-use Rattle.std.proofs.Common.{◌≡◌, ◌≢◌, ℕ, ◌+◌, true, List, [], ◌∷◌, ◌++◌, length, Option, Some, None, nat_eq, not, ◌&&◌, if◌then◌else◌, refl, sym, ap, subst, ◌∙◌, append_assoc, arith}
+use Rattle.std.proofs.Common.{◌≡◌, ℕ, ◌+◌, true, List, [], ◌∷◌, ◌++◌, length, Option, Some, None, nat_eq, not, ◌&&◌, if◌then◌else◌, refl, sym, ap, subst, ◌∙◌, append_assoc, arith}
 use Rattle.std.proofs.lemmas.List.{length-append}
-use Rattle.std.specs.Prelude.{Bool}
 use Rattle.dt_model.specs.Tree.{Property, Forest}
 use Rattle.dt_model.specs.Format.{Token, end_tree, word, SpellsAll, SpellsTree}
 use Rattle.dt_model.specs.Lexing.{token_in}
-use Rattle.dt_model.specs.Checks.{BlobFault, over_limit, no_reservation_end, duplicate, bad_phandle, bad_nesting, bad_end, number, strings_of, structure_of, HasReservations, Position, front, lead, end_fault, token_fault, StopsAt, IsSpelled, AreApart, AreNumbered, header_fault, IsFirstFault, in_header, in_reservations, at_a_limit, at_a_token, in_names, in_phandles}
+use Rattle.dt_model.specs.Checks.{BlobFault, over_limit, bad_nesting, number, strings_of, structure_of, Position, front, lead, token_fault, StopsAt, IsSpelled, AreApart, header_fault, IsFirstFault, in_header, in_reservations, at_a_limit, at_a_token, in_names, in_phandles}
 use Rattle.dt_model.proofs.Lexed.{token_again}
 use Rattle.dt_model.proofs.Parsed.{one_tree}
 use Rattle.dt_laws.proofs.Fronts.{no_fault}
@@ -20,6 +19,7 @@ goes_to_stop strings block offset fault s = record { before = s.before; whole = 
 stuck : (strings : List ℕ) (p : Position) (rest : List ℕ) (fault : BlobFault) → token_fault strings p rest ≡ Some fault → GoesOn strings p rest → ⊥
 stuck strings p rest fault e g = let fine = no_fault strings p g.next rest g.token g.size g.found g.led in cc
 
+-- a block has one first token that is wrong
 pub one_stop : (strings block : List ℕ) (k l : ℕ) (f g : BlobFault) → StopsAt strings block k f → StopsAt strings block l g → (f ≡ g) × (k ≡ l)
 one_stop strings block k l f g a b =
     by_meeting (meeting strings front a.tokens b.tokens block a.position a.rest b.position b.rest (goes_to_stop strings block k f a) (goes_to_stop strings block l g b))
@@ -62,6 +62,7 @@ end_last strings p g =
     let led : lead end_tree p ≡ Some g.next = ap (λ (x : Token × ℕ). lead x.0 p) pair ∙ g.led in
     absurd cc
 
+-- and none where it spells a tree
 pub no_stop : (strings block : List ℕ) (offset : ℕ) (fault : BlobFault) (properties : List Property) (children : Forest) → StopsAt strings block offset fault → IsSpelled strings block properties children → ⊥
 no_stop strings block offset fault properties children a b =
     by_meeting (meeting strings front a.tokens b.tokens block a.position a.rest b.end (word 9) (goes_to_stop strings block offset fault a) (goes_to_end strings block properties children b))
@@ -93,6 +94,7 @@ not_apart strings block ps qs cs ds a differ b apart =
 same_header_fault : (bytes : List ℕ) (f g : BlobFault) → header_fault bytes ≡ Some f → header_fault bytes ≡ Some g → f ≡ g
 same_header_fault bytes f g a b = cc
 
+-- a header with a fault doesn't pass
 passed : (bytes : List ℕ) (f : BlobFault) → header_fault bytes ≡ Some f → header_fault bytes ≡ None → ⊥
 passed bytes f a b = cc
 

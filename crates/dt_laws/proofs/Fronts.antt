@@ -1,19 +1,20 @@
 -- A token that stands at the front of some bytes, and may stand there, has no fault.
-use Rattle.std.proofs.Common.{◌≡◌, ℕ, ◌+◌, Bool, true, false, not, ◌&&◌, ◌||◌, List, [], ◌∷◌, ◌++◌, length, take, drop, Option, Some, None, nat_eq, if◌then◌else◌, refl, sym, ap, subst, ◌∙◌}
+use Rattle.std.proofs.Common.{◌≡◌, ℕ, ◌+◌, Bool, true, false, not, ◌&&◌, ◌||◌, List, length, take, drop, Option, Some, None, nat_eq, if◌then◌else◌, refl, ap, ◌∙◌}
 use Rattle.dt_model.specs.Names.{Name, is_property_name}
-use Rattle.dt_model.specs.Tree.{Property}
 use Rattle.dt_model.specs.Format.{Token, begin_node, end_node, prop, nop, end_tree, word_at}
 use Rattle.dt_model.specs.Lexing.{◌>>=◌, padded, text_in, padded_token, begin_in, property_in, token_in}
-use Rattle.dt_model.specs.Checks.{BlobFault, structure_cut, bad_nesting, bad_name, over_limit, late_property, bad_tag, Position, may_be_called, has_room, is_behind, lead, fits, begin_fault, name_fault, property_fault, end_fault, tag_fault, token_fault}
+use Rattle.dt_model.specs.Checks.{structure_cut, bad_nesting, bad_name, over_limit, late_property, bad_tag, Position, may_be_called, has_room, is_behind, lead, fits, begin_fault, name_fault, property_fault, end_fault, tag_fault, token_fault}
 
--- a token that is given, with its size
+-- a token with the number of bytes that it takes
 abbrev sized : Token → ℕ → Option (Token × ℕ)
 sized token n = Some (token, n)
 
+-- a token that is given is that of the branch that gives one
 given_token : (b : Bool) (own token : Token) (m n : ℕ) → (if b then sized own m else None) ≡ Some (token, n) → (b ≡ true) × (own ≡ token)
 given_token true own token m n e = let pair : ◌≡◌ {A = Token × ℕ} (own, m) (token, n) = cc in (refl, ap (λ (x : Token × ℕ). x.0) pair)
 given_token false own token m n e = absurd cc
 
+-- BEGIN_NODE: where its tests let it lead on, none of them is a fault
 begin_clear : (behind called room : Bool) (x q : Position) → (if behind || not (called && room) then None else Some x) ≡ Some q → (if behind then Some bad_nesting else if not called then Some bad_name else if not room then Some over_limit else None) ≡ None
 begin_clear true called room x q e = absurd cc
 begin_clear false true true x q e = refl
@@ -28,6 +29,7 @@ begin_fine p q rest (Some name) token n e l =
     ap (λ (b : Bool). if not b then Some structure_cut else if is_behind p then Some bad_nesting else if not (may_be_called p name) then Some bad_name else if not (has_room p) then Some over_limit else None) given.0
     ∙ begin_clear (is_behind p) (may_be_called p name) (has_room p) _ q led
 
+-- PROP: the same
 property_clear : (root late called : Bool) (p q : Position) → (if root || late || not called then None else Some p) ≡ Some q → (if root then Some bad_nesting else if late then Some late_property else if called then None else Some bad_name) ≡ None
 property_clear true late called p q e = absurd cc
 property_clear false true called p q e = absurd cc
@@ -50,14 +52,15 @@ property_fine strings p q rest (Some size) (Some offset) token n e l = by_name (
         ap (λ (b : Bool). if not b then Some structure_cut else if nat_eq p.depth 0 then Some bad_nesting else if p.late then Some late_property else name_fault (Some name)) given.0
         ∙ property_clear (nat_eq p.depth 0) p.late (is_property_name name) p q led
 
+-- END_NODE: the same
 end_node_clear : (root : Bool) (x q : Position) → (if root then None else Some x) ≡ Some q → (if root then Some bad_nesting else None) ≡ None
 end_node_clear true x q e = absurd cc
 end_node_clear false x q e = refl
 
--- the token that some bytes begin with
 same_token : (own token : Token) (m n : ℕ) → sized own m ≡ Some (token, n) → own ≡ token
 same_token own token m n e = (given_token true own token m n e).1
 
+-- by cases of the tag, and for each of them of its tests
 pub no_fault : (strings : List ℕ) (p q : Position) (rest : List ℕ) (token : Token) (n : ℕ) → token_in strings rest ≡ Some (token, n) → lead token p ≡ Some q → token_fault strings p rest ≡ None
 unfolding token_in begin_in property_in
 no_fault strings p q rest token n e l = by_tag (word_at rest 0) e

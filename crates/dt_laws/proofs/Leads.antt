@@ -1,5 +1,5 @@
 -- The tokens of a tree within the limits lead from the front to the end of the root.
-use Rattle.std.proofs.Common.{◌≡◌, ℕ, ◌+◌, ◌-◌, ◌<◌, ◌≤◌, Bool, true, false, not, ◌&&◌, ◌||◌, List, [], ◌∷◌, ◌++◌, length, map, Option, Some, None, nat_eq, if◌then◌else◌, refl, sym, ap, ◌∙◌, append_assoc, arith}
+use Rattle.std.proofs.Common.{◌≡◌, ℕ, ◌+◌, ◌-◌, ◌<◌, ◌≤◌, Bool, true, false, not, ◌&&◌, ◌||◌, List, [], ◌∷◌, ◌++◌, length, map, Option, Some, None, nat_eq, if◌then◌else◌, refl, ap, ◌∙◌, append_assoc, arith}
 use Rattle.std.specs.Prelude.{option_and_then}
 use Rattle.std.specs.List.{AllByRecursion}
 use Rattle.std.proofs.lemmas.Bool.{lt-ltb, le-leb, ne_eqb}
@@ -23,12 +23,14 @@ lead_without_nops (end_node ∷ tokens) p = and_then_same (lead_all tokens) (lea
 lead_without_nops (prop x ∷ tokens) p = and_then_same (lead_all tokens) (lead_all (without_nops tokens)) (lead_without_nops tokens) (lead (prop x) p)
 lead_without_nops (end_tree ∷ tokens) p = and_then_same (lead_all tokens) (lead_all (without_nops tokens)) (lead_without_nops tokens) (lead end_tree p)
 
-abbrev at : ℕ → Bool → ℕ → Position
+-- a position by its parts
+abbrev pub at : ℕ → Bool → ℕ → Position
 at depth late nodes = record { depth = depth; late = late; nodes = nodes }
 
 lead_step : (token : Token) (tokens : List Token) (p q : Position) → lead token p ≡ Some q → lead_all (token ∷ tokens) p ≡ lead_all tokens q
 lead_step token tokens p q e = ap (option_and_then (lead_all tokens)) e
 
+-- properties lead from a place in a node, before its children, to the same place
 lead_properties : (ps : List Property) (rest : List Token) (depth nodes : ℕ) → 0 < depth → AllByRecursion (λ (x : Property). IsPropertyName x.name) ps → lead_all (map prop ps ++ rest) (at depth false nodes) ≡ lead_all rest (at depth false nodes)
 lead_properties [] rest depth nodes inner h = refl
 lead_properties (x ∷ ps) rest depth nodes inner h =
@@ -71,10 +73,10 @@ lead_forest (branch name properties children siblings) rest depth late nodes inn
     let count : ((nodes + 1) + node_count children) + node_count siblings ≡ nodes + node_count (branch name properties children siblings) = omega arith in
     (beside.0, begun ∙ same ∙ has ∙ below.1 ∙ ended ∙ beside.1 ∙ ap (λ (n : ℕ). lead_all rest (at depth beside.0 n)) count)
 
+-- a tree leads to where the root has ended
 pub lead_tree : (properties : List Property) (children : Forest) → AllByRecursion (λ (x : Property). IsPropertyName x.name) properties → AreNodes children → IsNoDeeper 64 1 children → 1 + node_count children ≤ 65536
     → lead_all (tokens_of properties children) front ≡ Some (at 0 true (1 + node_count children))
 lead_tree properties children named nodes deep few =
-    let regroup : (map prop properties ++ (tokens_of_forest children ++ end_node ∷ [])) ≡ map prop properties ++ (tokens_of_forest children ++ end_node ∷ []) = refl in
     let has = lead_properties properties (tokens_of_forest children ++ end_node ∷ []) 1 1 (omega arith) named in
     let below = lead_forest children (end_node ∷ []) 1 false 1 (omega arith) nodes deep few in
     has ∙ below.1 ∙ lead_step end_node [] (at 1 below.0 (1 + node_count children)) (at 0 true (1 + node_count children)) (lead_end 0 below.0 (1 + node_count children))

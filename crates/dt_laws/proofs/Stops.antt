@@ -1,13 +1,11 @@
 -- Tokens of one block lead on where no token is wrong, so a block has one first token that is wrong at most.
-use Rattle.std.proofs.Common.{◌≡◌, ℕ, ◌+◌, List, [], ◌∷◌, ◌++◌, length, drop, Option, Some, None, refl, sym, ap, subst, ◌∙◌, append_assoc, arith}
+use Rattle.std.proofs.Common.{◌≡◌, ℕ, List, [], ◌∷◌, ◌++◌, length, drop, Option, Some, None, refl, sym, ap, subst, ◌∙◌, append_assoc}
 use Rattle.std.specs.Prelude.{option_and_then}
-use Rattle.std.proofs.lemmas.List.{drop_at, length-append}
-use Rattle.dt_model.specs.Tree.{Property, Forest}
-use Rattle.dt_model.specs.Format.{Token, end_tree, word, Spells, SpellsAll}
+use Rattle.std.proofs.lemmas.List.{drop_at}
+use Rattle.dt_model.specs.Format.{Token, SpellsAll}
 use Rattle.dt_model.specs.Lexing.{token_in}
-use Rattle.dt_model.specs.Checks.{BlobFault, Position, front, lead, lead_all, token_fault, StopsAt, IsSpelled}
+use Rattle.dt_model.specs.Checks.{Position, lead, lead_all}
 use Rattle.dt_model.proofs.Lexed.{token_again}
-use Rattle.dt_laws.proofs.Fronts.{no_fault}
 
 -- from one position at the front of a block, these tokens lead to another at the front of the rest
 pub record Goes (strings : List ℕ) (p : Position) (tokens : List Token) (block : List ℕ) (end : Position) (rest : List ℕ) : Type 0 where
@@ -79,6 +77,7 @@ goes_from strings p token tokens block end rest q start g same whole =
 same_pair : (t u : Token) (m n : ℕ) → ◌≡◌ {A = Token × ℕ} (t, m) (u, n) → (t ≡ u) × (m ≡ n)
 same_pair t u m n e = (ap (λ (x : Token × ℕ). x.0) e, ap (λ (x : Token × ℕ). x.1) e)
 
+-- both lists are the front of one list, since the token at the front of some bytes is one
 pub meeting : (strings : List ℕ) (p : Position) (xs ys : List Token) (block : List ℕ) (a : Position) (r : List ℕ) (b : Position) (s : List ℕ) → Goes strings p xs block a r → Goes strings p ys block b s → Meet strings a r b s
 meeting strings p [] [] block a r b s g h =
     let one = stays strings p block a r g in

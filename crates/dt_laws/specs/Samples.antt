@@ -1,8 +1,8 @@
 -- Blobs with one damage each.
-use Rattle.std.specs.Prelude.{◌≡◌, ℕ, ◌+◌, List, [], ◌∷◌, ◌++◌, length, take, drop, Option, Some, None, codes}
+use Rattle.std.specs.Prelude.{ℕ, ◌+◌, List, [], ◌∷◌, ◌++◌, take, drop, Some, None, codes}
 use Rattle.dt_model.specs.Format.{word}
 use Rattle.dt_model.specs.Samples.{words, blob_of, blob_with_late_property}
-use Rattle.dt_model.specs.Checks.{BlobFault, short_header, bad_magic, bad_total, bad_version, misaligned, block_outside, no_reservation_end, bad_tag, structure_cut, bad_name, bad_name_offset, bad_nesting, late_property, bad_end, duplicate, bad_phandle, IsFirstFault}
+use Rattle.dt_model.specs.Checks.{short_header, bad_magic, bad_total, bad_version, misaligned, block_outside, no_reservation_end, bad_tag, structure_cut, bad_name, bad_name_offset, bad_nesting, late_property, bad_end, duplicate, bad_phandle, IsFirstFault}
 
 -- the blob of / { a = <1>; };
 abbrev pub one_cell_blob : List ℕ
