@@ -10,3 +10,10 @@ pub mod Samples
 pub mod Represents
 pub mod Event
 pub mod Source
+pub mod Lists
+pub mod Overlay
+pub mod Merged
+pub mod Object
+pub mod Numbers
+pub mod Changes
+pub mod Applied

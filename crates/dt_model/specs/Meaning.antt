@@ -1,10 +1,11 @@
 -- What a devicetree means: its nodes and their values, with references in place of numbers, and no order.
-use Rattle.std.specs.Prelude.{◌≡◌, ℕ, ◌≤◌, Bool, true, List, [], ◌∷◌, Option, Some, None, option_map, if◌then◌else◌, codes}
-use Rattle.std.specs.List.{flat_map}
+use Rattle.std.specs.Prelude.{◌≡◌, ℕ, ◌<◌, ◌≤◌, Bool, true, false, List, [], ◌∷◌, ◌++◌, Option, Some, None, IsSome, option_map, if◌then◌else◌, codes}
+use Rattle.std.specs.List.{flat_map, AllByRecursion}
 use Rattle.std.specs.Int.{w32, to_be_bytes}
 use Rattle.std.specs.Str.{bytes_eq}
-use Rattle.dt_model.specs.Names.{Name}
-use Rattle.dt_model.specs.Path.{Path}
+use Rattle.dt_model.specs.Names.{Name, IsNodeName, IsPropertyName, IsLabel}
+use Rattle.dt_model.specs.Path.{Path, is_bookkeeping}
+use Rattle.dt_model.specs.Valid.{IsReservation}
 
 -- a 32-bit number as one cell: four bytes, the highest first (Devicetree Specification v0.4, 2.2.4)
 abbrev pub cell : ℕ → List ℕ
@@ -24,6 +25,23 @@ item_bytes number (reference r) = cell (number r)
 abbrev pub value_bytes : {R : Type 0} → (R → ℕ) → List (Item R) → List ℕ
 value_bytes number items = flat_map (item_bytes number) items
 
+-- P holds of each reference of a value
+abbrev pub EachReference : {R : Type 0} → (R → Type 0) → List (Item R) → Type 0
+EachReference P [] = Unit {0}
+EachReference P (byte b ∷ items) = EachReference P items
+EachReference P (reference r ∷ items) = P r × EachReference P items
+
+-- the bytes of a value are below 256
+abbrev pub AreBytes : {R : Type 0} → List (Item R) → Type 0
+AreBytes [] = Unit {0}
+AreBytes (byte b ∷ items) = (b < 256) × AreBytes items
+AreBytes (reference r ∷ items) = AreBytes items
+
+-- the item with its reference replaced
+abbrev pub item_renamed : {R S : Type 0} → (R → S) → Item R → Item S
+item_renamed f (byte b) = byte b
+item_renamed f (reference r) = reference (f r)
+
 -- A tree by its nodes and values. A keyed node is one that a label names, that a reference names, or that has a
 -- written number; each keyed node gets a number of its own, a phandle, when the tree is put into a blob.
 pub record Meaning : Type 0 where
@@ -39,12 +57,39 @@ pub record Meaning : Type 0 where
   pub label : Name → Option Path
   pub keyed : Path → Bool
 
+-- What is true of each meaning. A base's has no bookkeeping nodes (`IsPlain`), a raw source's may have them.
+pub record IsMeaning (m : Meaning) : Type 0 where
+  pub reservations : AllByRecursion IsReservation m.reservations
+  -- the nodes are a tree with a root, and have names
+  pub rooted : m.stands [] ≡ true
+  pub parents : (p : Path) (name : Name) → m.stands (p ++ name ∷ []) ≡ true → m.stands p ≡ true
+  pub named : (p : Path) → m.stands p ≡ true → AllByRecursion IsNodeName p
+  -- a property is a node's, has a name other than `phandle`, and its bytes are bytes
+  pub values_stand : (p : Path) (name : Name) → IsSome (m.value p name) → m.stands p ≡ true
+  pub values_named : (p : Path) (name : Name) → IsSome (m.value p name) → IsPropertyName name × (bytes_eq name (codes "phandle") ≡ false)
+  pub bytes : (p : Path) (name : Name) (items : List (Item Path)) → m.value p name ≡ Some items → AreBytes items
+  -- the keyed nodes are nodes, and what a label, a reference or a written number stands for is one of them
+  pub keyed_stand : (p : Path) → m.keyed p ≡ true → m.stands p ≡ true
+  pub labelled : (l : Name) (p : Path) → m.label l ≡ Some p → IsLabel l × (m.keyed p ≡ true)
+  pub referred : (p : Path) (name : Name) (items : List (Item Path)) → m.value p name ≡ Some items → EachReference (λ q. m.keyed q ≡ true) items
+  pub numbered : (p : Path) (n : ℕ) → m.number p ≡ Some n → (m.keyed p ≡ true) × (1 ≤ n) × (n ≤ 0xfffffffe)
+  -- no number is written twice
+  pub own : (p q : Path) (n : ℕ) → m.number p ≡ Some n → m.number q ≡ Some n → p ≡ q
+
+-- no node of the meaning is a bookkeeping node or below one
+pub record IsPlain (m : Meaning) : Type 0 where
+  pub plain : (p : Path) → m.stands p ≡ true → is_bookkeeping p ≡ false
+
 -- a number of its own, from 1 to 0xfffffffe, for each keyed node, the written one where there is one (2.3.3)
 pub record IsNaming (m : Meaning) (number : Path → ℕ) : Type 0 where
   pub low : (p : Path) → m.keyed p ≡ true → 1 ≤ number p
   pub high : (p : Path) → m.keyed p ≡ true → number p ≤ 0xfffffffe
   pub own : (p q : Path) → m.keyed p ≡ true → m.keyed q ≡ true → number p ≡ number q → p ≡ q
   pub written : (p : Path) (n : ℕ) → m.number p ≡ Some n → number p ≡ n
+
+-- the numbers of a meaning's keyed nodes, kept
+pub record Extends (m : Meaning) (number number' : Path → ℕ) : Type 0 where
+  pub kept : (p : Path) → m.keyed p ≡ true → number' p ≡ number p
 
 -- The value of a node's property in the instance of a meaning under a naming: each reference is its node's number as
 -- a cell, and exactly the keyed nodes have a property `phandle`, with their number.

@@ -1,5 +1,5 @@
 -- Paths of nodes, and their texts (Devicetree Specification v0.4, 2.2.3).
-use Rattle.std.specs.Prelude.{ℕ, Bool, true, false, ◌&&◌, ◌||◌, codes, List, [], ◌∷◌, ◌++◌}
+use Rattle.std.specs.Prelude.{ℕ, Bool, true, false, ◌&&◌, ◌||◌, codes, List, [], ◌∷◌, ◌++◌, Option, Some, None, if◌then◌else◌}
 use Rattle.std.specs.Str.{bytes_eq}
 use Rattle.dt_model.specs.Names.{Name}
 
@@ -13,6 +13,12 @@ path_eq [] [] = true
 path_eq [] (y ∷ q) = false
 path_eq (x ∷ p) [] = false
 path_eq (x ∷ p) (y ∷ q) = bytes_eq x y && path_eq p q
+
+-- the rest of the second path below the first, none where it neither is the first nor lies below it
+abbrev pub below : Path → Path → Option Path
+below [] q = Some q
+below (x ∷ p) [] = None
+below (x ∷ p) (y ∷ q) = if bytes_eq x y then below p q else None
 
 -- the text of a path: `/`, or one `/name` for each node below the root
 abbrev pub path_text : Path → List ℕ

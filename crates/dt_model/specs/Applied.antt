@@ -1,0 +1,208 @@
+-- Applying an object to a tree: in bytes and numbers alone, whatever the two mean (dtc's notes on overlay objects).
+use Rattle.std.specs.Prelude.{◌≡◌, ℕ, ◌+◌, Bool, true, false, ◌&&◌, ◌||◌, not, List, [], ◌∷◌, ◌++◌, take, drop, map, Option, Some, None, is_some, is_none, option_map, option_and_then, unwrap_or, if◌then◌else◌, nat_eq, codes}
+use Rattle.std.specs.List.{list_all, list_any}
+use Rattle.std.specs.Option.{option_or}
+use Rattle.std.specs.Int.{w32, from_be_bytes}
+use Rattle.std.specs.Str.{bytes_eq}
+use Rattle.dt_model.specs.Names.{Name}
+use Rattle.dt_model.specs.Path.{Path, path_eq, path_value, is_bookkeeping}
+use Rattle.dt_model.specs.Meaning.{cell}
+use Rattle.dt_model.specs.Overlay.{content}
+use Rattle.dt_model.specs.Merged.{Site, landing}
+use Rattle.dt_model.specs.Object.{Cell, local_cells, fragment_names, properties_of}
+use Rattle.dt_model.specs.Numbers.{number_in}
+use Rattle.dt_model.specs.Tree.{Property, Forest, no_nodes, branch, Reading, Node, Placed, value_of, node_at, value_in, stands_in, nodes_of}
+use Rattle.dt_model.specs.Changes.{set_properties, merged_node, changed_at}
+
+-- ---- cells and their numbers
+
+-- the bytes with the cell at an offset replaced
+abbrev pub with_cell : List ℕ → ℕ → ℕ → List ℕ
+with_cell bytes offset n = take offset bytes ++ (cell n ++ drop (offset + 4) bytes)
+
+-- the number in a cell
+abbrev pub number_at : List ℕ → ℕ → ℕ
+number_at bytes offset = from_be_bytes w32 (take 4 (drop offset bytes))
+
+-- whether the value is the number's cell
+abbrev pub is_cell : ℕ → Option (List ℕ) → Bool
+is_cell n None = false
+is_cell n (Some value) = bytes_eq value (cell n)
+
+-- the first of the nodes that has the number as its phandle
+abbrev pub node_numbered : List Placed → ℕ → Option Path
+node_numbered [] n = None
+node_numbered (x ∷ nodes) n = if is_cell n (value_of x.properties (codes "phandle")) then Some x.path else node_numbered nodes n
+
+-- the first of the nodes whose path's text, with its NUL, is the value
+abbrev pub node_named : List Placed → List ℕ → Option Path
+node_named [] value = None
+node_named (x ∷ nodes) value = if bytes_eq (path_value x.path) value then Some x.path else node_named nodes value
+
+-- the node that a tree's `__symbols__` has for a label
+abbrev pub symbol : Reading → Name → Option Path
+symbol t l = option_and_then (node_named (nodes_of t)) (value_in t (codes "__symbols__" ∷ []) l)
+
+-- ---- what is written into an object's cells
+
+-- a cell of a property, and the number that is written there
+pub record Write : Type 0 where
+  pub cell : Cell
+  pub number : ℕ
+
+-- a cell that holds the number of a node of the object gets the node's new number, if it has one
+abbrev pub local_write : Reading → List (Path × ℕ) → Cell → Write
+local_write object numbers c =
+    let n : ℕ = number_at (unwrap_or (value_in object c.path c.property) []) c.offset in
+    record { cell = c; number = unwrap_or (option_and_then (number_in numbers) (node_numbered (nodes_of object) n)) n }
+
+-- a cell that waits for a label gets the number of the node that the base has for it
+abbrev pub label_write : Reading → Name × Cell → Write
+label_write base (l, c) =
+    record { cell = c; number = number_at (unwrap_or (value_in base (unwrap_or (symbol base l) []) (codes "phandle")) []) 0 }
+
+-- the writes, the object's own numbers first
+abbrev pub writes : Reading → Reading → List (Name × Cell) → List (Path × ℕ) → List Write
+writes base object fixups numbers = map (local_write object numbers) (local_cells object) ++ map (label_write base) fixups
+
+-- whether the write is one of the property
+abbrev pub is_at : Path → Name → Write → Bool
+is_at p name w = path_eq w.cell.path p && bytes_eq w.cell.property name
+
+-- the value of a property after the writes, in their order
+abbrev pub written : Path → Name → List Write → List ℕ → List ℕ
+written p name [] value = value
+written p name (w ∷ ws) value = written p name ws (if is_at p name w then with_cell value w.cell.offset w.number else value)
+
+-- a property with its cells written; a `phandle` is its node's new number
+abbrev pub written_property : List Write → List (Path × ℕ) → Path → Property → Property
+written_property ws numbers path p = record {
+  name = p.name;
+  value = if bytes_eq p.name (codes "phandle") then cell (unwrap_or (number_in numbers path) 0) else written path p.name ws p.value;
+}
+
+abbrev pub written_forest : List Write → List (Path × ℕ) → Path → Forest → Forest
+written_forest ws numbers path no_nodes = no_nodes
+written_forest ws numbers path (branch name properties children siblings) =
+    branch name (map (written_property ws numbers (path ++ name ∷ [])) properties) (written_forest ws numbers (path ++ name ∷ []) children)
+    (written_forest ws numbers path siblings)
+
+abbrev pub written_node : List Write → List (Path × ℕ) → Path → Node → Node
+written_node ws numbers path n =
+    record { properties = map (written_property ws numbers path) n.properties; children = written_forest ws numbers path n.children }
+
+-- ---- the sites of the fragments
+
+-- where the node that gets a number lands, if one of these fragments brings it
+abbrev pub landed_with : List (Path × ℕ) → List Site → ℕ → Option Path
+landed_with [] earlier n = None
+landed_with ((p, k) ∷ numbers) earlier n = if nat_eq n k then landing earlier p else landed_with numbers earlier n
+
+abbrev pub if_named : List ℕ → Option Path → Option Path
+if_named value None = None
+if_named value (Some q) = if bytes_eq (path_value q) value then Some q else None
+
+-- where a node lands on the path of which this is the text, if one does
+abbrev pub landed_named : List Placed → List Site → List ℕ → Option Path
+landed_named [] earlier value = None
+landed_named (x ∷ nodes) earlier value = option_or (if_named value (landing earlier x.path)) (landed_named nodes earlier value)
+
+-- the node of the tree so far, which is the base with what the fragments before bring, that has the number in `target`, or
+-- else whose path's text is `target-path`
+abbrev pub target_node : Reading → Reading → List Write → List (Path × ℕ) → List Site → Name → Option (List ℕ) → Option Path
+target_node base object ws numbers earlier f (Some value) =
+    let n : ℕ = number_at (written (f ∷ []) (codes "target") ws value) 0 in
+    option_or (node_numbered (nodes_of base) n) (landed_with numbers earlier n)
+target_node base object ws numbers earlier f None =
+    option_and_then (λ text. option_or (node_named (nodes_of base) text) (landed_named (nodes_of object) earlier text))
+    (value_in object (f ∷ []) (codes "target-path"))
+
+-- a fragment's site, if there is one and it is no bookkeeping node
+abbrev pub site_at : Name → Path → Option Site
+site_at f q = if is_bookkeeping q then None else Some (record { fragment = f; at = q })
+
+abbrev pub find_site : Reading → Reading → List Write → List (Path × ℕ) → List Site → Name → Option Site
+find_site base object ws numbers earlier f =
+    option_and_then (site_at f) (target_node base object ws numbers earlier f (value_in object (f ∷ []) (codes "target")))
+
+-- the sites of the fragments, one after the other
+abbrev pub find_sites : Reading → Reading → List Write → List (Path × ℕ) → List Site → List Name → Option (List Site)
+find_sites base object ws numbers earlier [] = Some []
+find_sites base object ws numbers earlier (f ∷ fragments) =
+    option_and_then (λ x. option_map (λ sites. x ∷ sites) (find_sites base object ws numbers (earlier ++ x ∷ []) fragments))
+    (find_site base object ws numbers earlier f)
+
+-- ---- whether the object may be applied
+
+abbrev pub is_plain : Option Path → Bool
+is_plain None = true
+is_plain (Some q) = not (is_bookkeeping q)
+
+-- the base has no phandle there
+abbrev pub is_bare : Reading → Option Path → Bool
+is_bare base None = true
+is_bare base (Some q) = is_none (value_in base q (codes "phandle"))
+
+abbrev pub is_apart : Option Path → Option Path → Bool
+is_apart None r = true
+is_apart (Some q) None = true
+is_apart (Some q) (Some r) = not (path_eq q r)
+
+-- no two nodes with a number land on one path
+abbrev pub are_single : List Site → List (Path × ℕ) → Bool
+are_single sites [] = true
+are_single sites (x ∷ numbers) = list_all (λ y. is_apart (landing sites x.0) (landing sites y.0)) numbers && are_single sites numbers
+
+-- the base has the labels, nothing lands among its bookkeeping nodes, and no node gets a second phandle
+abbrev pub is_allowed : Reading → Reading → List (Name × Cell) → List (Path × ℕ) → List Site → Bool
+is_allowed base object fixups numbers sites =
+    list_all (λ x. is_some (symbol base x.0)) fixups
+    && list_all (λ (n : Placed). is_plain (landing sites n.path)) (nodes_of object)
+    && list_all (λ x. is_bare base (landing sites x.0)) numbers
+    && are_single sites numbers
+
+-- ---- the result
+
+-- what a fragment brings, with its cells written
+abbrev pub brought : List Write → List (Path × ℕ) → Name → Option Node → Node
+brought ws numbers f None = record { properties = []; children = no_nodes }
+brought ws numbers f (Some n) = written_node ws numbers (content f) n
+
+-- what the fragments bring, merged into their sites in order
+abbrev pub with_fragments : Reading → Reading → List Write → List (Path × ℕ) → List Site → Reading
+with_fragments t object ws numbers [] = t
+with_fragments t object ws numbers (x ∷ sites) =
+    with_fragments (changed_at (λ n. merged_node n (brought ws numbers x.fragment (node_at object (content x.fragment)))) x.at t) object ws numbers sites
+
+-- the labels of the object's nodes that land, with the texts of the paths on which they land
+abbrev pub landed_symbol : Name → Option Path → List Property → List Property
+landed_symbol l None properties = properties
+landed_symbol l (Some q) properties = record { name = l; value = path_value q } ∷ properties
+
+abbrev pub landed_symbols : Reading → List Site → List Property → List Property
+landed_symbols object sites [] = []
+landed_symbols object sites (p ∷ ps) =
+    landed_symbol p.name (option_and_then (landing sites) (node_named (nodes_of object) p.value)) (landed_symbols object sites ps)
+
+-- properties set in `__symbols__`, which is added where there is any
+abbrev pub with_symbols : List Property → Reading → Reading
+with_symbols [] t = t
+with_symbols (p ∷ ps) t =
+    changed_at (λ n. merged_node n (record { properties = []; children = branch (codes "__symbols__") (p ∷ ps) no_nodes no_nodes })) [] t
+
+-- The base with the object applied, which lists these cells that wait for labels and whose nodes get these numbers, its
+-- fragments at these sites.
+abbrev pub applied_at : Reading → Reading → List (Name × Cell) → List (Path × ℕ) → List Site → Reading
+applied_at base object fixups numbers sites =
+    with_symbols (landed_symbols object sites (properties_of (node_at object (codes "__symbols__" ∷ []))))
+    (with_fragments base object (writes base object fixups numbers) numbers sites)
+
+abbrev pub if_allowed : Reading → Reading → List (Name × Cell) → List (Path × ℕ) → List Site → Option Reading
+if_allowed base object fixups numbers sites =
+    if is_allowed base object fixups numbers sites then Some (applied_at base object fixups numbers sites) else None
+
+-- the base with the object applied, none where that is refused
+abbrev pub applied : Reading → Reading → List (Name × Cell) → List (Path × ℕ) → Option Reading
+applied base object fixups numbers =
+    option_and_then (if_allowed base object fixups numbers)
+    (find_sites base object (writes base object fixups numbers) numbers [] (fragment_names object.children))
