@@ -5,3 +5,5 @@ pub mod Texts
 pub mod CellTexts
 pub mod Listed
 pub mod Preorder
+pub mod Merging
+pub mod Changing
