@@ -65,8 +65,6 @@ module _ {A : Type 0} (read : Option Node → A) (change : Node → Node) where
           let k' : bytes_eq y x ≡ false = bytes_eq_sym y x ∙ k in
           rw (k, k') refl
 
-value_of_node : Name → Option Node → Option (List ℕ)
-value_of_node name x = option_and_then (λ (c : Node). value_of c.properties name) x
 
 -- the node below a node
 pub below_both : (p r : Path) (n at : Node) → node_below n p ≡ Some at → node_below n (p ++ r) ≡ node_below at r

@@ -7,3 +7,5 @@ pub mod Listed
 pub mod Preorder
 pub mod Merging
 pub mod Changing
+pub mod Brought
+pub mod Landing
