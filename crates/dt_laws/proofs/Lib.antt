@@ -9,3 +9,7 @@ pub mod Merging
 pub mod Changing
 pub mod Brought
 pub mod Landing
+pub mod Cells
+pub mod Inside
+pub mod Fresh
+pub mod Finding
