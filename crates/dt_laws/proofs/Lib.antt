@@ -13,3 +13,5 @@ pub mod Cells
 pub mod Inside
 pub mod Fresh
 pub mod Finding
+pub mod Given
+pub mod Numbered
