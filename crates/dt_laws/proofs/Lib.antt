@@ -15,3 +15,8 @@ pub mod Fresh
 pub mod Finding
 pub mod Given
 pub mod Numbered
+pub mod Writes
+pub mod Placed
+pub mod Facts
+pub mod Sites
+pub mod AllSites
