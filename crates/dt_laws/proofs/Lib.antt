@@ -20,3 +20,4 @@ pub mod Placed
 pub mod Facts
 pub mod Sites
 pub mod AllSites
+pub mod Allowed

@@ -86,3 +86,11 @@ module _ (o : Overlay) (overlay : IsOverlay o) (earlier : List Site) (e : AreEar
     | inl any ↦ let w = any_from o.stands (sources earlier q) any in lands_named w.0 q w.2 (landing_of earlier w.0 q earlier_distinct w.1)
     | inr k ↦ meaning.named q k
   ]
+
+-- what lands at all fragments' sites is brought by a fragment
+pub brought_at : (o : Overlay) (sites : List Site) (p q : Path) → site_names sites ≡ fragment_list o.fragments → landing sites p ≡ Some q → IsBrought o p
+brought_at o sites p q same l =
+    let w = landing_from sites p q l in
+    let i : IsIn w.0.fragment (fragment_list o.fragments) = subst (λ z. IsIn w.0.fragment z) same (in_map (λ (x : Site). x.fragment) sites w.0 w.2) in
+    let g = in_map_from (λ (f : Fragment). f.name) o.fragments w.0.fragment i in
+    (g.0, w.1, g.1, w.3 ∙ ap (λ name. content name ++ w.1) g.2)
