@@ -21,3 +21,5 @@ pub mod Facts
 pub mod Sites
 pub mod AllSites
 pub mod Allowed
+pub mod Naming
+pub mod Symbols
