@@ -23,3 +23,7 @@ pub mod AllSites
 pub mod Allowed
 pub mod Naming
 pub mod Symbols
+pub mod Turns
+pub mod Results
+pub mod Merge
+pub mod Exactly
