@@ -1,13 +1,13 @@
 -- The sites of all fragments are found exactly where there are any.
-use Rattle.std.proofs.Common.{◌≡◌, ℕ, Bool, true, false, ◌||◌, List, [], ◌∷◌, ◌++◌, map, codes, refl, sym, ap, ◌∙◌, inl, inr, subst, Option, Some, None, true≢false, append_assoc}
+use Rattle.std.proofs.Common.{◌≡◌, ℕ, Bool, true, false, List, [], ◌∷◌, ◌++◌, codes, refl, sym, ap, ◌∙◌, inl, inr, subst, Option, Some, None, append_assoc}
 use Rattle.std.specs.Prelude.{IsSome, option_map, option_and_then, if◌then◌else◌}
-use Rattle.std.specs.List.{list_any, AllByRecursion}
+use Rattle.std.specs.List.{AllByRecursion}
 use Rattle.dt_model.specs.Names.{Name, IsNodeName}
 use Rattle.dt_model.specs.Path.{Path, is_bookkeeping}
 use Rattle.dt_model.specs.Lists.{IsIn}
 use Rattle.dt_model.specs.Meaning.{Meaning}
 use Rattle.dt_model.specs.Overlay.{OverlayReference, at_reference, Fragment, Overlay}
-use Rattle.dt_model.specs.Merged.{Site, sources, Names, IsSite, AreSites, IsGiven}
+use Rattle.dt_model.specs.Merged.{Site, IsSite, AreSites, IsGiven}
 use Rattle.dt_model.specs.Object.{Cell, HasFixups}
 use Rattle.dt_model.specs.Numbers.{AreNewNumbers}
 use Rattle.dt_model.specs.Tree.{Reading, value_in}

@@ -1,6 +1,6 @@
 -- The tests of an application pass exactly where the overlay applies at the sites.
-use Rattle.std.proofs.Common.{◌≡◌, ◌≢◌, ◌↔◌, ℕ, Bool, true, false, not, ◌&&◌, List, [], ◌∷◌, codes, refl, sym, ap, ◌∙◌, inl, inr, subst, Option, Some, None, true≢false}
-use Rattle.std.specs.Prelude.{is_some, is_none, IsSome, if◌then◌else◌}
+use Rattle.std.proofs.Common.{◌≡◌, ℕ, Bool, true, false, not, ◌&&◌, List, [], ◌∷◌, codes, refl, sym, ap, ◌∙◌, inl, inr, subst, Option, Some, None, true≢false}
+use Rattle.std.specs.Prelude.{is_some, is_none, IsSome}
 use Rattle.std.specs.List.{list_all}
 use Rattle.dt_model.specs.Names.{Name}
 use Rattle.dt_model.specs.Path.{Path, path_eq, is_bookkeeping}
@@ -8,14 +8,14 @@ use Rattle.dt_model.specs.Lists.{IsIn}
 use Rattle.dt_model.specs.Meaning.{Item, reference, EachReference, Meaning}
 use Rattle.dt_model.specs.Overlay.{OverlayReference, inside, outside, at_reference, Fragment, Overlay, IsBrought, HoldsTarget}
 use Rattle.dt_model.specs.Merged.{Site, landing, AreSites, IsGiven, Applies}
-use Rattle.dt_model.specs.Object.{Cell, references_from, IsCellOf, HasFixups}
+use Rattle.dt_model.specs.Object.{Cell, references_from, HasFixups}
 use Rattle.dt_model.specs.Numbers.{AreNewNumbers, number_in}
-use Rattle.dt_model.specs.Tree.{Reading, Placed, nodes_of, stands_in, value_in}
+use Rattle.dt_model.specs.Tree.{Reading, Placed, nodes_of, value_in}
 use Rattle.dt_model.specs.Applied.{symbol, is_plain, is_bare, is_apart, are_single, is_allowed}
 use Rattle.dt_laws.specs.Applying.{AreOf}
 use Rattle.dt_laws.proofs.Tests.{and_left, and_right, and_both, not_true, all_at, all_from, path_eq_refl, path_eq_true}
 use Rattle.dt_laws.proofs.Listed.{stands_listed, listed_stands}
-use Rattle.dt_laws.proofs.Inside.{IsInside, IsFresh, each_from_references, each_at, plain_brought}
+use Rattle.dt_laws.proofs.Inside.{each_from_references, each_at, plain_brought}
 use Rattle.dt_laws.proofs.Given.{symbol_is, not_keyed, no_phandle}
 use Rattle.dt_laws.proofs.Fresh.{AreOwn, number_listed, listed_number}
 use Rattle.dt_laws.proofs.Facts.{exact, fresh, own}

@@ -1,11 +1,11 @@
 -- What look-ups find in a tree into one of whose nodes another is merged.
-use Rattle.std.proofs.Common.{◌≡◌, ℕ, Bool, true, false, ◌||◌, List, [], ◌∷◌, ◌++◌, refl, sym, ap, ◌∙◌, Option, Some, None, true≢false}
+use Rattle.std.proofs.Common.{◌≡◌, Bool, true, false, ◌||◌, [], ◌∷◌, ◌++◌, refl, sym, ap, ◌∙◌, Option, Some, None, true≢false}
 use Rattle.std.specs.Prelude.{is_some, option_map, option_and_then, if◌then◌else◌}
 use Rattle.std.specs.Option.{option_or}
 use Rattle.std.specs.Str.{bytes_eq}
 use Rattle.dt_model.specs.Names.{Name}
 use Rattle.dt_model.specs.Path.{Path, below}
-use Rattle.dt_model.specs.Tree.{Property, Forest, no_nodes, branch, Reading, value_of, Node, sibling, node_below, root_of, node_at, stands_in, value_in}
+use Rattle.dt_model.specs.Tree.{Forest, no_nodes, branch, Reading, value_of, Node, sibling, node_below, root_of, node_at, stands_in, value_in}
 use Rattle.dt_model.specs.Changes.{merged_node, changed_sibling, changed_below, changed_at}
 use Rattle.dt_laws.proofs.Tests.{bytes_eq_true, bytes_eq_sym}
 use Rattle.dt_laws.proofs.Lands.{append-below}
@@ -64,7 +64,6 @@ module _ {A : Type 0} (read : Option Node → A) (change : Node → Node) where
       step more false k z j =
           let k' : bytes_eq y x ≡ false = bytes_eq_sym y x ∙ k in
           rw (k, k') refl
-
 
 -- the node below a node
 pub below_both : (p r : Path) (n at : Node) → node_below n p ≡ Some at → node_below n (p ++ r) ≡ node_below at r

@@ -1,9 +1,8 @@
 -- There is a result exactly where the overlay can be applied, and it represents the merged meaning.
-use Rattle.std.proofs.Common.{◌≡◌, ℕ, Bool, true, false, List, [], map, refl, sym, ap, ◌∙◌, Option, Some, None, true≢false}
-use Rattle.std.specs.Prelude.{MatchOption, IsSome, option_and_then}
+use Rattle.std.proofs.Common.{◌≡◌, ℕ, Bool, true, false, List, [], refl, sym, ap, ◌∙◌, Option, Some, None, true≢false}
+use Rattle.std.specs.Prelude.{MatchOption, option_and_then}
 use Rattle.dt_model.specs.Names.{Name}
 use Rattle.dt_model.specs.Path.{Path}
-use Rattle.dt_model.specs.Lists.{IsIn}
 use Rattle.dt_model.specs.Meaning.{Meaning}
 use Rattle.dt_model.specs.Overlay.{Overlay}
 use Rattle.dt_model.specs.Merged.{Site, AreSites, Applies}
@@ -45,7 +44,7 @@ module _ (base object : Reading) (m : Meaning) (o : Overlay) (number local : Pat
           inner true k =
               let given = allowed_given base object m o number local fixups numbers are has new sites k in
               let placed : AreSites m o [] o.fragments sites =
-                  sites_found base object m o number local fixups numbers are has new given (given_target base object m o number local fixups numbers are has new given) sites (sym same_names ∙ e) in
+              sites_found base object m o number local fixups numbers are has new given (given_target base object m o number local fixups numbers are has new given) sites (sym same_names ∙ e) in
               let h = applies_from base object m o number local fixups numbers are has new sites placed k in
               rw k (sites, result_is base object m o number local fixups numbers are has new sites h)
           inner false k = rw k (λ sites' h.

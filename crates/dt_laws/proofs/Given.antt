@@ -1,6 +1,6 @@
 -- What a tree of a meaning and an object of an overlay hold, one property at a time.
-use Rattle.std.proofs.Common.{◌≡◌, ℕ, Bool, true, false, List, [], ◌∷◌, codes, refl, sym, ap, ◌∙◌, Option, Some, None, true≢false}
-use Rattle.std.specs.Prelude.{option_map, option_and_then, IsSome, is_some, if◌then◌else◌}
+use Rattle.std.proofs.Common.{◌≡◌, ℕ, Bool, true, false, List, [], ◌∷◌, codes, refl, sym, ap, ◌∙◌, Option, Some, None}
+use Rattle.std.specs.Prelude.{option_map, option_and_then, is_some, if◌then◌else◌}
 use Rattle.std.specs.Str.{bytes_eq}
 use Rattle.dt_model.specs.Names.{Name}
 use Rattle.dt_model.specs.Path.{Path, path_value, is_bookkeeping}
@@ -8,7 +8,7 @@ use Rattle.dt_model.specs.Meaning.{Item, cell, value_bytes, Meaning, IsMeaning, 
 use Rattle.dt_model.specs.Overlay.{OverlayReference, Overlay, IsOverlay}
 use Rattle.dt_model.specs.Object.{object_number, Encodes}
 use Rattle.dt_model.specs.Represents.{Represents}
-use Rattle.dt_model.specs.Tree.{Reading, nodes_of, stands_in, value_in}
+use Rattle.dt_model.specs.Tree.{Reading, nodes_of, value_in}
 use Rattle.dt_model.specs.Valid.{IsValid}
 use Rattle.dt_model.specs.Applied.{node_named, symbol}
 use Rattle.dt_laws.proofs.Finding.{node_of_text}

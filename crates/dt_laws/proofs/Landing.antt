@@ -1,5 +1,5 @@
 -- What look-ups find after all fragments have landed: the last that lands decides, else the tree before.
-use Rattle.std.proofs.Common.{◌≡◌, ℕ, Bool, true, false, ◌||◌, List, [], ◌∷◌, ◌++◌, refl, sym, ap, ◌∙◌, Option, Some, None, true≢false}
+use Rattle.std.proofs.Common.{◌≡◌, ℕ, Bool, true, false, ◌||◌, List, [], ◌∷◌, ◌++◌, refl, sym, ap, ◌∙◌, Option, Some, None}
 use Rattle.std.specs.Prelude.{is_some, option_map, option_and_then}
 use Rattle.std.specs.Option.{option_or}
 use Rattle.std.specs.List.{list_any}
@@ -12,7 +12,7 @@ use Rattle.dt_model.specs.Tree.{Reading, node_below, node_at, stands_in, value_i
 use Rattle.dt_model.specs.Valid.{IsValid}
 use Rattle.dt_model.specs.Changes.{merged_node, changed_at}
 use Rattle.dt_model.specs.Applied.{Write, brought, with_fragments}
-use Rattle.dt_laws.proofs.Merging.{value_below, stands_below}
+use Rattle.dt_laws.proofs.Merging.{value_below}
 use Rattle.dt_laws.proofs.Changing.{value-changed, stands-changed}
 use Rattle.dt_laws.proofs.Brought.{written_value, value-brought, stands-brought, apart-brought}
 

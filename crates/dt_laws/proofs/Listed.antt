@@ -1,14 +1,14 @@
 -- The nodes of a tree in preorder are the nodes that stand.
-use Rattle.std.proofs.Common.{◌≡◌, ◌≢◌, ℕ, ◌+◌, ◌≤◌, Bool, true, false, List, [], ◌∷◌, ◌++◌, map, length, length-append, codes, refl, sym, ap, subst, ◌∙◌, ◌⊎◌, inl, inr, Option, Some, None, true≢false, append_assoc, arith}
-use Rattle.std.specs.Prelude.{is_some, option_and_then, if◌then◌else◌}
-use Rattle.std.specs.List.{AllByRecursion, flat_map}
+use Rattle.std.proofs.Common.{◌≡◌, ◌≢◌, ℕ, Bool, true, false, List, [], ◌∷◌, ◌++◌, refl, sym, ap, subst, ◌∙◌, inl, inr, Option, Some, None, true≢false, append_assoc}
+use Rattle.std.specs.Prelude.{is_some, option_and_then}
+use Rattle.std.specs.List.{AllByRecursion}
 use Rattle.std.specs.Str.{bytes_eq}
-use Rattle.dt_model.specs.Names.{Name, IsNodeName}
+use Rattle.dt_model.specs.Names.{Name}
 use Rattle.dt_model.specs.Path.{Path}
 use Rattle.dt_model.specs.Lists.{IsIn}
-use Rattle.dt_model.specs.Tree.{Property, Forest, no_nodes, branch, Reading, value_of, Node, sibling, node_below, root_of, node_at, stands_in, value_in, Placed, preorder, nodes_of}
+use Rattle.dt_model.specs.Tree.{Forest, no_nodes, branch, Reading, value_of, Node, sibling, node_below, root_of, node_at, stands_in, value_in, Placed, preorder, nodes_of}
 use Rattle.dt_model.specs.Valid.{AreDistinct, names, AreNodes, IsValid}
-use Rattle.dt_laws.proofs.Tests.{bytes_eq_refl, bytes_eq_true, bytes_eq_other, each_append, in_left, in_right, in_append}
+use Rattle.dt_laws.proofs.Tests.{bytes_eq_refl, bytes_eq_true, bytes_eq_other, in_left, in_right, in_append}
 
 -- the node of a path that begins with this name
 abbrev pub found : Forest → Name → Path → Option Node

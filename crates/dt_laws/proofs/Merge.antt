@@ -1,5 +1,5 @@
 -- The result of an application represents the merged meaning.
-use Rattle.std.proofs.Common.{◌≡◌, ℕ, Bool, true, false, ◌||◌, List, [], ◌∷◌, ◌++◌, map, codes, refl, sym, ap, ◌∙◌, inl, inr, subst, Option, Some, None, true≢false}
+use Rattle.std.proofs.Common.{◌≡◌, ℕ, Bool, true, false, ◌||◌, List, [], ◌∷◌, ◌++◌, map, codes, refl, sym, ap, ◌∙◌, Option, Some, None, true≢false}
 use Rattle.std.specs.Prelude.{unwrap_or, option_map, option_and_then, if◌then◌else◌}
 use Rattle.std.specs.List.{list_any}
 use Rattle.std.specs.Option.{option_or}
@@ -8,12 +8,12 @@ use Rattle.dt_model.specs.Names.{Name}
 use Rattle.dt_model.specs.Path.{Path, path_value, is_bookkeeping}
 use Rattle.dt_model.specs.Lists.{IsIn, last_of}
 use Rattle.dt_model.specs.Meaning.{Item, byte, reference, cell, value_bytes, item_renamed, EachReference, Meaning, IsNaming, instance_value}
-use Rattle.dt_model.specs.Overlay.{OverlayReference, inside, outside, Overlay, IsBrought}
+use Rattle.dt_model.specs.Overlay.{OverlayReference, inside, outside, Overlay}
 use Rattle.dt_model.specs.Merged.{Site, landing, sources, merged, meant, IsGiven, Applies}
 use Rattle.dt_model.specs.Object.{Cell, HasFixups, properties_of}
 use Rattle.dt_model.specs.Numbers.{AreNewNumbers, number_in, number_after}
 use Rattle.dt_model.specs.Represents.{Represents}
-use Rattle.dt_model.specs.Tree.{Reading, node_at, stands_in, value_in}
+use Rattle.dt_model.specs.Tree.{Reading, node_at, value_in}
 use Rattle.dt_model.specs.Applied.{writes, with_fragments, landed_symbols, applied_at}
 use Rattle.dt_laws.specs.Applying.{AreOf, IsResult}
 use Rattle.dt_laws.proofs.Tests.{bytes_eq_true, any_from, any_here}

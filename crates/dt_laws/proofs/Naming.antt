@@ -1,5 +1,5 @@
 -- The numbers after an application are a naming of the merged meaning that extends the base's.
-use Rattle.std.proofs.Common.{◌≡◌, ℕ, ◌≤◌, Bool, true, false, ◌||◌, List, refl, sym, ap, ◌∙◌, ◌⊎◌, inl, inr, Option, Some, None, true≢false}
+use Rattle.std.proofs.Common.{◌≡◌, ℕ, ◌≤◌, true, List, refl, sym, ap, ◌∙◌, inl, inr, Option, Some, None, true≢false}
 use Rattle.std.specs.List.{list_any}
 use Rattle.dt_model.specs.Path.{Path}
 use Rattle.dt_model.specs.Lists.{IsIn, last_of}

@@ -1,26 +1,26 @@
 -- The new numbers are those of the keyed nodes that fragments bring, and none of the base's.
-use Rattle.std.proofs.Common.{◌≡◌, ℕ, ◌+◌, ◌≤◌, ◌<◌, ◌^◌, Bool, true, false, cond, ◌&&◌, List, [], ◌∷◌, ◌++◌, map, length, codes, refl, sym, ap, subst, ◌∙◌, inl, inr, Option, Some, None, true≢false, arith}
-use Rattle.std.specs.Prelude.{is_some, option_map, if◌then◌else◌, nat_eq}
-use Rattle.std.specs.List.{list_any, filter, flat_map}
+use Rattle.std.proofs.Common.{◌≡◌, ℕ, ◌≤◌, ◌<◌, ◌^◌, Bool, true, false, cond, List, [], ◌∷◌, ◌++◌, map, length, codes, refl, sym, ap, subst, ◌∙◌, inl, inr, Option, Some, None, true≢false, arith}
+use Rattle.std.specs.Prelude.{is_some, if◌then◌else◌, nat_eq}
+use Rattle.std.specs.List.{list_any, filter}
 use Rattle.std.specs.Int.{w32, from_be_bytes}
 use Rattle.std.proofs.lemmas.Nat.{from_be_bytes-to_be_bytes_4}
 use Rattle.std.proofs.lemmas.List.{length-map}
 use Rattle.std.proofs.lemmas.Bool.Decides.{Decides-eqb}
 use Rattle.dt_model.specs.Names.{Name}
-use Rattle.dt_model.specs.Path.{Path, below, is_bookkeeping}
+use Rattle.dt_model.specs.Path.{Path, below}
 use Rattle.dt_model.specs.Lists.{IsIn}
 use Rattle.dt_model.specs.Meaning.{cell, Meaning, IsMeaning, IsPlain}
 use Rattle.dt_model.specs.Overlay.{inside, Fragment, Overlay, IsOverlay, content, IsBrought}
 use Rattle.dt_model.specs.Object.{fragment_names, Encodes}
 use Rattle.dt_model.specs.Represents.{Represents}
-use Rattle.dt_model.specs.Numbers.{numbers_of, is_brought, needs_number, new_paths, AreNumbers, AreNewNumbers, number_in}
-use Rattle.dt_model.specs.Tree.{Reading, Placed, value_of, nodes_of, stands_in, value_in}
+use Rattle.dt_model.specs.Numbers.{numbers_of, is_brought, needs_number, new_paths, AreNewNumbers, number_in}
+use Rattle.dt_model.specs.Tree.{Reading, Placed, value_of, nodes_of, value_in}
 use Rattle.dt_model.specs.Valid.{AreDistinct, IsValid, IsWithinLimits, phandle_values, phandles}
 use Rattle.dt_laws.proofs.Tests.{and_left, and_right, and_both, any_here, any_from, in_map, in_map_from}
 use Rattle.dt_laws.proofs.Distinct.{in_flat, distinct_filter}
 use Rattle.dt_laws.proofs.Lands.{below-append, append-below}
-use Rattle.dt_laws.proofs.Listed.{listed_value, stands_listed, value_listed}
-use Rattle.dt_laws.proofs.Preorder.{paths_of, paths_distinct, phandle_list, all_phandles, value_in_list, length-preorder, length-flat}
+use Rattle.dt_laws.proofs.Listed.{listed_value, value_listed}
+use Rattle.dt_laws.proofs.Preorder.{paths_distinct, phandle_list, all_phandles, value_in_list, length-preorder, length-flat}
 use Rattle.dt_laws.proofs.Inside.{IsInside, IsFresh, plain_brought}
 use Rattle.dt_laws.proofs.Given.{phandle_of, object_phandle}
 use Rattle.dt_laws.proofs.Fresh.{number_is_free, own_number, number_low, number_some, AreOwn, own_numbers}
@@ -95,7 +95,7 @@ module _ (object : Reading) (o : Overlay) (local : Path → ℕ) (encodes : Enco
       let v = object_phandle object o local encodes overlay p (plain_brought o overlay p h.1) ∙ ap (λ c. if c then Some (cell (local p)) else None) h.0 in
       let w = value_listed object p (codes "phandle") (cell (local p)) v in
       let there : is_brought (fragment_names object.children) w.0.path ≡ true =
-          ap (λ q. is_brought (fragment_names object.children) q) (w.2 ∙ h.1.3) ∙ ap (λ fs. is_brought fs (content h.1.0.name ++ h.1.1)) encodes.fragments ∙ brought_to o.fragments h.1.0 h.1.1 h.1.2 in
+      ap (λ q. is_brought (fragment_names object.children) q) (w.2 ∙ h.1.3) ∙ ap (λ fs. is_brought fs (content h.1.0.name ++ h.1.1)) encodes.fragments ∙ brought_to o.fragments h.1.0 h.1.1 h.1.2 in
       let test = and_both (is_brought (fragment_names object.children) w.0.path) (is_some (value_of w.0.properties (codes "phandle"))) there (ap is_some w.3) in
       subst (λ q. IsIn q (new_paths object)) w.2
       (in_map (λ (n : Placed). n.path) (filter (needs_number (fragment_names object.children)) (nodes_of object)) w.0 (filter_in (needs_number (fragment_names object.children)) (nodes_of object) w.0 w.1 test))

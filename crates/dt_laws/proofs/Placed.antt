@@ -1,12 +1,12 @@
 -- What the sites of an overlay's fragments give.
-use Rattle.std.proofs.Common.{◌≡◌, ◌≢◌, ℕ, Bool, true, false, ◌||◌, List, [], ◌∷◌, ◌++◌, map, refl, sym, ap, ◌∙◌, inl, inr, subst, Option, Some, None, append_assoc}
+use Rattle.std.proofs.Common.{◌≡◌, true, ◌||◌, List, [], ◌∷◌, ◌++◌, map, refl, sym, ap, ◌∙◌, inl, inr, subst, Option, Some, None}
 use Rattle.std.specs.Option.{option_or}
 use Rattle.std.specs.List.{AllByRecursion, list_any}
 use Rattle.dt_model.specs.Names.{Name, IsNodeName}
-use Rattle.dt_model.specs.Path.{Path, is_bookkeeping}
+use Rattle.dt_model.specs.Path.{Path}
 use Rattle.dt_model.specs.Lists.{IsIn}
 use Rattle.dt_model.specs.Meaning.{Meaning, IsMeaning}
-use Rattle.dt_model.specs.Overlay.{inside, Overlay, IsOverlay, Fragment, content, IsBrought}
+use Rattle.dt_model.specs.Overlay.{Overlay, IsOverlay, Fragment, content, IsBrought}
 use Rattle.dt_model.specs.Merged.{Site, AreSites, moved, landing, sources}
 use Rattle.dt_model.specs.Valid.{AreDistinct}
 use Rattle.dt_laws.proofs.Tests.{each_append, in_left, in_map, in_map_from, or_cases, any_from}

@@ -1,12 +1,10 @@
 -- The nodes of a valid tree in preorder: each path once, with names, and each phandle once.
-use Rattle.std.proofs.Common.{◌≡◌, ◌≢◌, ℕ, ◌+◌, ◌≤◌, Bool, true, false, List, [], ◌∷◌, ◌++◌, map, length, length-append, codes, refl, sym, ap, subst, ◌∙◌, ◌⊎◌, inl, inr, Option, Some, None, true≢false, append_assoc, arith, option_to_list}
-use Rattle.std.specs.Prelude.{is_some, option_and_then}
+use Rattle.std.proofs.Common.{◌≡◌, ◌≢◌, ℕ, ◌≤◌, List, [], ◌∷◌, ◌++◌, map, length, length-append, codes, refl, sym, ap, subst, ◌∙◌, inl, inr, Option, Some, None, append_assoc, arith, option_to_list}
 use Rattle.std.specs.List.{AllByRecursion, flat_map}
-use Rattle.std.specs.Str.{bytes_eq}
 use Rattle.dt_model.specs.Names.{Name, IsNodeName}
 use Rattle.dt_model.specs.Path.{Path}
 use Rattle.dt_model.specs.Lists.{IsIn}
-use Rattle.dt_model.specs.Tree.{Property, Forest, no_nodes, branch, Reading, value_of, Node, value_in, Placed, preorder, nodes_of}
+use Rattle.dt_model.specs.Tree.{Property, Forest, no_nodes, branch, Reading, value_of, value_in, Placed, preorder, nodes_of}
 use Rattle.dt_model.specs.Valid.{AreDistinct, names, AreNodes, IsValid, phandle_values, phandles, node_count}
 use Rattle.dt_laws.proofs.Tests.{each_in, each_from, each_append, in_append, in_map_from}
 use Rattle.dt_laws.proofs.Distinct.{distinct_append, one_has}
@@ -56,8 +54,7 @@ below_of path fs p i =
 pub preorder_distinct : (path : Path) (fs : Forest) → AreNodes fs → AreDistinct (names fs) → AreDistinct (paths_of (preorder path fs))
 preorder_distinct path no_nodes ok d = tt
 preorder_distinct path (branch name properties children siblings) ok d =
-    subst (λ z. AllByRecursion (λ q. q ≢ path ++ name ∷ []) z × AreDistinct z) (sym (map_append (preorder (path ++ name ∷ []) children) (preorder path siblings)))
-    (
+    subst (λ z. AllByRecursion (λ q. q ≢ path ++ name ∷ []) z × AreDistinct z) (sym (map_append (preorder (path ++ name ∷ []) children) (preorder path siblings))) (
       each_append (λ q. q ≢ path ++ name ∷ []) inner outer (each_from (λ q. q ≢ path ++ name ∷ []) inner not_here) (each_from (λ q. q ≢ path ++ name ∷ []) outer not_first),
       distinct_append inner outer (preorder_distinct (path ++ name ∷ []) children ok.2 ok.3) (preorder_distinct path siblings ok.4 d.1) not_both,
     )

@@ -1,6 +1,6 @@
 -- What look-ups find in the result of an application, in the words of the meaning and of the overlay.
-use Rattle.std.proofs.Common.{◌≡◌, ◌≢◌, ℕ, Bool, true, false, ◌||◌, List, [], ◌∷◌, ◌++◌, map, codes, refl, sym, ap, ◌∙◌, inl, inr, subst, Option, Some, None, true≢false}
-use Rattle.std.specs.Prelude.{is_some, option_map, option_and_then, unwrap_or, if◌then◌else◌}
+use Rattle.std.proofs.Common.{◌≡◌, ◌≢◌, ℕ, Bool, true, false, ◌||◌, List, [], ◌∷◌, map, codes, refl, sym, ap, ◌∙◌, subst, Option, Some, None, true≢false}
+use Rattle.std.specs.Prelude.{option_map, option_and_then, unwrap_or, if◌then◌else◌}
 use Rattle.std.specs.Option.{option_or}
 use Rattle.std.specs.List.{list_any}
 use Rattle.std.specs.Str.{bytes_eq}
@@ -8,23 +8,23 @@ use Rattle.dt_model.specs.Names.{Name}
 use Rattle.dt_model.specs.Path.{Path, path_value, is_bookkeeping}
 use Rattle.dt_model.specs.Lists.{IsIn, last_of}
 use Rattle.dt_model.specs.Meaning.{Item, cell, value_bytes, Meaning}
-use Rattle.dt_model.specs.Overlay.{OverlayReference, inside, Overlay, IsBrought}
+use Rattle.dt_model.specs.Overlay.{OverlayReference, Overlay, IsBrought}
 use Rattle.dt_model.specs.Merged.{Site, landing, sources, Applies}
 use Rattle.dt_model.specs.Object.{Cell, HasFixups, object_number, properties_of}
 use Rattle.dt_model.specs.Numbers.{AreNewNumbers, number_in}
 use Rattle.dt_model.specs.Tree.{Property, Reading, Node, value_of, root_of, node_at, nodes_of, stands_in, value_in}
 use Rattle.dt_model.specs.Valid.{AreDistinct}
-use Rattle.dt_model.specs.Applied.{node_named, writes, written, with_fragments, landed_symbols, with_symbols, applied_at}
+use Rattle.dt_model.specs.Applied.{node_named, writes, written, with_fragments, landed_symbols, applied_at}
 use Rattle.dt_laws.specs.Applying.{AreOf, KeepsBookkeeping}
-use Rattle.dt_laws.proofs.Tests.{any_from, any_same, path_eq_refl}
+use Rattle.dt_laws.proofs.Tests.{any_from, any_same}
 use Rattle.dt_laws.proofs.Lands.{landing_of, last_same, last_none}
 use Rattle.dt_laws.proofs.Listed.{value_stands}
 use Rattle.dt_laws.proofs.Brought.{written_value, apart_below, root_apart}
-use Rattle.dt_laws.proofs.Landing.{AreThere, value_from, value-with_fragments, stands-with_fragments}
-use Rattle.dt_laws.proofs.Inside.{IsInside, IsFresh, final_number, plain_brought, referred_inside}
+use Rattle.dt_laws.proofs.Landing.{AreThere, value-with_fragments, stands-with_fragments}
+use Rattle.dt_laws.proofs.Inside.{final_number, plain_brought, referred_inside}
 use Rattle.dt_laws.proofs.Given.{base_value, base_phandle, object_phandle, object_value_is, label_is}
 use Rattle.dt_laws.proofs.Facts.{exact, fresh}
-use Rattle.dt_laws.proofs.Placed.{site_names, fragment_list, same_fragments, brought_at}
+use Rattle.dt_laws.proofs.Placed.{site_names, same_fragments, brought_at}
 use Rattle.dt_laws.proofs.Writes.{value_written}
 use Rattle.dt_laws.proofs.Allowed.{given_each}
 use Rattle.dt_laws.proofs.Symbols.{value_of-landed, landed_distinct, value-with_symbols, stands-with_symbols, symbols-with_symbols}

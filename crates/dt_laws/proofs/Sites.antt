@@ -1,18 +1,18 @@
 -- Sites are found, in numbers and texts, exactly where the overlay's targets name them.
-use Rattle.std.proofs.Common.{◌≡◌, ◌≢◌, ◌↔◌, ℕ, ◌≤◌, ◌<◌, ◌^◌, Bool, true, false, ◌||◌, List, [], ◌∷◌, ◌++◌, map, codes, refl, sym, ap, ◌∙◌, inl, inr, subst, Option, Some, None, true≢false, append_assoc}
-use Rattle.std.specs.Prelude.{unwrap_or, IsSome, option_map, option_and_then, if◌then◌else◌}
+use Rattle.std.proofs.Common.{◌≡◌, ℕ, ◌≤◌, true, false, ◌||◌, List, [], ◌∷◌, map, codes, refl, sym, ap, ◌∙◌, inl, inr, subst, Option, Some, None, true≢false}
+use Rattle.std.specs.Prelude.{unwrap_or, IsSome, option_map, option_and_then}
 use Rattle.std.specs.Option.{option_or}
 use Rattle.std.specs.List.{AllByRecursion, list_any}
 use Rattle.dt_model.specs.Names.{Name, IsNodeName}
 use Rattle.dt_model.specs.Path.{Path, path_value, is_bookkeeping}
 use Rattle.dt_model.specs.Lists.{IsIn}
-use Rattle.dt_model.specs.Meaning.{Item, byte, reference, cell, value_bytes, Meaning}
+use Rattle.dt_model.specs.Meaning.{byte, cell, value_bytes, Meaning}
 use Rattle.dt_model.specs.Overlay.{OverlayReference, inside, outside, Target, at_reference, at_path, Fragment, Overlay, HoldsTarget}
-use Rattle.dt_model.specs.Merged.{Site, landing, sources, Names, IsSite, AreSites, IsGiven}
-use Rattle.dt_model.specs.Object.{Cell, IsCellOf, HasFixups, object_number}
+use Rattle.dt_model.specs.Merged.{Site, landing, sources, Names, IsGiven}
+use Rattle.dt_model.specs.Object.{Cell, HasFixups, object_number}
 use Rattle.dt_model.specs.Numbers.{AreNewNumbers, numbers_of, new_paths, number_in}
-use Rattle.dt_model.specs.Tree.{Reading, Placed, nodes_of, stands_in, value_in}
-use Rattle.dt_model.specs.Applied.{number_at, node_numbered, node_named, writes, written, landed_with, landed_named, target_node, site_at, find_site, find_sites}
+use Rattle.dt_model.specs.Tree.{Reading, nodes_of, stands_in, value_in}
+use Rattle.dt_model.specs.Applied.{number_at, node_numbered, node_named, writes, written, landed_with, landed_named, target_node}
 use Rattle.dt_laws.specs.Applying.{AreOf}
 use Rattle.dt_laws.proofs.Tests.{or_left, or_right, or_cases, any_from, any_here}
 use Rattle.dt_laws.proofs.Lands.{source_of, landing_of}
@@ -20,12 +20,12 @@ use Rattle.dt_laws.proofs.Texts.{one_value}
 use Rattle.dt_laws.proofs.Listed.{stands_listed, listed_stands}
 use Rattle.dt_laws.proofs.Finding.{node_of_number, number_of_node, node_of_text, text_of_node, landed_named_from, landed_named_some}
 use Rattle.dt_laws.proofs.Inside.{IsInside, final_number, plain_brought, plain_fragment, target_inside}
-use Rattle.dt_laws.proofs.Given.{keyed_plain, phandle_of, object_value_is}
+use Rattle.dt_laws.proofs.Given.{phandle_of, object_value_is}
 use Rattle.dt_laws.proofs.Fresh.{landed_is}
 use Rattle.dt_laws.proofs.Numbered.{small_number}
 use Rattle.dt_laws.proofs.Writes.{number_here, target_written}
 use Rattle.dt_laws.proofs.Facts.{exact, fresh, unused}
-use Rattle.dt_laws.proofs.Placed.{site_names, fragment_list, AreEarlier, earlier_distinct, lands_brought, lands_named, so_far_named}
+use Rattle.dt_laws.proofs.Placed.{AreEarlier, earlier_distinct, lands_brought, lands_named}
 
 -- bytes without references
 plain_value : {R : Type 0} (f : R → ℕ) (bytes : List ℕ) → value_bytes f (map byte bytes) ≡ bytes
@@ -77,7 +77,7 @@ module _ (base object : Reading) (m : Meaning) (o : Overlay) (number local : Pat
   by_reference earlier f r i e g =
       let inner = target_inside o are.overlay f r i e in
       let t = target_written base object m o number local fixups numbers are.represented are.meaning are.plain are.valid_base are.encoded are.overlay are.valid_object
-          (exact base object m o number local fixups are has) given (fresh base object m o number local numbers are new) f r i e in
+      (exact base object m o number local fixups are has) given (fresh base object m o number local numbers are new) f r i e in
       step (value_in object (f.name ∷ []) (codes "target")) t inner
     where
       step : (y : Option (List ℕ)) → option_map (written (f.name ∷ []) (codes "target") (writes base object fixups numbers)) y ≡ Some (cell (final_number m number (number_in numbers) r)) → IsInside o r
@@ -86,7 +86,7 @@ module _ (base object : Reading) (m : Meaning) (o : Overlay) (number local : Pat
       step (Some v) t inner =
           let is : written (f.name ∷ []) (codes "target") (writes base object fixups numbers) v ≡ cell (final_number m number (number_in numbers) r) = cc in
           let n : number_at (written (f.name ∷ []) (codes "target") (writes base object fixups numbers) v) 0 ≡ final_number m number (number_in numbers) r =
-              ap (λ z. number_at z 0) is ∙ number_here (final_number m number (number_in numbers) r) [] (small_number (final_number m number (number_in numbers) r) (final_small r inner g)) in
+          ap (λ z. number_at z 0) is ∙ number_here (final_number m number (number_in numbers) r) [] (small_number (final_number m number (number_in numbers) r) (final_small r inner g)) in
           ap (λ z. option_or (node_numbered (nodes_of base) z) (landed_with numbers earlier z)) n ∙ number_named earlier r inner g
 
   -- a target by a path
@@ -97,7 +97,7 @@ module _ (base object : Reading) (m : Meaning) (o : Overlay) (number local : Pat
       let plain = plain_fragment o are.overlay f [] i in
       let none : value_in object (f.name ∷ []) (codes "target") ≡ None = object_value_is object o local are.encoded are.overlay (f.name ∷ []) (codes "target") plain refl ∙ ap (option_map (value_bytes (object_number local))) held.0 in
       let text : value_in object (f.name ∷ []) (codes "target-path") ≡ Some (path_value p) =
-          object_value_is object o local are.encoded are.overlay (f.name ∷ []) (codes "target-path") plain refl ∙ ap (option_map (value_bytes (object_number local))) held.1 ∙ ap Some (plain_value (object_number local) (path_value p)) in
+      object_value_is object o local are.encoded are.overlay (f.name ∷ []) (codes "target-path") plain refl ∙ ap (option_map (value_bytes (object_number local))) held.1 ∙ ap Some (plain_value (object_number local) (path_value p)) in
       ap (λ y. target_node base object (writes base object fixups numbers) numbers earlier f.name y) none
       ∙ ap (option_and_then (λ text. option_or (node_named (nodes_of base) text) (landed_named (nodes_of object) earlier text))) text
 

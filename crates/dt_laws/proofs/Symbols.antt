@@ -1,5 +1,5 @@
 -- What look-ups find after the landed labels are set in `__symbols__`.
-use Rattle.std.proofs.Common.{◌≡◌, ◌≢◌, ℕ, Bool, true, false, ◌||◌, List, [], ◌∷◌, map, codes, refl, sym, ap, ◌∙◌, Option, Some, None, true≢false}
+use Rattle.std.proofs.Common.{◌≡◌, ◌≢◌, ℕ, Bool, true, false, ◌||◌, List, [], ◌∷◌, map, codes, refl, sym, ap, ◌∙◌, Option, Some, None}
 use Rattle.std.specs.Prelude.{is_some, option_map, option_and_then, if◌then◌else◌}
 use Rattle.std.specs.Option.{option_or}
 use Rattle.std.specs.List.{AllByRecursion}
@@ -7,11 +7,11 @@ use Rattle.std.specs.Str.{bytes_eq}
 use Rattle.dt_model.specs.Names.{Name}
 use Rattle.dt_model.specs.Path.{Path, path_value}
 use Rattle.dt_model.specs.Merged.{Site, landing}
-use Rattle.dt_model.specs.Tree.{Property, Forest, no_nodes, branch, Reading, value_of, Node, node_below, nodes_of, stands_in, value_in}
+use Rattle.dt_model.specs.Tree.{Property, no_nodes, branch, Reading, value_of, Node, node_below, nodes_of, stands_in, value_in}
 use Rattle.dt_model.specs.Valid.{AreDistinct}
 use Rattle.dt_model.specs.Applied.{node_named, landed_symbol, landed_symbols, with_symbols}
 use Rattle.dt_laws.proofs.Tests.{bytes_eq_true, bytes_eq_other}
-use Rattle.dt_laws.proofs.Merging.{IsApart, value_below, stands_below}
+use Rattle.dt_laws.proofs.Merging.{IsApart, value_below}
 use Rattle.dt_laws.proofs.Changing.{value-changed, stands-changed}
 
 no_value : (ps : List Property) (name : Name) → AllByRecursion (λ y. y ≢ name) (map (λ (p : Property). p.name) ps) → value_of ps name ≡ None

@@ -1,12 +1,11 @@
 -- The sites of an overlay that applies are nodes of the tree, each when its turn comes.
-use Rattle.std.proofs.Common.{◌≡◌, ℕ, Bool, true, false, ◌||◌, List, [], ◌∷◌, ◌++◌, map, refl, sym, ap, ◌∙◌, ◌⊎◌, inl, inr, subst, Option, Some, None}
+use Rattle.std.proofs.Common.{◌≡◌, ℕ, true, false, ◌||◌, List, [], ◌∷◌, ◌++◌, refl, sym, ap, ◌∙◌, ◌⊎◌, inl, inr, subst, Option, Some, None}
 use Rattle.std.specs.List.{list_any}
-use Rattle.dt_model.specs.Names.{Name}
 use Rattle.dt_model.specs.Path.{Path, is_bookkeeping}
 use Rattle.dt_model.specs.Lists.{IsIn}
 use Rattle.dt_model.specs.Meaning.{Meaning}
 use Rattle.dt_model.specs.Overlay.{Overlay, Fragment, content}
-use Rattle.dt_model.specs.Merged.{Site, moved, sources, IsSite, AreSites}
+use Rattle.dt_model.specs.Merged.{Site, moved, sources, AreSites}
 use Rattle.dt_model.specs.Tree.{Reading, stands_in}
 use Rattle.dt_model.specs.Applied.{Write}
 use Rattle.dt_laws.specs.Applying.{AreOf}

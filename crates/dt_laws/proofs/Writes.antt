@@ -1,5 +1,5 @@
 -- The writes of an application are those of its references' cells, with their numbers.
-use Rattle.std.proofs.Common.{◌≡◌, ◌↔◌, ℕ, suc, ◌+◌, ◌-◌, ◌^◌, ◌<◌, ◌≤◌, Bool, true, false, ◌&&◌, List, [], ◌∷◌, ◌++◌, map, codes, refl, sym, ap, ◌∙◌, inl, inr, subst, Option, Some, None, true≢false, arith}
+use Rattle.std.proofs.Common.{◌≡◌, ◌↔◌, ℕ, suc, ◌+◌, ◌-◌, ◌^◌, ◌<◌, true, false, List, [], ◌∷◌, ◌++◌, map, codes, refl, sym, ap, ◌∙◌, inl, inr, subst, Option, Some, None, true≢false, arith}
 use Rattle.std.specs.Prelude.{unwrap_or, IsSome, option_map, option_and_then, if◌then◌else◌}
 use Rattle.std.specs.Str.{bytes_eq}
 use Rattle.std.proofs.lemmas.Nat.{from_be_bytes-to_be_bytes_4}
@@ -11,7 +11,7 @@ use Rattle.dt_model.specs.Overlay.{OverlayReference, inside, outside, at_referen
 use Rattle.dt_model.specs.Object.{Cell, references_from, IsCellOf, local_cells, object_number, Encodes}
 use Rattle.dt_model.specs.Represents.{Represents}
 use Rattle.dt_model.specs.Numbers.{number_in}
-use Rattle.dt_model.specs.Tree.{Reading, nodes_of, stands_in, value_in}
+use Rattle.dt_model.specs.Tree.{Reading, nodes_of, value_in}
 use Rattle.dt_model.specs.Valid.{IsValid}
 use Rattle.dt_model.specs.Applied.{number_at, node_numbered, Write, local_write, label_write, writes, is_at, written, symbol}
 use Rattle.dt_laws.proofs.Tests.{bytes_eq_true, bytes_eq_refl, path_eq_refl, path_eq_true, and_left, and_right, and_both}
@@ -75,10 +75,10 @@ module _ (base object : Reading) (m : Meaning) (o : Overlay) (number local : Pat
       let h = each_at (IsInside o) 0 items c.offset (inside r) refs i in
       let v = object_items object o local encodes overlay c.path c.property items plain_path e in
       let read : number_at (unwrap_or (value_in object c.path c.property) []) c.offset ≡ local r =
-          ap (λ x. number_at (unwrap_or x []) c.offset) v ∙ read_value (object_number local) items c.offset (inside r) i (small_number (local r) (encodes.high r h.0)) in
+      ap (λ x. number_at (unwrap_or x []) c.offset) v ∙ read_value (object_number local) items c.offset (inside r) i (small_number (local r) (encodes.high r h.0)) in
       let x = fresh.some r h in
       let found : option_and_then (number_in numbers) (node_numbered (nodes_of object) (number_at (unwrap_or (value_in object c.path c.property) []) c.offset)) ≡ Some x.0 =
-          ap (λ n. option_and_then (number_in numbers) (node_numbered (nodes_of object) n)) read ∙ ap (option_and_then (number_in numbers)) (own_node r h) ∙ x.1 in
+      ap (λ n. option_and_then (number_in numbers) (node_numbered (nodes_of object) n)) read ∙ ap (option_and_then (number_in numbers)) (own_node r h) ∙ x.1 in
       ap (λ y. unwrap_or y (number_at (unwrap_or (value_in object c.path c.property) []) c.offset)) found ∙ ap (λ y. unwrap_or y 0) (sym x.1)
 
   label_number : (l : Name) (c : Cell) → IsSome (m.label l) → (label_write base (l, c)).number ≡ final_number m number (number_in numbers) (outside l)
