@@ -27,3 +27,5 @@ pub mod Turns
 pub mod Results
 pub mod Merge
 pub mod Exactly
+pub mod MergedTree
+pub mod MergedMeaning
