@@ -29,3 +29,6 @@ pub mod Merge
 pub mod Exactly
 pub mod MergedTree
 pub mod MergedMeaning
+pub mod KeptNames
+pub mod GoodResult
+pub mod ValidResult

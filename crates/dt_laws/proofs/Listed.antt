@@ -109,11 +109,14 @@ pub record IsAt (t : Reading) (n : Placed) : Type 0 where
   pub is : node_at t n.path ≡ Some node
   pub same : node.properties ≡ n.properties
 
-pub listed_at : (t : Reading) (n : Placed) → IsValid t → IsIn n (nodes_of t) → IsAt t n
-listed_at t n valid (inl e) = record { node = root_of t; is = ap (node_below (root_of t)) (ap (λ x. x.path) e); same = sym (ap (λ x. x.properties) e) }
-listed_at t n valid (inr i) =
-    let h = listed_found [] t.children n valid.nodes valid.siblings i in
+pub listed_in : (t : Reading) (n : Placed) → AreNodes t.children → AreDistinct (names t.children) → IsIn n (nodes_of t) → IsAt t n
+listed_in t n nodes distinct (inl e) = record { node = root_of t; is = ap (node_below (root_of t)) (ap (λ x. x.path) e); same = sym (ap (λ x. x.properties) e) }
+listed_in t n nodes distinct (inr i) =
+    let h = listed_found [] t.children n nodes distinct i in
     record { node = h.node; is = ap (node_below (root_of t)) h.at ∙ h.is; same = h.same }
+
+pub listed_at : (t : Reading) (n : Placed) → IsValid t → IsIn n (nodes_of t) → IsAt t n
+listed_at t n valid i = listed_in t n valid.nodes valid.siblings i
 
 pub at_listed : (t : Reading) (p : Path) (c : Node) → node_at t p ≡ Some c → IsIn (record { path = p; properties = c.properties }) (nodes_of t)
 at_listed t [] c e = let is : root_of t ≡ c = cc in inl (ap (λ y. record { path = []; properties = y.properties }) (sym is))
@@ -129,10 +132,11 @@ stands_listed t p h = step (node_at t p) refl
 pub listed_stands : (t : Reading) (n : Placed) → IsValid t → IsIn n (nodes_of t) → stands_in t n.path ≡ true
 listed_stands t n valid i = let h = listed_at t n valid i in ap is_some h.is
 
+pub value_is_listed : (t : Reading) (n : Placed) (name : Name) → IsAt t n → value_in t n.path name ≡ value_of n.properties name
+value_is_listed t n name h = ap (option_and_then (λ (c : Node). value_of c.properties name)) h.is ∙ ap (λ ps. value_of ps name) h.same
+
 pub listed_value : (t : Reading) (n : Placed) (name : Name) → IsValid t → IsIn n (nodes_of t) → value_in t n.path name ≡ value_of n.properties name
-listed_value t n name valid i =
-    let h = listed_at t n valid i in
-    ap (option_and_then (λ (c : Node). value_of c.properties name)) h.is ∙ ap (λ ps. value_of ps name) h.same
+listed_value t n name valid i = value_is_listed t n name (listed_at t n valid i)
 
 pub value_listed : (t : Reading) (p : Path) (name : Name) (v : List ℕ) → value_in t p name ≡ Some v → (n : Placed) × IsIn n (nodes_of t) × (n.path ≡ p) × (value_of n.properties name ≡ Some v)
 value_listed t p name v h = step (node_at t p) refl

@@ -49,7 +49,7 @@ module _ (base object : Reading) (m : Meaning) (o : Overlay) (number local : Pat
   naming : IsNaming (merged m o sites) after
   naming = naming_after m o sites number (number_in numbers) are.meaning are.represented.naming (distinct base object m o number local fixups numbers are has new sites applies) applies.alone (fresh base object m o number local numbers are new) inside_of
 
-  follow : Follows m o sites number after (number_in numbers)
+  pub follow : Follows m o sites number after (number_in numbers)
   follow = follows m o sites number (number_in numbers) are.meaning are.represented.naming (distinct base object m o number local fixups numbers are has new sites applies) applies.alone (fresh base object m o number local numbers are new) inside_of
 
   lands_on : (p q : Path) → IsIn p (sources sites q) → landing sites p ≡ Some q

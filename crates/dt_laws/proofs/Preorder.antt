@@ -89,11 +89,14 @@ preorder_distinct path (branch name properties children siblings) ok d =
         let same : k.name ≡ name = cc in
         other_name k.name k.named same
 
-pub paths_distinct : (t : Reading) → IsValid t → AreDistinct (paths_of (nodes_of t))
-paths_distinct t valid = (each_from (λ q. q ≢ []) (paths_of (preorder [] t.children)) not_root, preorder_distinct [] t.children valid.nodes valid.siblings)
+pub paths_apart : (t : Reading) → AreNodes t.children → AreDistinct (names t.children) → AreDistinct (paths_of (nodes_of t))
+paths_apart t nodes distinct = (each_from (λ q. q ≢ []) (paths_of (preorder [] t.children)) not_root, preorder_distinct [] t.children nodes distinct)
   where
     not_root : (q : Path) → IsIn q (paths_of (preorder [] t.children)) → q ≢ []
     not_root q i e = let h = below_of [] t.children q i in let z : h.name ∷ h.rest ≡ [] = sym h.at ∙ e in cc
+
+pub paths_distinct : (t : Reading) → IsValid t → AreDistinct (paths_of (nodes_of t))
+paths_distinct t valid = paths_apart t valid.nodes valid.siblings
 
 -- ---- names
 

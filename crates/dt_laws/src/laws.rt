@@ -1,5 +1,6 @@
 //! Applying an object to a tree is merging what they mean.
 
+ghost use Rattle.dt_laws.specs.Again.{AppliedIsValid};
 ghost use Rattle.dt_laws.specs.Applying.{ApplyingIsMerging};
 ghost use Rattle.dt_laws.specs.Merging.{MergedIsMeaning, SitesAreOne};
 
@@ -17,4 +18,9 @@ pub fn merged_is_a_meaning()
 /// An overlay that can be applied to a meaning has one list of sites there.
 pub fn sites_are_one()
     ensures { SitesAreOne }
+{}
+
+/// The result of applying an object is again a tree that a blob may hold.
+pub fn applied_is_valid()
+    ensures { AppliedIsValid }
 {}
