@@ -115,9 +115,6 @@ nothing_below [] name = refl
 nothing_below (x ∷ r) name = refl
 
 module _ (object : Reading) (ws : List Write) (numbers : List (Path × ℕ)) (f : Name) where
-  pub brought_node : Node
-  brought_node = brought ws numbers f (node_at object (content f))
-
   pub value-brought : (r : Path) (name : Name) → value_below (brought ws numbers f (node_at object (content f))) r name ≡ option_map (written_value ws numbers (content f ++ r) name) (value_in object (content f ++ r) name)
   value-brought r name = step (node_at object (content f)) refl
     where

@@ -125,19 +125,3 @@ landed_is taken (r ∷ paths) ((q, k) ∷ numbers) earlier p n given h = step (�
     step more true same false e = absurd (true≢false (sym (let z : Some k ≡ Some n = rw same at h in (Decides-eqb n k).1 cc) ∙ e))
     step more false other true e = absurd (later_differs taken paths numbers k n p given.2 (rw other at h) ((Decides-eqb n k).0 e))
     step more false other false e = rw e (more (rw other at h))
-
--- a number at which something lands is one that was given
-pub landed_from : (numbers : List (Path × ℕ)) (taken : List ℕ) (paths : List Path) (earlier : List Site) (q : Path) (n : ℕ) → AreOwn numbers → AreNumbers taken paths numbers → landed_with numbers earlier n ≡ Some q → (p : Path) × (number_in numbers p ≡ Some n) × (landing earlier p ≡ Some q)
-landed_from [] taken paths earlier q n once given h = absurd (let z : None ≡ Some q = h in cc)
-landed_from ((p, k) ∷ numbers) taken [] earlier q n once given h = absurd given
-landed_from ((p, k) ∷ numbers) taken (r ∷ paths) earlier q n once given h = step (λ z. landed_from numbers (k ∷ taken) paths earlier q n once.1 given.2 z) (nat_eq n k) refl
-  where
-    step : (landed_with numbers earlier n ≡ Some q → (p' : Path) × (number_in numbers p' ≡ Some n) × (landing earlier p' ≡ Some q)) → (b : Bool) → nat_eq n k ≡ b → (p' : Path) × (number_in ((p, k) ∷ numbers) p' ≡ Some n) × (landing earlier p' ≡ Some q)
-    step more true e = (p, rw (path_eq_refl p) (ap Some (sym ((Decides-eqb n k).0 e))), rw e at h)
-    step more false e =
-        let w = more (rw e at h) in
-        inner w (path_eq p w.0) refl
-      where
-        inner : (w : (p' : Path) × (number_in numbers p' ≡ Some n) × (landing earlier p' ≡ Some q)) → (b : Bool) → path_eq p w.0 ≡ b → (p' : Path) × (number_in ((p, k) ∷ numbers) p' ≡ Some n) × (landing earlier p' ≡ Some q)
-        inner w false other = (w.0, rw other w.1, w.2)
-        inner w true same = absurd (let z : None ≡ Some n = sym once.0 ∙ ap (number_in numbers) (path_eq_true p w.0 same) ∙ w.1 in cc)

@@ -34,7 +34,8 @@ value_of-set_property (p ∷ ps) x name v = step (value_of-set_property ps x nam
     step more false e true e' false e'' = rw (e, e', e'') refl
     step more false e false e' d e'' = rw (e, e') more
 
-no_value : (ps : List Property) (name : Name) → AllByRecursion (λ y. y ≢ name) (map (λ (p : Property). p.name) ps) → value_of ps name ≡ None
+-- a property that isn't there
+pub no_value : (ps : List Property) (name : Name) → AllByRecursion (λ y. y ≢ name) (map (λ (p : Property). p.name) ps) → value_of ps name ≡ None
 no_value [] name d = refl
 no_value (p ∷ ps) name d = rw (bytes_eq_other name p.name (λ e. d.0 (sym e))) (no_value ps name d.1)
 
@@ -137,10 +138,6 @@ stands_below n p = is_some (node_below n p)
 no_value_below : (p : Path) (name : Name) → value_below nothing p name ≡ None
 no_value_below [] name = refl
 no_value_below (x ∷ p) name = refl
-
-or_none : {A : Type 0} (x : Option A) → option_or x None ≡ x
-or_none None = refl
-or_none (Some y) = refl
 
 pub value-merged : (p : Path) (n m : Node) (name : Name) → IsApart m → value_below (merged_node n m) p name ≡ option_or (value_below m p name) (value_below n p name)
 value-merged [] n m name h = value_of-set_properties m.properties n.properties name h.properties

@@ -70,9 +70,6 @@ brought_to fs f rest i =
     any_here (λ g. is_some (below (content g) (content f.name ++ rest))) (map (λ (f : Fragment). f.name) fs) f.name (in_map (λ (f : Fragment). f.name) fs f i) (ap is_some (below-append (content f.name) rest))
 
 module _ (object : Reading) (o : Overlay) (local : Path → ℕ) (encodes : Encodes object o local) (overlay : IsOverlay o) (valid : IsValid object) where
-  needs : Placed → Bool
-  needs n = needs_number (fragment_names object.children) n
-
   -- a numbered node is a keyed one that a fragment brings
   pub new_inside : (p : Path) → IsIn p (new_paths object) → IsInside o (inside p)
   new_inside p i =

@@ -33,9 +33,6 @@ use Rattle.dt_laws.proofs.Turns.{there}
 module _ (base object : Reading) (m : Meaning) (o : Overlay) (number local : Path → ℕ) (fixups : List (Name × Cell)) (numbers : List (Path × ℕ))
     (are : AreOf base object m o number local) (has : HasFixups object fixups) (new : AreNewNumbers base object numbers)
     (sites : List Site) (applies : Applies m o sites) where
-  abbrev pub result : Reading
-  result = applied_at base object fixups numbers sites
-
   pub distinct : AreDistinct (site_names sites)
   distinct = subst AreDistinct (sym (same_fragments m o [] o.fragments sites applies.defined.placed)) are.overlay.distinct
 

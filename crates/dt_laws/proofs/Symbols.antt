@@ -11,12 +11,8 @@ use Rattle.dt_model.specs.Tree.{Property, no_nodes, branch, Reading, value_of, N
 use Rattle.dt_model.specs.Valid.{AreDistinct}
 use Rattle.dt_model.specs.Applied.{node_named, landed_symbol, landed_symbols, with_symbols}
 use Rattle.dt_laws.proofs.Tests.{bytes_eq_true, bytes_eq_other}
-use Rattle.dt_laws.proofs.Merging.{IsApart, value_below}
+use Rattle.dt_laws.proofs.Merging.{IsApart, no_value, value_below}
 use Rattle.dt_laws.proofs.Changing.{value-changed, stands-changed}
-
-no_value : (ps : List Property) (name : Name) → AllByRecursion (λ y. y ≢ name) (map (λ (p : Property). p.name) ps) → value_of ps name ≡ None
-no_value [] name d = refl
-no_value (p ∷ ps) name d = rw (bytes_eq_other name p.name (λ e. d.0 (sym e))) (no_value ps name d.1)
 
 module _ (object : Reading) (sites : List Site) where
   -- where the node that a text names lands

@@ -38,16 +38,6 @@ pub not_true : (b : Bool) → not b ≡ true → b ≡ false
 not_true true h = absurd (true≢false (sym h))
 not_true false h = refl
 
-pub true_or_not : (b : Bool) → (b ≡ true) ⊎ (b ≡ false)
-true_or_not true = inl refl
-true_or_not false = inr refl
-
--- two tests that imply each other
-pub same_test : (a b : Bool) → (a ≡ true → b ≡ true) → (b ≡ true → a ≡ true) → a ≡ b
-same_test true b f g = sym (f refl)
-same_test false true f g = absurd (true≢false (sym (g refl)))
-same_test false false f g = refl
-
 -- ---- names and paths
 
 pub bytes_eq_refl : (x : Name) → bytes_eq x x ≡ true

@@ -61,9 +61,6 @@ module _ (base object : Reading) (m : Meaning) (o : Overlay) (number local : Pat
     (encodes : Encodes object o local) (overlay : IsOverlay o) (valid : IsValid object)
     (exact : (l : Name) (c : Cell) → IsIn (l, c) fixups ↔ IsCellOf o c (outside l))
     (given : (l : Name) (c : Cell) → IsIn (l, c) fixups → IsSome (m.label l)) (fresh : IsFresh m o number (number_in numbers)) where
-  final : OverlayReference → ℕ
-  final r = final_number m number (number_in numbers) r
-
   -- a keyed node of a fragment is found by the number that the object gives it
   own_node : (p : Path) → IsInside o (inside p) → node_numbered (nodes_of object) (local p) ≡ Some p
   own_node p h =
