@@ -1,2 +1,5 @@
 pub mod Blobs
 pub mod Samples
+pub mod Applying
+pub mod Merging
+pub mod Again

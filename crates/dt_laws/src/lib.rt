@@ -1,5 +1,7 @@
-//! Theorems about the definitions of dt_model alone. They stand apart from dt_model so that they aren't checked again with
-//! each crate that uses the definitions.
+//! Theorems about the definitions of dt_model alone: what is true of each meaning that a source has, that applying an object to
+//! a tree is merging what the two mean, and of the faults of bytes that are no blob. They stand apart from dt_model so that
+//! they aren't checked again with each crate that uses the definitions.
 #![tactic(auto)]
 
 mod blobs;
+mod laws;

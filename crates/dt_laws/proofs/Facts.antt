@@ -1,0 +1,31 @@
+-- What a base, an object and the numbers of an application give.
+use Rattle.std.proofs.Common.{◌≡◌, ◌↔◌, ℕ, List, ◌∷◌, [], codes, subst, Some}
+use Rattle.dt_model.specs.Names.{Name}
+use Rattle.dt_model.specs.Path.{Path}
+use Rattle.dt_model.specs.Lists.{IsIn}
+use Rattle.dt_model.specs.Meaning.{cell, Meaning}
+use Rattle.dt_model.specs.Overlay.{outside, Overlay}
+use Rattle.dt_model.specs.Object.{Cell, IsCellOf, HasFixups, properties_of}
+use Rattle.dt_model.specs.Numbers.{AreNewNumbers, number_in}
+use Rattle.dt_model.specs.Tree.{Reading, node_at, value_in}
+use Rattle.dt_laws.specs.Applying.{AreOf}
+use Rattle.dt_laws.proofs.CellTexts.{one_fixups}
+use Rattle.dt_laws.proofs.Inside.{IsFresh}
+use Rattle.dt_laws.proofs.Fresh.{AreOwn}
+use Rattle.dt_laws.proofs.Numbered.{numbers_fresh, numbers_unused, numbers_own}
+
+module _ (base object : Reading) (m : Meaning) (o : Overlay) (number local : Path → ℕ) where
+  -- any list of an object's fixups is the list of the cells that wait for labels
+  pub exact : (fixups : List (Name × Cell)) → AreOf base object m o number local → HasFixups object fixups → (l : Name) (c : Cell) → IsIn (l, c) fixups ↔ IsCellOf o c (outside l)
+  exact fixups are has l c =
+      let same : are.encoded.fixups ≡ fixups = one_fixups (properties_of (node_at object (codes "__fixups__" ∷ []))) are.encoded.fixups fixups are.encoded.fixups_listed has in
+      subst (λ z. IsIn (l, c) z ↔ IsCellOf o c (outside l)) same (are.encoded.fixups_exact l c)
+
+  pub fresh : (numbers : List (Path × ℕ)) → AreOf base object m o number local → AreNewNumbers base object numbers → IsFresh m o number (number_in numbers)
+  fresh numbers are new = numbers_fresh base object m o number local numbers are.represented are.meaning are.plain are.encoded are.overlay are.valid_object are.few_in_base are.few_in_object new
+
+  pub unused : (numbers : List (Path × ℕ)) → AreOf base object m o number local → AreNewNumbers base object numbers → (p q : Path) (n : ℕ) → number_in numbers p ≡ Some n → value_in base q (codes "phandle") ≡ Some (cell n) → ⊥
+  unused numbers are new p q n e v = numbers_unused base object m o number local numbers are.represented are.meaning are.plain are.encoded are.overlay are.valid_object are.few_in_base are.few_in_object new p q n e v
+
+  pub own : (numbers : List (Path × ℕ)) → AreOf base object m o number local → AreNewNumbers base object numbers → AreOwn numbers
+  own numbers are new = numbers_own base object m o number local numbers are.represented are.meaning are.plain are.encoded are.overlay are.valid_object are.few_in_base are.few_in_object new
