@@ -3,3 +3,8 @@ pub mod Orders
 pub mod Stands
 pub mod Lasts
 pub mod Labels
+pub mod Sound
+pub mod Making
+pub mod Holding
+pub mod ReadAll
+pub mod Plain
