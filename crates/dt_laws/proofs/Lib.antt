@@ -8,3 +8,7 @@ pub mod Making
 pub mod Holding
 pub mod ReadAll
 pub mod Plain
+pub mod Bytes
+pub mod Keyed
+pub mod Bound
+pub mod Meanings
