@@ -12,3 +12,5 @@ pub mod Bytes
 pub mod Keyed
 pub mod Bound
 pub mod Meanings
+pub mod FragmentNames
+pub mod OverlayHolding
