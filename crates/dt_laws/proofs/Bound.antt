@@ -1,21 +1,20 @@
 -- What a value means after all events: its bytes are bytes, and its references are of nodes that it refers to.
-use Rattle.std.proofs.Common.{◌≡◌, ℕ, ◌≤◌, Bool, true, false, ◌||◌, ◌&&◌, cond, nat_le, List, [], ◌∷◌, ◌++◌, map, reverse, Option, Some, None, refl, sym, ap, subst, ◌∙◌}
+use Rattle.std.proofs.Common.{◌≡◌, ℕ, ◌≤◌, true, false, ◌&&◌, nat_le, List, [], ◌∷◌, ◌++◌, map, reverse, Option, Some, sym, ap, subst, ◌∙◌}
 use Rattle.std.specs.List.{AllByRecursion}
 use Rattle.std.specs.Int.{w32, from_be_bytes}
-use Rattle.std.specs.Option.{option_map, option_map_or, option_and_then}
+use Rattle.std.specs.Option.{option_map, option_map_or}
 use Rattle.std.proofs.lemmas.Bool.{and_parts, leb-true}
 use Rattle.std.proofs.lemmas.Grind.{reverse_onto}
 use Rattle.std.proofs.lemmas.List.{reverse-reverse}
 use Rattle.std.proofs.lemmas.Option.{cond_some}
-use Rattle.dt_model.specs.Names.{Name, IsNodeName, IsPropertyName, IsLabel}
+use Rattle.dt_model.specs.Names.{IsNodeName, IsPropertyName, IsLabel}
 use Rattle.dt_model.specs.Path.{Path, path_eq, path_value}
 use Rattle.dt_model.specs.Meaning.{Item, byte, reference, AreBytes, EachReference}
 use Rattle.dt_model.specs.Event.{Stack}
 use Rattle.dt_model.specs.Source.{Reference, Part, one, number_of, text_of, IsPart, Mode, Place, root, block, delete_node, child, label, property, delete_property, delete_child, close, IsPlace, Events, referent, bound, all_bound, refers, in_range, written}
 use Rattle.dt_model.proofs.EventSteps.{path_eq-refl}
 use Rattle.dt_laws.proofs.Cases.{all_append, map_some, then_some, either_left, either_right}
-use Rattle.dt_laws.proofs.Sound.{Sound}
-use Rattle.dt_laws.proofs.Holding.{Rules, Follows, Obeys, node_follows, referent_stands}
+use Rattle.dt_laws.proofs.Holding.{Rules, Obeys}
 use Rattle.dt_laws.proofs.Bytes.{path_bytes, are_bytes-append, are_bytes-map, each-append, each-map}
 
 -- ---- the rules of names
@@ -62,6 +61,11 @@ all_bound_bytes es nodes (x ∷ xs) items h e =
 
 -- ---- references
 
+pub refers_later : (es : Events) (x : Part) (xs : List Part) (q : Stack) → refers es q xs ≡ true → refers es q (x ∷ xs) ≡ true
+refers_later es (one b) xs q h = h
+refers_later es (number_of r) xs q h = either_right (option_map_or (path_eq q) (referent es r) false) (refers es q xs) h
+refers_later es (text_of r) xs q h = h
+
 module _ (es : Events) (K : Path → Type 0) where
   each_bound : (x : Part) (xs : List Part) (items : List (Item Path)) → ((q : Stack) → refers es q (x ∷ xs) ≡ true → K (reverse q)) → bound es x ≡ Some items → EachReference K items
   each_bound (one b) xs items to e = let same : byte b ∷ [] ≡ items = cc in subst (EachReference K) same tt
@@ -73,18 +77,13 @@ module _ (es : Events) (K : Path → Type 0) where
       let m = map_some (λ p. map byte (path_value (reverse p))) (referent es r) items e in
       subst (EachReference K) m.2 (each-map K (path_value (reverse m.0)))
 
-  refers_later : (x : Part) (xs : List Part) (q : Stack) → refers es q xs ≡ true → refers es q (x ∷ xs) ≡ true
-  refers_later (one b) xs q h = h
-  refers_later (number_of r) xs q h = either_right (option_map_or (path_eq q) (referent es r) false) (refers es q xs) h
-  refers_later (text_of r) xs q h = h
-
   pub all_each_bound : (v : List Part) (items : List (Item Path)) → ((q : Stack) → refers es q v ≡ true → K (reverse q)) → all_bound es v ≡ Some items → EachReference K items
   all_each_bound [] items to e = let same : [] ≡ items = cc in subst (EachReference K) same tt
   all_each_bound (x ∷ xs) items to e =
       let first = then_some (λ front. option_map (λ others. front ++ others) (all_bound es xs)) (bound es x) items e in
       let rest = map_some (λ others. first.0 ++ others) (all_bound es xs) items first.2 in
       subst (EachReference K) rest.2
-      (each-append K first.0 rest.0 (each_bound x xs first.0 to first.1) (all_each_bound xs rest.0 (λ q h. to q (refers_later x xs q h)) rest.1))
+      (each-append K first.0 rest.0 (each_bound x xs first.0 to first.1) (all_each_bound xs rest.0 (λ q h. to q (refers_later es x xs q h)) rest.1))
 
 -- ---- written numbers
 

@@ -1,13 +1,13 @@
 -- The names that a fragment brings are names: `fragment@N` with any number, `__overlay__`, `target` and `target-path`.
-use Rattle.std.proofs.Common.{◌≡◌, ℕ, zero, suc, ◌+◌, ◌<◌, ◌≤◌, ◌/◌, ◌%◌, ◌||◌, ◌&&◌, cond, nat_eq, nat_le, Bool, true, false, List, [], ◌∷◌, ◌++◌, length, length-append, codes, refl, sym, ap, subst, ◌∙◌, arith}
-use Rattle.std.specs.List.{AllByRecursion, count_by, sum_by, list_all}
+use Rattle.std.proofs.Common.{◌≡◌, ℕ, zero, suc, ◌+◌, ◌<◌, ◌≤◌, ◌/◌, ◌%◌, ◌||◌, cond, Bool, true, false, List, [], ◌∷◌, ◌++◌, length, length-append, codes, refl, ap, ◌∙◌, arith}
+use Rattle.std.specs.List.{AllByRecursion, count_by, list_all}
 use Rattle.std.specs.Bool.{IsTrue, ◌==◌}
 use Rattle.std.specs.Fmt.{digits, digits_onto, digit_glyph, decimal}
 use Rattle.std.proofs.lemmas.Bool.{and_parts}
 use Rattle.std.proofs.lemmas.Bool.Decides.{nat_tests}
 use Rattle.std.proofs.lemmas.List.Elements.{All-from_recursion}
 use Rattle.std.proofs.lemmas.List.Sums.{sum_by-append, sum_by-cons}
-use Rattle.dt_model.specs.Names.{Name, IsNodeName, IsPropertyName, is_name_byte}
+use Rattle.dt_model.specs.Names.{IsNodeName, IsPropertyName, is_name_byte}
 use Rattle.dt_model.specs.Path.{is_bookkeeping_name}
 use Rattle.dt_model.specs.OverlaySource.{fragment_name}
 use Rattle.dt_laws.proofs.Cases.{all_map, all_append}

@@ -1,17 +1,17 @@
 -- What is true after each place that is read, kept by the next.
-use Rattle.std.proofs.Common.{◌≡◌, Bool, true, false, ◌||◌, cond, List, [], ◌∷◌, ◌++◌, drop, ◌⊎◌, inl, inr, Option, Some, None, Result, Ok, Err, refl, sym, ap, subst, ◌∙◌}
+use Rattle.std.proofs.Common.{◌≡◌, true, false, ◌||◌, List, [], ◌∷◌, ◌++◌, drop, inl, inr, Option, Some, Ok, sym, ap, subst, ◌∙◌}
 use Rattle.std.specs.List.{AllByRecursion}
 use Rattle.std.specs.Option.{option_map_or}
 use Rattle.dt_model.specs.Names.{Name}
 use Rattle.dt_model.specs.Path.{path_eq}
 use Rattle.dt_model.specs.Event.{Stack, Event, opening, giving, definition, undefinition, deletion, opens, takes, defines, drops, gives, stands, value_at, names}
-use Rattle.dt_model.specs.Source.{Reference, by_label, by_path, Part, Place, root, block, delete_node, child, label, property, delete_property, delete_child, close, Mode, Events, Body, SoFar, nothing, is_reserved, labelled, referent, and_then, and_if_read, enter, read, read_all}
+use Rattle.dt_model.specs.Source.{Reference, by_label, by_path, Part, Place, root, block, delete_node, child, label, property, delete_property, delete_child, close, Mode, Events, Body, SoFar, is_reserved, labelled, referent, and_then, enter, read}
 use Rattle.dt_model.proofs.EventSteps.{stands-push, path_eq-is}
 use Rattle.dt_laws.proofs.Cases.{all_append}
 use Rattle.dt_laws.proofs.Stands.{child_not_within, opened_itself, not_deleted}
 use Rattle.dt_laws.proofs.Lasts.{last_each, stands_by, names_by, value_by}
 use Rattle.dt_laws.proofs.Labels.{labelled_names, labelled_none, some_label, by_path_stands}
-use Rattle.dt_laws.proofs.Sound.{Sound, sound-start, sound-opening, sound-giving, sound-definition, sound-undefinition, sound-deletion}
+use Rattle.dt_laws.proofs.Sound.{Sound, sound-opening, sound-giving, sound-definition, sound-undefinition, sound-deletion}
 use Rattle.dt_laws.proofs.Making.{with_child, with_property, Makes, makes}
 
 -- what is asked of each node that is opened, each label that is given, and each property that is defined
@@ -68,11 +68,12 @@ referent_stands es s (by_path q) p h = by_path_stands es _ p h
 -- the label that may be given to a node names no other
 label_free : (es : Events) (s : Sound es) (l : Name) (q : Stack) → option_map_or (λ p. path_eq p q) (labelled es l) true ≡ true → (a : Stack) → names es l a ≡ true → a ≡ q
 label_free es s l q h a named =
-    elim (some_label es l)
-    [ inl none ↦ let no : names es l a ≡ false = labelled_none es l a none in cc
-    | inr some ↦
-    let same : path_eq some.0 q ≡ true = ap (λ (o : Option Stack). option_map_or (λ p. path_eq p q) o true) (sym some.1) ∙ h in
-    s.one l a some.0 named (labelled_names es l some.0 some.1) ∙ path_eq-is some.0 q same ]
+    elim (some_label es l) [
+      | inl none ↦ let no : names es l a ≡ false = labelled_none es l a none in cc
+      | inr some ↦
+          let same : path_eq some.0 q ≡ true = ap (λ (o : Option Stack). option_map_or (λ p. path_eq p q) o true) (sym some.1) ∙ h in
+          s.one l a some.0 named (labelled_names es l some.0 some.1) ∙ path_eq-is some.0 q same
+    ]
 
 module _ (r : Rules) (s : SoFar) (h : Holds r s) where
   pub holds-enter : (p : Stack) (bodies : List Body) → ((x : Name) (q : Stack) → p ≡ x ∷ q → stands s.events q ≡ true) → r.node p → Holds r (enter s p bodies)

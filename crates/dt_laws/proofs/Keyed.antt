@@ -1,14 +1,14 @@
 -- The keyed nodes: those that a label names, that a reference names, or that have a written number.
-use Rattle.std.proofs.Common.{◌≡◌, Bool, true, false, ◌||◌, List, [], ◌∷◌, ◌⊎◌, inl, inr, Option, Some, None, refl, sym, ap, subst, ◌∙◌}
+use Rattle.std.proofs.Common.{◌≡◌, Bool, true, false, ◌||◌, List, [], ◌∷◌, inl, inr, Option, Some, sym, ap, subst, ◌∙◌}
 use Rattle.std.specs.List.{list_any}
 use Rattle.std.specs.Option.{option_map_or}
 use Rattle.std.proofs.lemmas.Bool.{or_cases}
 use Rattle.dt_model.specs.Names.{Name}
 use Rattle.dt_model.specs.Path.{path_eq}
-use Rattle.dt_model.specs.Event.{Stack, Event, opening, giving, definition, undefinition, deletion, defines, drops, stands, value_at, names}
+use Rattle.dt_model.specs.Event.{Stack, Event, opening, giving, definition, undefinition, deletion, defines, drops, stands, value_at}
 use Rattle.dt_model.specs.Source.{Part, one, number_of, text_of, Events, referent, refers, refers_there, labels_there}
-use Rattle.dt_model.proofs.EventSteps.{path_eq-is, path_eq-refl}
-use Rattle.dt_laws.proofs.Cases.{map_or_true, either_left, either_right}
+use Rattle.dt_model.proofs.EventSteps.{path_eq-is}
+use Rattle.dt_laws.proofs.Cases.{map_or_true}
 use Rattle.dt_laws.proofs.Lasts.{last_any, value_by}
 use Rattle.dt_laws.proofs.Sound.{Sound}
 use Rattle.dt_laws.proofs.Holding.{referent_stands}
@@ -35,11 +35,12 @@ module _ (es : Events) (s : Sound es) where
   value_stands p (one b ∷ xs) h = value_stands p xs h
   value_stands p (text_of r ∷ xs) h = value_stands p xs h
   value_stands p (number_of r ∷ xs) h =
-      elim (or_cases (option_map_or (path_eq p) (referent es r) false) (refers es p xs) h)
-      [ inl t ↦
-      let found = map_or_true (path_eq p) (referent es r) t in
-      subst (λ q. stands es q ≡ true) (sym (path_eq-is p found.0 found.2)) (referent_stands es s r found.0 found.1)
-      | inr t ↦ value_stands p xs t ]
+      elim (or_cases (option_map_or (path_eq p) (referent es r) false) (refers es p xs) h) [
+        | inl t ↦
+            let found = map_or_true (path_eq p) (referent es r) t in
+            subst (λ q. stands es q ≡ true) (sym (path_eq-is p found.0 found.2)) (referent_stands es s r found.0 found.1)
+        | inr t ↦ value_stands p xs t
+      ]
 
   reference_stands : (p : Stack) (e : Event (List Part)) → refers_there es p e ≡ true → stands es p ≡ true
   reference_stands p (opening q) h = cc

@@ -1,13 +1,13 @@
 -- The node that a label names, and what a reference refers to.
-use Rattle.std.proofs.Common.{◌≡◌, Bool, true, false, ◌||◌, ◌&&◌, cond, List, [], ◌∷◌, reverse, ◌⊎◌, inl, inr, Option, Some, None, refl, sym, ap, subst, ◌∙◌}
-use Rattle.std.specs.List.{AllByRecursion, list_any}
+use Rattle.std.proofs.Common.{◌≡◌, Bool, true, false, ◌||◌, ◌&&◌, cond, List, ◌⊎◌, inl, inr, Option, Some, None, refl, sym, ap, subst, ◌∙◌}
+use Rattle.std.specs.List.{list_any}
 use Rattle.std.specs.Option.{option_map}
 use Rattle.std.specs.Str.{bytes_eq}
 use Rattle.std.proofs.lemmas.Bool.{and_parts, cases_Bool}
 use Rattle.std.proofs.lemmas.Option.{cond_some}
 use Rattle.dt_model.specs.Names.{Name}
-use Rattle.dt_model.specs.Event.{Stack, Event, opening, giving, definition, undefinition, deletion, takes, gives, last_where, stands, value_at, names}
-use Rattle.dt_model.specs.Source.{Reference, by_label, by_path, Part, Events, gives_label, node_of, labelled, referent, labels_there}
+use Rattle.dt_model.specs.Event.{Stack, Event, opening, giving, definition, undefinition, deletion, takes, gives, last_where, stands, names}
+use Rattle.dt_model.specs.Source.{Part, Events, gives_label, node_of, labelled, labels_there}
 use Rattle.dt_model.proofs.EventSteps.{bytes_eq-is, bytes_eq-refl}
 use Rattle.dt_laws.proofs.Cases.{map_some}
 use Rattle.dt_laws.proofs.Lasts.{last_passes, last_each, last_any, last_none, names_by}
@@ -46,13 +46,14 @@ map_none f (Some x) h = cc
 pub labelled_none : (es : Events) (l : Name) (p : Stack) → labelled es l ≡ None → names es l p ≡ false
 labelled_none es l p h =
     let test : Event (List Part) → Bool = λ e. gives_label l e && names es l (node_of e) in
-    elim (cases_Bool (names es l p))
-    [ inl y ↦
-    let none = last_none test es (map_none node_of (last_where test es) h) in
-    let no : (bytes_eq l l && names es l p) ≡ false = last_each (λ e. test e ≡ false) (λ e. gives l p e || takes p e) es (giving l p) none (names_by es l p y) in
-    let z : (true && names es l p) ≡ false = ap (λ b. b && names es l p) (sym (bytes_eq-refl l)) ∙ no in
-    z
-    | inr n ↦ n ]
+    elim (cases_Bool (names es l p)) [
+      | inl y ↦
+          let none = last_none test es (map_none node_of (last_where test es) h) in
+          let no : (bytes_eq l l && names es l p) ≡ false = last_each (λ e. test e ≡ false) (λ e. gives l p e || takes p e) es (giving l p) none (names_by es l p y) in
+          let z : (true && names es l p) ≡ false = ap (λ b. b && names es l p) (sym (bytes_eq-refl l)) ∙ no in
+          z
+      | inr n ↦ n
+    ]
 
 -- what a label names exactly stands where a reference by it refers to
 pub some_label : (es : Events) (l : Name) → (labelled es l ≡ None) ⊎ ((p : Stack) × (labelled es l ≡ Some p))

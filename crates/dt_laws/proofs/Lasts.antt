@@ -4,7 +4,7 @@ use Rattle.std.proofs.Common.{◌≡◌, Bool, true, false, ◌||◌, ◌&&◌, 
 use Rattle.std.specs.List.{AllByRecursion, list_any}
 use Rattle.std.specs.Option.{option_or}
 use Rattle.std.specs.Str.{bytes_eq}
-use Rattle.std.proofs.lemmas.Bool.{and_parts, cases_Bool}
+use Rattle.std.proofs.lemmas.Bool.{and_parts}
 use Rattle.std.proofs.lemmas.Option.{cond_some}
 use Rattle.dt_model.specs.Names.{Name}
 use Rattle.dt_model.specs.Path.{path_eq}
@@ -28,24 +28,27 @@ module _ {V : Type 0} where
   pub last_passes : (test : Event V → Bool) (es : List (Event V)) (e : Event V) → last_where test es ≡ Some e → test e ≡ true
   last_passes test [] e h = cc
   last_passes test (d ∷ es) e h =
-      elim (or_some (last_where test es) (cond (test d) (Some d) None) e h)
-      [ inl t ↦ last_passes test es e t
-      | inr t ↦ let c = cond_some (test d) d e t in subst (λ x. test x ≡ true) c.1 c.0 ]
+      elim (or_some (last_where test es) (cond (test d) (Some d) None) e h) [
+        | inl t ↦ last_passes test es e t
+        | inr t ↦ let c = cond_some (test d) d e t in subst (λ x. test x ≡ true) c.1 c.0
+      ]
 
   -- what holds of each event holds of the last of some
   pub last_each : (P : Event V → Type 0) (test : Event V → Bool) (es : List (Event V)) (e : Event V) → AllByRecursion P es → last_where test es ≡ Some e → P e
   last_each P test [] e h k = cc
   last_each P test (d ∷ es) e h k =
-      elim (or_some (last_where test es) (cond (test d) (Some d) None) e k)
-      [ inl t ↦ last_each P test es e h.1 t
-      | inr t ↦ subst P (cond_some (test d) d e t).1 h.0 ]
+      elim (or_some (last_where test es) (cond (test d) (Some d) None) e k) [
+        | inl t ↦ last_each P test es e h.1 t
+        | inr t ↦ subst P (cond_some (test d) d e t).1 h.0
+      ]
 
   pub last_any : (test other : Event V → Bool) (es : List (Event V)) (e : Event V) → last_where other es ≡ Some e → test e ≡ true → list_any test es ≡ true
   last_any test other [] e h k = cc
   last_any test other (d ∷ es) e h k =
-      elim (or_some (last_where other es) (cond (other d) (Some d) None) e h)
-      [ inl t ↦ either_right (test d) (list_any test es) (last_any test other es e t k)
-      | inr t ↦ either_left (test d) (list_any test es) (subst (λ x. test x ≡ true) (sym (cond_some (other d) d e t).1) k) ]
+      elim (or_some (last_where other es) (cond (other d) (Some d) None) e h) [
+        | inl t ↦ either_right (test d) (list_any test es) (last_any test other es e t k)
+        | inr t ↦ either_left (test d) (list_any test es) (subst (λ x. test x ≡ true) (sym (cond_some (other d) d e t).1) k)
+      ]
 
   -- where no event passes a test, none does
   pub last_none : (test : Event V → Bool) (es : List (Event V)) → last_where test es ≡ None → AllByRecursion (λ e. test e ≡ false) es

@@ -14,3 +14,4 @@ pub mod Bound
 pub mod Meanings
 pub mod FragmentNames
 pub mod OverlayHolding
+pub mod Overlays

@@ -1,10 +1,10 @@
 -- What a place that is read did to what was read before it, by cases on the place.
-use Rattle.std.proofs.Common.{◌≡◌, Bool, true, false, cond, List, [], ◌∷◌, ◌++◌, drop, length, nat_le, Option, Some, None, Result, Ok, Err, refl, sym, ap, subst, ◌∙◌}
+use Rattle.std.proofs.Common.{◌≡◌, Bool, true, false, cond, List, [], ◌∷◌, ◌++◌, drop, length, nat_le, Some, Result, Ok, Err, refl, ap, ◌∙◌}
 use Rattle.std.specs.Option.{option_map_or}
 use Rattle.dt_model.specs.Names.{Name}
 use Rattle.dt_model.specs.Path.{path_eq}
-use Rattle.dt_model.specs.Event.{Stack, Event, opening, giving, definition, undefinition, deletion}
-use Rattle.dt_model.specs.Source.{Part, Place, root, block, delete_node, child, label, property, delete_property, delete_child, close, Mode, Refusal, reserved_name, duplicate_node, too_deep, duplicate_property, duplicate_label, no_such_target, Body, SoFar, is_reserved, is_among, labelled, referent, and_then, enter, outside, inside, delete_at, define, open_child, read}
+use Rattle.dt_model.specs.Event.{Stack, giving, definition, undefinition, deletion}
+use Rattle.dt_model.specs.Source.{Place, root, block, delete_node, child, label, property, delete_property, delete_child, close, Mode, Refusal, reserved_name, duplicate_node, too_deep, duplicate_property, duplicate_label, no_such_target, Body, SoFar, is_reserved, is_among, labelled, referent, and_then, enter, outside, inside, delete_at, define, open_child, read}
 use Rattle.dt_laws.proofs.Cases.{not_refused, is_granted, map_or_ok}
 
 -- a body with one more name

@@ -1,16 +1,16 @@
 -- What a source means is a meaning.
-use Rattle.std.proofs.Common.{◌≡◌, ℕ, ◌<◌, Bool, true, false, ◌||◌, cond, is_some, length, List, [], ◌∷◌, ◌++◌, ◌⊎◌, inl, inr, Option, Some, None, Ok, reverse, codes, refl, sym, ap, subst, ◌∙◌, arith}
+use Rattle.std.proofs.Common.{◌≡◌, ℕ, ◌<◌, Bool, true, false, ◌||◌, cond, is_some, length, List, [], ◌∷◌, inl, inr, Option, Some, None, reverse, codes, refl, sym, ap, subst, ◌∙◌, arith}
 use Rattle.std.specs.List.{AllByRecursion, list_any}
-use Rattle.std.specs.Option.{option_and_then, IsSome}
+use Rattle.std.specs.Option.{option_and_then}
 use Rattle.std.specs.Str.{bytes_eq}
 use Rattle.std.proofs.lemmas.Bool.{or_cases}
 use Rattle.std.proofs.lemmas.List.{reverse-reverse, reverse-append}
-use Rattle.dt_model.specs.Names.{Name, IsNodeName, IsLabel}
+use Rattle.dt_model.specs.Names.{Name, IsNodeName}
 use Rattle.dt_model.specs.Path.{Path}
 use Rattle.dt_model.specs.Valid.{IsReservation}
 use Rattle.dt_model.specs.Meaning.{Item, Meaning, IsMeaning}
 use Rattle.dt_model.specs.Event.{Stack, stands, value_at}
-use Rattle.dt_model.specs.Source.{Reference, Part, Place, IsPlace, Mode, Events, SoFar, referent, labelled, all_bound, written, written_number, labels_there, refers_there, refers, meaning_of, IsResolved, SourceMeans}
+use Rattle.dt_model.specs.Source.{Reference, Part, Place, IsPlace, Mode, Events, referent, labelled, all_bound, written, written_number, labels_there, refers_there, meaning_of, IsResolved, SourceMeans}
 use Rattle.dt_laws.proofs.Cases.{map_some, then_some, some_there, cond_none, either_left, either_right, all_map}
 use Rattle.dt_laws.proofs.Labels.{labelled_names, labelled_there}
 use Rattle.dt_laws.proofs.Sound.{Sound}
@@ -48,15 +48,17 @@ module _ (reservations : List (ℕ × ℕ)) (es : Events) (s : Sound es) (each :
 
   keyed_stands : (p : Stack) → keyed_at es p → stands es p ≡ true
   keyed_stands p h =
-      elim (or_cases (is_some (written_number es p) || list_any (labels_there es p) es) (list_any (refers_there es p) es) h)
-      [ inl t ↦
-      elim (or_cases (is_some (written_number es p)) (list_any (labels_there es p) es) t)
-      [ inl a ↦
-      let n = some_there (written_number es p) a in
-      let w = then_some written (value_at es p (codes "phandle")) n.0 n.1 in
-      s.values p (codes "phandle") w.0 w.1
-      | inr a ↦ labels_stand es s p a ]
-      | inr t ↦ references_stand es s p t ]
+      elim (or_cases (is_some (written_number es p) || list_any (labels_there es p) es) (list_any (refers_there es p) es) h) [
+        | inl t ↦
+            elim (or_cases (is_some (written_number es p)) (list_any (labels_there es p) es) t) [
+              | inl a ↦
+                  let n = some_there (written_number es p) a in
+                  let w = then_some written (value_at es p (codes "phandle")) n.0 n.1 in
+                  s.values p (codes "phandle") w.0 w.1
+              | inr a ↦ labels_stand es s p a
+            ]
+        | inr t ↦ references_stand es s p t
+      ]
 
   keyed_number : (p : Stack) → is_some (written_number es p) ≡ true → keyed_at es p
   keyed_number p h = either_left (is_some (written_number es p) || list_any (labels_there es p) es) (list_any (refers_there es p) es) (either_left (is_some (written_number es p)) (list_any (labels_there es p) es) h)
@@ -102,9 +104,10 @@ module _ (reservations : List (ℕ × ℕ)) (es : Events) (s : Sound es) (each :
 means : (mode : Mode) (reservations : List (ℕ × ℕ)) (places : List Place) (m : Meaning) (w : SourceMeans mode reservations places m)
     → 0 < length places → AllByRecursion IsPlace places → AllByRecursion IsReservation reservations → IsMeaning (meaning_of reservations w.so_far.events)
 means mode reservations places m w some places_valid valid =
-    elim (holds-source named_rules mode w.so_far places tt (all_map IsPlace (Obeys named_rules mode) (named_obeys mode) places places_valid) w.all_read)
-    [ inl none ↦ let l : length places ≡ 0 = ap length none.0 in absurd (omega arith)
-    | inr holds ↦ is_meaning reservations w.so_far.events holds.sound holds.each w.resolved valid ]
+    elim (holds-source named_rules mode w.so_far places tt (all_map IsPlace (Obeys named_rules mode) (named_obeys mode) places places_valid) w.all_read) [
+      | inl none ↦ let l : length places ≡ 0 = ap length none.0 in absurd (omega arith)
+      | inr holds ↦ is_meaning reservations w.so_far.events holds.sound holds.each w.resolved valid
+    ]
 
 pub source_meaning : (mode : Mode) (reservations : List (ℕ × ℕ)) (places : List Place) (m : Meaning)
     → 0 < length places → AllByRecursion IsPlace places → AllByRecursion IsReservation reservations → SourceMeans mode reservations places m → IsMeaning m

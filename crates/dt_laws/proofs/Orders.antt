@@ -1,7 +1,6 @@
 -- There is one list of the things of a kind in order.
-use Rattle.std.proofs.Common.{◌≡◌, ◌≢◌, ℕ, ◌<◌, Bool, true, List, [], ◌∷◌, ◌⊎◌, inl, inr, refl, sym, ap, subst, ◌∙◌, arith}
+use Rattle.std.proofs.Common.{◌≡◌, ◌≢◌, ℕ, ◌<◌, Bool, true, List, [], ◌∷◌, inl, inr, refl, sym, subst, ◌∙◌, arith}
 use Rattle.std.specs.List.{AllByRecursion}
-use Rattle.dt_model.specs.Names.{Name}
 use Rattle.dt_model.specs.Lists.{IsIn, FallBy, AreInOrder}
 use Rattle.dt_model.specs.Valid.{AreDistinct}
 use Rattle.dt_laws.proofs.Cases.{all_in, all_map}
@@ -13,11 +12,12 @@ module _ {X : Type 0} (age : X → ℕ) where
   -- what is in a list behind its first element, and isn't that element
   behind : (x y z : X) (xs ys : List X) → x ≡ y → AllByRecursion (λ z. age z < age x) xs → IsIn z xs → ((z : X) → IsIn z (x ∷ xs) → IsIn z (y ∷ ys)) → IsIn z ys
   behind x y z xs ys e h k to =
-      elim (to z (inr k))
-      [ inl s ↦
-      let zx : z ≡ x = s ∙ sym e in
-      absurd (not_itself x xs h (subst (λ w. IsIn w xs) zx k))
-      | inr r ↦ r ]
+      elim (to z (inr k)) [
+        | inl s ↦
+            let zx : z ≡ x = s ∙ sym e in
+            absurd (not_itself x xs h (subst (λ w. IsIn w xs) zx k))
+        | inr r ↦ r
+      ]
 
   -- the first elements of two lists that have the same elements
   first_same : (x y : X) (xs ys : List X) → AllByRecursion (λ z. age z < age x) xs → AllByRecursion (λ z. age z < age y) ys → IsIn x (y ∷ ys) → IsIn y (x ∷ xs) → x ≡ y

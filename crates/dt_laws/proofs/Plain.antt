@@ -1,13 +1,12 @@
 -- A base has no bookkeeping nodes.
-use Rattle.std.proofs.Common.{◌≡◌, ℕ, ◌<◌, Bool, true, false, List, [], ◌∷◌, ◌++◌, length, ◌⊎◌, inl, inr, Ok, reverse, refl, sym, ap, subst, ◌∙◌, arith}
-use Rattle.std.specs.List.{AllByRecursion}
+use Rattle.std.proofs.Common.{◌≡◌, ℕ, ◌<◌, true, false, List, [], ◌∷◌, ◌++◌, length, inl, inr, reverse, refl, sym, ap, subst, ◌∙◌, arith}
 use Rattle.std.proofs.lemmas.Grind.{reverse_onto}
 use Rattle.std.proofs.lemmas.List.{reverse-reverse, length-reverse}
 use Rattle.dt_model.specs.Names.{Name}
 use Rattle.dt_model.specs.Path.{Path, is_bookkeeping}
 use Rattle.dt_model.specs.Meaning.{Meaning, IsPlain}
 use Rattle.dt_model.specs.Event.{Stack, stands}
-use Rattle.dt_model.specs.Source.{Part, Place, root, block, delete_node, child, label, property, delete_property, delete_child, close, base, SoFar, is_reserved, meaning_of, SourceMeans}
+use Rattle.dt_model.specs.Source.{Place, root, block, delete_node, child, label, property, delete_property, delete_child, close, base, SoFar, is_reserved, meaning_of, SourceMeans}
 use Rattle.dt_laws.proofs.Cases.{all_from}
 use Rattle.dt_laws.proofs.Holding.{Rules, Obeys, node_follows}
 use Rattle.dt_laws.proofs.ReadAll.{holds-source}
@@ -38,9 +37,10 @@ plain_obeys close = tt
 
 plain_meaning : (reservations : List (ℕ × ℕ)) (places : List Place) (m : Meaning) (w : SourceMeans base reservations places m) → IsPlain (meaning_of reservations w.so_far.events)
 plain_meaning reservations places m w =
-    elim (holds-source plain_rules base w.so_far places refl (all_from (Obeys plain_rules base) plain_obeys places) w.all_read)
-    [ inl none ↦ record { plain = λ p h. let z : false ≡ true = ap (λ (t : SoFar). stands t.events (reverse p)) (sym none.1) ∙ h in cc }
-    | inr holds ↦ record { plain = λ p h. ap is_bookkeeping (sym (reverse-reverse p)) ∙ node_follows plain_rules w.so_far.events (reverse p) holds.each h } ]
+    elim (holds-source plain_rules base w.so_far places refl (all_from (Obeys plain_rules base) plain_obeys places) w.all_read) [
+      | inl none ↦ record { plain = λ p h. let z : false ≡ true = ap (λ (t : SoFar). stands t.events (reverse p)) (sym none.1) ∙ h in cc }
+      | inr holds ↦ record { plain = λ p h. ap is_bookkeeping (sym (reverse-reverse p)) ∙ node_follows plain_rules w.so_far.events (reverse p) holds.each h }
+    ]
 
 pub source_plain : (reservations : List (ℕ × ℕ)) (places : List Place) (m : Meaning) → SourceMeans base reservations places m → IsPlain m
 source_plain reservations places m w = subst IsPlain (sym w.means) (plain_meaning reservations places m w)

@@ -1,17 +1,13 @@
 -- What is true after all places of a source.
-use Rattle.std.proofs.Common.{◌≡◌, Bool, true, false, List, [], ◌∷◌, ◌++◌, ◌⊎◌, inl, inr, Option, Some, None, Result, Ok, Err, reverse, refl, sym, ap, subst, ◌∙◌}
+use Rattle.std.proofs.Common.{◌≡◌, true, false, List, [], ◌∷◌, ◌⊎◌, inl, inr, Some, None, Result, Ok, Err, refl, sym, ap, subst, ◌∙◌}
 use Rattle.std.specs.List.{AllByRecursion}
-use Rattle.std.proofs.lemmas.Grind.{reverse_onto}
-use Rattle.std.proofs.lemmas.List.{reverse-reverse}
 use Rattle.dt_model.specs.Names.{Name}
-use Rattle.dt_model.specs.Path.{Path, is_bookkeeping}
-use Rattle.dt_model.specs.Meaning.{Meaning, IsPlain}
-use Rattle.dt_model.specs.Event.{Stack, stands, names}
-use Rattle.dt_model.specs.Source.{Reference, by_label, by_path, Part, Place, root, block, delete_node, child, label, property, delete_property, delete_child, close, Mode, base, Refusal, SoFar, nothing, is_reserved, enter, and_if_read, read, read_all, meaning_of, SourceMeans}
-use Rattle.dt_laws.proofs.Cases.{all_from, all_append}
+use Rattle.dt_model.specs.Event.{Stack, names}
+use Rattle.dt_model.specs.Source.{by_label, by_path, Place, root, block, delete_node, child, label, property, delete_property, delete_child, close, Mode, Refusal, SoFar, nothing, enter, and_if_read, read, read_all}
+use Rattle.dt_laws.proofs.Cases.{all_from}
 use Rattle.dt_laws.proofs.Sound.{sound-start}
 use Rattle.dt_laws.proofs.Making.{Makes, makes}
-use Rattle.dt_laws.proofs.Holding.{Rules, Follows, Obeys, Holds, holds-read, node_follows}
+use Rattle.dt_laws.proofs.Holding.{Rules, Obeys, Holds, holds-read}
 
 -- nothing but a block of the root stands first
 first_is : (mode : Mode) (place : Place) (t : SoFar) → Makes mode nothing place t → t ≡ enter nothing [] []
@@ -71,6 +67,7 @@ any_obeys mode close = tt
 
 pub one_node : (mode : Mode) (places : List Place) (s : SoFar) → read_all mode nothing places ≡ Ok s → (l : Name) (p q : Stack) → names s.events l p ≡ true → names s.events l q ≡ true → p ≡ q
 one_node mode places s e l p q h k =
-    elim (holds-source no_rules mode s places tt (all_from (Obeys no_rules mode) (any_obeys mode) places) e)
-    [ inl none ↦ let z : false ≡ true = ap (λ (t : SoFar). names t.events l p) (sym none.1) ∙ h in cc
-    | inr holds ↦ holds.sound.one l p q h k ]
+    elim (holds-source no_rules mode s places tt (all_from (Obeys no_rules mode) (any_obeys mode) places) e) [
+      | inl none ↦ let z : false ≡ true = ap (λ (t : SoFar). names t.events l p) (sym none.1) ∙ h in cc
+      | inr holds ↦ holds.sound.one l p q h k
+    ]

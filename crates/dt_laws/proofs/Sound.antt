@@ -1,11 +1,11 @@
 -- What is true of all events of a source, and stays true with one more: a node that stands has a parent that stands, what
 -- has a value or a label stands, and a label names one node.
-use Rattle.std.proofs.Common.{◌≡◌, Bool, true, false, cond, List, [], ◌∷◌, ◌++◌, ◌⊎◌, inl, inr, Option, Some, None, refl, sym, ap, subst, ◌∙◌}
+use Rattle.std.proofs.Common.{◌≡◌, true, List, [], ◌∷◌, ◌++◌, ◌⊎◌, inl, inr, Some, refl, sym, subst, ◌∙◌}
 use Rattle.dt_model.specs.Names.{Name}
-use Rattle.dt_model.specs.Event.{Stack, Event, opening, giving, definition, undefinition, deletion, is_within, stands, value_at, names}
+use Rattle.dt_model.specs.Event.{Stack, opening, giving, definition, undefinition, deletion, stands, value_at, names}
 use Rattle.dt_model.specs.Source.{Part, Events}
 use Rattle.dt_model.proofs.EventSteps.{stands-push, value_at-push, names-push}
-use Rattle.dt_laws.proofs.Stands.{not_within_parent, opened, opened_itself, opened_before, deleted, not_deleted, given, name_kept, put, value_left, value_kept}
+use Rattle.dt_laws.proofs.Stands.{not_within_parent, opened, opened_before, deleted, not_deleted, given, name_kept, put, value_left, value_kept}
 
 pub record Sound (es : Events) : Type 0 where
   pub rooted : stands es [] ≡ true

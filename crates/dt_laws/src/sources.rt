@@ -1,7 +1,11 @@
 //! What is true of the meanings of sources.
 
 ghost use Rattle.dt_laws.specs.Sources.{
-    SourceIsMeaning, SourceIsPlain, LabelIsOneNodes, OverlaySourceIsOverlay, OrderIsOne,
+  SourceIsMeaning,
+  SourceIsPlain,
+  LabelIsOneNodes,
+  OverlaySourceIsOverlay,
+  OrderIsOne,
 };
 
 /// What a source means is a meaning: its nodes are a tree with names, its labels, references and written numbers are of
