@@ -15,3 +15,7 @@ pub mod Meanings
 pub mod FragmentNames
 pub mod OverlayHolding
 pub mod Overlays
+pub mod Balanced
+pub mod OwnPlaces
+pub mod InnerReads
+pub mod Seconds

@@ -23,7 +23,7 @@ first_is mode (delete_property n) t m = let z : [] ≡ m.0 ∷ m.1 = m.2 in cc
 first_is mode (delete_child n) t m = let z : [] ≡ m.0 ∷ m.1 = m.2 in cc
 first_is mode close t m = let z : [] ≡ m.0 ∷ m.1 = m.2 in cc
 
-if_read_ok : (o : Result SoFar Refusal) (next : SoFar → Result SoFar Refusal) (t : SoFar) → and_if_read o next ≡ Ok t → (s : SoFar) × (o ≡ Ok s) × (next s ≡ Ok t)
+pub if_read_ok : (o : Result SoFar Refusal) (next : SoFar → Result SoFar Refusal) (t : SoFar) → and_if_read o next ≡ Ok t → (s : SoFar) × (o ≡ Ok s) × (next s ≡ Ok t)
 if_read_ok (Ok s) next t h = (s, refl, h)
 if_read_ok (Err e) next t h = cc
 

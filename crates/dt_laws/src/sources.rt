@@ -7,6 +7,7 @@ ghost use Rattle.dt_laws.specs.Sources.{
   OverlaySourceIsOverlay,
   OrderIsOne,
 };
+ghost use Rattle.dt_laws.specs.Bodies.{SecondProperty, SecondChild};
 
 /// What a source means is a meaning: its nodes are a tree with names, its labels, references and written numbers are of
 /// nodes that stand. A base's has no bookkeeping nodes.
@@ -28,4 +29,11 @@ pub fn overlay_source_is_an_overlay()
 /// There is one list of the things of a kind in order.
 pub fn order_is_one()
     ensures { OrderIsOne }
+{}
+
+/// In one body each property is defined once and each child opened once, whatever is deleted in between; what another
+/// body of the same node has doesn't count.
+pub fn second_in_one_body()
+    ensures property { SecondProperty }
+    ensures child { SecondChild }
 {}
