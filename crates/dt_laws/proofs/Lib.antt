@@ -19,3 +19,4 @@ pub mod Balanced
 pub mod OwnPlaces
 pub mod InnerReads
 pub mod Seconds
+pub mod SampleSource

@@ -3,4 +3,5 @@
 //! that uses the definitions.
 #![tactic(auto)]
 
+mod samples;
 mod sources;
