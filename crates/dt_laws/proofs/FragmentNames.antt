@@ -1,16 +1,15 @@
 -- The names that a fragment brings are names: `fragment@N` with any number, `__overlay__`, `target` and `target-path`.
 use Rattle.std.proofs.Common.{◌≡◌, ℕ, zero, suc, ◌+◌, ◌<◌, ◌≤◌, ◌/◌, ◌%◌, ◌||◌, cond, Bool, true, false, List, [], ◌∷◌, ◌++◌, length, length-append, codes, refl, ap, ◌∙◌, arith}
-use Rattle.std.specs.List.{AllByRecursion, count_by, list_all}
+use Rattle.std.specs.List.{AllByRecursion, count_by}
 use Rattle.std.specs.Bool.{IsTrue, ◌==◌}
 use Rattle.std.specs.Fmt.{digits, digits_onto, digit_glyph, decimal}
-use Rattle.std.proofs.lemmas.Bool.{and_parts}
 use Rattle.std.proofs.lemmas.Bool.Decides.{nat_tests}
 use Rattle.std.proofs.lemmas.List.Elements.{All-from_recursion}
 use Rattle.std.proofs.lemmas.List.Sums.{sum_by-append, sum_by-cons}
 use Rattle.dt_model.specs.Names.{IsNodeName, IsPropertyName, is_name_byte}
 use Rattle.dt_model.specs.Path.{is_bookkeeping_name}
 use Rattle.dt_model.specs.OverlaySource.{fragment_name}
-use Rattle.dt_laws.proofs.Cases.{all_map, all_append}
+use Rattle.dt_laws.proofs.Cases.{all_map, all_append, all_pass}
 
 -- ---- digits
 
@@ -63,10 +62,6 @@ no_at : (ds : List ℕ) → AllByRecursion IsDigitByte ds → count_by is_at ds 
 no_at [] h = refl
 no_at (b ∷ ds) h =
     sum_by-cons (λ x. cond (is_at x) 1 0) b ds ∙ ap (λ t. cond t 1 0 + count_by is_at ds) (digit_no_at b h.0) ∙ (let rest : count_by is_at ds ≡ 0 = no_at ds h.1 in omega arith)
-
-all_pass : (test : ℕ → Bool) (xs : List ℕ) → list_all test xs ≡ true → AllByRecursion (λ b. IsTrue (test b)) xs
-all_pass test [] h = tt
-all_pass test (x ∷ xs) h = let both = and_parts (test x) (list_all test xs) h in (both.0, all_pass test xs both.1)
 
 front : AllByRecursion (λ b. IsTrue (is_name_byte b || (b == 64))) (codes "fragment@")
 front = all_pass (λ b. is_name_byte b || (b == 64)) (codes "fragment@") refl

@@ -20,3 +20,4 @@ pub mod OwnPlaces
 pub mod InnerReads
 pub mod Seconds
 pub mod SampleSource
+pub mod SampleOverlay

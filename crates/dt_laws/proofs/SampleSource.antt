@@ -1,21 +1,16 @@
 -- A small source has a meaning.
-use Rattle.std.proofs.Common.{◌≡◌, ℕ, Bool, true, false, not, ◌||◌, ◌&&◌, is_some, List, [], ◌∷◌, Option, Some, None, Result, Ok, Err, codes, refl, sym, ap, subst, ◌∙◌}
-use Rattle.std.specs.List.{AllByRecursion, list_all}
+use Rattle.std.proofs.Common.{◌≡◌, ℕ, Bool, true, not, ◌||◌, is_some, List, [], ◌∷◌, Option, Some, Result, Ok, Err, codes, refl, sym, subst, ◌∙◌}
+use Rattle.std.specs.List.{list_all}
 use Rattle.std.specs.Str.{bytes_eq}
-use Rattle.std.proofs.lemmas.Bool.{and_parts}
 use Rattle.dt_model.specs.Names.{Name}
 use Rattle.dt_model.specs.Path.{path_eq}
 use Rattle.dt_model.specs.Meaning.{Meaning}
 use Rattle.dt_model.specs.Event.{Stack, Event, opening, giving, definition, undefinition, deletion, defines, drops, value_at}
-use Rattle.dt_model.specs.Source.{Part, Refusal, Events, SoFar, base, nothing, read_all, all_bound, written, written_number, meaning_of, IsResolved, SourceMeans}
+use Rattle.dt_model.specs.Source.{Part, Refusal, Events, SoFar, base, nothing, read_all, all_bound, written, written_number, meaning_of, IsResolved}
 use Rattle.dt_model.proofs.EventSteps.{path_eq-is}
 use Rattle.dt_laws.specs.SampleSources.{sample_source, IsSampleMeaning}
-use Rattle.dt_laws.proofs.Cases.{then_some}
+use Rattle.dt_laws.proofs.Cases.{then_some, all_pass}
 use Rattle.dt_laws.proofs.Lasts.{last_each, value_by}
-
-pub all_pass : {X : Type 0} (test : X → Bool) (xs : List X) → list_all test xs ≡ true → AllByRecursion (λ x. test x ≡ true) xs
-all_pass test [] h = tt
-all_pass test (x ∷ xs) h = let both = and_parts (test x) (list_all test xs) h in (both.0, all_pass test xs both.1)
 
 -- a test of the definitions
 abbrev pub on_definition : (Stack → Name → List Part → Bool) → Event (List Part) → Bool

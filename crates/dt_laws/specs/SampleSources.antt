@@ -1,9 +1,9 @@
 -- A small source and a small overlay, by their places.
-use Rattle.std.specs.Prelude.{◌≡◌, ℕ, Bool, true, false, List, [], ◌∷◌, Option, Some, None, map, codes}
+use Rattle.std.specs.Prelude.{◌≡◌, true, false, List, [], ◌∷◌, Some, map, codes}
 use Rattle.dt_model.specs.Path.{Path, path_value}
-use Rattle.dt_model.specs.Meaning.{Item, byte, reference, Meaning}
-use Rattle.dt_model.specs.Source.{Reference, by_label, by_path, Part, one, number_of, text_of, Place, root, block, delete_node, child, label, property, delete_property, delete_child, close, base, SourceMeans}
-use Rattle.dt_model.specs.Overlay.{OverlayReference, inside, outside, Target, at_reference, at_path, Fragment, Overlay}
+use Rattle.dt_model.specs.Meaning.{byte, reference, Meaning}
+use Rattle.dt_model.specs.Source.{by_label, by_path, one, number_of, text_of, Place, root, block, delete_node, child, label, property, close, base, SourceMeans}
+use Rattle.dt_model.specs.Overlay.{inside, outside, at_reference, at_path, Fragment, Overlay}
 use Rattle.dt_model.specs.OverlaySource.{OverlayMeans}
 
 -- / { x: a { phandle = <5>; r = <&y>; b { }; }; y: c { }; d { p = &gone; }; };
