@@ -21,3 +21,4 @@ pub mod InnerReads
 pub mod Seconds
 pub mod SampleSource
 pub mod SampleOverlay
+pub mod FreeNumbers

@@ -1,3 +1,4 @@
 pub mod Sources
 pub mod Bodies
 pub mod SampleSources
+pub mod Fragments

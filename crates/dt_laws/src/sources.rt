@@ -8,6 +8,7 @@ ghost use Rattle.dt_laws.specs.Sources.{
   OrderIsOne,
 };
 ghost use Rattle.dt_laws.specs.Bodies.{SecondProperty, SecondChild};
+ghost use Rattle.dt_laws.specs.Fragments.{FirstFree};
 
 /// What a source means is a meaning: its nodes are a tree with names, its labels, references and written numbers are of
 /// nodes that stand. A base's has no bookkeeping nodes.
@@ -36,4 +37,9 @@ pub fn order_is_one()
 pub fn second_in_one_body()
     ensures property { SecondProperty }
     ensures child { SecondChild }
+{}
+
+/// A new fragment's number is the first, from the one after the last new fragment's on, whose name isn't written.
+pub fn fragment_number_is_first_free()
+    ensures { FirstFree }
 {}
