@@ -3,3 +3,7 @@ pub mod Samples
 pub mod Applying
 pub mod Merging
 pub mod Again
+pub mod Sources
+pub mod Bodies
+pub mod SampleSources
+pub mod Fragments

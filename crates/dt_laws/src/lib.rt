@@ -5,3 +5,5 @@
 
 mod blobs;
 mod laws;
+mod samples;
+mod sources;
