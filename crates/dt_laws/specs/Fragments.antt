@@ -16,8 +16,8 @@ pub record IsFirstFree (written : List Name) (n k : ℕ) : Type 0 where
 abbrev pub FirstFree : Type 0
 FirstFree = (written : List Name) (n : ℕ) → n + length written < 2 ^ 64 → IsFirstFree written n (free_from written (length written) n)
 
--- Where the root has no label, and a text can give it none in an overlay, a new fragment's node doesn't stand before it
--- is opened.
+-- A new fragment's node doesn't stand before it is opened, where no label names the root: a block of such a label could
+-- open children of the root that `root_children` doesn't have.
 abbrev pub NewFragment : Type 0
 NewFragment = (before behind : List Place) (written : List Name) (s : OverlaySoFar) → AllByRecursion IsPlace before
     → written ≡ root_children None (before ++ behind) → read_overlays written overlay_start before ≡ Ok s → s.next + length written < 2 ^ 64
