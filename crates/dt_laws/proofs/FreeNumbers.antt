@@ -71,6 +71,9 @@ found written (suc tries) n = by (found written tries (n + 1)) (is_among (fragme
         }
     by more false taken = record { from = omega arith; within = omega arith; first = λ m low high. absurd (omega arith); free = λ h. taken }
 
+pub free_within : (written : List Name) (n : ℕ) → (n ≤ free_from written (length written) n) × (free_from written (length written) n ≤ n + length written)
+free_within written n = let f = found written (length written) n in (f.from, f.within)
+
 -- where so many tries find none, there is one number too many for the names
 crowded : (written : List Name) (n k : ℕ) → n + length written < 2 ^ 64 → Found written (length written) n k → is_among (fragment_name k) written ≡ true → ⊥
 crowded written n k bound f taken =

@@ -144,7 +144,7 @@ module _ (r : Rules) (s : SoFar) (h : Holds r s) where
     each = h.each;
   }
 
-  holds-made : (mode : Mode) (place : Place) (t : SoFar) → Obeys r mode place → Makes mode s place t → Holds r t
+  pub holds-made : (mode : Mode) (place : Place) (t : SoFar) → Obeys r mode place → Makes mode s place t → Holds r t
   holds-made mode root t o m = subst (Holds r) (sym m.1) (holds-again [] [] h.sound.rooted)
   holds-made mode (block b) t o m = subst (Holds r) (sym m.1.2) (holds-again m.1.0 [] (referent_stands s.events h.sound b m.1.0 m.1.1))
   holds-made mode (delete_node b) t o m = subst (Holds r) (sym m.1.3) (holds-delete_node m.1.0 m.1.1 m.0)

@@ -57,6 +57,7 @@ pub mod Keyed
 pub mod Bound
 pub mod Meanings
 pub mod FragmentNames
+pub mod OverlayMaking
 pub mod OverlayHolding
 pub mod Overlays
 pub mod Balanced
@@ -66,3 +67,6 @@ pub mod Seconds
 pub mod SampleSource
 pub mod SampleOverlay
 pub mod FreeNumbers
+pub mod RootLabels
+pub mod RootChildren
+pub mod NewFragments

@@ -8,7 +8,7 @@ ghost use Rattle.dt_laws.specs.Sources.{
   OrderIsOne,
 };
 ghost use Rattle.dt_laws.specs.Bodies.{SecondProperty, SecondChild};
-ghost use Rattle.dt_laws.specs.Fragments.{FirstFree};
+ghost use Rattle.dt_laws.specs.Fragments.{FirstFree, NewFragment};
 
 /// What a source means is a meaning: its nodes are a tree with names, its labels, references and written numbers are of
 /// nodes that stand. A base's has no bookkeeping nodes.
@@ -39,7 +39,9 @@ pub fn second_in_one_body()
     ensures child { SecondChild }
 {}
 
-/// A new fragment's number is the first, from the one after the last new fragment's on, whose name isn't written.
-pub fn fragment_number_is_first_free()
-    ensures { FirstFree }
+/// A new fragment's number is the first, from the one after the last new fragment's on, whose name isn't written, and the
+/// fragment's node is a new one.
+pub fn fragment_is_new()
+    ensures number { FirstFree }
+    ensures node { NewFragment }
 {}
