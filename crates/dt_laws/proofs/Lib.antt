@@ -32,3 +32,4 @@ pub mod MergedMeaning
 pub mod KeptNames
 pub mod GoodResult
 pub mod ValidResult
+pub mod SampleBase
