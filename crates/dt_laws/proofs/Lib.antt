@@ -33,3 +33,4 @@ pub mod KeptNames
 pub mod GoodResult
 pub mod ValidResult
 pub mod SampleBase
+pub mod SampleOverlay
