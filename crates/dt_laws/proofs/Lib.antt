@@ -34,3 +34,4 @@ pub mod GoodResult
 pub mod ValidResult
 pub mod SampleBase
 pub mod SampleOverlay
+pub mod SampleObject

@@ -16,13 +16,13 @@ use Rattle.dt_laws.proofs.SampleBase.{node_name, property_name, label_name, plai
 
 -- ---- the tree
 
-f_name : IsNodeName (codes "f")
+pub f_name : IsNodeName (codes "f")
 f_name = node_name (codes "f") refl (omega arith) (omega arith) (omega arith) (λ e. (let z : 102 ≡ 64 = e in omega arith))
 
-overlay_name : IsNodeName (codes "__overlay__")
+pub overlay_name : IsNodeName (codes "__overlay__")
 overlay_name = node_name (codes "__overlay__") refl (omega arith) (omega arith) (omega arith) (λ e. (let z : 95 ≡ 64 = e in omega arith))
 
-led_name : IsNodeName (codes "led")
+pub led_name : IsNodeName (codes "led")
 led_name = node_name (codes "led") refl (omega arith) (omega arith) (omega arith) (λ e. (let z : 108 ≡ 64 = e in omega arith))
 
 pub x_name : IsPropertyName (codes "x")

@@ -1,12 +1,15 @@
 -- A tree, an overlay with one of each kind of reference, and what applying the overlay's object gives.
-use Rattle.std.specs.Prelude.{ℕ, Bool, ◌&&◌, not, codes, List, [], ◌∷◌, ◌++◌, Option, Some, None, if◌then◌else◌}
+use Rattle.std.specs.Prelude.{◌≡◌, ℕ, Bool, ◌&&◌, not, codes, List, [], ◌∷◌, ◌++◌, Option, Some, None, if◌then◌else◌}
 use Rattle.std.specs.Str.{bytes_eq}
 use Rattle.dt_model.specs.Names.{Name}
 use Rattle.dt_model.specs.Path.{Path, path_eq, path_value, is_bookkeeping}
 use Rattle.dt_model.specs.Meaning.{Item, reference, Meaning}
 use Rattle.dt_model.specs.Overlay.{OverlayReference, inside, outside, at_reference, Fragment, Overlay}
-use Rattle.dt_model.specs.Object.{Cell}
+use Rattle.dt_model.specs.Object.{Cell, HasFixups}
+use Rattle.dt_model.specs.Numbers.{AreNewNumbers}
+use Rattle.dt_model.specs.Applied.{applied}
 use Rattle.dt_model.specs.Tree.{Property, Forest, no_nodes, branch, Reading, stands_in}
+use Rattle.dt_laws.specs.Applying.{AreOf}
 
 -- / { s: soc { phandle = <1>; }; };
 abbrev pub sample_base : Reading
@@ -77,3 +80,10 @@ sample_result = record {
       (branch (codes "led") (record { name = codes "x"; value = 0 ∷ 0 ∷ 0 ∷ 2 ∷ 0 ∷ 0 ∷ 0 ∷ 1 ∷ [] } ∷ record { name = codes "phandle"; value = 0 ∷ 0 ∷ 0 ∷ 2 ∷ [] } ∷ []) no_nodes no_nodes)
       (branch (codes "__symbols__") (record { name = codes "s"; value = codes "/soc" ++ 0 ∷ [] } ∷ record { name = codes "l"; value = codes "/soc/led" ++ 0 ∷ [] } ∷ []) no_nodes no_nodes);
 }
+
+-- the sample meets the premises of the laws, and this is its result
+pub record SampleIsApplied : Type 0 where
+  pub are : AreOf sample_base sample_object sample_meaning sample_overlay (λ p. 1) (λ p. 1)
+  pub has : HasFixups sample_object sample_fixups
+  pub new : AreNewNumbers sample_base sample_object sample_numbers
+  pub result : applied sample_base sample_object sample_fixups sample_numbers ≡ Some sample_result
