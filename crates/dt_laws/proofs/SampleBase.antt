@@ -1,18 +1,17 @@
 -- The sample's base is a tree of its meaning.
-use Rattle.std.proofs.Common.{◌≡◌, ◌≢◌, ℕ, ◌≤◌, ◌<◌, ◌==◌, Bool, true, false, not, ◌&&◌, ◌||◌, List, [], ◌∷◌, ◌++◌, codes, length, slice_index, count_by, IsTrue, refl, sym, ap, subst, ◌∙◌, inl, inr, Option, Some, None, true≢false, arith}
+use Rattle.std.proofs.Common.{◌≡◌, ◌≢◌, ℕ, ◌≤◌, ◌<◌, ◌==◌, Bool, true, false, not, ◌&&◌, ◌||◌, List, [], ◌∷◌, ◌++◌, codes, length, slice_index, count_by, IsTrue, refl, sym, ap, subst, ◌∙◌, Option, Some, None, true≢false, arith}
 use Rattle.std.specs.Prelude.{is_some, option_map, option_and_then, if◌then◌else◌}
 use Rattle.std.specs.List.{AllByRecursion, list_all}
 use Rattle.std.specs.Str.{bytes_eq}
 use Rattle.std.proofs.lemmas.List.Elements.{All-from_recursion}
 use Rattle.dt_model.specs.Names.{Name, IsNodeName, IsPropertyName, IsLabel, is_name_byte, is_letter, is_digit}
 use Rattle.dt_model.specs.Path.{Path, path_eq, path_value, is_bookkeeping}
-use Rattle.dt_model.specs.Lists.{IsIn}
-use Rattle.dt_model.specs.Meaning.{Item, cell, Meaning, IsMeaning, IsPlain, IsNaming}
+use Rattle.dt_model.specs.Meaning.{Item, cell, IsMeaning, IsPlain}
 use Rattle.dt_model.specs.Represents.{Represents}
 use Rattle.dt_model.specs.Tree.{Reading, Placed, Node, value_of, sibling, node_below, root_of, node_at, nodes_of, stands_in, value_in}
-use Rattle.dt_model.specs.Valid.{IsValid, IsWithinLimits, IsPhandle}
+use Rattle.dt_model.specs.Valid.{IsValid, IsWithinLimits}
 use Rattle.dt_laws.specs.Samples.{sample_base, sample_meaning}
-use Rattle.dt_laws.proofs.Tests.{and_left, and_right, and_both, not_true, all_at, each_in, each_from, bytes_eq_true, bytes_eq_differ, path_eq_true, path_eq_refl}
+use Rattle.dt_laws.proofs.Tests.{and_left, and_right, and_both, not_true, all_at, each_in, each_from, bytes_eq_true, bytes_eq_differ, path_eq_true}
 use Rattle.dt_laws.proofs.Listed.{stands_listed, at_listed}
 use Rattle.dt_laws.proofs.Preorder.{listed_named}
 

@@ -1,21 +1,17 @@
 -- The sample's object is one of its overlay, and what applying it gives.
-use Rattle.std.proofs.Common.{◌≡◌, ◌≢◌, ◌↔◌, ℕ, suc, zero, ◌≤◌, ◌<◌, ◌+◌, ◌%◌, Bool, true, false, not, ◌&&◌, ◌||◌, List, [], ◌∷◌, ◌++◌, map, codes, length, refl, sym, ap, subst, ◌∙◌, inl, inr, Option, Some, None, true≢false, arith}
+use Rattle.std.proofs.Common.{◌≡◌, ℕ, ◌%◌, Bool, true, false, ◌&&◌, List, [], ◌∷◌, ◌++◌, codes, length, refl, sym, ap, subst, ◌∙◌, inl, inr, Option, Some, None, true≢false, arith}
 use Rattle.std.specs.Prelude.{is_some, IsSome, option_map, option_and_then, nat_eq, if◌then◌else◌}
-use Rattle.std.specs.List.{list_any, AllByRecursion}
+use Rattle.std.specs.List.{list_any}
 use Rattle.std.specs.Str.{bytes_eq}
 use Rattle.dt_model.specs.Names.{Name}
 use Rattle.dt_model.specs.Path.{Path, path_eq, path_value, is_bookkeeping}
 use Rattle.dt_model.specs.Lists.{IsIn}
 use Rattle.dt_model.specs.Meaning.{Item, reference, cell, value_bytes}
 use Rattle.dt_model.specs.Overlay.{OverlayReference, inside, outside}
-use Rattle.dt_model.specs.Object.{Cell, references_from, IsCellOf, IsCellText, AreCellTexts, HasFixups, local_cells, object_number, object_value, Encodes}
-use Rattle.dt_model.specs.Numbers.{IsLeastFree, AreNewNumbers, numbers_of}
-use Rattle.dt_model.specs.Applied.{applied}
-use Rattle.dt_model.specs.Tree.{Forest, no_nodes, branch, Reading, Node, Placed, value_of, node_at, nodes_of, stands_in, value_in}
-use Rattle.dt_model.specs.Valid.{IsValid}
-use Rattle.dt_laws.specs.Applying.{AreOf}
-use Rattle.dt_laws.specs.Samples.{led, sample_base, sample_meaning, sample_object, sample_overlay, sample_fixups, sample_numbers, sample_result, SampleIsApplied}
-use Rattle.dt_laws.proofs.Tests.{each_in, bytes_eq_true, bytes_eq_refl, bytes_eq_differ, path_eq_true}
+use Rattle.dt_model.specs.Object.{Cell, references_from, IsCellOf, HasFixups, local_cells, object_number, object_value, Encodes}
+use Rattle.dt_model.specs.Tree.{no_nodes, branch, Reading, Node, Placed, value_of, nodes_of, stands_in, value_in}
+use Rattle.dt_laws.specs.Samples.{led, sample_object, sample_overlay, sample_fixups, SampleIsApplied}
+use Rattle.dt_laws.proofs.Tests.{each_in, bytes_eq_true, bytes_eq_differ, path_eq_true}
 use Rattle.dt_laws.proofs.Listed.{stands_listed, value_listed}
 use Rattle.dt_laws.proofs.SampleBase.{plain_nodes, plain_is, by_node, not_there, base_valid, sample_is_meaning, sample_is_plain, sample_represented, few_in_base}
 use Rattle.dt_laws.proofs.SampleOverlay.{f_name, overlay_name, led_name, x_name, target_name, object_valid, few_in_object, Value, of_target, of_x, value_cases, sample_is_overlay}

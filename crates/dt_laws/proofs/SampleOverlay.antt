@@ -1,16 +1,16 @@
 -- The sample's overlay is one, and its object is a tree that a blob may hold.
-use Rattle.std.proofs.Common.{◌≡◌, ◌≢◌, ◌↔◌, ℕ, ◌≤◌, ◌<◌, Bool, true, false, not, ◌&&◌, List, [], ◌∷◌, ◌++◌, codes, refl, sym, ap, subst, ◌∙◌, inl, inr, Option, Some, None, true≢false, arith}
-use Rattle.std.specs.Prelude.{is_some, IsSome, if◌then◌else◌}
+use Rattle.std.proofs.Common.{◌≡◌, Bool, true, false, not, ◌&&◌, List, [], ◌∷◌, codes, refl, sym, ap, subst, ◌∙◌, inl, inr, Option, Some, None, true≢false, arith}
+use Rattle.std.specs.Prelude.{is_some, IsSome}
 use Rattle.std.specs.Str.{bytes_eq}
 use Rattle.dt_model.specs.Names.{Name, IsNodeName, IsPropertyName, IsLabel}
 use Rattle.dt_model.specs.Path.{Path, path_eq, is_bookkeeping}
 use Rattle.dt_model.specs.Lists.{IsIn}
 use Rattle.dt_model.specs.Meaning.{Item, reference, EachReference, AreBytes}
-use Rattle.dt_model.specs.Overlay.{OverlayReference, inside, outside, Target, at_reference, Fragment, Overlay, content, IsOverlay, IsReferent, IsContained, HoldsTarget}
+use Rattle.dt_model.specs.Overlay.{OverlayReference, inside, outside, Target, at_reference, Fragment, content, IsOverlay, IsReferent, IsContained, HoldsTarget}
 use Rattle.dt_model.specs.Tree.{Placed, nodes_of, stands_in}
 use Rattle.dt_model.specs.Valid.{IsValid, IsWithinLimits}
 use Rattle.dt_laws.specs.Samples.{led, sample_object, sample_overlay}
-use Rattle.dt_laws.proofs.Tests.{and_left, and_right, and_both, bytes_eq_true, bytes_eq_refl, bytes_eq_differ, path_eq_true}
+use Rattle.dt_laws.proofs.Tests.{and_left, and_right, bytes_eq_true, bytes_eq_differ, path_eq_true}
 use Rattle.dt_laws.proofs.Listed.{stands_listed}
 use Rattle.dt_laws.proofs.SampleBase.{node_name, property_name, label_name, plain_nodes, plain_stands, plain_parents, plain_named}
 

@@ -1,14 +1,14 @@
 -- A tree, an overlay with one of each kind of reference, and what applying the overlay's object gives.
-use Rattle.std.specs.Prelude.{◌≡◌, ℕ, Bool, ◌&&◌, not, codes, List, [], ◌∷◌, ◌++◌, Option, Some, None, if◌then◌else◌}
+use Rattle.std.specs.Prelude.{◌≡◌, ℕ, ◌&&◌, not, codes, List, [], ◌∷◌, ◌++◌, Some, None, if◌then◌else◌}
 use Rattle.std.specs.Str.{bytes_eq}
 use Rattle.dt_model.specs.Names.{Name}
-use Rattle.dt_model.specs.Path.{Path, path_eq, path_value, is_bookkeeping}
-use Rattle.dt_model.specs.Meaning.{Item, reference, Meaning}
-use Rattle.dt_model.specs.Overlay.{OverlayReference, inside, outside, at_reference, Fragment, Overlay}
+use Rattle.dt_model.specs.Path.{Path, path_eq, is_bookkeeping}
+use Rattle.dt_model.specs.Meaning.{reference, Meaning}
+use Rattle.dt_model.specs.Overlay.{inside, outside, at_reference, Overlay}
 use Rattle.dt_model.specs.Object.{Cell, HasFixups}
 use Rattle.dt_model.specs.Numbers.{AreNewNumbers}
 use Rattle.dt_model.specs.Applied.{applied}
-use Rattle.dt_model.specs.Tree.{Property, Forest, no_nodes, branch, Reading, stands_in}
+use Rattle.dt_model.specs.Tree.{no_nodes, branch, Reading, stands_in}
 use Rattle.dt_laws.specs.Applying.{AreOf}
 
 -- / { s: soc { phandle = <1>; }; };
@@ -43,13 +43,13 @@ sample_object = record {
   properties = [];
   children =
       branch (codes "f") (record { name = codes "target"; value = 255 ∷ 255 ∷ 255 ∷ 255 ∷ [] } ∷ [])
-          (branch (codes "__overlay__") []
-              (branch (codes "led") (record { name = codes "x"; value = 0 ∷ 0 ∷ 0 ∷ 1 ∷ 255 ∷ 255 ∷ 255 ∷ 255 ∷ [] } ∷ record { name = codes "phandle"; value = 0 ∷ 0 ∷ 0 ∷ 1 ∷ [] } ∷ []) no_nodes no_nodes)
-              no_nodes)
+      (branch (codes "__overlay__") []
+      (branch (codes "led") (record { name = codes "x"; value = 0 ∷ 0 ∷ 0 ∷ 1 ∷ 255 ∷ 255 ∷ 255 ∷ 255 ∷ [] } ∷ record { name = codes "phandle"; value = 0 ∷ 0 ∷ 0 ∷ 1 ∷ [] } ∷ []) no_nodes no_nodes)
+      no_nodes)
       (branch (codes "__symbols__") (record { name = codes "l"; value = codes "/f/__overlay__/led" ++ 0 ∷ [] } ∷ []) no_nodes
       (branch (codes "__fixups__") (record { name = codes "s"; value = codes "/f:target:0" ++ 0 ∷ (codes "/f/__overlay__/led:x:4" ++ 0 ∷ []) } ∷ []) no_nodes
       (branch (codes "__local_fixups__") []
-          (branch (codes "f") [] (branch (codes "__overlay__") [] (branch (codes "led") (record { name = codes "x"; value = 0 ∷ 0 ∷ 0 ∷ 0 ∷ [] } ∷ []) no_nodes no_nodes) no_nodes) no_nodes)
+      (branch (codes "f") [] (branch (codes "__overlay__") [] (branch (codes "led") (record { name = codes "x"; value = 0 ∷ 0 ∷ 0 ∷ 0 ∷ [] } ∷ []) no_nodes no_nodes) no_nodes) no_nodes)
       no_nodes)));
 }
 
