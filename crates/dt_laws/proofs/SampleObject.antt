@@ -10,7 +10,7 @@ use Rattle.dt_model.specs.Meaning.{Item, reference, cell, value_bytes}
 use Rattle.dt_model.specs.Overlay.{OverlayReference, inside, outside}
 use Rattle.dt_model.specs.Object.{Cell, references_from, IsCellOf, HasFixups, local_cells, object_number, object_value, Encodes}
 use Rattle.dt_model.specs.Tree.{no_nodes, branch, Reading, Node, Placed, value_of, nodes_of, stands_in, value_in}
-use Rattle.dt_laws.specs.Samples.{led, sample_object, sample_overlay, sample_fixups, SampleIsApplied}
+use Rattle.dt_laws.specs.AppliedSample.{led, sample_object, sample_overlay, sample_fixups, SampleIsApplied}
 use Rattle.dt_laws.proofs.Tests.{each_in, bytes_eq_true, bytes_eq_differ, path_eq_true}
 use Rattle.dt_laws.proofs.Listed.{stands_listed, value_listed}
 use Rattle.dt_laws.proofs.SampleBase.{plain_nodes, plain_is, by_node, not_there, base_valid, sample_is_meaning, sample_is_plain, sample_represented, few_in_base}

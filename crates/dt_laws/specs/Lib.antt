@@ -1,4 +1,4 @@
 pub mod Applying
 pub mod Merging
 pub mod Again
-pub mod Samples
+pub mod AppliedSample

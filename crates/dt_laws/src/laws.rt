@@ -3,7 +3,7 @@
 ghost use Rattle.dt_laws.specs.Again.{AppliedIsValid};
 ghost use Rattle.dt_laws.specs.Applying.{ApplyingIsMerging};
 ghost use Rattle.dt_laws.specs.Merging.{MergedIsMeaning, SitesAreOne};
-ghost use Rattle.dt_laws.specs.Samples.{SampleIsApplied};
+ghost use Rattle.dt_laws.specs.AppliedSample.{SampleIsApplied};
 
 /// There is a result exactly where the meanings can be merged, and it represents the merged meaning, by numbers that extend
 /// the base's.
