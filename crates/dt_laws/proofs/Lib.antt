@@ -70,3 +70,5 @@ pub mod FreeNumbers
 pub mod RootLabels
 pub mod RootChildren
 pub mod NewFragments
+pub mod SampleBase
+pub mod SampleObject

@@ -1,6 +1,6 @@
 -- The result of an application is a tree that a blob may hold.
-use Rattle.std.proofs.Common.{◌≡◌, ◌≢◌, ℕ, ◌<◌, ◌≤◌, ◌^◌, Bool, true, false, ◌||◌, List, [], ◌∷◌, ◌++◌, map, codes, length, option_to_list, refl, sym, ap, subst, ◌∙◌, inl, inr, Option, Some, None, true≢false, arith}
-use Rattle.std.specs.Prelude.{option_map, option_and_then, is_some, MatchOption, if◌then◌else◌}
+use Rattle.std.proofs.Common.{◌≡◌, ℕ, ◌<◌, ◌≤◌, ◌^◌, Bool, true, false, List, [], ◌∷◌, ◌++◌, codes, option_to_list, refl, sym, ap, subst, ◌∙◌, inl, inr, Option, Some, None, true≢false}
+use Rattle.std.specs.Prelude.{option_map, option_and_then, MatchOption, if◌then◌else◌}
 use Rattle.std.specs.List.{AllByRecursion, list_any, flat_map}
 use Rattle.std.specs.Int.{w32, from_be_bytes}
 use Rattle.std.proofs.lemmas.Nat.{from_be_bytes-to_be_bytes_4}

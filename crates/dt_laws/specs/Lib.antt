@@ -7,3 +7,4 @@ pub mod Sources
 pub mod Bodies
 pub mod SampleSources
 pub mod Fragments
+pub mod AppliedSample

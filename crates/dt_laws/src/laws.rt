@@ -3,6 +3,7 @@
 ghost use Rattle.dt_laws.specs.Again.{AppliedIsValid};
 ghost use Rattle.dt_laws.specs.Applying.{ApplyingIsMerging};
 ghost use Rattle.dt_laws.specs.Merging.{MergedIsMeaning, SitesAreOne};
+ghost use Rattle.dt_laws.specs.AppliedSample.{SampleIsApplied};
 
 /// There is a result exactly where the meanings can be merged, and it represents the merged meaning, by numbers that extend
 /// the base's.
@@ -23,4 +24,9 @@ pub fn sites_are_one()
 /// The result of applying an object is again a tree that a blob may hold.
 pub fn applied_is_valid()
     ensures { AppliedIsValid }
+{}
+
+/// The premises of these laws can be met: a tree and an object with one reference of each kind, and the result.
+pub fn sample_is_applied()
+    ensures { SampleIsApplied }
 {}
