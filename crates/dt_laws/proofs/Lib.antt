@@ -70,5 +70,6 @@ pub mod FreeNumbers
 pub mod RootLabels
 pub mod RootChildren
 pub mod NewFragments
-pub mod SampleBase
-pub mod SampleObject
+pub mod AppliedBase
+pub mod AppliedObject
+pub mod AppliedOverlay

@@ -13,8 +13,8 @@ use Rattle.dt_model.specs.Tree.{no_nodes, branch, Reading, Node, Placed, value_o
 use Rattle.dt_laws.specs.AppliedSample.{led, sample_object, sample_overlay, sample_fixups, SampleIsApplied}
 use Rattle.dt_laws.proofs.Tests.{each_in, bytes_eq_true, bytes_eq_differ, path_eq_true}
 use Rattle.dt_laws.proofs.Listed.{stands_listed, value_listed}
-use Rattle.dt_laws.proofs.SampleBase.{plain_nodes, plain_is, by_node, not_there, base_valid, sample_is_meaning, sample_is_plain, sample_represented, few_in_base}
-use Rattle.dt_laws.proofs.SampleOverlay.{f_name, overlay_name, led_name, x_name, target_name, object_valid, few_in_object, Value, of_target, of_x, value_cases, sample_is_overlay}
+use Rattle.dt_laws.proofs.AppliedBase.{plain_nodes, plain_is, by_node, not_there, base_valid, sample_is_meaning, sample_is_plain, sample_represented, few_in_base}
+use Rattle.dt_laws.proofs.AppliedOverlay.{f_name, overlay_name, led_name, x_name, target_name, object_valid, few_in_object, Value, of_target, of_x, value_cases, sample_is_overlay}
 
 abbrev local : Path → ℕ
 local p = 1
