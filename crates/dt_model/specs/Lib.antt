@@ -17,3 +17,7 @@ pub mod Object
 pub mod Numbers
 pub mod Changes
 pub mod Applied
+pub mod Ordered
+pub mod OverlaySource
+pub mod Checks
+pub mod Rows

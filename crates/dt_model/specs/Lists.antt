@@ -1,5 +1,5 @@
 -- Words for lists.
-use Rattle.std.specs.Prelude.{◌≡◌, ℕ, ◌<◌, List, [], ◌∷◌, ◌⊎◌, Option, Some, None}
+use Rattle.std.specs.Prelude.{◌≡◌, ℕ, ◌<◌, Bool, true, List, [], ◌∷◌, ◌⊎◌, Option, None}
 use Rattle.std.specs.List.{AllByRecursion}
 use Rattle.std.specs.Option.{option_or}
 
@@ -19,7 +19,7 @@ FallBy age [] = Unit {0}
 FallBy age (x ∷ xs) = AllByRecursion (λ y. age y < age x) xs × FallBy age xs
 
 -- the list has exactly the things of a kind, the oldest first
-pub record AreInOrder {X : Type 0} (age : X → ℕ) (IsKind : X → Type 0) (xs : List X) : Type 0 where
-  pub sound : AllByRecursion IsKind xs
-  pub complete : (x : X) → IsKind x → IsIn x xs
+pub record AreInOrder {X : Type 0} (age : X → ℕ) (is_kind : X → Bool) (xs : List X) : Type 0 where
+  pub sound : AllByRecursion (λ x. is_kind x ≡ true) xs
+  pub complete : (x : X) → is_kind x ≡ true → IsIn x xs
   pub sorted : FallBy age xs

@@ -1,5 +1,5 @@
 -- What a tree means once an overlay is applied to it (dtc's notes on overlay objects). Nothing has a number here.
-use Rattle.std.specs.Prelude.{◌≡◌, Bool, true, false, ◌||◌, List, [], ◌∷◌, ◌++◌, Option, Some, None, map, IsSome, unwrap_or, option_map, option_and_then}
+use Rattle.std.specs.Prelude.{◌≡◌, true, false, ◌||◌, List, [], ◌∷◌, ◌++◌, Option, Some, None, map, IsSome, unwrap_or, option_map, option_and_then}
 use Rattle.std.specs.List.{list_any}
 use Rattle.std.specs.Option.{option_or}
 use Rattle.dt_model.specs.Names.{Name}

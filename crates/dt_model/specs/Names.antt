@@ -1,6 +1,7 @@
 -- The names of nodes, properties and labels (Devicetree Specification v0.4, 2.2.1, 2.2.4.1 and 6.2; one set of bytes for
 -- nodes and properties, and up to 255 bytes, are this project's choice).
-use Rattle.std.specs.Prelude.{◌≢◌, ℕ, ◌<◌, ◌≤◌, ◌==◌, ◌||◌, ◌&&◌, Bool, nat_le, List, length, slice_index, IsTrue, All, count_by, codes}
+use Rattle.std.specs.Prelude.{◌≢◌, ℕ, ◌<◌, ◌≤◌, ◌==◌, ◌||◌, ◌&&◌, Bool, not, nat_le, nat_lt, List, length, slice_index, IsTrue, All, count_by, codes}
+use Rattle.std.specs.List.{list_all}
 
 -- the bytes of a node's, a property's or a label's name
 abbrev pub Name : Type 0
@@ -39,3 +40,13 @@ pub record IsLabel (label : Name) : Type 0 where
   pub allowed : All (λ b. IsTrue (is_letter b || is_digit b || (b == 95))) label
   pub no_digit_first : ¬ IsTrue (is_digit (slice_index label 0))
   pub not_phandle : label ≢ codes "phandle"
+
+-- ---- tests, for the definitions that compute
+
+abbrev pub is_property_name : Name → Bool
+is_property_name name = nat_lt 0 (length name) && nat_le (length name) 255 && list_all is_name_byte name
+
+abbrev pub is_node_name : Name → Bool
+is_node_name name =
+    nat_lt 0 (length name) && nat_le (length name) 255 && list_all (λ b. is_name_byte b || (b == 64)) name
+    && nat_le (count_by (λ b. b == 64) name) 1 && not (slice_index name 0 == 64)

@@ -1,9 +1,9 @@
 -- What an overlay means by itself: a tree whose fragments name the nodes of some other tree (dtc's notes on overlay objects).
-use Rattle.std.specs.Prelude.{◌≡◌, ◌↔◌, ℕ, Bool, true, false, List, [], ◌∷◌, ◌++◌, Option, Some, None, IsSome, map, codes}
+use Rattle.std.specs.Prelude.{◌≡◌, ◌↔◌, Bool, true, false, List, [], ◌∷◌, ◌++◌, Option, Some, None, IsSome, map, codes}
 use Rattle.std.specs.List.{AllByRecursion}
 use Rattle.std.specs.Str.{bytes_eq}
 use Rattle.dt_model.specs.Names.{Name, IsNodeName, IsPropertyName, IsLabel}
-use Rattle.dt_model.specs.Path.{Path, path_value, is_bookkeeping, is_bookkeeping_name}
+use Rattle.dt_model.specs.Path.{Path, path_value, is_bookkeeping}
 use Rattle.dt_model.specs.Meaning.{Item, byte, reference, EachReference, AreBytes}
 use Rattle.dt_model.specs.Lists.{IsIn}
 use Rattle.dt_model.specs.Valid.{AreDistinct}

@@ -1,11 +1,11 @@
 -- What a source means (Devicetree Specification v0.4, chapter 6): its places in the order of its text, the event that
 -- each one adds to those before it, or its refusal, and the meaning of the events.
-use Rattle.std.specs.Prelude.{◌≡◌, ℕ, Bool, true, false, ◌&&◌, ◌||◌, List, [], ◌∷◌, ◌++◌, length, Option, Some, None, Result, Ok, Err, option_map, option_and_then, is_some, IsSome, map, drop, reverse, nat_le, if◌then◌else◌, codes}
-use Rattle.std.specs.List.{list_any}
+use Rattle.std.specs.Prelude.{◌≡◌, ◌≢◌, ℕ, ◌<◌, Bool, true, false, ◌&&◌, ◌||◌, List, [], ◌∷◌, ◌++◌, length, Option, Some, None, Result, Ok, Err, option_map, option_and_then, is_some, IsSome, map, drop, reverse, nat_le, if◌then◌else◌, codes}
+use Rattle.std.specs.List.{AllByRecursion, list_any}
 use Rattle.std.specs.Option.{option_map_or}
 use Rattle.std.specs.Int.{w32, from_be_bytes}
 use Rattle.std.specs.Str.{bytes_eq}
-use Rattle.dt_model.specs.Names.{Name}
+use Rattle.dt_model.specs.Names.{Name, IsNodeName, IsPropertyName, IsLabel}
 use Rattle.dt_model.specs.Path.{Path, path_eq, path_value, is_bookkeeping_name}
 use Rattle.dt_model.specs.Meaning.{Item, byte, reference, Meaning}
 use Rattle.dt_model.specs.Event.{Stack, Event, opening, giving, definition, undefinition, deletion, last_where, stands, value_at, names}
@@ -44,6 +44,28 @@ pub data Place : Type 0 where
   delete_child : Name → Place
   -- `};`
   close : Place
+
+-- a reference's label is a label, and the names of its path are names
+abbrev pub IsReference : Reference → Type 0
+IsReference (by_label l) = IsLabel l
+IsReference (by_path p) = AllByRecursion IsNodeName p
+
+abbrev pub IsPart : Part → Type 0
+IsPart (one b) = b < 256
+IsPart (number_of r) = IsReference r
+IsPart (text_of r) = IsReference r
+
+-- the names at a place are names, and its bytes are bytes
+abbrev pub IsPlace : Place → Type 0
+IsPlace root = Unit {0}
+IsPlace (block r) = IsReference r
+IsPlace (delete_node r) = IsReference r
+IsPlace (child n) = IsNodeName n
+IsPlace (label l) = IsLabel l
+IsPlace (property n v) = IsPropertyName n × AllByRecursion IsPart v
+IsPlace (delete_property n) = IsPropertyName n
+IsPlace (delete_child n) = IsNodeName n
+IsPlace close = Unit {0}
 
 -- ---- what each place does
 
@@ -256,3 +278,31 @@ pub record SourceMeans (mode : Mode) (reservations : List (ℕ × ℕ)) (places 
   pub closed : so_far.bodies ≡ []
   pub resolved : IsResolved so_far.events
   pub means : m ≡ meaning_of reservations so_far.events
+
+-- ---- why places that are all read mean nothing
+
+pub data LateRefusal : Type 0 where
+  -- a reference names no node
+  unresolved : LateRefusal
+  -- a `phandle` writes no number
+  bad_phandle : LateRefusal
+  -- two nodes write one number
+  duplicate_phandle : LateRefusal
+
+-- a reference that is left names no node
+abbrev pub HasUnresolved : Events → Type 0
+HasUnresolved es = (p : Stack) × (n : Name) × (v : List Part) × (value_at es p n ≡ Some v) × (all_bound es v ≡ None)
+
+-- a `phandle` that is left writes no number
+abbrev pub HasBadPhandle : Events → Type 0
+HasBadPhandle es = (p : Stack) × (v : List Part) × (value_at es p (codes "phandle") ≡ Some v) × (written v ≡ None)
+
+-- two nodes that are left write one number
+abbrev pub HasDuplicatePhandle : Events → Type 0
+HasDuplicatePhandle es = (p q : Stack) × (n : ℕ) × (p ≢ q) × (written_number es p ≡ Some n) × (written_number es q ≡ Some n)
+
+-- the first of these that holds
+abbrev pub IsLateRefusal : Events → LateRefusal → Type 0
+IsLateRefusal es unresolved = HasUnresolved es
+IsLateRefusal es bad_phandle = ¬ HasUnresolved es × HasBadPhandle es
+IsLateRefusal es duplicate_phandle = ¬ HasUnresolved es × ¬ HasBadPhandle es × HasDuplicatePhandle es

@@ -3,3 +3,4 @@
 #![tactic(auto)]
 
 mod laws;
+mod rows;

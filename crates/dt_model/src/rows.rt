@@ -1,0 +1,359 @@
+//! Sources, trees and objects on which the definitions are worked out by computing.
+
+ghost use Rattle.std.specs.Prelude.{
+  ◌≡◌,
+  ℕ,
+  codes,
+  List,
+  [],
+  ◌∷◌,
+  ◌++◌,
+  true,
+  false,
+  Option,
+  None,
+  Some,
+  map,
+  reverse,
+};
+ghost use Rattle.dt_model.specs.Meaning.{Meaning, byte, reference, cell, instance_value};
+ghost use Rattle.dt_model.specs.Overlay.{Overlay, inside, outside};
+ghost use Rattle.dt_model.specs.Event.{age, property_age, stands};
+ghost use Rattle.dt_model.specs.Numbers.{AreNewNumbers, numbers_of, new_paths};
+ghost use Rattle.dt_model.specs.Merged.{AreSites, Site, merged};
+ghost use Rattle.dt_model.specs.Object.{Cell, local_cells, fragment_names, words_of};
+ghost use Rattle.dt_model.specs.Applied.{applied};
+ghost use Rattle.dt_model.specs.Samples.{one_cell};
+ghost use Rattle.dt_model.specs.Tree.{branch, no_nodes};
+ghost use Rattle.dt_model.specs.Source.{
+  Refusal,
+  duplicate_label,
+  duplicate_node,
+  duplicate_property,
+  no_such_target,
+  reserved_name,
+  too_deep,
+  all_bound,
+  number_of,
+  by_label,
+};
+ghost use Rattle.dt_model.specs.OverlaySource.{overlay_delete, overlay_phandle, overlay_path};
+ghost use Rattle.dt_model.specs.Rows.{
+  levels,
+  events,
+  refusal,
+  meaning,
+  overlay,
+  overlay_refusal,
+  content_of,
+  fragment,
+  opened_again,
+  deleted_label,
+  written_phandle,
+  gap_of_numbers,
+  label_again,
+  label_twice,
+  deleted_property,
+  property_twice,
+  deleted_root,
+  deleted_nothing,
+  node_twice,
+  no_target,
+  reserved,
+  two_cells_source,
+  next_source,
+  three_values_source,
+  written_fragment_source,
+  later_fragment_source,
+  deleting_source,
+  numbering_source,
+  text_source,
+  path_source,
+  controller,
+  two_cells,
+  with_two_cells,
+  next_object,
+  one_node,
+  three_values,
+  second_phandle,
+  second_number,
+  two_nodes,
+  referring,
+  label_taken,
+  with_label_taken,
+  inner_target,
+  inner_target_first,
+  no_fragment,
+  reserved_place,
+  reserved_target,
+  missing_target,
+  root_property,
+  tree,
+  set,
+  symbols,
+  symbol_of,
+  one_node_source,
+  three_values_fragments,
+  three_values_sites,
+  controller_source,
+  inner_source,
+  inner_fragments,
+  inner_sites,
+  two_cells_fragments,
+  two_cells_sites,
+  referring_source,
+  label_taken_source,
+};
+
+// ---- sources
+
+/// A node that is deleted and opened again begins empty, without its labels; a value that is defined again is the last one.
+pub fn opened_again_begins_empty()
+    ensures read { refusal opened_again ≡ None }
+    ensures value { (meaning opened_again).value [] (codes "a") ≡ Some (map byte (codes "x" ++ 0 ∷ [])) }
+    ensures node { (meaning opened_again).stands (codes "n" ∷ []) ≡ true }
+    ensures kept { (meaning opened_again).value (codes "n" ∷ []) (codes "q") ≡ Some [] }
+    ensures gone { (meaning opened_again).value (codes "n" ∷ []) (codes "p") ≡ None }
+    ensures unlabelled { (meaning opened_again).label (codes "l") ≡ None }
+    ensures unkeyed { (meaning opened_again).keyed (codes "n" ∷ []) ≡ false }
+{}
+
+/// A node takes the labels below it with it.
+pub fn deleted_label_names_nothing()
+    ensures read { refusal deleted_label ≡ None }
+    ensures label { (meaning deleted_label).label (codes "l") ≡ None }
+    ensures unresolved { all_bound (events deleted_label) (number_of (by_label (codes "l")) ∷ []) ≡ None }
+{}
+
+/// A written phandle is its node's number, and a reference outside a cell list is its node's path text with its NUL. The
+/// other keyed nodes get numbers of their own.
+pub fn written_phandle_stays()
+    ensures read { refusal written_phandle ≡ None }
+    ensures number { (meaning written_phandle).number (codes "b" ∷ []) ≡ Some 1 }
+    ensures no_property { (meaning written_phandle).value (codes "b" ∷ []) (codes "phandle") ≡ None }
+    ensures labelled { (meaning written_phandle).label (codes "l") ≡ Some (codes "a" ∷ []) }
+    ensures keyed { (meaning written_phandle).keyed (codes "a" ∷ []) ≡ true }
+    ensures root { (meaning written_phandle).keyed [] ≡ false }
+    ensures value { (meaning written_phandle).value (codes "b" ∷ []) (codes "p") ≡
+        Some (map byte (codes "/a" ++ 0 ∷ []) ++ reference (codes "b" ∷ []) ∷ []) }
+    ensures bytes { (number : List (List ℕ) → ℕ) → number (codes "b" ∷ []) ≡ 1 →
+        instance_value (meaning written_phandle) number (codes "b" ∷ []) (codes "p") ≡
+        Some (0x2f ∷ 0x61 ∷ 0 ∷ cell (number (codes "b" ∷ []))) }
+{}
+
+/// A node that a reference by a path names is keyed, and one that nothing names isn't.
+pub fn referred_nodes_are_keyed()
+    ensures read { refusal gap_of_numbers ≡ None }
+    ensures path { (meaning gap_of_numbers).keyed (codes "c" ∷ []) ≡ true }
+    ensures label { (meaning gap_of_numbers).keyed (codes "c" ∷ codes "d" ∷ []) ≡ true }
+    ensures root { (meaning gap_of_numbers).keyed [] ≡ false }
+    ensures first { (meaning gap_of_numbers).value [] (codes "p") ≡
+        Some (reference (codes "b" ∷ []) ∷ reference (codes "c" ∷ []) ∷ []) }
+{}
+
+/// A label can be given to another node once the node that it named is deleted, and not before.
+pub fn label_moves_after_a_deletion()
+    ensures moved { (meaning label_again).label (codes "l") ≡ Some (codes "b" ∷ []) }
+    ensures read { refusal label_again ≡ None }
+    ensures twice { refusal label_twice ≡ Some duplicate_label }
+{}
+
+/// What is refused, and what has no effect.
+pub fn refused_places()
+    ensures deleted { refusal deleted_property ≡ None }
+    ensures nothing { (meaning deleted_property).value [] (codes "a") ≡ None }
+    ensures property { refusal property_twice ≡ Some duplicate_property }
+    ensures node { refusal node_twice ≡ Some duplicate_node }
+    ensures root { refusal deleted_root ≡ Some no_such_target }
+    ensures absent { refusal deleted_nothing ≡ None }
+    ensures target { refusal no_target ≡ Some no_such_target }
+    ensures bookkeeping { refusal reserved ≡ Some reserved_name }
+{}
+
+/// A node may have 64 names in its path, and no more.
+pub fn depth_limit()
+    ensures deepest { refusal (levels 64) ≡ None }
+    ensures deeper { refusal (levels 65) ≡ Some too_deep }
+{}
+
+/// Of two nodes, and of two properties, the older one was opened or defined first; one that comes again after a deletion is new.
+pub fn order_of_the_text()
+    ensures nodes { age (events written_phandle) (codes "a" ∷ []) ≡ 5 }
+    ensures later { age (events written_phandle) (codes "b" ∷ []) ≡ 3 }
+    ensures again { age (events opened_again) (codes "n" ∷ []) ≡ 2 }
+    ensures redefined { property_age (events opened_again) [] (codes "a") ≡ 10 }
+    ensures dropped { property_age (events deleted_property) [] (codes "a") ≡ 0 }
+{}
+
+// ---- overlay sources
+
+/// A block of another tree's node opens a fragment; a reference by a label of the source is inside, any other outside.
+pub fn overlay_with_two_cells()
+    ensures read { overlay_refusal two_cells_source ≡ None }
+    ensures target { (overlay two_cells_source []).value (fragment 0 ∷ []) (codes "target-path") ≡ Some (map byte (codes "/" ++ 0 ∷ [])) }
+    ensures outside { (overlay two_cells_source []).value (content_of 0 ++ codes "d" ∷ []) (codes "p") ≡
+        Some (byte 1 ∷ reference (outside (codes "gic")) ∷ []) }
+    ensures inside { (overlay two_cells_source []).value (content_of 0 ++ codes "d" ∷ []) (codes "q") ≡
+        Some (reference (inside (content_of 0 ++ codes "f" ∷ [])) ∷ []) }
+    ensures label { (overlay two_cells_source []).label (codes "e") ≡ Some (content_of 0 ++ codes "f" ∷ []) }
+    ensures keyed { (overlay two_cells_source []).keyed (content_of 0 ++ codes "f" ∷ []) ≡ true }
+    ensures unkeyed { (overlay two_cells_source []).keyed (content_of 0 ++ codes "d" ∷ []) ≡ false }
+    ensures rooted { (overlay two_cells_source []).stands [] ≡ true }
+{}
+
+/// A block of a label that the source has given opens that node, and no fragment.
+pub fn overlay_with_a_label_of_its_own()
+    ensures read { overlay_refusal three_values_source ≡ None }
+    ensures first { (overlay three_values_source []).value (content_of 0 ++ codes "x" ∷ []) (codes "p") ≡ Some (map byte (cell 3)) }
+    ensures second { (overlay three_values_source []).value (content_of 1 ++ codes "x" ∷ []) (codes "p") ≡ Some (map byte (cell 2)) }
+    ensures no_third { (overlay three_values_source []).stands (fragment 2 ∷ []) ≡ false }
+    ensures target { (overlay three_values_source []).value (fragment 1 ∷ []) (codes "target") ≡ Some (reference (outside (codes "a")) ∷ []) }
+{}
+
+/// A new fragment's name is none that a `/ { }` block opens, before it or behind it.
+pub fn overlay_with_a_written_fragment()
+    ensures next { (overlay written_fragment_source []).value (fragment 1 ∷ []) (codes "target") ≡ Some (reference (outside (codes "x")) ∷ []) }
+    ensures before { (overlay later_fragment_source []).value (fragment 1 ∷ []) (codes "target") ≡ Some (reference (outside (codes "x")) ∷ []) }
+    ensures written { (overlay later_fragment_source []).value (fragment 0 ∷ []) (codes "target") ≡ None }
+{}
+
+/// What an overlay may not have.
+pub fn refused_overlays()
+    ensures deletion { overlay_refusal deleting_source ≡ Some overlay_delete }
+    ensures phandle { overlay_refusal numbering_source ≡ Some overlay_phandle }
+    ensures text { overlay_refusal text_source ≡ Some overlay_path }
+    ensures path { overlay_refusal path_source ≡ Some overlay_path }
+{}
+
+// ---- merging meanings
+
+/// The sites of fragments: by a label of the tree, by a path, and by a node that an earlier fragment brings.
+pub fn sites_of_fragments()
+    ensures labels { AreSites (meaning one_node_source) (overlay three_values_source three_values_fragments) [] three_values_fragments three_values_sites }
+    ensures inside { AreSites (meaning controller_source) (overlay inner_source inner_fragments) [] inner_fragments inner_sites }
+    ensures later { (sites : List Site) → AreSites (meaning controller_source) (overlay inner_source inner_fragments) [] (reverse inner_fragments) sites → ⊥ }
+{}
+
+/// Of several fragments that land one property the last decides; nodes, keyed nodes and labels are the tree's and those
+/// that land.
+pub fn merged_by_fragments()
+    ensures value { (merged (meaning one_node_source) (overlay three_values_source three_values_fragments) three_values_sites).value
+        (codes "s" ∷ codes "x" ∷ []) (codes "p") ≡ Some (map byte (cell 2)) }
+    ensures label { (merged (meaning one_node_source) (overlay three_values_source three_values_fragments) three_values_sites).label (codes "n") ≡
+        Some (codes "s" ∷ codes "x" ∷ []) }
+    ensures keyed { (merged (meaning one_node_source) (overlay three_values_source three_values_fragments) three_values_sites).keyed
+        (codes "s" ∷ codes "x" ∷ []) ≡ true }
+    ensures no_fragment { (merged (meaning one_node_source) (overlay three_values_source three_values_fragments) three_values_sites).stands
+        (fragment 0 ∷ []) ≡ false }
+{}
+
+/// References inside a fragment go to the nodes on which their nodes land, others to the nodes that the tree's labels name.
+pub fn merged_references()
+    ensures outside { (merged (meaning controller_source) (overlay two_cells_source two_cells_fragments) two_cells_sites).value
+        (codes "d" ∷ []) (codes "p") ≡ Some (byte 1 ∷ reference (codes "ic" ∷ []) ∷ []) }
+    ensures inside { (merged (meaning controller_source) (overlay two_cells_source two_cells_fragments) two_cells_sites).value
+        (codes "d" ∷ []) (codes "q") ≡ Some (reference (codes "f" ∷ []) ∷ []) }
+{}
+
+/// An overlay that takes over a label leaves the references that were made by it.
+pub fn merged_label_taken_over()
+    ensures label { (merged (meaning referring_source) (overlay label_taken_source two_cells_fragments) two_cells_sites).label (codes "l") ≡
+        Some (codes "b" ∷ []) }
+    ensures reference { (merged (meaning referring_source) (overlay label_taken_source two_cells_fragments) two_cells_sites).value [] (codes "r") ≡
+        Some (reference (codes "a" ∷ []) ∷ []) }
+    ensures both { (merged (meaning referring_source) (overlay label_taken_source two_cells_fragments) two_cells_sites).keyed (codes "a" ∷ []) ≡ true }
+{}
+
+/// New numbers are the least that are free, in preorder.
+pub fn new_numbers()
+    ensures one { AreNewNumbers controller two_cells ((content_of 0 ++ codes "f" ∷ [], 2) ∷ []) }
+    ensures gaps { AreNewNumbers second_number two_nodes
+        ((content_of 0 ++ codes "x" ∷ [], 1) ∷ (content_of 0 ++ codes "y" ∷ [], 3) ∷ []) }
+{}
+
+// ---- applying
+
+/// What an object lists.
+pub fn marks_of_an_object()
+    ensures fragments { fragment_names two_cells.children ≡ fragment 0 ∷ [] }
+    ensures cells { local_cells two_cells ≡ record { path = content_of 0 ++ codes "d" ∷ []; property = codes "q"; offset = 0 } ∷ [] }
+    ensures numbers { numbers_of controller ≡ 1 ∷ [] }
+    ensures new { new_paths two_cells ≡ (content_of 0 ++ codes "f" ∷ []) ∷ [] }
+    ensures outside { new_paths no_fragment ≡ [] }
+    ensures none { fragment_names no_fragment.children ≡ [] }
+{}
+
+/// New numbers avoid the base's, references get them at any offset, symbols are those of the nodes on which labels land.
+pub fn object_applied()
+    ensures { applied controller two_cells
+        ((codes "gic", record { path = content_of 0 ++ codes "d" ∷ []; property = codes "p"; offset = 1 }) ∷ [])
+        ((content_of 0 ++ codes "f" ∷ [], 2) ∷ []) ≡ Some with_two_cells }
+{}
+
+/// A label of an earlier overlay is a target of a later one.
+pub fn object_applied_to_a_result()
+    ensures { applied with_two_cells next_object
+        ((codes "e", record { path = fragment 0 ∷ []; property = codes "target"; offset = 0 }) ∷ [])
+        ((content_of 0 ++ codes "h" ∷ [], 3) ∷ []) ≡
+        Some (tree []
+        (branch (codes "ic") (set (codes "phandle") (cell 1) ∷ []) no_nodes
+        (branch (codes "__symbols__")
+        (symbol_of (codes "gic") (codes "ic" ∷ []) ∷ symbol_of (codes "e") (codes "f" ∷ []) ∷ symbol_of (codes "g") (codes "f" ∷ codes "h" ∷ []) ∷ [])
+        no_nodes
+        (branch (codes "d") (set (codes "p") (1 ∷ cell 1) ∷ set (codes "q") (cell 2) ∷ []) no_nodes
+        (branch (codes "f") (set (codes "phandle") (cell 2) ∷ [])
+        (branch (codes "h") (set (codes "phandle") (cell 3) ∷ []) no_nodes no_nodes) no_nodes))))) }
+{}
+
+/// Of several fragments that land one property the last decides.
+pub fn last_fragment_decides()
+    ensures { applied one_node three_values
+        ((codes "a", record { path = fragment 0 ∷ []; property = codes "target"; offset = 0 })
+        ∷ (codes "a", record { path = fragment 1 ∷ []; property = codes "target"; offset = 0 }) ∷ [])
+        ((content_of 0 ++ codes "x" ∷ [], 2) ∷ []) ≡
+        Some (tree []
+        (branch (codes "s") (set (codes "phandle") (cell 1) ∷ [])
+        (branch (codes "x") (set (codes "p") (cell 2) ∷ set (codes "phandle") (cell 2) ∷ []) no_nodes no_nodes)
+        (symbols (symbol_of (codes "a") (codes "s" ∷ []) ∷ symbol_of (codes "n") (codes "s" ∷ codes "x" ∷ []) ∷ [])))) }
+{}
+
+/// New numbers fill the gaps of the base's, in preorder.
+pub fn new_numbers_fill_gaps()
+    ensures { applied second_number two_nodes
+        ((codes "a", record { path = fragment 0 ∷ []; property = codes "target"; offset = 0 }) ∷ [])
+        ((content_of 0 ++ codes "x" ∷ [], 1) ∷ (content_of 0 ++ codes "y" ∷ [], 3) ∷ []) ≡
+        Some (tree []
+        (branch (codes "a") (set (codes "phandle") (cell 2) ∷ [])
+        (branch (codes "x") (set (codes "phandle") (cell 1) ∷ []) no_nodes
+        (branch (codes "y") (set (codes "phandle") (cell 3) ∷ []) no_nodes no_nodes))
+        (symbols (symbol_of (codes "a") (codes "a" ∷ []) ∷ symbol_of (codes "x") (codes "a" ∷ codes "x" ∷ [])
+        ∷ symbol_of (codes "y") (codes "a" ∷ codes "y" ∷ []) ∷ [])))) }
+{}
+
+/// An overlay that takes over a label leaves the references that were made by it; later ones follow.
+pub fn label_taken_over()
+    ensures taken { applied referring label_taken [] ((content_of 0 ++ codes "b" ∷ [], 2) ∷ []) ≡ Some with_label_taken }
+{}
+
+/// A fragment may name a node that an earlier one brings, and not one of a later one.
+pub fn target_of_an_earlier_fragment()
+    ensures earlier { applied controller inner_target [] ((codes "g" ∷ codes "__overlay__" ∷ codes "x" ∷ [], 2) ∷ []) ≡
+        Some (tree []
+        (branch (codes "ic") (set (codes "phandle") (cell 1) ∷ []) no_nodes
+        (branch (codes "__symbols__") (symbol_of (codes "gic") (codes "ic" ∷ []) ∷ symbol_of (codes "n") (codes "x" ∷ []) ∷ []) no_nodes
+        (branch (codes "x") (set (codes "phandle") (cell 2) ∷ set (codes "q") [] ∷ []) no_nodes no_nodes)))) }
+    ensures later { applied controller inner_target_first [] ((codes "g" ∷ codes "__overlay__" ∷ codes "x" ∷ [], 2) ∷ []) ≡ None }
+{}
+
+/// What can't be applied, and what has no effect.
+pub fn objects_refused()
+    ensures second { applied controller second_phandle [] ((content_of 0 ++ codes "ic" ∷ [], 2) ∷ []) ≡ None }
+    ensures label { applied one_cell two_cells
+        ((codes "gic", record { path = content_of 0 ++ codes "d" ∷ []; property = codes "p"; offset = 1 }) ∷ [])
+        ((content_of 0 ++ codes "f" ∷ [], 1) ∷ []) ≡ None }
+    ensures target { applied controller missing_target [] [] ≡ None }
+    ensures place { applied controller reserved_place [] [] ≡ None }
+    ensures bookkeeping { applied controller reserved_target [] [] ≡ None }
+    ensures no_fragment { applied controller no_fragment [] [] ≡ Some controller }
+    ensures root { applied one_cell root_property [] [] ≡ Some one_cell }
+{}
