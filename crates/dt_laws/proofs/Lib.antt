@@ -15,3 +15,4 @@ pub mod Fresh
 pub mod Finding
 pub mod Given
 pub mod Numbered
+pub mod Finite
