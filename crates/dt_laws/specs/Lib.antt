@@ -1,1 +1,2 @@
 pub mod Applying
+pub mod Sources

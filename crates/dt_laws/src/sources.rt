@@ -1,0 +1,31 @@
+//! What is true of the meanings of sources.
+
+ghost use Rattle.dt_laws.specs.Sources.{
+  SourceIsMeaning,
+  SourceIsPlain,
+  LabelIsOneNodes,
+  OverlaySourceIsOverlay,
+  OrderIsOne,
+};
+
+/// What a source means is a meaning: its nodes are a tree with names, its labels, references and written numbers are of
+/// nodes that stand. A base's has no bookkeeping nodes.
+pub fn source_is_a_meaning()
+    ensures meaning { SourceIsMeaning }
+    ensures plain { SourceIsPlain }
+{}
+
+/// After the places of a source a label names at most one node.
+pub fn label_is_one_nodes()
+    ensures { LabelIsOneNodes }
+{}
+
+/// What an overlay's source means is an overlay.
+pub fn overlay_source_is_an_overlay()
+    ensures { OverlaySourceIsOverlay }
+{}
+
+/// There is one list of the things of a kind in order.
+pub fn order_is_one()
+    ensures { OrderIsOne }
+{}
