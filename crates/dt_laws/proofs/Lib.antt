@@ -33,3 +33,12 @@ pub mod Meanings
 pub mod FragmentNames
 pub mod OverlayHolding
 pub mod Overlays
+pub mod CheckedWords
+pub mod CheckedNames
+pub mod CheckedTrees
+pub mod CheckedEvents
+pub mod CheckedNumbers
+pub mod CheckedSources
+pub mod CheckedInstances
+pub mod CheckedMeanings
+pub mod CheckedController

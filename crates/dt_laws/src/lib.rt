@@ -4,4 +4,5 @@
 #![tactic(auto)]
 
 mod laws;
+mod premises;
 mod sources;
