@@ -17,16 +17,14 @@ digits_text (c ∷ digits) h = (λ e. (let z : 36 < 10 = subst (λ d. digit_valu
 cell_text : (text : List ℕ) (c : Cell) → IsCellText text c → HasNo 0 text
 cell_text text c h =
     subst (HasNo 0) (sym h.whole)
-    (each_append (λ b. b ≢ 0) (path_text c.path) (58 ∷ (c.property ++ (58 ∷ h.digits))) (path_text_has_no 0 c.path h.path (λ z. (let y : 0 ≡ 47 = z in omega arith)) refl) (
-      (λ z. (let y : 58 ≡ 0 = z in omega arith)),
-      each_append (λ b. b ≢ 0) c.property (58 ∷ h.digits) (property_name_has_no 0 c.property h.property refl)
-          ((λ z. (let y : 58 ≡ 0 = z in omega arith)), digits_text h.digits h.numeral.1),
-    ))
+    (each_append (λ b. b ≢ 0) (path_text c.path) (58 ∷ (c.property ++ (58 ∷ h.digits))) (path_text_has_no 0 c.path h.path (λ z. (let y : 0 ≡ 47 = z in omega arith)) refl)
+    ((λ z. (let y : 58 ≡ 0 = z in omega arith)), each_append (λ b. b ≢ 0) c.property (58 ∷ h.digits) (property_name_has_no 0 c.property h.property refl)
+    ((λ z. (let y : 58 ≡ 0 = z in omega arith)), digits_text h.digits h.numeral.1)))
 
 one_cell_text : (text : List ℕ) (c d : Cell) → IsCellText text c → IsCellText text d → c ≡ d
 one_cell_text text c d h k =
     let a = first_part 58 (path_text c.path) (c.property ++ (58 ∷ h.digits)) (path_text d.path) (d.property ++ (58 ∷ k.digits))
-    (path_text_has_no 58 c.path h.path (λ z. (let y : 58 ≡ 47 = z in omega arith)) refl) (path_text_has_no 58 d.path k.path (λ z. (let y : 58 ≡ 47 = z in omega arith)) refl) (sym h.whole ∙ k.whole) in
+        (path_text_has_no 58 c.path h.path (λ z. (let y : 58 ≡ 47 = z in omega arith)) refl) (path_text_has_no 58 d.path k.path (λ z. (let y : 58 ≡ 47 = z in omega arith)) refl) (sym h.whole ∙ k.whole) in
     let b = first_part 58 c.property h.digits d.property k.digits (property_name_has_no 58 c.property h.property refl) (property_name_has_no 58 d.property k.property refl) a.1 in
     let path : c.path ≡ d.path = one_text c.path d.path h.path k.path a.0 in
     let property : c.property ≡ d.property = b.0 in

@@ -65,6 +65,7 @@ module _ {A : Type 0} (read : Option Node → A) (change : Node → Node) where
           let k' : bytes_eq y x ≡ false = bytes_eq_sym y x ∙ k in
           rw (k, k') refl
 
+
 -- the node below a node
 pub below_both : (p r : Path) (n at : Node) → node_below n p ≡ Some at → node_below n (p ++ r) ≡ node_below at r
 below_both [] r n at e = let is : n ≡ at = cc in ap (λ z. node_below z r) is

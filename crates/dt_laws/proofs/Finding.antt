@@ -121,12 +121,10 @@ landed_named_from (x ∷ nodes) earlier value q h = step (λ k. landed_named_fro
 
 pub landed_named_some : (nodes : List Placed) (earlier : List Site) (value : List ℕ) (x : Placed) (q : Path) → IsIn x nodes → landing earlier x.path ≡ Some q → path_value q ≡ value → (r : Path) × (landed_named nodes earlier value ≡ Some r)
 landed_named_some [] earlier value x q i e h = absurd i
-landed_named_some (y ∷ nodes) earlier value x q (inl same) e h = (
-  q,
-  ap (λ z. option_or (if_named value z) (landed_named nodes earlier value)) (ap (λ (z : Placed). landing earlier z.path) (sym same) ∙ e)
-      ∙ ap (λ z. option_or (if bytes_eq z value then Some q else None) (landed_named nodes earlier value)) h
-      ∙ ap (λ b. option_or (if b then Some q else None) (landed_named nodes earlier value)) (bytes_eq_refl value),
-)
+landed_named_some (y ∷ nodes) earlier value x q (inl same) e h =
+    (q, ap (λ z. option_or (if_named value z) (landed_named nodes earlier value)) (ap (λ (z : Placed). landing earlier z.path) (sym same) ∙ e)
+    ∙ ap (λ z. option_or (if bytes_eq z value then Some q else None) (landed_named nodes earlier value)) h
+    ∙ ap (λ b. option_or (if b then Some q else None) (landed_named nodes earlier value)) (bytes_eq_refl value))
 landed_named_some (y ∷ nodes) earlier value x q (inr i) e h =
     let w = landed_named_some nodes earlier value x q i e h in
     step (if_named value (landing earlier y.path)) w

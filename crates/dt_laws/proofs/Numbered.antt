@@ -95,7 +95,7 @@ module _ (object : Reading) (o : Overlay) (local : Path → ℕ) (encodes : Enco
       let v = object_phandle object o local encodes overlay p (plain_brought o overlay p h.1) ∙ ap (λ c. if c then Some (cell (local p)) else None) h.0 in
       let w = value_listed object p (codes "phandle") (cell (local p)) v in
       let there : is_brought (fragment_names object.children) w.0.path ≡ true =
-      ap (λ q. is_brought (fragment_names object.children) q) (w.2 ∙ h.1.3) ∙ ap (λ fs. is_brought fs (content h.1.0.name ++ h.1.1)) encodes.fragments ∙ brought_to o.fragments h.1.0 h.1.1 h.1.2 in
+          ap (λ q. is_brought (fragment_names object.children) q) (w.2 ∙ h.1.3) ∙ ap (λ fs. is_brought fs (content h.1.0.name ++ h.1.1)) encodes.fragments ∙ brought_to o.fragments h.1.0 h.1.1 h.1.2 in
       let test = and_both (is_brought (fragment_names object.children) w.0.path) (is_some (value_of w.0.properties (codes "phandle"))) there (ap is_some w.3) in
       subst (λ q. IsIn q (new_paths object)) w.2
       (in_map (λ (n : Placed). n.path) (filter (needs_number (fragment_names object.children)) (nodes_of object)) w.0 (filter_in (needs_number (fragment_names object.children)) (nodes_of object) w.0 w.1 test))

@@ -56,7 +56,8 @@ below_of path fs p i =
 pub preorder_distinct : (path : Path) (fs : Forest) → AreNodes fs → AreDistinct (names fs) → AreDistinct (paths_of (preorder path fs))
 preorder_distinct path no_nodes ok d = tt
 preorder_distinct path (branch name properties children siblings) ok d =
-    subst (λ z. AllByRecursion (λ q. q ≢ path ++ name ∷ []) z × AreDistinct z) (sym (map_append (preorder (path ++ name ∷ []) children) (preorder path siblings))) (
+    subst (λ z. AllByRecursion (λ q. q ≢ path ++ name ∷ []) z × AreDistinct z) (sym (map_append (preorder (path ++ name ∷ []) children) (preorder path siblings)))
+    (
       each_append (λ q. q ≢ path ++ name ∷ []) inner outer (each_from (λ q. q ≢ path ++ name ∷ []) inner not_here) (each_from (λ q. q ≢ path ++ name ∷ []) outer not_first),
       distinct_append inner outer (preorder_distinct (path ++ name ∷ []) children ok.2 ok.3) (preorder_distinct path siblings ok.4 d.1) not_both,
     )
