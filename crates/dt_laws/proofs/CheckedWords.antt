@@ -58,7 +58,7 @@ abbrev pub are_distinct : {X : Type 0} → (X → X → Bool) → List X → Boo
 are_distinct eq [] = true
 are_distinct eq (x ∷ xs) = list_all (λ y. not (eq y x)) xs && are_distinct eq xs
 
-in_same : {X : Type 0} (x y : X) (xs : List X) → x ≡ y → IsIn y xs → IsIn x xs
+pub in_same : {X : Type 0} (x y : X) (xs : List X) → x ≡ y → IsIn y xs → IsIn x xs
 in_same x y [] e h = h
 in_same x y (z ∷ xs) e (inl h) = inl (e ∙ h)
 in_same x y (z ∷ xs) e (inr h) = inr (in_same x y xs e h)

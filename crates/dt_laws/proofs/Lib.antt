@@ -41,4 +41,11 @@ pub mod CheckedNumbers
 pub mod CheckedSources
 pub mod CheckedInstances
 pub mod CheckedMeanings
+pub mod CheckedCases
 pub mod CheckedController
+pub mod CheckedTwoCells
+pub mod CheckedReferences
+pub mod CheckedOverlays
+pub mod CheckedFixups
+pub mod CheckedObjects
+pub mod CheckedApplications
