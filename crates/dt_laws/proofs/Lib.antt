@@ -49,3 +49,10 @@ pub mod CheckedOverlays
 pub mod CheckedFixups
 pub mod CheckedObjects
 pub mod CheckedApplications
+pub mod CheckedOneNode
+pub mod CheckedReferring
+pub mod CheckedWrittenPhandle
+pub mod CheckedGapOfNumbers
+pub mod CheckedThreeValues
+pub mod CheckedInnerTarget
+pub mod CheckedLabelTaken
