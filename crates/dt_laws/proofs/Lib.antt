@@ -56,3 +56,5 @@ pub mod CheckedGapOfNumbers
 pub mod CheckedThreeValues
 pub mod CheckedInnerTarget
 pub mod CheckedLabelTaken
+pub mod CheckedSecondPhandle
+pub mod CheckedMissingLabel

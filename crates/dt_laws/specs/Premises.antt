@@ -4,8 +4,9 @@ use Rattle.dt_model.specs.Path.{Path}
 use Rattle.dt_model.specs.Names.{Name}
 use Rattle.dt_model.specs.Object.{Cell}
 use Rattle.dt_model.specs.Meaning.{cell}
+use Rattle.dt_model.specs.Source.{by_path, Place, block, child, label, property, close}
 use Rattle.dt_model.specs.Tree.{Reading, no_nodes, branch}
-use Rattle.dt_model.specs.Rows.{fragment, content_of, set, tree, symbols, symbol_of}
+use Rattle.dt_model.specs.Rows.{fragment, content_of, set, tree, symbols, symbol_of, phandle_of}
 use Rattle.dt_model.specs.Numbers.{number_in}
 
 -- the number that the list has for a path, 0 where it has none
@@ -85,3 +86,16 @@ with_gap_of_numbers = tree (set (codes "p") (cell 1 ++ cell 3) ∷ [])
 
 abbrev pub gap_of_numbers_numbers : List (Path × ℕ)
 gap_of_numbers_numbers = (codes "a" ∷ [], 2) ∷ (codes "b" ∷ [], 1) ∷ (codes "c" ∷ [], 3) ∷ (codes "c" ∷ codes "d" ∷ [], 4) ∷ []
+
+-- ---- the object that gives a node of the base a second phandle
+
+-- &{/} { m: ic { }; k { r = <&m>; }; };
+abbrev pub second_phandle_source : List Place
+second_phandle_source =
+    block (by_path []) ∷ child (codes "ic") ∷ label (codes "m") ∷ close ∷ child (codes "k") ∷ property (codes "r") (phandle_of (codes "m")) ∷ close ∷ close ∷ []
+
+abbrev pub second_phandle_numbers : List (Path × ℕ)
+second_phandle_numbers = (content_of 0 ++ codes "ic" ∷ [], 1) ∷ []
+
+abbrev pub second_phandle_new : List (Path × ℕ)
+second_phandle_new = (content_of 0 ++ codes "ic" ∷ [], 2) ∷ []

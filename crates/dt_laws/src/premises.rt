@@ -1,11 +1,11 @@
 //! Sources, trees and objects that meet what the other laws ask for.
 
-ghost use Rattle.std.specs.Prelude.{[]};
+ghost use Rattle.std.specs.Prelude.{List, []};
 ghost use Rattle.dt_model.specs.Source.{SourceMeans, base};
 ghost use Rattle.dt_model.specs.OverlaySource.{OverlayMeans};
 ghost use Rattle.dt_model.specs.Object.{HasFixups};
 ghost use Rattle.dt_model.specs.Numbers.{AreNewNumbers};
-ghost use Rattle.dt_model.specs.Merged.{Applies};
+ghost use Rattle.dt_model.specs.Merged.{Site, Applies};
 ghost use Rattle.dt_model.specs.Represents.{Represents};
 ghost use Rattle.dt_model.specs.Rows.{
   meaning,
@@ -29,6 +29,7 @@ ghost use Rattle.dt_model.specs.Rows.{
   referring,
   referring_source,
   label_taken,
+  second_phandle,
   label_taken_source,
   written_phandle,
   gap_of_numbers,
@@ -49,6 +50,9 @@ ghost use Rattle.dt_laws.specs.Premises.{
   referring_numbers,
   label_taken_numbers,
   label_taken_new,
+  second_phandle_source,
+  second_phandle_numbers,
+  second_phandle_new,
   with_written_phandle,
   written_phandle_numbers,
   with_gap_of_numbers,
@@ -97,6 +101,25 @@ pub fn label_taken_meets_them()
     ensures fixups { HasFixups label_taken [] }
     ensures new { AreNewNumbers referring label_taken label_taken_new }
     ensures applies { Applies (meaning referring_source) (overlay label_taken_source two_cells_fragments) two_cells_sites }
+{}
+
+/// A node of the overlay that lands on one of the base where both have a number: it can't be applied.
+pub fn second_phandle_meets_them()
+    ensures source { OverlayMeans second_phandle_source (overlay second_phandle_source two_cells_fragments) }
+    ensures are_of { AreOf controller second_phandle (meaning controller_source) (overlay second_phandle_source two_cells_fragments)
+        (numbering controller_numbers) (numbering second_phandle_numbers) }
+    ensures fixups { HasFixups second_phandle [] }
+    ensures new { AreNewNumbers controller second_phandle second_phandle_new }
+    ensures refused { (sites : List Site) → Applies (meaning controller_source) (overlay second_phandle_source two_cells_fragments) sites → ⊥ }
+{}
+
+/// A label that the base hasn't: it can't be applied.
+pub fn missing_label_meets_them()
+    ensures are_of { AreOf one_node two_cells (meaning one_node_source) (overlay two_cells_source two_cells_fragments)
+        (numbering one_node_numbers) (numbering two_cells_numbers) }
+    ensures fixups { HasFixups two_cells two_cells_fixups }
+    ensures new { AreNewNumbers one_node two_cells two_cells_new }
+    ensures refused { (sites : List Site) → Applies (meaning one_node_source) (overlay two_cells_source two_cells_fragments) sites → ⊥ }
 {}
 
 /// A base with a written phandle, a reference in a cell list and one outside.
