@@ -1,13 +1,11 @@
 -- An overlay that can be applied at some sites, and numbers that are new, by tests.
-use Rattle.std.proofs.Common.{◌≡◌, ℕ, ◌≤◌, ◌<◌, Bool, true, false, not, ◌&&◌, ◌||◌, List, [], ◌∷◌, inl, inr, Option, Some, None, is_some, refl, sym, ap, subst, ◌∙◌}
-use Rattle.std.specs.Prelude.{codes, nat_eq, IsSome}
-use Rattle.std.specs.List.{list_all, list_any}
+use Rattle.std.proofs.Common.{◌≡◌, Bool, true, false, not, ◌&&◌, List, [], Option, Some, None, is_some, sym, ap, ◌∙◌}
+use Rattle.std.specs.List.{list_all}
 use Rattle.dt_model.specs.Names.{Name}
 use Rattle.dt_model.specs.Path.{Path, path_eq, is_bookkeeping}
-use Rattle.dt_model.specs.Lists.{IsIn}
 use Rattle.dt_model.specs.Meaning.{Meaning}
-use Rattle.dt_model.specs.Overlay.{OverlayReference, inside, outside, Fragment, Overlay}
-use Rattle.dt_model.specs.Merged.{Site, landing, IsSite, AreSites, IsGiven, IsDefined, IsAlone, Applies}
+use Rattle.dt_model.specs.Overlay.{OverlayReference, inside, outside, Overlay}
+use Rattle.dt_model.specs.Merged.{Site, landing, AreSites, IsGiven, Applies}
 use Rattle.dt_laws.proofs.Tests.{not_true, all_at, and_both, path_eq_refl, path_eq_true}
 use Rattle.dt_laws.proofs.CheckedWords.{implies, implied}
 use Rattle.dt_laws.proofs.CheckedInstances.{IsWithin}

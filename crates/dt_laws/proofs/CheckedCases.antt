@@ -4,7 +4,6 @@ use Rattle.dt_model.specs.Names.{Name}
 use Rattle.dt_model.specs.Path.{Path}
 use Rattle.dt_model.specs.Source.{Place, base, SourceMeans}
 use Rattle.dt_model.specs.OverlaySource.{OverlayMeans}
-use Rattle.dt_model.specs.Meaning.{IsMeaning}
 use Rattle.dt_model.specs.Represents.{Represents}
 use Rattle.dt_model.specs.Overlay.{Fragment}
 use Rattle.dt_model.specs.Merged.{Site, Applies}

@@ -1,11 +1,11 @@
 -- The fixups of an object, written out.
-use Rattle.std.proofs.Common.{◌≡◌, ℕ, ◌<◌, ◌^◌, Bool, true, false, ◌&&◌, List, [], ◌∷◌, ◌++◌, map, refl, sym, ap, subst, ◌∙◌}
+use Rattle.std.proofs.Common.{◌≡◌, ℕ, ◌^◌, Bool, true, ◌&&◌, List, [], ◌∷◌, ◌++◌, map, refl, sym, subst}
 use Rattle.std.specs.Prelude.{codes, decimal, nat_lt, nat_eq}
-use Rattle.std.specs.List.{AllByRecursion, list_all}
+use Rattle.std.specs.List.{list_all}
 use Rattle.std.specs.Str.{bytes_eq}
 use Rattle.std.proofs.lemmas.Fmt.{decimal_is_IsNumeral}
 use Rattle.dt_model.specs.Names.{Name, is_node_name, is_property_name}
-use Rattle.dt_model.specs.Path.{Path, path_eq, path_text}
+use Rattle.dt_model.specs.Path.{path_eq, path_text}
 use Rattle.dt_model.specs.Tree.{Property, Reading, node_at}
 use Rattle.dt_model.specs.Object.{Cell, IsCellText, AreCellTexts, AreFixups, properties_of, HasFixups}
 use Rattle.dt_laws.proofs.Tests.{and_left, and_right, and_both}

@@ -1,9 +1,9 @@
 -- The overlay `/ { g { target-path = "/"; __overlay__ { n: x { }; }; }; f { target = <&n>; __overlay__ { q; }; }; };`.
-use Rattle.std.proofs.Common.{[], ◌∷◌, ◌++◌, codes, refl}
+use Rattle.std.proofs.Common.{[], ◌∷◌, codes, refl}
 use Rattle.std.specs.Fmt.{digits}
 use Rattle.dt_model.specs.Event.{age_by}
 use Rattle.dt_model.specs.Numbers.{paths_of}
-use Rattle.dt_model.specs.Rows.{fragment, content_of, overlay_events_of, overlay_read, overlay, meaning, controller_source, inner_fragments, inner_sites, inner_source, inner_target}
+use Rattle.dt_model.specs.Rows.{overlay_events_of, overlay_read, overlay, meaning, controller_source, inner_fragments, inner_sites, inner_source, inner_target}
 use Rattle.dt_laws.specs.Premises.{inner_target_numbers}
 use Rattle.dt_laws.proofs.CheckedApplications.{IsApplicable}
 use Rattle.dt_laws.proofs.CheckedCases.{Object, IsCheckedObject}

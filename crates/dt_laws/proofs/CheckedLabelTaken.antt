@@ -1,9 +1,9 @@
 -- The overlay `&{/} { l: b { }; };`.
-use Rattle.std.proofs.Common.{[], ◌∷◌, ◌++◌, codes, refl}
+use Rattle.std.proofs.Common.{[], ◌∷◌, codes, refl}
 use Rattle.std.specs.Fmt.{digits}
 use Rattle.dt_model.specs.Event.{age_by}
 use Rattle.dt_model.specs.Numbers.{paths_of}
-use Rattle.dt_model.specs.Rows.{fragment, content_of, overlay_events_of, overlay_read, overlay, meaning, label_taken, label_taken_source, referring_source, two_cells_fragments, two_cells_sites}
+use Rattle.dt_model.specs.Rows.{fragment, overlay_events_of, overlay_read, overlay, meaning, label_taken, label_taken_source, referring_source, two_cells_fragments, two_cells_sites}
 use Rattle.dt_laws.specs.Premises.{label_taken_numbers}
 use Rattle.dt_laws.proofs.CheckedApplications.{IsApplicable}
 use Rattle.dt_laws.proofs.CheckedCases.{Object, IsCheckedObject}

@@ -1,14 +1,14 @@
 -- A tree that stands for what a base's source means, by tests.
-use Rattle.std.proofs.Common.{◌≡◌, ℕ, Bool, true, false, cond, List, [], ◌∷◌, Option, Some, None, reverse, refl, sym, ap, subst, ◌∙◌}
+use Rattle.std.proofs.Common.{◌≡◌, ℕ, Bool, true, List, [], Option, Some, None, reverse, ◌∙◌}
 use Rattle.std.specs.Prelude.{nat_eq, codes}
 use Rattle.std.specs.List.{list_all}
-use Rattle.std.specs.Option.{option_map, option_and_then}
+use Rattle.std.specs.Option.{option_and_then}
 use Rattle.std.specs.Str.{bytes_eq}
 use Rattle.dt_model.specs.Names.{Name}
 use Rattle.dt_model.specs.Path.{Path}
-use Rattle.dt_model.specs.Meaning.{Item, Meaning, IsMeaning}
+use Rattle.dt_model.specs.Meaning.{Meaning, IsMeaning}
 use Rattle.dt_model.specs.Event.{value_at}
-use Rattle.dt_model.specs.Source.{Part, Place, Events, labelled, all_bound, meaning_of}
+use Rattle.dt_model.specs.Source.{Place, Events, labelled, all_bound, meaning_of}
 use Rattle.dt_model.specs.Tree.{Reading}
 use Rattle.dt_model.specs.Represents.{Represents}
 use Rattle.dt_laws.proofs.Tests.{all_at}

@@ -1,11 +1,11 @@
 -- Numbers of keyed nodes, by tests at the paths at which nodes stand.
-use Rattle.std.proofs.Common.{◌≡◌, ℕ, ◌≤◌, Bool, true, false, ◌&&◌, List, [], ◌∷◌, Option, Some, None, refl, sym, ap, ◌∙◌}
+use Rattle.std.proofs.Common.{◌≡◌, ℕ, ◌≤◌, Bool, true, ◌&&◌, List, sym, ap, ◌∙◌}
 use Rattle.std.specs.Prelude.{nat_le, nat_eq}
 use Rattle.std.specs.List.{list_all}
 use Rattle.dt_model.specs.Path.{Path, path_eq}
 use Rattle.dt_model.specs.Lists.{IsIn}
 use Rattle.dt_laws.proofs.Tests.{and_left, and_right, and_both, all_at, path_eq_true}
-use Rattle.dt_laws.proofs.CheckedWords.{implies, implied, number_same, same_numbers}
+use Rattle.dt_laws.proofs.CheckedWords.{implies, implied, same_numbers}
 use Rattle.dt_laws.proofs.CheckedNames.{at_most}
 
 -- the numbers of the keyed ones among these paths are in range, and no two are the same

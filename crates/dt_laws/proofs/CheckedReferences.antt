@@ -1,5 +1,5 @@
 -- Claims on the references of all values, by tests at finitely many paths and names.
-use Rattle.std.proofs.Common.{◌≡◌, ℕ, ◌+◌, Bool, true, false, ◌&&◌, List, [], ◌∷◌, inl, inr, Option, Some, None, refl, sym, ap, ◌∙◌}
+use Rattle.std.proofs.Common.{◌≡◌, ℕ, ◌+◌, Bool, true, List, [], ◌∷◌, inl, inr, Option, Some, None, refl, sym, ap, ◌∙◌}
 use Rattle.std.specs.List.{list_all, list_any}
 use Rattle.std.specs.Prelude.{is_some}
 use Rattle.dt_model.specs.Names.{Name}
@@ -7,8 +7,8 @@ use Rattle.dt_model.specs.Path.{Path, below}
 use Rattle.dt_model.specs.Lists.{IsIn}
 use Rattle.dt_model.specs.Meaning.{Item, byte, reference, EachReference}
 use Rattle.dt_model.specs.Object.{references_from}
-use Rattle.dt_model.specs.Overlay.{OverlayReference, inside, outside, Fragment, Overlay, content, IsBrought, IsContained}
-use Rattle.dt_laws.proofs.Tests.{and_left, and_right, all_at, any_from}
+use Rattle.dt_model.specs.Overlay.{OverlayReference, inside, outside, Fragment, Overlay, content, IsContained}
+use Rattle.dt_laws.proofs.Tests.{all_at, any_from}
 use Rattle.dt_laws.proofs.Cases.{some_there}
 use Rattle.dt_laws.proofs.Lands.{append-below}
 

@@ -1,11 +1,10 @@
 -- The overlay `&{/} { m: ic { }; k { r = <&m>; }; };`.
-use Rattle.std.proofs.Common.{◌≡◌, true, false, List, [], ◌∷◌, ◌++◌, Some, codes, refl, sym, ap, subst}
+use Rattle.std.proofs.Common.{◌≡◌, true, false, List, [], ◌∷◌, ◌++◌, Some, codes, refl, sym, subst}
 use Rattle.std.specs.Fmt.{digits}
 use Rattle.dt_model.specs.Event.{age_by}
 use Rattle.dt_model.specs.Numbers.{paths_of}
-use Rattle.dt_model.specs.Rows.{fragment, content_of, overlay_events_of, overlay_read, overlay, meaning, controller_source, second_phandle, two_cells_fragments, two_cells_sites}
+use Rattle.dt_model.specs.Rows.{fragment, content_of, overlay_events_of, overlay_read, overlay, meaning, controller_source, second_phandle, two_cells_fragments}
 use Rattle.dt_laws.specs.Premises.{second_phandle_source, second_phandle_numbers}
-use Rattle.dt_model.specs.Path.{Path}
 use Rattle.dt_model.specs.Merged.{Site, landing, Applies}
 use Rattle.dt_laws.proofs.CheckedCases.{Object, IsCheckedObject}
 
@@ -66,6 +65,6 @@ second_phandle_refused (x ∷ []) a =
     let at : [] ≡ x.at = a.defined.placed.0.named in
     let same : ◌≡◌ {A = Site} (record { fragment = fragment 0; at = [] }) x = λ i. record { fragment = sym of i; at = at i } in
     let lands : landing (x ∷ []) (content_of 0 ++ codes "ic" ∷ []) ≡ Some (codes "ic" ∷ []) =
-        subst (λ (s : Site). landing (s ∷ []) (content_of 0 ++ codes "ic" ∷ []) ≡ Some (codes "ic" ∷ [])) same refl in
+    subst (λ (s : Site). landing (s ∷ []) (content_of 0 ++ codes "ic" ∷ []) ≡ Some (codes "ic" ∷ [])) same refl in
     let z : true ≡ false = a.alone.new (content_of 0 ++ codes "ic" ∷ []) (codes "ic" ∷ []) refl lands in
     cc

@@ -1,14 +1,13 @@
 -- What a base's source means, by tests on its events.
-use Rattle.std.proofs.Common.{◌≡◌, ℕ, ◌<◌, Bool, true, false, ◌&&◌, ◌||◌, List, [], ◌∷◌, inl, inr, length, Option, Some, None, is_some, Ok, reverse, refl, sym, ap, subst, ◌∙◌}
-use Rattle.std.specs.Prelude.{nat_eq, nat_lt, codes, IsSome}
-use Rattle.std.specs.List.{AllByRecursion, list_all}
-use Rattle.std.specs.Option.{option_and_then}
+use Rattle.std.proofs.Common.{◌≡◌, ℕ, Bool, true, false, ◌&&◌, ◌||◌, List, [], length, Option, Some, None, is_some, Ok, reverse, sym, ap, subst, ◌∙◌}
+use Rattle.std.specs.Prelude.{nat_eq, nat_lt, codes}
+use Rattle.std.specs.List.{list_all}
 use Rattle.std.specs.Str.{bytes_eq}
 use Rattle.std.proofs.lemmas.List.{reverse-reverse}
 use Rattle.dt_model.specs.Names.{Name}
 use Rattle.dt_model.specs.Path.{Path, path_eq}
 use Rattle.dt_model.specs.Lists.{IsIn}
-use Rattle.dt_model.specs.Meaning.{Meaning, IsMeaning, IsPlain}
+use Rattle.dt_model.specs.Meaning.{IsMeaning, IsPlain}
 use Rattle.dt_model.specs.Event.{Stack, Event, opening, giving, definition, undefinition, deletion, defines, drops, value_at}
 use Rattle.dt_model.specs.Source.{Part, Place, base, Events, SoFar, nothing, read_all, all_bound, written, written_number, meaning_of, IsResolved, SourceMeans}
 use Rattle.dt_laws.proofs.Tests.{and_left, and_right, all_at, bytes_eq_refl, path_eq_true}
@@ -18,7 +17,7 @@ use Rattle.dt_laws.proofs.Meanings.{source_meaning, no_twice}
 use Rattle.dt_laws.proofs.Plain.{source_plain}
 use Rattle.dt_laws.proofs.CheckedWords.{implies, implied, each_by, same_numbers}
 use Rattle.dt_laws.proofs.CheckedNames.{below, is_place, places_are}
-use Rattle.dt_laws.proofs.CheckedEvents.{covers_events, value_covered, turned_back}
+use Rattle.dt_laws.proofs.CheckedEvents.{covers_events, value_covered}
 
 -- the value of a definition has its references, and a `phandle` writes a number
 abbrev is_resolved : Events → Event (List Part) → Bool

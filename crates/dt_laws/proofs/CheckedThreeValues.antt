@@ -1,9 +1,9 @@
 -- The overlay `&a { n: x { p = <1>; }; }; &a { x { p = <2>; }; }; &n { p = <3>; };`.
-use Rattle.std.proofs.Common.{[], ◌∷◌, ◌++◌, codes, refl}
+use Rattle.std.proofs.Common.{[], ◌∷◌, codes, refl}
 use Rattle.std.specs.Fmt.{digits}
 use Rattle.dt_model.specs.Event.{age_by}
 use Rattle.dt_model.specs.Numbers.{paths_of}
-use Rattle.dt_model.specs.Rows.{fragment, content_of, overlay_events_of, overlay_read, overlay, meaning, one_node_source, three_values, three_values_fragments, three_values_sites, three_values_source}
+use Rattle.dt_model.specs.Rows.{fragment, overlay_events_of, overlay_read, overlay, meaning, one_node_source, three_values, three_values_fragments, three_values_sites, three_values_source}
 use Rattle.dt_laws.specs.Premises.{three_values_numbers}
 use Rattle.dt_laws.proofs.CheckedApplications.{IsApplicable}
 use Rattle.dt_laws.proofs.CheckedCases.{Object, IsCheckedObject}

@@ -1,12 +1,12 @@
 -- Trees that a blob may hold, by a test.
-use Rattle.std.proofs.Common.{◌≡◌, ℕ, ◌+◌, ◌<◌, ◌≤◌, Bool, true, false, not, ◌&&◌, List, [], ◌∷◌, ◌++◌, map, length, refl, sym, ap, ◌∙◌, arith}
-use Rattle.std.specs.Prelude.{nat_le, nat_lt, nat_eq}
-use Rattle.std.specs.List.{AllByRecursion, list_all}
+use Rattle.std.proofs.Common.{◌≡◌, ℕ, ◌+◌, Bool, true, ◌&&◌, List, [], ◌++◌, map, length, arith}
+use Rattle.std.specs.Prelude.{nat_le, nat_eq}
+use Rattle.std.specs.List.{list_all}
 use Rattle.std.specs.Int.{w32, from_be_bytes}
 use Rattle.std.specs.Str.{bytes_eq}
-use Rattle.dt_model.specs.Names.{Name, is_property_name, is_node_name, IsPropertyName}
+use Rattle.dt_model.specs.Names.{is_property_name, is_node_name, IsPropertyName}
 use Rattle.dt_model.specs.Tree.{Property, Forest, no_nodes, branch, Reading}
-use Rattle.dt_model.specs.Valid.{AreDistinct, AreProperties, names, AreNodes, phandle_values, phandles, IsPhandle, IsValid, node_count, IsNoDeeper, IsWithinLimits}
+use Rattle.dt_model.specs.Valid.{AreProperties, names, AreNodes, phandle_values, phandles, IsPhandle, IsValid, node_count, IsNoDeeper, IsWithinLimits}
 use Rattle.dt_laws.proofs.Tests.{and_left, and_right}
 use Rattle.dt_laws.proofs.CheckedWords.{are_distinct, distinct_by, same_names, number_same, each_by}
 use Rattle.dt_laws.proofs.CheckedNames.{property_name, node_name, at_most}

@@ -1,5 +1,5 @@
 -- The overlay `&{/} { d { p = [01], <&gic>; q = <&e>; }; e: f { }; };`.
-use Rattle.std.proofs.Common.{[], ◌∷◌, ◌++◌, reverse, codes, refl}
+use Rattle.std.proofs.Common.{[], ◌∷◌, ◌++◌, codes, refl}
 use Rattle.std.specs.Fmt.{digits}
 use Rattle.dt_model.specs.Event.{age_by}
 use Rattle.dt_model.specs.Numbers.{paths_of}

@@ -13,12 +13,11 @@ use Rattle.dt_model.specs.Numbers.{number_in}
 abbrev pub numbering : List (Path × ℕ) → Path → ℕ
 numbering numbers p = unwrap_or (number_in numbers p) 0
 
--- the controller has number 1
+-- ---- the base with a controller, and the object with two cells
+
 abbrev pub controller_numbers : List (Path × ℕ)
 controller_numbers = (codes "ic" ∷ [], 1) ∷ []
 
--- the object that brings two cells has number 1 for its node, which gets number 2 in the controller's tree, and waits for
--- the controller's label at one cell
 abbrev pub two_cells_numbers : List (Path × ℕ)
 two_cells_numbers = (content_of 0 ++ codes "f" ∷ [], 1) ∷ []
 
@@ -63,6 +62,19 @@ label_taken_numbers = (content_of 0 ++ codes "b" ∷ [], 1) ∷ []
 abbrev pub label_taken_new : List (Path × ℕ)
 label_taken_new = (content_of 0 ++ codes "b" ∷ [], 2) ∷ []
 
+-- ---- the object that gives a node of the base a second phandle
+
+-- &{/} { m: ic { }; k { r = <&m>; }; };
+abbrev pub second_phandle_source : List Place
+second_phandle_source =
+    block (by_path []) ∷ child (codes "ic") ∷ label (codes "m") ∷ close ∷ child (codes "k") ∷ property (codes "r") (phandle_of (codes "m")) ∷ close ∷ close ∷ []
+
+abbrev pub second_phandle_numbers : List (Path × ℕ)
+second_phandle_numbers = (content_of 0 ++ codes "ic" ∷ [], 1) ∷ []
+
+abbrev pub second_phandle_new : List (Path × ℕ)
+second_phandle_new = (content_of 0 ++ codes "ic" ∷ [], 2) ∷ []
+
 -- ---- bases with written numbers
 
 -- / { l: a { }; b { phandle = <1>; p = &l, <&{/b}>; }; };
@@ -86,16 +98,3 @@ with_gap_of_numbers = tree (set (codes "p") (cell 1 ++ cell 3) ∷ [])
 
 abbrev pub gap_of_numbers_numbers : List (Path × ℕ)
 gap_of_numbers_numbers = (codes "a" ∷ [], 2) ∷ (codes "b" ∷ [], 1) ∷ (codes "c" ∷ [], 3) ∷ (codes "c" ∷ codes "d" ∷ [], 4) ∷ []
-
--- ---- the object that gives a node of the base a second phandle
-
--- &{/} { m: ic { }; k { r = <&m>; }; };
-abbrev pub second_phandle_source : List Place
-second_phandle_source =
-    block (by_path []) ∷ child (codes "ic") ∷ label (codes "m") ∷ close ∷ child (codes "k") ∷ property (codes "r") (phandle_of (codes "m")) ∷ close ∷ close ∷ []
-
-abbrev pub second_phandle_numbers : List (Path × ℕ)
-second_phandle_numbers = (content_of 0 ++ codes "ic" ∷ [], 1) ∷ []
-
-abbrev pub second_phandle_new : List (Path × ℕ)
-second_phandle_new = (content_of 0 ++ codes "ic" ∷ [], 2) ∷ []
