@@ -8,3 +8,4 @@ pub mod Bodies
 pub mod SampleSources
 pub mod Fragments
 pub mod AppliedSample
+pub mod Premises

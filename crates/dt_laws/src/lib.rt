@@ -5,5 +5,6 @@
 
 mod blobs;
 mod laws;
+mod premises;
 mod samples;
 mod sources;
