@@ -1,6 +1,6 @@
 -- The order of a tree's nodes and properties: that of the text which opened and defined them (Devicetree Specification
 -- v0.4, 6.3 and 6.4).
-use Rattle.std.specs.Prelude.{◌≡◌, List, [], ◌∷◌, ◌++◌, Some, map, reverse, is_some, not, ◌&&◌, if◌then◌else◌, codes}
+use Rattle.std.specs.Prelude.{◌≡◌, true, List, [], ◌∷◌, ◌++◌, Some, map, reverse, is_some, not, ◌&&◌, if◌then◌else◌, codes}
 use Rattle.dt_model.specs.Names.{Name}
 use Rattle.dt_model.specs.Path.{Path}
 use Rattle.dt_model.specs.Event.{stands, value_at, age, property_age}
@@ -14,11 +14,18 @@ use Rattle.dt_model.specs.Valid.{names}
 abbrev pub unwritten : Meaning → Path → List Name
 unwritten m p = if m.keyed p && not (is_some (m.number p)) then codes "phandle" ∷ [] else []
 
--- The children of each node stand in the order in which they were opened first, and its properties in the order in which
--- they were defined first, after the last deletion that took them; a number that isn't written stands last.
-pub record IsInOrder (es : Events) (m : Meaning) (t : Reading) : Type 0 where
-  pub children : (p : Path) (n : Node) → node_at t p ≡ Some n →
-      AreInOrder (λ x. age es (x ∷ reverse p)) (λ x. stands es (x ∷ reverse p)) (names n.children)
-  pub properties : (p : Path) (n : Node) → node_at t p ≡ Some n →
+-- behind the root's children stand these, which no text opens
+abbrev pub added_to : List Name → Path → List Name
+added_to added [] = added
+added_to added (x ∷ p) = []
+
+-- At each node that stands after the events, the children stand in the order in which they were opened first, and the
+-- properties in the order in which they were defined first, after the last deletion that took them. A number that isn't
+-- written stands last, and so do the nodes that are added to the root.
+pub record IsInOrder (es : Events) (m : Meaning) (added : List Name) (t : Reading) : Type 0 where
+  pub children : (p : Path) (n : Node) → stands es (reverse p) ≡ true → node_at t p ≡ Some n →
+      (opened : List Name) × (names n.children ≡ opened ++ added_to added p)
+      × AreInOrder (λ x. age es (x ∷ reverse p)) (λ x. stands es (x ∷ reverse p)) opened
+  pub properties : (p : Path) (n : Node) → stands es (reverse p) ≡ true → node_at t p ≡ Some n →
       (written : List Name) × (map (λ (x : Property). x.name) n.properties ≡ written ++ unwritten m p)
       × AreInOrder (λ x. property_age es (reverse p) x) (λ x. is_some (value_at es (reverse p) x)) written
