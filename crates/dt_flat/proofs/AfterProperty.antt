@@ -6,7 +6,8 @@ use Rattle.std.proofs.lemmas.Bool.Decides.{nat_tests}
 use Rattle.std.proofs.lemmas.Slice.Eq.{bytes_eq-Decides}
 use Rattle.dt_model.specs.Names.{Name}
 use Rattle.dt_model.specs.Tree.{Property, value_of}
-use Rattle.dt_flat.specs.Arena.{Slot, named_among, named_children, properties, set_property, with_property}
+use Rattle.dt_flat.specs.Arena.{Slot, named_among, named_children, properties, with_property}
+use Rattle.dt_model.specs.Changes.{set_property}
 
 -- ---- children don't depend on properties
 

@@ -5,7 +5,8 @@ use Rattle.std.specs.Map.{lookup}
 use Rattle.std.specs.Str.{bytes_eq}
 use Rattle.indexmap.specs.IndexMap.{insert_entry}
 use Rattle.dt_model.specs.Tree.{Property, value_of}
-use Rattle.dt_flat.specs.Arena.{set_property, Child, child_of}
+use Rattle.dt_flat.specs.Arena.{Child, child_of}
+use Rattle.dt_model.specs.Changes.{set_property}
 use Rattle.dt_flat.specs.Kept.{properties_kept, children_kept}
 
 pub length-kept : (es : List (Vec ℕ × Vec ℕ)) → length (properties_kept es) ≡ length es

@@ -3,7 +3,8 @@ use Rattle.std.proofs.Common.{◌≡◌, ◌≢◌, ℕ, zero, suc, ◌+◌, ◌
 use Rattle.std.proofs.lemmas.List.{append-nil, length-drop}
 use Rattle.dt_model.specs.Tree.{Property}
 use Rattle.dt_flat.specs.declared.places.Place.{Place}
-use Rattle.dt_flat.specs.Arena.{Slot, Child, children_among, children, named_among, named_children, with_child, with_property, depth_of, name_of, properties, set_property}
+use Rattle.dt_flat.specs.Arena.{Slot, Child, children_among, children, named_among, named_children, with_child, with_property, depth_of, name_of, properties}
+use Rattle.dt_model.specs.Changes.{set_property}
 use Rattle.dt_flat.specs.Linked.{slot_kept, slots_kept, children_at, listed, added, with_value, AreLinked}
 use Rattle.dt_flat.proofs.AfterChild.{tested, differs, named_children-push, childless-push}
 use Rattle.dt_flat.proofs.AfterProperty.{children-with_property}

@@ -7,7 +7,8 @@ use Rattle.std.specs.Map.{lookup}
 use Rattle.std.proofs.lemmas.Bool.{cases_eq, eqb-true}
 use Rattle.std.proofs.lemmas.Slice.Eq.{bytes_eq-Decides}
 use Rattle.dt_model.specs.Tree.{Property, value_of}
-use Rattle.dt_flat.specs.Arena.{Slot, properties, set_property, with_property, number_in, phandle_at}
+use Rattle.dt_flat.specs.Arena.{Slot, properties, with_property, number_in, phandle_at}
+use Rattle.dt_model.specs.Changes.{set_property}
 use Rattle.dt_flat.specs.Numbers.{Table, holder, is_number, given, IsNumbered}
 use Rattle.dt_flat.proofs.AfterChild.{tested, differs, properties-push}
 use Rattle.dt_flat.proofs.AfterProperty.{properties-same, properties-other}

@@ -11,7 +11,8 @@ use Rattle.std.proofs.lemmas.Slice.Eq.{bytes_eq-Decides}
 use Rattle.dt_model.specs.Names.{IsNodeName, IsPropertyName}
 use Rattle.dt_model.specs.Tree.{Property, Forest, branch, value_of}
 use Rattle.dt_model.specs.Valid.{AreDistinct, AreProperties, names, AreNodes, phandle_values, phandles, IsPhandle, IsReservation, IsValid}
-use Rattle.dt_flat.specs.Arena.{Arena, Slot, Child, named_among, named_children, child_of, forest_among, properties, set_property, with_property, number_in, phandle_at, reading}
+use Rattle.dt_flat.specs.Arena.{Arena, Slot, Child, named_among, named_children, child_of, forest_among, properties, with_property, number_in, phandle_at, reading}
+use Rattle.dt_model.specs.Changes.{set_property}
 use Rattle.dt_flat.specs.Numbers.{Table, holder, IsNumbered}
 use Rattle.dt_flat.specs.Sound.{AreValid, IsSound}
 use Rattle.dt_flat.proofs.AfterChild.{tested, named_children-push}

@@ -4,6 +4,7 @@ use Rattle.std.specs.Str.{bytes_eq}
 use Rattle.std.specs.Int.{w32, from_be_bytes}
 use Rattle.dt_model.specs.Names.{Name}
 use Rattle.dt_model.specs.Path.{Path}
+use Rattle.dt_model.specs.Changes.{set_property}
 use Rattle.dt_model.specs.Tree.{Property, Forest, no_nodes, branch, Reading, value_of}
 
 -- a node: the number of its parent, how many names its path has, its name, its properties in order
@@ -93,12 +94,6 @@ phandle_at slots p = number_in (value_of (properties slots p) (codes "phandle"))
 -- the nodes after a child of p is added
 abbrev pub with_child : List Slot → ℕ → Name → List Slot
 with_child slots p name = slots ++ record { parent = p; depth = depth_of slots p + 1; name = name; properties = [] } ∷ []
-
--- the properties after one is set: one that is there keeps its place, a new one goes last
-abbrev pub set_property : List Property → Name → List ℕ → List Property
-set_property [] name value = record { name = name; value = value } ∷ []
-set_property (p ∷ ps) name value =
-    if bytes_eq name p.name then record { name = p.name; value = value } ∷ ps else p ∷ set_property ps name value
 
 -- the nodes after a property of node p is set
 abbrev pub with_property : List Slot → ℕ → Name → List ℕ → List Slot

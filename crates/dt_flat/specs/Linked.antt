@@ -1,7 +1,8 @@
 -- The places that the nodes of a tree are kept in, the root's first.
 use Rattle.std.specs.Prelude.{◌≡◌, ℕ, zero, suc, List, [], ◌∷◌, ◌++◌, length}
 use Rattle.dt_flat.specs.declared.places.Place.{Place}
-use Rattle.dt_flat.specs.Arena.{Slot, Child, named_children, set_property}
+use Rattle.dt_flat.specs.Arena.{Slot, Child, named_children}
+use Rattle.dt_model.specs.Changes.{set_property}
 
 -- the node that a place stands for
 abbrev pub slot_kept : Place → Slot

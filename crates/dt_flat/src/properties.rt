@@ -3,7 +3,7 @@
 ghost use Rattle.std.specs.Prelude.{◌≡◌, ◌<◌, [], length, OnOk, OnErr, option_map, slice_get, Some};
 ghost use Rattle.std.specs.Iterator.{YieldsFirstBy, item_count};
 ghost use Rattle.dt_model.specs.Tree.{value_of};
-ghost use Rattle.dt_flat.specs.Arena.{set_property};
+ghost use Rattle.dt_model.specs.Changes.{set_property};
 
 use indexmap::IndexMap;
 use std::alloc::{AllocError, Global};

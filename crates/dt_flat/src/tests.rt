@@ -76,12 +76,15 @@ fn two_zeros_are_no_reservation(rt: HostRuntime) -> Result<(), Fail> {
     Ok(())
 }
 
-// Is the value refused as a phandle of the root?
+// Is the value refused as a phandle of the root? Any other fault is this function's.
 fn is_no_phandle(tree: &mut FlatTree, value: &[u8]) -> Result<bool, Fault> {
     let phandle = PropName::new(b"phandle".as_slice())?;
     let root = tree.root();
-    let res = tree.set_prop(root, &phandle, value);
-    Ok(is_of(res, FaultKind::BlobPhandle))
+    match tree.set_prop(root, &phandle, value) {
+        Ok(()) => Ok(false),
+        Err(fault) if fault.kind == FaultKind::BlobPhandle && fault.at.is_none() => Ok(true),
+        Err(fault) => Err(fault),
+    }
 }
 
 #[test]
