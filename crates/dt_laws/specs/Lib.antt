@@ -7,3 +7,5 @@ pub mod Sources
 pub mod Bodies
 pub mod SampleSources
 pub mod Fragments
+pub mod Joining
+pub mod InTurn

@@ -4,6 +4,8 @@
 #![tactic(auto)]
 
 mod blobs;
+mod joining;
 mod laws;
+mod lists;
 mod samples;
 mod sources;
