@@ -1,5 +1,5 @@
 -- Applying a list of objects one after another.
-use Rattle.std.specs.Prelude.{◌≡◌, ℕ, List, [], ◌∷◌, Some}
+use Rattle.std.specs.Prelude.{◌≡◌, ℕ, List, [], ◌∷◌, ◌++◌, Some}
 use Rattle.dt_model.specs.Names.{Name}
 use Rattle.dt_model.specs.Path.{Path}
 use Rattle.dt_model.specs.Meaning.{Meaning, IsMeaning, IsPlain, Extends}
@@ -52,11 +52,11 @@ InTurnIsFold = (base : Reading) (objects : List Reading) (m : Meaning) (overlays
     → IsOf base m number → AreObjects objects overlays → AreApplied base objects t
     → (result : Meaning) × (number' : Path → ℕ) × IsFold m overlays result × IsOf t result number' × Extends m number number'
 
--- and where that meaning is defined, they can be, as long as no tree before one exceeds the limits
+-- and where that meaning is defined, they can be, as long as none of the trees on the way exceeds the limits
 abbrev pub FoldIsInTurn : Type 0
 FoldIsInTurn = (base : Reading) (objects : List Reading) (m : Meaning) (overlays : List Overlay) (number : Path → ℕ) (result : Meaning)
     → IsOf base m number → AreObjects objects overlays → IsFold m overlays result
-    → ((front : List Reading) (t : Reading) → AreApplied base front t → IsWithinLimits t)
+    → ((front back : List Reading) (t : Reading) → objects ≡ front ++ back → AreApplied base front t → IsWithinLimits t)
     → (t : Reading) × AreApplied base objects t
 
 -- there are least free numbers for any nodes
