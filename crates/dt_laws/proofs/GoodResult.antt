@@ -1,6 +1,6 @@
 -- The names of a result are names, and differ among siblings and among a node's properties.
-use Rattle.std.proofs.Common.{◌≡◌, ◌≢◌, ℕ, ◌<◌, ◌≤◌, ◌==◌, Bool, true, false, ◌||◌, List, [], ◌∷◌, map, codes, length, slice_index, IsTrue, All, refl, sym, ap, subst, ◌∙◌, Option, Some, None, arith, true≢false}
-use Rattle.std.specs.Prelude.{option_and_then, option_map}
+use Rattle.std.proofs.Common.{◌≡◌, ℕ, ◌==◌, ◌||◌, List, [], ◌∷◌, codes, IsTrue, refl, Option, Some, None, arith}
+use Rattle.std.specs.Prelude.{option_and_then}
 use Rattle.std.specs.List.{AllByRecursion}
 use Rattle.std.proofs.lemmas.List.Elements.{All-from_recursion}
 use Rattle.dt_model.specs.Names.{Name, IsNodeName, IsPropertyName, is_name_byte}
@@ -8,7 +8,7 @@ use Rattle.dt_model.specs.Path.{Path}
 use Rattle.dt_model.specs.Overlay.{content}
 use Rattle.dt_model.specs.Merged.{Site, landing}
 use Rattle.dt_model.specs.Object.{Cell, properties_of}
-use Rattle.dt_model.specs.Tree.{Property, Reading, Node, no_nodes, root_of, node_at, nodes_of}
+use Rattle.dt_model.specs.Tree.{Property, Reading, Node, root_of, node_at, nodes_of}
 use Rattle.dt_model.specs.Valid.{IsValid, AreProperties}
 use Rattle.dt_model.specs.Changes.{merged_node, changed_at}
 use Rattle.dt_model.specs.Applied.{Write, writes, brought, with_fragments, node_named, landed_symbol, landed_symbols, with_symbols, applied_at}

@@ -1,11 +1,10 @@
 -- Trees stay trees with distinct names where one is merged into another.
-use Rattle.std.proofs.Common.{◌≡◌, ◌≢◌, ℕ, Bool, true, false, List, [], ◌∷◌, ◌++◌, map, codes, refl, sym, ap, subst, ◌∙◌, Option, Some, None, true≢false}
+use Rattle.std.proofs.Common.{◌≡◌, ◌≢◌, ℕ, Bool, true, false, List, [], ◌∷◌, ◌++◌, map, refl, sym, ap, subst, ◌∙◌, Option, Some, None}
 use Rattle.std.specs.Prelude.{if◌then◌else◌, option_and_then}
 use Rattle.std.specs.List.{AllByRecursion}
 use Rattle.std.specs.Str.{bytes_eq}
 use Rattle.dt_model.specs.Names.{Name, IsNodeName, IsPropertyName}
 use Rattle.dt_model.specs.Path.{Path}
-use Rattle.dt_model.specs.Numbers.{number_in}
 use Rattle.dt_model.specs.Tree.{Property, Forest, no_nodes, branch, Node, sibling, node_below}
 use Rattle.dt_model.specs.Valid.{AreDistinct, names, AreProperties, AreNodes}
 use Rattle.dt_model.specs.Changes.{set_property, set_properties, with_child, merged_forest, merged_node, changed_sibling, changed_below}

@@ -1,15 +1,14 @@
 -- The merged meaning is a meaning.
-use Rattle.std.proofs.Common.{◌≡◌, ℕ, ◌<◌, Bool, true, false, ◌||◌, List, [], ◌∷◌, ◌++◌, map, codes, refl, sym, ap, ◌∙◌, inl, inr, subst, Option, Some, None, true≢false}
-use Rattle.std.specs.Prelude.{unwrap_or, IsSome, is_some, option_map, option_and_then}
+use Rattle.std.proofs.Common.{◌≡◌, true, false, ◌||◌, List, [], ◌∷◌, ◌++◌, map, codes, refl, sym, ap, ◌∙◌, inl, inr, subst, Option, Some, None, true≢false}
+use Rattle.std.specs.Prelude.{unwrap_or, IsSome, is_some}
 use Rattle.std.specs.List.{list_any}
-use Rattle.std.specs.Option.{option_or}
 use Rattle.std.specs.Str.{bytes_eq}
 use Rattle.dt_model.specs.Names.{Name, IsPropertyName, IsLabel}
-use Rattle.dt_model.specs.Path.{Path, is_bookkeeping}
+use Rattle.dt_model.specs.Path.{Path}
 use Rattle.dt_model.specs.Lists.{IsIn, last_of}
 use Rattle.dt_model.specs.Meaning.{Item, byte, reference, item_renamed, EachReference, AreBytes, Meaning, IsMeaning, IsPlain}
 use Rattle.dt_model.specs.Overlay.{OverlayReference, inside, outside, Target, at_reference, at_path, Fragment, Overlay, IsOverlay, IsBrought}
-use Rattle.dt_model.specs.Merged.{Site, landing, sources, merged, meant, IsGiven, IsDefined, AreSites, IsSite, Names, Applies}
+use Rattle.dt_model.specs.Merged.{Site, landing, sources, merged, meant, IsGiven, IsDefined, AreSites, IsSite, Names}
 use Rattle.dt_model.specs.Valid.{AreDistinct}
 use Rattle.dt_laws.specs.Merging.{MergedIsMeaning, SitesAreOne}
 use Rattle.dt_laws.proofs.Tests.{or_cases, or_left, or_right, any_from, any_here}
@@ -144,10 +143,12 @@ module _ (m : Meaning) (o : Overlay) (sites : List Site) (meaning : IsMeaning m)
       }
 
   plain_after : IsPlain (merged m o sites)
-  plain_after = record { plain = λ q h. elim (or_cases (list_any o.stands (sources sites q)) (m.stands q) h) [
-    | inl any ↦ let w = any_from o.stands (sources sites q) any in defined.plain w.0 q w.2 (lands_on w.0 q w.1)
-    | inr k ↦ plain.plain q k
-  ] }
+  plain_after = record {
+    plain = λ q h. elim (or_cases (list_any o.stands (sources sites q)) (m.stands q) h) [
+      | inl any ↦ let w = any_from o.stands (sources sites q) any in defined.plain w.0 q w.2 (lands_on w.0 q w.1)
+      | inr k ↦ plain.plain q k
+    ];
+  }
 
 pub merged_is_a_meaning : MergedIsMeaning
 merged_is_a_meaning m o sites meaning plain overlay defined = (meaning_after m o sites meaning plain overlay defined, plain_after m o sites meaning plain overlay defined)

@@ -1,12 +1,12 @@
 -- The nodes of a merged meaning are a tree, whose paths have names.
-use Rattle.std.proofs.Common.{◌≡◌, ℕ, Bool, true, false, ◌||◌, List, [], ◌∷◌, ◌++◌, refl, sym, ap, ◌∙◌, ◌⊎◌, inl, inr, subst, Option, Some, None, true≢false, append_assoc, append-nil}
+use Rattle.std.proofs.Common.{◌≡◌, true, ◌||◌, List, [], ◌∷◌, ◌++◌, refl, sym, ap, ◌∙◌, ◌⊎◌, inl, inr, subst, Option, Some, None, append_assoc, append-nil}
 use Rattle.std.specs.List.{list_any, AllByRecursion}
 use Rattle.dt_model.specs.Names.{Name, IsNodeName}
 use Rattle.dt_model.specs.Path.{Path}
 use Rattle.dt_model.specs.Lists.{IsIn}
 use Rattle.dt_model.specs.Meaning.{Meaning, IsMeaning}
 use Rattle.dt_model.specs.Overlay.{Overlay, IsOverlay, Fragment, content}
-use Rattle.dt_model.specs.Merged.{Site, moved, with_first, sources, IsSite, AreSites}
+use Rattle.dt_model.specs.Merged.{Site, moved, with_first, sources, AreSites}
 use Rattle.dt_laws.proofs.Tests.{or_cases, or_left, or_right, any_from, any_here, each_append}
 use Rattle.dt_laws.proofs.Lands.{moved_is, moved-append}
 
