@@ -67,3 +67,4 @@ pub mod Seconds
 pub mod SampleSource
 pub mod SampleOverlay
 pub mod FreeNumbers
+pub mod LeastNumbers
