@@ -68,3 +68,4 @@ pub mod SampleSource
 pub mod SampleOverlay
 pub mod FreeNumbers
 pub mod LeastNumbers
+pub mod Folding
