@@ -15,10 +15,10 @@ use Rattle.dt_model.specs.Applied.{symbol, is_plain, is_bare, is_apart, are_sing
 use Rattle.dt_laws.specs.Applying.{AreOf}
 use Rattle.dt_laws.proofs.Tests.{and_left, and_right, and_both, not_true, all_at, all_from, path_eq_refl, path_eq_true}
 use Rattle.dt_laws.proofs.Listed.{stands_listed, listed_stands}
-use Rattle.dt_laws.proofs.Inside.{each_from_references, each_at, plain_brought}
+use Rattle.dt_laws.proofs.Inside.{each_from_references, plain_brought}
 use Rattle.dt_laws.proofs.Given.{symbol_is, not_keyed, no_phandle}
 use Rattle.dt_laws.proofs.Fresh.{AreOwn, number_listed, listed_number}
-use Rattle.dt_laws.proofs.Facts.{exact, fresh, own}
+use Rattle.dt_laws.proofs.Facts.{exact, given_each, fresh, own}
 use Rattle.dt_laws.proofs.Placed.{same_fragments, brought_at}
 
 pub single_from : (sites : List Site) (numbers : List (Path × ℕ)) (p p' q : Path) (n n' : ℕ) → are_single sites numbers ≡ true → IsIn (p, n) numbers → IsIn (p', n') numbers → landing sites p ≡ Some q → landing sites p' ≡ Some q → p ≡ p'
@@ -67,11 +67,6 @@ module _ (base object : Reading) (m : Meaning) (o : Overlay) (number local : Pat
       one offset (outside l) i =
           let c : Cell = record { path = p; property = name; offset = offset } in
           given l c ((exact base object m o number local fixups are has l c).1 (items, e, i))
-
-  pub given_each : (sites : List Site) → Applies m o sites → (l : Name) (c : Cell) → IsIn (l, c) fixups → IsSome (m.label l)
-  given_each sites h l c i =
-      let w = (exact base object m o number local fixups are has l c).0 i in
-      each_at (IsGiven m) 0 w.0 c.offset (outside l) (h.defined.given c.path c.property w.0 w.1) w.2
 
   symbol_of : (l : Name) → symbol base l ≡ m.label l
   symbol_of l = symbol_is base m number are.represented are.meaning are.plain are.valid_base l
@@ -139,7 +134,7 @@ module _ (base object : Reading) (m : Meaning) (o : Overlay) (number local : Pat
         and_both (labels && plains && bares) (are_single sites numbers)
         (and_both (labels && plains) bares
         (and_both labels plains
-        (all_from (λ (x : Name × Cell). is_some (symbol base x.0)) fixups (λ x i. ap is_some (symbol_of x.0) ∙ given_each sites h x.0 x.1 i))
+        (all_from (λ (x : Name × Cell). is_some (symbol base x.0)) fixups (λ x i. ap is_some (symbol_of x.0) ∙ given_each base object m o number local fixups sites are has h.defined x.0 x.1 i))
         (all_from (λ (n : Placed). is_plain (landing sites n.path)) (nodes_of object) plain_at))
         (all_from (λ (x : Path × ℕ). is_bare base (landing sites x.0)) numbers bare_at))
         (single_to sites numbers owned (λ p p' q n n' i i' l l'. h.alone.single p p' q (keyed p n i) (keyed p' n' i') l l'))

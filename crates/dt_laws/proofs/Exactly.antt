@@ -7,14 +7,16 @@ use Rattle.dt_model.specs.Meaning.{Meaning}
 use Rattle.dt_model.specs.Overlay.{Overlay}
 use Rattle.dt_model.specs.Merged.{Site, AreSites, Applies}
 use Rattle.dt_model.specs.Object.{Cell, HasFixups, fragment_names}
-use Rattle.dt_model.specs.Numbers.{AreNewNumbers}
+use Rattle.dt_model.specs.Numbers.{AreNewNumbers, number_in}
 use Rattle.dt_model.specs.Tree.{Reading}
-use Rattle.dt_model.specs.Applied.{writes, find_sites, is_allowed, if_allowed, applied}
+use Rattle.dt_model.specs.Applied.{writes, find_sites, is_allowed, if_allowed, applied, applied_at}
 use Rattle.dt_laws.specs.Applying.{AreOf, IsResult, ApplyingIsMerging}
 use Rattle.dt_laws.proofs.Placed.{fragment_list}
 use Rattle.dt_laws.proofs.AllSites.{sites_found, sites_find}
-use Rattle.dt_laws.proofs.Allowed.{given_each, given_target, allowed_given, applies_from, tests_pass}
-use Rattle.dt_laws.proofs.Merge.{result_is}
+use Rattle.dt_laws.proofs.Facts.{given_each, fresh}
+use Rattle.dt_laws.proofs.Alone.{joined_alone}
+use Rattle.dt_laws.proofs.Allowed.{given_target, allowed_given, applies_from, tests_pass}
+use Rattle.dt_laws.proofs.Merge.{joining_is_merging}
 
 module _ (base object : Reading) (m : Meaning) (o : Overlay) (number local : Path → ℕ) (fixups : List (Name × Cell)) (numbers : List (Path × ℕ))
     (are : AreOf base object m o number local) (has : HasFixups object fixups) (new : AreNewNumbers base object numbers) where
@@ -30,8 +32,15 @@ module _ (base object : Reading) (m : Meaning) (o : Overlay) (number local : Pat
   -- where the overlay applies at some sites, they are found
   found : (sites : List Site) → Applies m o sites → finds ≡ Some sites
   found sites h =
-      let given = given_each base object m o number local fixups numbers are has new sites h in
+      let given = given_each base object m o number local fixups sites are has h.defined in
       same_names ∙ sites_find base object m o number local fixups numbers are has new given (given_target base object m o number local fixups numbers are has new given) sites h.defined.placed
+
+  -- and the result there is one of the merged meaning
+  result_is : (sites : List Site) → Applies m o sites → IsResult base m o number numbers (applied_at base object fixups numbers sites) sites
+  result_is sites h =
+      let joined = joined_alone m o sites number (number_in numbers) h.alone (fresh base object m o number local numbers are new) in
+      let r = joining_is_merging base object m o number local fixups numbers sites are has h.defined joined in
+      record { applies = h; represents = r.represents; extends = r.extends; boot_cpu = r.boot_cpu; bookkeeping = r.bookkeeping }
 
   exactly : Outcome (applied base object fixups numbers)
   exactly = step finds refl
@@ -46,7 +55,7 @@ module _ (base object : Reading) (m : Meaning) (o : Overlay) (number local : Pat
               let placed : AreSites m o [] o.fragments sites =
               sites_found base object m o number local fixups numbers are has new given (given_target base object m o number local fixups numbers are has new given) sites (sym same_names ∙ e) in
               let h = applies_from base object m o number local fixups numbers are has new sites placed k in
-              rw k (sites, result_is base object m o number local fixups numbers are has new sites h)
+              rw k (sites, result_is sites h)
           inner false k = rw k (λ sites' h.
               let z : Some sites ≡ Some sites' = sym e ∙ found sites' h in
               let same : sites' ≡ sites = cc in

@@ -1,16 +1,18 @@
 -- What a base, an object and the numbers of an application give.
 use Rattle.std.proofs.Common.{◌≡◌, ◌↔◌, ℕ, List, ◌∷◌, [], codes, subst, Some}
+use Rattle.std.specs.Prelude.{IsSome}
 use Rattle.dt_model.specs.Names.{Name}
 use Rattle.dt_model.specs.Path.{Path}
 use Rattle.dt_model.specs.Lists.{IsIn}
 use Rattle.dt_model.specs.Meaning.{cell, Meaning}
 use Rattle.dt_model.specs.Overlay.{outside, Overlay}
+use Rattle.dt_model.specs.Merged.{Site, IsGiven, IsDefined}
 use Rattle.dt_model.specs.Object.{Cell, IsCellOf, HasFixups, properties_of}
 use Rattle.dt_model.specs.Numbers.{AreNewNumbers, number_in}
 use Rattle.dt_model.specs.Tree.{Reading, node_at, value_in}
 use Rattle.dt_laws.specs.Applying.{AreOf}
 use Rattle.dt_laws.proofs.CellTexts.{one_fixups}
-use Rattle.dt_laws.proofs.Inside.{IsFresh}
+use Rattle.dt_laws.proofs.Inside.{IsFresh, each_at}
 use Rattle.dt_laws.proofs.Fresh.{AreOwn}
 use Rattle.dt_laws.proofs.Numbered.{numbers_fresh, numbers_unused, numbers_own}
 
@@ -20,6 +22,12 @@ module _ (base object : Reading) (m : Meaning) (o : Overlay) (number local : Pat
   exact fixups are has l c =
       let same : are.encoded.fixups ≡ fixups = one_fixups (properties_of (node_at object (codes "__fixups__" ∷ []))) are.encoded.fixups fixups are.encoded.fixups_listed has in
       subst (λ z. IsIn (l, c) z ↔ IsCellOf o c (outside l)) same (are.encoded.fixups_exact l c)
+
+  -- the labels that cells wait for are the base's, where the overlay is defined
+  pub given_each : (fixups : List (Name × Cell)) (sites : List Site) → AreOf base object m o number local → HasFixups object fixups → IsDefined m o sites → (l : Name) (c : Cell) → IsIn (l, c) fixups → IsSome (m.label l)
+  given_each fixups sites are has defined l c i =
+      let w = (exact fixups are has l c).0 i in
+      each_at (IsGiven m) 0 w.0 c.offset (outside l) (defined.given c.path c.property w.0 w.1) w.2
 
   pub fresh : (numbers : List (Path × ℕ)) → AreOf base object m o number local → AreNewNumbers base object numbers → IsFresh m o number (number_in numbers)
   fresh numbers are new = numbers_fresh base object m o number local numbers are.represented are.meaning are.plain are.encoded are.overlay are.valid_object are.few_in_base are.few_in_object new

@@ -12,13 +12,17 @@ use Rattle.dt_model.specs.Valid.{AreDistinct}
 use Rattle.dt_model.specs.Applied.{landed_with}
 use Rattle.dt_laws.proofs.Tests.{path_eq_refl, path_eq_true, or_right, each_in}
 
--- a least free number is small
-pub small : (taken : List ℕ) (n : ℕ) → IsLeastFree taken n → n ≤ length taken + 1
-small taken n h = let le = le-length_from_below (0 ∷ taken) n below in omega (arith, le)
+-- where each number from 1 up to n is taken, as many are taken
+pub few_below : (taken : List ℕ) (n : ℕ) → ((k : ℕ) → 1 ≤ k → k < n → list_any (nat_eq k) taken ≡ true) → n ≤ length taken + 1
+few_below taken n h = let le = le-length_from_below (0 ∷ taken) n below in omega (arith, le)
   where
     below : (q : ℕ) → q < n → list_any (nat_eq q) (0 ∷ taken) ≡ true
     below zero lt = refl
-    below (suc k) lt = or_right (nat_eq (suc k) 0) (list_any (nat_eq (suc k)) taken) (h.least (suc k) (omega arith) lt)
+    below (suc k) lt = or_right (nat_eq (suc k) 0) (list_any (nat_eq (suc k)) taken) (h (suc k) (omega arith) lt)
+
+-- a least free number is small
+pub small : (taken : List ℕ) (n : ℕ) → IsLeastFree taken n → n ≤ length taken + 1
+small taken n h = few_below taken n h.least
 
 pub number_is_free : (taken : List ℕ) (paths : List Path) (numbers : List (Path × ℕ)) (p : Path) (n : ℕ) → AreNumbers taken paths numbers → number_in numbers p ≡ Some n → list_any (nat_eq n) taken ≡ false
 number_is_free taken [] [] p n h e = absurd (let z : None ≡ Some n = e in cc)

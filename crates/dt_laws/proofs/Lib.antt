@@ -32,6 +32,7 @@ pub mod Sites
 pub mod AllSites
 pub mod Allowed
 pub mod Naming
+pub mod Alone
 pub mod Symbols
 pub mod Turns
 pub mod Results
@@ -99,3 +100,5 @@ pub mod CheckedInnerTarget
 pub mod CheckedLabelTaken
 pub mod CheckedSecondPhandle
 pub mod CheckedMissingLabel
+pub mod LeastNumbers
+pub mod Folding

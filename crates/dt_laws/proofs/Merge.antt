@@ -1,4 +1,4 @@
--- The result of an application represents the merged meaning.
+-- The result of an application with joined numbers represents the merged meaning.
 use Rattle.std.proofs.Common.{◌≡◌, ℕ, Bool, true, false, ◌||◌, List, [], ◌∷◌, ◌++◌, map, codes, refl, sym, ap, ◌∙◌, Option, Some, None, true≢false}
 use Rattle.std.specs.Prelude.{unwrap_or, option_map, option_and_then, if◌then◌else◌}
 use Rattle.std.specs.List.{list_any}
@@ -9,18 +9,19 @@ use Rattle.dt_model.specs.Path.{Path, path_value, is_bookkeeping}
 use Rattle.dt_model.specs.Lists.{IsIn, last_of}
 use Rattle.dt_model.specs.Meaning.{Item, byte, reference, cell, value_bytes, item_renamed, EachReference, Meaning, IsNaming, instance_value}
 use Rattle.dt_model.specs.Overlay.{OverlayReference, inside, outside, Overlay}
-use Rattle.dt_model.specs.Merged.{Site, landing, sources, merged, meant, IsGiven, Applies}
+use Rattle.dt_model.specs.Merged.{Site, landing, sources, merged, meant, IsGiven, IsDefined}
 use Rattle.dt_model.specs.Object.{Cell, HasFixups, properties_of}
-use Rattle.dt_model.specs.Numbers.{AreNewNumbers, number_in, number_after}
+use Rattle.dt_model.specs.Joined.{IsJoined}
+use Rattle.dt_model.specs.Numbers.{number_in, number_after}
 use Rattle.dt_model.specs.Represents.{Represents}
 use Rattle.dt_model.specs.Tree.{Reading, node_at, value_in}
 use Rattle.dt_model.specs.Applied.{writes, with_fragments, landed_symbols, applied_at}
-use Rattle.dt_laws.specs.Applying.{AreOf, IsResult}
+use Rattle.dt_laws.specs.Applying.{AreOf}
+use Rattle.dt_laws.specs.Joining.{IsJoinedResult, JoiningIsMerging}
 use Rattle.dt_laws.proofs.Tests.{bytes_eq_true, any_from, any_here}
 use Rattle.dt_laws.proofs.Lands.{landing_of, last_from, last_one, last_map}
 use Rattle.dt_laws.proofs.Landing.{reservations_stay, boot_cpu_stays}
 use Rattle.dt_laws.proofs.Inside.{IsInside, final_number, each_more, each_both, referred_inside}
-use Rattle.dt_laws.proofs.Facts.{fresh}
 use Rattle.dt_laws.proofs.Naming.{Follows, naming_after, naming_extends, follows}
 use Rattle.dt_laws.proofs.Placed.{lands_at}
 use Rattle.dt_laws.proofs.Results.{distinct, brought, source_brought, keeps, symbols_are, nodes_are, values_are, phandles_are}
@@ -37,28 +38,28 @@ renamed_value f h (byte b ∷ items) = ap (λ bs. b ∷ bs) (renamed_value f h i
 renamed_value f h (reference r ∷ items) = ap (λ bs. cell (f (h r)) ++ bs) (renamed_value f h items)
 
 module _ (base object : Reading) (m : Meaning) (o : Overlay) (number local : Path → ℕ) (fixups : List (Name × Cell)) (numbers : List (Path × ℕ))
-    (are : AreOf base object m o number local) (has : HasFixups object fixups) (new : AreNewNumbers base object numbers)
-    (sites : List Site) (applies : Applies m o sites) where
+    (are : AreOf base object m o number local) (has : HasFixups object fixups) (sites : List Site) (defined : IsDefined m o sites)
+    (joined : IsJoined m o sites number (number_in numbers)) where
   -- the numbers after the application
   abbrev after : Path → ℕ
   after = number_after sites number (number_in numbers)
 
   inside_of : (p q : Path) → o.keyed p ≡ true → landing sites p ≡ Some q → IsInside o (inside p)
-  inside_of p q h l = (h, brought base object m o number local fixups numbers are has new sites applies p q l)
+  inside_of p q h l = (h, brought base object m o number local fixups numbers are has sites defined joined p q l)
 
   naming : IsNaming (merged m o sites) after
-  naming = naming_after m o sites number (number_in numbers) are.meaning are.represented.naming (distinct base object m o number local fixups numbers are has new sites applies) applies.alone (fresh base object m o number local numbers are new) inside_of
+  naming = naming_after m o sites number (number_in numbers) are.meaning are.represented.naming (distinct base object m o number local fixups numbers are has sites defined joined) joined inside_of
 
   pub follow : Follows m o sites number after (number_in numbers)
-  follow = follows m o sites number (number_in numbers) are.meaning are.represented.naming (distinct base object m o number local fixups numbers are has new sites applies) applies.alone (fresh base object m o number local numbers are new) inside_of
+  follow = follows m o sites number (number_in numbers) are.meaning are.represented.naming (distinct base object m o number local fixups numbers are has sites defined joined) joined inside_of
 
   lands_on : (p q : Path) → IsIn p (sources sites q) → landing sites p ≡ Some q
-  lands_on p q i = landing_of sites p q (distinct base object m o number local fixups numbers are has new sites applies) i
+  lands_on p q i = landing_of sites p q (distinct base object m o number local fixups numbers are has sites defined joined) i
 
   -- a reference that lands has the number of the node that it means
   reference_number : (r : OverlayReference) → IsInside o r → IsGiven m r → final_number m number (number_in numbers) r ≡ after (meant m sites r)
   reference_number (inside p) h given =
-      let w = lands_at m o [] o.fragments sites h.1.0 h.1.1 applies.defined.placed h.1.2 in
+      let w = lands_at m o [] o.fragments sites h.1.0 h.1.1 defined.placed h.1.2 in
       let l : landing sites p ≡ Some w.0 = ap (landing sites) h.1.3 ∙ w.1 in
       ap (λ n. unwrap_or n 0) (follow.given p w.0 h.0 l) ∙ ap (λ q. after (unwrap_or q [])) (sym l)
   reference_number (outside l) h given = step (m.label l) refl
@@ -71,15 +72,15 @@ module _ (base object : Reading) (m : Meaning) (o : Overlay) (number local : Pat
   landed_value : (p q : Path) (name : Name) (items : List (Item OverlayReference)) → IsIn p (sources sites q) → o.value p name ≡ Some items
       → value_bytes (final_number m number (number_in numbers)) items ≡ value_bytes after (map (item_renamed (meant m sites)) items)
   landed_value p q name items i e =
-      let refs = referred_inside o are.overlay p name items (source_brought base object m o number local fixups numbers are has new sites applies p q i) e in
+      let refs = referred_inside o are.overlay p name items (source_brought base object m o number local fixups numbers are has sites defined joined p q i) e in
       same_value (final_number m number (number_in numbers)) (λ r. after (meant m sites r)) items
-      (each_both (IsInside o) (IsGiven m) (λ r. final_number m number (number_in numbers) r ≡ after (meant m sites r)) items reference_number refs (applies.defined.given p name items e))
+      (each_both (IsInside o) (IsGiven m) (λ r. final_number m number (number_in numbers) r ≡ after (meant m sites r)) items reference_number refs (defined.given p name items e))
       ∙ sym (renamed_value after (meant m sites) items)
 
   value_after : (q : Path) (name : Name) → is_bookkeeping q ≡ false → bytes_eq name (codes "phandle") ≡ false
       → value_in (applied_at base object fixups numbers sites) q name ≡ option_map (value_bytes after) ((merged m o sites).value q name)
   value_after q name plain other =
-      values_are base object m o number local fixups numbers are has new sites applies q name plain other
+      values_are base object m o number local fixups numbers are has sites defined joined q name plain other
       ∙ ap (λ x. option_or x (option_map (value_bytes number) (m.value q name))) (last_map (value_bytes (final_number m number (number_in numbers))) (λ p. o.value p name) (sources sites q))
       ∙ step (last_of (λ p. o.value p name) (sources sites q)) refl (m.value q name) refl
     where
@@ -94,7 +95,7 @@ module _ (base object : Reading) (m : Meaning) (o : Overlay) (number local : Pat
 
   phandle_after : (q : Path) → is_bookkeeping q ≡ false → value_in (applied_at base object fixups numbers sites) q (codes "phandle") ≡ (if (merged m o sites).keyed q then Some (cell (after q)) else None)
   phandle_after q plain =
-      phandles_are base object m o number local fixups numbers are has new sites applies q plain
+      phandles_are base object m o number local fixups numbers are has sites defined joined q plain
       ∙ ap (λ x. option_or x (if m.keyed q then Some (cell (number q)) else None)) (last_map cell (number_in numbers) (sources sites q))
       ∙ step (last_of (number_in numbers) (sources sites q)) refl (list_any o.keyed (sources sites q)) refl (m.keyed q) refl
     where
@@ -129,7 +130,7 @@ module _ (base object : Reading) (m : Meaning) (o : Overlay) (number local : Pat
       step false e = value_after q name plain e
 
   symbols_after : (l : Name) → value_in (applied_at base object fixups numbers sites) (codes "__symbols__" ∷ []) l ≡ option_map path_value ((merged m o sites).label l)
-  symbols_after l = symbols_are base object m o number local fixups numbers are has new sites applies l ∙ either (option_and_then (landing sites) (o.label l)) (m.label l)
+  symbols_after l = symbols_are base object m o number local fixups numbers are has sites defined joined l ∙ either (option_and_then (landing sites) (o.label l)) (m.label l)
     where
       either : (x y : Option Path) → option_or (option_map path_value x) (option_map path_value y) ≡ option_map path_value (option_or x y)
       either None y = refl
@@ -141,18 +142,21 @@ module _ (base object : Reading) (m : Meaning) (o : Overlay) (number local : Pat
     reservations =
         reservations-with_symbols (landed_symbols object sites (properties_of (node_at object (codes "__symbols__" ∷ [])))) (with_fragments base object (writes base object fixups numbers) numbers sites)
         ∙ reservations_stay object (writes base object fixups numbers) numbers are.valid_object sites base ∙ are.represented.reservations;
-    nodes = nodes_are base object m o number local fixups numbers are has new sites applies;
+    nodes = nodes_are base object m o number local fixups numbers are has sites defined joined;
     values = values_after;
     symbols = symbols_after;
   }
 
-  pub result_is : IsResult base m o number numbers (applied_at base object fixups numbers sites) sites
-  result_is = record {
-    applies = applies;
+  joined_result : IsJoinedResult base m o number numbers sites (applied_at base object fixups numbers sites)
+  joined_result = record {
     represents = represents_after;
-    extends = naming_extends m o sites number (number_in numbers) are.meaning are.represented.naming (distinct base object m o number local fixups numbers are has new sites applies) applies.alone (fresh base object m o number local numbers are new) inside_of;
+    extends = naming_extends m o sites number (number_in numbers) are.meaning are.represented.naming (distinct base object m o number local fixups numbers are has sites defined joined) joined inside_of;
     boot_cpu =
         boot_cpu-with_symbols (landed_symbols object sites (properties_of (node_at object (codes "__symbols__" ∷ [])))) (with_fragments base object (writes base object fixups numbers) numbers sites)
         ∙ boot_cpu_stays object (writes base object fixups numbers) numbers are.valid_object sites base;
-    bookkeeping = keeps base object m o number local fixups numbers are has new sites applies;
+    bookkeeping = keeps base object m o number local fixups numbers are has sites defined joined;
   }
+
+pub joining_is_merging : JoiningIsMerging
+unfolding joined_result
+joining_is_merging base object m o number local fixups numbers sites are has defined joined = joined_result base object m o number local fixups numbers are has sites defined joined

@@ -9,9 +9,10 @@ use Rattle.dt_model.specs.Path.{Path, path_value, is_bookkeeping}
 use Rattle.dt_model.specs.Lists.{IsIn, last_of}
 use Rattle.dt_model.specs.Meaning.{Item, cell, value_bytes, Meaning}
 use Rattle.dt_model.specs.Overlay.{OverlayReference, Overlay, IsBrought}
-use Rattle.dt_model.specs.Merged.{Site, landing, sources, Applies}
+use Rattle.dt_model.specs.Merged.{Site, landing, sources, IsDefined}
 use Rattle.dt_model.specs.Object.{Cell, HasFixups, object_number, properties_of}
-use Rattle.dt_model.specs.Numbers.{AreNewNumbers, number_in}
+use Rattle.dt_model.specs.Joined.{IsJoined}
+use Rattle.dt_model.specs.Numbers.{number_in}
 use Rattle.dt_model.specs.Tree.{Property, Reading, Node, value_of, root_of, node_at, nodes_of, stands_in, value_in}
 use Rattle.dt_model.specs.Valid.{AreDistinct}
 use Rattle.dt_model.specs.Applied.{node_named, writes, written, with_fragments, landed_symbols, applied_at}
@@ -23,21 +24,20 @@ use Rattle.dt_laws.proofs.Brought.{written_value, apart_below, root_apart}
 use Rattle.dt_laws.proofs.Landing.{AreThere, value-with_fragments, stands-with_fragments}
 use Rattle.dt_laws.proofs.Inside.{final_number, plain_brought, referred_inside}
 use Rattle.dt_laws.proofs.Given.{base_value, base_phandle, object_phandle, object_value_is, label_is}
-use Rattle.dt_laws.proofs.Facts.{exact, fresh}
+use Rattle.dt_laws.proofs.Facts.{exact, given_each}
 use Rattle.dt_laws.proofs.Placed.{site_names, same_fragments, brought_at}
 use Rattle.dt_laws.proofs.Writes.{value_written}
-use Rattle.dt_laws.proofs.Allowed.{given_each}
 use Rattle.dt_laws.proofs.Symbols.{value_of-landed, landed_distinct, value-with_symbols, stands-with_symbols, symbols-with_symbols}
 use Rattle.dt_laws.proofs.Turns.{there}
 
 module _ (base object : Reading) (m : Meaning) (o : Overlay) (number local : Path → ℕ) (fixups : List (Name × Cell)) (numbers : List (Path × ℕ))
-    (are : AreOf base object m o number local) (has : HasFixups object fixups) (new : AreNewNumbers base object numbers)
-    (sites : List Site) (applies : Applies m o sites) where
+    (are : AreOf base object m o number local) (has : HasFixups object fixups) (sites : List Site) (defined : IsDefined m o sites)
+    (joined : IsJoined m o sites number (number_in numbers)) where
   pub distinct : AreDistinct (site_names sites)
-  distinct = subst AreDistinct (sym (same_fragments m o [] o.fragments sites applies.defined.placed)) are.overlay.distinct
+  distinct = subst AreDistinct (sym (same_fragments m o [] o.fragments sites defined.placed)) are.overlay.distinct
 
   pub brought : (p q : Path) → landing sites p ≡ Some q → IsBrought o p
-  brought p q l = brought_at o sites p q (same_fragments m o [] o.fragments sites applies.defined.placed) l
+  brought p q l = brought_at o sites p q (same_fragments m o [] o.fragments sites defined.placed) l
 
   pub source_brought : (p q : Path) → IsIn p (sources sites q) → IsBrought o p
   source_brought p q i = brought p q (landing_of sites p q distinct i)
@@ -49,7 +49,7 @@ module _ (base object : Reading) (m : Meaning) (o : Overlay) (number local : Pat
   nothing_lands : (p q : Path) → is_bookkeeping q ≡ true → IsIn p (sources sites q) → stands_in object p ≡ true → ⊥
   nothing_lands p q book i s =
       let l = landing_of sites p q distinct i in
-      true≢false (sym book ∙ applies.defined.plain p q (sym (are.encoded.nodes p (source_plain p q i)) ∙ s) l)
+      true≢false (sym book ∙ defined.plain p q (sym (are.encoded.nodes p (source_plain p q i)) ∙ s) l)
 
   -- ---- the properties of `__symbols__`
 
@@ -82,7 +82,7 @@ module _ (base object : Reading) (m : Meaning) (o : Overlay) (number local : Pat
   from name p = option_map (written_value (writes base object fixups numbers) numbers p name) (value_in object p name)
 
   are_there : AreThere object (writes base object fixups numbers) numbers are.valid_object base sites
-  are_there = there base object m o number local are (writes base object fixups numbers) numbers sites applies.defined.placed
+  are_there = there base object m o number local are (writes base object fixups numbers) numbers sites defined.placed
 
   value_at : (q : Path) (name : Name) → q ≢ codes "__symbols__" ∷ [] → value_in (applied_at base object fixups numbers sites) q name ≡ option_or (last_of (from name) (sources sites q)) (value_in base q name)
   value_at q name ne =
@@ -154,7 +154,7 @@ module _ (base object : Reading) (m : Meaning) (o : Overlay) (number local : Pat
           (object_value_is object o local are.encoded are.overlay p name (plain_brought o are.overlay p b) other ∙ ap (option_map (value_bytes (object_number local))) e)
       step (Some items) e =
           value_written base object m o number local fixups numbers are.represented are.meaning are.plain are.valid_base are.encoded are.overlay are.valid_object
-          (exact base object m o number local fixups are has) (given_each base object m o number local fixups numbers are has new sites applies) (fresh base object m o number local numbers are new)
+          (exact base object m o number local fixups are has) (given_each base object m o number local fixups sites are has defined) (λ r h. joined.some r h.1 h.0)
           p name items (plain_brought o are.overlay p b) (referred_inside o are.overlay p name items b e) e
 
   pub values_are : (q : Path) (name : Name) → is_bookkeeping q ≡ false → bytes_eq name (codes "phandle") ≡ false
@@ -174,9 +174,9 @@ module _ (base object : Reading) (m : Meaning) (o : Overlay) (number local : Pat
       step : (c : Bool) → o.keyed p ≡ c → (y : Option ℕ) → number_in numbers p ≡ y → option_map (λ _. cell (unwrap_or y 0)) (if c then Some (cell (local p)) else None) ≡ option_map cell y
       step true k (Some n) e = refl
       step true k None e =
-          let x = (fresh base object m o number local numbers are new).some p (k, b) in
+          let x = joined.some p b k in
           absurd (let z : None ≡ Some x.0 = sym e ∙ x.1 in cc)
-      step false k (Some n) e = absurd (true≢false (sym ((fresh base object m o number local numbers are new).none p n e) ∙ k))
+      step false k (Some n) e = absurd (true≢false (sym (joined.none p n e) ∙ k))
       step false k None e = refl
 
   pub phandles_are : (q : Path) → is_bookkeeping q ≡ false

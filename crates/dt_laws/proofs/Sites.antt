@@ -77,7 +77,7 @@ module _ (base object : Reading) (m : Meaning) (o : Overlay) (number local : Pat
   by_reference earlier f r i e g =
       let inner = target_inside o are.overlay f r i e in
       let t = target_written base object m o number local fixups numbers are.represented are.meaning are.plain are.valid_base are.encoded are.overlay are.valid_object
-      (exact base object m o number local fixups are has) given (fresh base object m o number local numbers are new) f r i e in
+      (exact base object m o number local fixups are has) given (fresh base object m o number local numbers are new).some f r i e in
       step (value_in object (f.name ∷ []) (codes "target")) t inner
     where
       step : (y : Option (List ℕ)) → option_map (written (f.name ∷ []) (codes "target") (writes base object fixups numbers)) y ≡ Some (cell (final_number m number (number_in numbers) r)) → IsInside o r

@@ -12,6 +12,7 @@ use Rattle.dt_model.specs.Overlay.{Overlay}
 use Rattle.std.specs.Option.{option_or}
 use Rattle.dt_model.specs.Merged.{Site, landing, sources, merged, Applies}
 use Rattle.dt_model.specs.Object.{Cell, HasFixups, fragment_names}
+use Rattle.dt_model.specs.Joined.{IsJoined}
 use Rattle.dt_model.specs.Numbers.{AreNewNumbers, number_in, number_after}
 use Rattle.dt_model.specs.Tree.{Reading, Placed, value_of, root_of, nodes_of, value_in}
 use Rattle.dt_model.specs.Valid.{AreDistinct, IsValid, IsReservation, IsPhandle, phandle_values, phandles}
@@ -27,6 +28,7 @@ use Rattle.dt_laws.proofs.KeptNames.{IsGoodNode}
 use Rattle.dt_laws.proofs.GoodResult.{result_good}
 use Rattle.dt_laws.proofs.Numbered.{small_number}
 use Rattle.dt_laws.proofs.Facts.{fresh, unused}
+use Rattle.dt_laws.proofs.Alone.{joined_alone}
 use Rattle.dt_laws.proofs.Given.{phandle_of}
 use Rattle.dt_laws.proofs.Merge.{follow}
 use Rattle.dt_laws.proofs.Results.{distinct}
@@ -64,6 +66,9 @@ flat_distinct (n ∷ nodes) d one =
 module _ (base object : Reading) (m : Meaning) (o : Overlay) (number local : Path → ℕ) (fixups : List (Name × Cell)) (numbers : List (Path × ℕ))
     (are : AreOf base object m o number local) (has : HasFixups object fixups) (new : AreNewNumbers base object numbers)
     (t : Reading) (good : IsGoodNode (root_of t)) (sites : List Site) (result : IsResult base m o number numbers t sites) where
+  joined : IsJoined m o sites number (number_in numbers)
+  joined = joined_alone m o sites number (number_in numbers) result.applies.alone (fresh base object m o number local numbers are new)
+
   -- a phandle of the result is the base's, or a new number
   pub data From : Path → List ℕ → Type 0 where
     kept : {q : Path} {v : List ℕ} → value_in base q (codes "phandle") ≡ Some v → From q v
@@ -94,8 +99,8 @@ module _ (base object : Reading) (m : Meaning) (o : Overlay) (number local : Pat
           elim (or_cases (list_any o.keyed (sources sites q)) (m.keyed q) k) [
             | inl any ↦
                 let w = any_from o.keyed (sources sites q) any in
-                let l = landing_of sites w.0 q (distinct base object m o number local fixups numbers are has new sites result.applies) w.1 in
-                given w.0 (number_after sites number (number_in numbers) q) ((follow base object m o number local fixups numbers are has new sites result.applies).given w.0 q w.2 l) l (sym is)
+                let l = landing_of sites w.0 q (distinct base object m o number local fixups numbers are has sites result.applies.defined joined) w.1 in
+                given w.0 (number_after sites number (number_in numbers) q) ((follow base object m o number local fixups numbers are has sites result.applies.defined joined).given w.0 q w.2 l) l (sym is)
             | inr h' ↦
                 kept (phandle_of base m number are.represented are.meaning are.plain q h' ∙ ap (λ n. Some (cell n)) (sym (result.extends.kept q h')) ∙ ap Some is)
           ]

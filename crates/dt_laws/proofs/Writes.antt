@@ -16,7 +16,7 @@ use Rattle.dt_model.specs.Valid.{IsValid}
 use Rattle.dt_model.specs.Applied.{number_at, node_numbered, Write, local_write, label_write, writes, is_at, written, symbol}
 use Rattle.dt_laws.proofs.Tests.{bytes_eq_true, bytes_eq_refl, path_eq_refl, path_eq_true, and_left, and_right, and_both}
 use Rattle.dt_laws.proofs.Cells.{bytes_from, plain_bytes, offset_from, IsSound, IsWritten, all_cells}
-use Rattle.dt_laws.proofs.Inside.{IsInside, final_number, IsFresh, each_at, plain_brought, plain_fragment, target_inside}
+use Rattle.dt_laws.proofs.Inside.{IsInside, final_number, each_at, plain_brought, plain_fragment, target_inside}
 use Rattle.dt_laws.proofs.Finding.{node_of_number}
 use Rattle.dt_laws.proofs.Given.{phandle_of, symbol_is, object_items, object_phandle}
 use Rattle.dt_laws.proofs.Numbered.{small_number}
@@ -60,7 +60,7 @@ module _ (base object : Reading) (m : Meaning) (o : Overlay) (number local : Pat
     (holds : Represents base m number) (meaning : IsMeaning m) (plain : IsPlain m) (valid_base : IsValid base)
     (encodes : Encodes object o local) (overlay : IsOverlay o) (valid : IsValid object)
     (exact : (l : Name) (c : Cell) → IsIn (l, c) fixups ↔ IsCellOf o c (outside l))
-    (given : (l : Name) (c : Cell) → IsIn (l, c) fixups → IsSome (m.label l)) (fresh : IsFresh m o number (number_in numbers)) where
+    (given : (l : Name) (c : Cell) → IsIn (l, c) fixups → IsSome (m.label l)) (some : (p : Path) → IsInside o (inside p) → (n : ℕ) × (number_in numbers p ≡ Some n)) where
   -- a keyed node of a fragment is found by the number that the object gives it
   own_node : (p : Path) → IsInside o (inside p) → node_numbered (nodes_of object) (local p) ≡ Some p
   own_node p h =
@@ -73,7 +73,7 @@ module _ (base object : Reading) (m : Meaning) (o : Overlay) (number local : Pat
       let v = object_items object o local encodes overlay c.path c.property items plain_path e in
       let read : number_at (unwrap_or (value_in object c.path c.property) []) c.offset ≡ local r =
       ap (λ x. number_at (unwrap_or x []) c.offset) v ∙ read_value (object_number local) items c.offset (inside r) i (small_number (local r) (encodes.high r h.0)) in
-      let x = fresh.some r h in
+      let x = some r h in
       let found : option_and_then (number_in numbers) (node_numbered (nodes_of object) (number_at (unwrap_or (value_in object c.path c.property) []) c.offset)) ≡ Some x.0 =
       ap (λ n. option_and_then (number_in numbers) (node_numbered (nodes_of object) n)) read ∙ ap (option_and_then (number_in numbers)) (own_node r h) ∙ x.1 in
       ap (λ y. unwrap_or y (number_at (unwrap_or (value_in object c.path c.property) []) c.offset)) found ∙ ap (λ y. unwrap_or y 0) (sym x.1)

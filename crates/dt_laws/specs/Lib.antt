@@ -9,3 +9,5 @@ pub mod SampleSources
 pub mod Fragments
 pub mod AppliedSample
 pub mod Premises
+pub mod Joining
+pub mod InTurn

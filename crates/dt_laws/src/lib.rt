@@ -4,7 +4,9 @@
 #![tactic(auto)]
 
 mod blobs;
+mod joining;
 mod laws;
+mod lists;
 mod premises;
 mod samples;
 mod sources;
