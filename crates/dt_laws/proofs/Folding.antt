@@ -94,11 +94,11 @@ fold_is_in_turn base [] m [] number result is are fold few = (base, refl)
 fold_is_in_turn base [] m (o ∷ overlays) number result is are fold few = absurd are
 fold_is_in_turn base (x ∷ objects) m [] number result is are fold few = absurd are
 fold_is_in_turn base (x ∷ objects) m (o ∷ overlays) number result is are fold few =
-    let here : IsWithinLimits base = few [] (x ∷ objects) base refl refl in
+    let here : IsWithinLimits base = few [] objects x base refl refl in
     let next = some_next base x m o number is are.0 here fold.0 fold.1 in
     let n = is_next base x m o number is are.0 here next.0 next.1 in
     let same = sites_are_one m o fold.0 n.0 fold.1 n.1.applies in
     let w = fold_is_in_turn next.0 objects (merged m o n.0) overlays n.1.number' result n.1.is are.1
     (subst (λ sites. IsFold (merged m o sites) overlays result) same fold.2)
-    (λ front back t e h. few (x ∷ front) back t (ap (λ z. x ∷ z) e) (here, (next.0, next.1, h))) in
+    (λ front back y t e h. few (x ∷ front) back y t (ap (λ z. x ∷ z) e) (here, (next.0, next.1, h))) in
     (w.0, (here, (next.0, next.1, w.1)))

@@ -56,7 +56,7 @@ InTurnIsFold = (base : Reading) (objects : List Reading) (m : Meaning) (overlays
 abbrev pub FoldIsInTurn : Type 0
 FoldIsInTurn = (base : Reading) (objects : List Reading) (m : Meaning) (overlays : List Overlay) (number : Path → ℕ) (result : Meaning)
     → IsOf base m number → AreObjects objects overlays → IsFold m overlays result
-    → ((front back : List Reading) (t : Reading) → objects ≡ front ++ back → AreApplied base front t → IsWithinLimits t)
+    → ((front back : List Reading) (x t : Reading) → objects ≡ front ++ x ∷ back → AreApplied base front t → IsWithinLimits t)
     → (t : Reading) × AreApplied base objects t
 
 -- there are least free numbers for any nodes
