@@ -14,7 +14,9 @@ use Rattle.dt_laws.specs.AppliedSample.{led, sample_object, sample_overlay, samp
 use Rattle.dt_laws.proofs.Tests.{each_in, bytes_eq_true, bytes_eq_differ, path_eq_true}
 use Rattle.dt_laws.proofs.Listed.{stands_listed, value_listed}
 use Rattle.dt_laws.proofs.AppliedBase.{plain_nodes, plain_is, by_node, not_there, base_valid, sample_is_meaning, sample_is_plain, sample_represented, few_in_base}
-use Rattle.dt_laws.proofs.AppliedOverlay.{f_name, overlay_name, led_name, x_name, target_name, object_valid, few_in_object, Value, of_target, of_x, value_cases, sample_is_overlay}
+use Rattle.dt_laws.proofs.AppliedOverlay.{f_name, led_name, x_name, object_valid, few_in_object, Value, of_target, of_x, value_cases, sample_is_overlay}
+use Rattle.dt_laws.proofs.FragmentNames.{target_named}
+use Rattle.dt_laws.proofs.FragmentNames.{overlay_named}
 
 abbrev local : Path → ℕ
 local p = 1
@@ -116,12 +118,12 @@ listed_fixups = (
     codes "/f:target:0",
     codes "/f/__overlay__/led:x:4" ++ 0 ∷ [],
     refl,
-    record { digits = codes "0"; numeral = (omega arith, (omega arith, tt)); offset = refl; path = (f_name, tt); property = target_name; whole = refl },
+    record { digits = codes "0"; numeral = (omega arith, (omega arith, tt)); offset = refl; path = (f_name, tt); property = target_named; whole = refl },
     (
       codes "/f/__overlay__/led:x:4",
       [],
       refl,
-      record { digits = codes "4"; numeral = (omega arith, (omega arith, tt)); offset = refl; path = (f_name, (overlay_name, (led_name, tt))); property = x_name; whole = refl },
+      record { digits = codes "4"; numeral = (omega arith, (omega arith, tt)); offset = refl; path = (f_name, (overlay_named, (led_name, tt))); property = x_name; whole = refl },
       refl,
     ),
   ),

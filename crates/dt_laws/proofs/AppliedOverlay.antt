@@ -1,4 +1,6 @@
 -- The sample's overlay is one, and its object is a tree that a blob may hold.
+use Rattle.dt_laws.proofs.FragmentNames.{target_named}
+use Rattle.dt_laws.proofs.FragmentNames.{overlay_named}
 use Rattle.std.proofs.Common.{◌≡◌, Bool, true, false, not, ◌&&◌, List, [], ◌∷◌, codes, refl, sym, ap, subst, ◌∙◌, inl, inr, Option, Some, None, true≢false, arith}
 use Rattle.std.specs.Prelude.{is_some, IsSome}
 use Rattle.std.specs.Str.{bytes_eq}
@@ -19,17 +21,11 @@ use Rattle.dt_laws.proofs.AppliedBase.{node_name, property_name, label_name, pla
 pub f_name : IsNodeName (codes "f")
 f_name = node_name (codes "f") refl (omega arith) (omega arith) (omega arith) (λ e. (let z : 102 ≡ 64 = e in omega arith))
 
-pub overlay_name : IsNodeName (codes "__overlay__")
-overlay_name = node_name (codes "__overlay__") refl (omega arith) (omega arith) (omega arith) (λ e. (let z : 95 ≡ 64 = e in omega arith))
-
 pub led_name : IsNodeName (codes "led")
 led_name = node_name (codes "led") refl (omega arith) (omega arith) (omega arith) (λ e. (let z : 108 ≡ 64 = e in omega arith))
 
 pub x_name : IsPropertyName (codes "x")
 x_name = property_name (codes "x") refl (omega arith) (omega arith)
-
-pub target_name : IsPropertyName (codes "target")
-target_name = property_name (codes "target") refl (omega arith) (omega arith)
 
 pub object_valid : IsValid sample_object
 object_valid = record {
@@ -38,9 +34,9 @@ object_valid = record {
   properties = record { named = tt; distinct = tt };
   nodes = (
     f_name,
-    record { named = (target_name, tt); distinct = (tt, tt) },
+    record { named = (target_named, tt); distinct = (tt, tt) },
     (
-      overlay_name,
+      overlay_named,
       record { named = tt; distinct = tt },
       (
         led_name,
@@ -70,7 +66,7 @@ object_valid = record {
             f_name,
             record { named = tt; distinct = tt },
             (
-              overlay_name,
+              overlay_named,
               record { named = tt; distinct = tt },
               (led_name, record { named = (x_name, tt); distinct = (tt, tt) }, tt, tt, tt),
               (tt, tt),
@@ -144,7 +140,7 @@ value_stands p name items of_target = refl
 value_stands p name items of_x = refl
 
 value_named : (p : Path) (name : Name) (items : List (Item OverlayReference)) → Value p name items → IsPropertyName name × (bytes_eq name (codes "phandle") ≡ false)
-value_named p name items of_target = (target_name, refl)
+value_named p name items of_target = (target_named, refl)
 value_named p name items of_x = (x_name, refl)
 
 value_bytes_are : (p : Path) (name : Name) (items : List (Item OverlayReference)) → Value p name items → AreBytes items

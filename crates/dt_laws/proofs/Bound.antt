@@ -13,7 +13,8 @@ use Rattle.dt_model.specs.Meaning.{Item, byte, reference, AreBytes, EachReferenc
 use Rattle.dt_model.specs.Event.{Stack}
 use Rattle.dt_model.specs.Source.{Reference, Part, one, number_of, text_of, IsPart, Mode, Place, root, block, delete_node, child, label, property, delete_property, delete_child, close, IsPlace, Events, referent, bound, all_bound, refers, in_range, written}
 use Rattle.dt_model.proofs.EventSteps.{path_eq-refl}
-use Rattle.dt_laws.proofs.Cases.{all_append, map_some, then_some, either_left, either_right}
+use Rattle.dt_laws.proofs.Cases.{map_some, then_some, either_left, either_right}
+use Rattle.dt_laws.proofs.Tests.{each_append}
 use Rattle.dt_laws.proofs.Holding.{Rules, Obeys}
 use Rattle.dt_laws.proofs.Bytes.{path_bytes, are_bytes-append, are_bytes-map, each-append, each-map}
 
@@ -35,7 +36,7 @@ named_obeys mode close h = tt
 
 pub all_reverse : {X : Type 0} (P : X → Type 0) (xs : List X) → AllByRecursion P xs → AllByRecursion P (reverse xs)
 all_reverse P [] h = tt
-all_reverse P (x ∷ xs) h = subst (AllByRecursion P) (sym (reverse_onto xs x [])) (all_append P (reverse xs) (x ∷ []) (all_reverse P xs h.1) (h.0, tt))
+all_reverse P (x ∷ xs) h = subst (AllByRecursion P) (sym (reverse_onto xs x [])) (each_append P (reverse xs) (x ∷ []) (all_reverse P xs h.1) (h.0, tt))
 
 -- the names of what stands under a path are names
 pub path_named : (p : Path) → AllByRecursion IsNodeName (reverse p) → AllByRecursion IsNodeName p

@@ -7,7 +7,8 @@ use Rattle.std.proofs.lemmas.List.Elements.{recursion_from_All}
 use Rattle.dt_model.specs.Names.{Name, IsNodeName, is_name_byte}
 use Rattle.dt_model.specs.Path.{Path, path_text, path_value}
 use Rattle.dt_model.specs.Meaning.{Item, byte, reference, AreBytes, EachReference}
-use Rattle.dt_laws.proofs.Cases.{all_map, all_append}
+use Rattle.dt_laws.proofs.Cases.{all_map}
+use Rattle.dt_laws.proofs.Tests.{each_append}
 
 abbrev pub IsByte : ℕ → Type 0
 IsByte b = b < 256
@@ -23,12 +24,12 @@ slash = (omega arith, tt)
 
 text_bytes : (p : Path) → AllByRecursion IsNodeName p → AllByRecursion IsByte (path_text p)
 text_bytes [] h = slash
-text_bytes (x ∷ []) h = all_append IsByte (codes "/") x slash (name_bytes x h.0)
+text_bytes (x ∷ []) h = each_append IsByte (codes "/") x slash (name_bytes x h.0)
 text_bytes (x ∷ y ∷ p) h =
-    all_append IsByte (codes "/") (x ++ path_text (y ∷ p)) slash (all_append IsByte x (path_text (y ∷ p)) (name_bytes x h.0) (text_bytes (y ∷ p) h.1))
+    each_append IsByte (codes "/") (x ++ path_text (y ∷ p)) slash (each_append IsByte x (path_text (y ∷ p)) (name_bytes x h.0) (text_bytes (y ∷ p) h.1))
 
 pub path_bytes : (p : Path) → AllByRecursion IsNodeName p → AllByRecursion IsByte (path_value p)
-path_bytes p h = all_append IsByte (path_text p) (0 ∷ []) (text_bytes p h) (omega arith, tt)
+path_bytes p h = each_append IsByte (path_text p) (0 ∷ []) (text_bytes p h) (omega arith, tt)
 
 pub are_bytes-map : (R : Type 0) (bs : List ℕ) → AllByRecursion IsByte bs → AreBytes {R = R} (map byte bs)
 are_bytes-map R [] h = tt

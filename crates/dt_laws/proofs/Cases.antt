@@ -1,9 +1,8 @@
 -- Cases on tests, options and results, and words for lists.
-use Rattle.std.proofs.Common.{◌≡◌, Bool, true, false, ◌||◌, cond, List, [], ◌∷◌, ◌++◌, ◌⊎◌, inl, inr, Option, Some, None, is_some, Result, Ok, Err, refl, sym, subst}
+use Rattle.std.proofs.Common.{◌≡◌, Bool, true, false, ◌||◌, cond, List, [], ◌∷◌, ◌⊎◌, inl, inr, Option, Some, None, is_some, Result, Ok, Err, refl}
 use Rattle.std.specs.List.{AllByRecursion, list_all}
 use Rattle.std.proofs.lemmas.Bool.{and_parts}
 use Rattle.std.specs.Option.{option_map, option_map_or, option_and_then}
-use Rattle.dt_model.specs.Lists.{IsIn}
 
 -- ---- tests
 
@@ -84,12 +83,3 @@ all_map P Q f (x ∷ xs) h = (f x h.0, all_map P Q f xs h.1)
 pub all_pass : {X : Type 0} (test : X → Bool) (xs : List X) → list_all test xs ≡ true → AllByRecursion (λ x. test x ≡ true) xs
 all_pass test [] h = tt
 all_pass test (x ∷ xs) h = let both = and_parts (test x) (list_all test xs) h in (both.0, all_pass test xs both.1)
-
-pub all_append : {X : Type 0} (P : X → Type 0) (xs ys : List X) → AllByRecursion P xs → AllByRecursion P ys → AllByRecursion P (xs ++ ys)
-all_append P [] ys h k = k
-all_append P (x ∷ xs) ys h k = (h.0, all_append P xs ys h.1 k)
-
-pub all_in : {X : Type 0} (P : X → Type 0) (xs : List X) (x : X) → AllByRecursion P xs → IsIn x xs → P x
-all_in P [] x h k = absurd k
-all_in P (y ∷ ys) x h (inl e) = let back : y ≡ x = sym e in subst P back h.0
-all_in P (y ∷ ys) x h (inr k) = all_in P ys x h.1 k

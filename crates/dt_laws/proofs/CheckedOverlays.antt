@@ -12,7 +12,8 @@ use Rattle.dt_model.specs.Overlay.{OverlayReference, Target, at_reference, at_pa
 use Rattle.dt_model.specs.Source.{Place, Events, labelled}
 use Rattle.dt_model.specs.OverlaySource.{OverlaySoFar, overlay_start, root_children, read_overlays, overlay_items, overlay_of, OverlayMeans}
 use Rattle.dt_laws.proofs.Tests.{and_left, and_right, all_at}
-use Rattle.dt_laws.proofs.Cases.{map_some, all_in}
+use Rattle.dt_laws.proofs.Cases.{map_some}
+use Rattle.dt_laws.proofs.Tests.{each_in}
 use Rattle.dt_laws.proofs.Overlays.{source_overlay}
 use Rattle.dt_laws.proofs.CheckedWords.{implies, implied, has, has_in, same_names, each_by}
 use Rattle.dt_laws.proofs.CheckedNames.{below, is_place, places_are}
@@ -96,7 +97,7 @@ module _ (places : List Place) (es : Events) (qs : List Path) (ns : List Name) (
     closed = r.closed;
     means = ap (λ (events : Events). overlay_of events fragments) (sym r.events);
     ordered = subst (λ (events : Events). AreInOrder (older events) (λ f. (overlay_of es fragments).stands (content f)) (names_of fragments)) (sym r.events) ordered;
-    targeted = λ f i. all_in (λ f. HoldsTarget (overlay_of es fragments) f.name f.target) fragments f r.targeted i;
+    targeted = λ f i. each_in (λ f. HoldsTarget (overlay_of es fragments) f.name f.target) fragments f r.targeted i;
     contained = λ p n items brought e. each_reference qs ns (overlay_of es fragments).value value_within (is_contained fragments) (IsContained (overlay_of es fragments)) (contained (overlay_of es fragments)) r.contained p n items e;
     targets_contained = λ f x i e. contained (overlay_of es fragments) x (target_of f x i e);
   }

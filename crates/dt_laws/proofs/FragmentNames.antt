@@ -9,7 +9,8 @@ use Rattle.std.proofs.lemmas.List.Sums.{sum_by-append, sum_by-cons}
 use Rattle.dt_model.specs.Names.{IsNodeName, IsPropertyName, is_name_byte}
 use Rattle.dt_model.specs.Path.{is_bookkeeping_name}
 use Rattle.dt_model.specs.OverlaySource.{fragment_name}
-use Rattle.dt_laws.proofs.Cases.{all_map, all_append, all_pass}
+use Rattle.dt_laws.proofs.Cases.{all_map, all_pass}
+use Rattle.dt_laws.proofs.Tests.{each_append}
 
 -- ---- digits
 
@@ -78,7 +79,7 @@ fragment_named n =
       not_empty = omega arith;
       short = omega arith;
       allowed = All-from_recursion (λ b. IsTrue (is_name_byte b || (b == 64))) (fragment_name n)
-          (all_append (λ b. IsTrue (is_name_byte b || (b == 64))) (codes "fragment@") ds front (all_map IsDigitByte (λ b. IsTrue (is_name_byte b || (b == 64))) digit_allowed ds (decimal_digits n)));
+          (each_append (λ b. IsTrue (is_name_byte b || (b == 64))) (codes "fragment@") ds front (all_map IsDigitByte (λ b. IsTrue (is_name_byte b || (b == 64))) digit_allowed ds (decimal_digits n)));
       one_at = omega arith;
       not_first = λ e. cc;
     }

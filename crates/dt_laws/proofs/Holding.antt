@@ -7,7 +7,7 @@ use Rattle.dt_model.specs.Path.{path_eq}
 use Rattle.dt_model.specs.Event.{Stack, Event, opening, giving, definition, undefinition, deletion, opens, takes, defines, drops, gives, stands, value_at, names}
 use Rattle.dt_model.specs.Source.{Reference, by_label, by_path, Part, Place, root, block, delete_node, child, label, property, delete_property, delete_child, close, Mode, Events, Body, SoFar, is_reserved, labelled, referent, and_then, enter, read}
 use Rattle.dt_model.proofs.EventSteps.{stands-push, path_eq-is}
-use Rattle.dt_laws.proofs.Cases.{all_append}
+use Rattle.dt_laws.proofs.Tests.{each_append}
 use Rattle.dt_laws.proofs.Stands.{child_not_within, opened_itself, not_deleted}
 use Rattle.dt_laws.proofs.Lasts.{last_each, stands_by, names_by, value_by}
 use Rattle.dt_laws.proofs.Labels.{labelled_names, labelled_none, some_label, by_path_stands}
@@ -58,7 +58,7 @@ module _ (r : Rules) where
   value_follows es p n v each h = last_each (Follows r) (λ e. defines p n e || drops p n e) es (definition p n v) each (value_by es p n v h)
 
   one_more : (es : Events) (e : Event (List Part)) → AllByRecursion (Follows r) es → Follows r e → AllByRecursion (Follows r) (es ++ e ∷ [])
-  one_more es e each f = all_append (Follows r) es (e ∷ []) each (f, tt)
+  one_more es e each f = each_append (Follows r) es (e ∷ []) each (f, tt)
 
 -- a reference that names a node names one that stands
 pub referent_stands : (es : Events) (s : Sound es) (b : Reference) (p : Stack) → referent es b ≡ Some p → stands es p ≡ true

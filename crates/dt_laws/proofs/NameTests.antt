@@ -1,4 +1,5 @@
 -- The tests of names decide what names are.
+use Rattle.dt_laws.proofs.Tests.{not_true}
 use Rattle.std.proofs.Common.{◌≡◌, ℕ, Bool, true, false, not, ◌&&◌, ◌||◌, List, [], ◌∷◌, length, nat_eq, nat_lt, nat_le, get_or, refl, ap}
 use Rattle.std.specs.Prelude.{◌↔◌, IsTrue, count_by}
 use Rattle.std.specs.List.{AllByRecursion, list_all}
@@ -32,10 +33,6 @@ each_passes test (x ∷ xs) e = let both = two (test x) (list_all test xs) e in 
 all_pass : (test : ℕ → Bool) (xs : List ℕ) → AllByRecursion (λ x. IsTrue (test x)) xs → list_all test xs ≡ true
 all_pass test [] h = refl
 all_pass test (x ∷ xs) h = λ i. h.0 i && all_pass test xs h.1 i
-
-not_true : (b : Bool) → not b ≡ true → b ≡ false
-not_true true e = absurd cc
-not_true false e = refl
 
 abbrev in_node_name : ℕ → Bool
 in_node_name b = is_name_byte b || nat_eq b 64

@@ -11,7 +11,8 @@ use Rattle.dt_model.specs.Source.{by_label, by_path, Part, Place, root, block, d
 use Rattle.dt_model.specs.OverlaySource.{root_children, fragment_name, OverlaySoFar, overlay_start, read_overlay, read_overlays}
 use Rattle.dt_model.proofs.EventSteps.{bytes_eq-refl}
 use Rattle.dt_laws.specs.Fragments.{NewFragment}
-use Rattle.dt_laws.proofs.Cases.{all_append, all_map, either_left, either_right}
+use Rattle.dt_laws.proofs.Cases.{all_map, either_left, either_right}
+use Rattle.dt_laws.proofs.Tests.{each_append}
 use Rattle.dt_laws.proofs.Lasts.{last_each, stands_by}
 use Rattle.dt_laws.proofs.Labels.{labelled_names}
 use Rattle.dt_laws.proofs.Holding.{Holds}
@@ -71,7 +72,7 @@ module _ (written : List Name) (s t : OverlaySoFar) (places : List Place) where
       let low : s.next ≤ k = (free_within written s.next).0 in
       let new : List (Event (List Part)) = opening (f ∷ []) ∷ definition (f ∷ []) name value ∷ opening (reverse (content f)) ∷ [] in
       let old : AllByRecursion (Counted written (k + 1)) s.source.events = all_map (Counted written s.next) (Counted written (k + 1)) (event_later written s.next (k + 1) (omega arith)) s.source.events h.counted in
-      let all : AllByRecursion (Counted written (k + 1)) (s.source.events ++ new) = all_append (Counted written (k + 1)) s.source.events new old (inr (k, omega arith, refl), (tt, (tt, tt))) in
+      let all : AllByRecursion (Counted written (k + 1)) (s.source.events ++ new) = each_append (Counted written (k + 1)) s.source.events new old (inr (k, omega arith, refl), (tt, (tt, tt))) in
       let deep : 1 ≤ length (reverse (content f)) = omega arith in (
         None,
         record {

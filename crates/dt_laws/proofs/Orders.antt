@@ -3,11 +3,12 @@ use Rattle.std.proofs.Common.{◌≡◌, ◌≢◌, ℕ, ◌<◌, Bool, true, Li
 use Rattle.std.specs.List.{AllByRecursion}
 use Rattle.dt_model.specs.Lists.{IsIn, FallBy, AreInOrder}
 use Rattle.dt_model.specs.Valid.{AreDistinct}
-use Rattle.dt_laws.proofs.Cases.{all_in, all_map}
+use Rattle.dt_laws.proofs.Cases.{all_map}
+use Rattle.dt_laws.proofs.Tests.{each_in}
 
 module _ {X : Type 0} (age : X → ℕ) where
   not_itself : (x : X) (xs : List X) → AllByRecursion (λ y. age y < age x) xs → IsIn x xs → ⊥
-  not_itself x xs h k = let l : age x < age x = all_in (λ y. age y < age x) xs x h k in absurd (omega arith)
+  not_itself x xs h k = let l : age x < age x = each_in (λ y. age y < age x) xs x h k in absurd (omega arith)
 
   -- what is in a list behind its first element, and isn't that element
   behind : (x y z : X) (xs ys : List X) → x ≡ y → AllByRecursion (λ z. age z < age x) xs → IsIn z xs → ((z : X) → IsIn z (x ∷ xs) → IsIn z (y ∷ ys)) → IsIn z ys
@@ -24,8 +25,8 @@ module _ {X : Type 0} (age : X → ℕ) where
   first_same x y xs ys hx hy (inl e) k = e
   first_same x y xs ys hx hy (inr i) (inl e) = sym e
   first_same x y xs ys hx hy (inr i) (inr j) =
-      let a : age x < age y = all_in (λ z. age z < age y) ys x hy i in
-      let b : age y < age x = all_in (λ z. age z < age x) xs y hx j in
+      let a : age x < age y = each_in (λ z. age z < age y) ys x hy i in
+      let b : age y < age x = each_in (λ z. age z < age x) xs y hx j in
       absurd (omega arith)
 
   -- lists that fall and have the same elements
@@ -41,8 +42,8 @@ module _ {X : Type 0} (age : X → ℕ) where
   pub one_order : (is_kind : X → Bool) (xs ys : List X) → AreInOrder age is_kind xs → AreInOrder age is_kind ys → xs ≡ ys
   one_order is_kind xs ys a b =
       same_falls xs ys a.sorted b.sorted
-      (λ z k. b.complete z (all_in (λ x. is_kind x ≡ true) xs z a.sound k))
-      (λ z k. a.complete z (all_in (λ x. is_kind x ≡ true) ys z b.sound k))
+      (λ z k. b.complete z (each_in (λ x. is_kind x ≡ true) xs z a.sound k))
+      (λ z k. a.complete z (each_in (λ x. is_kind x ≡ true) ys z b.sound k))
 
   -- a list that falls has each element once
   pub falls_distinct : (xs : List X) → FallBy age xs → AreDistinct xs

@@ -13,7 +13,8 @@ use Rattle.dt_model.specs.Overlay.{OverlayReference, inside, outside, Target, at
 use Rattle.dt_model.specs.Source.{by_label, by_path, Part, one, number_of, text_of, IsPart, Place, IsPlace, Events, labelled, labels_there, refers_there, refers}
 use Rattle.dt_model.specs.OverlaySource.{root_children, overlay_start, overlay_reference, overlay_items, overlay_of, OverlayMeans}
 use Rattle.dt_model.proofs.EventSteps.{path_eq-refl}
-use Rattle.dt_laws.proofs.Cases.{map_some, some_there, all_in, either_left, either_right}
+use Rattle.dt_laws.proofs.Cases.{map_some, some_there, either_left, either_right}
+use Rattle.dt_laws.proofs.Tests.{each_in}
 use Rattle.dt_laws.proofs.Orders.{falls_distinct}
 use Rattle.dt_laws.proofs.Labels.{labelled_names, labelled_there, some_label}
 use Rattle.dt_laws.proofs.Sound.{Sound}
@@ -128,7 +129,7 @@ module _ (es : Events) (fs : List Fragment) (s : Sound es) (each : AllByRecursio
         (either_right (list_any (labels_there es q) es) (list_any (refers_there es q) es) (referred_there es (reverse p) n v.0 q v.1 r))));
     fragments = λ f. (
       λ h. of_name f fs (fragments.ordered.complete f h),
-      λ h. all_in (λ n. (overlay_of es fs).stands (content n) ≡ true) (map (λ (f : Fragment). f.name) fs) f fragments.ordered.sound (in_names (record { name = f; target = h.0 }) fs h.1),
+      λ h. each_in (λ n. (overlay_of es fs).stands (content n) ≡ true) (map (λ (f : Fragment). f.name) fs) f fragments.ordered.sound (in_names (record { name = f; target = h.0 }) fs h.1),
     );
     distinct = falls_distinct (λ f. age es (f ∷ [])) (map (λ (f : Fragment). f.name) fs) fragments.ordered.sorted;
     targeted = fragments.targeted;

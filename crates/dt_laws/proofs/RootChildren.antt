@@ -6,7 +6,7 @@ use Rattle.dt_model.specs.Lists.{IsIn}
 use Rattle.dt_model.specs.Event.{Stack, Event, opening, giving, definition, undefinition, deletion}
 use Rattle.dt_model.specs.Source.{Part, Place, child, close, Body, SoFar, enter}
 use Rattle.dt_model.specs.OverlaySource.{root_children, fragment_name, OverlaySoFar}
-use Rattle.dt_laws.proofs.Cases.{all_append}
+use Rattle.dt_laws.proofs.Tests.{each_append}
 use Rattle.dt_laws.proofs.Making.{with_child}
 use Rattle.dt_laws.proofs.Holding.{Holds}
 use Rattle.dt_laws.proofs.OverlayHolding.{overlay_rules}
@@ -66,7 +66,7 @@ module _ (written : List Name) (s t : OverlaySoFar) (places : List Place) where
       → AllByRecursion (Counted written t.next) t.source.events
   counted_more e events next all here =
       subst (λ n. AllByRecursion (Counted written n) t.source.events) (sym next)
-      (subst (AllByRecursion (Counted written s.next)) (sym events) (all_append (Counted written s.next) s.source.events (e ∷ []) all (here, tt)))
+      (subst (AllByRecursion (Counted written s.next)) (sym events) (each_append (Counted written s.next) s.source.events (e ∷ []) all (here, tt)))
 
   -- a child is opened
   abbrev pub ChildFits : Option ℕ → Name → Body → List Body → Type 0

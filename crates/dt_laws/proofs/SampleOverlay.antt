@@ -16,7 +16,8 @@ use Rattle.dt_model.specs.Overlay.{OverlayReference, inside, outside, at_referen
 use Rattle.dt_model.specs.OverlaySource.{OverlaySoFar, overlay_start, OverlayRefusal, root_children, read_overlays, overlay_items, overlay_of}
 use Rattle.dt_model.proofs.EventSteps.{bytes_eq-is}
 use Rattle.dt_laws.specs.SampleSources.{sample_overlay, sample_fragments, sample_node, IsSampleOverlay}
-use Rattle.dt_laws.proofs.Cases.{map_some, all_in, all_pass}
+use Rattle.dt_laws.proofs.Cases.{map_some, all_pass}
+use Rattle.dt_laws.proofs.Tests.{each_in}
 use Rattle.dt_laws.proofs.Lasts.{last_each, stands_by, value_by}
 
 abbrev read_or_start : Result OverlaySoFar OverlayRefusal → OverlaySoFar
@@ -136,9 +137,9 @@ sample_means = (
       closed = closed;
       means = refl;
       ordered = ordered;
-      targeted = λ f i. all_in (λ (f : Fragment). HoldsTarget o f.name f.target) sample_fragments f targets i;
+      targeted = λ f i. each_in (λ (f : Fragment). HoldsTarget o f.name f.target) sample_fragments f targets i;
       contained = contained;
-      targets_contained = λ f r i. all_in (λ (f : Fragment). (r : OverlayReference) → f.target ≡ at_reference r → IsContained o r) sample_fragments f targets_contained i r;
+      targets_contained = λ f r i. each_in (λ (f : Fragment). (r : OverlayReference) → f.target ≡ at_reference r → IsContained o r) sample_fragments f targets_contained i r;
     };
     fragments = refl;
     value = value;
