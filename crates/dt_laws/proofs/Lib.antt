@@ -102,3 +102,5 @@ pub mod CheckedSecondPhandle
 pub mod CheckedMissingLabel
 pub mod LeastNumbers
 pub mod Folding
+pub mod InOrder
+pub mod SampleOrder

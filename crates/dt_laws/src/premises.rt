@@ -1,6 +1,7 @@
 //! Sources, trees and objects that meet what the other laws ask for.
 
-ghost use Rattle.std.specs.Prelude.{List, []};
+ghost use Rattle.std.specs.Prelude.{List, [], ◌∷◌, codes};
+ghost use Rattle.dt_model.specs.Ordered.{IsInOrder};
 ghost use Rattle.dt_model.specs.Source.{SourceMeans, base};
 ghost use Rattle.dt_model.specs.OverlaySource.{OverlayMeans};
 ghost use Rattle.dt_model.specs.Object.{HasFixups};
@@ -8,6 +9,7 @@ ghost use Rattle.dt_model.specs.Numbers.{AreNewNumbers};
 ghost use Rattle.dt_model.specs.Merged.{Site, Applies};
 ghost use Rattle.dt_model.specs.Represents.{Represents};
 ghost use Rattle.dt_model.specs.Rows.{
+  events,
   meaning,
   overlay,
   controller,
@@ -132,4 +134,9 @@ pub fn written_phandle_is_represented()
 pub fn gap_of_numbers_is_represented()
     ensures source { SourceMeans base [] gap_of_numbers (meaning gap_of_numbers) }
     ensures represented { Represents with_gap_of_numbers (meaning gap_of_numbers) (numbering gap_of_numbers_numbers) }
+{}
+
+/// A tree whose nodes and properties stand in the order of its text, with the labels' node behind them.
+pub fn written_phandle_is_in_order()
+    ensures { IsInOrder (events written_phandle) (meaning written_phandle) (codes "__symbols__" ∷ []) with_written_phandle }
 {}
