@@ -2,6 +2,17 @@
 //! 6.3).
 #![tactic(auto)]
 
+mod element;
+mod evaluation;
+mod expression;
+mod laws;
 mod step;
 
+pub use element::fit;
+pub use evaluation::eval;
+pub use expression::Expr;
+pub use laws::{one_expression, values_fit};
 pub use step::{Binary, Step, Unary};
+
+
+

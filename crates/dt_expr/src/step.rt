@@ -1,5 +1,8 @@
 //! The parts of an expression.
 
+ghost use Rattle.std.specs.Prelude.{◌≡◌};
+ghost use Rattle.dt_expr.specs.Operands.{operands};
+
 /// An operator in front of one operand.
 #[derive(Clone, Copy, Debug, PartialEq, Eq)]
 pub enum Unary {
@@ -60,4 +63,18 @@ pub enum Step {
     Binary(Binary),
     /// `condition ? then : else`, behind the three.
     Conditional,
+}
+
+impl Step {
+    /// How many operands the step takes.
+    pub fn operands(self) -> usize
+        ensures { result ≡ operands self }
+    {
+        match self {
+            Step::Number(_) => 0,
+            Step::Unary(_) => 1,
+            Step::Binary(_) => 2,
+            Step::Conditional => 3,
+        }
+    }
 }
