@@ -1,5 +1,5 @@
 -- How many operands are left behind steps.
-use Rattle.std.proofs.Common.{◌≡◌, ℕ, zero, suc, ◌+◌, ◌<◌, ◌≤◌, List, [], ◌∷◌, ◌++◌, Option, Some, None, refl, ap, ◌∙◌, append_assoc, arith}
+use Rattle.std.proofs.Common.{◌≡◌, ℕ, zero, suc, ◌+◌, ◌<◌, List, [], ◌∷◌, ◌++◌, None, refl, ap, ◌∙◌, append_assoc, arith}
 use Rattle.dt_expr.specs.declared.step.Step.{Step}
 use Rattle.dt_expr.specs.declared.step.Step.TheVariants as step
 use Rattle.dt_expr.specs.Expression.{Expression, number, one_operand, two_operands, conditional, steps, height}

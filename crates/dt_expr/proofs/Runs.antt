@@ -1,13 +1,12 @@
 -- What steps leave of the numbers that wait.
-use Rattle.std.proofs.Common.{◌≡◌, ℕ, ◌+◌, ◌<◌, ◌≤◌, List, [], ◌∷◌, ◌++◌, length, drop, get_or, Option, Some, None, refl, ap, sym, ◌∙◌, append_assoc, arith}
+use Rattle.std.proofs.Common.{◌≡◌, ℕ, ◌+◌, ◌<◌, ◌≤◌, List, [], ◌∷◌, ◌++◌, length, drop, get_or, Option, Some, None, refl, ap, sym, ◌∙◌, append_assoc}
 use Rattle.std.specs.Prelude.{option_and_then, option_map}
 use Rattle.std.proofs.lemmas.List.{append-nil, drop_more, drop_all}
 use Rattle.dt_expr.specs.declared.step.Unary.{Unary}
 use Rattle.dt_expr.specs.declared.step.Binary.{Binary}
 use Rattle.dt_expr.specs.declared.step.Step.{Step}
 use Rattle.dt_expr.specs.declared.step.Step.TheVariants as step
-use Rattle.dt_expr.specs.Expression.{Expression, number, one_operand, two_operands, conditional, steps, height, value, unary_value, binary_value, chosen}
-use Rattle.dt_expr.specs.Operands.{operands}
+use Rattle.dt_expr.specs.Expression.{Expression, number, one_operand, two_operands, conditional, steps, value, unary_value, binary_value, chosen}
 use Rattle.dt_expr.specs.Evaluation.{after}
 use Rattle.dt_expr.proofs.Heights.{behind_two, behind_three}
 
@@ -61,7 +60,7 @@ run_steps (conditional c x y) more ns =
     ap (λ (ss : List Step). run ss ns) (behind_three (steps c) (steps x) (steps y) step.Conditional more) ∙
     (run_steps c (steps x ++ (steps y ++ rest)) ns ∙
     conditional_run more ns (λ a. run (steps x ++ (steps y ++ rest)) (a ∷ ns)) (λ a b. run (steps y ++ rest) (b ∷ (a ∷ ns))) (value c) (value x) (value y)
-        (λ a. run_steps x (steps y ++ rest) (a ∷ ns)) (λ a b. run_steps y rest (b ∷ (a ∷ ns))))
+    (λ a. run_steps x (steps y ++ rest) (a ∷ ns)) (λ a b. run_steps y rest (b ∷ (a ∷ ns))))
 
 run_alone : (e : Expression) → run (steps e) [] ≡ behind [] [] (value e)
 run_alone e = ap (λ (ss : List Step). run ss []) (sym (append-nil (steps e))) ∙ run_steps e [] []

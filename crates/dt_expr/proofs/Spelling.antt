@@ -1,5 +1,5 @@
 -- Steps behind which one operand is left are those of one expression.
-use Rattle.std.proofs.Common.{◌≡◌, ℕ, suc, List, [], ◌∷◌, ◌++◌, length, Option, Some, None, refl, ap, sym, ◌∙◌, append_assoc}
+use Rattle.std.proofs.Common.{◌≡◌, List, [], ◌∷◌, ◌++◌, length, Option, Some, None, refl, ap, sym, ◌∙◌, append_assoc}
 use Rattle.std.proofs.lemmas.List.{append-nil}
 use Rattle.dt_expr.specs.declared.step.Step.{Step}
 use Rattle.dt_expr.specs.declared.step.Step.TheVariants as step

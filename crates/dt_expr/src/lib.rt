@@ -14,5 +14,5 @@ pub use expression::Expr;
 pub use laws::{one_expression, values_fit};
 pub use step::{Binary, Step, Unary};
 
-
-
+#[cfg(test)]
+mod tests;
