@@ -32,6 +32,7 @@ impl Model for Stack {
 }
 
 /// The number shifted to the left, modulo 2^64.
+#[tactic(auto, using(crate::proofs::Shifts::left_out))]
 fn shifted_left(number: u64, bits: u64) -> u64
     ensures { result ≡ number * 2 ^ bits % 2 ^ 64 }
 {
@@ -39,6 +40,7 @@ fn shifted_left(number: u64, bits: u64) -> u64
 }
 
 /// The number shifted to the right.
+#[tactic(auto, using(crate::proofs::Shifts::right_out))]
 fn shifted_right(number: u64, bits: u64) -> u64
     ensures { result ≡ number / 2 ^ bits }
 {
