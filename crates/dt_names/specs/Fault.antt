@@ -1,7 +1,7 @@
 -- The number and the name of each kind of fault, which a caller may show or compare.
 use Rattle.std.specs.Prelude.{ℕ, List, codes}
 use Rattle.dt_names.specs.declared.fault.FaultKind.{FaultKind}
-use Rattle.dt_names.specs.declared.fault.FaultKind.TheVariants.{NoMemory, Limit, BadVersionTag, BadToken, Syntax, BadInteger, OutOfRange, PropertyAfterNode, DuplicateProperty, DuplicateNode, BadPhandle, ReservedName, BadName, Duplicate, BlobPhandle, WriteFault, ReadFault}
+use Rattle.dt_names.specs.declared.fault.FaultKind.TheVariants.{NoMemory, Limit, BadVersionTag, BadToken, Syntax, BadInteger, DivideByZero, OutOfRange, PropertyAfterNode, DuplicateProperty, DuplicateNode, BadPhandle, ReservedName, BadName, Duplicate, BlobPhandle, WriteFault, ReadFault}
 
 -- the number of a kind
 abbrev pub fault_number : FaultKind → ℕ
@@ -11,6 +11,7 @@ fault_number BadVersionTag = 10
 fault_number BadToken = 11
 fault_number Syntax = 12
 fault_number BadInteger = 13
+fault_number DivideByZero = 14
 fault_number OutOfRange = 15
 fault_number PropertyAfterNode = 17
 fault_number DuplicateProperty = 20
@@ -31,6 +32,7 @@ fault_name BadVersionTag = codes "BadVersionTag"
 fault_name BadToken = codes "BadToken"
 fault_name Syntax = codes "Syntax"
 fault_name BadInteger = codes "BadInteger"
+fault_name DivideByZero = codes "DivideByZero"
 fault_name OutOfRange = codes "OutOfRange"
 fault_name PropertyAfterNode = codes "PropertyAfterNode"
 fault_name DuplicateProperty = codes "DuplicateProperty"

@@ -21,6 +21,8 @@ pub enum FaultKind {
     Syntax,
     /// A literal that is no integer, or none of 64 bits.
     BadInteger,
+    /// A division, or a remainder, by 0.
+    DivideByZero,
     /// A number that doesn't fit the place it is written to.
     OutOfRange,
     /// A property behind a child of its node.
@@ -57,6 +59,7 @@ impl FaultKind {
             FaultKind::BadToken => 11,
             FaultKind::Syntax => 12,
             FaultKind::BadInteger => 13,
+            FaultKind::DivideByZero => 14,
             FaultKind::OutOfRange => 15,
             FaultKind::PropertyAfterNode => 17,
             FaultKind::DuplicateProperty => 20,
@@ -82,6 +85,7 @@ impl FaultKind {
             FaultKind::BadToken => "BadToken",
             FaultKind::Syntax => "Syntax",
             FaultKind::BadInteger => "BadInteger",
+            FaultKind::DivideByZero => "DivideByZero",
             FaultKind::OutOfRange => "OutOfRange",
             FaultKind::PropertyAfterNode => "PropertyAfterNode",
             FaultKind::DuplicateProperty => "DuplicateProperty",

@@ -61,6 +61,8 @@ fn faults(rt: HostRuntime) {
     assert!(rt; fault.at == Some(12));
     assert_eq!(rt; FaultKind::Duplicate.number(), 53);
     assert_eq!(rt; FaultKind::Duplicate.name(), "Duplicate");
+    assert_eq!(rt; FaultKind::DivideByZero.number(), 14);
+    assert_eq!(rt; FaultKind::DivideByZero.name(), "DivideByZero");
     assert!(rt; Fault::from(AllocError) == Fault::of(FaultKind::NoMemory));
     assert!(rt; one_more(rt.alloc(), 7).is_ok_and(|bytes| bytes.len() == 1));
 }

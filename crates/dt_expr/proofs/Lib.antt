@@ -1,0 +1,5 @@
+mod Bounds
+mod Heights
+mod Runs
+mod Shifts
+mod Spelling

@@ -1,0 +1,5 @@
+pub mod Evaluation
+pub mod Expression
+pub mod Fits
+pub mod Numbers
+pub mod Operands
