@@ -111,11 +111,13 @@ fn is_a_digit(byte: u8) -> bool
 fn is_label(bytes: &[u8]) -> bool
     ensures { IsTrue result ↔ IsLabel bytes.now }
 {
-    !bytes.is_empty()
-        && bytes.len() <= MOST_BYTES
-        && !is_a_digit(bytes[0])
-        && bytes != b"phandle".as_slice()
-        && bytes.iter().all(|byte| may_stand_in_a_label(*byte))
+    if bytes.is_empty() || bytes.len() > MOST_BYTES || is_a_digit(bytes[0]) {
+        return false;
+    }
+    if bytes == b"phandle".as_slice() {
+        return false;
+    }
+    bytes.iter().all(|byte| may_stand_in_a_label(*byte))
 }
 
 impl<'a> NodeName<'a> {
@@ -165,7 +167,8 @@ impl<'a> PropName<'a> {
 }
 
 impl<'a> Label<'a> {
-    /// The bytes as a label; a fault of the kind `BadName`, and without a place, where they are none.
+    /// The bytes as a label (Devicetree Specification v0.4, 6.2); a fault of the kind `BadName`, and without a place, where
+    /// they are none.
     pub fn new(bytes: &'a [u8]) -> Result<Label<'a>, Fault>
         ensures valid { IsOk result ↔ IsLabel bytes.now }
         ensures value { IfOk result (λ label. label ≡ bytes.now) }

@@ -18,8 +18,9 @@ use std::marker::Model;
 /// The most names that a path has.
 const MOST_NAMES: usize = 64;
 
-/// The names of nodes from the root down to a node, at most 64; the root's own path has none. It is seen as the list of
-/// the names. It owns its bytes: each name with a `/` before it.
+/// The names of nodes from the root down to a node, at most 64; the root's own path has none (Devicetree Specification
+/// v0.4, 2.2.3; the limit is this project's choice). It is seen as the list of the names. It owns its bytes: each name
+/// with a `/` before it.
 #[derive(Drop)]
 pub struct Path {
     text: Vec<u8>,
@@ -51,7 +52,8 @@ fn cut(bytes: &[u8]) -> (&[u8], Option<&[u8]>)
 
 // How many names the text has, each with a `/` before it; None where it isn't names of nodes.
 fn count_names(text: &[u8]) -> Option<usize>
-    ensures { MatchOption result (¬ AreNames text.now) (λ n. AreNames text.now × (n ≡ length (names_in text.now))) }
+    ensures { MatchOption result (¬ AreNames text.now)
+        (λ n. AreNames text.now × (n ≡ length (names_in text.now))) }
 {
     let (before, mut rest) = cut(text);
     if !before.is_empty() {
@@ -91,9 +93,9 @@ impl Path {
         }
     }
 
-    /// The path of a text: `/`, or each name with a `/` before it. `Limit`: the text is of a path of more than 64 names.
-    /// `BadName`: it is no path's text at all. `NoMemory`: memory was refused, where nothing else refuses. No fault has a
-    /// place.
+    /// The path of a text: `/`, or each name with a `/` before it (Devicetree Specification v0.4, 2.2.3). `Limit`: the text
+    /// is of a path of more than 64 names. `BadName`: it is no path's text at all. `NoMemory`: memory was refused, where
+    /// nothing else refuses. No fault has a place.
     pub fn parse(alloc: Global, text: &[u8]) -> Result<Path, Fault>
         ensures text { IfOk result (λ path. text.now ≡ path_text path) }
         ensures names { IfOk result (λ path. AllByRecursion IsNodeName path) }
@@ -170,8 +172,9 @@ impl Path {
         }
     }
 
-    /// Gives a sink the text of the path: `/` for the root, or else each name with a `/` before it. At a fault, of the
-    /// kind `WriteFault` and without a place, the sink took a front of the text and has failed.
+    /// Gives a sink the text of the path: `/` for the root, or else each name with a `/` before it (Devicetree
+    /// Specification v0.4, 2.2.3). At a fault, of the kind `WriteFault` and without a place, the sink took a front of the
+    /// text and has failed.
     pub fn write_to<S: Sink>(&self, sink: &mut S) -> Result<(), Fault>
         ensures ok { OnOk result (Appends (S.contents sink.old) (S.contents sink.new) (path_text self.now)) }
         ensures sound { OnOk result (S.has_failed sink.new ≡ false) }
