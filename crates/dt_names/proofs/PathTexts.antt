@@ -2,7 +2,7 @@
 use Rattle.std.proofs.Common.{◌≡◌, ◌≢◌, ℕ, suc, ◌+◌, ◌-◌, ◌<◌, ◌==◌, Bool, true, false, cond, codes, List, [], ◌∷◌, ◌++◌, Option, Some, Bor, length, slice_get, get_or, take, drop, refl, sym, ap, ◌∙◌, subst, arith, length-append, append_assoc, All}
 use Rattle.std.specs.List.{AllByRecursion, slice_split, onto_first, join_with_byte}
 use Rattle.std.proofs.lemmas.Bool.{ne_eqb}
-use Rattle.std.proofs.lemmas.List.{append-nil, take-append-drop, drop_more}
+use Rattle.std.proofs.lemmas.List.{take-append-drop, drop_more}
 use Rattle.std.proofs.lemmas.List.Sums.{count_by-le-length}
 use Rattle.std.proofs.lemmas.List.Elements.{All-weaker}
 use Rattle.std.proofs.lemmas.List.Splits.{slice_split_none, slice_split_at, slice_split-cons_yes, length-slice_split, join_with_byte-slice_split}
@@ -187,13 +187,6 @@ one_counted text count name left c n =
       counted = omega (arith, c.counted, length-append c.front (name ∷ []));
     }
 
-pub all_counted : (text : List ℕ) (count : ℕ) → Counted text count [] → AreNames text × (count ≡ length (names_in text))
-all_counted text count c =
-    let is : names_in text ≡ c.front = c.split ∙ append-nil c.front in (
-      record { begins = c.begins; named = subst AllNamed (sym is) c.named },
-      c.counted ∙ sym (ap length is),
-    )
-
 pub counted_few : (text : List ℕ) (count : ℕ) (name : Name) (left : Path) → Counted text count (name ∷ left) → count < length text
 unfolding parts
 counted_few text count name left c =
@@ -206,9 +199,6 @@ counted_few text count name left c =
       length-append c.front (name ∷ left),
       c.counted,
     )
-
-pub begins_otherwise : (text : List ℕ) (before : Name) (left : Path) → parts text ≡ before ∷ left → 0 < length before → ¬ AreNames text
-begins_otherwise text before left e some a = let two : before ∷ left ≡ [] ∷ names_in text = sym e ∙ a.begins in let none : before ≡ [] = cc in omega (arith, ap length none, some)
 
 pub name_refused : (text : List ℕ) (count : ℕ) (name : Name) (left : Path) → Counted text count (name ∷ left) → ¬ IsNodeName name → ¬ AreNames text
 name_refused text count name left c none a = none (named_part c.front name left (subst AllNamed c.split a.named))
@@ -225,7 +215,7 @@ left_at_start text index before rest a e =
     let is = names_from text before rest e in
     record { same = ap (λ p. slice_get p index) is; named = subst AllNamed is a.named }
 
--- what is left begins with a name
+-- the same of what is left where a name is looked for
 pub left_before : (all : Path) (index at : ℕ) (rest : Option (Bor (List ℕ))) (names : Bor (List ℕ)) (name : Name) (left : Path) → IsLeft all index at (parts_left rest) → rest ≡ Some names → parts names.now ≡ name ∷ left → IsLeft all index at (name ∷ left)
 left_before all index at rest names name left l some e = subst (IsLeft all index at) (ap parts_left some ∙ e) l
 

@@ -36,6 +36,7 @@ abbrev pub parts_left : Option (Bor (List ℕ)) → List Name
 parts_left None = []
 parts_left (Some rest) = parts rest.now
 
+-- all but the first
 abbrev pub behind_first : List Name → List Name
 behind_first [] = []
 behind_first (x ∷ xs) = xs
