@@ -1,2 +1,3 @@
 mod Names
+mod PathTexts
 mod Streams

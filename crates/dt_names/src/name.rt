@@ -1,13 +1,13 @@
-//! Names as borrowed bytes that were looked at (Devicetree Specification v0.4, 2.2.1 and 2.2.4.1).
+//! Names and labels as borrowed bytes that were looked at (Devicetree Specification v0.4, 2.2.1, 2.2.4.1 and 6.2).
 
-ghost use Rattle.std.specs.Prelude.{◌≡◌, ◌↔◌, None, IfOk, IfErr, IsOk, IsTrue};
-ghost use Rattle.dt_model.specs.Names.{is_name_byte, IsNodeName, IsPropertyName};
+ghost use Rattle.std.specs.Prelude.{◌≡◌, ◌↔◌, ◌==◌, ◌||◌, None, IfOk, IfErr, IsOk, IsTrue};
+ghost use Rattle.dt_model.specs.Names.{is_name_byte, is_letter, is_digit, IsNodeName, IsPropertyName, IsLabel};
 ghost use Rattle.dt_names.specs.declared.fault.FaultKind.TheVariants.{BadName};
 
 use crate::fault::{Fault, FaultKind};
 use std::marker::Model;
 
-/// The most bytes that a name may have.
+/// The most bytes that a name or a label may have.
 const MOST_BYTES: usize = 255;
 
 /// The name of a node that isn't the root: a name, and perhaps an `@` and a unit address.
@@ -44,13 +44,31 @@ impl<'a> Model for PropName<'a> {
     ghost invariant = { λ n. IsPropertyName n.name.now };
 }
 
+/// A label of a source: letters, digits and `_`, no digit first, and not the text `phandle` (Devicetree Specification
+/// v0.4, 6.2).
+#[derive(Drop)]
+pub struct Label<'a> {
+    label: &'a [u8],
+}
+
+impl<'a> Model for Label<'a> {
+    ghost use Rattle.std.specs.Prelude.{List, ℕ};
+    ghost use Rattle.dt_model.specs.Names.{IsLabel};
+
+    ghost Value = { List ℕ };
+
+    ghost view = { λ l. l.label.now };
+
+    ghost invariant = { λ l. IsLabel l.label.now };
+}
+
 fn may_stand_in_a_name(byte: u8) -> bool
     ensures { result ≡ is_name_byte byte }
 {
     matches!(byte, b'a'..=b'z' | b'A'..=b'Z' | b'0'..=b'9' | b',' | b'.' | b'_' | b'+' | b'-' | b'*' | b'#' | b'?')
 }
 
-fn is_node_name(bytes: &[u8]) -> bool
+pub(crate) fn is_node_name(bytes: &[u8]) -> bool
     ensures { IsTrue result ↔ IsNodeName bytes.now }
 {
     if bytes.is_empty() || bytes.len() > MOST_BYTES || bytes[0] == b'@' {
@@ -76,6 +94,30 @@ fn is_property_name(bytes: &[u8]) -> bool
     !bytes.is_empty()
         && bytes.len() <= MOST_BYTES
         && bytes.iter().all(|byte| may_stand_in_a_name(*byte))
+}
+
+fn may_stand_in_a_label(byte: u8) -> bool
+    ensures { result ≡ (is_letter byte || is_digit byte || (byte == 95)) }
+{
+    matches!(byte, b'a'..=b'z' | b'A'..=b'Z' | b'0'..=b'9' | b'_')
+}
+
+fn is_a_digit(byte: u8) -> bool
+    ensures { result ≡ is_digit byte }
+{
+    matches!(byte, b'0'..=b'9')
+}
+
+fn is_label(bytes: &[u8]) -> bool
+    ensures { IsTrue result ↔ IsLabel bytes.now }
+{
+    if bytes.is_empty() || bytes.len() > MOST_BYTES || is_a_digit(bytes[0]) {
+        return false;
+    }
+    if bytes == b"phandle".as_slice() {
+        return false;
+    }
+    bytes.iter().all(|byte| may_stand_in_a_label(*byte))
 }
 
 impl<'a> NodeName<'a> {
@@ -121,5 +163,29 @@ impl<'a> PropName<'a> {
         ensures valid { IsPropertyName self.now }
     {
         self.name
+    }
+}
+
+impl<'a> Label<'a> {
+    /// The bytes as a label (Devicetree Specification v0.4, 6.2); a fault of the kind `BadName`, and without a place, where
+    /// they are none.
+    pub fn new(bytes: &'a [u8]) -> Result<Label<'a>, Fault>
+        ensures valid { IsOk result ↔ IsLabel bytes.now }
+        ensures value { IfOk result (λ label. label ≡ bytes.now) }
+        ensures fault { IfErr result (λ fault. (fault.kind ≡ BadName) × (fault.at ≡ None)) }
+    {
+        if is_label(bytes) {
+            Ok(Label { label: bytes })
+        } else {
+            Err(Fault::of(FaultKind::BadName))
+        }
+    }
+
+    /// The bytes of the label.
+    pub fn as_bytes(&self) -> &'a [u8]
+        ensures value { result.now ≡ self.now }
+        ensures valid { IsLabel self.now }
+    {
+        self.label
     }
 }

@@ -47,6 +47,128 @@ fn names(rt: HostRuntime) {
     }
 }
 
+#[test]
+fn labels(rt: HostRuntime) {
+    let longest = [b'a'; 255];
+    let too_long = [b'a'; 256];
+    for label in [
+        b"uart0".as_slice(),
+        b"_".as_slice(),
+        b"phandle_".as_slice(),
+        longest.as_slice(),
+    ] {
+        assert!(rt; Label::new(label).is_ok_and(|found| found.as_bytes() == label));
+    }
+    for other in [
+        b"".as_slice(),
+        b"phandle".as_slice(),
+        b"1a".as_slice(),
+        b"a-b".as_slice(),
+        too_long.as_slice(),
+    ] {
+        assert!(rt; Label::new(other).is_err_and(|fault| fault == Fault::of(FaultKind::BadName)));
+    }
+}
+
+#[test]
+fn paths(rt: HostRuntime) {
+    let root = Path::root(rt.alloc());
+    assert_eq!(rt; root.len(), 0);
+    assert!(rt; root.name(0).is_none());
+    assert!(rt; Path::parse(rt.alloc(), b"/").is_ok_and(|path| path.len() == 0));
+    let path = Path::parse(rt.alloc(), b"/soc/uart@10").unwrap_or(Path::root(rt.alloc()));
+    assert_eq!(rt; path.len(), 2);
+    assert!(rt; path.name(0) == Some(b"soc".as_slice()));
+    assert!(rt; path.name(1) == Some(b"uart@10".as_slice()));
+    assert!(rt; path.name(2).is_none());
+}
+
+#[test]
+fn texts_of_no_path(rt: HostRuntime) {
+    let mut too_long = [b'a'; 257];
+    too_long[0] = b'/';
+    assert!(rt; Path::parse(rt.alloc(), &too_long[..256]).is_ok_and(|path| path.len() == 1));
+    for text in [
+        b"".as_slice(),
+        b"soc".as_slice(),
+        b"/soc/".as_slice(),
+        b"//".as_slice(),
+        b"/a@b@c".as_slice(),
+        too_long.as_slice(),
+    ] {
+        assert!(rt;
+            Path::parse(rt.alloc(), text).is_err_and(|fault| fault == Fault::of(FaultKind::BadName))
+        );
+    }
+}
+
+fn put_slashes(text: &mut [u8]) {
+    for (at, byte) in text.iter_mut().enumerate() {
+        if at % 2 == 0 {
+            *byte = b'/';
+        }
+    }
+}
+
+#[test]
+fn the_longest_path(rt: HostRuntime) {
+    let mut longest = [b'a'; 128];
+    put_slashes(&mut longest);
+    assert!(rt; Path::parse(rt.alloc(), &longest).is_ok_and(|path| path.len() == 64));
+    let mut too_long = [b'a'; 130];
+    put_slashes(&mut too_long);
+    assert!(rt;
+        Path::parse(rt.alloc(), &too_long).is_err_and(|fault| fault == Fault::of(FaultKind::Limit))
+    );
+    let mut without_end = [b'a'; 131];
+    put_slashes(&mut without_end);
+    assert!(rt;
+        Path::parse(rt.alloc(), &without_end).is_err_and(|fault| fault
+            == Fault::of(FaultKind::BadName))
+    );
+}
+
+fn with_child(mut path: Path, name: &[u8]) -> Result<Path, Fault> {
+    path.push(&NodeName::new(name)?)?;
+    Ok(path)
+}
+
+#[test]
+fn names_are_pushed(rt: HostRuntime) {
+    let soc = with_child(Path::root(rt.alloc()), b"soc").unwrap_or(Path::root(rt.alloc()));
+    assert_eq!(rt; soc.len(), 1);
+    let mut path = with_child(soc, b"uart@10").unwrap_or(Path::root(rt.alloc()));
+    assert!(rt; path.name(0) == Some(b"soc".as_slice()));
+    assert!(rt; path.name(1) == Some(b"uart@10".as_slice()));
+    let mut out = Out::new(make_narrow(rt.alloc(), 3, 99));
+    assert!(rt; path.write_to(&mut out).is_ok());
+    assert!(rt; out.into_inner().held.as_slice() == b"/soc/uart@10".as_slice());
+    if let Ok(name) = NodeName::new(b"a") {
+        for _ in 2..64 {
+            assert!(rt; path.push(&name).is_ok());
+        }
+        assert!(rt;
+            path.push(&name)
+                .is_err_and(|fault| fault == Fault::of(FaultKind::Limit))
+        );
+    }
+    assert_eq!(rt; path.len(), 64);
+}
+
+#[test]
+fn a_path_into_a_sink_that_fails(rt: HostRuntime) {
+    let path = Path::parse(rt.alloc(), b"/soc/uart@10").unwrap_or(Path::root(rt.alloc()));
+    let mut out = Out::new(make_narrow(rt.alloc(), 3, 4));
+    assert!(rt;
+        path.write_to(&mut out)
+            .is_err_and(|fault| fault == Fault::of(FaultKind::WriteFault))
+    );
+    assert!(rt; out.into_inner().held.as_slice() == b"/soc".as_slice());
+    let mut out = Out::new(make_narrow(rt.alloc(), 3, 4));
+    assert!(rt; Path::root(rt.alloc()).write_to(&mut out).is_ok());
+    assert!(rt; out.into_inner().held.as_slice() == b"/".as_slice());
+}
+
 fn one_more(alloc: Global, byte: u8) -> Result<Vec<u8>, Fault> {
     let mut bytes = Vec::with_capacity(alloc, 1)?;
     bytes.push(byte)?;

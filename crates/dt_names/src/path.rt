@@ -1,0 +1,188 @@
+//! Paths of nodes (Devicetree Specification v0.4, 2.2.3).
+
+ghost use Rattle.std.specs.Prelude.{◌≡◌, ℕ, ◌<◌, ◌≤◌, ◌++◌, ◌∷◌, [], length, take, false, true, None, OnOk, OnErr, IsOk, IfOk, IfErr, IfSome, MatchOption, slice_get};
+ghost use Rattle.std.specs.List.{AllByRecursion};
+ghost use Rattle.std.specs.Option.{option_copied};
+ghost use Rattle.std.specs.Io.KnownBytes.{Appends};
+ghost use Rattle.dt_model.specs.Names.{IsNodeName};
+ghost use Rattle.dt_model.specs.Path.{path_text};
+ghost use Rattle.dt_names.specs.Paths.{parts, parts_left, names_in, AreNames, WhyNoPath, WhyNotPushed};
+ghost use Rattle.dt_names.specs.declared.fault.FaultKind.TheVariants.{WriteFault};
+
+use crate::fault::{Fault, FaultKind};
+use crate::name::{NodeName, is_node_name};
+use crate::stream::{Sink, put_all};
+use std::alloc::{AllocError, Global};
+use std::marker::Model;
+
+/// The most names that a path has.
+const MOST_NAMES: usize = 64;
+
+/// The names of nodes from the root down to a node, at most 64; the root's own path has none (Devicetree Specification
+/// v0.4, 2.2.3; the limit is this project's choice). It is seen as the list of the names. It owns its bytes: each name
+/// with a `/` before it.
+#[derive(Drop)]
+pub struct Path {
+    text: Vec<u8>,
+    count: usize,
+}
+
+impl Model for Path {
+    ghost use Rattle.std.specs.Prelude.{List, ℕ};
+    ghost use Rattle.dt_names.specs.Paths.{names_in, IsKept};
+
+    ghost Value = { List (List ℕ) };
+
+    ghost view = { λ p. names_in p.text.items };
+
+    ghost invariant = { λ p. IsKept p.text.items p.count };
+}
+
+// The bytes before the first `/`, and those behind it, where there is one.
+fn cut(bytes: &[u8]) -> (&[u8], Option<&[u8]>)
+    ensures { parts bytes.now ≡ result.0.now ∷ parts_left result.1 }
+{
+    for (at, byte) in bytes.iter().enumerate() {
+        if *byte == b'/' {
+            return (&bytes[..at], Some(&bytes[at + 1..]));
+        }
+    }
+    (bytes, None)
+}
+
+// How many names the text has, each with a `/` before it; None where it isn't names of nodes.
+fn count_names(text: &[u8]) -> Option<usize>
+    ensures { MatchOption result (¬ AreNames text.now)
+        (λ n. AreNames text.now × (n ≡ length (names_in text.now))) }
+{
+    let (before, mut rest) = cut(text);
+    if !before.is_empty() {
+        return None;
+    }
+    let mut count = 0;
+    while let Some(names) = rest {
+        let (name, behind) = cut(names);
+        if !is_node_name(name) {
+            return None;
+        }
+        count += 1;
+        rest = behind;
+    }
+    Some(count)
+}
+
+// Adds a name at the end, with a `/` before it.
+fn add(text: &mut Vec<u8>, name: &[u8]) -> Result<(), AllocError>
+    ensures ok { OnOk result (text.new.items ≡ text.old.items ++ 47 ∷ name.now) }
+    ensures err { OnErr result (text.new.items ≡ text.old.items) }
+{
+    text.reserve(1 + name.len())?;
+    text.push(b'/')?;
+    text.extend_from_slice(name)?;
+    Ok(())
+}
+
+impl Path {
+    /// The path of the root. Takes no memory.
+    pub fn root(alloc: Global) -> Path
+        ensures { result ≡ [] }
+    {
+        Path {
+            text: Vec::new(alloc),
+            count: 0,
+        }
+    }
+
+    /// The path of a text: `/`, or each name with a `/` before it (Devicetree Specification v0.4, 2.2.3). `Limit`: the text
+    /// is of a path of more than 64 names. `BadName`: it is no path's text at all. `NoMemory`: memory was refused, where
+    /// nothing else refuses. No fault has a place.
+    pub fn parse(alloc: Global, text: &[u8]) -> Result<Path, Fault>
+        ensures text { IfOk result (λ path. text.now ≡ path_text path) }
+        ensures names { IfOk result (λ path. AllByRecursion IsNodeName path) }
+        ensures few { IfOk result (λ path. length path ≤ 64) }
+        ensures refused { IfErr result (λ fault. WhyNoPath fault.kind text.now × (fault.at ≡ None)) }
+    {
+        if text.is_empty() {
+            return Err(Fault::of(FaultKind::BadName));
+        }
+        if text == b"/".as_slice() {
+            return Ok(Path::root(alloc));
+        }
+        let Some(count) = count_names(text) else {
+            return Err(Fault::of(FaultKind::BadName));
+        };
+        if count > MOST_NAMES {
+            return Err(Fault::of(FaultKind::Limit));
+        }
+        let text = Vec::from_slice(alloc, text)?;
+        Ok(Path { text, count })
+    }
+
+    /// Adds the name of a child, at the end. `Limit`: the path has 64 names. `NoMemory`: it has fewer, and memory was
+    /// refused. At a fault, which has no place, the path is unchanged.
+    pub fn push(&mut self, name: &NodeName<'_>) -> Result<(), Fault>
+        ensures ok { OnOk result (self.new ≡ self.old ++ name.now ∷ []) }
+        ensures room { IsOk result → length self.old < 64 }
+        ensures err { OnErr result (self.new ≡ self.old) }
+        ensures refused { IfErr result (λ fault. WhyNotPushed fault.kind self.old × (fault.at ≡ None)) }
+    {
+        if self.count >= MOST_NAMES {
+            return Err(Fault::of(FaultKind::Limit));
+        }
+        add(&mut self.text, name.as_bytes())?;
+        self.count += 1;
+        Ok(())
+    }
+
+    /// How many names the path has.
+    pub fn len(&self) -> usize
+        ensures value { result ≡ length self.now }
+        ensures few { result ≤ 64 }
+    {
+        self.count
+    }
+
+    /// The name at an index, counted from the root's children down; None past the last one. Looks through the path's text
+    /// up to the name, and takes no memory.
+    pub fn name(&self, index: usize) -> Option<&[u8]>
+        ensures value { option_copied result ≡ slice_get self.now index }
+        ensures valid { IfSome result (λ name. IsNodeName name.now) }
+    {
+        let (_, mut rest) = cut(&self.text);
+        let mut left = index;
+        while let Some(names) = rest {
+            let (name, behind) = cut(names);
+            if left == 0 {
+                return Some(name);
+            }
+            left -= 1;
+            rest = behind;
+        }
+        None
+    }
+
+    // The text of the path.
+    fn text(&self) -> &[u8]
+        ensures { result.now ≡ path_text self.now }
+    {
+        if self.text.is_empty() {
+            b"/".as_slice()
+        } else {
+            &self.text
+        }
+    }
+
+    /// Gives a sink the text of the path: `/` for the root, or else each name with a `/` before it (Devicetree
+    /// Specification v0.4, 2.2.3). At a fault, of the kind `WriteFault` and without a place, the sink took a front of the
+    /// text and has failed.
+    pub fn write_to<S: Sink>(&self, sink: &mut S) -> Result<(), Fault>
+        ensures ok { OnOk result (Appends (S.contents sink.old) (S.contents sink.new) (path_text self.now)) }
+        ensures sound { OnOk result (S.has_failed sink.new ≡ false) }
+        ensures err { IfErr result (λ fault. (fault.kind ≡ WriteFault) × (fault.at ≡ None)
+            × (S.has_failed sink.new ≡ true)
+            × ((n : ℕ) × (n < length (path_text self.now))
+            × Appends (S.contents sink.old) (S.contents sink.new) (take n (path_text self.now)))) }
+    {
+        put_all(sink, self.text())
+    }
+}
