@@ -1,5 +1,6 @@
 -- What the compiler answers.
-use Rattle.std.specs.Prelude.{◌≡◌, ℕ, ◌+◌, ◌<◌, ◌≤◌, List, [], length, Err, Option, Some}
+use Rattle.std.specs.Prelude.{◌≡◌, ℕ, ◌+◌, ◌<◌, ◌≤◌, ◌⊎◌, List, length, map, Ok, Err, Option, None, Some}
+use Rattle.dt_model.specs.Lists.{IsIn}
 use Rattle.dt_model.specs.Path.{Path}
 use Rattle.dt_model.specs.Meaning.{Meaning}
 use Rattle.dt_model.specs.Tree.{Property, Forest, Reading}
@@ -12,6 +13,7 @@ use Rattle.dt_names.specs.declared.fault.FaultKind.TheVariants.{NoMemory, Limit,
 use Rattle.dt_write.specs.Written.{written}
 use Rattle.dt_chain.specs.declared.lexer.token.Flaw.{Flaw}
 use Rattle.dt_chain.specs.declared.lexer.token.Flaw.TheVariants as flaw
+use Rattle.dt_chain.specs.Token.{Placed}
 use Rattle.dt_chain.specs.Lexing.{IsRead, IsLexed}
 use Rattle.dt_chain.specs.Grammar.{Tokens, Says, places_of, TextMeans}
 use Rattle.dt_chain.specs.Parsing.{begun}
