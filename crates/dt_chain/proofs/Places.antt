@@ -1,5 +1,5 @@
 -- Where the parser's faults are told.
-use Rattle.std.proofs.Common.{◌≡◌, ℕ, inl, inr, List, [], ◌∷◌, ◌++◌, Option, Some, None, refl, sym, ap, subst, ◌∙◌, append_assoc}
+use Rattle.std.proofs.Common.{Bool, ◌≡◌, ℕ, inl, inr, List, [], ◌∷◌, ◌++◌, Option, Some, None, refl, sym, ap, subst, ◌∙◌, append_assoc}
 use Rattle.std.specs.Prelude.{Result, Ok, Err, IfOk, IfErr, IfSome}
 use Rattle.std.specs.Borrow.{Bor}
 use Rattle.dt_model.specs.Lists.{IsIn}
@@ -7,7 +7,11 @@ use Rattle.dt_names.specs.declared.fault.Fault.{Fault}
 use Rattle.dt_names.specs.declared.fault.FaultKind.{FaultKind}
 use Rattle.dt_names.specs.declared.fault.FaultKind.TheVariants.{NoMemory, Limit, BadVersionTag, Syntax, OutOfRange, PropertyAfterNode, BadName}
 use Rattle.dt_chain.specs.declared.lexer.token.Token as lexer
-use Rattle.dt_chain.specs.Items.{starts, IsRestOf, IsPlaceOf, MayBeAt, IsToldAt}
+use Rattle.dt_chain.specs.declared.lexer.token.Mark.TheVariants as mark
+use Rattle.dt_chain.specs.Token as token
+use Rattle.dt_chain.specs.Grammar.{Tokens}
+use Rattle.dt_chain.specs.Parsing.{begun}
+use Rattle.dt_chain.specs.Items.{starts, IsRestOf, IsPlaceOf, MayBeAt, IsToldAt, TellsTag, WhyNoItem}
 
 -- ---- what is left of some tokens
 
@@ -64,6 +68,29 @@ told_memory kind at ts end h = subst (λ (k : FaultKind). IsToldAt k at ts end) 
 
 pub told_limit : (kind : FaultKind) (at : Option ℕ) (ts : List lexer.Token) (end : ℕ) → kind ≡ Limit → at ≡ None → IsToldAt kind at ts end
 told_limit kind at ts end e h = subst (λ (k : FaultKind). IsToldAt k at ts end) (sym e) (record { place = h })
+
+-- ---- the version tag
+
+pub tag_missing : (kind : FaultKind) (ts : Tokens) → kind ≡ BadVersionTag → ((us : Tokens) → ts ≡ token.version ∷ token.mark mark.Semicolon ∷ us → ⊥) → TellsTag kind ts
+tag_missing kind ts e none = subst (λ (k : FaultKind). TellsTag k ts) (sym e) (λ t. none t.0 t.1)
+
+pub tag_there : (kind : FaultKind) (ts us : Tokens) → kind ≡ Syntax → ts ≡ token.version ∷ token.mark mark.Semicolon ∷ us → TellsTag kind ts
+tag_there kind ts us e some = subst (λ (k : FaultKind). TellsTag k ts) (sym e) (us, some)
+
+pub tag_of_limit : (kind : FaultKind) (ts body : Tokens) → kind ≡ Limit → ts ≡ begun body → TellsTag kind ts
+tag_of_limit kind ts body e front = subst (λ (k : FaultKind). TellsTag k ts) (sym e) (token.mark mark.Slash ∷ token.mark mark.OpenBrace ∷ body, front)
+
+pub tag_of_memory : (kind : FaultKind) (ts : Tokens) → kind ≡ NoMemory → TellsTag kind ts
+tag_of_memory kind ts e = subst (λ (k : FaultKind). TellsTag k ts) (sym e) tt
+
+-- behind the front an item is refused
+pub tag_of_item : (kind : FaultKind) (late : Bool) (ts body rest : Tokens) → ts ≡ begun body → WhyNoItem kind late rest → TellsTag kind ts
+tag_of_item NoMemory late ts body rest front h = tt
+tag_of_item Syntax late ts body rest front h = (token.mark mark.Slash ∷ token.mark mark.OpenBrace ∷ body, front)
+tag_of_item OutOfRange late ts body rest front h = (token.mark mark.Slash ∷ token.mark mark.OpenBrace ∷ body, front)
+tag_of_item PropertyAfterNode late ts body rest front h = (token.mark mark.Slash ∷ token.mark mark.OpenBrace ∷ body, front)
+tag_of_item BadName late ts body rest front h = (token.mark mark.Slash ∷ token.mark mark.OpenBrace ∷ body, front)
+tag_of_item _ late ts body rest front h = absurd h
 
 -- ---- answers of a step on the rest
 

@@ -19,16 +19,17 @@ use Rattle.dt_write.specs.Refusals.{WhyNoBlob}
 use Rattle.dt_chain.specs.declared.lexer.LexError.{LexError}
 use Rattle.dt_chain.specs.declared.lexer.LexError.TheVariants as errors
 use Rattle.dt_chain.specs.declared.lexer.token.Token as lexer
+use Rattle.dt_chain.specs.declared.lexer.token.Mark.TheVariants as mark
 use Rattle.dt_chain.specs.Token as token
 use Rattle.dt_chain.specs.Lexing.{Lexed, IsRead, IsLexed}
 use Rattle.dt_chain.specs.Grammar.{Tokens, Says, SpellsSource, place_of_property, places_of_forest, places_of, TextMeans, IsUnnumbered}
 use Rattle.dt_chain.specs.Parsing.{begun, Parses, over, next, depth_behind, late_behind}
-use Rattle.dt_chain.specs.Items.{kinds, starts, IsPlaceOf, IsToldAt, IsParsed, IsNoSource, WhyNotParsed}
+use Rattle.dt_chain.specs.Items.{kinds, starts, IsPlaceOf, IsToldAt, IsTagged, TellsTag, IsParsed, IsNoSource, WhyNotParsed}
 use Rattle.dt_chain.specs.Building.{children_in, started}
 use Rattle.dt_chain.specs.Built.{IsBuilt, IsNotBuilt, AreUnbalanced, WhyNotBuilt}
 use Rattle.dt_chain.specs.Pieces.{IsReason}
 use Rattle.dt_chain.specs.Flaws.{fault_of}
-use Rattle.dt_chain.specs.Compiled.{IsCompiled, MeansNothing, IsRefusedFor, IsTooLarge, IsTokenPlace, nested, deep, many, big, WhyNotCompiled}
+use Rattle.dt_chain.specs.Compiled.{IsCompiled, MeansNothing, IsRefusedFor, IsTooLarge, IsTokenPlace, HasTag, nested, deep, many, big, WhyNotCompiled}
 use Rattle.dt_chain.proofs.Lexed.{unique}
 use Rattle.dt_chain.proofs.Nested.{same_places, parsed_is_spelled, spelled_is_parsed}
 use Rattle.dt_chain.proofs.Standing.{resolved, represents}
@@ -136,15 +137,26 @@ in_text : (text : List ℕ) (ts : List lexer.Token) (at : Option ℕ) → IsRead
 in_text text ts at h (place, e, inl last) = (place, e, inl last)
 in_text text ts at h (place, e, inr is) = (place, e, inr (map token.view ts, h, subst (IsIn place) (sym (starts_view ts)) is))
 
-pub not_parsed : (kind : FaultKind) (at : Option ℕ) (text : List ℕ) (ts : List lexer.Token) → IsRead text (Ok (map token.view ts)) → WhyNotParsed kind (kinds ts) → IsToldAt kind at ts (length text) → WhyNotCompiled kind at text
-not_parsed NoMemory at text ts lexed h told = told.place
-not_parsed Limit at text ts lexed h told = (nested (kinds ts) h.0 (lexed_of text ts lexed) h.1 h.2, told.place)
-not_parsed BadVersionTag at text ts lexed h told = (no_source text (kinds ts) (lexed_of text ts lexed) h, told.place)
-not_parsed Syntax at text ts lexed h told = (no_source text (kinds ts) (lexed_of text ts lexed) h, in_text text ts at lexed told.place)
-not_parsed OutOfRange at text ts lexed h told = (no_source text (kinds ts) (lexed_of text ts lexed) h, in_text text ts at lexed told.place)
-not_parsed PropertyAfterNode at text ts lexed h told = (no_source text (kinds ts) (lexed_of text ts lexed) h, in_text text ts at lexed told.place)
-not_parsed BadName at text ts lexed h told = (no_source text (kinds ts) (lexed_of text ts lexed) h, in_text text ts at lexed told.place)
-not_parsed _ at text ts lexed h told = absurd h
+tag_in_text : (text : List ℕ) (ts : Tokens) → IsLexed text ts → IsTagged ts → HasTag text
+tag_in_text text ts lexed tag = (tag.0, subst (IsLexed text) tag.1 lexed)
+
+no_tag : (text : List ℕ) (ts : Tokens) → IsLexed text ts → (IsTagged ts → ⊥) → HasTag text → ⊥
+no_tag text ts lexed none has = none (has.0, lexed_once text ts (token.version ∷ token.mark mark.Semicolon ∷ has.0) lexed has.1)
+
+-- a fault of the grammar behind the tag
+of_grammar : (at : Option ℕ) (text : List ℕ) (ts : List lexer.Token) → IsRead text (Ok (map token.view ts)) → IsNoSource (kinds ts) → IsTagged (kinds ts) → IsPlaceOf ts (length text) at → MeansNothing text × HasTag text × IsTokenPlace at text
+of_grammar at text ts lexed h tag place =
+    let l = lexed_of text ts lexed in (no_source text (kinds ts) l h, tag_in_text text (kinds ts) l tag, in_text text ts at lexed place)
+
+pub not_parsed : (kind : FaultKind) (at : Option ℕ) (text : List ℕ) (ts : List lexer.Token) → IsRead text (Ok (map token.view ts)) → WhyNotParsed kind (kinds ts) → TellsTag kind (kinds ts) → IsToldAt kind at ts (length text) → WhyNotCompiled kind at text
+not_parsed NoMemory at text ts lexed h tag told = told.place
+not_parsed Limit at text ts lexed h tag told = (nested (kinds ts) h.0 (lexed_of text ts lexed) h.1 h.2, told.place)
+not_parsed BadVersionTag at text ts lexed h tag told = let l = lexed_of text ts lexed in (no_source text (kinds ts) l h, no_tag text (kinds ts) l tag, told.place)
+not_parsed Syntax at text ts lexed h tag told = of_grammar at text ts lexed h tag told.place
+not_parsed OutOfRange at text ts lexed h tag told = of_grammar at text ts lexed h tag told.place
+not_parsed PropertyAfterNode at text ts lexed h tag told = of_grammar at text ts lexed h tag told.place
+not_parsed BadName at text ts lexed h tag told = of_grammar at text ts lexed h tag told.place
+not_parsed _ at text ts lexed h tag told = absurd h
 
 no_meaning : (text : List ℕ) (ts : Tokens) (places : List Place) → IsLexed text ts → IsParsed ts places → IsNotBuilt places → MeansNothing text
 no_meaning text ts places lexed parsed none m t =

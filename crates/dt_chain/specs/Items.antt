@@ -84,6 +84,16 @@ IsOpening _ = ⊥
 abbrev pub IsFrontFault : FaultKind → Type 0
 IsFrontFault kind = (kind ≡ BadVersionTag) ⊎ (kind ≡ Syntax)
 
+-- the tokens begin with `/dts-v1/;`
+abbrev pub IsTagged : Tokens → Type 0
+IsTagged ts = (rest : Tokens) × (ts ≡ token.version ∷ token.mark mark.Semicolon ∷ rest)
+
+-- a fault of the grammar is that of the tag exactly where the tokens don't begin with it
+abbrev pub TellsTag : FaultKind → Tokens → Type 0
+TellsTag NoMemory ts = Unit {0}
+TellsTag BadVersionTag ts = IsTagged ts → ⊥
+TellsTag _ ts = IsTagged ts
+
 -- more than 65 bodies lie in one another, where so many are open
 abbrev pub IsTooDeep : ℕ → Tokens → Type 0
 IsTooDeep open_bodies [] = ⊥

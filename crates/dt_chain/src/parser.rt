@@ -7,7 +7,7 @@ ghost use Rattle.dt_chain.specs.Token.{version, name, integer, text, mark};
 ghost use Rattle.dt_chain.specs.Grammar.{Tokens, cell_of};
 ghost use Rattle.dt_chain.specs.Parsing.{fits_cell, value_in, Within, before, behind, cells, ItemAt, Parses, begun, depth_behind, late_behind};
 ghost use Rattle.dt_model.specs.Names.{IsPropertyName};
-ghost use Rattle.dt_chain.specs.Items.{place_of, kinds, IsOutOfPlace, IsOpening, IsFrontFault, TakesBytes, WhyNoValue, WhyNoItem, WhyNotParsed, IsParsed, IsRestOf, IsPlaceOf, IsToldAt};
+ghost use Rattle.dt_chain.specs.Items.{place_of, kinds, IsOutOfPlace, IsOpening, IsFrontFault, TakesBytes, WhyNoValue, WhyNoItem, WhyNotParsed, IsParsed, IsRestOf, IsPlaceOf, IsToldAt, TellsTag};
 ghost use Rattle.dt_names.specs.declared.fault.FaultKind.TheVariants.{Syntax};
 
 use crate::lexer::token::{Kind, Mark, Token};
@@ -373,11 +373,12 @@ fn put_item<'a>(items: &mut Vec<Item<'a>>, item: Item<'a>) -> Result<(), AllocEr
 }
 
 /// The tokens behind the version tag and the opening of the root's body.
-#[tactic(auto, using(crate::proofs::Places::rest_on, crate::proofs::Places::told_on))]
+#[tactic(auto, using(crate::proofs::Places::rest_on, crate::proofs::Places::told_on, crate::proofs::Places::tag_missing, crate::proofs::Places::tag_there))]
 fn after_front<'t, 'a>(tokens: &'t [Token<'a>], end: usize) -> Result<&'t [Token<'a>], Fault>
     ensures ok { IfOk result (λ rest. kinds tokens.now ≡ begun (kinds rest.now)) }
     ensures err { IfErr result
         (λ fault. IsFrontFault fault.kind × ((body : Tokens) → kinds tokens.now ≡ begun body → ⊥)) }
+    ensures tag { IfErr result (λ fault. TellsTag fault.kind (kinds tokens.now)) }
     ensures place { IfErr result (λ fault. IsToldAt fault.kind fault.at tokens.now end) }
     ensures rest { IfOk result (λ rest. IsRestOf tokens.now rest.now) }
 {
@@ -395,6 +396,7 @@ pub fn parse<'a>(alloc: Global, tokens: &[Token<'a>], end: usize) -> Result<Vec<
     ensures exact { MatchResult result
         (λ items. IsParsed (kinds tokens.now) (map place_of items.items))
         (λ fault. WhyNotParsed fault.kind (kinds tokens.now)) }
+    ensures tag { IfErr result (λ fault. TellsTag fault.kind (kinds tokens.now)) }
     ensures place { IfErr result (λ fault. IsToldAt fault.kind fault.at tokens.now end) }
 {
     let mut rest = after_front(tokens, end)?;

@@ -3,7 +3,7 @@ use Rattle.std.proofs.lemmas.Result.{err_from_is_err_and}
 use Rattle.dt_chain.specs.declared.lexer.token.Token as lexer
 use Rattle.dt_chain.specs.declared.parser.Item.{Item}
 use Rattle.dt_chain.specs.Lexing.{IsLexed}
-use Rattle.dt_chain.specs.Items.{kinds, place_of, IsToldAt, IsParsed, WhyNotParsed}
+use Rattle.dt_chain.specs.Items.{kinds, place_of, IsToldAt, TellsTag, IsParsed, WhyNotParsed}
 use Rattle.dt_model.specs.Format.{Reads, IsWithin}
 use Rattle.dt_flat.specs.Arena.{reading}
 use Rattle.dt_write.specs.Written.{written}
@@ -29,7 +29,8 @@ returns-in_err-items-clause-refused c =
     let e = err_from_is_err_and c.from_residual-in_err-items.result c.from_residual-in_err-items.ensures.1 in
     let why : WhyNotParsed fault.kind (kinds ts) = subst (λ (x : List lexer.Token). WhyNotParsed fault.kind (kinds x)) c.as_slice.ensures.value c.in_err-items.ensures.exact in
     let told : IsToldAt fault.kind fault.at ts (length text) = subst (λ (x : List lexer.Token). IsToldAt fault.kind fault.at x (length text)) c.as_slice.ensures.value c.in_err-items.ensures.place in
-    rw (e.1, e.2) (not_parsed fault.kind fault.at text ts c.in_ok-tokens.ensures.ok why told)
+    let tag : TellsTag fault.kind (kinds ts) = subst (λ (x : List lexer.Token). TellsTag fault.kind (kinds x)) c.as_slice.ensures.value c.in_err-items.ensures.tag in
+    rw (e.1, e.2) (not_parsed fault.kind fault.at text ts c.in_ok-tokens.ensures.ok why tag told)
 
 pub returns-in_err-tree-clause-refused : goal.returns-in_err-tree-clause-refused
 returns-in_err-tree-clause-refused c =

@@ -2,7 +2,7 @@ use Rattle.std.proofs.Common.{◌≡◌, refl, sym, [], length, map, arith}
 use Rattle.std.proofs.lemmas.Bool.{eqb-true}
 use Rattle.std.proofs.lemmas.Result.{err_from_is_err_and}
 use Rattle.dt_chain.specs.Items.{place_of, kinds}
-use Rattle.dt_chain.proofs.Places.{rest_on, told_on, told_syntax}
+use Rattle.dt_chain.proofs.Places.{rest_on, told_on, told_syntax, tag_of_item, tag_of_limit, tag_there}
 use Rattle.dt_chain.proofs.Ways.{goes_on, arrives, leaves, none_left, some_left, deep_child}
 use Rattle.dt_chain.proofs.parser.parse.Goals as goal
 
@@ -47,3 +47,15 @@ returns-then-not-is_empty-clause-place c =
     let tokens = c.args.tokens.now in
     let rest = c.loop-depth.rest.now in
     told_on fault.kind fault.at tokens rest c.args.end c.loop-depth.invariant.1 (told_syntax fault.kind fault.at rest c.args.end c.fault_at.ensures.kind c.fault_at.ensures.place)
+
+pub returns-in_err-item-clause-tag : goal.returns-in_err-item-clause-tag
+returns-in_err-item-clause-tag c =
+    let e = err_from_is_err_and c.from_residual-in_err-item.result c.from_residual-in_err-item.ensures.1 in
+    rw (e.1, e.2) (tag_of_item c.in_err-item.field-0.0.kind c.loop-depth.late (kinds c.args.tokens.now) (kinds c.in_ok-rest.rest.now) (kinds c.loop-depth.rest.now) c.in_ok-rest.ensures.ok c.in_err-item.ensures.exact)
+
+pub returns-in_default-clause-tag : goal.returns-in_default-clause-tag
+returns-in_default-clause-tag c = tag_of_limit c.of.result.kind (kinds c.args.tokens.now) (kinds c.in_ok-rest.rest.now) c.of.ensures.kind c.in_ok-rest.ensures.ok
+
+pub returns-then-not-is_empty-clause-tag : goal.returns-then-not-is_empty-clause-tag
+returns-then-not-is_empty-clause-tag c =
+    tag_there c.fault_at.result.kind (kinds c.args.tokens.now) _ c.fault_at.ensures.kind c.in_ok-rest.ensures.ok
