@@ -74,7 +74,6 @@ fn expect<'t, 'a>(
 }
 
 /// The tokens behind `/dts-v1/;`.
-#[tactic(auto, using(crate::proofs::Places::rest_behind, crate::proofs::Places::rest_on))]
 fn after_version<'t, 'a>(tokens: &'t [Token<'a>]) -> Option<&'t [Token<'a>]>
     ensures some { IfSome result (λ rest. kinds tokens.now ≡ version ∷ mark marks.Semicolon ∷ kinds rest.now) }
     ensures none { IfNone result ((ts : Tokens) → kinds tokens.now ≡ version ∷ mark marks.Semicolon ∷ ts → ⊥) }
@@ -197,7 +196,6 @@ fn cell<'t, 'a>(
 }
 
 /// The cells from `<` to `>`, put at the end of the bytes, and the tokens behind them.
-#[tactic(auto, using(crate::proofs::Places::rest_on, crate::proofs::Places::told_on))]
 fn cells<'t, 'a>(
     tokens: &'t [Token<'a>],
     bytes: &mut Vec<u8>,
@@ -263,7 +261,6 @@ fn value<'t, 'a>(
 
 /// The name of a property that may stand here: BadName at the name where it isn't one, or PropertyAfterNode at the token
 /// behind it where a child has stood in the body.
-#[tactic(auto, using(crate::proofs::Places::told_late))]
 fn property_name<'a>(
     tokens: &[Token<'_>],
     name: &'a [u8],
@@ -391,7 +388,6 @@ fn after_front<'t, 'a>(tokens: &'t [Token<'a>], end: usize) -> Result<&'t [Token
 
 /// The items of a source, up to the end of the root's body, which is the end of the tokens; `end` is the length of the
 /// text. Where there is no such source the fault stands at the first token that shows it.
-#[tactic(auto, using(crate::proofs::Places::rest_on, crate::proofs::Places::told_on))]
 pub fn parse<'a>(alloc: Global, tokens: &[Token<'a>], end: usize) -> Result<Vec<Item<'a>>, Fault>
     ensures exact { MatchResult result
         (λ items. IsParsed (kinds tokens.now) (map place_of items.items))
