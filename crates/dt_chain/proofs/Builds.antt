@@ -1,9 +1,8 @@
 -- What the builder's steps do to what the tree stands for.
-use Rattle.std.proofs.Common.{get_or, ◌≡◌, ◌≢◌, ℕ, zero, suc, ◌+◌, ◌<◌, ◌≤◌, Bool, true, false, ◌||◌, ◌⊎◌, inl, inr, List, [], ◌∷◌, ◌++◌, Option, Some, None, cond, length, refl, sym, ◌∙◌, ap, subst, arith, drop}
-use Rattle.std.specs.Prelude.{is_some, codes, map, nat_le, Result, Ok, Err, IsSome}
+use Rattle.std.proofs.Common.{get_or, ◌≡◌, ◌≢◌, ℕ, ◌+◌, ◌<◌, Bool, true, false, ◌||◌, ◌⊎◌, inl, inr, List, [], ◌∷◌, ◌++◌, Option, Some, None, cond, length, refl, sym, ◌∙◌, ap, subst, arith, drop}
+use Rattle.std.specs.Prelude.{is_some, codes, map, nat_le, Result, Ok, Err}
 use Rattle.std.specs.List.{AllByRecursion}
 use Rattle.std.specs.Option.{option_and_then, option_map}
-use Rattle.std.specs.Str.{bytes_eq}
 use Rattle.std.proofs.lemmas.Option.{option_and_then_some}
 use Rattle.std.proofs.lemmas.Bool.Decides.{nat_tests}
 use Rattle.std.proofs.lemmas.List.{length-append, drop_more}
@@ -13,19 +12,18 @@ use Rattle.dt_names.specs.declared.fault.FaultKind.TheVariants.{NoMemory, Limit,
 use Rattle.dt_model.specs.Names.{Name}
 use Rattle.dt_model.specs.Path.{path_eq, is_bookkeeping_name}
 use Rattle.dt_model.specs.Tree.{value_of}
-use Rattle.dt_model.specs.Event.{Stack, Event, opening, definition, is_opening, stands, value_at}
+use Rattle.dt_model.specs.Event.{Stack, Event, opening, definition, is_opening, stands}
 use Rattle.dt_model.specs.Source.{and_if_read, Part, one, Place, root, block, delete_node, child, label, property, delete_property, delete_child, close, Events, Body, SoFar, is_among, is_reserved, base, read, read_all, Refusal, inside, define, open_child, too_deep, reserved_name, duplicate_node, duplicate_property}
 use Rattle.dt_model.proofs.EventSteps.{path_eq-is, stands-push}
 use Rattle.dt_flat.specs.Arena.{Arena, Slot, named_children, child_of, properties, parent_of, depth_of, with_child, with_property, IsRooted, root_alone}
-use Rattle.dt_flat.specs.Refusals.{WhyNoNode, WhyNotSet, MaySet}
+use Rattle.dt_flat.specs.Refusals.{WhyNoNode, WhyNotSet}
 use Rattle.dt_flat.proofs.AfterChild.{length-with_child}
 use Rattle.dt_flat.proofs.AfterProperty.{length-with_property}
-use Rattle.dt_flat.proofs.Edges.{Edge, edge}
-use Rattle.dt_chain.specs.Grammar.{IsUnnumbered}
+use Rattle.dt_flat.proofs.Edges.{edge}
 use Rattle.dt_chain.specs.Items.{place_of, IsOpening}
-use Rattle.dt_chain.specs.Building.{walk, Shows, IsOpen, AreOpen, opened, children_in, started, Holds}
-use Rattle.dt_chain.specs.Built.{Goes, IsUnderWay, WhyNotBuilt, IsNotBuilt, IsBuilt, AreInside, IsTop, WhyNoChild, IsRefused, WhyNotRead}
-use Rattle.dt_chain.proofs.Walks.{bool_cases, option_cases, walk_within}
+use Rattle.dt_chain.specs.Building.{walk, IsOpen, AreOpen, opened, children_in, started, Holds}
+use Rattle.dt_chain.specs.Built.{Goes, IsUnderWay, AreUnbalanced, WhyNotBuilt, IsNotBuilt, IsBuilt, AreInside, IsTop, WhyNoChild, IsRefused, WhyNotRead}
+use Rattle.dt_chain.proofs.Walks.{bool_cases}
 use Rattle.dt_chain.proofs.Grown.{all-push, all-split, all-under, opened-push, shows-child, shows-property, open-child, open-property}
 
 -- ---- the innermost open body
@@ -104,6 +102,7 @@ close_goes a numbers outer k s e h =
       holds = record { shows = h.shows; bodies = top.others; count = h.count; boot_cpu = h.boot_cpu; reservations = h.reservations; bookkeeping = h.bookkeeping };
       unnumbered = tt;
       count = omega arith;
+      depth = (length top.bodies, ap length top.are, refl);
     }
 
 -- ---- a property is defined
@@ -132,6 +131,7 @@ define_goes a a' numbers k n v s (outer, e) low other absent new h =
           });
       unnumbered = other;
       count = opened-push s.events event;
+      depth = (length top.bodies, ap length top.are, refl);
     }
   where
     plus_zero : (m : ℕ) → m + 0 ≡ m
@@ -226,6 +226,7 @@ child_goes a a' numbers numbers' k n s rooted (outer, e) low free none shallow n
           }));
       unnumbered = tt;
       count = opened-push s.events event;
+      depth = (length top.bodies, ap length top.are, refl);
     }
 
 -- a bookkeeping child of the root
@@ -271,6 +272,27 @@ child_refused Limit kind' a numbers k n s rooted (outer, e) low free (none, inr 
     three r m d x e f g = rw (e, f, g) refl
 child_refused _ kind' a numbers k n s rooted is_top low free why is h = absurd why
 
+-- ---- no body is open
+
+pub nothing_left : (xs : List ℕ) → length xs ≡ 0 → xs ≡ []
+nothing_left [] e = refl
+nothing_left (x ∷ xs) e = absurd (omega arith)
+
+pub outside_child : (kind : FaultKind) (a : Arena) (numbers : List ℕ) (n : Name) (s : SoFar) → kind ≡ Syntax → numbers ≡ [] → Holds a numbers s → WhyNotRead kind s (child n)
+outside_child kind a numbers n s e none h =
+    let out : s.bodies ≡ [] = none_open a.slots s numbers none h.bodies in
+    kind_known kind s (child n) Syntax e (λ t. not_inside s (open_child base s n) t out, out)
+
+pub outside_property : (kind : FaultKind) (a : Arena) (numbers : List ℕ) (n : Name) (v : List Part) (s : SoFar) → kind ≡ Syntax → numbers ≡ [] → Holds a numbers s → WhyNotRead kind s (property n v)
+outside_property kind a numbers n v s e none h =
+    let out : s.bodies ≡ [] = none_open a.slots s numbers none h.bodies in
+    kind_known kind s (property n v) Syntax e (λ t. not_inside s (define s n v) t out, out)
+
+pub outside_close : (kind : FaultKind) (a : Arena) (numbers : List ℕ) (s : SoFar) → kind ≡ Syntax → numbers ≡ [] → Holds a numbers s → WhyNotRead kind s close
+outside_close kind a numbers s e none h =
+    let out : s.bodies ≡ [] = none_open a.slots s numbers none h.bodies in
+    kind_known kind s close Syntax e (λ t. not_inside s (λ b bs. Ok (record { events = s.events; node = drop 1 s.node; bodies = bs })) t out, out)
+
 -- ---- a root alone
 
 walk_alone : (boot_cpu : ℕ) (p : Stack) → walk (root_alone boot_cpu).slots p ≡ cond (path_eq [] p) (Some 0) None
@@ -307,7 +329,7 @@ start_holds a numbers e f =
 -- ---- the way through the places
 
 pub starts : (a : Arena) (numbers : List ℕ) (all : List Place) → Holds a numbers started → IsUnderWay a numbers all all
-starts a numbers all h = record { so_far = started; holds = h; same = refl; count = omega arith; unnumbered = λ u. u; unnumbered_left = λ u. u }
+starts a numbers all h = record { so_far = started; holds = h; same = refl; count = omega arith; unbalanced = λ u. u; unnumbered = λ u. u; unnumbered_left = λ u. u }
 
 pub children-cons : (p : Place) (left : List Place) → children_in (p ∷ left) ≡ children_in (p ∷ []) + children_in left
 children-cons (child n) left = omega arith
@@ -326,6 +348,7 @@ goes_on a a' numbers numbers' p left all w g = record {
   holds = g.holds;
   same = w.same ∙ ap (λ o. and_if_read o (λ t. read_all base t left)) g.was_read;
   count = omega (arith, w.count, g.count, children-cons p left);
+  unbalanced = λ u. w.unbalanced (subst (λ (k : ℕ). AreUnbalanced k (p ∷ left)) (sym g.depth.1) (subst (λ (k : ℕ). AreUnbalanced k left) g.depth.2 u));
   unnumbered = λ u. w.unnumbered (g.unnumbered, u);
   unnumbered_left = λ u. (w.unnumbered_left u).1;
 }
@@ -357,7 +380,7 @@ pub refused_on : (kind : FaultKind) (a : Arena) (numbers : List ℕ) (p : Place)
 refused_on NoMemory a numbers p left all w h = tt
 refused_on Limit a numbers p left all w (inl deep) = inl (stopped a numbers p left all too_deep w deep)
 refused_on Limit a numbers p left all w (inr many) = inr (omega (arith, w.count, many.0, children-cons p left, opening_counts p many.1))
-refused_on Syntax a numbers p left all w h = not_built a numbers p left all w h
+refused_on Syntax a numbers p left all w h = (not_built a numbers p left all w h.0, w.unbalanced (subst (λ (k : ℕ). AreUnbalanced k (p ∷ left)) (sym (ap length h.1)) tt))
 refused_on DuplicateProperty a numbers p left all w h = stopped a numbers p left all duplicate_property w h
 refused_on DuplicateNode a numbers p left all w h = stopped a numbers p left all duplicate_node w h
 refused_on ReservedName a numbers p left all w h = stopped a numbers p left all reserved_name w h
@@ -387,6 +410,15 @@ left_open a numbers left all w none some t h closed =
     let ok : Ok w'.so_far ≡ Ok t = sym w'.same ∙ h in
     let same : w'.so_far ≡ t = cc in
     some_open a.slots w'.so_far numbers some w'.holds.bodies (ap (λ (x : SoFar). x.bodies) same ∙ closed)
+
+open_end : (bodies : List Body) → (bodies ≡ [] → ⊥) → AreUnbalanced (length bodies) []
+open_end [] f = absurd (f refl)
+open_end (b ∷ bs) f = tt
+
+pub left_unbalanced : (a : Arena) (numbers : List ℕ) (left all : List Place) → IsUnderWay a numbers left all → left ≡ [] → 0 < length numbers → AreUnbalanced 1 all
+left_unbalanced a numbers left all w none some =
+    let w' : IsUnderWay a numbers [] all = subst (λ (x : List Place). IsUnderWay a numbers x all) none w in
+    w'.unbalanced (open_end w'.so_far.bodies (some_open a.slots w'.so_far numbers some w'.holds.bodies))
 
 -- ---- what the code's steps say
 

@@ -1,10 +1,9 @@
 -- The item at the front of some tokens.
-use Rattle.std.proofs.Common.{◌≡◌, ℕ, zero, suc, ◌+◌, ◌-◌, ◌≤◌, ◌<◌, Bool, true, false, ◌⊎◌, inl, inr, List, [], ◌∷◌, ◌++◌, map, Option, Some, None, refl, sym, ap, subst, ◌∙◌}
-use Rattle.std.specs.Prelude.{Result, Ok, Err, MatchResult}
+use Rattle.std.proofs.Common.{◌≡◌, ℕ, Bool, false, inl, inr, List, [], ◌∷◌, map, Option, Some, None, refl, sym, ap, subst, ◌∙◌}
 use Rattle.dt_model.specs.Names.{Name, IsNodeName, IsPropertyName}
-use Rattle.dt_model.specs.Source.{Place, child, property, close, one}
+use Rattle.dt_model.specs.Source.{child, property, close, one}
 use Rattle.dt_names.specs.declared.fault.FaultKind.{FaultKind}
-use Rattle.dt_names.specs.declared.fault.FaultKind.TheVariants.{NoMemory, Limit, BadVersionTag, Syntax, OutOfRange, PropertyAfterNode, BadName}
+use Rattle.dt_names.specs.declared.fault.FaultKind.TheVariants.{NoMemory, Syntax, OutOfRange, BadName}
 use Rattle.dt_chain.specs.declared.lexer.token.Mark.TheVariants as mark
 use Rattle.dt_chain.specs.Token as token
 use Rattle.dt_chain.specs.Grammar.{Tokens}

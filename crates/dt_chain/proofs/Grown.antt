@@ -1,23 +1,21 @@
 -- One more place of a source, and the change of the tree that shows it.
-use Rattle.std.proofs.Common.{◌≡◌, ◌≢◌, ℕ, zero, suc, ◌+◌, ◌<◌, Bool, true, false, List, [], ◌∷◌, ◌++◌, Option, Some, None, ◌&&◌, ◌||◌, cond, eqb, length, refl, sym, ◌∙◌, ap, subst, arith, drop}
+use Rattle.std.proofs.Common.{◌≡◌, ◌≢◌, ℕ, ◌+◌, ◌<◌, Bool, true, false, List, [], ◌∷◌, ◌++◌, Option, Some, None, ◌&&◌, ◌||◌, cond, length, refl, sym, ◌∙◌, ap, subst, arith, drop}
 use Rattle.std.specs.Prelude.{◌==◌, is_some, codes, map}
-use Rattle.std.specs.List.{AllByRecursion, list_any}
+use Rattle.std.specs.List.{AllByRecursion}
 use Rattle.std.specs.Option.{option_and_then, option_map}
 use Rattle.std.specs.Str.{bytes_eq}
 use Rattle.std.proofs.lemmas.Bool.{eqb-true, eq-eqb}
-use Rattle.std.proofs.lemmas.List.{length-append}
 use Rattle.dt_model.specs.Names.{Name}
-use Rattle.dt_model.specs.Path.{path_eq, is_bookkeeping_name}
-use Rattle.dt_model.specs.Tree.{value_of, Property}
+use Rattle.dt_model.specs.Path.{path_eq}
+use Rattle.dt_model.specs.Tree.{value_of}
 use Rattle.dt_model.specs.Event.{Stack, Event, opening, giving, definition, undefinition, deletion, stands, value_at}
-use Rattle.dt_model.specs.Source.{Part, one, number_of, text_of, Events, Body, SoFar, is_among}
+use Rattle.dt_model.specs.Source.{Part, one, Events, Body}
 use Rattle.dt_model.proofs.EventSteps.{path_eq-is, path_eq-refl, bytes_eq-is, bytes_eq-refl, stands-push, value_at-push}
-use Rattle.dt_flat.specs.Arena.{Arena, Slot, named_children, child_of, properties, with_child, with_property}
-use Rattle.dt_flat.proofs.AfterChild.{differs, child-with_child, childless-with_child, properties-with_child, bare-with_child, length-with_child}
-use Rattle.dt_flat.proofs.AfterProperty.{length-with_property, children-with_property, value-with_property}
-use Rattle.dt_flat.proofs.Edges.{Edge, edge}
-use Rattle.dt_chain.specs.Building.{walk, bytes_of, IsByte, IsPlain, Shows, IsOpen, AreOpen, opened, Holds}
-use Rattle.dt_chain.proofs.Walks.{bool_cases, option_cases, same_then, none_then, walk_within, walk_once, walk-with_property, walk-with_child}
+use Rattle.dt_flat.specs.Arena.{Slot, named_children, child_of, properties, with_child, with_property}
+use Rattle.dt_flat.proofs.AfterChild.{differs, child-with_child, childless-with_child, properties-with_child, bare-with_child}
+use Rattle.dt_flat.proofs.AfterProperty.{children-with_property, value-with_property}
+use Rattle.dt_chain.specs.Building.{walk, bytes_of, IsByte, IsPlain, Shows, IsOpen, AreOpen, opened}
+use Rattle.dt_chain.proofs.Walks.{bool_cases, same_then, none_then, walk_within, walk_once, walk-with_property, walk-with_child}
 
 pub all-push : {X : Type 0} (P : X → Type 0) (xs : List X) (x : X) → AllByRecursion P xs → P x → AllByRecursion P (xs ++ x ∷ [])
 all-push P [] x h p = (p, tt)

@@ -11,5 +11,6 @@ pub mod Standing
 pub mod Parsed
 pub mod Fronts
 pub mod Ways
+pub mod Places
 pub mod Builds
 pub mod Whole

@@ -1,5 +1,5 @@
 -- A tree that shows plain events represents their meaning.
-use Rattle.std.proofs.Common.{◌≡◌, ◌≢◌, ℕ, zero, suc, ◌+◌, ◌<◌, ◌≤◌, ◌^◌, lit≤, Bool, true, false, List, [], ◌∷◌, ◌++◌, Option, Some, None, ◌&&◌, ◌||◌, cond, length, refl, sym, ◌∙◌, ap, subst, arith}
+use Rattle.std.proofs.Common.{◌≡◌, ℕ, lit≤, Bool, true, false, List, [], ◌∷◌, ◌++◌, Option, Some, None, ◌&&◌, ◌||◌, cond, refl, sym, ◌∙◌, ap, subst, arith}
 use Rattle.std.specs.Prelude.{is_some, codes, map, reverse, option_map, option_and_then, IsSome}
 use Rattle.std.specs.List.{AllByRecursion, list_any}
 use Rattle.std.specs.Option.{option_map_or, option_or}
@@ -7,12 +7,12 @@ use Rattle.std.specs.Str.{bytes_eq}
 use Rattle.std.proofs.lemmas.List.{reverse-append}
 use Rattle.dt_model.specs.Names.{Name}
 use Rattle.dt_model.specs.Path.{Path, path_eq, path_value}
-use Rattle.dt_model.specs.Meaning.{Item, cell, byte, value_bytes, Meaning, instance_value}
-use Rattle.dt_model.specs.Tree.{Property, Node, value_of, node_at, stands_in, value_in}
+use Rattle.dt_model.specs.Meaning.{cell, byte, value_bytes, Meaning}
+use Rattle.dt_model.specs.Tree.{Node, value_of, stands_in, value_in}
 use Rattle.dt_model.specs.Event.{Stack, Event, opening, giving, definition, undefinition, deletion, last_where, stands, value_at, names, defined, defines, drops}
 use Rattle.dt_model.specs.Source.{Part, one, number_of, text_of, Events, gives_label, node_of, labelled, all_bound, written, written_number, labels_there, refers, refers_there, meaning_of, IsResolved}
 use Rattle.dt_model.specs.Represents.{Represents}
-use Rattle.dt_model.proofs.EventSteps.{bytes_eq-is, bytes_eq-refl}
+use Rattle.dt_model.proofs.EventSteps.{bytes_eq-is}
 use Rattle.dt_flat.specs.Arena.{Arena, Slot, named_children, child_of, properties, below, node_from, reading}
 use Rattle.dt_flat.proofs.ByPath.{reading_at}
 use Rattle.dt_chain.specs.Building.{walk, bytes_of, IsByte, IsPlain, Shows}

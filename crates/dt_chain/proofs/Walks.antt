@@ -1,5 +1,5 @@
 -- How a walk changes where a child is added, and that no two stacks lead to one node.
-use Rattle.std.proofs.Common.{◌≡◌, ◌≢◌, ℕ, zero, suc, ◌+◌, ◌<◌, Bool, true, false, List, [], ◌∷◌, Option, Some, None, ◌&&◌, cond, nat_eq, eqb, length, refl, sym, ◌∙◌, ap, subst, arith}
+use Rattle.std.proofs.Common.{◌≡◌, ℕ, ◌<◌, Bool, true, false, List, [], ◌∷◌, Option, Some, None, ◌&&◌, cond, length, refl, sym, ◌∙◌, ap, subst, arith}
 use Rattle.std.specs.Option.{option_and_then}
 use Rattle.std.specs.Str.{bytes_eq}
 use Rattle.std.specs.Prelude.{◌==◌}
@@ -9,8 +9,8 @@ use Rattle.dt_model.specs.Names.{Name}
 use Rattle.dt_model.specs.Path.{path_eq}
 use Rattle.dt_model.specs.Event.{Stack}
 use Rattle.dt_model.proofs.EventSteps.{path_eq-is, path_eq-refl, bytes_eq-is, bytes_eq-refl}
-use Rattle.dt_flat.specs.Arena.{Slot, named_children, child_of, properties, parent_of, name_of, with_child, with_property}
-use Rattle.dt_flat.proofs.Edges.{Edge, edge}
+use Rattle.dt_flat.specs.Arena.{Slot, named_children, child_of, with_child, with_property}
+use Rattle.dt_flat.proofs.Edges.{edge}
 use Rattle.dt_flat.proofs.AfterChild.{child-with_child, childless-with_child}
 use Rattle.dt_flat.proofs.AfterProperty.{children-with_property}
 use Rattle.dt_chain.specs.Building.{walk}

@@ -1,13 +1,14 @@
 -- One more item of a body.
-use Rattle.std.proofs.Common.{◌≡◌, ℕ, zero, suc, ◌+◌, ◌-◌, ◌≤◌, ◌<◌, Bool, true, false, ◌⊎◌, inl, inr, List, [], ◌∷◌, ◌++◌, length, Option, Some, None, refl, sym, ap, subst, ◌∙◌, append_assoc, arith}
+use Rattle.std.proofs.Common.{◌≡◌, ℕ, zero, suc, ◌-◌, ◌≤◌, ◌<◌, Bool, false, inl, inr, List, [], ◌∷◌, ◌++◌, length, drop, refl, sym, ap, subst, ◌∙◌, append_assoc, arith}
+use Rattle.std.specs.Prelude.{◌==◌}
 use Rattle.std.proofs.lemmas.List.{append-nil}
-use Rattle.dt_model.specs.Source.{Place, child, property, close, one}
+use Rattle.dt_model.specs.Source.{Place}
 use Rattle.dt_chain.specs.declared.lexer.token.Mark.TheVariants as mark
 use Rattle.dt_chain.specs.declared.lexer.token.Token as lexer
 use Rattle.dt_chain.specs.Token as token
 use Rattle.dt_chain.specs.Grammar.{Tokens, SpellsCells, no_cells, integer, SpellsComponent, string, cells, SpellsValue, last, more}
 use Rattle.dt_chain.specs.Parsing.{ItemAt, child_at, flag_at, property_at, close_at, depth_behind, late_behind, Parses, over, next, begun}
-use Rattle.dt_chain.specs.Items.{kinds, IsOpening, IsTooDeep, IsOnTheWay, IsParsed}
+use Rattle.dt_chain.specs.Items.{kinds, IsOpening, IsTooDeep, IsOnTheWay, IsParsed, IsNoSource}
 use Rattle.dt_chain.proofs.Values.{value_takes}
 use Rattle.dt_chain.proofs.Nested.{same_item}
 
@@ -82,6 +83,20 @@ arrives ts body rest places depth late e w none empty = record {
       subst (Parses 1 false body) (append-nil places) (w.forward [] here);
 }
 
+-- all bodies are closed, and tokens are left
+pub leaves : (ts body rest : Tokens) (places : List Place) (depth : ℕ) (late : Bool) → ts ≡ begun body → IsOnTheWay body places depth late rest → depth ≡ 0 → (rest ≡ [] → ⊥) → IsNoSource ts
+leaves ts body rest places depth late e w none some all parsed =
+    let same : parsed.body ≡ body = ap (drop 4) (sym parsed.whole ∙ e) in
+    let b = w.back all (subst (λ (x : Tokens). Parses 1 false x all) same parsed.parses) in
+    some (over_only late rest b.0 (subst (λ (k : ℕ). Parses k late rest b.0) none b.2))
+  where
+    over_only : (late : Bool) (rest : Tokens) (others : List Place) → Parses 0 late rest others → rest ≡ []
+    over_only late rest others (over l) = refl
+
 pub none_left : (xs : List lexer.Token) → length xs ≡ 0 → kinds xs ≡ []
 none_left [] e = refl
 none_left (x ∷ xs) e = absurd (omega arith)
+
+pub some_left : (xs : List lexer.Token) → (length xs == 0) ≡ false → kinds xs ≡ [] → ⊥
+some_left [] e f = cc
+some_left (x ∷ xs) e f = cc

@@ -1,16 +1,17 @@
 -- The compiler's stages together.
-use Rattle.std.proofs.Common.{◌≡◌, ℕ, zero, suc, ◌+◌, ◌<◌, ◌≤◌, ◌⊎◌, inl, inr, List, [], ◌∷◌, ◌++◌, Option, length, map, drop, refl, sym, ap, subst, ◌∙◌, arith}
+use Rattle.std.proofs.Common.{◌≡◌, ℕ, suc, ◌+◌, ◌<◌, ◌≤◌, ◌⊎◌, inl, inr, List, [], ◌∷◌, ◌++◌, Option, None, length, map, drop, refl, sym, ap, subst, ◌∙◌, arith}
 use Rattle.std.specs.Prelude.{Result, Ok, Err, codes, false, true, Bool}
 use Rattle.std.specs.List.{AllByRecursion}
 use Rattle.dt_names.specs.declared.fault.FaultKind.{FaultKind}
-use Rattle.dt_names.specs.declared.fault.FaultKind.TheVariants.{NoMemory, Limit, BadVersionTag, BadToken, Syntax, BadInteger, OutOfRange, PropertyAfterNode, DuplicateProperty, DuplicateNode, BadPhandle, ReservedName, BadName}
+use Rattle.dt_names.specs.declared.fault.FaultKind.TheVariants.{NoMemory, Limit, BadVersionTag, Syntax, OutOfRange, PropertyAfterNode, DuplicateProperty, DuplicateNode, BadPhandle, ReservedName, BadName}
+use Rattle.dt_model.specs.Lists.{IsIn}
 use Rattle.dt_model.specs.Path.{is_bookkeeping_name}
 use Rattle.dt_model.specs.Meaning.{Meaning}
-use Rattle.dt_model.specs.Tree.{Property, Forest, no_nodes, branch, Reading}
+use Rattle.dt_model.specs.Tree.{Property, Forest, no_nodes, branch}
 use Rattle.dt_model.specs.Valid.{node_count}
 use Rattle.dt_model.specs.Format.{Reads, IsWithin}
 use Rattle.dt_model.specs.Event.{stands}
-use Rattle.dt_model.specs.Source.{Place, root, child, property, close, SoFar, Refusal, Events, base, nothing, read_all, too_deep, duplicate_property, duplicate_node, reserved_name, meaning_of, SourceMeans}
+use Rattle.dt_model.specs.Source.{Place, root, close, SoFar, Refusal, Events, base, nothing, read_all, too_deep, duplicate_property, duplicate_node, reserved_name, meaning_of}
 use Rattle.dt_model.specs.Represents.{Represents}
 use Rattle.dt_flat.specs.Arena.{Arena, reading}
 use Rattle.dt_write.specs.Written.{written}
@@ -18,16 +19,17 @@ use Rattle.dt_write.specs.Refusals.{WhyNoBlob}
 use Rattle.dt_chain.specs.declared.lexer.LexError.{LexError}
 use Rattle.dt_chain.specs.declared.lexer.LexError.TheVariants as errors
 use Rattle.dt_chain.specs.declared.lexer.token.Token as lexer
+use Rattle.dt_chain.specs.declared.lexer.token.Mark.TheVariants as mark
 use Rattle.dt_chain.specs.Token as token
 use Rattle.dt_chain.specs.Lexing.{Lexed, IsRead, IsLexed}
 use Rattle.dt_chain.specs.Grammar.{Tokens, Says, SpellsSource, place_of_property, places_of_forest, places_of, TextMeans, IsUnnumbered}
-use Rattle.dt_chain.specs.Parsing.{begun, Parses}
-use Rattle.dt_chain.specs.Items.{kinds, IsParsed, IsNoSource, WhyNotParsed}
+use Rattle.dt_chain.specs.Parsing.{begun, Parses, over, next, depth_behind, late_behind}
+use Rattle.dt_chain.specs.Items.{kinds, starts, IsPlaceOf, IsToldAt, IsTagged, TellsTag, IsParsed, IsNoSource, WhyNotParsed}
 use Rattle.dt_chain.specs.Building.{children_in, started}
-use Rattle.dt_chain.specs.Built.{IsBuilt, IsNotBuilt, WhyNotBuilt}
+use Rattle.dt_chain.specs.Built.{IsBuilt, IsNotBuilt, AreUnbalanced, WhyNotBuilt}
 use Rattle.dt_chain.specs.Pieces.{IsReason}
 use Rattle.dt_chain.specs.Flaws.{fault_of}
-use Rattle.dt_chain.specs.Compiled.{IsCompiled, MeansNothing, IsRefusedFor, IsTooLarge, long, nested, deep, many, big, WhyNotCompiled}
+use Rattle.dt_chain.specs.Compiled.{IsCompiled, MeansNothing, IsRefusedFor, IsTooLarge, IsTokenPlace, HasTag, nested, deep, many, big, WhyNotCompiled}
 use Rattle.dt_chain.proofs.Lexed.{unique}
 use Rattle.dt_chain.proofs.Nested.{same_places, parsed_is_spelled, spelled_is_parsed}
 use Rattle.dt_chain.proofs.Standing.{resolved, represents}
@@ -117,7 +119,7 @@ no_tokens : (text : List ℕ) (f : Lexed) → ((ps : List token.Placed) → f �
 no_tokens text f bad h m t = let l = t.says.lexed in bad l.0 (unique h l.1)
 
 pub not_lexed : (e : LexError) (text : List ℕ) → IsReason text e → WhyNotCompiled (fault_of e).kind (fault_of e).at text
-not_lexed errors.Memory text h = tt
+not_lexed errors.Memory text h = refl
 not_lexed (errors.BadToken at) text h = (no_tokens text _ (λ ps e. cc) h, (at, refl, h))
 not_lexed (errors.BadInteger at) text h = (no_tokens text _ (λ ps e. cc) h, (at, refl, h))
 
@@ -126,15 +128,35 @@ no_source text ts lexed none m t =
     let s = spelled_is_parsed t.properties t.children t.says.tokens t.says.spelled in
     none s.1 (record { body = s.0; whole = lexed_once text ts t.says.tokens lexed t.says.lexed ∙ s.2; parses = s.4 })
 
-pub not_parsed : (kind : FaultKind) (at : Option ℕ) (text : List ℕ) (ts : Tokens) → IsLexed text ts → WhyNotParsed kind ts → WhyNotCompiled kind at text
-not_parsed NoMemory at text ts lexed h = tt
-not_parsed Limit at text ts lexed h = nested ts h.0 lexed h.1 h.2
-not_parsed BadVersionTag at text ts lexed h = no_source text ts lexed h
-not_parsed Syntax at text ts lexed h = no_source text ts lexed h
-not_parsed OutOfRange at text ts lexed h = no_source text ts lexed h
-not_parsed PropertyAfterNode at text ts lexed h = no_source text ts lexed h
-not_parsed BadName at text ts lexed h = no_source text ts lexed h
-not_parsed _ at text ts lexed h = absurd h
+starts_view : (ts : List lexer.Token) → map (λ (p : token.Placed). p.start) (map token.view ts) ≡ starts ts
+starts_view [] = refl
+starts_view (t ∷ ts) = ap (λ (x : List ℕ). t.start ∷ x) (starts_view ts)
+
+-- a place that the parser tells is one of the text
+in_text : (text : List ℕ) (ts : List lexer.Token) (at : Option ℕ) → IsRead text (Ok (map token.view ts)) → IsPlaceOf ts (length text) at → IsTokenPlace at text
+in_text text ts at h (place, e, inl last) = (place, e, inl last)
+in_text text ts at h (place, e, inr is) = (place, e, inr (map token.view ts, h, subst (IsIn place) (sym (starts_view ts)) is))
+
+tag_in_text : (text : List ℕ) (ts : Tokens) → IsLexed text ts → IsTagged ts → HasTag text
+tag_in_text text ts lexed tag = (tag.0, subst (IsLexed text) tag.1 lexed)
+
+no_tag : (text : List ℕ) (ts : Tokens) → IsLexed text ts → (IsTagged ts → ⊥) → HasTag text → ⊥
+no_tag text ts lexed none has = none (has.0, lexed_once text ts (token.version ∷ token.mark mark.Semicolon ∷ has.0) lexed has.1)
+
+-- a fault of the grammar behind the tag
+of_grammar : (at : Option ℕ) (text : List ℕ) (ts : List lexer.Token) → IsRead text (Ok (map token.view ts)) → IsNoSource (kinds ts) → IsTagged (kinds ts) → IsPlaceOf ts (length text) at → MeansNothing text × HasTag text × IsTokenPlace at text
+of_grammar at text ts lexed h tag place =
+    let l = lexed_of text ts lexed in (no_source text (kinds ts) l h, tag_in_text text (kinds ts) l tag, in_text text ts at lexed place)
+
+pub not_parsed : (kind : FaultKind) (at : Option ℕ) (text : List ℕ) (ts : List lexer.Token) → IsRead text (Ok (map token.view ts)) → WhyNotParsed kind (kinds ts) → TellsTag kind (kinds ts) → IsToldAt kind at ts (length text) → WhyNotCompiled kind at text
+not_parsed NoMemory at text ts lexed h tag told = told.place
+not_parsed Limit at text ts lexed h tag told = (nested (kinds ts) h.0 (lexed_of text ts lexed) h.1 h.2, told.place)
+not_parsed BadVersionTag at text ts lexed h tag told = let l = lexed_of text ts lexed in (no_source text (kinds ts) l h, no_tag text (kinds ts) l tag, told.place)
+not_parsed Syntax at text ts lexed h tag told = of_grammar at text ts lexed h tag told.place
+not_parsed OutOfRange at text ts lexed h tag told = of_grammar at text ts lexed h tag told.place
+not_parsed PropertyAfterNode at text ts lexed h tag told = of_grammar at text ts lexed h tag told.place
+not_parsed BadName at text ts lexed h tag told = of_grammar at text ts lexed h tag told.place
+not_parsed _ at text ts lexed h tag told = absurd h
 
 no_meaning : (text : List ℕ) (ts : Tokens) (places : List Place) → IsLexed text ts → IsParsed ts places → IsNotBuilt places → MeansNothing text
 no_meaning text ts places lexed parsed none m t =
@@ -190,21 +212,26 @@ numbered text ts places lexed parsed none m t =
     let all : AllByRecursion IsUnnumbered (root ∷ places) = subst (AllByRecursion IsUnnumbered) same t.unnumbered in
     none all.1
 
-pub not_built : (kind : FaultKind) (at : Option ℕ) (text : List ℕ) (ts : Tokens) (places : List Place) → IsLexed text ts → IsParsed ts places → WhyNotBuilt kind places → WhyNotCompiled kind at text
-not_built NoMemory at text ts places lexed parsed h = tt
-not_built Limit at text ts places lexed parsed h = too_many text ts places lexed parsed h
-not_built Syntax at text ts places lexed parsed h = no_meaning text ts places lexed parsed h
-not_built DuplicateProperty at text ts places lexed parsed h = stopped text ts places duplicate_property lexed parsed h
-not_built DuplicateNode at text ts places lexed parsed h = stopped text ts places duplicate_node lexed parsed h
-not_built ReservedName at text ts places lexed parsed h = stopped text ts places reserved_name lexed parsed h
-not_built BadPhandle at text ts places lexed parsed h = numbered text ts places lexed parsed h
-not_built _ at text ts places lexed parsed h = absurd h
+-- what was parsed closes each body that it opens, and nothing stands behind
+balanced : (depth : ℕ) (late : Bool) (ts : Tokens) (places : List Place) → Parses depth late ts places → AreUnbalanced depth places → ⊥
+balanced depth late ts places (over l) u = u
+balanced depth late ts places (next d l us rest i is item others) u = balanced (depth_behind i (suc d)) (late_behind i) rest is others u
 
-pub not_written : (kind : FaultKind) (at : Option ℕ) (text : List ℕ) (ts : Tokens) (places : List Place) (a : Arena) → IsLexed text ts → IsParsed ts places → IsBuilt a places → WhyNoBlob kind (length (written (reading a))) → WhyNotCompiled kind at text
-not_written NoMemory at text ts places a lexed parsed built h = tt
+pub not_built : (kind : FaultKind) (at : Option ℕ) (text : List ℕ) (ts : Tokens) (places : List Place) → IsLexed text ts → IsParsed ts places → WhyNotBuilt kind places × (at ≡ None) → WhyNotCompiled kind at text
+not_built NoMemory at text ts places lexed parsed h = h.1
+not_built Limit at text ts places lexed parsed h = (too_many text ts places lexed parsed h.0, h.1)
+not_built Syntax at text ts places lexed parsed h = absurd (balanced 1 false parsed.body places parsed.parses h.0.1)
+not_built DuplicateProperty at text ts places lexed parsed h = let s = stopped text ts places duplicate_property lexed parsed h.0 in (s.0, s.1, h.1)
+not_built DuplicateNode at text ts places lexed parsed h = let s = stopped text ts places duplicate_node lexed parsed h.0 in (s.0, s.1, h.1)
+not_built ReservedName at text ts places lexed parsed h = let s = stopped text ts places reserved_name lexed parsed h.0 in (s.0, s.1, h.1)
+not_built BadPhandle at text ts places lexed parsed h = (numbered text ts places lexed parsed h.0, h.1)
+not_built _ at text ts places lexed parsed h = absurd h.0
+
+pub not_written : (kind : FaultKind) (at : Option ℕ) (text : List ℕ) (ts : Tokens) (places : List Place) (a : Arena) → IsLexed text ts → IsParsed ts places → IsBuilt a places → WhyNoBlob kind (length (written (reading a))) × (at ≡ None) → WhyNotCompiled kind at text
+not_written NoMemory at text ts places a lexed parsed built h = h.1
 not_written Limit at text ts places a lexed parsed built h =
-    big (meaning_of [] built.so_far.events) (reading a) (λ _. 1) (means_of text ts places a lexed parsed built) (represents_of a places built) h
-not_written _ at text ts places a lexed parsed built h = absurd h
+    (big (meaning_of [] built.so_far.events) (reading a) (λ _. 1) (means_of text ts places a lexed parsed built) (represents_of a places built) h.0, h.1)
+not_written _ at text ts places a lexed parsed built h = absurd h.0
 
 -- ---- one meaning
 

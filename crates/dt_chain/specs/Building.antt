@@ -1,13 +1,12 @@
 -- A tree under construction, and the events that it stands for.
-use Rattle.std.specs.Prelude.{◌≡◌, ◌≢◌, ℕ, zero, suc, ◌+◌, ◌<◌, ◌≤◌, true, false, List, [], ◌∷◌, ◌++◌, length, drop, Option, Some, None, is_some, option_map, option_and_then, Result, Ok, Err, codes, ◌⊎◌}
+use Rattle.std.specs.Prelude.{◌≡◌, ◌≢◌, ℕ, suc, ◌<◌, true, false, List, [], ◌∷◌, ◌++◌, length, drop, Option, Some, is_some, option_map, option_and_then, codes}
 use Rattle.std.specs.List.{AllByRecursion}
 use Rattle.dt_model.specs.Names.{Name}
 use Rattle.dt_model.specs.Path.{is_bookkeeping_name}
 use Rattle.dt_model.specs.Tree.{value_of}
 use Rattle.dt_model.specs.Event.{Stack, Event, opening, giving, definition, undefinition, deletion, stands, value_at}
-use Rattle.dt_model.specs.Source.{Part, one, number_of, text_of, Place, child, Events, Body, SoFar, is_among, nothing, enter, read_all, base, too_deep, Refusal}
-use Rattle.dt_flat.specs.Arena.{Arena, Slot, named_children, child_of, properties, depth_of}
-use Rattle.dt_chain.specs.Grammar.{IsUnnumbered}
+use Rattle.dt_model.specs.Source.{Part, one, number_of, text_of, Place, child, Events, Body, SoFar, is_among, nothing, enter}
+use Rattle.dt_flat.specs.Arena.{Arena, Slot, named_children, child_of, properties}
 
 -- the node to which a stack of names leads, the outermost name last
 abbrev pub walk : List Slot → Stack → Option ℕ

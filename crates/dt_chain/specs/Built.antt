@@ -1,13 +1,13 @@
 -- What the builder's steps do, and why it refuses a place.
-use Rattle.std.specs.Prelude.{◌≡◌, ℕ, ◌+◌, ◌<◌, ◌≤◌, ◌⊎◌, List, [], ◌∷◌, ◌++◌, length, Result, Ok, Err, MatchResult}
+use Rattle.std.specs.Prelude.{◌≡◌, ℕ, zero, suc, ◌+◌, ◌<◌, ◌≤◌, ◌⊎◌, List, [], ◌∷◌, ◌++◌, length, Result, Ok, Err, MatchResult}
 use Rattle.std.specs.List.{AllByRecursion}
-use Rattle.dt_model.specs.Names.{Name}
-use Rattle.dt_model.specs.Source.{Place, child, SoFar, base, read, read_all, too_deep, duplicate_property, duplicate_node, reserved_name}
+use Rattle.dt_model.specs.Source.{Place, SoFar, base, read, read_all, too_deep, duplicate_property, duplicate_node, reserved_name}
 use Rattle.dt_names.specs.declared.fault.Fault.{Fault}
 use Rattle.dt_names.specs.declared.fault.FaultKind.{FaultKind}
 use Rattle.dt_names.specs.declared.fault.FaultKind.TheVariants.{NoMemory, Limit, Syntax, DuplicateProperty, DuplicateNode, BadPhandle, ReservedName, Duplicate}
 use Rattle.dt_flat.specs.Arena.{Arena}
 use Rattle.dt_chain.specs.Grammar.{IsUnnumbered}
+use Rattle.dt_chain.specs.Parsing.{depth_behind}
 use Rattle.dt_chain.specs.Building.{Holds, opened, children_in, started}
 use Rattle.dt_chain.specs.Items.{IsOpening}
 
@@ -32,7 +32,7 @@ IsRefused s place = (t : SoFar) → read base s place ≡ Ok t → ⊥
 abbrev pub WhyNotRead : FaultKind → SoFar → Place → Type 0
 WhyNotRead NoMemory s place = Unit {0}
 WhyNotRead Limit s place = (read base s place ≡ Err too_deep) ⊎ ((65536 ≤ opened s.events) × IsOpening place)
-WhyNotRead Syntax s place = IsRefused s place
+WhyNotRead Syntax s place = IsRefused s place × (s.bodies ≡ [])
 WhyNotRead DuplicateProperty s place = read base s place ≡ Err duplicate_property
 WhyNotRead DuplicateNode s place = read base s place ≡ Err duplicate_node
 WhyNotRead ReservedName s place = read base s place ≡ Err reserved_name
@@ -46,6 +46,7 @@ pub record Goes (s : SoFar) (place : Place) (a : Arena) (numbers : List ℕ) : T
   pub holds : Holds a numbers after
   pub unnumbered : IsUnnumbered place
   pub count : opened after.events ≡ opened s.events + children_in (place ∷ [])
+  pub depth : (outer : ℕ) × (length s.bodies ≡ suc outer) × (length after.bodies ≡ depth_behind place (suc outer))
 
 -- what the tree and its open nodes stand for goes on as the place says
 abbrev pub Follows : Place → Arena → List ℕ → Arena → List ℕ → Result (Unit {0}) Fault → Type 0
@@ -64,11 +65,18 @@ pub record IsBuilt (a : Arena) (places : List Place) : Type 0 where
 abbrev pub IsNotBuilt : List Place → Type 0
 IsNotBuilt places = (s : SoFar) → read_all base started places ≡ Ok s → s.bodies ≡ [] → ⊥
 
+-- with so many bodies open, the places go on behind the last close, or end before it
+abbrev pub AreUnbalanced : ℕ → List Place → Type 0
+AreUnbalanced zero [] = ⊥
+AreUnbalanced (suc outer) [] = Unit {0}
+AreUnbalanced zero (place ∷ places) = Unit {0}
+AreUnbalanced (suc outer) (place ∷ places) = AreUnbalanced (depth_behind place (suc outer)) places
+
 -- the places mean nothing, or too much, or memory is wanted
 abbrev pub WhyNotBuilt : FaultKind → List Place → Type 0
 WhyNotBuilt NoMemory places = Unit {0}
 WhyNotBuilt Limit places = (read_all base started places ≡ Err too_deep) ⊎ (65536 < 1 + children_in places)
-WhyNotBuilt Syntax places = IsNotBuilt places
+WhyNotBuilt Syntax places = IsNotBuilt places × AreUnbalanced 1 places
 WhyNotBuilt DuplicateProperty places = read_all base started places ≡ Err duplicate_property
 WhyNotBuilt DuplicateNode places = read_all base started places ≡ Err duplicate_node
 WhyNotBuilt ReservedName places = read_all base started places ≡ Err reserved_name
@@ -81,5 +89,6 @@ pub record IsUnderWay (a : Arena) (numbers : List ℕ) (left all : List Place) :
   pub holds : Holds a numbers so_far
   pub same : read_all base started all ≡ read_all base so_far left
   pub count : opened so_far.events + children_in left ≡ 1 + children_in all
+  pub unbalanced : AreUnbalanced (length so_far.bodies) left → AreUnbalanced 1 all
   pub unnumbered : AllByRecursion IsUnnumbered left → AllByRecursion IsUnnumbered all
   pub unnumbered_left : AllByRecursion IsUnnumbered all → AllByRecursion IsUnnumbered left

@@ -1,5 +1,6 @@
 -- What the compiler answers.
-use Rattle.std.specs.Prelude.{◌≡◌, ℕ, ◌+◌, ◌<◌, ◌≤◌, List, [], length, Err, Option, Some}
+use Rattle.std.specs.Prelude.{◌≡◌, ℕ, ◌+◌, ◌<◌, ◌≤◌, ◌⊎◌, List, ◌∷◌, length, map, Ok, Err, Option, None, Some}
+use Rattle.dt_model.specs.Lists.{IsIn}
 use Rattle.dt_model.specs.Path.{Path}
 use Rattle.dt_model.specs.Meaning.{Meaning}
 use Rattle.dt_model.specs.Tree.{Property, Forest, Reading}
@@ -12,6 +13,9 @@ use Rattle.dt_names.specs.declared.fault.FaultKind.TheVariants.{NoMemory, Limit,
 use Rattle.dt_write.specs.Written.{written}
 use Rattle.dt_chain.specs.declared.lexer.token.Flaw.{Flaw}
 use Rattle.dt_chain.specs.declared.lexer.token.Flaw.TheVariants as flaw
+use Rattle.dt_chain.specs.declared.lexer.token.Mark.TheVariants as mark
+use Rattle.dt_chain.specs.Token as token
+use Rattle.dt_chain.specs.Token.{Placed}
 use Rattle.dt_chain.specs.Lexing.{IsRead, IsLexed}
 use Rattle.dt_chain.specs.Grammar.{Tokens, Says, places_of, TextMeans}
 use Rattle.dt_chain.specs.Parsing.{begun}
@@ -55,20 +59,30 @@ pub data IsTooLarge (text : List ℕ) : Type 0 where
   -- the blob would be longer than 16 MiB
   big : (m : Meaning) (t : Reading) (number : Path → ℕ) → TextMeans text m → Represents t m number → 16777216 < length (written t) → IsTooLarge text
 
+-- a place that a fault of the grammar may tell: that of a token, or the text's end
+abbrev pub IsTokenPlace : Option ℕ → List ℕ → Type 0
+IsTokenPlace at text =
+    (place : ℕ) × (at ≡ Some place) × ((place ≡ length text) ⊎ ((tokens : List Placed) × IsRead text (Ok tokens) × IsIn place (map (λ (t : Placed). t.start) tokens)))
+
+-- its tokens begin with `/dts-v1/;`
+abbrev pub HasTag : List ℕ → Type 0
+HasTag text = (rest : Tokens) × IsLexed text (token.version ∷ token.mark mark.Semicolon ∷ rest)
+
 -- Why a text isn't compiled: memory may be refused at any time; a limit is exceeded; or the text means nothing, as it has
--- this flaw at this place, or as its first place that is refused is refused for this.
+-- this flaw at this place, or as its first place that is refused is refused for this. A fault of the tokens and of the
+-- grammar has a place, any other has none; one of the grammar is that of the tag exactly where the tag isn't there.
 abbrev pub WhyNotCompiled : FaultKind → Option ℕ → List ℕ → Type 0
-WhyNotCompiled NoMemory at text = Unit {0}
-WhyNotCompiled Limit at text = IsTooLarge text
+WhyNotCompiled NoMemory at text = at ≡ None
+WhyNotCompiled Limit at text = IsTooLarge text × (at ≡ None)
 WhyNotCompiled BadToken at text = MeansNothing text × HasFlaw flaw.BadToken at text
 WhyNotCompiled BadInteger at text = MeansNothing text × HasFlaw flaw.BadInteger at text
-WhyNotCompiled BadVersionTag at text = MeansNothing text
-WhyNotCompiled Syntax at text = MeansNothing text
-WhyNotCompiled OutOfRange at text = MeansNothing text
-WhyNotCompiled PropertyAfterNode at text = MeansNothing text
-WhyNotCompiled BadName at text = MeansNothing text
-WhyNotCompiled BadPhandle at text = MeansNothing text
-WhyNotCompiled DuplicateProperty at text = MeansNothing text × IsRefusedFor duplicate_property text
-WhyNotCompiled DuplicateNode at text = MeansNothing text × IsRefusedFor duplicate_node text
-WhyNotCompiled ReservedName at text = MeansNothing text × IsRefusedFor reserved_name text
+WhyNotCompiled BadVersionTag at text = MeansNothing text × (HasTag text → ⊥) × (at ≡ Some 0)
+WhyNotCompiled Syntax at text = MeansNothing text × HasTag text × IsTokenPlace at text
+WhyNotCompiled OutOfRange at text = MeansNothing text × HasTag text × IsTokenPlace at text
+WhyNotCompiled PropertyAfterNode at text = MeansNothing text × HasTag text × IsTokenPlace at text
+WhyNotCompiled BadName at text = MeansNothing text × HasTag text × IsTokenPlace at text
+WhyNotCompiled BadPhandle at text = MeansNothing text × (at ≡ None)
+WhyNotCompiled DuplicateProperty at text = MeansNothing text × IsRefusedFor duplicate_property text × (at ≡ None)
+WhyNotCompiled DuplicateNode at text = MeansNothing text × IsRefusedFor duplicate_node text × (at ≡ None)
+WhyNotCompiled ReservedName at text = MeansNothing text × IsRefusedFor reserved_name text × (at ≡ None)
 WhyNotCompiled _ at text = ⊥

@@ -1,5 +1,5 @@
 -- The lexer's faults as faults of a source.
-use Rattle.std.specs.Prelude.{◌≡◌, Some, None}
+use Rattle.std.specs.Prelude.{Some, None}
 use Rattle.dt_names.specs.declared.fault.Fault.{Fault}
 use Rattle.dt_names.specs.declared.fault.FaultKind.TheVariants as kind
 use Rattle.dt_chain.specs.declared.lexer.LexError.{LexError}

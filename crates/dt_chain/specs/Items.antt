@@ -1,9 +1,9 @@
 -- What the parser's items say, and why tokens are refused.
 use Rattle.std.specs.Prelude.{◌≡◌, ℕ, suc, ◌-◌, ◌≤◌, ◌⊎◌, Bool, false, List, [], ◌∷◌, ◌++◌, map, Option, Some, None}
+use Rattle.dt_model.specs.Lists.{IsIn}
 use Rattle.dt_model.specs.Source.{Place, child, property, close, one}
 use Rattle.dt_names.specs.declared.fault.FaultKind.{FaultKind}
 use Rattle.dt_names.specs.declared.fault.FaultKind.TheVariants.{NoMemory, Limit, BadVersionTag, Syntax, OutOfRange, PropertyAfterNode, BadName}
-use Rattle.dt_chain.specs.declared.lexer.token.Mark.{Mark}
 use Rattle.dt_chain.specs.declared.lexer.token.Mark.TheVariants as mark
 use Rattle.dt_chain.specs.declared.lexer.token.Token as lexer
 use Rattle.dt_chain.specs.declared.parser.Item.{Item}
@@ -21,6 +21,31 @@ place_of item.Close = close
 -- the tokens of a list, without their places
 abbrev pub kinds : List lexer.Token → Tokens
 kinds ts = map (λ (t : lexer.Token). token.token_of t.kind) ts
+
+-- where the tokens of a list begin
+abbrev pub starts : List lexer.Token → List ℕ
+starts ts = map (λ (t : lexer.Token). t.start) ts
+
+-- the rest is what stands behind some front of the tokens
+pub record IsRestOf (ts rest : List lexer.Token) : Type 0 where
+  pub front : List lexer.Token
+  pub split : ts ≡ front ++ rest
+
+-- the start of one of the tokens, or the end of the text
+abbrev pub IsPlaceOf : List lexer.Token → ℕ → Option ℕ → Type 0
+IsPlaceOf ts end at = (place : ℕ) × (at ≡ Some place) × ((place ≡ end) ⊎ IsIn place (starts ts))
+
+-- where a fault of a kind is told: a refusal of memory and a limit nowhere, a tag that isn't there at the text's start,
+-- any other at a token's start or at the text's end
+abbrev pub MayBeAt : FaultKind → List lexer.Token → ℕ → Option ℕ → Type 0
+MayBeAt NoMemory ts end at = at ≡ None
+MayBeAt Limit ts end at = at ≡ None
+MayBeAt BadVersionTag ts end at = at ≡ Some 0
+MayBeAt _ ts end at = IsPlaceOf ts end at
+
+-- a fault of this kind is told there
+pub record IsToldAt (kind : FaultKind) (at : Option ℕ) (ts : List lexer.Token) (end : ℕ) : Type 0 where
+  pub place : MayBeAt kind ts end at
 
 -- the bytes at the end of new are what the tokens say, up to the place that is left
 pub record TakesBytes (from to : Within) (ts : Tokens) (old new : List ℕ) (rest : Tokens) : Type 0 where
@@ -58,6 +83,16 @@ IsOpening _ = ⊥
 -- the fault of a source's front
 abbrev pub IsFrontFault : FaultKind → Type 0
 IsFrontFault kind = (kind ≡ BadVersionTag) ⊎ (kind ≡ Syntax)
+
+-- the tokens begin with `/dts-v1/;`
+abbrev pub IsTagged : Tokens → Type 0
+IsTagged ts = (rest : Tokens) × (ts ≡ token.version ∷ token.mark mark.Semicolon ∷ rest)
+
+-- a fault of the grammar is that of the tag exactly where the tokens don't begin with it
+abbrev pub TellsTag : FaultKind → Tokens → Type 0
+TellsTag NoMemory ts = Unit {0}
+TellsTag BadVersionTag ts = IsTagged ts → ⊥
+TellsTag _ ts = IsTagged ts
 
 -- more than 65 bodies lie in one another, where so many are open
 abbrev pub IsTooDeep : ℕ → Tokens → Type 0

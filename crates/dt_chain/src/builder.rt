@@ -1,6 +1,6 @@
 //! The tree that the items of a source mean (Devicetree Specification v0.4, 6).
 
-ghost use Rattle.std.specs.Prelude.{◌≡◌, ◌≢◌, ◌⊎◌, false, ◌<◌, ◌++◌, ◌∷◌, [], ℕ, IsOk, IsTrue, ◌↔◌, true, OnOk, MatchResult, MatchOption, length, map, slice_get, Some};
+ghost use Rattle.std.specs.Prelude.{◌≡◌, ◌≢◌, ◌⊎◌, false, ◌<◌, ◌++◌, ◌∷◌, [], ℕ, IsOk, IsTrue, ◌↔◌, true, OnOk, MatchResult, MatchOption, length, map, slice_get, Some, None, IfErr};
 ghost use Rattle.std.specs.Bool.{OnTrue, OnFalse};
 ghost use Rattle.dt_model.specs.Path.{is_bookkeeping_name};
 ghost use Rattle.dt_model.specs.Source.{SoFar, child, property, close, one};
@@ -46,7 +46,8 @@ fn push(stack: &mut Vec<NodeId>, node: NodeId) -> Result<(), AllocError>
 
 /// The fault of a source where a tree refused a node.
 fn of_source(fault: Fault) -> Fault
-    ensures { WhyNoChild fault.kind result.kind }
+    ensures kind { WhyNoChild fault.kind result.kind }
+    ensures place { fault.at ≡ None → result.at ≡ None }
 {
     match fault.kind {
         FaultKind::Duplicate => Fault::of(FaultKind::DuplicateNode),
@@ -69,6 +70,7 @@ impl Builder {
     fn open(&mut self, name: &NodeName<'_>) -> Result<(), Fault>
         requires { AreInside self.old.tree self.old.stack.items }
         ensures inside { OnOk result (AreInside self.new.tree self.new.stack.items) }
+        ensures place { IfErr result (λ fault. fault.at ≡ None) }
         ensures meaning { Follows (child name.now)
             self.old.tree self.old.stack.items self.new.tree self.new.stack.items result }
     {
@@ -93,6 +95,7 @@ impl Builder {
     fn define(&mut self, name: &PropName<'_>, value: &[u8]) -> Result<(), Fault>
         requires { AreInside self.old.tree self.old.stack.items }
         ensures inside { OnOk result (AreInside self.new.tree self.new.stack.items) }
+        ensures place { IfErr result (λ fault. fault.at ≡ None) }
         ensures meaning { Follows (property name.now (map one value.now))
             self.old.tree self.old.stack.items self.new.tree self.new.stack.items result }
     {
@@ -113,6 +116,7 @@ impl Builder {
     fn close(&mut self) -> Result<(), Fault>
         requires { AreInside self.old.tree self.old.stack.items }
         ensures inside { OnOk result (AreInside self.new.tree self.new.stack.items) }
+        ensures place { IfErr result (λ fault. fault.at ≡ None) }
         ensures meaning { Follows close self.old.tree self.old.stack.items self.new.tree self.new.stack.items result }
     {
         match self.stack.pop() {
@@ -125,6 +129,7 @@ impl Builder {
     fn step(&mut self, item: &Item<'_>) -> Result<(), Fault>
         requires { AreInside self.old.tree self.old.stack.items }
         ensures inside { OnOk result (AreInside self.new.tree self.new.stack.items) }
+        ensures place { IfErr result (λ fault. fault.at ≡ None) }
         ensures meaning { Follows (place_of item.now)
             self.old.tree self.old.stack.items self.new.tree self.new.stack.items result }
     {
@@ -140,7 +145,7 @@ impl Builder {
 pub fn build(alloc: Global, items: &[Item<'_>]) -> Result<FlatTree, Fault>
     ensures { MatchResult result
         (λ tree. IsBuilt tree (map place_of items.now))
-        (λ fault. WhyNotBuilt fault.kind (map place_of items.now)) }
+        (λ fault. WhyNotBuilt fault.kind (map place_of items.now) × (fault.at ≡ None)) }
 {
     let tree = FlatTree::new(alloc, 0);
     let mut stack = Vec::new(alloc);

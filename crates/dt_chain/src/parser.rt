@@ -7,7 +7,7 @@ ghost use Rattle.dt_chain.specs.Token.{version, name, integer, text, mark};
 ghost use Rattle.dt_chain.specs.Grammar.{Tokens, cell_of};
 ghost use Rattle.dt_chain.specs.Parsing.{fits_cell, value_in, Within, before, behind, cells, ItemAt, Parses, begun, depth_behind, late_behind};
 ghost use Rattle.dt_model.specs.Names.{IsPropertyName};
-ghost use Rattle.dt_chain.specs.Items.{place_of, kinds, IsOutOfPlace, IsOpening, IsFrontFault, TakesBytes, WhyNoValue, WhyNoItem, WhyNotParsed, IsParsed};
+ghost use Rattle.dt_chain.specs.Items.{place_of, kinds, IsOutOfPlace, IsOpening, IsFrontFault, TakesBytes, WhyNoValue, WhyNoItem, WhyNotParsed, IsParsed, IsRestOf, IsPlaceOf, IsToldAt, TellsTag};
 ghost use Rattle.dt_names.specs.declared.fault.FaultKind.TheVariants.{Syntax};
 
 use crate::lexer::token::{Kind, Mark, Token};
@@ -30,7 +30,8 @@ pub enum Item<'a> {
 
 /// A fault at the first of the tokens, or at the end of the text where none is left.
 fn fault_at(kind: FaultKind, tokens: &[Token<'_>], end: usize) -> Fault
-    ensures { result.kind ≡ kind }
+    ensures kind { result.kind ≡ kind }
+    ensures place { IsPlaceOf tokens.now end result.at }
 {
     match tokens.first() {
         Some(token) => Fault::at(kind, token.start),
@@ -39,9 +40,11 @@ fn fault_at(kind: FaultKind, tokens: &[Token<'_>], end: usize) -> Fault
 }
 
 /// The tokens behind a mark.
+#[tactic(auto, using(crate::proofs::Places::rest_behind))]
 fn after_mark<'t, 'a>(tokens: &'t [Token<'a>], wanted: Mark) -> Option<&'t [Token<'a>]>
     ensures some { IfSome result (λ rest. kinds tokens.now ≡ mark wanted ∷ kinds rest.now) }
     ensures none { IfNone result ((ts : Tokens) → kinds tokens.now ≡ mark wanted ∷ ts → ⊥) }
+    ensures rest { IfSome result (λ rest. IsRestOf tokens.now rest.now) }
     ensures shorter { IfSome result (λ rest. length rest.now < length tokens.now) }
 {
     let (first, rest) = tokens.split_first()?;
@@ -60,6 +63,8 @@ fn expect<'t, 'a>(
     ensures ok { IfOk result (λ rest. kinds tokens.now ≡ mark wanted ∷ kinds rest.now) }
     ensures err { IfErr result
         (λ fault. (fault.kind ≡ Syntax) × ((ts : Tokens) → kinds tokens.now ≡ mark wanted ∷ ts → ⊥)) }
+    ensures place { IfErr result (λ fault. IsToldAt fault.kind fault.at tokens.now end) }
+    ensures rest { IfOk result (λ rest. IsRestOf tokens.now rest.now) }
     ensures shorter { IfOk result (λ rest. length rest.now < length tokens.now) }
 {
     match after_mark(tokens, wanted) {
@@ -72,6 +77,7 @@ fn expect<'t, 'a>(
 fn after_version<'t, 'a>(tokens: &'t [Token<'a>]) -> Option<&'t [Token<'a>]>
     ensures some { IfSome result (λ rest. kinds tokens.now ≡ version ∷ mark marks.Semicolon ∷ kinds rest.now) }
     ensures none { IfNone result ((ts : Tokens) → kinds tokens.now ≡ version ∷ mark marks.Semicolon ∷ ts → ⊥) }
+    ensures rest { IfSome result (λ rest. IsRestOf tokens.now rest.now) }
 {
     let (first, rest) = tokens.split_first()?;
     match first.kind {
@@ -81,9 +87,11 @@ fn after_version<'t, 'a>(tokens: &'t [Token<'a>]) -> Option<&'t [Token<'a>]>
 }
 
 /// A name, and the tokens behind it.
+#[tactic(auto, using(crate::proofs::Places::rest_behind))]
 fn after_name<'t, 'a>(tokens: &'t [Token<'a>]) -> Option<(&'a [u8], &'t [Token<'a>])>
     ensures some { IfSome result (λ found. kinds tokens.now ≡ name found.0.now ∷ kinds found.1.now) }
     ensures none { IfNone result ((n : List ℕ) (ts : Tokens) → kinds tokens.now ≡ name n ∷ ts → ⊥) }
+    ensures rest { IfSome result (λ found. IsRestOf tokens.now found.1.now) }
     ensures shorter { IfSome result (λ found. length found.1.now < length tokens.now) }
 {
     let (first, rest) = tokens.split_first()?;
@@ -94,11 +102,13 @@ fn after_name<'t, 'a>(tokens: &'t [Token<'a>]) -> Option<(&'a [u8], &'t [Token<'
 }
 
 /// A name with `{`, and the tokens behind them.
+#[tactic(auto, using(crate::proofs::Places::rest_on))]
 fn after_opening<'t, 'a>(tokens: &'t [Token<'a>]) -> Option<(&'a [u8], &'t [Token<'a>])>
     ensures some { IfSome result
         (λ found. kinds tokens.now ≡ name found.0.now ∷ mark marks.OpenBrace ∷ kinds found.1.now) }
     ensures none { IfNone result
         ((n : List ℕ) (ts : Tokens) → kinds tokens.now ≡ name n ∷ mark marks.OpenBrace ∷ ts → ⊥) }
+    ensures rest { IfSome result (λ found. IsRestOf tokens.now found.1.now) }
     ensures shorter { IfSome result (λ found. length found.1.now < length tokens.now) }
 {
     let (name, behind) = after_name(tokens)?;
@@ -107,9 +117,11 @@ fn after_opening<'t, 'a>(tokens: &'t [Token<'a>]) -> Option<(&'a [u8], &'t [Toke
 }
 
 /// A text, and the tokens behind it.
+#[tactic(auto, using(crate::proofs::Places::rest_behind))]
 fn after_text<'t, 'a>(tokens: &'t [Token<'a>]) -> Option<(&'a [u8], &'t [Token<'a>])>
     ensures some { IfSome result (λ found. kinds tokens.now ≡ text found.0.now ∷ kinds found.1.now) }
     ensures none { IfNone result ((bytes : List ℕ) (ts : Tokens) → kinds tokens.now ≡ text bytes ∷ ts → ⊥) }
+    ensures rest { IfSome result (λ found. IsRestOf tokens.now found.1.now) }
     ensures shorter { IfSome result (λ found. length found.1.now < length tokens.now) }
 {
     let (first, rest) = tokens.split_first()?;
@@ -120,9 +132,11 @@ fn after_text<'t, 'a>(tokens: &'t [Token<'a>]) -> Option<(&'a [u8], &'t [Token<'
 }
 
 /// An integer, and the tokens behind it.
+#[tactic(auto, using(crate::proofs::Places::rest_behind))]
 fn after_integer<'t, 'a>(tokens: &'t [Token<'a>]) -> Option<(u64, &'t [Token<'a>])>
     ensures some { IfSome result (λ found. kinds tokens.now ≡ integer found.0 ∷ kinds found.1.now) }
     ensures none { IfNone result ((n : ℕ) (ts : Tokens) → kinds tokens.now ≡ integer n ∷ ts → ⊥) }
+    ensures rest { IfSome result (λ found. IsRestOf tokens.now found.1.now) }
     ensures shorter { IfSome result (λ found. length found.1.now < length tokens.now) }
 {
     let (first, rest) = tokens.split_first()?;
@@ -167,6 +181,8 @@ fn cell<'t, 'a>(
     ensures none { IfOk result (λ found. IfNone found
         ((bytes.new.items ≡ bytes.old.items) × ((n : ℕ) (ts : Tokens) → kinds tokens.now ≡ integer n ∷ ts → ⊥))) }
     ensures err { IfErr result (λ fault. WhyNoValue fault.kind (value_in cells (kinds tokens.now))) }
+    ensures place { IfErr result (λ fault. IsToldAt fault.kind fault.at tokens.now end) }
+    ensures rest { IfOk result (λ found. IfSome found (λ rest. IsRestOf tokens.now rest.now)) }
     ensures shorter { IfOk result (λ found. IfSome found (λ rest. length rest.now < length tokens.now)) }
 {
     let Some((number, rest)) = after_integer(tokens) else {
@@ -189,6 +205,8 @@ fn cells<'t, 'a>(
     ensures exact { MatchResult result
         (λ rest. TakesBytes before behind (kinds tokens.now) bytes.old.items bytes.new.items (kinds rest.now))
         (λ fault. WhyNoValue fault.kind (value_in before (kinds tokens.now))) }
+    ensures place { IfErr result (λ fault. IsToldAt fault.kind fault.at tokens.now end) }
+    ensures rest { IfOk result (λ rest. IsRestOf tokens.now rest.now) }
     ensures shorter { IfOk result (λ rest. length rest.now < length tokens.now) }
 {
     let mut rest = expect(tokens, Mark::Less, end)?;
@@ -207,6 +225,8 @@ fn component<'t, 'a>(
     ensures exact { MatchResult result
         (λ rest. TakesBytes before behind (kinds tokens.now) bytes.old.items bytes.new.items (kinds rest.now))
         (λ fault. WhyNoValue fault.kind (value_in before (kinds tokens.now))) }
+    ensures place { IfErr result (λ fault. IsToldAt fault.kind fault.at tokens.now end) }
+    ensures rest { IfOk result (λ rest. IsRestOf tokens.now rest.now) }
     ensures shorter { IfOk result (λ rest. length rest.now < length tokens.now) }
 {
     let Some((text, rest)) = after_text(tokens) else {
@@ -217,6 +237,7 @@ fn component<'t, 'a>(
 }
 
 /// The bytes of a value, and the tokens behind its `;`.
+#[tactic(auto, using(crate::proofs::Places::rest_on, crate::proofs::Places::told_on))]
 fn value<'t, 'a>(
     alloc: Global,
     tokens: &'t [Token<'a>],
@@ -225,6 +246,8 @@ fn value<'t, 'a>(
     ensures exact { MatchResult result
         (λ found. value_in before (kinds tokens.now) ≡ Some (found.0.items, kinds found.1.now))
         (λ fault. WhyNoValue fault.kind (value_in before (kinds tokens.now))) }
+    ensures place { IfErr result (λ fault. IsToldAt fault.kind fault.at tokens.now end) }
+    ensures rest { IfOk result (λ found. IsRestOf tokens.now found.1.now) }
     ensures shorter { IfOk result (λ found. length found.1.now < length tokens.now) }
 {
     let mut bytes = Vec::new(alloc);
@@ -245,8 +268,10 @@ fn property_name<'a>(
     late: bool,
     end: usize,
 ) -> Result<PropName<'a>, Fault>
+    requires { IsRestOf tokens.now behind.now }
     ensures ok { IfOk result (λ found. (found ≡ name.now) × IsPropertyName name.now × (late ≡ false)) }
     ensures err { IfErr result (λ fault. IsOutOfPlace fault.kind × (IsPropertyName name.now → late ≡ false → ⊥)) }
+    ensures place { IfErr result (λ fault. IsToldAt fault.kind fault.at tokens.now end) }
 {
     let Ok(name) = PropName::new(name) else {
         return Err(fault_at(FaultKind::BadName, tokens, end));
@@ -258,6 +283,7 @@ fn property_name<'a>(
 }
 
 /// A property whose name stands at the front, and the tokens behind it.
+#[tactic(auto, using(crate::proofs::Places::rest_on, crate::proofs::Places::told_on))]
 fn property<'t, 'a>(
     alloc: Global,
     tokens: &'t [Token<'a>],
@@ -269,6 +295,8 @@ fn property<'t, 'a>(
     ensures exact { MatchResult result
         (λ found. ItemAt late (kinds tokens.now) (place_of found.0) (kinds found.1.now))
         (λ fault. WhyNoItem fault.kind late (kinds tokens.now)) }
+    ensures place { IfErr result (λ fault. IsToldAt fault.kind fault.at tokens.now end) }
+    ensures rest { IfOk result (λ found. IsRestOf tokens.now found.1.now) }
     ensures shorter { IfOk result (λ found. length found.1.now < length tokens.now) }
 {
     let Some((name, behind)) = after_name(tokens) else {
@@ -285,6 +313,7 @@ fn property<'t, 'a>(
 }
 
 /// The item at the front, and the tokens behind it; `late` says that a child has stood in the body.
+#[tactic(auto, using(crate::proofs::Places::rest_on, crate::proofs::Places::told_on))]
 fn next_item<'t, 'a>(
     alloc: Global,
     tokens: &'t [Token<'a>],
@@ -294,6 +323,8 @@ fn next_item<'t, 'a>(
     ensures exact { MatchResult result
         (λ found. ItemAt late (kinds tokens.now) (place_of found.0) (kinds found.1.now))
         (λ fault. WhyNoItem fault.kind late (kinds tokens.now)) }
+    ensures place { IfErr result (λ fault. IsToldAt fault.kind fault.at tokens.now end) }
+    ensures rest { IfOk result (λ found. IsRestOf tokens.now found.1.now) }
     ensures shorter { IfOk result (λ found. length found.1.now < length tokens.now) }
 {
     if let Some(behind) = after_mark(tokens, Mark::CloseBrace) {
@@ -339,10 +370,14 @@ fn put_item<'a>(items: &mut Vec<Item<'a>>, item: Item<'a>) -> Result<(), AllocEr
 }
 
 /// The tokens behind the version tag and the opening of the root's body.
+#[tactic(auto, using(crate::proofs::Places::rest_on, crate::proofs::Places::told_on, crate::proofs::Places::tag_missing, crate::proofs::Places::tag_there))]
 fn after_front<'t, 'a>(tokens: &'t [Token<'a>], end: usize) -> Result<&'t [Token<'a>], Fault>
     ensures ok { IfOk result (λ rest. kinds tokens.now ≡ begun (kinds rest.now)) }
     ensures err { IfErr result
         (λ fault. IsFrontFault fault.kind × ((body : Tokens) → kinds tokens.now ≡ begun body → ⊥)) }
+    ensures tag { IfErr result (λ fault. TellsTag fault.kind (kinds tokens.now)) }
+    ensures place { IfErr result (λ fault. IsToldAt fault.kind fault.at tokens.now end) }
+    ensures rest { IfOk result (λ rest. IsRestOf tokens.now rest.now) }
 {
     let Some(rest) = after_version(tokens) else {
         return Err(Fault::at(FaultKind::BadVersionTag, 0));
@@ -354,9 +389,11 @@ fn after_front<'t, 'a>(tokens: &'t [Token<'a>], end: usize) -> Result<&'t [Token
 /// The items of a source, up to the end of the root's body, which is the end of the tokens; `end` is the length of the
 /// text. Where there is no such source the fault stands at the first token that shows it.
 pub fn parse<'a>(alloc: Global, tokens: &[Token<'a>], end: usize) -> Result<Vec<Item<'a>>, Fault>
-    ensures { MatchResult result
+    ensures exact { MatchResult result
         (λ items. IsParsed (kinds tokens.now) (map place_of items.items))
         (λ fault. WhyNotParsed fault.kind (kinds tokens.now)) }
+    ensures tag { IfErr result (λ fault. TellsTag fault.kind (kinds tokens.now)) }
+    ensures place { IfErr result (λ fault. IsToldAt fault.kind fault.at tokens.now end) }
 {
     let mut rest = after_front(tokens, end)?;
     let mut items = Vec::new(alloc);

@@ -1,5 +1,8 @@
 -- What the words of a command line ask for, as clap reads them.
 use Rattle.std.specs.Prelude.{◌≡◌, ◌≢◌, ◌⊎◌, [], List, Option, Some, true, false, codes}
+use Rattle.std.specs.IoError.{error_kind}
+use Rattle.std.specs.declared.io.Error as io
+use Rattle.std.specs.declared.io.ErrorKind.TheVariants as kind
 use Rattle.clap.specs.Words.{App, Row, Rule, Text, IsAmong, fault_of, first_of, kind_of, new_app, new_rule, one_of, subcommand_of, with_rule, with_subcommand}
 use Rattle.clap.specs.declared.builder.action.ArgAction.TheVariants.{SetTrue}
 use Rattle.clap.specs.declared.error.kind.ErrorKind.TheVariants.{MissingSubcommand, OutOfMemory}
@@ -62,3 +65,9 @@ abbrev pub Tells : Error → LineFault → Type 0
 Tells error Memory = kind_of error ≡ OutOfMemory
 Tells error (Unread _) = ⊥
 Tells error (Words same) = (same ≡ error) × (kind_of error ≢ OutOfMemory)
+
+-- how the error of a command line that can't be had is passed on
+abbrev pub TellsUnread : io.Error → LineFault → Type 0
+TellsUnread error Memory = error_kind error ≡ kind.OutOfMemory
+TellsUnread error (Unread same) = (same ≡ error) × (error_kind error ≢ kind.OutOfMemory)
+TellsUnread error (Words _) = ⊥

@@ -2,7 +2,7 @@
 
 ghost use Rattle.std.specs.Prelude.{◌≡◌, map, IfOk, IfErr, MatchOption};
 ghost use Rattle.clap.specs.Words.{app_of, subcommand_rows_of};
-ghost use Rattle.dtool.specs.Words.{IsLine, Names, NamesNone, Tells, WhyNoLine, dtool};
+ghost use Rattle.dtool.specs.Words.{IsLine, Names, NamesNone, Tells, TellsUnread, WhyNoLine, dtool};
 ghost use Rattle.dtool.specs.declared.words.LineFault.TheVariants.{Memory};
 
 use crate::job::Job;
@@ -48,6 +48,8 @@ impl From<AllocError> for LineFault {
 }
 
 impl From<io::Error> for LineFault {
+    ghost from_gives = { TellsUnread };
+
     fn from(error: io::Error) -> LineFault {
         match error.kind() {
             io::ErrorKind::OutOfMemory => LineFault::Memory,

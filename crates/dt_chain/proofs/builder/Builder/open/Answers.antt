@@ -3,7 +3,7 @@ use Rattle.dt_model.specs.Path.{is_bookkeeping_name}
 use Rattle.dt_names.specs.declared.fault.FaultKind.{FaultKind}
 use Rattle.dt_model.specs.Source.{child}
 use Rattle.dt_chain.specs.Built.{WhyNotRead}
-use Rattle.dt_chain.proofs.Builds.{child_goes, child_reserved, child_refused, inside_child}
+use Rattle.dt_chain.proofs.Builds.{child_goes, outside_child, child_reserved, child_refused, inside_child}
 use Rattle.dt_chain.proofs.builder.Builder.open.Goals as goal
 
 pub returns-then-is_reserved-clause-meaning : goal.returns-then-is_reserved-clause-meaning
@@ -31,4 +31,8 @@ returns-in-Err-clause-meaning c = λ s h.
     let free : (c.in-Some.parent ≢ 0) ⊎ (is_bookkeeping_name c.args.name.now ≡ false) =
     subst (λ (n : List ℕ). (c.in-Some.parent ≢ 0) ⊎ (is_bookkeeping_name n ≡ false)) c.as_bytes.ensures.value c.if-is_reserved.ensures.free in
     child_refused c.in-Err.fault.kind c.of_source.result.kind c.args.self.now.tree c.args.self.now.stack.items c.in-Some.parent c.args.name.now s c.root-root.ensures.rooted c.in-Some.ensures.0 c.in-Some.ensures.1 free
-    c.in-Err.ensures.refused.0 c.of_source.ensures h
+    c.in-Err.ensures.refused.0 c.of_source.ensures.kind h
+
+pub returns-in_default-clause-meaning : goal.returns-in_default-clause-meaning
+returns-in_default-clause-meaning c = λ s h.
+    outside_child c.of.result.kind c.args.self.now.tree c.args.self.now.stack.items c.args.name.now s c.of.ensures.kind c.in_default.ensures h
