@@ -6,6 +6,7 @@
 //! be; where no rule has one, the text has its first fault.
 #![tactic(auto)]
 
-pub mod byte;
-pub mod rule;
-pub mod token;
+mod byte;
+mod rule;
+mod token;
+mod word;
