@@ -46,7 +46,7 @@ then_word Q k s t e (Some rest) (w, l) = (
 )
 
 -- a front of bytes that pass a test ends where a byte doesn't
-each_most : (p : ℕ → Bool) (w t u x : List ℕ) → w ++ t ≡ u ++ x → Each p w → Stops p t → Each p u → length u ≤ length w
+pub each_most : (p : ℕ → Bool) (w t u x : List ℕ) → w ++ t ≡ u ++ x → Each p w → Stops p t → Each p u → length u ≤ length w
 each_most p w t [] x e a b c = omega arith
 each_most p [] [] (d ∷ u) x e a b c = cc
 each_most p [] (f ∷ t) (d ∷ u) x e a b c = let same : f ≡ d = cc in let g = ap p same in let h = c.0 in cc
@@ -152,7 +152,7 @@ Closed p q = Then (Without (p ∷ q ∷ [])) (Word (p ∷ q ∷ []))
 same_tail : (b c : ℕ) (u v : List ℕ) → b ∷ u ≡ c ∷ v → u ≡ v
 same_tail b c u v e = cc
 
-same_head : (b c : ℕ) (u v : List ℕ) → b ∷ u ≡ c ∷ v → b ≡ c
+pub same_head : (b c : ℕ) (u v : List ℕ) → b ∷ u ≡ c ∷ v → b ≡ c
 same_head b c u v e = cc
 
 module _ (p q : ℕ) where

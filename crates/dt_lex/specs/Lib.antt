@@ -4,6 +4,7 @@ pub mod Words
 pub mod Numbers
 pub mod Vocabulary
 pub mod Texts
+pub mod Letters
 pub mod Rules
 pub mod Outcomes
 pub mod Lexing

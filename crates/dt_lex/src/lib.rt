@@ -7,6 +7,7 @@
 #![tactic(auto)]
 
 mod byte;
+mod quoted;
 mod rule;
 mod token;
 mod word;

@@ -1,4 +1,4 @@
-use Rattle.std.proofs.Common.{ℕ, List, Some}
+use Rattle.std.proofs.Common.{Some}
 use Rattle.dt_lex.specs.Bytes.{is_in}
 use Rattle.dt_lex.specs.Words.{Each}
 use Rattle.dt_lex.specs.declared.byte.Class.TheVariants as class

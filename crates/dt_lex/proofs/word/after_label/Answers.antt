@@ -1,7 +1,7 @@
-use Rattle.std.proofs.Common.{[], ◌∷◌, None, refl, true, false, ◌≡◌}
+use Rattle.std.proofs.Common.{[], ◌∷◌, refl}
 use Rattle.dt_lex.specs.declared.byte.Class.TheVariants as class
 use Rattle.dt_lex.specs.Bytes.{is_in}
-use Rattle.dt_lex.specs.Words.{Each, Word, Starting}
+use Rattle.dt_lex.specs.Words.{Each, Word}
 use Rattle.dt_lex.proofs.WordLemmas.{no_first, not_starting, then_run, stops_word, starts_label}
 use Rattle.dt_lex.proofs.word.after_label.Goals as goal
 
