@@ -138,6 +138,12 @@ module _ (q : ℕ) (no_octal : octal q ≡ false) (no_hex : hex q ≡ false) whe
   form_without (hex_form ds d) (c ∷ []) z e l = omega arith
   form_without (hex_form ds d) (c ∷ f ∷ a) z e l = let t = each_at hex ds a q z (cc) d.all in let g : true ≡ false = sym t ∙ no_hex in cc
 
+pub octal_escape : (ds : List ℕ) → Digits octal 3 ds → Escape (92 ∷ ds)
+octal_escape ds d = (number_behind 8 0 (digits octal ds) % 256, vocabulary.octal (92 ∷ ds) (92 ∷ [], ds, refl, refl, are_octal ds d))
+
+pub hex_escape : (ds : List ℕ) → Digits hex 2 ds → Escape (92 ∷ 120 ∷ ds)
+hex_escape ds d = (number_behind 16 0 (digits hex ds), vocabulary.hex (92 ∷ 120 ∷ ds) (92 ∷ 120 ∷ [], ds, refl, refl, are_hex ds d))
+
 -- ---- the longest escape
 
 up_to_most : (p : ℕ → Bool) (n : ℕ) (w t u x : List ℕ) → w ++ t ≡ u ++ x → Each p w → ((length w ≡ n) ⊎ Stops p t) → Digits p n u → length u ≤ length w
@@ -157,7 +163,7 @@ module _ (ds t : List ℕ) (d : Digits octal 3 ds) (ends : (length ds ≡ 3) ⊎
   pub octal_longest : (s : List ℕ) → s ≡ 92 ∷ (ds ++ t) → IsLongestWord Escape s (92 ∷ ds) t
   octal_longest s e = record {
     split = e;
-    fits = (number_behind 8 0 (digits octal ds) % 256, vocabulary.octal (92 ∷ ds) (92 ∷ [], ds, refl, refl, are_octal ds d));
+    fits = octal_escape ds d;
     longest = λ v more f g. octal_most (of_escape v g).1 more (sym e ∙ f);
   }
 
@@ -170,7 +176,7 @@ module _ (ds t : List ℕ) (d : Digits hex 2 ds) (ends : (length ds ≡ 2) ⊎ S
   pub hex_longest : (s : List ℕ) → s ≡ 92 ∷ 120 ∷ (ds ++ t) → IsLongestWord Escape s (92 ∷ 120 ∷ ds) t
   hex_longest s e = record {
     split = e;
-    fits = (number_behind 16 0 (digits hex ds), vocabulary.hex (92 ∷ 120 ∷ ds) (92 ∷ 120 ∷ [], ds, refl, refl, are_hex ds d));
+    fits = hex_escape ds d;
     longest = λ v more f g. hex_most (of_escape v g).1 more (sym e ∙ f);
   }
 

@@ -6,5 +6,8 @@ pub mod Vocabulary
 pub mod Texts
 pub mod Letters
 pub mod Rules
+pub mod Leaders
 pub mod Outcomes
 pub mod Lexing
+pub mod Pieces
+pub mod Spans

@@ -7,7 +7,19 @@
 #![tactic(auto)]
 
 mod byte;
+mod cut;
+mod laws;
+mod leader;
+mod letter;
+mod lexer;
+mod number;
+mod outcome;
 mod quoted;
 mod rule;
 mod token;
 mod word;
+
+pub use laws::{one_answer, texts_are_read};
+pub use letter::push_text;
+pub use lexer::{TEXT_LIMIT, tokens};
+pub use token::{Keyword, Mark, Token, TokenKind};

@@ -27,7 +27,7 @@ fn after_up_to(text: &[u8], class: Class, count: usize) -> &[u8]
     ensures exact { RunsUpTo (is_in class) count text.now result.now }
 {
     let mut rest = text;
-    for taken in 0..count {
+    for _taken in 0..count {
         let Some(later) = after_one(rest, class) else {
             return rest;
         };

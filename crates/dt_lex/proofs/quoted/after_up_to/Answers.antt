@@ -22,5 +22,5 @@ loop-taken-preserved c =
 pub returns : goal.returns
 returns c =
     let kept = c.loop-taken.invariant in
-    let all : length kept.0 ≡ c.args.count = omega (arith, c.loop-taken-test.false, c.loop-taken.auto.taken-end, kept.3) in
-    record { exact = (kept.0, kept.1, kept.2, omega (arith, c.loop-taken.auto.taken-end, kept.3), inl all) }
+    let all : length kept.0 ≡ c.args.count = omega (arith, c.loop-taken-test.false, c.loop-taken.auto._taken-end, kept.3) in
+    record { exact = (kept.0, kept.1, kept.2, omega (arith, c.loop-taken.auto._taken-end, kept.3), inl all) }

@@ -4,4 +4,4 @@ use Rattle.dt_lex.specs.Words.{Each}
 use Rattle.dt_lex.proofs.quoted.after_up_to.Given as goal
 
 abbrev pub invariant-loop-taken : goal.invariant-loop-taken
-invariant-loop-taken l = (w : List ℕ) × (l.text ≡ w ++ l.rest) × Each (is_in l.class) w × (length w ≡ l.taken)
+invariant-loop-taken l = (w : List ℕ) × (l.text ≡ w ++ l.rest) × Each (is_in l.class) w × (length w ≡ l._taken)
