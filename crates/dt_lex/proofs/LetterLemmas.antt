@@ -1,5 +1,5 @@
 -- Letters at the front of a text, and what they make between quotes.
-use Rattle.std.proofs.Common.{◌≡◌, ℕ, ◌+◌, ◌<◌, ◌≤◌, true, false, List, [], ◌∷◌, ◌++◌, length, Option, Some, None, inl, inr, ⊎_elim, refl, sym, ◌∙◌, ap, subst, append_assoc, arith, length-append}
+use Rattle.std.proofs.Common.{◌≡◌, ℕ, ◌<◌, ◌≤◌, true, false, List, [], ◌∷◌, ◌++◌, length, Option, Some, None, inl, inr, ⊎_elim, refl, sym, ◌∙◌, ap, subst, append_assoc, arith, length-append}
 use Rattle.std.specs.Prelude.{slice_index}
 use Rattle.std.specs.Borrow.{Bor}
 use Rattle.std.proofs.str.Laws.{order}
@@ -7,7 +7,7 @@ use Rattle.dt_lex.specs.declared.byte.Class.{Class}
 use Rattle.dt_lex.specs.declared.byte.Class.TheVariants as class
 use Rattle.dt_lex.specs.Bytes.{is_in}
 use Rattle.dt_lex.specs.Words.{Word, One, Then, Stops, IsLongestWord, NoneFits, Skips}
-use Rattle.dt_lex.specs.Vocabulary.{Escape, IsInside, nothing, itself, escaped, IsText, TextWord, IsCharacter, itself_alone, escaped_alone, CharacterWord}
+use Rattle.dt_lex.specs.Vocabulary.{Escape, IsInside, nothing, itself, escaped, TextWord, IsCharacter, itself_alone, escaped_alone, CharacterWord}
 use Rattle.dt_lex.specs.Letters.{Letter, ClosedText, ClosedCharacter}
 use Rattle.dt_lex.proofs.WordLemmas.{same_head}
 use Rattle.dt_lex.proofs.QuotedLemmas.{same_front, front_within, front_past, form_without, of_escape, escape_begins}

@@ -1,8 +1,7 @@
 -- A text has one token list or one first fault, and what a word adds to it.
-use Rattle.std.proofs.Common.{◌≡◌, ℕ, zero, suc, ◌+◌, ◌<◌, ◌≤◌, Bool, true, false, List, [], ◌∷◌, ◌++◌, length, Option, Some, None, Result, Ok, Err, ◌⊎◌, inl, inr, ⊎_elim, refl, sym, ◌∙◌, ap, subst, append_assoc, arith, length-append}
+use Rattle.std.proofs.Common.{◌≡◌, ℕ, ◌+◌, ◌<◌, ◌≤◌, Bool, List, [], ◌∷◌, ◌++◌, length, Option, Some, None, Ok, Err, ◌⊎◌, inl, inr, ⊎_elim, refl, sym, ◌∙◌, ap, subst, append_assoc, arith, length-append}
 use Rattle.std.specs.Prelude.{slice_get}
 use Rattle.std.proofs.str.Laws.{order}
-use Rattle.std.proofs.lemmas.List.{append-nil}
 use Rattle.dt_lex.specs.declared.token.Mode.{Mode}
 use Rattle.dt_lex.specs.declared.token.TokenKind.{TokenKind}
 use Rattle.dt_lex.specs.declared.token.Token.{Token}
@@ -10,7 +9,7 @@ use Rattle.dt_lex.specs.declared.token.Flaw.{Flaw}
 use Rattle.dt_lex.specs.declared.token.Flaw.TheVariants.{BadToken, BadInteger}
 use Rattle.dt_lex.specs.declared.rule.Rule.{Rule}
 use Rattle.dt_lex.specs.Modes.{mode_behind}
-use Rattle.dt_lex.specs.Words.{IsLongestWord, NoneFits}
+use Rattle.dt_lex.specs.Words.{IsLongestWord}
 use Rattle.dt_lex.specs.Rules.{In, rules}
 use Rattle.dt_lex.specs.Outcomes.{Outcome, outcome}
 use Rattle.dt_lex.specs.Lexing.{IsCut, HasNoCut, Lexed, FirstFlaw, with_tokens, ends_line, token, Lexes, done, no_rule, faulty, skipped, given, IsLexed, WhyNotLexed, text_limit, no_memory, too_long, bad_token, bad_integer}

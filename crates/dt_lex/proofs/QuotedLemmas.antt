@@ -1,18 +1,15 @@
 -- Escapes, texts and characters at the front of a text.
-use Rattle.std.proofs.Common.{◌≡◌, ◌≢◌, ℕ, zero, suc, ◌+◌, ◌<◌, ◌≤◌, Bool, true, false, List, [], ◌∷◌, ◌++◌, length, drop, Option, Some, None, ◌⊎◌, inl, inr, ⊎_elim, refl, sym, ◌∙◌, ap, subst, append_assoc, arith, length-append}
+use Rattle.std.proofs.Common.{◌≡◌, ℕ, ◌<◌, ◌≤◌, Bool, true, false, List, [], ◌∷◌, ◌++◌, length, drop, ◌⊎◌, inl, inr, refl, sym, ◌∙◌, ap, subst, arith, length-append}
 use Rattle.std.specs.Prelude.{◌==◌, ◌%◌}
-use Rattle.std.specs.Borrow.{Bor}
 use Rattle.std.proofs.lemmas.Bool.{eqb-true}
-use Rattle.std.proofs.str.Laws.{order}
-use Rattle.dt_lex.specs.declared.byte.Class.{Class}
 use Rattle.dt_lex.specs.declared.byte.Class.TheVariants as class
 use Rattle.dt_lex.specs.Bytes.{is_in}
 use Rattle.dt_lex.specs.Numbers.{digits, number_behind}
-use Rattle.dt_lex.specs.Words.{Each, Word, One, Either, Begins, Then, Stops, IsLongestWord, NoneFits, Skips}
+use Rattle.dt_lex.specs.Words.{Each, Word, Either, Begins, Then, Stops, IsLongestWord, NoneFits}
 use Rattle.dt_lex.specs.Vocabulary.{OneDigit, IsSimple, IsEscape, simple_value, Escape, IsInside, IsText, TextWord, IsCharacter, CharacterWord}
 use Rattle.dt_lex.specs.Vocabulary as vocabulary
-use Rattle.dt_lex.specs.Letters.{Letter, ClosedText, ClosedCharacter, RunsUpTo}
-use Rattle.dt_lex.proofs.WordLemmas.{each_most, no_first}
+use Rattle.dt_lex.specs.Letters.{RunsUpTo}
+use Rattle.dt_lex.proofs.WordLemmas.{each_most}
 
 -- ---- fronts of one list
 

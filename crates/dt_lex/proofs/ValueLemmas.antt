@@ -1,13 +1,13 @@
 -- The bytes that letters stand for, read from byte to byte.
-use Rattle.std.proofs.Common.{◌≡◌, ℕ, zero, suc, ◌+◌, ◌-◌, ◌*◌, ◌<◌, ◌≤◌, Bool, true, false, List, [], ◌∷◌, ◌++◌, length, take, ◌⊎◌, inl, inr, ⊎_elim, refl, sym, ◌∙◌, ap, subst, append_assoc, arith, length-append}
-use Rattle.std.specs.Prelude.{◌==◌, ◌%◌, ◌&&◌, nat_lt, if◌then◌else◌, slice_index, slice_range}
+use Rattle.std.proofs.Common.{◌≡◌, ℕ, zero, suc, ◌+◌, ◌-◌, ◌*◌, ◌<◌, ◌≤◌, Bool, true, false, List, [], ◌∷◌, ◌++◌, length, take, ◌⊎◌, inl, inr, ⊎_elim, refl, sym, ◌∙◌, ap, append_assoc, arith, length-append}
+use Rattle.std.specs.Prelude.{◌==◌, ◌%◌, ◌&&◌, nat_lt, slice_index}
 use Rattle.std.proofs.str.Laws.{order}
 use Rattle.std.proofs.lemmas.Bool.{lt-ltb}
 use Rattle.dt_lex.specs.declared.byte.Class.TheVariants as class
 use Rattle.dt_lex.specs.Bytes.{is_in}
 use Rattle.dt_lex.specs.Numbers.{digit_of, digits, number_behind}
 use Rattle.dt_lex.specs.Words.{Each, Stops, IsLongestWord}
-use Rattle.dt_lex.specs.Vocabulary.{IsSimple, Escape, IsInside, nothing, itself, escaped, IsText, IsCharacter, itself_alone, escaped_alone, simple_value}
+use Rattle.dt_lex.specs.Vocabulary.{Escape, IsInside, nothing, itself, escaped, IsText, IsCharacter, itself_alone, escaped_alone, simple_value}
 use Rattle.dt_lex.specs.Texts as texts
 use Rattle.dt_lex.specs.Texts.{plain, behind_backslash, unescaped, inner, text_bytes, character_value}
 use Rattle.dt_lex.proofs.WordLemmas.{each_push}

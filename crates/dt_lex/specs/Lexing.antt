@@ -1,5 +1,5 @@
 -- Token lists, and the first fault of a text that has none.
-use Rattle.std.specs.Prelude.{◌≡◌, ℕ, ◌+◌, ◌-◌, ◌<◌, ◌≤◌, ◌==◌, Bool, true, List, [], ◌∷◌, ◌++◌, length, Option, Some, None, Result, Ok, Err, slice_get, slice_index}
+use Rattle.std.specs.Prelude.{◌≡◌, ℕ, ◌+◌, ◌-◌, ◌<◌, ◌≤◌, ◌==◌, Bool, true, List, [], ◌∷◌, ◌++◌, length, Some, None, Result, Ok, Err, slice_get, slice_index}
 use Rattle.dt_lex.specs.declared.token.Mode.{Mode}
 use Rattle.dt_lex.specs.declared.token.Mode.TheVariants as mode
 use Rattle.dt_lex.specs.declared.token.TokenKind.{TokenKind}

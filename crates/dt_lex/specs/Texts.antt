@@ -1,5 +1,5 @@
 -- The bytes of texts and characters as functions, which read on from byte to byte; laws tie them to what they are.
-use Rattle.std.specs.Prelude.{ℕ, zero, suc, ◌+◌, ◌-◌, ◌*◌, ◌%◌, ◌==◌, ◌&&◌, nat_lt, List, [], ◌∷◌, length, slice_index, slice_range, if◌then◌else◌}
+use Rattle.std.specs.Prelude.{ℕ, ◌+◌, ◌-◌, ◌*◌, ◌%◌, ◌==◌, ◌&&◌, nat_lt, List, [], ◌∷◌, length, slice_index, slice_range, if◌then◌else◌}
 use Rattle.dt_lex.specs.declared.byte.Class.TheVariants as class
 use Rattle.dt_lex.specs.Bytes.{is_in}
 use Rattle.dt_lex.specs.Numbers.{digit_of}

@@ -110,12 +110,31 @@ pub fn candidates(leader: Leader) -> &'static [Rule]
     match leader {
         Leader::Slash => behind_slash(),
         Leader::Hash => &[Rule::LineMarker, Rule::LongLineMarker, Rule::Name],
-        Leader::Ampersand => &[Rule::LabelReference, Rule::PathReference, Rule::Mark(Mark::And), Rule::Mark(Mark::Ampersand)],
+        Leader::Ampersand => &[
+            Rule::LabelReference,
+            Rule::PathReference,
+            Rule::Mark(Mark::And),
+            Rule::Mark(Mark::Ampersand),
+        ],
         Leader::Apostrophe => &[Rule::Character],
         Leader::Quote => &[Rule::Text],
-        Leader::Zero => &[Rule::Name, Rule::Byte, Rule::Hexadecimal, Rule::CapitalHexadecimal, Rule::Decimal],
-        Leader::Less => &[Rule::Mark(Mark::ShiftLeft), Rule::Mark(Mark::LessOrEqual), Rule::Mark(Mark::Less)],
-        Leader::Greater => &[Rule::Mark(Mark::ShiftRight), Rule::Mark(Mark::GreaterOrEqual), Rule::Mark(Mark::Greater)],
+        Leader::Zero => &[
+            Rule::Name,
+            Rule::Byte,
+            Rule::Hexadecimal,
+            Rule::CapitalHexadecimal,
+            Rule::Decimal,
+        ],
+        Leader::Less => &[
+            Rule::Mark(Mark::ShiftLeft),
+            Rule::Mark(Mark::LessOrEqual),
+            Rule::Mark(Mark::Less),
+        ],
+        Leader::Greater => &[
+            Rule::Mark(Mark::ShiftRight),
+            Rule::Mark(Mark::GreaterOrEqual),
+            Rule::Mark(Mark::Greater),
+        ],
         Leader::Equals => &[Rule::Mark(Mark::Equal), Rule::Mark(Mark::Equals)],
         Leader::Exclamation => &[Rule::Mark(Mark::NotEqual), Rule::Mark(Mark::Exclamation)],
         Leader::Bar => &[Rule::Mark(Mark::Or), Rule::Mark(Mark::Bar)],
@@ -135,6 +154,12 @@ pub fn candidates(leader: Leader) -> &'static [Rule]
         Leader::Percent => &[Rule::Mark(Mark::Percent)],
         Leader::Caret => &[Rule::Mark(Mark::Caret)],
         Leader::Tilde => &[Rule::Mark(Mark::Tilde)],
-        Leader::Other => &[Rule::Blanks, Rule::Label, Rule::Name, Rule::Byte, Rule::Decimal],
+        Leader::Other => &[
+            Rule::Blanks,
+            Rule::Label,
+            Rule::Name,
+            Rule::Byte,
+            Rule::Decimal,
+        ],
     }
 }

@@ -16,6 +16,8 @@ mod number;
 mod outcome;
 mod quoted;
 mod rule;
+#[cfg(test)]
+mod tests;
 mod token;
 mod word;
 

@@ -1,4 +1,4 @@
-use Rattle.std.proofs.Common.{◌≡◌, ◌<◌, ◌+◌, ◌*◌, ℕ, inl, inr, sym, ◌∙◌, ap, length, arith}
+use Rattle.std.proofs.Common.{◌+◌, ◌*◌, ℕ, inl, inr, sym, ◌∙◌, ap, length, arith}
 use Rattle.dt_lex.specs.Texts as texts
 use Rattle.dt_lex.specs.Texts.{unescaped}
 use Rattle.dt_lex.proofs.ValueLemmas.{octal_here, octal_more, octal_grows, octal_most}

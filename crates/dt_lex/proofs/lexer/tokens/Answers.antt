@@ -1,4 +1,4 @@
-use Rattle.std.proofs.Common.{◌≡◌, ◌≤◌, ℕ, ◌+◌, List, [], ◌++◌, length, true, Ok, Err, inr, refl, sym, ◌∙◌, ap, subst, arith, false-eqb}
+use Rattle.std.proofs.Common.{◌≡◌, ℕ, ◌+◌, List, [], ◌++◌, length, true, Ok, Err, inr, refl, sym, ◌∙◌, ap, subst, arith, false-eqb}
 use Rattle.std.proofs.lemmas.List.{append-nil}
 use Rattle.std.proofs.lemmas.Result.{err_from_is_err_and}
 use Rattle.std.proofs.lemmas.Bool.{eqb-true}
@@ -6,7 +6,6 @@ use Rattle.dt_lex.specs.declared.token.Mode.TheVariants as mode
 use Rattle.dt_lex.specs.declared.token.Token.{Token}
 use Rattle.dt_lex.specs.Lexing.{Lexed, Lexes, FirstFlaw, IsLexed, WhyNotLexed, with_tokens}
 use Rattle.dt_lex.specs.Pieces.{tokens_of}
-use Rattle.dt_lex.specs.Spans.{Reports, AreSpans}
 use Rattle.dt_lex.proofs.Lexed.{unique, later, with_more, goes_on, fault_here, end_here, longer, out_of_memory, flaw_reported, are_spans}
 use Rattle.dt_lex.proofs.lexer.tokens.Goals as goal
 

@@ -1,9 +1,7 @@
-use Rattle.std.proofs.Common.{◌≡◌, ℕ, List, [], ◌∷◌, ◌++◌, None, true, false, refl, sym, ◌∙◌, ap, subst, arith}
-use Rattle.std.specs.Prelude.{◌==◌}
-use Rattle.std.proofs.Common.{false-eqb}
+use Rattle.std.proofs.Common.{ℕ, List, [], ◌∷◌, sym, ◌∙◌, ap, subst, arith}
 use Rattle.dt_lex.specs.declared.byte.Class.TheVariants as class
 use Rattle.dt_lex.specs.Bytes.{is_in}
-use Rattle.dt_lex.specs.Words.{Begins, Skips}
+use Rattle.dt_lex.specs.Words.{Skips}
 use Rattle.dt_lex.specs.Vocabulary.{Escape}
 use Rattle.dt_lex.proofs.WordLemmas.{word_split}
 use Rattle.dt_lex.proofs.QuotedLemmas.{no_backslash, nothing_behind, no_hex_digit, octal_longest, hex_longest, simple_longest, some_digits, first_fails, other_byte}

@@ -1,5 +1,5 @@
 use Rattle.std.proofs.Common.{[], ◌∷◌}
-use Rattle.dt_lex.proofs.LetterLemmas.{letter_itself, letter_escape, letter_shorter}
+use Rattle.dt_lex.proofs.LetterLemmas.{letter_itself}
 use Rattle.dt_lex.proofs.quoted.after_letter.Goals as goal
 
 pub returns-in-Some-clause-exact : goal.returns-in-Some-clause-exact

@@ -11,8 +11,7 @@ returns-in_default c =
 pub loop-taken-preserved : goal.loop-taken-preserved
 loop-taken-preserved c =
     let kept = c.loop-taken.invariant in
-    let found = c.in-Some.ensures.some in
-    (
+    let found = c.in-Some.ensures.some in (
       kept.0 ++ found.0 ∷ [],
       kept.1 ∙ ap (λ (x : List ℕ). kept.0 ++ x) found.1 ∙ sym (append_assoc kept.0 (found.0 ∷ []) c.in-Some.later.now),
       each_push (is_in c.args.class) kept.0 found.0 kept.2 found.2,
