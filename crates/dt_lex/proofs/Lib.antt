@@ -1,6 +1,7 @@
 pub mod WordLemmas
 pub mod QuotedLemmas
 pub mod LetterLemmas
+pub mod LabelLemmas
 pub mod ValueLemmas
 pub mod NumberLemmas
 pub mod LeaderLemmas

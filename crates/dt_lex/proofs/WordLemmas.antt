@@ -11,7 +11,7 @@ use Rattle.std.specs.Borrow.{Bor}
 use Rattle.dt_lex.specs.Words.{Each, Word, One, Without, Begins, Starting, Then, AnyOf, Stops, RunsTo, IsLongestWord, NoneFits, Skips}
 
 -- the same text behind the same front
-cancel : (k s t : List ℕ) → k ++ s ≡ k ++ t → s ≡ t
+pub cancel : (k s t : List ℕ) → k ++ s ≡ k ++ t → s ≡ t
 cancel [] s t e = e
 cancel (b ∷ k) s t e = cancel k s t cc
 

@@ -5,6 +5,7 @@ pub mod Numbers
 pub mod Vocabulary
 pub mod Texts
 pub mod Letters
+pub mod Labels
 pub mod Rules
 pub mod Leaders
 pub mod Outcomes

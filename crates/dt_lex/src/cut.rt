@@ -3,6 +3,7 @@
 ghost use Rattle.std.specs.Prelude.{◌≡◌, ◌<◌, IfSome, length};
 ghost use Rattle.dt_lex.specs.Words.{Skips};
 ghost use Rattle.dt_lex.specs.Rules.{words, allowed, In, directive_bytes};
+ghost use Rattle.dt_lex.specs.Labels.{IsUnlabelled};
 ghost use Rattle.dt_lex.specs.Pieces.{CutsTo};
 
 use crate::byte::Class;
@@ -73,26 +74,30 @@ fn allowed(rule: Rule, mode: Mode, fresh: bool) -> bool
     }
 }
 
-/// After the longest word of a rule, if the rule holds here.
-fn after(rule: Rule, mode: Mode, fresh: bool, text: &[u8]) -> Option<&[u8]>
+/// After the longest word of a rule, if the rule holds here, where so many bytes begin no label.
+fn after(rule: Rule, mode: Mode, fresh: bool, unlabelled: usize, text: &[u8]) -> Option<&[u8]>
+    requires { IsUnlabelled unlabelled text.now }
     ensures exact { Skips (In rule mode fresh) text.now result }
     ensures shorter { IfSome result (λ rest. length rest.now < length text.now) }
 {
-    if allowed(rule, mode, fresh) {
-        after_rule(rule, text)
-    } else {
-        None
+    if !allowed(rule, mode, fresh) {
+        return None;
+    }
+    match rule {
+        Rule::Label if unlabelled > 0 => None,
+        _ => after_rule(rule, text),
     }
 }
 
-/// The first rule that has a word at the front, and the text after its longest word.
-pub fn cut(mode: Mode, fresh: bool, text: &[u8]) -> Option<(Rule, &[u8])>
+/// The first rule that has a word at the front, and the text after its longest word, where so many bytes begin no label.
+pub fn cut(mode: Mode, fresh: bool, unlabelled: usize, text: &[u8]) -> Option<(Rule, &[u8])>
+    requires { IsUnlabelled unlabelled text.now }
     ensures exact { CutsTo mode fresh text.now result }
     ensures shorter { IfSome result (λ found. length found.1.now < length text.now) }
 {
     let tried = candidates(leader_of(text));
     for rule in tried {
-        if let Some(rest) = after(*rule, mode, fresh, text) {
+        if let Some(rest) = after(*rule, mode, fresh, unlabelled, text) {
             return Some((*rule, rest));
         }
     }

@@ -2,10 +2,12 @@
 
 ghost use Rattle.std.specs.Prelude.{◌≡◌, ◌<◌, ◌≤◌, ◌+◌, ◌^◌, ◌++◌, Ok, List, ℕ, IfOk, IfErr, OnOk, MatchResult, length};
 ghost use Rattle.dt_lex.specs.Lexing.{Lexed, IsLexed, WhyNotLexed, text_limit};
+ghost use Rattle.dt_lex.specs.Labels.{IsUnlabelled};
 ghost use Rattle.dt_lex.specs.Pieces.{IsPiece, mode_after, tokens_of};
 ghost use Rattle.dt_lex.specs.Spans.{AreSpans, Reports, fault_of, no_memory};
 
 use crate::cut::cut;
+use crate::label::unlabelled;
 use crate::outcome::{byte_at, outcome};
 use crate::token::{Flaw, Mode, Token, TokenKind, mode_behind};
 use dt_names::{Fault, FaultKind};
@@ -23,13 +25,14 @@ struct Piece<'a> {
     rest: &'a [u8],
 }
 
-/// The word at the front.
-fn next_piece(mode: Mode, fresh: bool, text: &[u8]) -> Result<Piece<'_>, Flaw>
+/// The word at the front, where so many bytes begin no label.
+fn next_piece(mode: Mode, fresh: bool, unlabelled: usize, text: &[u8]) -> Result<Piece<'_>, Flaw>
+    requires { IsUnlabelled unlabelled text.now }
     ensures exact { IsPiece mode fresh text.now result }
     ensures shorter { IfOk result (λ p. p.length + length p.rest.now ≡ length text.now) }
     ensures some { IfOk result (λ p. 0 < p.length) }
 {
-    let Some((rule, rest)) = cut(mode, fresh, text) else {
+    let Some((rule, rest)) = cut(mode, fresh, unlabelled, text) else {
         return Err(Flaw::BadToken);
     };
     let length = text.len() - rest.len();
@@ -104,14 +107,17 @@ pub fn tokens(alloc: Global, text: &[u8]) -> Result<Vec<Token>, Fault>
     let mut mode = Mode::Name;
     let mut fresh = true;
     let mut start = 0;
+    let mut known = 0;
     let mut rest = text;
     while !rest.is_empty() {
-        let next = match next_piece(mode, fresh, rest) {
+        known = unlabelled(rest, known);
+        let next = match next_piece(mode, fresh, known, rest) {
             Ok(next) => next,
             Err(flaw) => return Err(fault_at(flaw, start)),
         };
         mode = give(&mut out, mode, next.kind, start, next.length)?;
         start += next.length;
+        known = known.saturating_sub(next.length);
         fresh = next.fresh;
         rest = next.rest;
     }

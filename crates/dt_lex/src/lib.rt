@@ -8,6 +8,7 @@
 
 mod byte;
 mod cut;
+mod label;
 mod laws;
 mod leader;
 mod letter;

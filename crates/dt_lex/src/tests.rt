@@ -164,6 +164,16 @@ fn longest_text(rt: HostRuntime) -> Result<(), Fail> {
     Ok(())
 }
 
+// The time that a text takes grows with its length alone, also where a long word might have been a label.
+#[test]
+fn long_bytes(rt: HostRuntime) -> Result<(), Fail> {
+    let mut text = vec![in rt.alloc(); b'a'; 1_000_005]?;
+    text.as_mut_slice()[..3].copy_from_slice(b"x=[");
+    let found = tokens(rt.alloc(), text.as_slice())?;
+    assert_eq!(rt; found.len(), 500_004);
+    Ok(())
+}
+
 // Where memory is refused, that is the fault, and what was there stays. Nothing is refused here: it is with
 // `rt try --test --fail-alloc N`, for each N.
 #[test]

@@ -7,6 +7,8 @@ use Rattle.dt_lex.specs.declared.token.Token.{Token}
 use Rattle.dt_lex.specs.Lexing.{Lexed, Lexes, FirstFlaw, IsLexed, WhyNotLexed, with_tokens}
 use Rattle.dt_lex.specs.Pieces.{tokens_of}
 use Rattle.dt_lex.proofs.Lexed.{unique, later, with_more, goes_on, fault_here, end_here, longer, out_of_memory, flaw_reported, are_spans}
+use Rattle.dt_lex.specs.Labels.{IsUnlabelled}
+use Rattle.dt_lex.proofs.LabelLemmas.{unlabelled_behind}
 use Rattle.dt_lex.proofs.lexer.tokens.Goals as goal
 
 pub returns-then-text-gt-TEXT_LIMIT-clause-err : goal.returns-then-text-gt-TEXT_LIMIT-clause-err
@@ -40,6 +42,7 @@ loop-rest-preserved c =
     let given = c.in_ok-mode.ensures in
     record {
       short = kept.short;
+      free = subst (λ (n : ℕ). IsUnlabelled n next.rest.now) (sym c.saturating_sub-known.ensures) (unlabelled_behind c.unlabelled-known.result l.rest.now cut.1 next.rest.now next.length cut.2.longest.split cut.4 c.unlabelled-known.ensures);
       place = omega (arith, kept.place, c.in-Ok.ensures.shorter);
       follows = λ a d.
           let word = later given.mode (sym cut.5) (ap (λ (n : ℕ). l.start + n) (sym cut.4)) refl d in
