@@ -147,14 +147,19 @@ fn texts(rt: HostRuntime) -> Result<(), Fail> {
     Ok(())
 }
 
-// A text of so many blanks.
-fn blanks(alloc: Global, count: usize) -> Result<Vec<u8>, Fault> {
-    Ok(vec![in alloc; b' '; count]?)
+// A text of these bytes and so many more of one.
+fn repeated(alloc: Global, front: &[u8], b: u8, count: usize) -> Result<Vec<u8>, Fault> {
+    let mut out = Vec::new(alloc);
+    out.extend_from_slice(front)?;
+    for _ in 0..count {
+        out.push(b)?;
+    }
+    Ok(out)
 }
 
 #[test]
 fn longest_text(rt: HostRuntime) -> Result<(), Fail> {
-    let mut text = blanks(rt.alloc(), TEXT_LIMIT)?;
+    let mut text = repeated(rt.alloc(), b"", b' ', TEXT_LIMIT)?;
     assert!(rt; gives(rt.alloc(), text.as_slice(), &[])?);
     text.push(b' ')?;
     assert_eq!(rt;
@@ -167,8 +172,7 @@ fn longest_text(rt: HostRuntime) -> Result<(), Fail> {
 // The time that a text takes grows with its length alone, also where a long word might have been a label.
 #[test]
 fn long_bytes(rt: HostRuntime) -> Result<(), Fail> {
-    let mut text = vec![in rt.alloc(); b'a'; 1_000_005]?;
-    text.as_mut_slice()[..3].copy_from_slice(b"x=[");
+    let text = repeated(rt.alloc(), b"x=[", b'a', 1_000_002)?;
     let found = tokens(rt.alloc(), text.as_slice())?;
     assert_eq!(rt; found.len(), 500_004);
     Ok(())

@@ -1,4 +1,4 @@
-use Rattle.std.proofs.Common.{List, ℕ, sym, subst}
+use Rattle.std.proofs.Common.{sym, subst}
 use Rattle.dt_lex.specs.declared.rule.Rule.{Rule}
 use Rattle.dt_lex.specs.Words.{NoneFits}
 use Rattle.dt_lex.specs.Rules.{In}
