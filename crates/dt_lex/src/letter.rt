@@ -132,10 +132,11 @@ pub fn character_value(word: &[u8]) -> u8
     }
 }
 
-/// Appends the bytes that a text stands for, escapes worked out (Devicetree Specification v0.4, 6.2); the NUL that ends a
-/// text's value isn't among them. The token is the bytes of a `TokenKind::Text` with their quotes.
+/// Appends the bytes that a text stands for (Devicetree Specification v0.4, 6.3), escapes worked out as in C: an octal one
+/// modulo 256, and `\` before another byte as that byte. The NUL that ends a text's value isn't among them. `token` is the
+/// bytes of a `TokenKind::Text`, with their quotes.
 ///
-/// Where memory is refused nothing is appended.
+/// Where memory is refused that is the error, and nothing is appended.
 pub fn push_text(token: &[u8], out: &mut Vec<u8>) -> Result<(), AllocError>
     ensures ok { OnOk result (out.new.items ≡ out.old.items ++ text_bytes token.now) }
     ensures err { OnErr result (out.new.items ≡ out.old.items) }

@@ -13,7 +13,7 @@ use crate::token::{Flaw, Mode, Token, TokenKind, mode_behind};
 use dt_names::{Fault, FaultKind};
 use std::alloc::Global;
 
-/// How many bytes a text may have.
+/// How many bytes a text may have: 16 MiB.
 pub const TEXT_LIMIT: usize = 16_777_216;
 
 /// A word that was cut off: the token that it gives, its length, whether it ends a line, and the text after it.
@@ -83,8 +83,8 @@ fn fault_at(flaw: Flaw, place: usize) -> Fault
     }
 }
 
-/// The tokens of a text (Devicetree Specification v0.4, 6.1 and 6.2), in its order and with their places; what is skipped
-/// gives none.
+/// The tokens of a text (Devicetree Specification v0.4, chapter 6), in its order and with their places, in bytes from its
+/// start; what is skipped gives none.
 ///
 /// Refused are a text of more than 16,777,216 bytes: Limit; and a text with a flaw, for the first one: BadToken at a byte at
 /// which no token begins, at a comment, a text or a character that isn't closed, and at `/include/`, `/incbin/` and
