@@ -28,9 +28,6 @@ unlabelled_run text t (w, e, a, b) none u v f l =
     let rest = each_behind (is_in class.Label) u front.0 (subst (Each (is_in class.Label)) front.1 a) in
     subst (NoneFits LabelWord) (sym behind) (no_label front.0 t rest b none)
 
-pub unlabelled_none : (text : List ℕ) → IsUnlabelled 0 text
-unlabelled_none text u v e l = absurd (omega (arith, l))
-
 -- what is known holds behind a word
 pub unlabelled_behind : (count : ℕ) (text w rest : List ℕ) (n : ℕ) → text ≡ w ++ rest → length w ≡ n → IsUnlabelled count text → IsUnlabelled (count - n) rest
 unlabelled_behind count text w rest n e g h u v f l =

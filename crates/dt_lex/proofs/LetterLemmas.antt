@@ -6,7 +6,7 @@ use Rattle.std.proofs.str.Laws.{order}
 use Rattle.dt_lex.specs.declared.byte.Class.{Class}
 use Rattle.dt_lex.specs.declared.byte.Class.TheVariants as class
 use Rattle.dt_lex.specs.Bytes.{is_in}
-use Rattle.dt_lex.specs.Words.{Word, One, Then, Stops, IsLongestWord, NoneFits, Skips}
+use Rattle.dt_lex.specs.Words.{Word, Then, IsLongestWord, NoneFits, Skips}
 use Rattle.dt_lex.specs.Vocabulary.{Escape, IsInside, nothing, itself, escaped, TextWord, IsCharacter, itself_alone, escaped_alone, CharacterWord}
 use Rattle.dt_lex.specs.Letters.{Letter, ClosedText, ClosedCharacter}
 use Rattle.dt_lex.proofs.WordLemmas.{same_head}
@@ -29,32 +29,9 @@ module _ (c : Class) (apart : is_in c 92 ≡ false) where
   pub letter_itself : (s : List ℕ) (b : ℕ) (t : List ℕ) → s ≡ b ∷ t → is_in c b ≡ true → IsLongestWord (Letter c) s (b ∷ []) t
   letter_itself s b t e h = record { split = e; fits = inl (b, refl, h); longest = itself_most s b t e h }
 
-stops_one : (c : Class) (s v more : List ℕ) → Stops (is_in c) s → s ≡ v ++ more → One (is_in c) v → ⊥
-stops_one c [] v more h e (b, f, g) = omega (arith, ap length e, ap length f, length-append v more)
-stops_one c (d ∷ s) v more h e (b, f, g) =
-    let whole : d ∷ s ≡ b ∷ more = e ∙ ap (λ (x : List ℕ). x ++ more) f in
-    let same : b ≡ d = cc in
-    let t : true ≡ false = sym g ∙ ap (is_in c) same ∙ h in
-    cc
-
-pub letter_escape : (c : Class) (s : List ℕ) → Stops (is_in c) s → (r : Option (Bor (List ℕ))) → Skips Escape s r → Skips (Letter c) s r
-letter_escape c s h None n = at
-  where
-    at : (v more : List ℕ) → s ≡ v ++ more → Letter c v → ⊥
-    at v more e (inl f) = stops_one c s v more h e f
-    at v more e (inr f) = n v more e f
-letter_escape c s h (Some rest) (w, l) = (w, record { split = l.split; fits = inr l.fits; longest = at })
-  where
-    at : (v more : List ℕ) → s ≡ v ++ more → Letter c v → length v ≤ length w
-    at v more e (inl f) = absurd (stops_one c s v more h e f)
-    at v more e (inr f) = l.longest v more e f
-
 pub letter_some : (c : Class) (w : List ℕ) → Letter c w → 0 < length w
 letter_some c w (inl (b, e, h)) = omega (arith, ap length e)
 letter_some c w (inr f) = let b = escape_begins w f in omega (arith, ap length b.2)
-
-pub letter_shorter : (c : Class) (s w t : List ℕ) → IsLongestWord (Letter c) s w t → length t < length s
-letter_shorter c s w t l = omega (arith, letter_some c w l.fits, ap length l.split, length-append w t)
 
 -- ---- a letter, and a quote behind it
 

@@ -3,10 +3,6 @@ use Rattle.std.proofs.Common.{◌≡◌, ℕ, ◌+◌, ◌*◌, ◌<◌, ◌≤�
 use Rattle.std.specs.Prelude.{◌&&◌, ◌||◌, nat_lt, if◌then◌else◌}
 use Rattle.std.proofs.lemmas.Bool.{ltb-true, ltb-false, lt-ltb}
 use Rattle.std.proofs.Math.Nat.{mul-le-mul_left}
-use Rattle.dt_lex.specs.declared.byte.Class.{Class}
-use Rattle.dt_lex.specs.declared.byte.Class.TheVariants as class
-use Rattle.dt_lex.specs.Bytes.{is_in}
-use Rattle.dt_lex.specs.Vocabulary.{IsDigits}
 use Rattle.dt_lex.specs.Numbers.{digit_of, digits, number_behind, all_below, integer_of}
 
 abbrev pub value_at : ℕ → ℕ → List ℕ → Option ℕ
@@ -50,16 +46,8 @@ value_bad base n d ds h = rw (le-ltb _ _ h) refl
 pub value_large : (base n d : ℕ) (ds : List ℕ) → d < base → nat_lt (n * base + d) (2 ^ 64) ≡ false → value_at base n (d ∷ ds) ≡ None
 value_large base n d ds h f = rw (lt-ltb d base h, f) refl
 
-pub value_more : (base n d : ℕ) (ds : List ℕ) → d < base → nat_lt (n * base + d) (2 ^ 64) ≡ true → value_at base n (d ∷ ds) ≡ value_at base (n * base + d) ds
-value_more base n d ds h f = rw (lt-ltb d base h, f) refl
-
 first_or : (a b c : Bool) → a ≡ true → ((a || b) || c) ≡ true
 first_or a b c e = rw e refl
-
-pub digit_is_hex : (c : Class) → IsDigits c → (b : ℕ) → is_in c b ≡ true → is_in class.Hex b ≡ true
-digit_is_hex class.Digit d b h = first_or _ _ _ h
-digit_is_hex class.Hex d b h = h
-digit_is_hex _ d b h = absurd d
 
 none_if : (b : Bool) (n : ℕ) → None ≡ (if b then Some n else None) → b ≡ false
 none_if true n e = cc

@@ -70,16 +70,10 @@ hex_run v c (d ∷ ds) w a l e =
 pub plain_itself : (s : List ℕ) (b : ℕ) (t : List ℕ) → s ≡ b ∷ t → (b ≡ 92 → ⊥) → unescaped plain s ≡ b ∷ unescaped plain t
 plain_itself s b t e h = ap (unescaped plain) e ∙ rw (other_byte b 92 h) refl
 
-pub plain_end : (s : List ℕ) → s ≡ 92 ∷ [] → unescaped plain s ≡ []
-plain_end s e = ap (unescaped plain) e
-
 pub plain_octal : (s : List ℕ) (c : ℕ) (t : List ℕ) → s ≡ 92 ∷ c ∷ t → octal c ≡ true → unescaped plain s ≡ unescaped (texts.octal 0 0) (c ∷ t)
 plain_octal s c t e h =
     let none : digit_of c ≡ 0 * 8 + digit_of c = omega arith in
     ap (unescaped plain) e ∙ rw h (ap (λ (n : ℕ). unescaped (texts.octal n 1) t) none)
-
-pub plain_hex : (s t : List ℕ) → s ≡ 92 ∷ 120 ∷ t → unescaped plain s ≡ unescaped (texts.hex 0 0) t
-plain_hex s t e = ap (unescaped plain) e
 
 pub plain_simple : (s : List ℕ) (c : ℕ) (t : List ℕ) → s ≡ 92 ∷ c ∷ t → octal c ≡ false → (c == 120) ≡ false → unescaped plain s ≡ simple_value c ∷ unescaped plain t
 plain_simple s c t e h i = ap (unescaped plain) e ∙ rw (h, i) refl

@@ -1,5 +1,5 @@
 -- The longest front of a text in a set of words that is made of smaller sets.
-use Rattle.std.proofs.Common.{◌≡◌, ◌≢◌, ℕ, ◌+◌, ◌<◌, ◌≤◌, Bool, true, false, List, [], ◌∷◌, ◌++◌, length, Option, Some, None, ◌⊎◌, inl, inr, refl, sym, ◌∙◌, ap, subst, append_assoc, arith, length-append}
+use Rattle.std.proofs.Common.{◌≡◌, ◌≢◌, ℕ, ◌<◌, ◌≤◌, Bool, true, false, List, [], ◌∷◌, ◌++◌, length, Option, Some, None, ◌⊎◌, inl, inr, refl, sym, ◌∙◌, ap, subst, append_assoc, arith, length-append}
 use Rattle.std.proofs.lemmas.Bool.Decides.{nat_tests}
 use Rattle.std.specs.Prelude.{IfSome, MatchOption, ◌||◌, ◌==◌}
 use Rattle.dt_model.specs.Names.{is_letter, is_digit}
@@ -226,31 +226,6 @@ closing_here = closed_here 42 47 (different 42 47 (omega arith))
 pub closing_go : (s : List ℕ) (b : ℕ) (t : List ℕ) → s ≡ b ∷ t → NoneFits (Word (42 ∷ 47 ∷ [])) s → (r : Option (Bor (List ℕ))) → Skips Closing t r → Skips Closing s r
 closing_go = closed_go 42 47
 
--- one of several words, the longest first
-abbrev pub NoLonger : List (List ℕ) → ℕ → Type 0
-NoLonger [] n = Unit {0}
-NoLonger (k ∷ ks) n = (length k ≤ n) × NoLonger ks n
-
-no_longer : (ks : List (List ℕ)) (n : ℕ) → NoLonger ks n → (v : List ℕ) → AnyOf ks v → length v ≤ n
-no_longer [] n h v f = absurd f
-no_longer (k ∷ ks) n h v (inl f) = let l = ap length f in let m = h.0 in omega arith
-no_longer (k ∷ ks) n h v (inr f) = no_longer ks n h.1 v f
-
-pub any_here : (k : List ℕ) (ks : List (List ℕ)) (s : List ℕ) (rest : Bor (List ℕ)) → s ≡ k ++ rest.now → NoLonger ks (length k) → Skips (AnyOf (k ∷ ks)) s (Some rest)
-any_here k ks s rest e n = (k, record { split = e; fits = inl refl; longest = λ v more f h. no_longer (k ∷ ks) (length k) (omega arith, n) v h })
-
-pub any_later : (k : List ℕ) (ks : List (List ℕ)) (s : List ℕ) → NoneFits (Word k) s → (r : Option (Bor (List ℕ))) → Skips (AnyOf ks) s r → Skips (AnyOf (k ∷ ks)) s r
-any_later k ks s h None n = λ v more e f. none v more e f
-  where
-    none : (v more : List ℕ) → s ≡ v ++ more → AnyOf (k ∷ ks) v → ⊥
-    none v more e (inl f) = h v more e f
-    none v more e (inr f) = n v more e f
-any_later k ks s h (Some rest) (w, l) = (w, record { split = l.split; fits = inr l.fits; longest = at })
-  where
-    at : (v more : List ℕ) → s ≡ v ++ more → AnyOf (k ∷ ks) v → length v ≤ length w
-    at v more e (inl f) = absurd (h v more e f)
-    at v more e (inr f) = l.longest v more e f
-
 abbrev pub AllStop : (ℕ → Bool) → List (List ℕ) → Type 0
 AllStop p [] = Unit {0}
 AllStop p (k ∷ ks) = Stops p k × AllStop p ks
@@ -293,10 +268,6 @@ word_split k s t (w, l) = l.split ∙ ap (λ (x : List ℕ). x ++ t) l.fits
 -- a word that was read, and then a word of a set
 pub word_then : (Q : List ℕ → Type 0) (k s t : List ℕ) → (w : List ℕ) × IsLongestWord (Word k) s w t → (r : Option (Bor (List ℕ))) → Skips Q t r → Skips (Then (Word k) Q) s r
 word_then Q k s t w r h = then_word Q k s t (word_split k s t w) r h
-
-pub shorter_word : (r : Option (Bor (List ℕ))) (k s t : List ℕ) → 0 < length k → length t ≤ length s → IfSome r (λ rest. length rest.now + length k ≡ length t) → IfSome r (λ rest. length rest.now < length s)
-shorter_word None k s t f l h = tt
-shorter_word (Some rest) k s t f l h = omega arith
 
 -- bytes that pass a test, the first another one too, and then a word that begins with none
 pub then_run : (p q : ℕ → Bool) → ((b : ℕ) → q b ≡ true → p b ≡ true) → (Q : List ℕ → Type 0) → StopsAll p Q → (s t : List ℕ) → Begins q s → RunsTo p s t → (r : Option (Bor (List ℕ))) → Skips Q t r → Skips (Then (Starting q (Each p)) Q) s r
