@@ -1,0 +1,57 @@
+-- A number that is read digit by digit, and stops where it leaves 64 bits.
+use Rattle.std.proofs.Common.{◌≡◌, ℕ, ◌+◌, ◌*◌, ◌<◌, ◌≤◌, ◌^◌, Bool, true, false, List, [], ◌∷◌, Option, Some, None, refl, sym, ◌∙◌, ap, arith, le-ltb}
+use Rattle.std.specs.Prelude.{◌&&◌, ◌||◌, nat_lt, if◌then◌else◌}
+use Rattle.std.proofs.lemmas.Bool.{ltb-true, ltb-false, lt-ltb}
+use Rattle.std.proofs.Math.Nat.{mul-le-mul_left}
+use Rattle.dt_lex.specs.Numbers.{digit_of, digits, number_behind, all_below, integer_of}
+
+abbrev pub value_at : ℕ → ℕ → List ℕ → Option ℕ
+value_at base n [] = Some n
+value_at base n (d ∷ ds) =
+    if nat_lt d base then (if nat_lt (n * base + d) (2 ^ 64) then value_at base (n * base + d) ds else None) else None
+
+abbrev whole : ℕ → ℕ → List ℕ → Option ℕ
+whole base n ds = if all_below base ds && nat_lt (number_behind base n ds) (2 ^ 64) then Some (number_behind base n ds) else None
+
+grows : (base n : ℕ) (ds : List ℕ) → 0 < base → n ≤ number_behind base n ds
+grows base n [] p = omega arith
+grows base n (d ∷ ds) p = let h = grows base (n * base + d) ds p in let one : 1 ≤ base = omega arith in omega (arith, mul-le-mul_left n one, h)
+
+and_false : (b : Bool) → (b && false) ≡ false
+and_false true = refl
+and_false false = refl
+
+value_whole : (base n : ℕ) (ds : List ℕ) → 0 < base → n < 2 ^ 64 → value_at base n ds ≡ whole base n ds
+value_whole base n [] p h = rw (lt-ltb n (2 ^ 64) h) refl
+value_whole base n (d ∷ ds) p h = at (nat_lt d base) (nat_lt (n * base + d) (2 ^ 64)) refl refl (value_whole base (n * base + d) ds p)
+  where
+    at : (b c : Bool) → nat_lt d base ≡ b → nat_lt (n * base + d) (2 ^ 64) ≡ c → (n * base + d < 2 ^ 64 → value_at base (n * base + d) ds ≡ whole base (n * base + d) ds) → value_at base n (d ∷ ds) ≡ whole base n (d ∷ ds)
+    at false c e f ih = rw e refl
+    at true false e f ih = (let large : 2 ^ 64 ≤ number_behind base (n * base + d) ds = omega (arith, ltb-false _ _ f, grows base (n * base + d) ds p) in rw (e, f, le-ltb _ _ large, and_false (all_below base ds)) refl)
+    at true true e f ih = rw (e, f) (ih (ltb-true _ _ f))
+
+pub value_is_integer : (base : ℕ) (ds : List ℕ) → 0 < base → value_at base 0 ds ≡ integer_of base ds
+value_is_integer base ds p = value_whole base 0 ds p (omega arith)
+
+module _ (p : ℕ → Bool) (s : List ℕ) (b : ℕ) (t : List ℕ) (e : s ≡ b ∷ t) where
+  pub digits_end : p b ≡ false → digits p s ≡ []
+  digits_end h = ap (digits p) e ∙ rw h refl
+
+  pub digits_more : p b ≡ true → digits p s ≡ digit_of b ∷ digits p t
+  digits_more h = ap (digits p) e ∙ rw h refl
+
+pub value_bad : (base n d : ℕ) (ds : List ℕ) → base ≤ d → value_at base n (d ∷ ds) ≡ None
+value_bad base n d ds h = rw (le-ltb _ _ h) refl
+
+pub value_large : (base n d : ℕ) (ds : List ℕ) → d < base → nat_lt (n * base + d) (2 ^ 64) ≡ false → value_at base n (d ∷ ds) ≡ None
+value_large base n d ds h f = rw (lt-ltb d base h, f) refl
+
+first_or : (a b c : Bool) → a ≡ true → ((a || b) || c) ≡ true
+first_or a b c e = rw e refl
+
+none_if : (b : Bool) (n : ℕ) → None ≡ (if b then Some n else None) → b ≡ false
+none_if true n e = cc
+none_if false n e = refl
+
+pub scaled_none : (v b d e : ℕ) → d ≡ e → None ≡ (if nat_lt (v * b + d) (2 ^ 64) then Some (v * b + d) else None) → nat_lt (v * b + e) (2 ^ 64) ≡ false
+scaled_none v b d e h n = ap (λ (x : ℕ). nat_lt (v * b + x) (2 ^ 64)) (sym h) ∙ none_if _ _ n

@@ -1,0 +1,14 @@
+pub mod Bytes
+pub mod Modes
+pub mod Words
+pub mod Numbers
+pub mod Vocabulary
+pub mod Texts
+pub mod Letters
+pub mod Labels
+pub mod Rules
+pub mod Leaders
+pub mod Outcomes
+pub mod Lexing
+pub mod Pieces
+pub mod Spans

@@ -1,0 +1,41 @@
+-- What the functions of the lexer answer.
+use Rattle.std.specs.Prelude.{◌≡◌, ◌⊎◌, ℕ, ◌+◌, Bool, List, [], ◌∷◌, length, Option, Some, None, Result, Ok, Err}
+use Rattle.std.specs.Borrow.{Bor}
+use Rattle.dt_lex.specs.declared.token.Mode.{Mode}
+use Rattle.dt_lex.specs.declared.token.TokenKind.{TokenKind}
+use Rattle.dt_lex.specs.declared.token.Token.{Token}
+use Rattle.dt_lex.specs.declared.token.Flaw.{Flaw}
+use Rattle.dt_lex.specs.declared.token.Flaw.TheVariants as flaw
+use Rattle.dt_lex.specs.declared.rule.Rule.{Rule}
+use Rattle.dt_lex.specs.declared.rule.Rule.TheVariants as rule
+use Rattle.dt_lex.specs.declared.lexer.Piece.{Piece}
+use Rattle.dt_lex.specs.Modes as modes
+use Rattle.dt_lex.specs.Rules.{words}
+use Rattle.dt_lex.specs.Outcomes.{outcome}
+use Rattle.dt_lex.specs.Lexing.{IsCut, HasNoCut, ends_line}
+
+-- the answer of a search for a cut
+abbrev pub CutsTo : Mode → Bool → List ℕ → Option (Rule × Bor (List ℕ)) → Type 0
+CutsTo m fresh s None = HasNoCut m fresh s
+CutsTo m fresh s (Some found) = (w : List ℕ) × IsCut m fresh s found.0 w found.1.now
+
+-- the word is one of the rule, where its outcome is read on that ground
+abbrev pub IsWordOf : Rule → List ℕ → Type 0
+IsWordOf rule.Byte w = words rule.Byte w
+IsWordOf _ w = Unit {0}
+
+-- the piece is the next cut
+abbrev pub IsPiece : Mode → Bool → List ℕ → Result Piece Flaw → Type 0
+IsPiece m fresh s (Ok p) =
+    (r : Rule) × (w : List ℕ) × IsCut m fresh s r w p.rest.now × (outcome r w ≡ Ok p.kind) × (length w ≡ p.length) × (ends_line w ≡ p.fresh)
+IsPiece m fresh s (Err f) =
+    (HasNoCut m fresh s × (f ≡ flaw.BadToken)) ⊎ ((r : Rule) × (w rest : List ℕ) × IsCut m fresh s r w rest × (outcome r w ≡ Err f))
+
+-- the tokens that a word gives, and the mode behind it
+abbrev pub tokens_of : Option TokenKind → (at count : ℕ) → List Token
+tokens_of None at count = []
+tokens_of (Some k) at count = record { kind = k; start = at; «end» = at + count } ∷ []
+
+abbrev pub mode_after : Option TokenKind → Mode → Mode
+mode_after None m = m
+mode_after (Some k) m = modes.mode_behind k m

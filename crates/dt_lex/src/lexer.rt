@@ -1,0 +1,125 @@
+//! A text, cut into tokens from its first byte to its last.
+
+ghost use Rattle.std.specs.Prelude.{◌≡◌, ◌<◌, ◌≤◌, ◌+◌, ◌^◌, ◌++◌, Ok, List, ℕ, IfOk, IfErr, OnOk, MatchResult, length};
+ghost use Rattle.dt_lex.specs.Lexing.{Lexed, IsLexed, WhyNotLexed, text_limit};
+ghost use Rattle.dt_lex.specs.Labels.{IsUnlabelled};
+ghost use Rattle.dt_lex.specs.Pieces.{IsPiece, mode_after, tokens_of};
+ghost use Rattle.dt_lex.specs.Spans.{AreSpans, Reports, fault_of, no_memory};
+
+use crate::cut::cut;
+use crate::label::unlabelled;
+use crate::outcome::{byte_at, outcome};
+use crate::token::{Flaw, Mode, Token, TokenKind, mode_behind};
+use dt_names::{Fault, FaultKind};
+use std::alloc::Global;
+
+/// How many bytes a text may have: 16 MiB.
+pub const TEXT_LIMIT: usize = 16_777_216;
+
+/// A word that was cut off: the token that it gives, its length, whether it ends a line, and the text after it.
+#[derive(Clone, Copy)]
+struct Piece<'a> {
+    kind: Option<TokenKind>,
+    length: usize,
+    fresh: bool,
+    rest: &'a [u8],
+}
+
+/// The word at the front, where so many bytes begin no label.
+fn next_piece(mode: Mode, fresh: bool, unlabelled: usize, text: &[u8]) -> Result<Piece<'_>, Flaw>
+    requires { IsUnlabelled unlabelled text.now }
+    ensures exact { IsPiece mode fresh text.now result }
+    ensures shorter { IfOk result (λ p. p.length + length p.rest.now ≡ length text.now) }
+    ensures some { IfOk result (λ p. 0 < p.length) }
+{
+    let Some((rule, rest)) = cut(mode, fresh, unlabelled, text) else {
+        return Err(Flaw::BadToken);
+    };
+    let length = text.len() - rest.len();
+    let word = &text[..length];
+    let kind = outcome(rule, word)?;
+    let fresh = byte_at(word, length - 1) == b'\n';
+    Ok(Piece {
+        kind,
+        length,
+        fresh,
+        rest,
+    })
+}
+
+/// Appends the token that a word gives, if it gives one, and answers the mode behind it.
+fn give(
+    out: &mut Vec<Token>,
+    mode: Mode,
+    kind: Option<TokenKind>,
+    start: usize,
+    length: usize,
+) -> Result<Mode, Fault>
+    requires { start + length < 2 ^ 32 }
+    ensures tokens { OnOk result (out.new.items ≡ out.old.items ++ tokens_of kind start length) }
+    ensures mode { IfOk result (λ m. m ≡ mode_after kind mode) }
+    ensures err { IfErr result (λ e. e ≡ no_memory) }
+{
+    match kind {
+        None => Ok(mode),
+        Some(kind) => {
+            out.push(Token {
+                kind,
+                start: start as u32,
+                end: (start + length) as u32,
+            })?;
+            Ok(mode_behind(kind, mode))
+        }
+    }
+}
+
+/// The fault that tells of a flaw at a place.
+fn fault_at(flaw: Flaw, place: usize) -> Fault
+    ensures { result ≡ fault_of (record { flaw = flaw; at = place }) }
+{
+    match flaw {
+        Flaw::BadToken => Fault::at(FaultKind::BadToken, place),
+        Flaw::BadInteger => Fault::at(FaultKind::BadInteger, place),
+    }
+}
+
+/// The tokens of a text (Devicetree Specification v0.4, chapter 6), in its order and with their places, in bytes from its
+/// start; what is skipped gives none.
+///
+/// Refused are a text of more than 16,777,216 bytes: Limit; and a text with a flaw, for the first one: BadToken at a byte at
+/// which no token begins, at a comment, a text or a character that isn't closed, and at `/include/`, `/incbin/` and
+/// `/omit-if-no-ref/`; BadInteger at the first byte of an integer with a digit that its base lacks, or of 2^64 or more.
+/// NoMemory only where memory is refused.
+pub fn tokens(alloc: Global, text: &[u8]) -> Result<Vec<Token>, Fault>
+    // What is answered is the text's token list.
+    ensures ok { IfOk result (λ v. (length text.now ≤ text_limit) × IsLexed text.now (Ok v.items)) }
+    ensures spans { IfOk result (λ v. AreSpans 0 (length text.now) v.items) }
+    // A fault is the text's length, or the text's first flaw, and then it has no token list.
+    ensures err { IfErr result (λ e. WhyNotLexed text.now e) }
+    // Nothing else is answered, unless memory is wanted.
+    ensures only { (a : Lexed) → IsLexed text.now a → length text.now ≤ text_limit →
+        MatchResult result (λ v. a ≡ Ok v.items) (λ e. Reports e a) }
+{
+    if text.len() > TEXT_LIMIT {
+        return Err(Fault::of(FaultKind::Limit));
+    }
+    let mut out = Vec::new(alloc);
+    let mut mode = Mode::Name;
+    let mut fresh = true;
+    let mut start = 0;
+    let mut known = 0;
+    let mut rest = text;
+    while !rest.is_empty() {
+        known = unlabelled(rest, known);
+        let next = match next_piece(mode, fresh, known, rest) {
+            Ok(next) => next,
+            Err(flaw) => return Err(fault_at(flaw, start)),
+        };
+        mode = give(&mut out, mode, next.kind, start, next.length)?;
+        start += next.length;
+        known = known.saturating_sub(next.length);
+        fresh = next.fresh;
+        rest = next.rest;
+    }
+    Ok(out)
+}

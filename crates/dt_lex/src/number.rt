@@ -1,0 +1,68 @@
+//! The numbers that digits spell.
+
+ghost use Rattle.std.specs.Prelude.{◌≡◌, ◌<◌, ◌≤◌, ◌+◌, ◌*◌, ◌^◌, true, Some, None, if◌then◌else◌, nat_lt};
+ghost use Rattle.dt_lex.specs.declared.byte.Class.TheVariants as class;
+ghost use Rattle.dt_lex.specs.Bytes.{is_in};
+ghost use Rattle.dt_lex.specs.Numbers.{digit_of, digits, integer_of, base_of};
+ghost use Rattle.dt_lex.specs.Vocabulary.{IsDigits};
+
+use crate::byte::{Class, is_in};
+use crate::word::split;
+
+/// The digit that a byte stands for.
+pub fn digit_of(b: u8) -> u64
+    requires { is_in class.Hex b ≡ true }
+    ensures value { result ≡ digit_of b }
+    ensures bound { result < 16 }
+{
+    if b <= b'9' {
+        u64::from(b - 48)
+    } else if b <= b'F' {
+        u64::from(b - 55)
+    } else {
+        u64::from(b - 87)
+    }
+}
+
+/// A number with one more digit, if 64 bits hold it.
+fn scaled(value: u64, base: u64, digit: u64) -> Option<u64>
+    ensures { result ≡ (if nat_lt (value * base + digit) (2 ^ 64) then Some (value * base + digit) else None) }
+{
+    value.checked_mul(base)?.checked_add(digit)
+}
+
+/// The number that the digits of a class at the front spell.
+pub fn integer(word: &[u8], class: Class, base: u64) -> Option<u64>
+    requires class { IsDigits class }
+    requires base { 2 ≤ base }
+    ensures { result ≡ integer_of base (digits (is_in class) word.now) }
+{
+    let mut rest = word;
+    let mut value = 0;
+    while let Some((first, later)) = split(rest) {
+        if !is_in(class, first) {
+            return Some(value);
+        }
+        let digit = digit_of(first);
+        if digit >= base {
+            return None;
+        }
+        let Some(more) = scaled(value, base, digit) else {
+            return None;
+        };
+        value = more;
+        rest = later;
+    }
+    Some(value)
+}
+
+/// The base of a number without a prefix: octal where its first digit is 0.
+pub fn base_of(word: &[u8]) -> u64
+    ensures value { result ≡ base_of word.now }
+    ensures least { 2 ≤ result }
+{
+    match word.split_first() {
+        Some((b'0', _)) => 8,
+        _ => 10,
+    }
+}
