@@ -1,0 +1,9 @@
+pub mod Bytes
+pub mod Modes
+pub mod Words
+pub mod Numbers
+pub mod Vocabulary
+pub mod Texts
+pub mod Rules
+pub mod Outcomes
+pub mod Lexing

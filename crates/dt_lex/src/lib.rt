@@ -1,0 +1,11 @@
+//! The tokens of devicetree source (Devicetree Specification v0.4, chapter 6).
+//!
+//! A text is read from left to right in one of three modes: names stand at its start and after `{`, `;`, `/delete-node/` and
+//! `/delete-property/`; bytes stand between `[` and `]`; integers, characters and texts stand elsewhere. Blanks, comments and
+//! line markers are skipped. At each place the first rule that has a word there gives the token, which is as long as it can
+//! be; where no rule has one, the text has its first fault.
+#![tactic(auto)]
+
+pub mod byte;
+pub mod rule;
+pub mod token;
