@@ -1,0 +1,2 @@
+//! Sources of devicetree: the grammar of DTS version 1 (Devicetree Specification v0.4, chapter 6).
+#![tactic(auto)]
