@@ -1,2 +1,5 @@
 pub mod Words
 pub mod Grammar
+pub mod Unchecked
+pub mod Relaxed
+pub mod Descent

@@ -1,0 +1,4 @@
+pub mod Descent
+pub mod Expressions
+pub mod Values
+pub mod Bodies
