@@ -2,3 +2,5 @@ pub mod Descent
 pub mod Expressions
 pub mod Values
 pub mod Bodies
+pub mod Sources
+pub mod Headers
