@@ -4,3 +4,5 @@ pub mod Values
 pub mod Bodies
 pub mod Sources
 pub mod Headers
+pub mod Names
+pub mod StrictValues
