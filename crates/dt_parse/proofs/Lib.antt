@@ -6,3 +6,5 @@ pub mod Sources
 pub mod Headers
 pub mod Names
 pub mod StrictValues
+pub mod StrictBodies
+pub mod OneSource
