@@ -1,13 +1,13 @@
 -- The descent reads each body and each statement that a relaxed source spells.
-use Rattle.std.proofs.Common.{◌≡◌, ℕ, Bool, true, false, List, [], ◌∷◌, ◌++◌, map, Option, Some, None, refl, sym, ◌∙◌, ap, subst, append_assoc}
+use Rattle.std.proofs.Common.{◌≡◌, ℕ, List, [], ◌∷◌, ◌++◌, map, refl, ◌∙◌, ap, subst, append_assoc}
 use Rattle.dt_lex.specs.declared.token.TokenKind.TheVariants as kind
 use Rattle.dt_lex.specs.declared.token.Mark.TheVariants as mark
 use Rattle.dt_lex.specs.declared.token.Keyword.TheVariants as keyword
-use Rattle.dt_parse.specs.Words.{Word, Words}
-use Rattle.dt_parse.specs.Unchecked.{a_label, a_path, RawPlace, raw_root, raw_block, raw_delete_node, raw_child, raw_label, raw_property, raw_delete_property, raw_delete_child, raw_close}
-use Rattle.dt_parse.specs.Relaxed.{word, a_mark, a_keyword, a_reference, Labels, Value, Members, no_more_members, a_flag, a_property, a_deleted_property, a_child, a_deleted_child, Statement, a_root_block, a_node_block, a_deleted_node}
-use Rattle.dt_parse.specs.Descent.{made_places, SomeMembers, BlockOpen, OneStatement, move_at, Move, first, found, Does, gives, part_found, Descends}
-use Rattle.dt_parse.proofs.Descent.{by_move, on}
+use Rattle.dt_parse.specs.Words.{Words}
+use Rattle.dt_parse.specs.Unchecked.{a_label, a_path, RawPlace, raw_root, raw_block, raw_child, raw_label, raw_close}
+use Rattle.dt_parse.specs.Relaxed.{word, a_mark, a_keyword, a_reference, Members, no_more_members, a_flag, a_property, a_deleted_property, a_child, a_deleted_child, Statement, a_root_block, a_node_block, a_deleted_node}
+use Rattle.dt_parse.specs.Descent.{made_places, SomeMembers, BlockOpen, OneStatement, Move, found, Does, gives, part_found, Descends}
+use Rattle.dt_parse.proofs.Descent.{on}
 use Rattle.dt_parse.proofs.Values.{complete_labels, complete_value}
 
 abbrev closing : List ℕ → List ℕ → Words → Words

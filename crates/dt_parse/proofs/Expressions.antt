@@ -3,12 +3,11 @@ use Rattle.std.proofs.Common.{◌≡◌, ℕ, zero, suc, ◌+◌, ◌<◌, Bool,
 use Rattle.std.proofs.lemmas.Bool.{eqb-true, eq-eqb}
 use Rattle.std.specs.Prelude.{nat_eq, if◌then◌else◌}
 use Rattle.dt_lex.specs.declared.token.TokenKind.{TokenKind}
-use Rattle.dt_expr.specs.declared.step.Unary.{Unary}
 use Rattle.dt_expr.specs.declared.step.Binary.{Binary}
-use Rattle.dt_expr.specs.Expression.{Expression, number, one_operand, two_operands, conditional}
+use Rattle.dt_expr.specs.Expression.{Expression, two_operands, conditional}
 use Rattle.dt_parse.specs.Words.{Word, Words, unary_of, binary_of, level_of}
 use Rattle.dt_parse.specs.Grammar.{Class, primary, prefixed, joined, whole, SpellsExpression, integer, character, group, no_prefix, with_prefix, tightest, tighter, joins, no_condition, with_condition}
-use Rattle.dt_parse.specs.Descent.{Made, made_expression, Wanted, Any, Level, AfterLeft, Prefix, Prim, Done, AfterCell, kind_at, unary_at, binary_at, with_two, at_operator, at_prefix, at_prim, at_closing, at_question, at_colon, at_cells, Move, give, refuse, want, move_at, first, Outcome, found, Does, gives, part_found, Descends}
+use Rattle.dt_parse.specs.Descent.{Made, made_expression, Wanted, Any, Level, AfterLeft, Prefix, Prim, AfterCell, kind_at, unary_at, binary_at, with_two, at_operator, at_prefix, at_prim, at_closing, at_question, at_colon, at_cells, Move, give, want, first, Outcome, found, Does, gives, part_found, Descends}
 use Rattle.dt_parse.proofs.Descent.{deterministic, by_move, on}
 
 -- no operator of level n or below stands there
@@ -61,13 +60,13 @@ pub complete : {c : Class} {w : Words} {e : Expression} → SpellsExpression c w
 complete (integer w n e) = λ rest. (ap unary_of e, λ b. ap (λ (k : TokenKind). at_cells b (Some k)) e, by_move _ _ (w ∷ rest) _ (ap (λ (k : TokenKind). at_prim (Some k)) e) gives)
 complete (character w n e) = λ rest. (ap unary_of e, λ b. ap (λ (k : TokenKind). at_cells b (Some k)) e, by_move _ _ (w ∷ rest) _ (ap (λ (k : TokenKind). at_prim (Some k)) e) gives)
 complete (group o c ws e is_open is_close s) = λ rest. (
-    ap unary_of is_open,
-    λ b. ap (λ (k : TokenKind). at_cells b (Some k)) is_open,
-    resized _ _ (suc (length ws + 1)) _ e rest (ap suc (sym (length-append ws (c ∷ []))))
-    (by_move _ _ (o ∷ ((ws ++ c ∷ []) ++ rest)) _ (ap (λ (k : TokenKind). at_prim (Some k)) is_open)
-    (part_found (on Any ((ws ++ c ∷ []) ++ rest) (ws ++ c ∷ rest) _ (append_assoc ws (c ∷ []) rest) (complete s (c ∷ rest) (ap binary_of is_close, λ x. ap (λ (k : TokenKind). at_question x (Some k)) is_close)))
-    (by_move _ _ (c ∷ rest) _ (ap (λ (k : TokenKind). at_closing (made_expression (length ws) e) (Some k)) is_close) gives))),
-  )
+  ap unary_of is_open,
+  λ b. ap (λ (k : TokenKind). at_cells b (Some k)) is_open,
+  resized _ _ (suc (length ws + 1)) _ e rest (ap suc (sym (length-append ws (c ∷ []))))
+      (by_move _ _ (o ∷ ((ws ++ c ∷ []) ++ rest)) _ (ap (λ (k : TokenKind). at_prim (Some k)) is_open)
+      (part_found (on Any ((ws ++ c ∷ []) ++ rest) (ws ++ c ∷ rest) _ (append_assoc ws (c ∷ []) rest) (complete s (c ∷ rest) (ap binary_of is_close, λ x. ap (λ (k : TokenKind). at_question x (Some k)) is_close)))
+      (by_move _ _ (c ∷ rest) _ (ap (λ (k : TokenKind). at_closing (made_expression (length ws) e) (Some k)) is_close) gives))),
+)
 complete (no_prefix ws e s) = λ rest. by_move _ _ (ws ++ rest) _ (ap at_prefix (complete s rest).0) (part_found (complete s rest).2 gives)
 complete (with_prefix w ws e op u s) = λ rest. by_move _ _ (w ∷ (ws ++ rest)) _ (ap at_prefix u) (part_found (complete s rest) gives)
 complete (tightest ws e s) = λ rest. part_found (complete s rest) gives

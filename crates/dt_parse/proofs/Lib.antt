@@ -8,3 +8,4 @@ pub mod Names
 pub mod StrictValues
 pub mod StrictBodies
 pub mod OneSource
+pub mod SmallSources

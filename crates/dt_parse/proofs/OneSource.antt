@@ -1,14 +1,18 @@
 -- Each source that the grammar spells is a relaxed one that says it, so that tokens are one source's alone.
 use Rattle.std.proofs.Common.{◌≡◌, ℕ, List, [], ◌∷◌, ◌++◌, length, map, refl, sym, ◌∙◌, ap, subst, append_assoc}
-use Rattle.dt_lex.specs.declared.token.Mark.TheVariants as mark
-use Rattle.dt_lex.specs.declared.token.Keyword.TheVariants as keyword
-use Rattle.dt_parse.specs.Words.{Word, Words}
-use Rattle.dt_parse.specs.Grammar.{Says, SpellsReservations, no_reservations, reserved, SpellsSource}
-use Rattle.dt_parse.specs.Unchecked.{RawPlace, RawReserve, RawSource, reserve_of, says_of}
-use Rattle.dt_parse.specs.Relaxed.{Behind, no_more_reserves, another_reserve, RelaxedSource}
-use Rattle.dt_parse.proofs.Names.{word_is, LabelsOf, labels_of}
-use Rattle.dt_parse.proofs.StrictValues.{number_is}
-use Rattle.dt_parse.proofs.StrictBodies.{StatementsOf, statements_of}
+use Rattle.dt_model.specs.Source.{Reference, Part}
+use Rattle.dt_lex.specs.declared.token.TokenKind.{TokenKind}
+use Rattle.dt_lex.specs.declared.token.TokenKind.TheVariants as kind
+use Rattle.dt_parse.specs.Words.{Word, Words, IsReferenceWord}
+use Rattle.dt_parse.specs.Grammar.{primary, SpellsNumber, SpellsValue, Says, SpellsReservations, no_reservations, reserved, SpellsSource}
+use Rattle.dt_parse.specs.Unchecked.{Target, a_label, a_path, number_in, value_parts, reference_in, RawPlace, RawReserve, RawSource, reserve_of, says_of}
+use Rattle.dt_parse.specs.Relaxed.{a_reference, Behind, no_more_reserves, another_reserve, RelaxedSource}
+use Rattle.dt_parse.proofs.Descent.{deterministic}
+use Rattle.dt_parse.proofs.Expressions.{one_reading}
+use Rattle.dt_parse.proofs.Values.{complete_value}
+use Rattle.dt_parse.proofs.Names.{word_is, labels_of, reference_word}
+use Rattle.dt_parse.proofs.StrictValues.{number_is, value_of}
+use Rattle.dt_parse.proofs.StrictBodies.{statements_of}
 use Rattle.dt_parse.proofs.Headers.{one_relaxed}
 
 record BehindOf (us : Words) (rs : List (ℕ × ℕ)) (xs : Words) (ps : List RawPlace) : Type 0 where
@@ -28,7 +32,7 @@ behind_of (reserved us vs ws others k s ls address size rs l g a z e is t) xs ps
       raw = raw;
       relaxed = subst (λ (x : Words). Behind x raw ps)
           ((λ i. us ++ sym (word_is k _ g) i ∷ (vs ++ (ws ++ sym (word_is s _ e) i ∷ (others ++ xs))))
-            ∙ sym (append_assoc us (k ∷ (vs ++ (ws ++ s ∷ others))) xs ∙ ap (λ (x : Words). us ++ k ∷ x) (append_assoc vs (ws ++ s ∷ others) xs ∙ ap (λ (x : Words). vs ++ x) (append_assoc ws (s ∷ others) xs))))
+          ∙ sym (append_assoc us (k ∷ (vs ++ (ws ++ s ∷ others))) xs ∙ ap (λ (x : Words). us ++ k ∷ x) (append_assoc vs (ws ++ s ∷ others) xs ∙ ap (λ (x : Words). vs ++ x) (append_assoc ws (s ∷ others) xs))))
           (another_reserve us vs ws (others ++ xs) k.bytes s.bytes labels.raw a.expression z.expression r.raw ps labels.relaxed a.spelled z.spelled r.relaxed);
       says = λ i. (first i, second i) ∷ r.says i;
     }
@@ -53,3 +57,32 @@ one_source ws s t h k =
     let a = source_of ws s h in
     let b = source_of ws t k in
     sym a.says ∙ ap says_of (one_relaxed ws a.raw b.raw a.relaxed b.relaxed) ∙ b.says
+
+-- ---- its parts
+
+pub one_number : (ws : Words) (m n : ℕ) → SpellsNumber ws m → SpellsNumber ws n → m ≡ n
+one_number ws m n s t = sym (number_is s) ∙ ap number_in (one_reading primary ws s.expression t.expression s.spelled t.spelled) ∙ number_is t
+
+pub one_value : (ws : Words) (v u : List Part) → SpellsValue ws v → SpellsValue ws u → v ≡ u
+one_value ws v u s t =
+    let a = value_of s in
+    let b = value_of t in
+    let same = deterministic (complete_value a.relaxed [] []) (complete_value b.relaxed [] []) in
+    let raw : a.raw ≡ b.raw = cc in
+    sym a.says ∙ ap value_parts raw ∙ b.says
+
+target_of : (k : TokenKind) → Target
+target_of kind.LabelReference = a_label
+target_of _ = a_path
+
+target_is : (w : Word) (t : Target) → w ≡ a_reference t w.bytes → target_of w.kind ≡ t
+unfolding target_of
+target_is w a_label e = ap (λ (x : Word). target_of x.kind) e
+target_is w a_path e = ap (λ (x : Word). target_of x.kind) e
+
+pub one_reference : (w : Word) (r s : Reference) → IsReferenceWord w r → IsReferenceWord w s → r ≡ s
+one_reference w r s h k =
+    let a = reference_word h in
+    let b = reference_word k in
+    let same : a.target ≡ b.target = sym (target_is w a.target a.is) ∙ target_is w b.target b.is in
+    sym a.says ∙ ap (λ (t : Target). reference_in t w.bytes) same ∙ b.says

@@ -1,14 +1,12 @@
 -- The descent reads each relaxed source.
-use Rattle.std.proofs.Common.{◌≡◌, ℕ, Bool, true, false, List, [], ◌∷◌, ◌++◌, length, Option, Some, None, refl, sym, ◌∙◌, ap, subst, append_assoc}
+use Rattle.std.proofs.Common.{◌≡◌, ℕ, false, List, [], ◌∷◌, ◌++◌, Option, refl, sym, subst}
 use Rattle.std.proofs.lemmas.List.{append-nil}
-use Rattle.dt_lex.specs.declared.token.TokenKind.{TokenKind}
-use Rattle.dt_lex.specs.declared.token.TokenKind.TheVariants as kind
 use Rattle.dt_lex.specs.declared.token.Mark.TheVariants as mark
 use Rattle.dt_lex.specs.declared.token.Keyword.TheVariants as keyword
 use Rattle.dt_parse.specs.Words.{Word, Words}
-use Rattle.dt_parse.specs.Unchecked.{a_label, a_path, RawPlace, RawReserve, RawSource}
-use Rattle.dt_parse.specs.Relaxed.{word, a_mark, a_keyword, Labels, no_more_labels, another_label, Statement, a_root_block, a_node_block, a_deleted_node, Statements, only_statement, first_statement, Behind, no_more_reserves, another_reserve, RelaxedSource}
-use Rattle.dt_parse.specs.Descent.{Made, made_places, made_behind, places_in, SomeStatements, StatementThen, Top, Done, kind_at, at_more_statements, at_top, Move, want, move_at, first, found, Does, gives, part_found, Descends}
+use Rattle.dt_parse.specs.Unchecked.{a_label, a_path, RawPlace, RawReserve}
+use Rattle.dt_parse.specs.Relaxed.{a_mark, a_keyword, Labels, no_more_labels, another_label, Statement, a_root_block, a_node_block, a_deleted_node, Statements, only_statement, first_statement, Behind, no_more_reserves, another_reserve}
+use Rattle.dt_parse.specs.Descent.{made_places, made_behind, places_in, SomeStatements, StatementThen, Top, Done, kind_at, at_more_statements, at_top, want, first, found, gives, part_found, Descends}
 use Rattle.dt_parse.proofs.Descent.{by_move, on}
 use Rattle.dt_parse.proofs.Expressions.{complete}
 use Rattle.dt_parse.proofs.Values.{NoLabel, complete_labels}

@@ -1,17 +1,14 @@
 -- Each body and each statement that the grammar spells is a relaxed one that says it.
 use Rattle.std.proofs.Common.{◌≡◌, ℕ, List, [], ◌∷◌, ◌++◌, map, refl, sym, ◌∙◌, ap, subst, append_assoc}
-use Rattle.std.proofs.lemmas.List.{append-nil, map-append}
+use Rattle.std.proofs.lemmas.List.{map-append}
 use Rattle.dt_model.specs.Names.{Name}
 use Rattle.dt_model.specs.Source.{Part, Place, root, block, delete_node, child, label, property, delete_property, delete_child, close}
-use Rattle.dt_lex.specs.declared.token.TokenKind.TheVariants as kind
 use Rattle.dt_lex.specs.declared.token.Mark.TheVariants as mark
-use Rattle.dt_lex.specs.declared.token.Keyword.TheVariants as keyword
 use Rattle.dt_parse.specs.Words.{Word, Words, IsMark, IsPropertyWord}
 use Rattle.dt_parse.specs.Grammar.{SpellsAssigned, empty, assigned, SpellsProperties, no_properties, defined, deleted, SpellsChildren, no_children, opened, removed, SpellsBody, SpellsStatement, root_block, node_block, node_deleted, SpellsStatements, last_statement, more_statements}
 use Rattle.dt_parse.specs.Unchecked.{RawComponent, RawPlace, raw_root, raw_block, raw_delete_node, raw_child, raw_label, raw_property, raw_delete_property, raw_delete_child, raw_close, value_parts, place_of}
-use Rattle.dt_parse.specs.Relaxed.{word, a_mark, a_keyword, Labels, no_more_labels, Members, no_more_members, a_flag, a_property, a_deleted_property, a_child, a_deleted_child, Statement, a_root_block, a_node_block, a_deleted_node, Statements, only_statement, first_statement}
-use Rattle.dt_parse.proofs.Values.{three}
-use Rattle.dt_parse.proofs.Names.{word_is, ReferenceOf, reference_word, LabelsOf, labels_of, labels_say}
+use Rattle.dt_parse.specs.Relaxed.{a_mark, Labels, no_more_labels, Members, no_more_members, a_flag, a_property, a_deleted_property, a_child, a_deleted_child, Statement, a_root_block, a_node_block, a_deleted_node, Statements, only_statement, first_statement}
+use Rattle.dt_parse.proofs.Names.{word_is, reference_word, labels_of, labels_say}
 use Rattle.dt_parse.proofs.StrictValues.{value_of}
 
 -- ---- properties
@@ -91,7 +88,7 @@ children_of (opened around us properties children ws w o c s n ls ps cs places l
       raw = raw;
       relaxed = subst (λ (x : Words). Members x raw)
           ((λ i. us ++ sym (word_is w _ is.kind) i ∷ sym (word_is o _ e) i ∷ ((properties ++ children) ++ sym (word_is c _ f) i ∷ sym (word_is s _ g) i ∷ ws))
-            ∙ ap (λ (x : Words). us ++ w ∷ o ∷ x) (append_assoc properties children (c ∷ s ∷ ws)))
+          ∙ ap (λ (x : Words). us ++ w ∷ o ∷ x) (append_assoc properties children (c ∷ s ∷ ws)))
           (a_child us (properties ++ children) ws w.bytes o.bytes c.bytes s.bytes labels.raw body.raw r.raw labels.relaxed body.relaxed r.relaxed);
       says = λ i. child (is.bytes i) ∷ said i;
     }

@@ -1,20 +1,17 @@
 -- Each value that the grammar spells is a relaxed one that says it.
-use Rattle.std.proofs.Common.{◌≡◌, ℕ, Bool, true, false, List, [], ◌∷◌, ◌++◌, length, map, Option, Some, None, refl, sym, ◌∙◌, ap, subst, append_assoc}
+use Rattle.std.proofs.Common.{◌≡◌, ℕ, true, List, [], ◌∷◌, ◌++◌, length, map, Option, refl, sym, ◌∙◌, ap, subst}
 use Rattle.std.specs.Option.{option_map_or}
 use Rattle.std.specs.Int.{to_be_bytes, Width}
 use Rattle.std.proofs.lemmas.List.{append-nil}
 use Rattle.dt_model.specs.Source.{Part, one, number_of, text_of}
-use Rattle.dt_lex.specs.declared.token.TokenKind.TheVariants as kind
 use Rattle.dt_lex.specs.declared.token.Mark.TheVariants as mark
-use Rattle.dt_lex.specs.declared.token.Keyword.TheVariants as keyword
-use Rattle.dt_lex.specs.Texts.{text_bytes}
 use Rattle.dt_expr.specs.Fits.{element}
 use Rattle.dt_parse.specs.Words.{Word, Words, IsMark}
-use Rattle.dt_parse.specs.Grammar.{SpellsNumber, IsWidth, bits_8, bits_16, bits_32, bits_64, SpellsCells, no_cells, cell_label, cell_number, cell_reference, SpellsBytes, no_bytes, byte_label, one_byte, SpellsBits, no_bits, some_bits, SpellsItem, cells, string, bytes, path, SpellsComponent, SpellsValue, last, more}
-use Rattle.dt_parse.specs.Unchecked.{Target, RawCell, label_cell, number_cell, reference_cell, byte_cell, RawItem, cell_item, text_item, byte_item, path_item, RawComponent, width_of, number_in, cells_parts, item_parts, value_parts, reference_in}
-use Rattle.dt_parse.specs.Relaxed.{word, a_mark, a_keyword, a_reference, is_width, Labels, Cells, no_more_cells, a_label_cell, a_number_cell, a_reference_cell, Bytes, no_more_bytes, a_label_byte, another_byte, Item, plain_cells, sized_cells, a_text, some_bytes, a_path_text, Value, last_component, more_components}
+use Rattle.dt_parse.specs.Grammar.{SpellsNumber, IsWidth, bits_8, bits_16, bits_32, bits_64, SpellsCells, no_cells, cell_label, cell_number, cell_reference, SpellsBytes, no_bytes, byte_label, one_byte, SpellsBits, no_bits, some_bits, SpellsItem, cells, string, bytes, path, SpellsValue, last, more}
+use Rattle.dt_parse.specs.Unchecked.{RawCell, label_cell, number_cell, reference_cell, byte_cell, RawItem, cell_item, text_item, byte_item, path_item, RawComponent, width_of, number_in, cells_parts, item_parts, value_parts}
+use Rattle.dt_parse.specs.Relaxed.{a_mark, is_width, Cells, no_more_cells, a_label_cell, a_number_cell, a_reference_cell, Bytes, no_more_bytes, a_label_byte, another_byte, Item, plain_cells, sized_cells, a_text, some_bytes, a_path_text, Value, last_component, more_components}
 use Rattle.dt_parse.proofs.Values.{three}
-use Rattle.dt_parse.proofs.Names.{word_is, ReferenceOf, reference_word, LabelsOf, labels_of}
+use Rattle.dt_parse.proofs.Names.{word_is, reference_word, labels_of}
 
 pub number_is : {ws : Words} {n : ℕ} (s : SpellsNumber ws n) → number_in s.expression ≡ n
 number_is s = ap (λ (o : Option ℕ). option_map_or (λ (n : ℕ). n) o 0) s.evaluated
@@ -148,7 +145,7 @@ value_of (more us ws comma parts others c e s) =
     let r = value_of s in
     let raw : List RawComponent = record { before = b.raw; item = i.raw; behind = l.raw } ∷ r.raw in
     let same : c.before ++ (c.item ++ (c.behind ++ a_mark mark.Comma comma.bytes ∷ ws)) ≡ us ++ comma ∷ ws =
-        ap (λ (x : Word). c.before ++ (c.item ++ (c.behind ++ x ∷ ws))) (sym (word_is comma _ e)) ∙ sym (three c.before c.item c.behind (comma ∷ ws)) ∙ ap (λ (x : Words). x ++ comma ∷ ws) (sym c.together) in
+    ap (λ (x : Word). c.before ++ (c.item ++ (c.behind ++ x ∷ ws))) (sym (word_is comma _ e)) ∙ sym (three c.before c.item c.behind (comma ∷ ws)) ∙ ap (λ (x : Words). x ++ comma ∷ ws) (sym c.together) in
     record {
       raw = raw;
       relaxed = subst (λ (x : Words). Value x raw) same (more_components c.before c.item c.behind ws comma.bytes b.raw l.raw i.raw r.raw b.relaxed i.relaxed l.relaxed r.relaxed);

@@ -1,13 +1,13 @@
 -- The descent reads each value that a relaxed source spells.
-use Rattle.std.proofs.Common.{◌≡◌, ℕ, Bool, true, false, List, [], ◌∷◌, ◌++◌, length, Option, Some, None, refl, sym, ◌∙◌, ap, append_assoc}
+use Rattle.std.proofs.Common.{◌≡◌, ℕ, Bool, true, false, List, [], ◌∷◌, ◌++◌, Option, refl, ◌∙◌, ap, append_assoc}
 use Rattle.std.specs.Prelude.{if◌then◌else◌}
 use Rattle.dt_lex.specs.declared.token.TokenKind.TheVariants as kind
 use Rattle.dt_lex.specs.declared.token.Mark.TheVariants as mark
 use Rattle.dt_lex.specs.declared.token.Keyword.TheVariants as keyword
 use Rattle.dt_parse.specs.Words.{Word, Words}
-use Rattle.dt_parse.specs.Unchecked.{a_label, a_path, RawCell, number_cell, RawItem, RawComponent}
+use Rattle.dt_parse.specs.Unchecked.{a_label, a_path, RawCell, RawItem, RawComponent}
 use Rattle.dt_parse.specs.Relaxed.{word, a_mark, a_keyword, Labels, no_more_labels, another_label, Cells, no_more_cells, a_label_cell, a_number_cell, a_reference_cell, Bytes, no_more_bytes, a_label_byte, another_byte, Item, plain_cells, sized_cells, a_text, some_bytes, a_path_text, Value, last_component, more_components}
-use Rattle.dt_parse.specs.Descent.{made_labels, made_cells, made_item, made_value, SomeLabels, SomeCells, SomeBytes, OneItem, BitsNumber, BitsOpen, OneValue, Done, kind_at, at_labels, at_cells, at_bytes, want, give, refuse, move_at, first, found, Does, gives, part_found, Descends}
+use Rattle.dt_parse.specs.Descent.{made_labels, made_cells, made_item, made_value, SomeLabels, SomeCells, SomeBytes, OneItem, BitsOpen, OneValue, Done, kind_at, at_labels, want, give, refuse, first, found, gives, part_found, Descends}
 use Rattle.dt_parse.proofs.Descent.{by_move, on}
 use Rattle.dt_parse.proofs.Expressions.{complete}
 
@@ -44,9 +44,9 @@ complete_item (sized_cells k i a z bits ws cs w s) rest =
     on OneItem _ (a_keyword keyword.Bits k ∷ word (kind.Integer bits) i ∷ cells) _
     (ap (λ (l : Words). a_keyword keyword.Bits k ∷ word (kind.Integer bits) i ∷ a_mark mark.Less a ∷ l) (append_assoc ws (a_mark mark.Greater z ∷ []) rest))
     (part_found
-      (by_move _ _ (word (kind.Integer bits) i ∷ cells) _ (ap (λ (b : Bool). if b then want true (BitsOpen bits) Done else refuse) w)
-      (part_found (part_found (complete_cells s z rest) gives) gives))
-      gives)
+    (by_move _ _ (word (kind.Integer bits) i ∷ cells) _ (ap (λ (b : Bool). if b then want true (BitsOpen bits) Done else refuse) w)
+    (part_found (part_found (complete_cells s z rest) gives) gives))
+    gives)
 complete_item (a_text b) rest = gives
 complete_item (some_bytes a z ws cs s) rest =
     on OneItem _ (a_mark mark.OpenBracket a ∷ (ws ++ a_mark mark.CloseBracket z ∷ rest)) _ (ap (λ (l : Words). a_mark mark.OpenBracket a ∷ l) (append_assoc ws (a_mark mark.CloseBracket z ∷ []) rest))

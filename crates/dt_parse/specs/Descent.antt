@@ -1,7 +1,7 @@
 -- A descent with one token of look-ahead, over relaxed sources: what is wanted next, and what the next token makes of it.
 -- Relaxed is all that is checked on what is made: that properties stand before children, how deep bodies stand, that names,
 -- labels and references are ones, that references in cells are cells, how long an expression is and what value it has.
-use Rattle.std.specs.Prelude.{◌≡◌, ℕ, zero, suc, ◌+◌, Bool, true, false, List, [], ◌∷◌, ◌++◌, map, Option, Some, None, nat_eq, if◌then◌else◌}
+use Rattle.std.specs.Prelude.{ℕ, zero, suc, ◌+◌, Bool, true, false, List, [], ◌∷◌, ◌++◌, map, Option, Some, None, nat_eq, if◌then◌else◌}
 use Rattle.dt_lex.specs.declared.token.TokenKind.{TokenKind}
 use Rattle.dt_lex.specs.declared.token.TokenKind.TheVariants as kind
 use Rattle.dt_lex.specs.declared.token.Mark.TheVariants as mark
@@ -10,7 +10,7 @@ use Rattle.dt_expr.specs.declared.step.Unary.{Unary}
 use Rattle.dt_expr.specs.declared.step.Binary.{Binary}
 use Rattle.dt_expr.specs.Expression.{Expression, number, one_operand, two_operands, conditional}
 use Rattle.dt_parse.specs.Words.{Word, Words, unary_of, binary_of, level_of}
-use Rattle.dt_parse.specs.Unchecked.{Target, a_label, a_path, RawCell, label_cell, number_cell, reference_cell, byte_cell, RawItem, cell_item, text_item, byte_item, path_item, RawComponent, RawPlace, raw_root, raw_block, raw_delete_node, raw_child, raw_label, raw_property, raw_delete_property, raw_delete_child, raw_close, RawReserve, RawSource}
+use Rattle.dt_parse.specs.Unchecked.{a_label, a_path, RawCell, label_cell, number_cell, reference_cell, byte_cell, RawItem, cell_item, text_item, byte_item, path_item, RawComponent, RawPlace, raw_root, raw_block, raw_delete_node, raw_child, raw_label, raw_property, raw_delete_property, raw_delete_child, raw_close, RawReserve, RawSource}
 use Rattle.dt_parse.specs.Relaxed.{is_width}
 
 -- what is made of tokens

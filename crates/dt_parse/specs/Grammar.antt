@@ -1,6 +1,6 @@
 -- The grammar of devicetree source, DTS version 1 (Devicetree Specification v0.4, chapter 6): which tokens are a source, and
 -- what its places are.
-use Rattle.std.specs.Prelude.{◌≡◌, ℕ, suc, ◌<◌, ◌≤◌, ◌⊎◌, Bool, true, false, List, [], ◌∷◌, ◌++◌, length, map, Option, Some, None}
+use Rattle.std.specs.Prelude.{◌≡◌, ℕ, suc, ◌<◌, ◌≤◌, Bool, true, false, List, [], ◌∷◌, ◌++◌, length, map, Some}
 use Rattle.std.specs.Int.{w8, w16, w32, w64, to_be_bytes, Width}
 use Rattle.dt_model.specs.Names.{Name}
 use Rattle.dt_model.specs.Valid.{IsReservation}
@@ -135,7 +135,7 @@ pub data SpellsChildren : ℕ → Words → List Place → Type 0 where
       SpellsLabels us ls → IsNodeWord w n → IsMark mark.OpenBrace opening → around < 65 → SpellsProperties properties ps →
       SpellsChildren (suc around) children cs → IsMark mark.CloseBrace closing → IsMark mark.Semicolon semicolon → SpellsChildren around ws places →
       SpellsChildren around (us ++ w ∷ opening ∷ (properties ++ (children ++ closing ∷ semicolon ∷ ws)))
-        (child n ∷ (map label ls ++ (ps ++ (cs ++ close ∷ places))))
+      (child n ∷ (map label ls ++ (ps ++ (cs ++ close ∷ places))))
   removed : (around : ℕ) (us ws : Words) (k w semicolon : Word) (n : Name) (ls : List Name) (places : List Place) →
       SpellsLabels us ls → IsKeyword keyword.DeleteNode k → IsNodeWord w n → IsMark mark.Semicolon semicolon → SpellsChildren around ws places →
       SpellsChildren around (us ++ k ∷ w ∷ semicolon ∷ ws) (delete_child n ∷ places)

@@ -3,3 +3,4 @@ pub mod Grammar
 pub mod Unchecked
 pub mod Relaxed
 pub mod Descent
+pub mod Samples

@@ -1,7 +1,7 @@
 -- Sources that aren't checked: a body's properties and children stand in any order and in any depth, names, labels and
 -- references are any words of their kind, references stand in cells of any size, and expressions are of any length and have
 -- any value or none. The tokens of a source that is one otherwise are these, and the place of a syntax fault is by these.
-use Rattle.std.specs.Prelude.{◌≡◌, ℕ, ◌==◌, ◌||◌, Bool, true, false, List, [], ◌∷◌, ◌++◌, length, map}
+use Rattle.std.specs.Prelude.{◌≡◌, ℕ, ◌==◌, ◌||◌, Bool, true, List, [], ◌∷◌, ◌++◌, length, map}
 use Rattle.dt_lex.specs.declared.token.TokenKind.{TokenKind}
 use Rattle.dt_lex.specs.declared.token.TokenKind.TheVariants as kind
 use Rattle.dt_lex.specs.declared.token.Mark.{Mark}
@@ -80,7 +80,7 @@ pub data Members : Words → List RawPlace → Type 0 where
       Members (us ++ a_keyword keyword.DeleteProperty k ∷ word kind.Name n ∷ a_mark mark.Semicolon s ∷ ws) (raw_delete_property ls n ∷ ps)
   a_child : (us vs ws : Words) (n a z s : List ℕ) (ls : List (List ℕ)) (cs ps : List RawPlace) → Labels us ls → Members vs cs → Members ws ps →
       Members (us ++ word kind.Name n ∷ a_mark mark.OpenBrace a ∷ (vs ++ a_mark mark.CloseBrace z ∷ a_mark mark.Semicolon s ∷ ws))
-        (raw_child n ∷ (map raw_label ls ++ (cs ++ raw_close ∷ ps)))
+      (raw_child n ∷ (map raw_label ls ++ (cs ++ raw_close ∷ ps)))
   a_deleted_child : (us ws : Words) (k n s : List ℕ) (ls : List (List ℕ)) (ps : List RawPlace) → Labels us ls → Members ws ps →
       Members (us ++ a_keyword keyword.DeleteNode k ∷ word kind.Name n ∷ a_mark mark.Semicolon s ∷ ws) (raw_delete_child ls n ∷ ps)
 
@@ -88,10 +88,10 @@ pub data Members : Words → List RawPlace → Type 0 where
 pub data Statement : List (List ℕ) → Words → List RawPlace → Type 0 where
   a_root_block : (c a z s : List ℕ) (ws : Words) (cs : List RawPlace) → Members ws cs →
       Statement [] (a_mark mark.Slash c ∷ a_mark mark.OpenBrace a ∷ (ws ++ a_mark mark.CloseBrace z ∷ a_mark mark.Semicolon s ∷ []))
-        (raw_root ∷ (cs ++ raw_close ∷ []))
+      (raw_root ∷ (cs ++ raw_close ∷ []))
   a_node_block : (ls : List (List ℕ)) (t : Target) (b a z s : List ℕ) (ws : Words) (cs : List RawPlace) → Members ws cs →
       Statement ls (a_reference t b ∷ a_mark mark.OpenBrace a ∷ (ws ++ a_mark mark.CloseBrace z ∷ a_mark mark.Semicolon s ∷ []))
-        (raw_block t b ∷ (map raw_label ls ++ (cs ++ raw_close ∷ [])))
+      (raw_block t b ∷ (map raw_label ls ++ (cs ++ raw_close ∷ [])))
   a_deleted_node : (t : Target) (k b s : List ℕ) →
       Statement [] (a_keyword keyword.DeleteNode k ∷ a_reference t b ∷ a_mark mark.Semicolon s ∷ []) (raw_delete_node t b ∷ [])
 
@@ -107,7 +107,7 @@ pub data Behind : Words → List RawReserve → List RawPlace → Type 0 where
   another_reserve : (us vs ws xs : Words) (k s : List ℕ) (ls : List (List ℕ)) (d e : Expression) (rs : List RawReserve) (ps : List RawPlace) →
       Labels us ls → SpellsExpression primary vs d → SpellsExpression primary ws e → Behind xs rs ps →
       Behind (us ++ a_keyword keyword.Memreserve k ∷ (vs ++ (ws ++ a_mark mark.Semicolon s ∷ xs)))
-        (record { labels = ls; address_size = length vs; address = d; length_size = length ws; length = e } ∷ rs) ps
+      (record { labels = ls; address_size = length vs; address = d; length_size = length ws; length = e } ∷ rs) ps
 
 -- header {header} {reserve} statement {statement}
 pub record RelaxedSource (ws : Words) (s : RawSource) : Type 0 where

@@ -1,5 +1,5 @@
 -- Tokens with their bytes, and the names, labels, references and operators that they are.
-use Rattle.std.specs.Prelude.{◌≡◌, ℕ, ◌-◌, List, [], ◌∷◌, ◌++◌, map, slice_range, Option, Some, None, codes, ◌⊎◌}
+use Rattle.std.specs.Prelude.{◌≡◌, ℕ, List, ◌++◌, map, slice_range, Option, Some, None, codes}
 use Rattle.std.specs.List.{AllByRecursion}
 use Rattle.dt_model.specs.Names.{Name, IsNodeName, IsPropertyName, IsLabel}
 use Rattle.dt_model.specs.Path.{Path, path_text}
