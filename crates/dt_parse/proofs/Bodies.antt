@@ -6,7 +6,8 @@ use Rattle.dt_lex.specs.declared.token.Keyword.TheVariants as keyword
 use Rattle.dt_parse.specs.Words.{Words}
 use Rattle.dt_parse.specs.Unchecked.{a_label, a_path, RawPlace, raw_root, raw_block, raw_child, raw_label, raw_close}
 use Rattle.dt_parse.specs.Relaxed.{word, a_mark, a_keyword, a_reference, Members, no_more_members, a_flag, a_property, a_deleted_property, a_child, a_deleted_child, Statement, a_root_block, a_node_block, a_deleted_node}
-use Rattle.dt_parse.specs.Descent.{made_places, SomeMembers, BlockOpen, OneStatement, Move, found, Does, gives, part_found, Descends}
+use Rattle.dt_parse.specs.Wanted.{made_places, SomeMembers, BlockOpen, OneStatement, Move}
+use Rattle.dt_parse.specs.Descent.{found, Does, gives, part_found, Descends}
 use Rattle.dt_parse.proofs.Descent.{on}
 use Rattle.dt_parse.proofs.Values.{complete_labels, complete_value}
 

@@ -1,7 +1,8 @@
 -- What holds of every descent: it has one outcome, and looks at no token past the one that it stops at.
 use Rattle.std.proofs.Common.{◌≡◌, Bool, true, false, [], ◌∷◌, ◌++◌, Option, None, refl, sym, ◌∙◌, ap, subst, append_assoc}
 use Rattle.dt_parse.specs.Words.{Word, Words}
-use Rattle.dt_parse.specs.Descent.{Made, Wanted, Move, give, want, move_at, first, after, Outcome, found, stuck, Does, gives, refuses, part_stuck, part_found, Descends}
+use Rattle.dt_parse.specs.Wanted.{Made, Wanted, Move, give, want}
+use Rattle.dt_parse.specs.Descent.{move_at, first, after, Outcome, found, stuck, Does, gives, refuses, part_stuck, part_found, Descends}
 
 -- the descent that follows a part's outcome
 abbrev Follows : (Made → Wanted) → Outcome → Outcome → Type 0

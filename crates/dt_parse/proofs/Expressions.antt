@@ -7,7 +7,9 @@ use Rattle.dt_expr.specs.declared.step.Binary.{Binary}
 use Rattle.dt_expr.specs.Expression.{Expression, two_operands, conditional}
 use Rattle.dt_parse.specs.Words.{Word, Words, unary_of, binary_of, level_of}
 use Rattle.dt_parse.specs.Grammar.{Class, primary, prefixed, joined, whole, SpellsExpression, integer, character, group, no_prefix, with_prefix, tightest, tighter, joins, no_condition, with_condition}
-use Rattle.dt_parse.specs.Descent.{Made, made_expression, Wanted, Any, Level, AfterLeft, Prefix, Prim, AfterCell, kind_at, unary_at, binary_at, with_two, at_operator, at_prefix, at_prim, at_closing, at_question, at_colon, at_cells, Move, give, want, first, Outcome, found, Does, gives, part_found, Descends}
+use Rattle.dt_parse.specs.Wanted.{Made, made_expression, Wanted, Any, Level, AfterLeft, Prefix, Prim, AfterCell, kind_at, unary_at, binary_at, Move, give, want}
+use Rattle.dt_parse.specs.Moves.{with_two, at_operator, at_prefix, at_prim, at_closing, at_question, at_colon, at_cells}
+use Rattle.dt_parse.specs.Descent.{first, Outcome, found, Does, gives, part_found, Descends}
 use Rattle.dt_parse.proofs.Descent.{deterministic, by_move, on}
 
 -- no operator of level n or below stands there

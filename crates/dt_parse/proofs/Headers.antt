@@ -8,7 +8,9 @@ use Rattle.dt_parse.specs.Words.{Word, Words, IsKeyword, IsMark}
 use Rattle.dt_parse.specs.Grammar.{SpellsHeaders, base_header, plugin_header, more_headers}
 use Rattle.dt_parse.specs.Unchecked.{a_label, a_path, RawPlace, RawReserve, RawSource}
 use Rattle.dt_parse.specs.Relaxed.{Labels, no_more_labels, another_label, Statement, a_root_block, a_node_block, a_deleted_node, Statements, only_statement, first_statement, Behind, no_more_reserves, another_reserve, RelaxedSource}
-use Rattle.dt_parse.specs.Descent.{Made, made_source, Wanted, Whole, AfterVersion, AfterHeader, PluginEnd, MoreHeaders, NextVersion, NextHeader, Top, Done, kind_at, at_version, at_semicolon, at_first_plugin, at_next_plugin, at_header, source_with, want, first, found, Does, gives, part_found, Descends}
+use Rattle.dt_parse.specs.Wanted.{Made, made_source, Wanted, Whole, AfterVersion, AfterHeader, PluginEnd, MoreHeaders, NextVersion, NextHeader, Top, Done, kind_at, want}
+use Rattle.dt_parse.specs.Moves.{at_version, at_semicolon, at_first_plugin, at_next_plugin, at_header, source_with}
+use Rattle.dt_parse.specs.Descent.{first, found, Does, gives, part_found, Descends}
 use Rattle.dt_parse.proofs.Descent.{deterministic, by_move, on}
 use Rattle.dt_parse.proofs.Sources.{complete_behind}
 

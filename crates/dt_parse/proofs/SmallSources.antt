@@ -13,7 +13,8 @@ use Rattle.dt_parse.specs.Words.{Word, Words, to_label}
 use Rattle.dt_parse.specs.Grammar.{no_labels, one_label, SpellsExpression, joined, integer, group, no_prefix, tightest, tighter, joins, no_condition, SpellsNumber, no_cells, cell_number, cell_reference, no_bits, SpellsItem, cells, last, assigned, SpellsProperties, no_properties, defined, deleted, SpellsChildren, no_children, opened, SpellsBody, root_block, node_deleted, last_statement, more_statements, no_reservations, base_header, Says, SpellsSource}
 use Rattle.dt_parse.specs.Samples.{empty_root, empty_root_says, unended_root, small_source, small_source_says}
 use Rattle.dt_parse.specs.Relaxed.{word, a_mark, a_keyword}
-use Rattle.dt_parse.specs.Descent.{Whole, stuck, refuses, gives, part_stuck, part_found, Descends}
+use Rattle.dt_parse.specs.Wanted.{Whole}
+use Rattle.dt_parse.specs.Descent.{stuck, refuses, gives, part_stuck, part_found, Descends}
 use Rattle.dt_parse.proofs.Descent.{deterministic}
 use Rattle.dt_parse.proofs.Headers.{complete_source}
 use Rattle.dt_parse.proofs.OneSource.{source_of}

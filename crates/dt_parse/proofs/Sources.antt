@@ -6,7 +6,9 @@ use Rattle.dt_lex.specs.declared.token.Keyword.TheVariants as keyword
 use Rattle.dt_parse.specs.Words.{Word, Words}
 use Rattle.dt_parse.specs.Unchecked.{a_label, a_path, RawPlace, RawReserve}
 use Rattle.dt_parse.specs.Relaxed.{a_mark, a_keyword, Labels, no_more_labels, another_label, Statement, a_root_block, a_node_block, a_deleted_node, Statements, only_statement, first_statement, Behind, no_more_reserves, another_reserve}
-use Rattle.dt_parse.specs.Descent.{made_places, made_behind, places_in, SomeStatements, StatementThen, Top, Done, kind_at, at_more_statements, at_top, want, first, found, gives, part_found, Descends}
+use Rattle.dt_parse.specs.Wanted.{made_places, made_behind, places_in, SomeStatements, StatementThen, Top, Done, kind_at, want}
+use Rattle.dt_parse.specs.Moves.{at_more_statements, at_top}
+use Rattle.dt_parse.specs.Descent.{first, found, gives, part_found, Descends}
 use Rattle.dt_parse.proofs.Descent.{by_move, on}
 use Rattle.dt_parse.proofs.Expressions.{complete}
 use Rattle.dt_parse.proofs.Values.{NoLabel, complete_labels}

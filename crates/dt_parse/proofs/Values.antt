@@ -7,7 +7,9 @@ use Rattle.dt_lex.specs.declared.token.Keyword.TheVariants as keyword
 use Rattle.dt_parse.specs.Words.{Word, Words}
 use Rattle.dt_parse.specs.Unchecked.{a_label, a_path, RawCell, RawItem, RawComponent}
 use Rattle.dt_parse.specs.Relaxed.{word, a_mark, a_keyword, Labels, no_more_labels, another_label, Cells, no_more_cells, a_label_cell, a_number_cell, a_reference_cell, Bytes, no_more_bytes, a_label_byte, another_byte, Item, plain_cells, sized_cells, a_text, some_bytes, a_path_text, Value, last_component, more_components}
-use Rattle.dt_parse.specs.Descent.{made_labels, made_cells, made_item, made_value, SomeLabels, SomeCells, SomeBytes, OneItem, BitsOpen, OneValue, Done, kind_at, at_labels, want, give, refuse, first, found, gives, part_found, Descends}
+use Rattle.dt_parse.specs.Wanted.{made_labels, made_cells, made_item, made_value, SomeLabels, SomeCells, SomeBytes, OneItem, BitsOpen, OneValue, Done, kind_at, want, give, refuse}
+use Rattle.dt_parse.specs.Moves.{at_labels}
+use Rattle.dt_parse.specs.Descent.{first, found, gives, part_found, Descends}
 use Rattle.dt_parse.proofs.Descent.{by_move, on}
 use Rattle.dt_parse.proofs.Expressions.{complete}
 
