@@ -22,7 +22,7 @@ complete_block : (ps cs : List RawPlace) (a z s : List ℕ) (ws rest : Words) �
 complete_block ps cs a z s ws rest d = part_found (d z (a_mark mark.Semicolon s ∷ rest)) (part_found gives gives)
 
 -- what a child says, and what is said behind it
-child_then : (c : RawPlace) (ls cs ps : List RawPlace) → (c ∷ (ls ++ (cs ++ raw_close ∷ []))) ++ ps ≡ c ∷ (ls ++ (cs ++ raw_close ∷ ps))
+pub child_then : (c : RawPlace) (ls cs ps : List RawPlace) → (c ∷ (ls ++ (cs ++ raw_close ∷ []))) ++ ps ≡ c ∷ (ls ++ (cs ++ raw_close ∷ ps))
 child_then c ls cs ps = ap (λ (l : List RawPlace). c ∷ l) (append_assoc ls (cs ++ raw_close ∷ []) ps ∙ ap (λ (l : List RawPlace). ls ++ l) (append_assoc cs (raw_close ∷ []) ps))
 
 places_as : (m : Move) (s : Words) (ps qs : List RawPlace) (r : Words) → ps ≡ qs → Does m s (found (made_places ps) r) → Does m s (found (made_places qs) r)

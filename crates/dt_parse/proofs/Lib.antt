@@ -9,3 +9,7 @@ pub mod StrictValues
 pub mod StrictBodies
 pub mod OneSource
 pub mod SmallSources
+pub mod Means
+pub mod SoundExpressions
+pub mod SoundValues
+pub mod SoundBodies
