@@ -13,3 +13,5 @@ pub mod Means
 pub mod SoundExpressions
 pub mod SoundValues
 pub mod SoundBodies
+pub mod SoundSources
+pub mod Sound
