@@ -7,6 +7,7 @@ pub mod Headers
 pub mod Names
 pub mod StrictValues
 pub mod StrictBodies
+pub mod StrictStatements
 pub mod OneSource
 pub mod SmallSources
 pub mod Means

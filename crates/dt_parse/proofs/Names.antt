@@ -1,14 +1,15 @@
 -- What a word says is a function of its bytes: a label, and a reference with its path.
+use Rattle.dt_parse.specs.Strict.{IsLabelText, AreLabelTexts, IsReferenceText}
 use Rattle.std.proofs.Common.{◌≡◌, ℕ, ◌==◌, ◌<◌, Bool, true, false, ◌||◌, List, [], ◌∷◌, ◌++◌, map, drop, codes, refl, sym, ap, subst, ◌∙◌, true≢false, append_assoc, IsTrue, arith}
 use Rattle.std.specs.Prelude.{if◌then◌else◌}
 use Rattle.std.specs.List.{AllByRecursion}
 use Rattle.std.proofs.lemmas.Bool.{eqb-true}
 use Rattle.std.proofs.lemmas.List.Elements.{recursion_from_All}
-use Rattle.dt_model.specs.Names.{Name, IsNodeName, is_name_byte}
+use Rattle.dt_model.specs.Names.{Name, IsNodeName, IsLabel, is_name_byte}
 use Rattle.dt_model.specs.Path.{Path, path_text}
 use Rattle.dt_model.specs.Source.{Reference, by_label, by_path, Place, label}
 use Rattle.dt_lex.specs.declared.token.TokenKind.{TokenKind}
-use Rattle.dt_parse.specs.Words.{Word, Words, IsReferenceWord, to_label, to_path}
+use Rattle.dt_parse.specs.Words.{Word, Words, IsReferenceWord, IsLabelWord, to_label, to_path}
 use Rattle.dt_parse.specs.Grammar.{SpellsLabels, no_labels, one_label}
 use Rattle.dt_parse.specs.Unchecked.{Target, a_label, a_path, raw_label, all_but_last, onto_first, ended_names, path_of_names, reference_in, place_of}
 use Rattle.dt_parse.specs.Relaxed.{word, a_reference, Labels, no_more_labels, another_label}
@@ -70,6 +71,9 @@ pub reference_word : {w : Word} {r : Reference} → IsReferenceWord w r → Refe
 reference_word {w = w} (to_label l k b v) = record { target = a_label; is = word_is w _ k; says = ap (λ (z : List ℕ). by_label (drop 1 z)) b }
 reference_word {w = w} (to_path p k b v) = record { target = a_path; is = word_is w _ k; says = ap (λ (z : List ℕ). by_path (path_of_names (ended_names (drop 3 z)))) b ∙ ap by_path (path_back p v) }
 
+pub spelled_reference : {w : Word} {r : Reference} (h : IsReferenceWord w r) (f : ReferenceOf w r) → IsReferenceText f.target w.bytes
+spelled_reference {w = w} {r = r} h f = subst (λ (z : Reference). IsReferenceWord (a_reference f.target w.bytes) z) (sym f.says) (subst (λ (x : Word). IsReferenceWord x r) f.is h)
+
 -- ---- labels
 
 all_but_colon : (l : Name) (b : ℕ) → all_but_last (l ++ b ∷ []) ≡ l
@@ -77,20 +81,30 @@ all_but_colon [] b = refl
 all_but_colon (x ∷ []) b = refl
 all_but_colon (x ∷ y ∷ l) b = ap (λ (z : List ℕ). x ∷ z) (all_but_colon (y ∷ l) b)
 
+label_is : {w : Word} {l : Name} → IsLabelWord w l → all_but_last w.bytes ≡ l
+label_is {l = l} is = ap all_but_last is.bytes ∙ all_but_colon l 58
+
+pub label_text : {w : Word} {l : Name} → IsLabelWord w l → IsLabelText w.bytes
+label_text is =
+    let this = label_is is in
+    record { colon = is.bytes ∙ ap (λ (z : List ℕ). z ++ codes ":") (sym this); valid = subst IsLabel (sym this) is.valid }
+
 pub record LabelsOf (ws : Words) (ls : List Name) : Type 0 where
   pub raw : List (List ℕ)
   pub relaxed : Labels ws raw
   pub says : map all_but_last raw ≡ ls
+  pub strict : AreLabelTexts raw
 
 pub labels_of : {ws : Words} {ls : List Name} → SpellsLabels ws ls → LabelsOf ws ls
-labels_of no_labels = record { raw = []; relaxed = no_more_labels; says = refl }
+labels_of no_labels = record { raw = []; relaxed = no_more_labels; says = refl; strict = tt }
 labels_of (one_label w ws l ls is s) =
     let r = labels_of s in
-    let this : all_but_last w.bytes ≡ l = ap all_but_last is.bytes ∙ all_but_colon l 58 in
+    let this = label_is is in
     record {
       raw = w.bytes ∷ r.raw;
       relaxed = subst (λ (x : Word). Labels (x ∷ ws) (w.bytes ∷ r.raw)) (sym (word_is w _ is.kind)) (another_label w.bytes ws r.raw r.relaxed);
       says = λ i. this i ∷ r.says i;
+      strict = (label_text is, r.strict);
     }
 
 label_places : (raw : List (List ℕ)) → map place_of (map raw_label raw) ≡ map label (map all_but_last raw)

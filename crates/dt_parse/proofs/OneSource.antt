@@ -1,4 +1,8 @@
 -- Each source that the grammar spells is a relaxed one that says it, so that tokens are one source's alone.
+use Rattle.std.specs.List.{AllByRecursion}
+use Rattle.std.proofs.lemmas.List.{append-nil}
+use Rattle.dt_model.specs.Valid.{IsReservation}
+use Rattle.dt_parse.specs.Strict.{IsReserve, IsOrdered, IsStrict}
 use Rattle.std.proofs.Common.{◌≡◌, ℕ, List, [], ◌∷◌, ◌++◌, length, map, refl, sym, ◌∙◌, ap, subst, append_assoc}
 use Rattle.dt_model.specs.Source.{Reference, Part}
 use Rattle.dt_lex.specs.declared.token.TokenKind.{TokenKind}
@@ -11,17 +15,18 @@ use Rattle.dt_parse.proofs.Descent.{deterministic}
 use Rattle.dt_parse.proofs.Expressions.{one_reading}
 use Rattle.dt_parse.proofs.Values.{complete_value}
 use Rattle.dt_parse.proofs.Names.{word_is, labels_of, reference_word}
-use Rattle.dt_parse.proofs.StrictValues.{number_is, value_of}
-use Rattle.dt_parse.proofs.StrictBodies.{statements_of}
+use Rattle.dt_parse.proofs.StrictValues.{number_is, strict_number, value_of}
+use Rattle.dt_parse.proofs.StrictStatements.{statements_of}
 use Rattle.dt_parse.proofs.Headers.{one_relaxed}
 
 record BehindOf (us : Words) (rs : List (ℕ × ℕ)) (xs : Words) (ps : List RawPlace) : Type 0 where
   raw : List RawReserve
   relaxed : Behind (us ++ xs) raw ps
   says : map reserve_of raw ≡ rs
+  strict : AllByRecursion IsReserve raw
 
 behind_of : {us : Words} {rs : List (ℕ × ℕ)} → SpellsReservations us rs → (xs : Words) (ps : List RawPlace) → Behind xs [] ps → BehindOf us rs xs ps
-behind_of no_reservations xs ps b = record { raw = []; relaxed = b; says = refl }
+behind_of no_reservations xs ps b = record { raw = []; relaxed = b; says = refl; strict = tt }
 behind_of (reserved us vs ws others k s ls address size rs l g a z e is t) xs ps b =
     let labels = labels_of l in
     let r = behind_of t xs ps b in
@@ -35,12 +40,17 @@ behind_of (reserved us vs ws others k s ls address size rs l g a z e is t) xs ps
           ∙ sym (append_assoc us (k ∷ (vs ++ (ws ++ s ∷ others))) xs ∙ ap (λ (x : Words). us ++ k ∷ x) (append_assoc vs (ws ++ s ∷ others) xs ∙ ap (λ (x : Words). vs ++ x) (append_assoc ws (s ∷ others) xs))))
           (another_reserve us vs ws (others ++ xs) k.bytes s.bytes labels.raw a.expression z.expression r.raw ps labels.relaxed a.spelled z.spelled r.relaxed);
       says = λ i. (first i, second i) ∷ r.says i;
+      strict = (
+        record { labels = labels.strict; address = strict_number a; length = strict_number z; valid = subst IsReservation (λ i. (sym first i, sym second i)) is },
+        r.strict,
+      );
     }
 
 pub record SourceOf (ws : Words) (s : Says) : Type 0 where
   pub raw : RawSource
   pub relaxed : RelaxedSource ws raw
   pub says : says_of raw ≡ s
+  pub strict : IsStrict raw
 
 pub source_of : (ws : Words) (s : Says) → SpellsSource ws s → SourceOf ws s
 source_of ws s h =
@@ -50,6 +60,7 @@ source_of ws s h =
       raw = record { plugin = s.plugin; reserves = reserves.raw; places = places.raw };
       relaxed = record { headers = h.headers; others = h.reserves ++ h.statements; together = h.together; spelled_headers = h.spelled_headers; behind = reserves.relaxed };
       says = λ i. record { plugin = s.plugin; reservations = reserves.says i; places = places.says i };
+      strict = record { reserves = reserves.strict; places = places.sound; ordered = subst (IsOrdered []) (append-nil places.raw) (places.ordered [] tt) };
     }
 
 pub one_source : (ws : Words) (s t : Says) → SpellsSource ws s → SpellsSource ws t → s ≡ t

@@ -6,3 +6,4 @@ pub mod Wanted
 pub mod Moves
 pub mod Descent
 pub mod Samples
+pub mod Strict
