@@ -16,3 +16,5 @@ pub mod SoundValues
 pub mod SoundBodies
 pub mod SoundSources
 pub mod Sound
+pub mod CheckedValues
+pub mod CheckedBodies

@@ -107,7 +107,7 @@ labels_of (one_label w ws l ls is s) =
       strict = (label_text is, r.strict);
     }
 
-label_places : (raw : List (List ℕ)) → map place_of (map raw_label raw) ≡ map label (map all_but_last raw)
+pub label_places : (raw : List (List ℕ)) → map place_of (map raw_label raw) ≡ map label (map all_but_last raw)
 label_places [] = refl
 label_places (l ∷ raw) = ap (λ (z : List Place). label (all_but_last l) ∷ z) (label_places raw)
 

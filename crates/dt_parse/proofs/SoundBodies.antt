@@ -22,7 +22,7 @@ statement_as ls ws xs ps qs e f m = subst (λ (l : Words). Statement ls l qs) e 
 pub sound_members : (k : Option Word) → SoundAt SomeMembers k
 sound_members k = λ u v x y h f. f u h
 
-unlabelled : {u : Words} {ls : List (List ℕ)} → Labels u ls → ls ≡ [] → u ≡ []
+pub unlabelled : {u : Words} {ls : List (List ℕ)} → Labels u ls → ls ≡ [] → u ≡ []
 unlabelled no_more_labels e = refl
 unlabelled (another_label b ws ls s) e = absurd (cc)
 
