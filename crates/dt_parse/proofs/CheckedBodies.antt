@@ -1,12 +1,12 @@
 -- A relaxed body that passes the checks is one that the grammar spells.
-use Rattle.std.proofs.Common.{◌≡◌, ℕ, suc, Bool, true, false, true≢false, List, [], ◌∷◌, ◌++◌, length, map, refl, sym, ◌∙◌, ap, subst, append_assoc}
+use Rattle.std.proofs.Common.{◌≡◌, ℕ, Bool, true, false, true≢false, List, [], ◌∷◌, ◌++◌, length, map, refl, sym, ◌∙◌, ap, subst, append_assoc}
 use Rattle.std.specs.List.{AllByRecursion}
-use Rattle.dt_model.specs.Source.{Place, child, label, property, delete_property, delete_child, close}
+use Rattle.dt_model.specs.Source.{Place, child, label, property, delete_property}
 use Rattle.dt_lex.specs.declared.token.TokenKind.TheVariants as kind
 use Rattle.dt_lex.specs.declared.token.Mark.TheVariants as mark
 use Rattle.dt_lex.specs.declared.token.Keyword.TheVariants as keyword
 use Rattle.dt_parse.specs.Words.{Words}
-use Rattle.dt_parse.specs.Grammar.{empty, assigned, SpellsProperties, no_properties, defined, deleted, SpellsChildren, no_children, opened, removed, SpellsBody}
+use Rattle.dt_parse.specs.Grammar.{empty, assigned, SpellsProperties, no_properties, defined, deleted, SpellsChildren, no_children, opened, removed}
 use Rattle.dt_parse.specs.Unchecked.{RawPlace, raw_child, raw_label, raw_close, all_but_last, value_parts, place_of}
 use Rattle.dt_parse.specs.Relaxed.{word, a_mark, a_keyword, Members, no_more_members, a_flag, a_property, a_deleted_property, a_child, a_deleted_child}
 use Rattle.dt_parse.specs.Strict.{AreLabelTexts, IsSound, IsOrdered}
@@ -136,23 +136,23 @@ members_back (a_child us vs ws n a z s ls cs ps l c m) g b bodies rest h =
     let texts = label_texts ls (all_front IsSound (map raw_label ls) (cs ++ raw_close ∷ ps) g.1) in
     let inside = all_behind IsSound (map raw_label ls) (cs ++ raw_close ∷ ps) g.1 in
     let inner = members_back c (all_front IsSound cs (raw_close ∷ ps) inside) false (true ∷ bodies) (raw_close ∷ (ps ++ rest))
-        (behind_labels ls (false ∷ true ∷ bodies) (cs ++ raw_close ∷ (ps ++ rest)) (subst (IsOrdered (false ∷ true ∷ bodies)) (child_regroup (map raw_label ls) cs ps rest) h.1)) in
+    (behind_labels ls (false ∷ true ∷ bodies) (cs ++ raw_close ∷ (ps ++ rest)) (subst (IsOrdered (false ∷ true ∷ bodies)) (child_regroup (map raw_label ls) cs ps rest) h.1)) in
     let r = members_back m (all_behind IsSound cs (raw_close ∷ ps) inside).1 true bodies rest inner.ordered in
     let said = body_says (map raw_label ls) cs ps (map label (map all_but_last ls)) inner.properties inner.children (map place_of ps) (label_places ls) inner.says refl in
     let end = a_mark mark.CloseBrace z ∷ a_mark mark.Semicolon s ∷ ws in
     let front = λ (x : Words). us ++ word kind.Name n ∷ a_mark mark.OpenBrace a ∷ x in
     let whole = opened (length (b ∷ bodies)) us inner.us inner.vs ws (word kind.Name n) (a_mark mark.OpenBrace a) (a_mark mark.CloseBrace z) (a_mark mark.Semicolon s) n (map all_but_last ls)
-        inner.properties inner.children (map place_of ps) (labels_back l texts) (record { kind = refl; bytes = refl; valid = g.0 }) refl h.0 inner.spelled_properties inner.spelled_children refl refl
-        (children_alone bodies ws ps rest r) in
+    inner.properties inner.children (map place_of ps) (labels_back l texts) (record { kind = refl; bytes = refl; valid = g.0 }) refl h.0 inner.spelled_properties inner.spelled_children refl refl
+    (children_alone bodies ws ps rest r) in
     child_first b bodies (front (vs ++ end)) (raw_child n) (map raw_label ls ++ (cs ++ raw_close ∷ ps)) rest r.stood
     (subst (λ (x : Words). SpellsChildren (length (b ∷ bodies)) x (child n ∷ map place_of (map raw_label ls ++ (cs ++ raw_close ∷ ps))))
-      (ap front (sym (append_assoc inner.us inner.vs end)) ∙ ap (λ (x : Words). front (x ++ end)) (sym inner.together))
-      (subst (λ (x : List Place). SpellsChildren (length (b ∷ bodies)) (front (inner.us ++ (inner.vs ++ end))) (child n ∷ x)) (sym said) whole))
+    (ap front (sym (append_assoc inner.us inner.vs end)) ∙ ap (λ (x : Words). front (x ++ end)) (sym inner.together))
+    (subst (λ (x : List Place). SpellsChildren (length (b ∷ bodies)) (front (inner.us ++ (inner.vs ++ end))) (child n ∷ x)) (sym said) whole))
     r.ordered
 members_back (a_deleted_child us ws k n s ls ps l m) g b bodies rest h =
     let r = members_back m g.1 true bodies rest h in
     let deletion = a_keyword keyword.DeleteNode k in
     child_first b bodies (us ++ deletion ∷ word kind.Name n ∷ a_mark mark.Semicolon s ∷ ws) _ ps rest r.stood
     (removed (length (b ∷ bodies)) us ws deletion (word kind.Name n) (a_mark mark.Semicolon s) n (map all_but_last ls) (map place_of ps) (labels_back l g.0.0) refl (record { kind = refl; bytes = refl; valid = g.0.1 }) refl
-      (children_alone bodies ws ps rest r))
+    (children_alone bodies ws ps rest r))
     r.ordered

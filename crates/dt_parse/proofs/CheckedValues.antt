@@ -1,9 +1,8 @@
 -- A relaxed value that passes the checks is one that the grammar spells.
-use Rattle.std.proofs.Common.{◌≡◌, ℕ, ◌==◌, ◌||◌, Bool, true, false, true≢false, List, [], ◌∷◌, ◌++◌, length, map, refl, sym, ◌∙◌, ap, subst, append_assoc}
+use Rattle.std.proofs.Common.{◌≡◌, ℕ, ◌==◌, ◌||◌, Bool, true, false, true≢false, List, [], ◌∷◌, ◌++◌, length, map, refl, sym, subst}
 use Rattle.std.specs.List.{AllByRecursion}
 use Rattle.std.proofs.lemmas.Bool.{eqb-true}
 use Rattle.std.proofs.lemmas.List.{append-nil}
-use Rattle.dt_model.specs.Source.{Part}
 use Rattle.dt_lex.specs.declared.token.TokenKind.TheVariants as kind
 use Rattle.dt_lex.specs.declared.token.Mark.TheVariants as mark
 use Rattle.dt_lex.specs.declared.token.Keyword.TheVariants as keyword
@@ -47,7 +46,7 @@ item_back : {ws : Words} {i : RawItem} → Item ws i → IsItem i → SpellsItem
 item_back (plain_cells a z ws cs s) h = cells [] ws (a_mark mark.Less a) (a_mark mark.Greater z) 32 (width_of 32) (cells_parts 32 cs) no_bits refl refl (cells_back 32 s h)
 item_back (sized_cells k i a z bits ws cs w s) h =
     cells (a_keyword keyword.Bits k ∷ word (kind.Integer bits) i ∷ []) ws (a_mark mark.Less a) (a_mark mark.Greater z) bits (width_of bits) (cells_parts bits cs)
-      (some_bits (a_keyword keyword.Bits k) (word (kind.Integer bits) i) bits (width_of bits) refl refl (width_back bits w)) refl refl (cells_back bits s h)
+    (some_bits (a_keyword keyword.Bits k) (word (kind.Integer bits) i) bits (width_of bits) refl refl (width_back bits w)) refl refl (cells_back bits s h)
 item_back (a_text b) h = string (word kind.Text b) refl
 item_back (some_bytes a z ws cs s) h = bytes ws (a_mark mark.OpenBracket a) (a_mark mark.CloseBracket z) (cells_parts 8 cs) refl refl (bytes_back s h)
 item_back (a_path_text t b) h = path (a_reference t b) (reference_in t b) h

@@ -18,3 +18,4 @@ pub mod SoundSources
 pub mod Sound
 pub mod CheckedValues
 pub mod CheckedBodies
+pub mod CheckedSources

@@ -1,12 +1,12 @@
 -- What the descent reads is a relaxed source; where it is stuck, no relaxed source goes on.
-use Rattle.std.proofs.Common.{◌≡◌, ℕ, suc, ◌+◌, ◌-◌, Bool, true, false, List, [], ◌∷◌, ◌++◌, length, take, Option, Some, None, refl, sym, ◌∙◌, ap, subst, append_assoc, arith, length-append}
+use Rattle.std.proofs.Common.{◌≡◌, ℕ, suc, ◌+◌, ◌-◌, Bool, true, false, [], ◌∷◌, ◌++◌, length, take, Option, refl, sym, ◌∙◌, ap, subst, append_assoc, arith, length-append}
 use Rattle.std.proofs.lemmas.List.{append-nil}
 use Rattle.dt_parse.specs.Words.{Word, Words}
 use Rattle.dt_parse.specs.Unchecked.{RawSource}
 use Rattle.dt_parse.specs.Relaxed.{RelaxedSource}
-use Rattle.dt_parse.specs.Wanted.{Made, made_source, Wanted, Any, AfterCondition, AfterThis, Level, AfterLeft, Prefix, Prim, Closing, Done, SomeLabels, SomeCells, AfterCell, SomeBytes, OneItem, BitsNumber, BitsOpen, CellsEnd, BytesEnd, OneValue, AfterComponentLabels, BehindItem, AfterComponent, SomeMembers, AfterMemberLabels, More, AfterName, DeletedProperty, DeletedChild, BlockOpen, BlockClose, Ending, OneStatement, DeletedNode, SomeStatements, StatementThen, MoreStatements, Top, AfterTopLabels, AfterAddress, ReserveEnd, Whole, AfterVersion, AfterHeader, PluginEnd, MoreHeaders, NextVersion, NextHeader, Move, want}
-use Rattle.dt_parse.specs.Descent.{move_at, first, after, Outcome, found, stuck, Does, gives, refuses, part_stuck, part_found, Descends}
-use Rattle.dt_parse.proofs.Descent.{deterministic, local, Local, same_first, moved, on}
+use Rattle.dt_parse.specs.Wanted.{Made, Wanted, Any, AfterCondition, AfterThis, Level, AfterLeft, Prefix, Prim, Closing, Done, SomeLabels, SomeCells, AfterCell, SomeBytes, OneItem, BitsNumber, BitsOpen, CellsEnd, BytesEnd, OneValue, AfterComponentLabels, BehindItem, AfterComponent, SomeMembers, AfterMemberLabels, More, AfterName, DeletedProperty, DeletedChild, BlockOpen, BlockClose, Ending, OneStatement, DeletedNode, SomeStatements, StatementThen, MoreStatements, Top, AfterTopLabels, AfterAddress, ReserveEnd, Whole, AfterVersion, AfterHeader, PluginEnd, MoreHeaders, NextVersion, NextHeader, Move, want}
+use Rattle.dt_parse.specs.Descent.{first, after, Outcome, found, stuck, Does, gives, refuses, part_stuck, part_found, Descends}
+use Rattle.dt_parse.proofs.Descent.{deterministic, local, same_first, moved, on}
 use Rattle.dt_parse.proofs.Headers.{complete_source}
 use Rattle.dt_parse.proofs.Means.{Means, source_in, taken_of, Sound, SoundAt}
 use Rattle.dt_parse.proofs.SoundExpressions.{sound_any, sound_condition, sound_this, sound_level, sound_left, sound_prefix, sound_prim, sound_closing}

@@ -1,17 +1,17 @@
 -- What is read as a body or a statement is a relaxed one.
-use Rattle.std.proofs.Common.{◌≡◌, ℕ, Bool, true, false, List, [], ◌∷◌, ◌++◌, map, Option, Some, None, refl, sym, ◌∙◌, ap, subst, append_assoc}
+use Rattle.std.proofs.Common.{◌≡◌, ℕ, true, List, [], ◌∷◌, ◌++◌, map, Option, Some, None, refl, sym, ◌∙◌, ap, subst, append_assoc}
 use Rattle.std.proofs.lemmas.List.{append-nil}
 use Rattle.dt_lex.specs.declared.token.TokenKind.{TokenKind}
 use Rattle.dt_lex.specs.declared.token.TokenKind.TheVariants as kind
 use Rattle.dt_lex.specs.declared.token.Mark.TheVariants as mark
 use Rattle.dt_lex.specs.declared.token.Keyword.TheVariants as keyword
 use Rattle.dt_parse.specs.Words.{Word, Words}
-use Rattle.dt_parse.specs.Unchecked.{Target, a_label, a_path, RawPlace, raw_root, raw_block, raw_delete_node, raw_child, raw_label, raw_property, raw_delete_property, raw_delete_child, raw_close}
-use Rattle.dt_parse.specs.Relaxed.{word, a_mark, a_keyword, a_reference, Labels, no_more_labels, another_label, Value, Members, no_more_members, a_flag, a_property, a_deleted_property, a_child, a_deleted_child, Statement, a_root_block, a_node_block, a_deleted_node, Statements, only_statement, first_statement}
-use Rattle.dt_parse.specs.Wanted.{Made, made_places, value_in, places_in, SomeMembers, AfterMemberLabels, More, AfterName, DeletedProperty, DeletedChild, BlockOpen, BlockClose, Ending, OneStatement, DeletedNode, SomeStatements, StatementThen, MoreStatements, Done, want, give, refuse}
+use Rattle.dt_parse.specs.Unchecked.{Target, a_label, a_path, RawPlace, raw_root, raw_block, raw_delete_node, raw_child, raw_label}
+use Rattle.dt_parse.specs.Relaxed.{word, a_mark, a_keyword, a_reference, Labels, no_more_labels, another_label, Members, no_more_members, a_flag, a_property, a_deleted_property, a_child, a_deleted_child, Statement, a_root_block, a_node_block, a_deleted_node, Statements, only_statement, first_statement}
+use Rattle.dt_parse.specs.Wanted.{Made, made_places, value_in, places_in, SomeMembers, AfterMemberLabels, More, AfterName, DeletedProperty, DeletedChild, BlockOpen, BlockClose, Ending, OneStatement, DeletedNode, SomeStatements, StatementThen, MoreStatements, Done, want}
 use Rattle.dt_parse.specs.Moves.{no_member, without_labels}
 use Rattle.dt_parse.proofs.Bodies.{child_then}
-use Rattle.dt_parse.proofs.Means.{IsBlock, IsBlockEnd, IsLast, Means, Sound, SoundAt, at_each, at_nothing}
+use Rattle.dt_parse.proofs.Means.{Sound, SoundAt, at_each, at_nothing}
 
 members_as : (ws xs : Words) (ps qs : List RawPlace) → ws ≡ xs → ps ≡ qs → Members ws ps → Members xs qs
 members_as ws xs ps qs e f m = subst (λ (l : Words). Members l qs) e (subst (λ (l : List RawPlace). Members ws l) f m)
@@ -57,9 +57,9 @@ sound_name ls n = at_each (SoundAt (AfterName ls n)) tt at
         let front = λ (l : Words). p ++ word kind.Name n ∷ l in
         at_nothing (λ (l : Words) (e : Made). Members (p ++ word kind.Name n ∷ (l ++ q)) (places_in e ++ qs)) u v x y f
         (members_as _ _ _ _
-          (ap (λ (l : Words). front (a_mark mark.OpenBrace h.a ∷ l)) (sym (append_assoc h.inner (a_mark mark.CloseBrace h.z ∷ a_mark mark.Semicolon h.s ∷ []) q)) ∙ ap (λ (l : Words). front (l ++ q)) (sym h.together))
-          (sym (ap (λ (l : List RawPlace). l ++ qs) h.made ∙ child_then (raw_child n) (map raw_label ls) h.cs qs))
-          (a_child p h.inner q n h.a h.z h.s ls h.cs qs s h.members t))
+        (ap (λ (l : Words). front (a_mark mark.OpenBrace h.a ∷ l)) (sym (append_assoc h.inner (a_mark mark.CloseBrace h.z ∷ a_mark mark.Semicolon h.s ∷ []) q)) ∙ ap (λ (l : Words). front (l ++ q)) (sym h.together))
+        (sym (ap (λ (l : List RawPlace). l ++ qs) h.made ∙ child_then (raw_child n) (map raw_label ls) h.cs qs))
+        (a_child p h.inner q n h.a h.z h.s ls h.cs qs s h.members t))
     at _ b = tt
 
 pub sound_deleted_property : (ls : List (List ℕ)) (k : Option Word) → SoundAt (DeletedProperty ls) k
@@ -69,7 +69,7 @@ sound_deleted_property ls = at_each (SoundAt (DeletedProperty ls)) tt at
     at kind.Name b = λ u v x y h f p q k qs s t.
         at_nothing (λ (l : Words) (e : Made). Members (p ++ a_keyword keyword.DeleteProperty k ∷ word kind.Name b ∷ (l ++ q)) (places_in e ++ qs)) u v x y f
         (members_as _ _ _ _ (ap (λ (l : Words). p ++ a_keyword keyword.DeleteProperty k ∷ word kind.Name b ∷ (l ++ q)) (sym h.0.together)) (ap (λ (l : List RawPlace). l ++ qs) (sym h.1))
-          (a_deleted_property p q k b h.0.bytes ls qs s t))
+        (a_deleted_property p q k b h.0.bytes ls qs s t))
     at _ b = tt
 
 pub sound_deleted_child : (ls : List (List ℕ)) (k : Option Word) → SoundAt (DeletedChild ls) k
@@ -79,7 +79,7 @@ sound_deleted_child ls = at_each (SoundAt (DeletedChild ls)) tt at
     at kind.Name b = λ u v x y h f p q k qs s t.
         at_nothing (λ (l : Words) (e : Made). Members (p ++ a_keyword keyword.DeleteNode k ∷ word kind.Name b ∷ (l ++ q)) (places_in e ++ qs)) u v x y f
         (members_as _ _ _ _ (ap (λ (l : Words). p ++ a_keyword keyword.DeleteNode k ∷ word kind.Name b ∷ (l ++ q)) (sym h.0.together)) (ap (λ (l : List RawPlace). l ++ qs) (sym h.1))
-          (a_deleted_child p q k b h.0.bytes ls qs s t))
+        (a_deleted_child p q k b h.0.bytes ls qs s t))
     at _ b = tt
 
 pub sound_block_open : (ps : List RawPlace) (k : Option Word) → SoundAt (BlockOpen ps) k

@@ -9,11 +9,11 @@ use Rattle.dt_lex.specs.declared.token.Mark.TheVariants as mark
 use Rattle.dt_expr.specs.declared.step.Unary.{Unary}
 use Rattle.dt_expr.specs.declared.step.Binary.{Binary}
 use Rattle.dt_parse.specs.Words.{Word, Words, unary_of, binary_of, level_of}
-use Rattle.dt_parse.specs.Grammar.{Class, primary, prefixed, joined, whole, integer, character, group, no_prefix, with_prefix, tightest, tighter, joins, no_condition, with_condition}
+use Rattle.dt_parse.specs.Grammar.{Class, prefixed, joined, whole, integer, character, group, no_prefix, with_prefix, tightest, tighter, joins, no_condition, with_condition}
 use Rattle.dt_parse.specs.Relaxed.{word}
 use Rattle.dt_parse.specs.Wanted.{Made, size_in, expression_in, Any, AfterCondition, AfterThis, Level, AfterLeft, Prefix, Prim, Closing, give, want}
 use Rattle.dt_parse.specs.Moves.{with_one, with_two, with_three, at_operator, at_prefix}
-use Rattle.dt_parse.proofs.Means.{Spelled, Means, Sound, SoundAt, at_each, at_nothing}
+use Rattle.dt_parse.proofs.Means.{Spelled, Sound, SoundAt, at_each, at_nothing}
 
 ended : (c : Class) (u : Words) (m : Made) → Spelled c u m → Spelled c (u ++ []) m
 ended c u m s = subst (λ (l : Words). Spelled c l m) (sym (append-nil u)) s

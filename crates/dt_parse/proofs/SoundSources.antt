@@ -7,10 +7,10 @@ use Rattle.dt_lex.specs.declared.token.Keyword.TheVariants as keyword
 use Rattle.dt_parse.specs.Words.{Word, Words}
 use Rattle.dt_parse.specs.Grammar.{SpellsHeaders, base_header, plugin_header, more_headers}
 use Rattle.dt_parse.specs.Unchecked.{RawPlace, RawReserve}
-use Rattle.dt_parse.specs.Relaxed.{word, a_mark, a_keyword, Labels, Behind, no_more_reserves, another_reserve}
+use Rattle.dt_parse.specs.Relaxed.{word, a_mark, a_keyword, Behind, no_more_reserves, another_reserve}
 use Rattle.dt_parse.specs.Wanted.{Made, made_behind, expression_in, places_in, reserves_in, Top, AfterTopLabels, AfterAddress, ReserveEnd, StatementThen, Whole, AfterVersion, AfterHeader, PluginEnd, MoreHeaders, NextVersion, NextHeader, Done, want}
 use Rattle.dt_parse.specs.Moves.{source_with}
-use Rattle.dt_parse.proofs.Means.{Spelled, IsReserveEnd, IsSource, Means, Sound, SoundAt, at_each, at_nothing}
+use Rattle.dt_parse.proofs.Means.{IsSource, Sound, SoundAt, at_each, at_nothing}
 
 pub sound_top : (k : Option Word) → SoundAt Top k
 sound_top k = λ u v x y h f. f u h
@@ -128,7 +128,7 @@ next_plugin = at_each (SoundAt (NextHeader true)) tt at
     at (kind.Keyword keyword.Plugin) b = λ u v x y h f q k s g.
         at_nothing (λ (l : Words) (e : Made). IsSource (q ++ (with_plugin k s b ++ l)) e) u v x y f
         (subst (λ (l : Words). IsSource l x) (append_assoc q (with_plugin k s b) u)
-          (h (q ++ with_plugin k s b) (λ t. subst (λ (l : Words). SpellsHeaders true l) (sym (append_assoc q (with_plugin k s b) (a_mark mark.Semicolon t ∷ []))) (more_headers true q (with_plugin k s b ++ a_mark mark.Semicolon t ∷ []) g (is_plugin k s b t)))))
+        (h (q ++ with_plugin k s b) (λ t. subst (λ (l : Words). SpellsHeaders true l) (sym (append_assoc q (with_plugin k s b) (a_mark mark.Semicolon t ∷ []))) (more_headers true q (with_plugin k s b ++ a_mark mark.Semicolon t ∷ []) g (is_plugin k s b t)))))
     at _ b = tt
 
 pub sound_next_header : (plugin : Bool) (k : Option Word) → SoundAt (NextHeader plugin) k

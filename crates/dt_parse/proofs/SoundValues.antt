@@ -1,5 +1,5 @@
 -- What is read as a value is a relaxed one.
-use Rattle.std.proofs.Common.{◌≡◌, ℕ, Bool, true, false, List, [], ◌∷◌, ◌++◌, Option, Some, None, refl, sym, ap, subst}
+use Rattle.std.proofs.Common.{◌≡◌, ℕ, Bool, true, false, List, [], ◌∷◌, ◌++◌, Option, Some, refl, sym, subst}
 use Rattle.std.specs.Prelude.{if◌then◌else◌}
 use Rattle.std.proofs.lemmas.List.{append-nil}
 use Rattle.dt_lex.specs.declared.token.TokenKind.{TokenKind}
@@ -10,7 +10,7 @@ use Rattle.dt_parse.specs.Words.{Word, Words}
 use Rattle.dt_parse.specs.Unchecked.{a_label, a_path, RawCell, label_cell, number_cell, reference_cell, byte_cell, RawItem, cell_item, byte_item, RawComponent}
 use Rattle.dt_parse.specs.Relaxed.{word, a_mark, a_keyword, is_width, Labels, no_more_labels, another_label, Cells, no_more_cells, a_label_cell, a_number_cell, a_reference_cell, Bytes, no_more_bytes, a_label_byte, another_byte, Item, plain_cells, sized_cells, a_text, some_bytes, a_path_text, Value, last_component, more_components}
 use Rattle.dt_parse.specs.Wanted.{Made, made_labels, made_cells, made_item, made_value, size_in, expression_in, labels_in, cells_in, item_in, value_in, SomeLabels, SomeCells, AfterCell, SomeBytes, OneItem, BitsNumber, BitsOpen, CellsEnd, BytesEnd, OneValue, AfterComponentLabels, BehindItem, AfterComponent, Done, want, refuse}
-use Rattle.dt_parse.proofs.Means.{Spelled, IsLast, Means, Sound, SoundAt, at_each, at_nothing}
+use Rattle.dt_parse.proofs.Means.{IsLast, Sound, SoundAt, at_each, at_nothing}
 
 pub sound_labels : (k : Option Word) → SoundAt SomeLabels k
 sound_labels = at_each (SoundAt SomeLabels) no_more_labels at

@@ -6,13 +6,13 @@ use Rattle.dt_parse.specs.Strict.{AreLabelTexts, IsComponent, IsSound, IsOrdered
 use Rattle.std.proofs.Common.{◌≡◌, ℕ, List, [], ◌∷◌, ◌++◌, map, refl, sym, ◌∙◌, ap, subst, append_assoc}
 use Rattle.std.proofs.lemmas.List.{map-append}
 use Rattle.dt_model.specs.Names.{Name}
-use Rattle.dt_model.specs.Source.{Part, Place, root, block, delete_node, child, label, property, delete_property, delete_child, close}
+use Rattle.dt_model.specs.Source.{Part, Place, child, label, property, delete_property, delete_child, close}
 use Rattle.dt_lex.specs.declared.token.Mark.TheVariants as mark
 use Rattle.dt_parse.specs.Words.{Word, Words, IsMark, IsPropertyWord}
-use Rattle.dt_parse.specs.Grammar.{SpellsAssigned, empty, assigned, SpellsProperties, no_properties, defined, deleted, SpellsChildren, no_children, opened, removed, SpellsBody, SpellsStatement, root_block, node_block, node_deleted, SpellsStatements, last_statement, more_statements}
-use Rattle.dt_parse.specs.Unchecked.{RawComponent, RawPlace, raw_root, raw_block, raw_delete_node, raw_child, raw_label, raw_property, raw_delete_property, raw_delete_child, raw_close, value_parts, place_of}
-use Rattle.dt_parse.specs.Relaxed.{a_mark, Labels, no_more_labels, Members, no_more_members, a_flag, a_property, a_deleted_property, a_child, a_deleted_child, Statement, a_root_block, a_node_block, a_deleted_node, Statements, only_statement, first_statement}
-use Rattle.dt_parse.proofs.Names.{word_is, reference_word, labels_of, labels_say}
+use Rattle.dt_parse.specs.Grammar.{SpellsAssigned, empty, assigned, SpellsProperties, no_properties, defined, deleted, SpellsChildren, no_children, opened, removed}
+use Rattle.dt_parse.specs.Unchecked.{RawComponent, RawPlace, raw_child, raw_label, raw_property, raw_delete_property, raw_delete_child, raw_close, value_parts, place_of}
+use Rattle.dt_parse.specs.Relaxed.{Labels, Members, no_more_members, a_flag, a_property, a_deleted_property, a_child, a_deleted_child}
+use Rattle.dt_parse.proofs.Names.{word_is, labels_of, labels_say}
 use Rattle.dt_parse.proofs.StrictValues.{value_of}
 
 -- ---- properties
@@ -125,9 +125,9 @@ children_of (opened around us properties children ws w o c s n ls ps cs places l
       ordered = λ b bodies rest same h. (
         subst (λ (n : ℕ). n < 65) (sym same) lt,
         subst (IsOrdered (false ∷ true ∷ bodies)) (sym (child_regroup (map raw_label labels.raw) body.raw r.raw rest))
-          (labels_ordered labels.raw (false ∷ true ∷ bodies) (body.raw ++ raw_close ∷ (r.raw ++ rest))
-          (body.ordered (true ∷ bodies) (raw_close ∷ (r.raw ++ rest))
-          (inner.ordered false (true ∷ bodies) (raw_close ∷ (r.raw ++ rest)) (ap suc same) (λ c. r.ordered true bodies rest same h)))),
+            (labels_ordered labels.raw (false ∷ true ∷ bodies) (body.raw ++ raw_close ∷ (r.raw ++ rest))
+            (body.ordered (true ∷ bodies) (raw_close ∷ (r.raw ++ rest))
+            (inner.ordered false (true ∷ bodies) (raw_close ∷ (r.raw ++ rest)) (ap suc same) (λ c. r.ordered true bodies rest same h)))),
       );
     }
 children_of (removed around us ws k w s n ls places l g is e t) =

@@ -1,19 +1,17 @@
 -- Each statement that the grammar spells is a relaxed one that says it, and passes the checks.
 use Rattle.std.specs.List.{AllByRecursion}
-use Rattle.std.proofs.Common.{Bool, false}
+use Rattle.std.proofs.Common.{false}
 use Rattle.dt_parse.specs.Strict.{IsSound, IsOrdered}
-use Rattle.dt_parse.proofs.StrictBodies.{PropertiesOf, properties_of, MembersOf, children_of, body_says, all_append, labels_sound, labels_ordered, child_regroup}
+use Rattle.dt_parse.proofs.StrictBodies.{properties_of, children_of, body_says, all_append, labels_sound, labels_ordered, child_regroup}
 use Rattle.std.proofs.Common.{◌≡◌, ℕ, List, [], ◌∷◌, ◌++◌, map, refl, sym, ◌∙◌, ap, subst, append_assoc}
 use Rattle.std.proofs.lemmas.List.{map-append}
-use Rattle.dt_model.specs.Names.{Name}
-use Rattle.dt_model.specs.Source.{Part, Place, root, block, delete_node, child, label, property, delete_property, delete_child, close}
+use Rattle.dt_model.specs.Source.{Place, root, block, delete_node, label}
 use Rattle.dt_lex.specs.declared.token.Mark.TheVariants as mark
-use Rattle.dt_parse.specs.Words.{Word, Words, IsMark, IsPropertyWord}
-use Rattle.dt_parse.specs.Grammar.{SpellsAssigned, empty, assigned, SpellsProperties, no_properties, defined, deleted, SpellsChildren, no_children, opened, removed, SpellsBody, SpellsStatement, root_block, node_block, node_deleted, SpellsStatements, last_statement, more_statements}
-use Rattle.dt_parse.specs.Unchecked.{RawComponent, RawPlace, raw_root, raw_block, raw_delete_node, raw_child, raw_label, raw_property, raw_delete_property, raw_delete_child, raw_close, value_parts, place_of}
-use Rattle.dt_parse.specs.Relaxed.{a_mark, Labels, no_more_labels, Members, no_more_members, a_flag, a_property, a_deleted_property, a_child, a_deleted_child, Statement, a_root_block, a_node_block, a_deleted_node, Statements, only_statement, first_statement}
-use Rattle.dt_parse.proofs.Names.{spelled_reference, label_text, word_is, reference_word, labels_of, labels_say}
-use Rattle.dt_parse.proofs.StrictValues.{value_of}
+use Rattle.dt_parse.specs.Words.{Words}
+use Rattle.dt_parse.specs.Grammar.{SpellsBody, SpellsStatement, root_block, node_block, node_deleted, SpellsStatements, last_statement, more_statements}
+use Rattle.dt_parse.specs.Unchecked.{RawPlace, raw_root, raw_block, raw_delete_node, raw_label, raw_close, place_of}
+use Rattle.dt_parse.specs.Relaxed.{a_mark, Labels, no_more_labels, Members, Statement, a_root_block, a_node_block, a_deleted_node, Statements, only_statement, first_statement}
+use Rattle.dt_parse.proofs.Names.{spelled_reference, word_is, reference_word, labels_of, labels_say}
 
 -- ---- statements
 

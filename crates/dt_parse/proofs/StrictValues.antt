@@ -1,7 +1,6 @@
 -- Each value that the grammar spells is a relaxed one that says it.
 use Rattle.std.specs.List.{AllByRecursion}
-use Rattle.dt_model.specs.Names.{Name}
-use Rattle.dt_parse.specs.Strict.{IsLabelText, IsNumber, IsCell, IsItem, IsComponent}
+use Rattle.dt_parse.specs.Strict.{IsNumber, IsCell, IsItem, IsComponent}
 use Rattle.std.proofs.Common.{Some, ◌≡◌, ℕ, true, List, [], ◌∷◌, ◌++◌, length, map, Option, refl, sym, ◌∙◌, ap, subst}
 use Rattle.std.specs.Option.{option_map_or}
 use Rattle.std.specs.Int.{to_be_bytes, Width}
@@ -9,8 +8,8 @@ use Rattle.std.proofs.lemmas.List.{append-nil}
 use Rattle.dt_model.specs.Source.{Part, one, number_of, text_of}
 use Rattle.dt_lex.specs.declared.token.Mark.TheVariants as mark
 use Rattle.dt_expr.specs.Fits.{Fits, element}
-use Rattle.dt_parse.specs.Words.{Word, Words, IsMark, IsLabelWord}
-use Rattle.dt_parse.specs.Grammar.{no_labels, one_label, SpellsNumber, IsWidth, bits_8, bits_16, bits_32, bits_64, SpellsCells, no_cells, cell_label, cell_number, cell_reference, SpellsBytes, no_bytes, byte_label, one_byte, SpellsBits, no_bits, some_bits, SpellsItem, cells, string, bytes, path, SpellsValue, last, more}
+use Rattle.dt_parse.specs.Words.{Word, Words, IsMark}
+use Rattle.dt_parse.specs.Grammar.{SpellsNumber, IsWidth, bits_8, bits_16, bits_32, bits_64, SpellsCells, no_cells, cell_label, cell_number, cell_reference, SpellsBytes, no_bytes, byte_label, one_byte, SpellsBits, no_bits, some_bits, SpellsItem, cells, string, bytes, path, SpellsValue, last, more}
 use Rattle.dt_parse.specs.Unchecked.{RawCell, label_cell, number_cell, reference_cell, byte_cell, RawItem, cell_item, text_item, byte_item, path_item, RawComponent, width_of, number_in, cells_parts, item_parts, value_parts}
 use Rattle.dt_parse.specs.Relaxed.{a_mark, is_width, Cells, no_more_cells, a_label_cell, a_number_cell, a_reference_cell, Bytes, no_more_bytes, a_label_byte, another_byte, Item, plain_cells, sized_cells, a_text, some_bytes, a_path_text, Value, last_component, more_components}
 use Rattle.dt_parse.proofs.Values.{three}

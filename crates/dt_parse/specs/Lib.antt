@@ -7,3 +7,4 @@ pub mod Moves
 pub mod Descent
 pub mod Samples
 pub mod Strict
+pub mod Exactly

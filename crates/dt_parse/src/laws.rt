@@ -1,6 +1,6 @@
 //! What is true of the grammar.
 
-ghost use Rattle.std.specs.Prelude.{◌≡◌, ℕ, List};
+ghost use Rattle.std.specs.Prelude.{◌≡◌, ◌↔◌, ◌-◌, ℕ, List, [], length};
 ghost use Rattle.dt_model.specs.Source.{Reference, Part};
 ghost use Rattle.dt_expr.specs.Expression.{Expression};
 ghost use Rattle.dt_parse.specs.Words.{Word, Words, IsReferenceWord};
@@ -12,6 +12,11 @@ ghost use Rattle.dt_parse.specs.Grammar.{
   Says,
   SpellsSource,
 };
+ghost use Rattle.dt_parse.specs.Unchecked.{RawSource};
+ghost use Rattle.dt_parse.specs.Relaxed.{RelaxedSource};
+ghost use Rattle.dt_parse.specs.Wanted.{Whole, made_source};
+ghost use Rattle.dt_parse.specs.Descent.{Descends, found, stuck};
+ghost use Rattle.dt_parse.specs.Exactly.{IsChecked, NoneBegins};
 ghost use Rattle.dt_parse.specs.Samples.{
   empty_root,
   empty_root_says,
@@ -43,6 +48,22 @@ pub fn one_value()
 /// The tokens of a source say one thing.
 pub fn one_source()
     ensures { (ws : Words) (s t : Says) → SpellsSource ws s → SpellsSource ws t → s ≡ t }
+{}
+
+/// The tokens of a relaxed source are one relaxed source's.
+pub fn one_relaxed()
+    ensures { (ws : Words) (s t : RawSource) → RelaxedSource ws s → RelaxedSource ws t → s ≡ t }
+{}
+
+/// A source is a relaxed one that passes the checks.
+pub fn source_is_checked()
+    ensures { (ws : Words) (s : Says) → SpellsSource ws s ↔ IsChecked ws s }
+{}
+
+/// The descent reads relaxed sources and nothing else, and where it is stuck, no relaxed source goes on.
+pub fn descent_is_exact()
+    ensures reads { (ws : Words) (s : RawSource) → RelaxedSource ws s ↔ Descends Whole ws (found (made_source s) []) }
+    ensures stuck { (ws left : Words) → Descends Whole ws (stuck left) → NoneBegins ws (length ws - length left) }
 {}
 
 /// Small sources say what they should, and one that ends too early says nothing.
