@@ -1,4 +1,8 @@
 -- Small sources say what they should.
+use Rattle.std.proofs.Common.{subst, true≢false}
+use Rattle.dt_parse.specs.Unchecked.{RawSource, raw_root, raw_child, raw_property, raw_close}
+use Rattle.dt_parse.specs.Relaxed.{RelaxedSource, no_more_reserves, only_statement, no_more_labels, a_root_block, a_child, a_flag, no_more_members}
+use Rattle.dt_parse.specs.Strict.{IsOrdered}
 use Rattle.std.proofs.Common.{◌≡◌, ℕ, ◌==◌, ◌||◌, List, [], ◌∷◌, ◌++◌, codes, IsTrue, refl, true, false, inl, arith, lit<}
 use Rattle.std.specs.Int.{w32}
 use Rattle.std.proofs.lemmas.List.Elements.{All-from_recursion}
@@ -11,12 +15,12 @@ use Rattle.dt_expr.specs.declared.step.Binary.TheVariants as binary
 use Rattle.dt_expr.specs.Expression.{Expression, number, two_operands}
 use Rattle.dt_parse.specs.Words.{Word, Words, to_label}
 use Rattle.dt_parse.specs.Grammar.{no_labels, one_label, SpellsExpression, joined, integer, group, no_prefix, tightest, tighter, joins, no_condition, SpellsNumber, no_cells, cell_number, cell_reference, no_bits, SpellsItem, cells, last, assigned, SpellsProperties, no_properties, defined, deleted, SpellsChildren, no_children, opened, SpellsBody, root_block, node_deleted, last_statement, more_statements, no_reservations, base_header, Says, SpellsSource}
-use Rattle.dt_parse.specs.Samples.{empty_root, empty_root_says, unended_root, small_source, small_source_says}
+use Rattle.dt_parse.specs.Samples.{property_behind_child, empty_root, empty_root_says, unended_root, small_source, small_source_says}
 use Rattle.dt_parse.specs.Relaxed.{word, a_mark, a_keyword}
 use Rattle.dt_parse.specs.Wanted.{Whole}
 use Rattle.dt_parse.specs.Descent.{stuck, refuses, gives, part_stuck, part_found, Descends}
 use Rattle.dt_parse.proofs.Descent.{deterministic}
-use Rattle.dt_parse.proofs.Headers.{complete_source}
+use Rattle.dt_parse.proofs.Headers.{complete_source, one_relaxed}
 use Rattle.dt_parse.proofs.OneSource.{source_of}
 
 abbrev version : Word
@@ -76,6 +80,33 @@ unended_root_is_none s h =
     let r = source_of unended_root s h in
     let same = deterministic stuck_there (complete_source unended_root r.raw r.relaxed) in
     cc
+
+-- ---- a property behind a child
+
+abbrev disordered : RawSource
+disordered = record {
+  plugin = false;
+  reserves = [];
+  places = raw_root ∷ raw_child (codes "a") ∷ raw_close ∷ raw_property [] (codes "b") [] ∷ raw_close ∷ [];
+}
+
+disordered_is : RelaxedSource property_behind_child disordered
+disordered_is = record {
+  headers = version ∷ semicolon ∷ [];
+  others = slash ∷ opening ∷ word kind.Name (codes "a") ∷ opening ∷ closing ∷ semicolon ∷ word kind.Name (codes "b") ∷ semicolon ∷ closing ∷ semicolon ∷ [];
+  together = refl;
+  spelled_headers = base_header version semicolon refl refl;
+  behind = no_more_reserves _ _ (only_statement [] _ [] _ no_more_labels (a_root_block (codes "/") (codes "{") (codes "}") (codes ";") _ _
+      (a_child [] [] (word kind.Name (codes "b") ∷ semicolon ∷ []) (codes "a") (codes "{") (codes "}") (codes ";") [] [] (raw_property [] (codes "b") [] ∷ []) no_more_labels no_more_members
+        (a_flag [] [] (codes "b") (codes ";") [] [] no_more_labels no_more_members))));
+}
+
+pub property_behind_child_is_none : (s : Says) → SpellsSource property_behind_child s → ⊥
+property_behind_child_is_none s h =
+    let r = source_of property_behind_child s h in
+    let same : r.raw ≡ disordered = one_relaxed property_behind_child r.raw disordered r.relaxed disordered_is in
+    let ordered : IsOrdered [] disordered.places = subst (λ (x : RawSource). IsOrdered [] x.places) same r.strict.ordered in
+    true≢false ordered.1.0
 
 -- ---- a source with a label, an expression, a reference and deletions
 

@@ -27,6 +27,14 @@ unended_root = words_of (codes "/dts-v1/; / { }") (
     at (kind.Keyword keyword.Version) 0 8 ∷ at (kind.Mark mark.Semicolon) 8 9 ∷ at (kind.Mark mark.Slash) 10 11 ∷
     at (kind.Mark mark.OpenBrace) 12 13 ∷ at (kind.Mark mark.CloseBrace) 14 15 ∷ [])
 
+-- a property behind a child
+abbrev pub property_behind_child : Words
+property_behind_child = words_of (codes "/dts-v1/; / { a { }; b; };") (
+    at (kind.Keyword keyword.Version) 0 8 ∷ at (kind.Mark mark.Semicolon) 8 9 ∷ at (kind.Mark mark.Slash) 10 11 ∷
+    at (kind.Mark mark.OpenBrace) 12 13 ∷ at kind.Name 14 15 ∷ at (kind.Mark mark.OpenBrace) 16 17 ∷
+    at (kind.Mark mark.CloseBrace) 18 19 ∷ at (kind.Mark mark.Semicolon) 19 20 ∷ at kind.Name 21 22 ∷
+    at (kind.Mark mark.Semicolon) 22 23 ∷ at (kind.Mark mark.CloseBrace) 24 25 ∷ at (kind.Mark mark.Semicolon) 25 26 ∷ [])
+
 -- a label, an expression and a reference in cells, and deletions
 abbrev pub small_source : Words
 small_source = words_of (codes "/dts-v1/; / { a: b { c = <(1 + 2) &a>; /delete-property/ d; }; }; /delete-node/ &a;") (

@@ -21,6 +21,7 @@ ghost use Rattle.dt_parse.specs.Samples.{
   empty_root,
   empty_root_says,
   unended_root,
+  property_behind_child,
   small_source,
   small_source_says,
 };
@@ -66,9 +67,10 @@ pub fn descent_is_exact()
     ensures stuck { (ws left : Words) → Descends Whole ws (stuck left) → NoneBegins ws (length ws - length left) }
 {}
 
-/// Small sources say what they should, and one that ends too early says nothing.
+/// Small sources say what they should, and one that ends too early, or has a property behind a child, says nothing.
 pub fn small_sources()
     ensures empty { SpellsSource empty_root empty_root_says }
     ensures unended { (s : Says) → ¬ SpellsSource unended_root s }
+    ensures disordered { (s : Says) → ¬ SpellsSource property_behind_child s }
     ensures small { SpellsSource small_source small_source_says }
 {}
