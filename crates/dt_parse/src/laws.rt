@@ -1,0 +1,76 @@
+//! What is true of the grammar.
+
+ghost use Rattle.std.specs.Prelude.{◌≡◌, ◌↔◌, ◌-◌, ℕ, List, [], length};
+ghost use Rattle.dt_model.specs.Source.{Reference, Part};
+ghost use Rattle.dt_expr.specs.Expression.{Expression};
+ghost use Rattle.dt_parse.specs.Words.{Word, Words, IsReferenceWord};
+ghost use Rattle.dt_parse.specs.Grammar.{
+  Class,
+  SpellsExpression,
+  SpellsNumber,
+  SpellsValue,
+  Says,
+  SpellsSource,
+};
+ghost use Rattle.dt_parse.specs.Unchecked.{RawSource};
+ghost use Rattle.dt_parse.specs.Relaxed.{RelaxedSource};
+ghost use Rattle.dt_parse.specs.Wanted.{Whole, made_source};
+ghost use Rattle.dt_parse.specs.Descent.{Descends, found, stuck};
+ghost use Rattle.dt_parse.specs.Exactly.{IsChecked, NoneBegins};
+ghost use Rattle.dt_parse.specs.Samples.{
+  empty_root,
+  empty_root_says,
+  unended_root,
+  property_behind_child,
+  small_source,
+  small_source_says,
+};
+
+/// The tokens of an expression are one expression's.
+pub fn one_expression()
+    ensures { (c : Class) (ws : Words) (e f : Expression) → SpellsExpression c ws e → SpellsExpression c ws f → e ≡ f }
+{}
+
+/// The tokens of a number have one value.
+pub fn one_number()
+    ensures { (ws : Words) (m n : ℕ) → SpellsNumber ws m → SpellsNumber ws n → m ≡ n }
+{}
+
+/// A reference is by one label or one path.
+pub fn one_reference()
+    ensures { (w : Word) (r s : Reference) → IsReferenceWord w r → IsReferenceWord w s → r ≡ s }
+{}
+
+/// The tokens of a value are one value's.
+pub fn one_value()
+    ensures { (ws : Words) (v u : List Part) → SpellsValue ws v → SpellsValue ws u → v ≡ u }
+{}
+
+/// The tokens of a source say one thing.
+pub fn one_source()
+    ensures { (ws : Words) (s t : Says) → SpellsSource ws s → SpellsSource ws t → s ≡ t }
+{}
+
+/// The tokens of a relaxed source are one relaxed source's.
+pub fn one_relaxed()
+    ensures { (ws : Words) (s t : RawSource) → RelaxedSource ws s → RelaxedSource ws t → s ≡ t }
+{}
+
+/// A source is a relaxed one that passes the checks.
+pub fn source_is_checked()
+    ensures { (ws : Words) (s : Says) → SpellsSource ws s ↔ IsChecked ws s }
+{}
+
+/// The descent reads relaxed sources and nothing else, and where it is stuck, no relaxed source goes on.
+pub fn descent_is_exact()
+    ensures reads { (ws : Words) (s : RawSource) → RelaxedSource ws s ↔ Descends Whole ws (found (made_source s) []) }
+    ensures stuck { (ws left : Words) → Descends Whole ws (stuck left) → NoneBegins ws (length ws - length left) }
+{}
+
+/// Small sources say what they should, and one that ends too early, or has a property behind a child, says nothing.
+pub fn small_sources()
+    ensures empty { SpellsSource empty_root empty_root_says }
+    ensures unended { (s : Says) → ¬ SpellsSource unended_root s }
+    ensures disordered { (s : Says) → ¬ SpellsSource property_behind_child s }
+    ensures small { SpellsSource small_source small_source_says }
+{}

@@ -1,0 +1,4 @@
+//! Sources of devicetree: the grammar of DTS version 1 (Devicetree Specification v0.4, chapter 6).
+#![tactic(auto)]
+
+mod laws;
