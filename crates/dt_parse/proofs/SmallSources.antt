@@ -98,7 +98,7 @@ disordered_is = record {
   spelled_headers = base_header version semicolon refl refl;
   behind = no_more_reserves _ _ (only_statement [] _ [] _ no_more_labels (a_root_block (codes "/") (codes "{") (codes "}") (codes ";") _ _
       (a_child [] [] (word kind.Name (codes "b") ∷ semicolon ∷ []) (codes "a") (codes "{") (codes "}") (codes ";") [] [] (raw_property [] (codes "b") [] ∷ []) no_more_labels no_more_members
-        (a_flag [] [] (codes "b") (codes ";") [] [] no_more_labels no_more_members))));
+      (a_flag [] [] (codes "b") (codes ";") [] [] no_more_labels no_more_members))));
 }
 
 pub property_behind_child_is_none : (s : Says) → SpellsSource property_behind_child s → ⊥
