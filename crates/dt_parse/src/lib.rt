@@ -3,5 +3,7 @@
 
 mod expression;
 mod laws;
+#[cfg(test)]
+mod tests;
 
 pub use expression::{Refusal, primary};
