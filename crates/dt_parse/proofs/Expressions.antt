@@ -30,7 +30,7 @@ Complete whole w e = (rest : Words) → Ends (first rest) → Descends Any (w ++
 resized : (m : Move) (s : Words) (k l : ℕ) (e : Expression) (r : Words) → k ≡ l → Does m s (found (made_expression k e) r) → Does m s (found (made_expression l e) r)
 resized m s k l e r h d = subst (λ (n : ℕ). Does m s (found (made_expression n e) r)) h d
 
-give_at : (n : ℕ) (x : Made) (o : Option Binary) → ((op : Binary) → o ≡ Some op → suc n < level_of op) → at_operator n x o ≡ give false x
+pub give_at : (n : ℕ) (x : Made) (o : Option Binary) → ((op : Binary) → o ≡ Some op → suc n < level_of op) → at_operator n x o ≡ give false x
 give_at n x None h = refl
 give_at n x (Some op) h = at_false (nat_eq (level_of op) (suc n)) refl
   where
@@ -38,7 +38,7 @@ give_at n x (Some op) h = at_false (nat_eq (level_of op) (suc n)) refl
     at_false true t = let l = h op refl in let q = eqb-true _ _ t in absurd (omega arith)
     at_false false t = refl
 
-want_at : (n : ℕ) (x : Made) (o : Option Binary) (op : Binary) → o ≡ Some op → level_of op ≡ suc n → at_operator n x o ≡ want true (Level n) (λ y. AfterLeft n (with_two op x y))
+pub want_at : (n : ℕ) (x : Made) (o : Option Binary) (op : Binary) → o ≡ Some op → level_of op ≡ suc n → at_operator n x o ≡ want true (Level n) (λ y. AfterLeft n (with_two op x y))
 want_at n x o op e l = ap (at_operator n x) e ∙ ap (λ (b : Bool). if b then want true (Level n) (λ y. AfterLeft n (with_two op x y)) else give false x) (eq-eqb _ _ l)
 
 joined_done : (n : ℕ) (w : Words) (e : Expression) → Complete (joined n) w e → (rest : Words) → Stops n (first rest) → Descends (Level n) (w ++ rest) (found (made_expression (length w) e) rest)

@@ -19,3 +19,7 @@ pub mod Sound
 pub mod CheckedValues
 pub mod CheckedBodies
 pub mod CheckedSources
+pub mod Machine
+pub mod Turning
+pub mod Turned
+pub mod Turns

@@ -8,3 +8,6 @@ pub mod Descent
 pub mod Samples
 pub mod Strict
 pub mod Exactly
+pub mod Machine
+pub mod Turns
+pub mod Standing

@@ -1,11 +1,12 @@
 //! What is true of the grammar.
 
-ghost use Rattle.std.specs.Prelude.{◌≡◌, ◌↔◌, ◌-◌, ℕ, List, [], length};
+ghost use Rattle.std.specs.Prelude.{◌≡◌, ◌↔◌, ◌-◌, ◌++◌, ℕ, List, [], length};
 ghost use Rattle.dt_model.specs.Source.{Reference, Part};
 ghost use Rattle.dt_expr.specs.Expression.{Expression};
 ghost use Rattle.dt_parse.specs.Words.{Word, Words, IsReferenceWord};
 ghost use Rattle.dt_parse.specs.Grammar.{
   Class,
+  primary,
   SpellsExpression,
   SpellsNumber,
   SpellsValue,
@@ -14,7 +15,7 @@ ghost use Rattle.dt_parse.specs.Grammar.{
 };
 ghost use Rattle.dt_parse.specs.Unchecked.{RawSource};
 ghost use Rattle.dt_parse.specs.Relaxed.{RelaxedSource};
-ghost use Rattle.dt_parse.specs.Wanted.{Whole, made_source};
+ghost use Rattle.dt_parse.specs.Wanted.{Made, Whole, Prim, made_source, made_expression, expression_in};
 ghost use Rattle.dt_parse.specs.Descent.{Descends, found, stuck};
 ghost use Rattle.dt_parse.specs.Exactly.{IsChecked, NoneBegins};
 ghost use Rattle.dt_parse.specs.Samples.{
@@ -61,9 +62,12 @@ pub fn source_is_checked()
     ensures { (ws : Words) (s : Says) → SpellsSource ws s ↔ IsChecked ws s }
 {}
 
-/// The descent reads relaxed sources and nothing else, and where it is stuck, no relaxed source goes on.
+/// The descent reads relaxed sources and nothing else, and where it is stuck, no relaxed source goes on. At the front of
+/// tokens it reads a number or an expression in parentheses, and nothing else.
 pub fn descent_is_exact()
     ensures reads { (ws : Words) (s : RawSource) → RelaxedSource ws s ↔ Descends Whole ws (found (made_source s) []) }
+    ensures primary { (us rest : Words) (e : Expression) → SpellsExpression primary us e → Descends Prim (us ++ rest) (found (made_expression (length us) e) rest) }
+    ensures spelled { (ws rest : Words) (m : Made) → Descends Prim ws (found m rest) → (us : Words) × (ws ≡ us ++ rest) × SpellsExpression primary us (expression_in m) }
     ensures stuck { (ws left : Words) → Descends Whole ws (stuck left) → NoneBegins ws (length ws - length left) }
 {}
 
