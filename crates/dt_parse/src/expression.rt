@@ -6,7 +6,7 @@ ghost use Rattle.dt_parse.specs.Standing.{Answers};
 ghost use Rattle.dt_parse.specs.Turns.{turn_at, operand_turn, whole_turn, wanted_turn, at_question, at_operand, behind_binary, behind_operand, at_else, at_close, unary_in, binary_in, kind_in};
 
 use dt_expr::{Binary, Step, Unary};
-use dt_lex::token::{Mark, Token, TokenKind};
+use dt_lex::{Mark, Token, TokenKind};
 use std::alloc::{AllocError, Global};
 
 /// What waits for an operand or for a mark.

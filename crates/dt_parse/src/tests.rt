@@ -2,7 +2,7 @@
 
 use crate::expression::{Refusal, primary};
 use dt_expr::{Binary, Step, Unary};
-use dt_lex::token::{Mark, Token, TokenKind};
+use dt_lex::{Mark, Token, TokenKind};
 use std::test::Fail;
 
 const DEPTH: usize = 2000;
