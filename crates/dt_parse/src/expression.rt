@@ -306,7 +306,12 @@ fn top_in(waiting: &Vec<Pending>) -> Option<Pending>
     waiting.last().copied()
 }
 
-/// Reads the expression that the tokens begin with: an integer, a character or one in parentheses.
+/// Reads the number that the tokens begin with: an integer, a character or an expression in parentheses (Devicetree
+/// Specification v0.4, 6.3). Answers its steps in postfix order, and the tokens behind it. However deep the parentheses are
+/// nested, nothing recurses; how many tokens they are and whether something divides by 0 isn't looked at.
+///
+/// Refused are tokens that begin with no number, with `Syntax` and how many tokens are left from the first on at which none
+/// goes on; and, with `Memory`, any where memory is refused.
 pub fn primary<'a>(alloc: Global, tokens: &'a [Token]) -> Result<(Vec<Step>, &'a [Token]), Refusal>
     ensures { Answers tokens.now result }
 {
