@@ -1,9 +1,13 @@
-//! Numbers written into bytes that stand already.
+//! Numbers in bytes, and texts that end at a NUL.
 #![tactic(auto)]
 
-ghost use Rattle.std.specs.Prelude.{◌≡◌, ◌≤◌, ◌+◌, ◌↔◌, ◌++◌, take, drop, length, IsTrue};
+ghost use Rattle.std.specs.Prelude.{◌≡◌, ◌≤◌, ◌<◌, ◌+◌, ◌↔◌, ◌++◌, take, drop, length, IsTrue, IfSome};
 ghost use Rattle.std.specs.Bool.{OnTrue, OnFalse};
 ghost use Rattle.std.specs.Int.{w32, to_be_bytes};
+ghost use Rattle.std.specs.Option.{option_copied};
+ghost use Rattle.dt_model.specs.Format.{word_at};
+ghost use Rattle.dt_model.specs.Lexing.{text_in};
+ghost use Rattle.dt_bytes.specs.Places.{long_at};
 
 use byteorder::{BigEndian, ByteOrder};
 
@@ -19,6 +23,57 @@ pub fn put32(bytes: &mut [u8], at: usize, number: u32) -> bool
     }
     BigEndian::write_u32(&mut bytes[at..], number);
     true
+}
+
+// Whether so many bytes stand at a place.
+fn stand(bytes: &[u8], at: usize, size: usize) -> bool
+    ensures { IsTrue result ↔ (at + size ≤ length bytes.now) }
+{
+    at <= bytes.len() && size <= bytes.len() - at
+}
+
+/// The 32-bit big-endian number at a place of some bytes; None where four bytes don't stand there.
+pub fn be32(bytes: &[u8], at: usize) -> Option<u32>
+    ensures { result ≡ word_at bytes.now at }
+{
+    if !stand(bytes, at, 4) {
+        return None;
+    }
+    Some(BigEndian::read_u32(&bytes[at..at + 4]))
+}
+
+/// The 64-bit big-endian number at a place of some bytes; None where eight bytes don't stand there.
+pub fn be64(bytes: &[u8], at: usize) -> Option<u64>
+    ensures { result ≡ long_at bytes.now at }
+{
+    if !stand(bytes, at, 8) {
+        return None;
+    }
+    Some(BigEndian::read_u64(&bytes[at..at + 8]))
+}
+
+// The bytes up to the first NUL.
+fn first_text(bytes: &[u8]) -> Option<&[u8]>
+    ensures text { option_copied result ≡ text_in bytes.now }
+    ensures within { IfSome result (λ text. length text.now < length bytes.now) }
+{
+    for (i, byte) in bytes.iter().enumerate() {
+        if *byte == 0 {
+            return Some(&bytes[..i]);
+        }
+    }
+    None
+}
+
+/// The bytes from a place of some bytes up to the first NUL; None where no NUL stands there or behind.
+pub fn text_at(bytes: &[u8], at: usize) -> Option<&[u8]>
+    ensures text { option_copied result ≡ text_in (drop at bytes.now) }
+    ensures within { IfSome result (λ text. at + length text.now < length bytes.now) }
+{
+    if at > bytes.len() {
+        return None;
+    }
+    first_text(&bytes[at..])
 }
 
 #[cfg(test)]

@@ -14,3 +14,19 @@ fn the_magic_number(rt: HostRuntime) {
     }
     assert_eq!(rt; bytes, [0, 0xd0, 0, 0, 0, 1]);
 }
+
+#[test]
+fn numbers_and_texts(rt: HostRuntime) {
+    let bytes = [0, 0xd0, 0x0d, 0xfe, 0xed, 0, 0, 0, 1, b'a', b'b', 0, b'c'];
+    assert_eq!(rt; be32(&bytes, 1), Some(0xd00d_feed));
+    assert_eq!(rt; be32(&bytes, 9), Some(0x6162_0063));
+    assert_eq!(rt; be32(&bytes, 10), None);
+    assert_eq!(rt; be32(&bytes, usize::MAX), None);
+    assert_eq!(rt; be64(&bytes, 1), Some(0xd00d_feed_0000_0001));
+    assert_eq!(rt; be64(&bytes, 6), None);
+    assert_eq!(rt; text_at(&bytes, 9), Some(b"ab".as_slice()));
+    assert_eq!(rt; text_at(&bytes, 11), Some(b"".as_slice()));
+    assert_eq!(rt; text_at(&bytes, 12), None);
+    assert_eq!(rt; text_at(&bytes, 13), None);
+    assert_eq!(rt; text_at(&bytes, usize::MAX), None);
+}

@@ -6,7 +6,8 @@ use Rattle.std.specs.Option.{option_and_then, option_map}
 use Rattle.std.proofs.lemmas.Option.{option_and_then_some}
 use Rattle.std.proofs.lemmas.Bool.Decides.{nat_tests}
 use Rattle.std.proofs.lemmas.List.{length-append, drop_more}
-use Rattle.dt_chain.specs.declared.parser.Item.{Item}
+use Rattle.dt_parse.specs.declared.source.Item.{Item}
+use Rattle.dt_parse.specs.Said.{place_said}
 use Rattle.dt_names.specs.declared.fault.FaultKind.{FaultKind}
 use Rattle.dt_names.specs.declared.fault.FaultKind.TheVariants.{NoMemory, Limit, Syntax, DuplicateProperty, DuplicateNode, BadPhandle, ReservedName, Duplicate, BlobPhandle}
 use Rattle.dt_model.specs.Names.{Name}
@@ -20,7 +21,7 @@ use Rattle.dt_flat.specs.Refusals.{WhyNoNode, WhyNotSet}
 use Rattle.dt_flat.proofs.AfterChild.{length-with_child}
 use Rattle.dt_flat.proofs.AfterProperty.{length-with_property}
 use Rattle.dt_flat.proofs.Edges.{edge}
-use Rattle.dt_chain.specs.Items.{place_of, IsOpening}
+use Rattle.dt_chain.specs.Covered.{IsOpening}
 use Rattle.dt_chain.specs.Building.{walk, IsOpen, AreOpen, opened, children_in, started, Holds}
 use Rattle.dt_chain.specs.Built.{Goes, IsUnderWay, AreUnbalanced, WhyNotBuilt, IsNotBuilt, IsBuilt, AreInside, IsTop, WhyNoChild, IsRefused, WhyNotRead}
 use Rattle.dt_chain.proofs.Walks.{bool_cases}
@@ -437,5 +438,5 @@ pub absent_value : {X : Type 0} (f : X → List ℕ) (r : Option X) (o : Option 
 absent_value f None o b e h = sym (ap is_some e) ∙ h
 absent_value f (Some x) o b e h = sym (ap is_some e) ∙ h
 
-pub next_place : (items : List Item) (i : ℕ) (x : Item) → i < length items → x ≡ get_or items i x → map place_of (drop i items) ≡ place_of x ∷ map place_of (drop (i + 1) items)
-next_place items i x low at = ap (map place_of) (drop_more items i x low) ∙ ap (λ (y : Item). place_of y ∷ map place_of (drop (i + 1) items)) (sym at)
+pub next_place : (items : List Item) (i : ℕ) (x : Item) → i < length items → x ≡ get_or items i x → map place_said (drop i items) ≡ place_said x ∷ map place_said (drop (i + 1) items)
+next_place items i x low at = ap (map place_said) (drop_more items i x low) ∙ ap (λ (y : Item). place_said y ∷ map place_said (drop (i + 1) items)) (sym at)

@@ -194,17 +194,17 @@ resolved es all = record {
   own = λ p q n h k. let bad : None ≡ Some n = sym (ap (option_and_then written) (no_number es p all)) ∙ h in cc;
 }
 
-pub represents : (a : Arena) (es : Events) → a.reservations ≡ [] → Shows a.slots es → stands es (codes "__symbols__" ∷ []) ≡ false → Represents (reading a) (meaning_of [] es) (λ _. 1)
-represents a es none h symbols =
-    let m : Meaning = meaning_of [] es in
+pub represents : (a : Arena) (rs : List (ℕ × ℕ)) (es : Events) → a.reservations ≡ rs → Shows a.slots es → stands es (codes "__symbols__" ∷ []) ≡ false → Represents (reading a) (meaning_of rs es) (λ _. 1)
+represents a rs es are h symbols =
+    let m : Meaning = meaning_of rs es in
     record {
       naming = record {
         low = λ p k. omega arith;
         high = λ p k. lit≤ tt;
-        own = λ p q k l e. let bad : false ≡ true = sym (not_keyed [] es p h.plain) ∙ k in cc;
+        own = λ p q k l e. let bad : false ≡ true = sym (not_keyed rs es p h.plain) ∙ k in cc;
         written = λ p n e. let bad : None ≡ Some n = sym (ap (option_and_then written) (no_number es (reverse p) h.plain)) ∙ e in cc;
       };
-      reservations = none;
+      reservations = are;
       nodes = λ p plain. stands-leads a p ∙ h.nodes (reverse p);
       values = λ p n plain.
           value-leads a p n ∙ h.values (reverse p) n
@@ -213,7 +213,7 @@ represents a es none h symbols =
           let is : n ≡ codes "phandle" = bytes_eq-is n (codes "phandle") yes in
           ap (λ x. option_map bytes_of (value_at es (reverse p) x)) is ∙ ap (option_map bytes_of) (no_number es (reverse p) h.plain)
           ∙ sym (ap (λ b. cond b (cond (m.keyed p) (Some (cell 1)) None) (option_map (value_bytes (λ _. 1)) (m.value p n))) yes
-          ∙ ap (λ b. cond b (Some (cell 1)) None) (not_keyed [] es p h.plain)))
+          ∙ ap (λ b. cond b (Some (cell 1)) None) (not_keyed rs es p h.plain)))
           (λ no.
           sym (ap (λ b. cond b (cond (m.keyed p) (Some (cell 1)) None) (option_map (value_bytes (λ _. 1)) (cond b None (option_and_then (all_bound es) (value_at es (reverse p) n))))) no
           ∙ instance-plain es (λ _. 1) (value_at es (reverse p) n) (λ v at. value-plain es (reverse p) n v h.plain at)));

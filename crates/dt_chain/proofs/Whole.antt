@@ -1,93 +1,59 @@
 -- The compiler's stages together.
-use Rattle.std.proofs.Common.{◌≡◌, ℕ, suc, ◌+◌, ◌<◌, ◌≤◌, ◌⊎◌, inl, inr, List, [], ◌∷◌, ◌++◌, Option, None, length, map, drop, refl, sym, ap, subst, ◌∙◌, arith}
-use Rattle.std.specs.Prelude.{Result, Ok, Err, codes, false, true, Bool}
+use Rattle.std.proofs.Common.{◌≡◌, ℕ, ◌+◌, ◌<◌, ◌≤◌, ◌⊎◌, inl, inr, List, ◌∷◌, [], Option, None, Some, length, refl, sym, ap, subst, ◌∙◌, Bool, true, false}
+use Rattle.std.specs.Prelude.{Result, Ok, Err, codes}
 use Rattle.std.specs.List.{AllByRecursion}
+use Rattle.dt_names.specs.declared.fault.Fault.{Fault}
 use Rattle.dt_names.specs.declared.fault.FaultKind.{FaultKind}
-use Rattle.dt_names.specs.declared.fault.FaultKind.TheVariants.{NoMemory, Limit, BadVersionTag, Syntax, OutOfRange, PropertyAfterNode, DuplicateProperty, DuplicateNode, BadPhandle, ReservedName, BadName}
-use Rattle.dt_model.specs.Lists.{IsIn}
-use Rattle.dt_model.specs.Path.{is_bookkeeping_name}
+use Rattle.dt_names.specs.declared.fault.FaultKind.TheVariants.{NoMemory, Limit, BadVersionTag, BadToken, BadInteger, BadName, PropertyAfterNode, BadReferenceWidth, DivideByZero, OutOfRange, Syntax, DuplicateProperty, DuplicateNode, BadPhandle, ReservedName}
+use Rattle.dt_model.specs.Path.{Path, is_bookkeeping_name}
 use Rattle.dt_model.specs.Meaning.{Meaning}
-use Rattle.dt_model.specs.Tree.{Property, Forest, no_nodes, branch}
-use Rattle.dt_model.specs.Valid.{node_count}
 use Rattle.dt_model.specs.Format.{Reads, IsWithin}
 use Rattle.dt_model.specs.Event.{stands}
-use Rattle.dt_model.specs.Source.{Place, root, close, SoFar, Refusal, Events, base, nothing, read_all, too_deep, duplicate_property, duplicate_node, reserved_name, meaning_of}
+use Rattle.dt_model.specs.Source.{Place, root, SoFar, Refusal, Events, base, nothing, read_all, too_deep, duplicate_property, duplicate_node, reserved_name, meaning_of}
 use Rattle.dt_model.specs.Represents.{Represents}
 use Rattle.dt_flat.specs.Arena.{Arena, reading}
 use Rattle.dt_write.specs.Written.{written}
 use Rattle.dt_write.specs.Refusals.{WhyNoBlob}
-use Rattle.dt_chain.specs.declared.lexer.LexError.{LexError}
-use Rattle.dt_chain.specs.declared.lexer.LexError.TheVariants as errors
-use Rattle.dt_chain.specs.declared.lexer.token.Token as lexer
-use Rattle.dt_chain.specs.declared.lexer.token.Mark.TheVariants as mark
-use Rattle.dt_chain.specs.Token as token
-use Rattle.dt_chain.specs.Lexing.{Lexed, IsRead, IsLexed}
-use Rattle.dt_chain.specs.Grammar.{Tokens, Says, SpellsSource, place_of_property, places_of_forest, places_of, TextMeans, IsUnnumbered}
-use Rattle.dt_chain.specs.Parsing.{begun, Parses, over, next, depth_behind, late_behind}
-use Rattle.dt_chain.specs.Items.{kinds, starts, IsPlaceOf, IsToldAt, IsTagged, TellsTag, IsParsed, IsNoSource, WhyNotParsed}
+use Rattle.dt_parse.specs.Words.{words_of}
+use Rattle.dt_parse.specs.Grammar.{Says, SpellsSource}
+use Rattle.dt_parse.specs.Reading.{IsParsed, WhyNotParsed, IsSourceFault}
+use Rattle.dt_parse.proofs.Parsing.{source_kind}
 use Rattle.dt_chain.specs.Building.{children_in, started}
-use Rattle.dt_chain.specs.Built.{IsBuilt, IsNotBuilt, AreUnbalanced, WhyNotBuilt}
-use Rattle.dt_chain.specs.Pieces.{IsReason}
-use Rattle.dt_chain.specs.Flaws.{fault_of}
-use Rattle.dt_chain.specs.Compiled.{IsCompiled, MeansNothing, IsRefusedFor, IsTooLarge, IsTokenPlace, HasTag, nested, deep, many, big, WhyNotCompiled}
-use Rattle.dt_chain.proofs.Lexed.{unique}
-use Rattle.dt_chain.proofs.Nested.{same_places, parsed_is_spelled, spelled_is_parsed}
+use Rattle.dt_chain.specs.Covered.{IsCovered, IsCoveredInside, IsUnnumbered}
+use Rattle.dt_chain.specs.Built.{IsBuilt, IsReserved, WhyNotBuilt}
+use Rattle.dt_chain.specs.Means.{TextMeans}
+use Rattle.dt_chain.specs.Compiled.{IsCompiled, IsBase, told, WhyNotCompiled, IsCompilerFault, unparsed, overlay, uncovered, numbered, second_property, second_node, reserved, deep, many, big, no_memory}
 use Rattle.dt_chain.proofs.Standing.{resolved, represents}
-use Rattle.dt_chain.proofs.Builds.{children-cons}
+use Rattle.dt_chain.proofs.Balanced.{balanced}
 
--- ---- one token list, one list of places
+-- the text is a source of one root block with these places
+pub record IsRootOf (text : List ℕ) (s : Says) (places : List Place) : Type 0 where
+  pub parsed : IsParsed text s
+  pub plain : s.plugin ≡ false
+  pub are : s.places ≡ root ∷ places
+  pub covered : AllByRecursion IsCoveredInside places
 
-kinds-view : (ts : List lexer.Token) → map (λ (p : token.Placed). p.token) (map token.view ts) ≡ kinds ts
-kinds-view [] = refl
-kinds-view (t ∷ ts) = ap (λ (x : Tokens). token.token_of t.kind ∷ x) (kinds-view ts)
+pub root_of : (text : List ℕ) (s : Says) (all places : List Place) → IsParsed text s → s.plugin ≡ false → all ≡ s.places → all ≡ root ∷ places → AllByRecursion IsCoveredInside places → IsRootOf text s places
+root_of text s all places parsed plain same are covered = record { parsed = parsed; plain = plain; are = sym same ∙ are; covered = covered }
 
-pub lexed_of : (text : List ℕ) (ts : List lexer.Token) → IsRead text (Ok (map token.view ts)) → IsLexed text (kinds ts)
-lexed_of text ts h = (map token.view ts, h, kinds-view ts)
-
-read_same : (xs ys : List token.Placed) → Ok xs ≡ (let r : Lexed = Ok ys in r) → xs ≡ ys
-read_same xs ys h = cc
-
-lexed_once : (text : List ℕ) (ts us : Tokens) → IsLexed text ts → IsLexed text us → ts ≡ us
-lexed_once text ts us (ps, h, e) (qs, k, f) =
-    let same : ps ≡ qs = read_same ps qs (unique h k) in
-    sym e ∙ ap (map (λ (p : token.Placed). p.token)) same ∙ f
-
--- a source of these places has no others
-places_once : (text : List ℕ) (ts : Tokens) (places : List Place) (ps : List Property) (cs : Forest) → IsLexed text ts → IsParsed ts places → Says text ps cs → places_of ps cs ≡ root ∷ places
-places_once text ts places ps cs lexed parsed says =
-    let s = spelled_is_parsed ps cs says.tokens says.spelled in
-    let same : begun s.0 ≡ begun parsed.body = sym s.2 ∙ lexed_once text says.tokens ts says.lexed lexed ∙ parsed.whole in
-    let body : s.0 ≡ parsed.body = bodies s.0 parsed.body same in
-    s.3 ∙ ap (λ (x : List Place). root ∷ x) (same_places 1 false parsed.body s.1 places (subst (λ (x : Tokens). Parses 1 false x s.1) body s.4) parsed.parses)
-  where
-    bodies : (x y : Tokens) → begun x ≡ begun y → x ≡ y
-    bodies x y e = ap (drop 4) e
-
--- the text says what was parsed
-says_parsed : (text : List ℕ) (ts : Tokens) (places : List Place) → IsLexed text ts → IsParsed ts places
-    → (ps : List Property) × (cs : Forest) × Says text ps cs × (root ∷ places ≡ places_of ps cs)
-says_parsed text ts places lexed parsed =
-    let s = parsed_is_spelled parsed.body places parsed.parses in
-    (s.0, s.1, record { tokens = ts; lexed = lexed; spelled = subst (SpellsSource s.0 s.1) (sym parsed.whole) s.2 }, s.3)
+is_base : (text : List ℕ) (s : Says) (places : List Place) → IsRootOf text s places → IsBase text s
+is_base text s places h = record { parsed = h.parsed; plain = h.plain; covered = subst IsCovered (sym h.are) h.covered }
 
 -- ---- a tree that was built represents what the text means
 
-means_of : (text : List ℕ) (ts : Tokens) (places : List Place) (a : Arena) → IsLexed text ts → IsParsed ts places → (b : IsBuilt a places) → TextMeans text (meaning_of [] b.so_far.events)
-means_of text ts places a lexed parsed b =
-    let s = says_parsed text ts places lexed parsed in
-    record {
-      properties = s.0;
-      children = s.1;
-      says = s.2;
-      unnumbered = subst (AllByRecursion IsUnnumbered) s.3 (tt, b.unnumbered);
-      means = record {
-        so_far = b.so_far;
-        all_read = ap (read_all base nothing) (sym s.3) ∙ b.all_read;
-        closed = b.closed;
-        resolved = resolved b.so_far.events b.holds.shows.plain;
-        means = refl;
-      };
-    }
+means_of : (text : List ℕ) (s : Says) (places : List Place) (a : Arena) → IsRootOf text s places → (b : IsBuilt a places) → TextMeans text (meaning_of s.reservations b.so_far.events)
+means_of text s places a h b = record {
+  says = s;
+  parsed = h.parsed;
+  plain = h.plain;
+  means = record {
+    so_far = b.so_far;
+    all_read = ap (read_all base nothing) h.are ∙ b.all_read;
+    closed = b.closed;
+    resolved = resolved b.so_far.events b.holds.shows.plain;
+    means = refl;
+  };
+}
 
 no_symbols : (es : Events) → ((x : List ℕ) → stands es (x ∷ []) ≡ true → is_bookkeeping_name x ≡ false) → stands es (codes "__symbols__" ∷ []) ≡ false
 no_symbols es h = by (stands es (codes "__symbols__" ∷ [])) refl
@@ -96,152 +62,142 @@ no_symbols es h = by (stands es (codes "__symbols__" ∷ [])) refl
     by false e = e
     by true e = let bad : true ≡ false = h (codes "__symbols__") e in cc
 
-represents_of : (a : Arena) (places : List Place) (b : IsBuilt a places) → Represents (reading a) (meaning_of [] b.so_far.events) (λ _. 1)
-represents_of a places b = represents a b.so_far.events b.holds.reservations b.holds.shows (no_symbols b.so_far.events b.holds.bookkeeping)
+represents_of : (a : Arena) (rs : List (ℕ × ℕ)) (places : List Place) (r : IsReserved a rs places) → Represents (reading a) (meaning_of rs r.built.so_far.events) (λ _. 1)
+represents_of a rs places r =
+    let b = r.built in
+    subst (λ (x : Arena). Represents (reading x) (meaning_of rs b.so_far.events) (λ _. 1)) (sym r.is)
+    (represents (record r.tree { reservations = rs }) rs b.so_far.events refl b.holds.shows (no_symbols b.so_far.events b.holds.bookkeeping))
 
-pub compiled : (text : List ℕ) (ts : Tokens) (places : List Place) (a : Arena) (blob : List ℕ) → length text ≤ 16777216 → IsLexed text ts → IsParsed ts places → IsBuilt a places → Reads blob (reading a) → IsWithin blob (reading a)
-    → IsCompiled text blob
-compiled text ts places a blob size lexed parsed built reads within = record {
-  size = size;
-  meaning = meaning_of [] built.so_far.events;
+pub compiled : (text : List ℕ) (s : Says) (places : List Place) (a : Arena) (blob : List ℕ) → IsRootOf text s places → IsReserved a s.reservations places →
+    Reads blob (reading a) → IsWithin blob (reading a) → IsCompiled text blob
+compiled text s places a blob h r reads within = record {
+  size = h.parsed.size;
+  meaning = meaning_of s.reservations r.built.so_far.events;
   tree = reading a;
   number = λ _. 1;
-  means = means_of text ts places a lexed parsed built;
+  means = means_of text s places r.tree h r.built;
   reads = reads;
   within = within;
-  represents = represents_of a places built;
-  boot_cpu = built.holds.boot_cpu;
+  represents = represents_of a s.reservations places r;
+  boot_cpu = ap (λ (x : Arena). x.boot_cpu) r.is ∙ r.built.holds.boot_cpu;
 }
 
 -- ---- refusals
 
-no_tokens : (text : List ℕ) (f : Lexed) → ((ps : List token.Placed) → f ≡ Ok ps → ⊥) → IsRead text f → MeansNothing text
-no_tokens text f bad h m t = let l = t.says.lexed in bad l.0 (unique h l.1)
+refused_for : (text : List ℕ) (s : Says) (places : List Place) (r : Refusal) → IsRootOf text s places → read_all base started places ≡ Err r → read_all base nothing s.places ≡ Err r
+refused_for text s places r h e = ap (read_all base nothing) h.are ∙ e
 
-pub not_lexed : (e : LexError) (text : List ℕ) → IsReason text e → WhyNotCompiled (fault_of e).kind (fault_of e).at text
-not_lexed errors.Memory text h = refl
-not_lexed (errors.BadToken at) text h = (no_tokens text _ (λ ps e. cc) h, (at, refl, h))
-not_lexed (errors.BadInteger at) text h = (no_tokens text _ (λ ps e. cc) h, (at, refl, h))
+count_of : (text : List ℕ) (s : Says) (places : List Place) → IsRootOf text s places → children_in places ≡ children_in s.places
+count_of text s places h = sym (ap children_in h.are)
 
-no_source : (text : List ℕ) (ts : Tokens) → IsLexed text ts → IsNoSource ts → MeansNothing text
-no_source text ts lexed none m t =
-    let s = spelled_is_parsed t.properties t.children t.says.tokens t.says.spelled in
-    none s.1 (record { body = s.0; whole = lexed_once text ts t.says.tokens lexed t.says.lexed ∙ s.2; parses = s.4 })
+of_kind : (text : List ℕ) (s : Says) (places : List Place) (kind : FaultKind) → IsRootOf text s places → WhyNotBuilt kind places → WhyNotCompiled text (told kind)
+of_kind text s places NoMemory h why = no_memory
+of_kind text s places Limit h (inl far) = deep s (is_base text s places h) (refused_for text s places too_deep h far)
+of_kind text s places Limit h (inr more) = many s (is_base text s places h) (subst (λ (n : ℕ). 65536 < 1 + n) (count_of text s places h) more)
+of_kind text s places Syntax h why = absurd (balanced (words_of text h.parsed.tokens) s places h.parsed.spelled h.are h.covered why.1)
+of_kind text s places DuplicateProperty h why = second_property s (is_base text s places h) (refused_for text s places duplicate_property h why)
+of_kind text s places DuplicateNode h why = second_node s (is_base text s places h) (refused_for text s places duplicate_node h why)
+of_kind text s places ReservedName h why = reserved s (is_base text s places h) (refused_for text s places reserved_name h why)
+of_kind text s places BadPhandle h why = numbered s (is_base text s places h) (λ all. why (subst (AllByRecursion IsUnnumbered) h.are all).1)
+of_kind text s places _ h why = absurd why
 
-starts_view : (ts : List lexer.Token) → map (λ (p : token.Placed). p.start) (map token.view ts) ≡ starts ts
-starts_view [] = refl
-starts_view (t ∷ ts) = ap (λ (x : List ℕ). t.start ∷ x) (starts_view ts)
+is_told : (fault : Fault) → fault.at ≡ None → told fault.kind ≡ fault
+is_told fault e = sym (ap (λ (x : Option ℕ). let f : Fault = record { kind = fault.kind; at = x } in f) e)
 
--- a place that the parser tells is one of the text
-in_text : (text : List ℕ) (ts : List lexer.Token) (at : Option ℕ) → IsRead text (Ok (map token.view ts)) → IsPlaceOf ts (length text) at → IsTokenPlace at text
-in_text text ts at h (place, e, inl last) = (place, e, inl last)
-in_text text ts at h (place, e, inr is) = (place, e, inr (map token.view ts, h, subst (IsIn place) (sym (starts_view ts)) is))
+pub not_built : (text : List ℕ) (s : Says) (places : List Place) (fault : Fault) → IsRootOf text s places → WhyNotBuilt fault.kind places × (fault.at ≡ None) → WhyNotCompiled text fault
+not_built text s places fault h why = subst (WhyNotCompiled text) (is_told fault why.1) (of_kind text s places fault.kind h why.0)
 
-tag_in_text : (text : List ℕ) (ts : Tokens) → IsLexed text ts → IsTagged ts → HasTag text
-tag_in_text text ts lexed tag = (tag.0, subst (IsLexed text) tag.1 lexed)
+unwritten : (text : List ℕ) (s : Says) (places : List Place) (a : Arena) (kind : FaultKind) → IsRootOf text s places → IsReserved a s.reservations places →
+    WhyNoBlob kind (length (written (reading a))) → WhyNotCompiled text (told kind)
+unwritten text s places a NoMemory h r why = no_memory
+unwritten text s places a Limit h r why =
+    big (meaning_of s.reservations r.built.so_far.events) (reading a) (λ _. 1) (means_of text s places r.tree h r.built) (represents_of a s.reservations places r) why
+unwritten text s places a _ h r why = absurd why
 
-no_tag : (text : List ℕ) (ts : Tokens) → IsLexed text ts → (IsTagged ts → ⊥) → HasTag text → ⊥
-no_tag text ts lexed none has = none (has.0, lexed_once text ts (token.version ∷ token.mark mark.Semicolon ∷ has.0) lexed has.1)
+pub not_written : (text : List ℕ) (s : Says) (places : List Place) (a : Arena) (fault : Fault) → IsRootOf text s places → IsReserved a s.reservations places →
+    WhyNoBlob fault.kind (length (written (reading a))) × (fault.at ≡ None) → WhyNotCompiled text fault
+not_written text s places a fault h r why = subst (WhyNotCompiled text) (is_told fault why.1) (unwritten text s places a fault.kind h r why.0)
 
--- a fault of the grammar behind the tag
-of_grammar : (at : Option ℕ) (text : List ℕ) (ts : List lexer.Token) → IsRead text (Ok (map token.view ts)) → IsNoSource (kinds ts) → IsTagged (kinds ts) → IsPlaceOf ts (length text) at → MeansNothing text × HasTag text × IsTokenPlace at text
-of_grammar at text ts lexed h tag place =
-    let l = lexed_of text ts lexed in (no_source text (kinds ts) l h, tag_in_text text (kinds ts) l tag, in_text text ts at lexed place)
+-- ---- sources that aren't compiled
 
-pub not_parsed : (kind : FaultKind) (at : Option ℕ) (text : List ℕ) (ts : List lexer.Token) → IsRead text (Ok (map token.view ts)) → WhyNotParsed kind (kinds ts) → TellsTag kind (kinds ts) → IsToldAt kind at ts (length text) → WhyNotCompiled kind at text
-not_parsed NoMemory at text ts lexed h tag told = told.place
-not_parsed Limit at text ts lexed h tag told = (nested (kinds ts) h.0 (lexed_of text ts lexed) h.1 h.2, told.place)
-not_parsed BadVersionTag at text ts lexed h tag told = let l = lexed_of text ts lexed in (no_source text (kinds ts) l h, no_tag text (kinds ts) l tag, told.place)
-not_parsed Syntax at text ts lexed h tag told = of_grammar at text ts lexed h tag told.place
-not_parsed OutOfRange at text ts lexed h tag told = of_grammar at text ts lexed h tag told.place
-not_parsed PropertyAfterNode at text ts lexed h tag told = of_grammar at text ts lexed h tag told.place
-not_parsed BadName at text ts lexed h tag told = of_grammar at text ts lexed h tag told.place
-not_parsed _ at text ts lexed h tag told = absurd h
+pub overlay_told : (text : List ℕ) (s : Says) (fault : Fault) → IsParsed text s → s.plugin ≡ true → fault.kind ≡ BadVersionTag → fault.at ≡ Some 0 → WhyNotCompiled text fault
+overlay_told text s fault parsed plugin kind at =
+    subst (WhyNotCompiled text) (sym (ap (λ (k : FaultKind). let f : Fault = record { kind = k; at = fault.at } in f) kind
+    ∙ ap (λ (x : Option ℕ). let f : Fault = record { kind = BadVersionTag; at = x } in f) at)) (overlay s parsed plugin)
 
-no_meaning : (text : List ℕ) (ts : Tokens) (places : List Place) → IsLexed text ts → IsParsed ts places → IsNotBuilt places → MeansNothing text
-no_meaning text ts places lexed parsed none m t =
-    let same : places_of t.properties t.children ≡ root ∷ places = places_once text ts places t.properties t.children lexed parsed t.says in
-    none t.means.so_far (ap (read_all base nothing) (sym same) ∙ t.means.all_read) t.means.closed
-
-refused_for : (text : List ℕ) (ts : Tokens) (places : List Place) (r : Refusal) → IsLexed text ts → IsParsed ts places → read_all base started places ≡ Err r → IsRefusedFor r text
-refused_for text ts places r lexed parsed h =
-    let s = says_parsed text ts places lexed parsed in
-    (s.0, s.1, s.2, ap (read_all base nothing) (sym s.3) ∙ h)
-
--- places whose reading stops mean nothing
-stopped : (text : List ℕ) (ts : Tokens) (places : List Place) (r : Refusal) → IsLexed text ts → IsParsed ts places → read_all base started places ≡ Err r → MeansNothing text × IsRefusedFor r text
-stopped text ts places r lexed parsed h = (no_meaning text ts places lexed parsed none, refused_for text ts places r lexed parsed h)
-  where
-    none : IsNotBuilt places
-    none s e closed = let bad : Err r ≡ (let o : Result SoFar Refusal = Ok s in o) = sym h ∙ e in cc
-
-children-append : (xs ys : List Place) → children_in (xs ++ ys) ≡ children_in xs + children_in ys
-children-append [] ys = omega arith
-children-append (p ∷ xs) ys = omega (arith, children-cons p (xs ++ ys), children-cons p xs, children-append xs ys)
-
-children-properties : (ps : List Property) → children_in (map place_of_property ps) ≡ 0
-children-properties [] = refl
-children-properties (p ∷ ps) = children-properties ps
-
-children-forest : (cs : Forest) → children_in (places_of_forest cs) ≡ node_count cs
-children-forest no_nodes = refl
-children-forest (branch name ps cs ss) =
-    omega (
-      arith,
-      children-append (map place_of_property ps) (places_of_forest cs ++ close ∷ places_of_forest ss),
-      children-properties ps,
-      children-append (places_of_forest cs) (close ∷ places_of_forest ss),
-      children-forest cs,
-      children-forest ss,
-    )
-
-count_of : (ps : List Property) (cs : Forest) (places : List Place) → root ∷ places ≡ places_of ps cs → children_in places ≡ node_count cs
-count_of ps cs places e =
-    let same : children_in places ≡ children_in (map place_of_property ps ++ (places_of_forest cs ++ close ∷ [])) = ap (λ (x : List Place). children_in (drop 1 x)) e in
-    omega (arith, same, children-append (map place_of_property ps) (places_of_forest cs ++ close ∷ []), children-properties ps, children-append (places_of_forest cs) (close ∷ []), children-forest cs)
-
-too_many : (text : List ℕ) (ts : Tokens) (places : List Place) → IsLexed text ts → IsParsed ts places → (read_all base started places ≡ Err too_deep) ⊎ (65536 < 1 + children_in places) → IsTooLarge text
-too_many text ts places lexed parsed (inl far) = deep (refused_for text ts places too_deep lexed parsed far)
-too_many text ts places lexed parsed (inr more) =
-    let s = says_parsed text ts places lexed parsed in
-    many s.0 s.1 s.2 (omega (arith, more, count_of s.0 s.1 places s.3))
-
-numbered : (text : List ℕ) (ts : Tokens) (places : List Place) → IsLexed text ts → IsParsed ts places → (AllByRecursion IsUnnumbered places → ⊥) → MeansNothing text
-numbered text ts places lexed parsed none m t =
-    let same : places_of t.properties t.children ≡ root ∷ places = places_once text ts places t.properties t.children lexed parsed t.says in
-    let all : AllByRecursion IsUnnumbered (root ∷ places) = subst (AllByRecursion IsUnnumbered) same t.unnumbered in
-    none all.1
-
--- what was parsed closes each body that it opens, and nothing stands behind
-balanced : (depth : ℕ) (late : Bool) (ts : Tokens) (places : List Place) → Parses depth late ts places → AreUnbalanced depth places → ⊥
-balanced depth late ts places (over l) u = u
-balanced depth late ts places (next d l us rest i is item others) u = balanced (depth_behind i (suc d)) (late_behind i) rest is others u
-
-pub not_built : (kind : FaultKind) (at : Option ℕ) (text : List ℕ) (ts : Tokens) (places : List Place) → IsLexed text ts → IsParsed ts places → WhyNotBuilt kind places × (at ≡ None) → WhyNotCompiled kind at text
-not_built NoMemory at text ts places lexed parsed h = h.1
-not_built Limit at text ts places lexed parsed h = (too_many text ts places lexed parsed h.0, h.1)
-not_built Syntax at text ts places lexed parsed h = absurd (balanced 1 false parsed.body places parsed.parses h.0.1)
-not_built DuplicateProperty at text ts places lexed parsed h = let s = stopped text ts places duplicate_property lexed parsed h.0 in (s.0, s.1, h.1)
-not_built DuplicateNode at text ts places lexed parsed h = let s = stopped text ts places duplicate_node lexed parsed h.0 in (s.0, s.1, h.1)
-not_built ReservedName at text ts places lexed parsed h = let s = stopped text ts places reserved_name lexed parsed h.0 in (s.0, s.1, h.1)
-not_built BadPhandle at text ts places lexed parsed h = (numbered text ts places lexed parsed h.0, h.1)
-not_built _ at text ts places lexed parsed h = absurd h.0
-
-pub not_written : (kind : FaultKind) (at : Option ℕ) (text : List ℕ) (ts : Tokens) (places : List Place) (a : Arena) → IsLexed text ts → IsParsed ts places → IsBuilt a places → WhyNoBlob kind (length (written (reading a))) × (at ≡ None) → WhyNotCompiled kind at text
-not_written NoMemory at text ts places a lexed parsed built h = h.1
-not_written Limit at text ts places a lexed parsed built h =
-    (big (meaning_of [] built.so_far.events) (reading a) (λ _. 1) (means_of text ts places a lexed parsed built) (represents_of a places built) h.0, h.1)
-not_written _ at text ts places a lexed parsed built h = absurd h.0
+pub uncovered_told : (text : List ℕ) (s : Says) (fault : Fault) → IsParsed text s → s.plugin ≡ false → ¬ IsCovered s.places → fault.kind ≡ Syntax → fault.at ≡ None → WhyNotCompiled text fault
+uncovered_told text s fault parsed plain none kind at =
+    subst (WhyNotCompiled text) (sym (ap (λ (k : FaultKind). let f : Fault = record { kind = k; at = fault.at } in f) kind
+    ∙ ap (λ (x : Option ℕ). let f : Fault = record { kind = Syntax; at = x } in f) at)) (uncovered s parsed plain none)
 
 -- ---- one meaning
+
+-- a text says one thing
+abbrev pub SaidOnce : Type 0
+SaidOnce = (text : List ℕ) (s t : Says) → IsParsed text s → IsParsed text t → s ≡ t
+
+-- and has no fault then
+abbrev pub SaidOnly : Type 0
+SaidOnly = (text : List ℕ) (s : Says) (e : Fault) → IsParsed text s → WhyNotParsed text e → e.kind ≡ NoMemory
 
 so_far_same : (x y : SoFar) (o : Result SoFar Refusal) → o ≡ Ok x → o ≡ Ok y → x ≡ y
 so_far_same x y o e f = let both : Ok x ≡ (let r : Result SoFar Refusal = Ok y in r) = sym e ∙ f in cc
 
-pub meaning_once : (text : List ℕ) (m n : Meaning) → TextMeans text m → TextMeans text n → m ≡ n
-meaning_once text m n t u =
-    let s = spelled_is_parsed t.properties t.children t.says.tokens t.says.spelled in
-    let parsed : IsParsed t.says.tokens s.1 = record { body = s.0; whole = s.2; parses = s.4 } in
-    let same : places_of u.properties u.children ≡ places_of t.properties t.children = places_once text t.says.tokens s.1 u.properties u.children t.says.lexed parsed u.says ∙ sym s.3 in
-    let events : t.means.so_far ≡ u.means.so_far = so_far_same t.means.so_far u.means.so_far (read_all base nothing (places_of t.properties t.children)) t.means.all_read (ap (read_all base nothing) (sym same) ∙ u.means.all_read) in
-    t.means.means ∙ ap (λ (x : SoFar). meaning_of [] x.events) events ∙ sym u.means.means
+pub meaning_once : SaidOnce → (text : List ℕ) (m n : Meaning) → TextMeans text m → TextMeans text n → m ≡ n
+meaning_once said_once text m n t u =
+    let same : t.says ≡ u.says = said_once text t.says u.says t.parsed u.parsed in
+    let events : t.means.so_far ≡ u.means.so_far = so_far_same t.means.so_far u.means.so_far (read_all base nothing t.says.places) t.means.all_read (ap (λ (x : Says). read_all base nothing x.places) same ∙ u.means.all_read) in
+    t.means.means ∙ ap (λ (x : SoFar). meaning_of t.says.reservations x.events) events ∙ ap (λ (x : Says). meaning_of x.reservations u.means.so_far.events) same ∙ sym u.means.means
+
+-- ---- a text with a meaning that is covered isn't refused but for memory and limits
+
+still : (x : SoFar) (r : Refusal) (o : Result SoFar Refusal) → o ≡ Ok x → o ≡ Err r → ⊥
+still x r o e f = let both : Ok x ≡ (let q : Result SoFar Refusal = Err r in q) = sym e ∙ f in cc
+
+read_there : SaidOnce → (text : List ℕ) (m : Meaning) (r : Refusal) (s : Says) → TextMeans text m → IsBase text s → read_all base nothing s.places ≡ Err r → ⊥
+read_there said_once text m r s t h e =
+    still t.means.so_far r (read_all base nothing t.says.places) t.means.all_read
+    (ap (λ (x : Says). read_all base nothing x.places) (said_once text t.says s t.parsed h.parsed) ∙ e)
+
+pub due : SaidOnce → SaidOnly → (text : List ℕ) (m : Meaning) (e : Fault) (t : TextMeans text m) → IsCovered t.says.places → AllByRecursion IsUnnumbered t.says.places → WhyNotCompiled text e → (e.kind ≡ NoMemory) ⊎ (e.kind ≡ Limit)
+due said_once only_memory text m e t covered unnumbered no_memory = inl refl
+due said_once only_memory text m e t covered unnumbered (unparsed f why) = inl (only_memory text t.says f t.parsed why)
+due said_once only_memory text m e t covered unnumbered (overlay s parsed plugin) =
+    let bad : true ≡ false = sym plugin ∙ ap (λ (x : Says). x.plugin) (said_once text s t.says parsed t.parsed) ∙ t.plain in cc
+due said_once only_memory text m e t covered unnumbered (uncovered s parsed plain none) = absurd (none (subst (λ (x : Says). IsCovered x.places) (said_once text t.says s t.parsed parsed) covered))
+due said_once only_memory text m e t covered unnumbered (numbered s h some) = absurd (some (subst (λ (x : Says). AllByRecursion IsUnnumbered x.places) (said_once text t.says s t.parsed h.parsed) unnumbered))
+due said_once only_memory text m e t covered unnumbered (second_property s h refused) = absurd (read_there said_once text m duplicate_property s t h refused)
+due said_once only_memory text m e t covered unnumbered (second_node s h refused) = absurd (read_there said_once text m duplicate_node s t h refused)
+due said_once only_memory text m e t covered unnumbered (reserved s h refused) = absurd (read_there said_once text m reserved_name s t h refused)
+due said_once only_memory text m e t covered unnumbered (deep s h refused) = inr refl
+due said_once only_memory text m e t covered unnumbered (many s h more) = inr refl
+due said_once only_memory text m e t covered unnumbered (big n tree number means represents large) = inr refl
+
+-- ---- the kinds of its faults
+
+of_source : (k : FaultKind) → IsSourceFault k → IsCompilerFault k
+of_source NoMemory h = tt
+of_source Limit h = tt
+of_source BadToken h = tt
+of_source BadInteger h = tt
+of_source BadVersionTag h = tt
+of_source Syntax h = tt
+of_source BadName h = tt
+of_source PropertyAfterNode h = tt
+of_source BadReferenceWidth h = tt
+of_source DivideByZero h = tt
+of_source OutOfRange h = tt
+of_source _ h = absurd h
+
+pub compiler_kind : (text : List ℕ) (e : Fault) → WhyNotCompiled text e → IsCompilerFault e.kind
+compiler_kind text e no_memory = tt
+compiler_kind text e (unparsed f why) = of_source f.kind (source_kind text f why)
+compiler_kind text e (overlay s parsed plugin) = tt
+compiler_kind text e (uncovered s parsed plain none) = tt
+compiler_kind text e (numbered s h some) = tt
+compiler_kind text e (second_property s h refused) = tt
+compiler_kind text e (second_node s h refused) = tt
+compiler_kind text e (reserved s h refused) = tt
+compiler_kind text e (deep s h refused) = tt
+compiler_kind text e (many s h more) = tt
+compiler_kind text e (big n tree number means represents large) = tt

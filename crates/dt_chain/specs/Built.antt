@@ -6,10 +6,8 @@ use Rattle.dt_names.specs.declared.fault.Fault.{Fault}
 use Rattle.dt_names.specs.declared.fault.FaultKind.{FaultKind}
 use Rattle.dt_names.specs.declared.fault.FaultKind.TheVariants.{NoMemory, Limit, Syntax, DuplicateProperty, DuplicateNode, BadPhandle, ReservedName, Duplicate}
 use Rattle.dt_flat.specs.Arena.{Arena}
-use Rattle.dt_chain.specs.Grammar.{IsUnnumbered}
-use Rattle.dt_chain.specs.Parsing.{depth_behind}
+use Rattle.dt_chain.specs.Covered.{IsUnnumbered, IsOpening, depth_behind}
 use Rattle.dt_chain.specs.Building.{Holds, opened, children_in, started}
-use Rattle.dt_chain.specs.Items.{IsOpening}
 
 -- the numbers are nodes
 abbrev pub AreInside : Arena → List ℕ → Type 0
@@ -92,3 +90,9 @@ pub record IsUnderWay (a : Arena) (numbers : List ℕ) (left all : List Place) :
   pub unbalanced : AreUnbalanced (length so_far.bodies) left → AreUnbalanced 1 all
   pub unnumbered : AllByRecursion IsUnnumbered left → AllByRecursion IsUnnumbered all
   pub unnumbered_left : AllByRecursion IsUnnumbered all → AllByRecursion IsUnnumbered left
+
+-- the tree of the places, with these reservations
+pub record IsReserved (a : Arena) (reservations : List (ℕ × ℕ)) (places : List Place) : Type 0 where
+  pub tree : Arena
+  pub built : IsBuilt tree places
+  pub is : a ≡ record tree { reservations = reservations }

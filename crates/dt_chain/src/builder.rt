@@ -1,15 +1,18 @@
 //! The tree that the items of a source mean (Devicetree Specification v0.4, 6).
 
+ghost use Rattle.std.specs.List.{AllByRecursion};
 ghost use Rattle.std.specs.Prelude.{◌≡◌, ◌≢◌, ◌⊎◌, false, ◌<◌, ◌++◌, ◌∷◌, [], ℕ, IsOk, IsTrue, ◌↔◌, true, OnOk, MatchResult, MatchOption, length, map, slice_get, Some, None, IfErr};
 ghost use Rattle.std.specs.Bool.{OnTrue, OnFalse};
 ghost use Rattle.dt_model.specs.Path.{is_bookkeeping_name};
 ghost use Rattle.dt_model.specs.Source.{SoFar, child, property, close, one};
-ghost use Rattle.dt_chain.specs.Items.{place_of};
-ghost use Rattle.dt_chain.specs.Built.{AreInside, Follows, IsTop, WhyNoChild, IsBuilt, WhyNotBuilt};
+ghost use Rattle.dt_model.specs.Valid.{IsReservation};
+ghost use Rattle.dt_parse.specs.Said.{place_said, reservation_said};
+ghost use Rattle.dt_chain.specs.Covered.{IsCoveredInside};
+ghost use Rattle.dt_chain.specs.Built.{AreInside, Follows, IsTop, WhyNoChild, IsBuilt, IsReserved, WhyNotBuilt};
 
-use crate::parser::Item;
 use dt_flat::{FlatTree, NodeId};
 use dt_names::{Fault, FaultKind, NodeName, PropName};
+use dt_parse::{Item, Reservation};
 use std::alloc::{AllocError, Global};
 
 /// A tree under construction, and its nodes whose bodies are open, the innermost last.
@@ -127,25 +130,28 @@ impl Builder {
 
     /// One more item.
     fn step(&mut self, item: &Item<'_>) -> Result<(), Fault>
-        requires { AreInside self.old.tree self.old.stack.items }
+        requires inside { AreInside self.old.tree self.old.stack.items }
+        requires covered { IsCoveredInside (place_said item.now) }
         ensures inside { OnOk result (AreInside self.new.tree self.new.stack.items) }
         ensures place { IfErr result (λ fault. fault.at ≡ None) }
-        ensures meaning { Follows (place_of item.now)
+        ensures meaning { Follows (place_said item.now)
             self.old.tree self.old.stack.items self.new.tree self.new.stack.items result }
     {
         match item {
             Item::Child(name) => self.open(name),
-            Item::Property(name, value) => self.define(name, value),
+            Item::Property(name, value) => self.define(name, &value.bytes),
             Item::Close => self.close(),
+            _ => Err(Fault::of(FaultKind::Syntax)),
         }
     }
 }
 
-/// The tree of a root's items, or the first refusal.
-pub fn build(alloc: Global, items: &[Item<'_>]) -> Result<FlatTree, Fault>
+/// The tree of the items of a root's body, or the first refusal.
+fn grow(alloc: Global, items: &[Item<'_>]) -> Result<FlatTree, Fault>
+    requires { AllByRecursion IsCoveredInside (map place_said items.now) }
     ensures { MatchResult result
-        (λ tree. IsBuilt tree (map place_of items.now))
-        (λ fault. WhyNotBuilt fault.kind (map place_of items.now) × (fault.at ≡ None)) }
+        (λ tree. IsBuilt tree (map place_said items.now))
+        (λ fault. WhyNotBuilt fault.kind (map place_said items.now) × (fault.at ≡ None)) }
 {
     let tree = FlatTree::new(alloc, 0);
     let mut stack = Vec::new(alloc);
@@ -158,4 +164,23 @@ pub fn build(alloc: Global, items: &[Item<'_>]) -> Result<FlatTree, Fault>
         return Err(Fault::of(FaultKind::Syntax));
     }
     Ok(builder.tree)
+}
+
+/// The tree of the items of a root's body, with these reservations; or the first refusal.
+pub(crate) fn build(
+    alloc: Global,
+    reservations: &[Reservation],
+    items: &[Item<'_>],
+) -> Result<FlatTree, Fault>
+    requires covered { AllByRecursion IsCoveredInside (map place_said items.now) }
+    requires reserved { AllByRecursion IsReservation (map reservation_said reservations.now) }
+    ensures { MatchResult result
+        (λ tree. IsReserved tree (map reservation_said reservations.now) (map place_said items.now))
+        (λ fault. WhyNotBuilt fault.kind (map place_said items.now) × (fault.at ≡ None)) }
+{
+    let mut tree = grow(alloc, items)?;
+    for reservation in reservations {
+        tree.reserve(reservation.address, reservation.size)?;
+    }
+    Ok(tree)
 }

@@ -1,6 +1,7 @@
 //! Sources with their blobs or faults, by hand.
 
 use super::*;
+use crate::input::INPUT_LIMIT;
 use hex::encode;
 use std::test::Fail;
 
@@ -178,6 +179,85 @@ fn as_long_as_may_be(rt: HostRuntime) -> Result<(), Fail> {
     assert_eq!(rt; compile(rt.alloc(), &text)?.len(), 72);
     text.push(b' ')?;
     assert!(rt; is_refused(&rt, &text, FaultKind::Limit, None));
+    Ok(())
+}
+
+/// The first bytes of the value of the root's only property, in hexadecimal; no more than there are.
+fn value(rt: &HostRuntime, value: &[u8], size: usize) -> Result<String, Fail> {
+    let mut text = Vec::new(rt.alloc());
+    text.extend_from_slice(b"/dts-v1/; / { a = ".as_slice())?;
+    text.extend_from_slice(value)?;
+    text.extend_from_slice(b"; };".as_slice())?;
+    let blob = compile(rt.alloc(), &text)?;
+    let bytes = blob.get(76..).unwrap_or(&[]);
+    Ok(encode(rt.alloc(), bytes.get(..size).unwrap_or(bytes))?)
+}
+
+#[test]
+fn values(rt: HostRuntime) -> Result<(), Fail> {
+    assert_eq!(rt;
+        value(
+            &rt,
+            b"<(1 | 2 ^ 3 & 6) (10 - 3 - 2) (1 << 2 + 1) (~0 >> 60) (0 ? 1 : 0 ? 2 : 3) (-1 % 10) (1 < 2 == 1)>",
+            28
+        )?
+        .as_str(),
+        "0000000100000005000000080000000f000000030000000500000001"
+    );
+    assert_eq!(rt;
+        value(
+            &rt,
+            b"<(1 << 64) (1 ? 2 : 3 + 4) (2 + 3 * 4 == 14 && 1) 010 'A'>",
+            20
+        )?
+        .as_str(),
+        "0000000000000002000000010000000800000041"
+    );
+    assert_eq!(rt;
+        value(&rt, b"<'\\n' '\\x41' '\\101' '\\''>", 16)?.as_str(),
+        "0000000a000000410000004100000027"
+    );
+    assert_eq!(rt; value(&rt, b"<(-1)>", 4)?.as_str(), "ffffffff");
+    assert_eq!(rt; value(&rt, b"/bits/ 8 <0xff (-256)>", 2)?.as_str(), "ff00");
+    assert_eq!(rt;
+        value(&rt, b"/bits/ 64 <1>, /bits/ 16 <2 3>", 12)?.as_str(),
+        "000000000000000100020003"
+    );
+    assert_eq!(rt;
+        value(&rt, b"[0a 0B0c], \"a\\x41\\n\"", 7)?.as_str(),
+        "0a0b0c61410a00"
+    );
+    Ok(())
+}
+
+#[test]
+fn reservations(rt: HostRuntime) -> Result<(), Fail> {
+    let blob = compiled(&rt, b"/dts-v1/; /memreserve/ 0x10000000 0x4000; / { };")?;
+    assert_eq!(rt;
+        blob.as_str(),
+        "d00dfeed000000580000004800000058000000280000001100000010000000000000000000000010000000001000000000000000000040000000000000000000000000000000000000000001000000000000000200000009"
+    );
+    let text = b"/dts-v1/; /memreserve/ 0 0; / { };";
+    assert!(rt; is_refused(&rt, text, FaultKind::OutOfRange, Some(25)));
+    Ok(())
+}
+
+#[test]
+fn sources_that_are_not_compiled_so_far(rt: HostRuntime) -> Result<(), Fail> {
+    use FaultKind::*;
+    let overlay = b"/dts-v1/; /plugin/; / { };";
+    assert!(rt; is_refused(&rt, overlay, BadVersionTag, Some(0)));
+    assert!(rt; is_refused(&rt, b"/dts-v1/; / { l: a { }; };", Syntax, None));
+    assert!(rt; is_refused(&rt, b"/dts-v1/; / { a = <&{/}>; };", Syntax, None));
+    assert!(rt; is_refused(&rt, b"/dts-v1/; / { a = &{/}; };", Syntax, None));
+    assert!(rt; is_refused(&rt, b"/dts-v1/; / { }; / { };", Syntax, None));
+    assert!(rt; is_refused(&rt, b"/dts-v1/; &{/} { };", Syntax, None));
+    assert!(rt; is_refused(&rt, b"/dts-v1/; / { /delete-node/ a; };", Syntax, None));
+    let deletion = b"/dts-v1/; / { /delete-property/ a; };";
+    assert!(rt; is_refused(&rt, deletion, Syntax, None));
+    // What is wrong with the tokens comes first.
+    let late = b"/dts-v1/; /plugin/; / { n { }; a; };";
+    assert!(rt; is_refused(&rt, late, PropertyAfterNode, Some(32)));
     Ok(())
 }
 

@@ -1,7 +1,7 @@
 -- The number and the name of each kind of fault, which a caller may show or compare.
 use Rattle.std.specs.Prelude.{ℕ, List, codes}
 use Rattle.dt_names.specs.declared.fault.FaultKind.{FaultKind}
-use Rattle.dt_names.specs.declared.fault.FaultKind.TheVariants.{NoMemory, Limit, BadVersionTag, BadToken, Syntax, BadInteger, DivideByZero, OutOfRange, PropertyAfterNode, DuplicateProperty, DuplicateNode, BadPhandle, ReservedName, BadName, Duplicate, BlobPhandle, WriteFault, ReadFault}
+use Rattle.dt_names.specs.declared.fault.FaultKind.TheVariants.{NoMemory, Limit, BadVersionTag, BadToken, Syntax, BadInteger, DivideByZero, OutOfRange, BadReferenceWidth, PropertyAfterNode, DuplicateProperty, DuplicateNode, BadPhandle, ReservedName, ShortHeader, BadMagic, BadTotal, BadVersion, Misaligned, BlockOutside, NoReservationEnd, BadTag, StructureCut, BadName, BadNameOffset, BadNesting, LateProperty, Duplicate, BadEnd, BlobPhandle, WriteFault, ReadFault}
 
 -- the number of a kind
 abbrev pub fault_number : FaultKind → ℕ
@@ -13,13 +13,27 @@ fault_number Syntax = 12
 fault_number BadInteger = 13
 fault_number DivideByZero = 14
 fault_number OutOfRange = 15
+fault_number BadReferenceWidth = 16
 fault_number PropertyAfterNode = 17
 fault_number DuplicateProperty = 20
 fault_number DuplicateNode = 21
 fault_number BadPhandle = 25
 fault_number ReservedName = 27
+fault_number ShortHeader = 40
+fault_number BadMagic = 41
+fault_number BadTotal = 42
+fault_number BadVersion = 43
+fault_number Misaligned = 44
+fault_number BlockOutside = 45
+fault_number NoReservationEnd = 46
+fault_number BadTag = 47
+fault_number StructureCut = 48
 fault_number BadName = 49
+fault_number BadNameOffset = 50
+fault_number BadNesting = 51
+fault_number LateProperty = 52
 fault_number Duplicate = 53
+fault_number BadEnd = 54
 fault_number BlobPhandle = 55
 fault_number WriteFault = 90
 fault_number ReadFault = 91
@@ -34,13 +48,27 @@ fault_name Syntax = codes "Syntax"
 fault_name BadInteger = codes "BadInteger"
 fault_name DivideByZero = codes "DivideByZero"
 fault_name OutOfRange = codes "OutOfRange"
+fault_name BadReferenceWidth = codes "BadReferenceWidth"
 fault_name PropertyAfterNode = codes "PropertyAfterNode"
 fault_name DuplicateProperty = codes "DuplicateProperty"
 fault_name DuplicateNode = codes "DuplicateNode"
 fault_name BadPhandle = codes "BadPhandle"
 fault_name ReservedName = codes "ReservedName"
+fault_name ShortHeader = codes "ShortHeader"
+fault_name BadMagic = codes "BadMagic"
+fault_name BadTotal = codes "BadTotal"
+fault_name BadVersion = codes "BadVersion"
+fault_name Misaligned = codes "Misaligned"
+fault_name BlockOutside = codes "BlockOutside"
+fault_name NoReservationEnd = codes "NoReservationEnd"
+fault_name BadTag = codes "BadTag"
+fault_name StructureCut = codes "StructureCut"
 fault_name BadName = codes "BadName"
+fault_name BadNameOffset = codes "BadNameOffset"
+fault_name BadNesting = codes "BadNesting"
+fault_name LateProperty = codes "LateProperty"
 fault_name Duplicate = codes "Duplicate"
+fault_name BadEnd = codes "BadEnd"
 fault_name BlobPhandle = codes "BlobPhandle"
 fault_name WriteFault = codes "WriteFault"
 fault_name ReadFault = codes "ReadFault"

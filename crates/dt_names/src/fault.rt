@@ -25,6 +25,8 @@ pub enum FaultKind {
     DivideByZero,
     /// A number that doesn't fit the place it is written to.
     OutOfRange,
+    /// A reference in a cell list whose elements aren't of 32 bits.
+    BadReferenceWidth,
     /// A property behind a child of its node.
     PropertyAfterNode,
     /// A property that its node has already.
@@ -35,10 +37,36 @@ pub enum FaultKind {
     BadPhandle,
     /// A name that the tool keeps for its own nodes.
     ReservedName,
+    /// A blob of fewer bytes than a header has.
+    ShortHeader,
+    /// A blob that doesn't begin with the magic number.
+    BadMagic,
+    /// A total size below a header's, or above the number of bytes.
+    BadTotal,
+    /// A blob that a reader of version 17 can't read.
+    BadVersion,
+    /// A block of a blob that isn't aligned.
+    Misaligned,
+    /// A block of a blob that passes the total size.
+    BlockOutside,
+    /// Memory reservations without the pair of zeros that ends them.
+    NoReservationEnd,
+    /// A word of a structure block that is no token's.
+    BadTag,
+    /// A token that passes the end of the structure block.
+    StructureCut,
     /// Bytes that aren't such a name.
     BadName,
+    /// An offset in the strings block at which no name stands.
+    BadNameOffset,
+    /// A token of a structure block where none of its kind may stand.
+    BadNesting,
+    /// A property of a blob behind a child of its node.
+    LateProperty,
     /// A node or a property of that name is there already.
     Duplicate,
+    /// Something behind the token that ends a structure block.
+    BadEnd,
     /// A `phandle` to be set in a tree that isn't one number of the allowed range, or that another node has.
     BlobPhandle,
     /// The output refused bytes.
@@ -61,13 +89,27 @@ impl FaultKind {
             FaultKind::BadInteger => 13,
             FaultKind::DivideByZero => 14,
             FaultKind::OutOfRange => 15,
+            FaultKind::BadReferenceWidth => 16,
             FaultKind::PropertyAfterNode => 17,
             FaultKind::DuplicateProperty => 20,
             FaultKind::DuplicateNode => 21,
             FaultKind::BadPhandle => 25,
             FaultKind::ReservedName => 27,
+            FaultKind::ShortHeader => 40,
+            FaultKind::BadMagic => 41,
+            FaultKind::BadTotal => 42,
+            FaultKind::BadVersion => 43,
+            FaultKind::Misaligned => 44,
+            FaultKind::BlockOutside => 45,
+            FaultKind::NoReservationEnd => 46,
+            FaultKind::BadTag => 47,
+            FaultKind::StructureCut => 48,
             FaultKind::BadName => 49,
+            FaultKind::BadNameOffset => 50,
+            FaultKind::BadNesting => 51,
+            FaultKind::LateProperty => 52,
             FaultKind::Duplicate => 53,
+            FaultKind::BadEnd => 54,
             FaultKind::BlobPhandle => 55,
             FaultKind::WriteFault => 90,
             FaultKind::ReadFault => 91,
@@ -87,13 +129,27 @@ impl FaultKind {
             FaultKind::BadInteger => "BadInteger",
             FaultKind::DivideByZero => "DivideByZero",
             FaultKind::OutOfRange => "OutOfRange",
+            FaultKind::BadReferenceWidth => "BadReferenceWidth",
             FaultKind::PropertyAfterNode => "PropertyAfterNode",
             FaultKind::DuplicateProperty => "DuplicateProperty",
             FaultKind::DuplicateNode => "DuplicateNode",
             FaultKind::BadPhandle => "BadPhandle",
             FaultKind::ReservedName => "ReservedName",
+            FaultKind::ShortHeader => "ShortHeader",
+            FaultKind::BadMagic => "BadMagic",
+            FaultKind::BadTotal => "BadTotal",
+            FaultKind::BadVersion => "BadVersion",
+            FaultKind::Misaligned => "Misaligned",
+            FaultKind::BlockOutside => "BlockOutside",
+            FaultKind::NoReservationEnd => "NoReservationEnd",
+            FaultKind::BadTag => "BadTag",
+            FaultKind::StructureCut => "StructureCut",
             FaultKind::BadName => "BadName",
+            FaultKind::BadNameOffset => "BadNameOffset",
+            FaultKind::BadNesting => "BadNesting",
+            FaultKind::LateProperty => "LateProperty",
             FaultKind::Duplicate => "Duplicate",
+            FaultKind::BadEnd => "BadEnd",
             FaultKind::BlobPhandle => "BlobPhandle",
             FaultKind::WriteFault => "WriteFault",
             FaultKind::ReadFault => "ReadFault",

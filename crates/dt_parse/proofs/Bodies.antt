@@ -11,7 +11,7 @@ use Rattle.dt_parse.specs.Descent.{found, Does, gives, part_found, Descends}
 use Rattle.dt_parse.proofs.Descent.{on}
 use Rattle.dt_parse.proofs.Values.{complete_labels, complete_value}
 
-abbrev closing : List ℕ → List ℕ → Words → Words
+abbrev pub closing : List ℕ → List ℕ → Words → Words
 closing z s rest = a_mark mark.CloseBrace z ∷ a_mark mark.Semicolon s ∷ rest
 
 -- a body's members are read, whatever closing brace and tokens stand behind them

@@ -28,10 +28,10 @@ over_header : (plugin : Bool) (w : Word) (rest : Words) (m : Made) → IsKeyword
 over_header plugin w rest m e d = by_move _ _ (w ∷ rest) _ (ap (λ (k : TokenKind). at_header plugin (Some k)) e) (passed (NextVersion plugin) w rest m d)
 
 -- no `/plugin/` stands there
-abbrev NoPlugin : Option Word → Type 0
+abbrev pub NoPlugin : Option Word → Type 0
 NoPlugin k = at_first_plugin (kind_at k) ≡ want false (MoreHeaders false) Done
 
-headers_first : {plugin : Bool} {us : Words} → SpellsHeaders plugin us → (rest : Words) → NoPlugin (first (us ++ rest))
+pub headers_first : {plugin : Bool} {us : Words} → SpellsHeaders plugin us → (rest : Words) → NoPlugin (first (us ++ rest))
 headers_first (base_header k s e f) rest = ap (λ (x : TokenKind). at_first_plugin (Some x)) e
 headers_first (plugin_header k s p t e f g h) rest = ap (λ (x : TokenKind). at_first_plugin (Some x)) e
 headers_first (more_headers plugin us ws h l) rest = subst (λ (x : Words). NoPlugin (first x)) (sym (append_assoc us ws rest)) (headers_first h (ws ++ rest))
@@ -55,7 +55,7 @@ first_headers (more_headers plugin us ws h l) rest m fine d =
     on Whole _ (us ++ (ws ++ rest)) _ (append_assoc us ws rest) (first_headers h (ws ++ rest) m (headers_first l rest) (next_headers l rest m d))
 
 -- neither a header nor `/plugin/` stands there
-abbrev NoHeader : Option Word → Type 0
+abbrev pub NoHeader : Option Word → Type 0
 NoHeader k = NoPlugin k × ((plugin : Bool) → at_header plugin (kind_at k) ≡ want false Top (λ x. Done (source_with plugin x)))
 
 labels_then : {us : Words} {ls : List (List ℕ)} → Labels us ls → (vs : Words) → NoHeader (first vs) → NoHeader (first (us ++ vs))
@@ -72,7 +72,7 @@ statements_then : {ws : Words} {ps : List RawPlace} → Statements ws ps → NoH
 statements_then (only_statement us vs ls ps l s) = labels_then l vs (subst (λ (x : Words). NoHeader (first x)) (append-nil vs) (statement_then s []))
 statements_then (first_statement us vs ws ls ps others l s t) = labels_then l (vs ++ ws) (statement_then s ws)
 
-behind_then : {ws : Words} {rs : List RawReserve} {ps : List RawPlace} → Behind ws rs ps → NoHeader (first ws)
+pub behind_then : {ws : Words} {rs : List RawReserve} {ps : List RawPlace} → Behind ws rs ps → NoHeader (first ws)
 behind_then (no_more_reserves ws ps t) = statements_then t
 behind_then (another_reserve us vs ws xs k s ls d e rs ps l c f b) = labels_then l _ (refl, λ p. refl)
 

@@ -55,7 +55,7 @@ named : (x : Name) (p : Path) → IsNodeName x → path_of_names (x ∷ p) ≡ x
 named [] p h = let z : 0 < 0 = h.not_empty in absurd (omega arith)
 named (b ∷ x) p h = refl
 
-path_back : (p : Path) → AllByRecursion IsNodeName p → path_of_names (ended_names (drop 3 (codes "&{" ++ (path_text p ++ codes "}")))) ≡ p
+pub path_back : (p : Path) → AllByRecursion IsNodeName p → path_of_names (ended_names (drop 3 (codes "&{" ++ (path_text p ++ codes "}")))) ≡ p
 path_back [] h = refl
 path_back (x ∷ p) h =
     ap (λ (z : List ℕ). path_of_names (ended_names (drop 3 (codes "&{" ++ z)))) (closed_text x p) ∙ ap path_of_names (closed_names x p h) ∙ named x p h.0
@@ -76,7 +76,7 @@ spelled_reference {w = w} {r = r} h f = subst (λ (z : Reference). IsReferenceWo
 
 -- ---- labels
 
-all_but_colon : (l : Name) (b : ℕ) → all_but_last (l ++ b ∷ []) ≡ l
+pub all_but_colon : (l : Name) (b : ℕ) → all_but_last (l ++ b ∷ []) ≡ l
 all_but_colon [] b = refl
 all_but_colon (x ∷ []) b = refl
 all_but_colon (x ∷ y ∷ l) b = ap (λ (z : List ℕ). x ∷ z) (all_but_colon (y ∷ l) b)

@@ -22,13 +22,13 @@ IsMore k = (ps : List RawPlace) → at_more_statements ps (kind_at k) ≡ want f
 abbrev pub BeginsStatement : Option Word → Type 0
 BeginsStatement k = NoLabel k × ((ls : List (List ℕ)) → at_top ls (kind_at k) ≡ want false (StatementThen ls) (λ x. Done (made_behind [] (places_in x)))) × IsMore k
 
-statement_first : {ls : List (List ℕ)} {ws : Words} {ps : List RawPlace} → Statement ls ws ps → (rest : Words) → BeginsStatement (first (ws ++ rest))
+pub statement_first : {ls : List (List ℕ)} {ws : Words} {ps : List RawPlace} → Statement ls ws ps → (rest : Words) → BeginsStatement (first (ws ++ rest))
 statement_first (a_root_block c a z s ws cs m) rest = (λ b. refl, λ l. refl, λ p. refl)
 statement_first (a_node_block ls a_label b a z s ws cs m) rest = (λ b. refl, λ l. refl, λ p. refl)
 statement_first (a_node_block ls a_path b a z s ws cs m) rest = (λ b. refl, λ l. refl, λ p. refl)
 statement_first (a_deleted_node t k b s) rest = (λ b. refl, λ l. refl, λ p. refl)
 
-labels_more : {us : Words} {ls : List (List ℕ)} → Labels us ls → (vs : Words) → IsMore (first vs) → IsMore (first (us ++ vs))
+pub labels_more : {us : Words} {ls : List (List ℕ)} → Labels us ls → (vs : Words) → IsMore (first vs) → IsMore (first (us ++ vs))
 labels_more no_more_labels vs h = h
 labels_more (another_label b ws ls s) vs h = λ p. refl
 

@@ -56,7 +56,7 @@ complete_item (some_bytes a z ws cs s) rest =
 complete_item (a_path_text a_label b) rest = gives
 complete_item (a_path_text a_path b) rest = gives
 
-item_first : {ws : Words} {i : RawItem} → Item ws i → (rest : Words) → NoLabel (first (ws ++ rest))
+pub item_first : {ws : Words} {i : RawItem} → Item ws i → (rest : Words) → NoLabel (first (ws ++ rest))
 item_first (plain_cells a z ws cs s) rest = λ b. refl
 item_first (sized_cells k i a z bits ws cs w s) rest = λ b. refl
 item_first (a_text b) rest = λ b. refl

@@ -1,3 +1,6 @@
+pub mod Faults
+pub mod Said
+pub mod Reading
 pub mod Words
 pub mod Grammar
 pub mod Unchecked
@@ -11,3 +14,9 @@ pub mod Exactly
 pub mod Machine
 pub mod Turns
 pub mod Standing
+pub mod Nested
+pub mod Paths
+pub mod Leading
+pub mod Openings
+pub mod Numbers
+pub mod Starts

@@ -49,7 +49,7 @@ pub enum Turn {
 
 /// Why there is no expression.
 #[derive(Clone, Copy, Debug, PartialEq, Eq)]
-pub enum Refusal {
+pub(crate) enum Refusal {
     Memory,
     /// The token can't stand there; so many are left from it on.
     Syntax(usize),
@@ -312,7 +312,10 @@ fn top_in(waiting: &Vec<Pending>) -> Option<Pending>
 ///
 /// Refused are tokens that begin with no number, with `Syntax` and how many tokens are left from the first on at which none
 /// goes on; and, with `Memory`, any where memory is refused.
-pub fn primary<'a>(alloc: Global, tokens: &'a [Token]) -> Result<(Vec<Step>, &'a [Token]), Refusal>
+pub(crate) fn primary<'a>(
+    alloc: Global,
+    tokens: &'a [Token],
+) -> Result<(Vec<Step>, &'a [Token]), Refusal>
     ensures { Answers tokens.now result }
 {
     let mut out = Vec::new(alloc);

@@ -1,7 +1,11 @@
 //! What is true of the grammar.
 
-ghost use Rattle.std.specs.Prelude.{◌≡◌, ◌↔◌, ◌-◌, ◌++◌, ℕ, List, [], length};
+ghost use Rattle.std.specs.Prelude.{◌≡◌, ◌↔◌, ◌-◌, ◌≤◌, ◌++◌, ℕ, List, [], length};
+ghost use Rattle.dt_names.specs.declared.fault.Fault.{Fault};
+ghost use Rattle.dt_names.specs.declared.fault.FaultKind.{FaultKind};
+ghost use Rattle.dt_names.specs.declared.fault.FaultKind.TheVariants.{NoMemory, Syntax};
 ghost use Rattle.dt_model.specs.Source.{Reference, Part};
+ghost use Rattle.dt_lex.specs.Lexing.{text_limit};
 ghost use Rattle.dt_expr.specs.Expression.{Expression};
 ghost use Rattle.dt_parse.specs.Words.{Word, Words, IsReferenceWord};
 ghost use Rattle.dt_parse.specs.Grammar.{
@@ -18,6 +22,8 @@ ghost use Rattle.dt_parse.specs.Relaxed.{RelaxedSource};
 ghost use Rattle.dt_parse.specs.Wanted.{Made, Whole, Prim, made_source, made_expression, expression_in};
 ghost use Rattle.dt_parse.specs.Descent.{Descends, found, stuck};
 ghost use Rattle.dt_parse.specs.Exactly.{IsChecked, NoneBegins};
+ghost use Rattle.dt_parse.specs.Faults.{outside, Breaks};
+ghost use Rattle.dt_parse.specs.Reading.{IsParsed, WhyNotParsed};
 ghost use Rattle.dt_parse.specs.Samples.{
   empty_root,
   empty_root_says,
@@ -26,6 +32,8 @@ ghost use Rattle.dt_parse.specs.Samples.{
   small_source,
   small_source_says,
 };
+
+use dt_lex::one_answer;
 
 /// The tokens of an expression are one expression's.
 pub fn one_expression()
@@ -70,6 +78,30 @@ pub fn descent_is_exact()
     ensures spelled { (ws rest : Words) (m : Made) → Descends Prim ws (found m rest) → (us : Words) × (ws ≡ us ++ rest) × SpellsExpression primary us (expression_in m) }
     ensures stuck { (ws left : Words) → Descends Whole ws (stuck left) → NoneBegins ws (length ws - length left) }
 {}
+
+/// A syntax fault shows at the first token through which no relaxed source begins.
+pub fn syntax_is_where_none_goes_on()
+    ensures { (ws left : Words) → Breaks outside Whole ws Syntax left → NoneBegins ws (length ws - length left) }
+{}
+
+/// Nothing that the grammar spells is refused: its tokens break nowhere.
+pub fn source_has_no_fault()
+    ensures { (ws left : Words) (s : Says) (k : FaultKind) → SpellsSource ws s → ¬ Breaks outside Whole ws k left }
+{}
+
+/// The fault of a text's tokens and its place are one.
+pub fn one_fault()
+    ensures { (ws left rest : Words) (k j : FaultKind) → Breaks outside Whole ws k left → Breaks outside Whole ws j rest → (k ≡ j) × (left ≡ rest) }
+{}
+
+/// A text says one thing, or has one fault, and not both, unless memory is wanted. One that is too long says nothing.
+pub fn one_outcome()
+    ensures said { (text : List ℕ) (s t : Says) → IsParsed text s → IsParsed text t → s ≡ t }
+    ensures only { (text : List ℕ) (s : Says) (e : Fault) → IsParsed text s → WhyNotParsed text e → e.kind ≡ NoMemory }
+    ensures fault { (text : List ℕ) (e f : Fault) → WhyNotParsed text e → WhyNotParsed text f → ¬ e.kind ≡ NoMemory → ¬ f.kind ≡ NoMemory → e ≡ f }
+{
+    one_answer();
+}
 
 /// Small sources say what they should, and one that ends too early, or has a property behind a child, says nothing.
 pub fn small_sources()

@@ -3,7 +3,7 @@ use Rattle.std.specs.Prelude.{◌≡◌, ◌++◌, ◌∷◌, [], ℕ, List, Boo
 use Rattle.hex.specs.Hex.{encode_lower}
 use Rattle.dt_names.specs.declared.fault.FaultKind.{FaultKind}
 use Rattle.dt_names.specs.declared.fault.FaultKind.TheVariants.{NoMemory, WriteFault}
-use Rattle.dt_chain.specs.Compiled.{IsCompiled, WhyNotCompiled}
+use Rattle.dt_chain.specs.Compiled.{IsCompiled, WhyNotCompiled, IsCompilerFault}
 use Rattle.dtool.specs.Written.{IsUntouched, IsCutShort}
 use Rattle.dtool.specs.declared.job.Job.{Job}
 use Rattle.dtool.specs.declared.job.Job.TheVariants.{Compile}
@@ -19,7 +19,7 @@ IsMade Compile _ blob = ⊥
 
 -- why the job made none
 abbrev pub WhyNotMade : FaultKind → Option ℕ → Job → List (List ℕ) → Type 0
-WhyNotMade kind at Compile (text ∷ []) = WhyNotCompiled kind at text
+WhyNotMade kind at Compile (text ∷ []) = WhyNotCompiled text (record { kind = kind; at = at }) × IsCompilerFault kind
 WhyNotMade kind at Compile _ = ⊥
 
 -- how a blob is written: as it is, or as hexadecimal and a line feed

@@ -1,8 +1,7 @@
-use Rattle.std.proofs.Common.{drop, map}
-use Rattle.dt_chain.specs.Items.{place_of}
-use Rattle.dt_chain.specs.Built.{AreInside, IsUnderWay}
+use Rattle.std.proofs.Common.{map}
+use Rattle.dt_parse.specs.Said.{place_said}
+use Rattle.dt_chain.proofs.Reserving.{IsReserving}
 use Rattle.dt_chain.proofs.builder.build.Given as goal
 
-abbrev pub invariant-loop-item : goal.invariant-loop-item
-invariant-loop-item l =
-    AreInside l.builder.tree l.builder.stack.items × IsUnderWay l.builder.tree l.builder.stack.items (map place_of (drop l.item-index l.items)) (map place_of l.items)
+abbrev pub invariant-loop-reservation : goal.invariant-loop-reservation
+invariant-loop-reservation l = IsReserving l.tree l.reservation-index l.reservations (map place_said l.items)

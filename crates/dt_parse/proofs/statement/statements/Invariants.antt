@@ -1,0 +1,19 @@
+use Rattle.std.proofs.Common.{◌≡◌, ◌++◌, ℕ, List, map, length}
+use Rattle.dt_parse.specs.Words.{Words}
+use Rattle.dt_parse.specs.Unchecked.{RawPlace, place_of, all_but_last}
+use Rattle.dt_parse.specs.Strict.{AreLabelTexts}
+use Rattle.dt_parse.specs.Wanted.{OneStatement, made_places}
+use Rattle.dt_parse.specs.Faults.{outside}
+use Rattle.dt_parse.specs.Reading.{IsRead}
+use Rattle.dt_parse.specs.Said.{places_said}
+use Rattle.dt_parse.specs.Starts.{Follows}
+use Rattle.dt_parse.proofs.statement.statements.Given as goal
+
+abbrev pub invariant-statements : goal.invariant-statements
+invariant-statements l =
+    (ls : List (List ℕ)) → l.fn.names.items ≡ map all_but_last ls → AreLabelTexts ls →
+    (ms : List (List ℕ)) × (ws : Words) × (done : List RawPlace) × (ps : List RawPlace) × Follows ls l.fn.cursor done ms ws × IsRead outside (OneStatement ms) ws (made_places ps) l.cursor
+    × (places_said l.items.items ≡ places_said l.fn.items.items ++ map place_of (done ++ ps))
+
+abbrev pub decreases-statements : goal.decreases-statements
+decreases-statements l = length l.cursor

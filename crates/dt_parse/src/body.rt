@@ -1,0 +1,376 @@
+//! Bodies: properties and children, and deletions of both.
+
+ghost use Rattle.std.specs.Prelude.{◌≡◌, ◌≢◌, ◌⊎◌, ◌++◌, ◌∷◌, ◌<◌, ◌≤◌, ◌+◌, [], true, false, List, ℕ, Bool, Some, map, length, OnOk, IfOk, IfErr, MatchResult, IsTrue, ◌↔◌};
+ghost use Rattle.std.specs.List.{AllByRecursion};
+ghost use Rattle.dt_names.specs.declared.fault.FaultKind.TheVariants as fault;
+ghost use Rattle.dt_model.specs.Names.{IsNodeName, IsPropertyName};
+ghost use Rattle.dt_lex.specs.declared.token.TokenKind.TheVariants as kind;
+ghost use Rattle.dt_lex.specs.declared.token.Mark.TheVariants as mark;
+ghost use Rattle.dt_lex.specs.declared.token.Keyword.TheVariants as keyword;
+ghost use Rattle.dt_model.specs.Source.{close};
+ghost use Rattle.dt_parse.specs.Unchecked.{RawPlace, RawComponent, raw_child, raw_label, raw_property, all_but_last, value_parts, place_of};
+ghost use Rattle.dt_parse.specs.Strict.{AreLabelTexts, IsComponent, IsSound, IsOrdered};
+ghost use Rattle.dt_parse.specs.Wanted.{AfterMemberLabels, AfterName, BlockOpen, made_places, kind_at, bytes_at};
+ghost use Rattle.dt_parse.specs.Descent.{first, after, found, Descends};
+ghost use Rattle.dt_parse.specs.Faults.{outside};
+ghost use Rattle.dt_parse.specs.Reading.{IsBroken};
+ghost use Rattle.dt_parse.specs.Said.{value_said, places_said};
+ghost use Rattle.dt_parse.specs.declared.body.Front.TheVariants as front;
+ghost use Rattle.dt_parse.specs.declared.body.Behind.TheVariants as behind;
+ghost use Rattle.dt_parse.specs.Nested.{front_of, behind_of, in_body, Closes, IsMember, BreaksIn, Goes, IsUnclosed};
+
+use crate::cursor::Cursor;
+use crate::source::{Item, Value};
+use crate::stop::Stop;
+use crate::value::{labels, value};
+use dt_lex::{Keyword, Mark, TokenKind};
+use dt_names::{FaultKind, Label, NodeName, PropName};
+use std::alloc::Global;
+
+/// How many bodies are open at once, at most.
+const MOST_BODIES: usize = 65;
+
+/// What a member, or the end of a body, begins with.
+#[derive(Clone, Copy, Debug, PartialEq, Eq)]
+pub(crate) enum Front {
+    Name,
+    DeleteProperty,
+    DeleteNode,
+    Other,
+}
+
+/// What stands behind a name.
+#[derive(Clone, Copy, Debug, PartialEq, Eq)]
+pub(crate) enum Behind {
+    /// `;`
+    End,
+    /// `=`
+    Value,
+    /// `{`
+    Body,
+    Other,
+}
+
+/// What is around the members of a body.
+#[derive(Clone, Copy, Debug, PartialEq, Eq)]
+struct Depth {
+    /// How many bodies are open.
+    open: usize,
+    /// Whether a child stood in the innermost.
+    late: bool,
+}
+
+fn front_of(kind: Option<TokenKind>) -> Front
+    ensures { result ≡ front_of kind }
+{
+    match kind {
+        Some(TokenKind::Name) => Front::Name,
+        Some(TokenKind::Keyword(Keyword::DeleteProperty)) => Front::DeleteProperty,
+        Some(TokenKind::Keyword(Keyword::DeleteNode)) => Front::DeleteNode,
+        _ => Front::Other,
+    }
+}
+
+fn behind_of(kind: Option<TokenKind>) -> Behind
+    ensures { result ≡ behind_of kind }
+{
+    match kind {
+        Some(TokenKind::Mark(Mark::Semicolon)) => Behind::End,
+        Some(TokenKind::Mark(Mark::Equals)) => Behind::Value,
+        Some(TokenKind::Mark(Mark::OpenBrace)) => Behind::Body,
+        _ => Behind::Other,
+    }
+}
+
+/// Steps over `;`.
+pub(crate) fn semicolon(cursor: &mut Cursor<'_, '_>) -> Result<(), Stop>
+    ensures ok { OnOk result ((kind_at (first cursor.old) ≡ Some (kind.Mark mark.Semicolon)) × (cursor.new ≡ after true cursor.old)) }
+    ensures err { IfErr result (λ stop. (kind_at (first cursor.old) ≢ Some (kind.Mark mark.Semicolon)) × (stop.kind ≡ fault.Syntax) × (stop.left ≡ length cursor.old)) }
+{
+    if cursor.kind() != Some(TokenKind::Mark(Mark::Semicolon)) {
+        return Err(cursor.stop(FaultKind::Syntax));
+    }
+    cursor.advance();
+    Ok(())
+}
+
+/// Steps over `{`.
+fn open_brace(cursor: &mut Cursor<'_, '_>) -> Result<(), Stop>
+    ensures ok { OnOk result ((kind_at (first cursor.old) ≡ Some (kind.Mark mark.OpenBrace)) × (cursor.new ≡ after true cursor.old)) }
+    ensures err { IfErr result (λ stop. (kind_at (first cursor.old) ≢ Some (kind.Mark mark.OpenBrace)) × (stop.kind ≡ fault.Syntax) × (stop.left ≡ length cursor.old)) }
+{
+    if cursor.kind() != Some(TokenKind::Mark(Mark::OpenBrace)) {
+        return Err(cursor.stop(FaultKind::Syntax));
+    }
+    cursor.advance();
+    Ok(())
+}
+
+/// Steps over `}`.
+fn close_brace(cursor: &mut Cursor<'_, '_>) -> Result<(), Stop>
+    ensures ok { OnOk result ((kind_at (first cursor.old) ≡ Some (kind.Mark mark.CloseBrace)) × (cursor.new ≡ after true cursor.old)) }
+    ensures err { IfErr result (λ stop. (kind_at (first cursor.old) ≢ Some (kind.Mark mark.CloseBrace)) × (stop.kind ≡ fault.Syntax) × (stop.left ≡ length cursor.old)) }
+{
+    if cursor.kind() != Some(TokenKind::Mark(Mark::CloseBrace)) {
+        return Err(cursor.stop(FaultKind::Syntax));
+    }
+    cursor.advance();
+    Ok(())
+}
+
+/// The property's name that the next token is; `BadName` where it isn't one.
+fn property_name<'a>(cursor: &Cursor<'a, '_>) -> Result<PropName<'a>, Stop>
+    ensures { MatchResult result
+        (λ name. IsPropertyName (bytes_at (first cursor.now)) × (name ≡ bytes_at (first cursor.now)))
+        (λ stop. ¬ IsPropertyName (bytes_at (first cursor.now)) × (stop.kind ≡ fault.BadName) × (stop.left ≡ length cursor.now)) }
+{
+    match PropName::new(cursor.bytes()) {
+        Ok(name) => Ok(name),
+        Err(_) => Err(cursor.stop(FaultKind::BadName)),
+    }
+}
+
+/// The node's name that the next token is; `BadName` where it isn't one.
+fn node_name<'a>(cursor: &Cursor<'a, '_>) -> Result<NodeName<'a>, Stop>
+    ensures { MatchResult result
+        (λ name. IsNodeName (bytes_at (first cursor.now)) × (name ≡ bytes_at (first cursor.now)))
+        (λ stop. ¬ IsNodeName (bytes_at (first cursor.now)) × (stop.kind ≡ fault.BadName) × (stop.left ≡ length cursor.now)) }
+{
+    match NodeName::new(cursor.bytes()) {
+        Ok(name) => Ok(name),
+        Err(_) => Err(cursor.stop(FaultKind::BadName)),
+    }
+}
+
+/// Reads what stands behind a property's name: `;`, or `=`, a value and `;`.
+fn assigned<'a>(alloc: Global, cursor: &mut Cursor<'a, '_>) -> Result<Value<'a>, Stop>
+    requires { (behind_of (kind_at (first cursor.old)) ≡ behind.End) ⊎ (behind_of (kind_at (first cursor.old)) ≡ behind.Value) }
+    ensures ok { IfOk result (λ v. (cs : List RawComponent) × AllByRecursion IsComponent cs × (value_said v ≡ value_parts cs) × (length cursor.new < length cursor.old)
+        × ((ls : List (List ℕ)) (n : List ℕ) → Descends (AfterName ls n) cursor.old (found (made_places (raw_property ls n cs ∷ [])) cursor.new))) }
+    ensures err { IfErr result (λ stop. (ls : List (List ℕ)) (n : List ℕ) (outer : List Bool) → IsBroken (in_body false outer) (AfterName ls n) cursor.old stop) }
+{
+    match behind_of(cursor.kind()) {
+        Behind::End => {
+            cursor.advance();
+            Ok(Value::new(alloc))
+        }
+        _ => {
+            cursor.advance();
+            let value = value(alloc, cursor)?;
+            semicolon(cursor)?;
+            Ok(value)
+        }
+    }
+}
+
+/// Reads `name;` or `name = value;`.
+fn property<'a>(
+    alloc: Global,
+    late: bool,
+    cursor: &mut Cursor<'a, '_>,
+    items: &mut Vec<Item<'a>>,
+) -> Result<(), Stop>
+    requires named { kind_at (first cursor.old) ≡ Some kind.Name }
+    requires assigned { (behind_of (kind_at (first (after true cursor.old))) ≡ behind.End) ⊎ (behind_of (kind_at (first (after true cursor.old))) ≡ behind.Value) }
+    ensures ok { (ls : List (List ℕ)) → AreLabelTexts ls → OnOk result ((p : RawPlace) × IsMember ls late cursor.old p late cursor.new
+        × (places_said items.new.items ≡ places_said items.old.items ++ place_of p ∷ [])) }
+    ensures err { IfErr result (λ stop. (ls : List (List ℕ)) (outer : List Bool) → IsBroken (in_body late outer) (AfterMemberLabels ls) cursor.old stop) }
+{
+    let name = property_name(cursor)?;
+    cursor.advance();
+    if late {
+        return Err(cursor.stop(FaultKind::PropertyAfterNode));
+    }
+    let value = assigned(alloc, cursor)?;
+    items.push(Item::Property(name, value))?;
+    Ok(())
+}
+
+/// Reads `name {`, and appends the labels in front of it, too.
+fn child<'a>(
+    names: Vec<Label<'a>>,
+    bodies: usize,
+    cursor: &mut Cursor<'a, '_>,
+    items: &mut Vec<Item<'a>>,
+) -> Result<(), Stop>
+    requires named { kind_at (first cursor.old) ≡ Some kind.Name }
+    requires opened { behind_of (kind_at (first (after true cursor.old))) ≡ behind.Body }
+    ensures ok { (ls : List (List ℕ)) → names.entry.items ≡ map all_but_last ls → OnOk result (IsNodeName (bytes_at (first cursor.old)) × (bodies < 65)
+        × (cursor.new ≡ after true (after true cursor.old))
+        × (places_said items.new.items ≡ places_said items.old.items ++ map place_of (raw_child (bytes_at (first cursor.old)) ∷ map raw_label ls))) }
+    ensures err { IfErr result (λ stop. (ls : List (List ℕ)) (late : Bool) (outer : List Bool) → length outer + 1 ≡ bodies → IsBroken (in_body late outer) (AfterMemberLabels ls) cursor.old stop) }
+{
+    let name = node_name(cursor)?;
+    cursor.advance();
+    if MOST_BODIES <= bodies {
+        return Err(cursor.stop(FaultKind::Limit));
+    }
+    cursor.advance();
+    items.push(Item::Child(name))?;
+    push_labels(names, items)?;
+    Ok(())
+}
+
+/// Appends labels.
+pub(crate) fn push_labels<'a>(names: Vec<Label<'a>>, items: &mut Vec<Item<'a>>) -> Result<(), Stop>
+    ensures ok { (ls : List (List ℕ)) → names.entry.items ≡ map all_but_last ls → OnOk result (places_said items.new.items ≡ places_said items.old.items ++ map place_of (map raw_label ls)) }
+    ensures err { IfErr result (λ stop. stop.kind ≡ fault.NoMemory) }
+{
+    for name in names {
+        items.push(Item::Label(name))?;
+    }
+    Ok(())
+}
+
+/// Sees that a name and `;` are next.
+fn name_ends(cursor: &mut Cursor<'_, '_>) -> Result<(), Stop>
+    ensures ok { OnOk result ((kind_at (first cursor.old) ≡ Some kind.Name)
+        × (kind_at (first (after true cursor.old)) ≡ Some (kind.Mark mark.Semicolon)) × (cursor.new ≡ cursor.old)) }
+    ensures err { IfErr result (λ stop. (stop.kind ≡ fault.Syntax)
+        × (((kind_at (first cursor.old) ≢ Some kind.Name) × (stop.left ≡ length cursor.old))
+        ⊎ ((kind_at (first cursor.old) ≡ Some kind.Name) × (kind_at (first (after true cursor.old)) ≢ Some (kind.Mark mark.Semicolon)) × (stop.left ≡ length (after true cursor.old))))) }
+{
+    if cursor.kind() != Some(TokenKind::Name) {
+        return Err(cursor.stop(FaultKind::Syntax));
+    }
+    if cursor.second() != Some(TokenKind::Mark(Mark::Semicolon)) {
+        cursor.advance();
+        return Err(cursor.stop(FaultKind::Syntax));
+    }
+    Ok(())
+}
+
+/// Reads `/delete-property/ name;`.
+fn delete_property<'a>(
+    late: bool,
+    cursor: &mut Cursor<'a, '_>,
+    items: &mut Vec<Item<'a>>,
+) -> Result<(), Stop>
+    requires { kind_at (first cursor.old) ≡ Some (kind.Keyword keyword.DeleteProperty) }
+    ensures ok { (ls : List (List ℕ)) → AreLabelTexts ls → OnOk result ((p : RawPlace) × IsMember ls late cursor.old p late cursor.new
+        × (places_said items.new.items ≡ places_said items.old.items ++ place_of p ∷ [])) }
+    ensures err { IfErr result (λ stop. (ls : List (List ℕ)) (outer : List Bool) → IsBroken (in_body late outer) (AfterMemberLabels ls) cursor.old stop) }
+{
+    if late {
+        return Err(cursor.stop(FaultKind::PropertyAfterNode));
+    }
+    cursor.advance();
+    name_ends(cursor)?;
+    let name = property_name(cursor)?;
+    cursor.advance();
+    cursor.advance();
+    items.push(Item::DeleteProperty(name))?;
+    Ok(())
+}
+
+/// Reads `/delete-node/ name;`.
+fn delete_child<'a>(cursor: &mut Cursor<'a, '_>, items: &mut Vec<Item<'a>>) -> Result<(), Stop>
+    requires { kind_at (first cursor.old) ≡ Some (kind.Keyword keyword.DeleteNode) }
+    ensures ok { (ls : List (List ℕ)) → AreLabelTexts ls → OnOk result ((p : RawPlace) × ((late : Bool) → IsMember ls late cursor.old p true cursor.new)
+        × (places_said items.new.items ≡ places_said items.old.items ++ place_of p ∷ [])) }
+    ensures err { IfErr result (λ stop. (ls : List (List ℕ)) (late : Bool) (outer : List Bool) → IsBroken (in_body late outer) (AfterMemberLabels ls) cursor.old stop) }
+{
+    cursor.advance();
+    name_ends(cursor)?;
+    let name = node_name(cursor)?;
+    cursor.advance();
+    cursor.advance();
+    items.push(Item::DeleteChild(name))?;
+    Ok(())
+}
+
+/// Reads `};`.
+fn close<'a>(
+    labelled: bool,
+    cursor: &mut Cursor<'a, '_>,
+    items: &mut Vec<Item<'a>>,
+) -> Result<(), Stop>
+    requires { front_of (kind_at (first cursor.old)) ≡ front.Other }
+    ensures ok { OnOk result ((labelled ≡ false) × Closes cursor.old cursor.new × (length cursor.new < length cursor.old)
+        × (places_said items.new.items ≡ places_said items.old.items ++ close ∷ [])) }
+    ensures err { IfErr result (λ stop. (ls : List (List ℕ)) → (labelled ≡ false → ls ≡ []) → (labelled ≡ true → ls ≢ []) → IsUnclosed ls cursor.old stop) }
+{
+    if labelled {
+        return Err(cursor.stop(FaultKind::Syntax));
+    }
+    close_brace(cursor)?;
+    semicolon(cursor)?;
+    items.push(Item::Close)?;
+    Ok(())
+}
+
+/// Reads a member, or what stands in front of a child's members, or the end of a body. Answers what is around the next.
+fn member<'a>(
+    alloc: Global,
+    depth: Depth,
+    cursor: &mut Cursor<'a, '_>,
+    items: &mut Vec<Item<'a>>,
+) -> Result<Depth, Stop>
+    requires { 0 < depth.open }
+    ensures ok { IfOk result (λ next. (ps : List RawPlace) × Goes depth.open depth.late cursor.old ps next.open next.late cursor.new
+        × (length cursor.new < length cursor.old) × (places_said items.new.items ≡ places_said items.old.items ++ map place_of ps)) }
+    ensures err { IfErr result (λ stop. BreaksIn depth.open depth.late cursor.old stop) }
+{
+    let names = labels(alloc, cursor)?;
+    match front_of(cursor.kind()) {
+        Front::Name => match behind_of(cursor.second()) {
+            Behind::Body => {
+                child(names, depth.open, cursor, items)?;
+                Ok(Depth {
+                    open: depth.open + 1,
+                    late: false,
+                })
+            }
+            Behind::Other => {
+                cursor.advance();
+                Err(cursor.stop(FaultKind::Syntax))
+            }
+            _ => {
+                property(alloc, depth.late, cursor, items)?;
+                Ok(depth)
+            }
+        },
+        Front::DeleteProperty => {
+            delete_property(depth.late, cursor, items)?;
+            Ok(depth)
+        }
+        Front::DeleteNode => {
+            delete_child(cursor, items)?;
+            Ok(Depth {
+                open: depth.open,
+                late: true,
+            })
+        }
+        Front::Other => {
+            close(!names.is_empty(), cursor, items)?;
+            Ok(Depth {
+                open: depth.open - 1,
+                late: true,
+            })
+        }
+    }
+}
+
+/// Reads a body from its `{` to the `;` behind it, and appends its items; however deep bodies stand in it, nothing recurses
+/// (Devicetree Specification v0.4, 6.3).
+pub(crate) fn body<'a>(
+    alloc: Global,
+    cursor: &mut Cursor<'a, '_>,
+    items: &mut Vec<Item<'a>>,
+) -> Result<(), Stop>
+    ensures ok { OnOk result ((qs : List RawPlace)
+        × ((ps : List RawPlace) → Descends (BlockOpen ps) cursor.old (found (made_places (ps ++ qs)) cursor.new))
+        × AllByRecursion IsSound qs × IsOrdered (false ∷ []) qs
+        × (places_said items.new.items ≡ places_said items.old.items ++ map place_of qs)) }
+    ensures err { IfErr result (λ stop. (ps : List RawPlace) → IsBroken outside (BlockOpen ps) cursor.old stop) }
+{
+    open_brace(cursor)?;
+    let mut depth = Depth {
+        open: 1,
+        late: false,
+    };
+    while depth.open > 0 {
+        depth = member(alloc, depth, cursor, items)?;
+    }
+    Ok(())
+}

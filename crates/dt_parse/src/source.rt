@@ -1,0 +1,234 @@
+//! What the grammar makes of a text: sources, as items in the order of their text.
+
+ghost use Rattle.std.specs.Prelude.{◌≡◌, ◌≢◌, ◌↔◌, ◌++◌, ◌∷◌, [], ℕ, List, All, IsTrue, MatchOption, codes, drop, map};
+ghost use Rattle.std.specs.List.{AllByRecursion};
+ghost use Rattle.dt_model.specs.Names.{IsNodeName};
+ghost use Rattle.dt_model.specs.Path.{path_text};
+ghost use Rattle.dt_parse.specs.Grammar.{SpellsSource};
+ghost use Rattle.dt_parse.specs.Words.{Words};
+ghost use Rattle.dt_parse.specs.Unchecked.{a_path, path_of_names, ended_names};
+ghost use Rattle.dt_parse.specs.Strict.{IsReferenceText};
+ghost use Rattle.dt_parse.specs.Paths.{IsPathText, AreNames, BeginsName, braced};
+ghost use Rattle.dt_parse.specs.Said.{reservation_said, place_said, said};
+
+use dt_names::{Label, NodeName, PropName};
+use std::marker::Model;
+
+/// The path of a node in a source: the names from the root down, of any number (Devicetree Specification v0.4, 2.2.3).
+#[derive(Drop)]
+pub struct NodePath<'a> {
+    // `&{/path}`
+    bytes: &'a [u8],
+}
+
+impl<'a> Model for NodePath<'a> {
+    ghost use Rattle.std.specs.Prelude.{List, ℕ, drop};
+    ghost use Rattle.dt_parse.specs.Unchecked.{a_path, path_of_names, ended_names};
+    ghost use Rattle.dt_parse.specs.Strict.{IsReferenceText};
+
+    ghost Value = { List (List ℕ) };
+
+    ghost view = { λ p. path_of_names (ended_names (drop 3 p.bytes.now)) };
+
+    ghost invariant = { λ p. IsReferenceText a_path p.bytes.now };
+}
+
+/// What stands between `&{` and `}`; none where the bytes begin or end in another way.
+fn between_braces(bytes: &[u8]) -> Option<&[u8]>
+    ensures { MatchOption result ((text : List ℕ) → bytes.now ≢ braced text) (λ text. bytes.now ≡ braced text.now) }
+{
+    let size = bytes.len();
+    if size < 3 || bytes[0] != b'&' || bytes[1] != b'{' || bytes[size - 1] != b'}' {
+        return None;
+    }
+    Some(&bytes[2..size - 1])
+}
+
+/// The bytes before the first `/`, and those from there on.
+fn cut(bytes: &[u8]) -> (&[u8], &[u8])
+    ensures split { bytes.now ≡ result.0.now ++ result.1.now }
+    ensures before { All (λ b. b ≢ 47) result.0.now }
+    ensures behind { BeginsName result.1.now }
+{
+    for (at, byte) in bytes.iter().enumerate() {
+        if *byte == b'/' {
+            return bytes.split_at(at);
+        }
+    }
+    (bytes, &[])
+}
+
+/// Whether a text is names of nodes, each with a `/` before it.
+fn are_names(text: &[u8]) -> bool
+    ensures { IsTrue result ↔ AreNames text.now }
+{
+    let mut rest = text;
+    while !rest.is_empty() {
+        if rest[0] != b'/' {
+            return false;
+        }
+        let (name, behind) = cut(&rest[1..]);
+        if NodeName::new(name).is_err() {
+            return false;
+        }
+        rest = behind;
+    }
+    true
+}
+
+/// Whether a text is a path's: `/`, or names of nodes, each with a `/` before it.
+fn is_path_text(text: &[u8]) -> bool
+    ensures { IsTrue result ↔ IsPathText text.now }
+{
+    if text.is_empty() {
+        return false;
+    }
+    text == b"/".as_slice() || are_names(text)
+}
+
+impl<'a> NodePath<'a> {
+    /// The path that a reference's bytes are by; none where they aren't `&{`, a path's text and `}`. Takes no memory.
+    pub(crate) fn new(bytes: &'a [u8]) -> Option<NodePath<'a>>
+        ensures { MatchOption result (¬ IsReferenceText a_path bytes.now)
+            (λ path. IsReferenceText a_path bytes.now × (path ≡ path_of_names (ended_names (drop 3 bytes.now)))) }
+    {
+        let text = between_braces(bytes)?;
+        if !is_path_text(text) {
+            return None;
+        }
+        Some(NodePath { bytes })
+    }
+
+    /// The path's text: `/`, or each name with a `/` before it.
+    pub fn text(&self) -> &'a [u8]
+        ensures value { result.now ≡ path_text self.now }
+        // Each name is a node's.
+        ensures names { AllByRecursion IsNodeName self.now }
+    {
+        &self.bytes[2..self.bytes.len() - 1]
+    }
+}
+
+/// A node as a source refers to it: `&label`, or `&{/path}` (Devicetree Specification v0.4, 6.3).
+#[derive(Drop)]
+pub enum Reference<'a> {
+    Label(Label<'a>),
+    Path(NodePath<'a>),
+}
+
+/// How a reference stands in a value.
+#[derive(Clone, Copy, Debug, PartialEq, Eq)]
+pub enum Form {
+    /// In a cell list: the number of its node, as one cell.
+    Cell,
+    /// Elsewhere: the text of its node's path, with a NUL.
+    Text,
+}
+
+/// Bytes of a value, and the reference behind them.
+#[derive(Drop)]
+pub struct Piece<'a> {
+    pub before: Vec<u8>,
+    pub form: Form,
+    pub reference: Reference<'a>,
+}
+
+/// The value of a property: pieces that end with a reference each, and the bytes behind the last one.
+#[derive(Drop)]
+pub struct Value<'a> {
+    pub pieces: Vec<Piece<'a>>,
+    pub bytes: Vec<u8>,
+}
+
+/// A place of a source that says something of the tree (Devicetree Specification v0.4, 6.3).
+#[derive(Drop)]
+pub enum Item<'a> {
+    /// `/ {`
+    Root,
+    /// `&label {` or `&{/path} {`
+    Block(Reference<'a>),
+    /// `/delete-node/ &label;` or `/delete-node/ &{/path};`
+    DeleteNode(Reference<'a>),
+    /// `name {`
+    Child(NodeName<'a>),
+    /// `label:`, of the node whose body was just opened.
+    Label(Label<'a>),
+    /// `name;` or `name = value;`
+    Property(PropName<'a>, Value<'a>),
+    /// `/delete-property/ name;`
+    DeleteProperty(PropName<'a>),
+    /// `/delete-node/ name;`
+    DeleteChild(NodeName<'a>),
+    /// `};`
+    Close,
+}
+
+/// Memory that is not to be used: its address, and its size in bytes (Devicetree Specification v0.4, 5.3). They aren't both 0.
+#[derive(Clone, Copy, Debug, PartialEq, Eq)]
+pub struct Reservation {
+    pub address: u64,
+    pub size: u64,
+}
+
+/// What a text says in the grammar of DTS version 1 (Devicetree Specification v0.4, chapter 6): whether it is an overlay's,
+/// its reservations, and its items in the order of its text. It is always one that some tokens spell: bodies are closed, and
+/// stand inside 64 others at most; in a body the properties stand before the children; there is a statement.
+#[derive(Drop)]
+pub struct Source<'a> {
+    plugin: bool,
+    reservations: Vec<Reservation>,
+    items: Vec<Item<'a>>,
+}
+
+impl<'a> Model for Source<'a> {
+    ghost use Rattle.dt_parse.specs.Words.{Words};
+    ghost use Rattle.dt_parse.specs.Grammar.{Says, SpellsSource};
+    ghost use Rattle.dt_parse.specs.Said.{said};
+
+    ghost Value = { Says };
+
+    ghost view = { λ s. said s.plugin s.reservations.items s.items.items };
+
+    ghost invariant = { λ s. (ws : Words) × SpellsSource ws (said s.plugin s.reservations.items s.items.items) };
+}
+
+impl<'a> Source<'a> {
+    /// What was read of some tokens.
+    pub(crate) fn of(
+        plugin: bool,
+        reservations: Vec<Reservation>,
+        items: Vec<Item<'a>>,
+    ) -> Source<'a>
+        requires { (ws : Words) × SpellsSource ws (said plugin reservations.items items.items) }
+        ensures { result ≡ said plugin reservations.items items.entry.items }
+    {
+        Source {
+            plugin,
+            reservations,
+            items,
+        }
+    }
+
+    /// Whether it is an overlay's: `/plugin/;` stands behind `/dts-v1/;`.
+    pub fn is_overlay(&self) -> bool
+        ensures value { result ≡ self.now.plugin }
+        // Some tokens spell it.
+        ensures spelled { (ws : Words) × SpellsSource ws self.now }
+    {
+        self.plugin
+    }
+
+    /// The reservations, in the order of the text.
+    pub fn reservations(&self) -> &[Reservation]
+        ensures { map reservation_said result.now ≡ self.now.reservations }
+    {
+        &self.reservations
+    }
+
+    /// The items, in the order of the text.
+    pub fn items(&self) -> &[Item<'a>]
+        ensures { map place_said result.now ≡ self.now.places }
+    {
+        &self.items
+    }
+}

@@ -1,0 +1,154 @@
+//! Statements: blocks, and deletions of nodes.
+
+ghost use Rattle.std.specs.Prelude.{◌≡◌, ◌≢◌, ◌++◌, [], true, false, List, ℕ, map, OnOk, IfErr};
+ghost use Rattle.dt_parse.specs.Unchecked.{RawPlace, place_of, all_but_last};
+ghost use Rattle.dt_parse.specs.Strict.{AreLabelTexts};
+ghost use Rattle.dt_parse.specs.Wanted.{OneStatement, StatementThen, made_places, kind_at};
+ghost use Rattle.dt_parse.specs.Descent.{first};
+ghost use Rattle.dt_parse.specs.Faults.{outside};
+ghost use Rattle.dt_parse.specs.Reading.{IsRead, IsBroken};
+ghost use Rattle.dt_parse.specs.Said.{places_said};
+ghost use Rattle.dt_parse.specs.declared.statement.Start.TheVariants as start;
+ghost use Rattle.dt_parse.specs.Starts.{start_of};
+
+use crate::body::{body, push_labels, semicolon};
+use crate::cursor::Cursor;
+use crate::source::Item;
+use crate::stop::Stop;
+use crate::value::{labels, reference};
+use dt_lex::{Keyword, Mark, TokenKind};
+use dt_names::{FaultKind, Label};
+use std::alloc::Global;
+
+/// What a statement begins with, behind its labels.
+#[derive(Clone, Copy, Debug, PartialEq, Eq)]
+pub(crate) enum Start {
+    /// `/`
+    Root,
+    /// `/delete-node/`
+    Deletion,
+    /// A label's or a path's reference.
+    Node,
+    Other,
+}
+
+fn start_of(kind: Option<TokenKind>) -> Start
+    ensures { result ≡ start_of kind }
+{
+    match kind {
+        Some(TokenKind::Mark(Mark::Slash)) => Start::Root,
+        Some(TokenKind::Keyword(Keyword::DeleteNode)) => Start::Deletion,
+        Some(TokenKind::LabelReference) => Start::Node,
+        Some(TokenKind::PathReference) => Start::Node,
+        _ => Start::Other,
+    }
+}
+
+/// Reads `/` and a body.
+fn root<'a>(
+    alloc: Global,
+    labelled: bool,
+    cursor: &mut Cursor<'a, '_>,
+    items: &mut Vec<Item<'a>>,
+) -> Result<(), Stop>
+    requires { start_of (kind_at (first cursor.old)) ≡ start.Root }
+    ensures ok { OnOk result ((labelled ≡ false) × ((ps : List RawPlace) × IsRead outside (OneStatement []) cursor.old (made_places ps) cursor.new
+        × (places_said items.new.items ≡ places_said items.old.items ++ map place_of ps))) }
+    ensures err { IfErr result (λ stop. (ls : List (List ℕ)) → (labelled ≡ false → ls ≡ []) → (labelled ≡ true → ls ≢ []) → IsBroken outside (OneStatement ls) cursor.old stop) }
+{
+    if labelled {
+        return Err(cursor.stop(FaultKind::Syntax));
+    }
+    cursor.advance();
+    items.push(Item::Root)?;
+    body(alloc, cursor, items)?;
+    Ok(())
+}
+
+/// Reads a reference and a body, behind labels.
+fn block<'a>(
+    alloc: Global,
+    names: Vec<Label<'a>>,
+    cursor: &mut Cursor<'a, '_>,
+    items: &mut Vec<Item<'a>>,
+) -> Result<(), Stop>
+    requires { start_of (kind_at (first cursor.old)) ≡ start.Node }
+    ensures ok { (ls : List (List ℕ)) → names.entry.items ≡ map all_but_last ls → AreLabelTexts ls → OnOk result
+        ((ps : List RawPlace) × IsRead outside (OneStatement ls) cursor.old (made_places ps) cursor.new
+        × (places_said items.new.items ≡ places_said items.old.items ++ map place_of ps)) }
+    ensures err { IfErr result (λ stop. (ls : List (List ℕ)) → IsBroken outside (OneStatement ls) cursor.old stop) }
+{
+    let node = reference(cursor)?;
+    cursor.advance();
+    items.push(Item::Block(node))?;
+    push_labels(names, items)?;
+    body(alloc, cursor, items)?;
+    Ok(())
+}
+
+/// Reads `/delete-node/`, a reference and `;`.
+fn delete_node<'a>(
+    labelled: bool,
+    cursor: &mut Cursor<'a, '_>,
+    items: &mut Vec<Item<'a>>,
+) -> Result<(), Stop>
+    requires { start_of (kind_at (first cursor.old)) ≡ start.Deletion }
+    ensures ok { OnOk result ((labelled ≡ false) × ((ps : List RawPlace) × IsRead outside (OneStatement []) cursor.old (made_places ps) cursor.new
+        × (places_said items.new.items ≡ places_said items.old.items ++ map place_of ps))) }
+    ensures err { IfErr result (λ stop. (ls : List (List ℕ)) → (labelled ≡ false → ls ≡ []) → (labelled ≡ true → ls ≢ []) → IsBroken outside (OneStatement ls) cursor.old stop) }
+{
+    if labelled {
+        return Err(cursor.stop(FaultKind::Syntax));
+    }
+    cursor.advance();
+    match start_of(cursor.kind()) {
+        Start::Node => {
+            let node = reference(cursor)?;
+            cursor.advance();
+            semicolon(cursor)?;
+            items.push(Item::DeleteNode(node))?;
+            Ok(())
+        }
+        _ => Err(cursor.stop(FaultKind::Syntax)),
+    }
+}
+
+/// Reads a statement, behind its labels.
+fn statement<'a>(
+    alloc: Global,
+    names: Vec<Label<'a>>,
+    cursor: &mut Cursor<'a, '_>,
+    items: &mut Vec<Item<'a>>,
+) -> Result<(), Stop>
+    ensures ok { (ls : List (List ℕ)) → names.entry.items ≡ map all_but_last ls → AreLabelTexts ls → OnOk result
+        ((ps : List RawPlace) × IsRead outside (OneStatement ls) cursor.old (made_places ps) cursor.new
+        × (places_said items.new.items ≡ places_said items.old.items ++ map place_of ps)) }
+    ensures err { (ls : List (List ℕ)) → names.entry.items ≡ map all_but_last ls → IfErr result (λ stop. IsBroken outside (OneStatement ls) cursor.old stop) }
+{
+    match start_of(cursor.kind()) {
+        Start::Root => root(alloc, !names.is_empty(), cursor, items),
+        Start::Deletion => delete_node(!names.is_empty(), cursor, items),
+        Start::Node => block(alloc, names, cursor, items),
+        Start::Other => Err(cursor.stop(FaultKind::Syntax)),
+    }
+}
+
+/// Reads statements up to the end of the text, behind the labels of the first.
+pub(crate) fn statements<'a>(
+    alloc: Global,
+    names: Vec<Label<'a>>,
+    cursor: &mut Cursor<'a, '_>,
+    items: &mut Vec<Item<'a>>,
+) -> Result<(), Stop>
+    ensures ok { (ls : List (List ℕ)) → names.entry.items ≡ map all_but_last ls → AreLabelTexts ls → OnOk result
+        ((ps : List RawPlace) × IsRead outside (StatementThen ls) cursor.old (made_places ps) []
+        × (places_said items.new.items ≡ places_said items.old.items ++ map place_of ps)) }
+    ensures err { (ls : List (List ℕ)) → names.entry.items ≡ map all_but_last ls → AreLabelTexts ls → IfErr result (λ stop. IsBroken outside (StatementThen ls) cursor.old stop) }
+{
+    statement(alloc, names, cursor, items)?;
+    'statements: while cursor.left() > 0 {
+        let others = labels(alloc, cursor)?;
+        statement(alloc, others, cursor, items)?;
+    }
+    Ok(())
+}

@@ -1,0 +1,35 @@
+-- Names that differ (Devicetree Specification v0.4, 2.2), by the nodes' places.
+use Rattle.std.specs.Prelude.{◌≡◌, ℕ, List, [], ◌∷◌, map, Some, IfSome}
+use Rattle.dt_model.specs.Names.{Name}
+use Rattle.dt_model.specs.Tree.{Property}
+use Rattle.dt_model.specs.Valid.{AreDistinct}
+use Rattle.dt_read.specs.Marks.{Mark, begin_mark, end_mark, prop_mark, nop_mark, last_mark, Root}
+use Rattle.dt_read.specs.Reading.{Parts, node_of, heads_of}
+
+abbrev pub property_names : List Property → List Name
+property_names properties = map (λ p. p.name) properties
+
+abbrev pub head_names : List (ℕ × Name) → List Name
+head_names heads = map (λ h. h.1) heads
+
+-- no two properties and no two children of a node have one name
+pub record AreDistinctParts (parts : Parts) : Type 0 where
+  pub properties : AreDistinct (property_names parts.properties)
+  pub children : AreDistinct (head_names (heads_of parts.children))
+
+-- so in each node
+abbrev pub HasDistinctNames : Root → Type 0
+HasDistinctNames tree = (place : ℕ) (parts : Parts) → node_of tree place ≡ Some parts → AreDistinctParts parts
+
+-- the places of the nodes that begin, in preorder
+abbrev pub places_in : List Mark → List ℕ
+places_in [] = []
+places_in (begin_mark place name ∷ marks) = place ∷ places_in marks
+places_in (end_mark ∷ marks) = places_in marks
+places_in (prop_mark p ∷ marks) = places_in marks
+places_in (nop_mark ∷ marks) = places_in marks
+places_in (last_mark ∷ marks) = places_in marks
+
+-- the node at that place has distinct names
+abbrev pub IsDistinctAt : Root → ℕ → Type 0
+IsDistinctAt tree place = IfSome (node_of tree place) AreDistinctParts

@@ -1,0 +1,14 @@
+pub mod Placed
+pub mod Marks
+pub mod Parsing
+pub mod TreeCode
+pub mod Reading
+pub mod Order
+pub mod View
+pub mod Kinds
+pub mod Scan
+pub mod Distinct
+pub mod Phandle
+pub mod Pairs
+pub mod Blocks
+pub mod Counting

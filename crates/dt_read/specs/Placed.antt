@@ -1,0 +1,66 @@
+-- Trees each of whose nodes has its place in the blob, by which a reader names it.
+use Rattle.std.specs.Prelude.{◌≡◌, ℕ, List, [], ◌∷◌, Option, Some, None, if◌then◌else◌}
+use Rattle.std.specs.Str.{bytes_eq}
+use Rattle.dt_model.specs.Names.{Name}
+use Rattle.dt_model.specs.Path.{Path}
+use Rattle.dt_model.specs.Tree as tree
+use Rattle.dt_model.specs.Tree.{Property, Forest, branch, Reading, Node, node_at}
+use Rattle.dt_model.specs.Valid.{names}
+
+-- A tree each of whose nodes has its place: the offset of its BEGIN_NODE in the blob.
+pub data Nodes : Type 0 where
+  no_nodes : Nodes
+  node : (place : ℕ) (name : Name) (properties : List Property) (children siblings : Nodes) → Nodes
+
+-- the same without places
+abbrev pub forest_of : Nodes → Forest
+forest_of no_nodes = tree.no_nodes
+forest_of (node place name properties children siblings) = branch name properties (forest_of children) (forest_of siblings)
+
+pub record PlacedTree : Type 0 where
+  pub boot_cpu : ℕ
+  pub reservations : List (ℕ × ℕ)
+  pub place : ℕ
+  pub properties : List Property
+  pub children : Nodes
+
+abbrev pub reading_of : PlacedTree → Reading
+reading_of t = record { boot_cpu = t.boot_cpu; reservations = t.reservations; properties = t.properties; children = forest_of t.children }
+
+-- the place of the node of a path, from a node at a place and its children
+abbrev pub place_below : ℕ → Nodes → Path → Option ℕ
+place_below at nodes [] = Some at
+place_below at no_nodes (x ∷ p) = None
+place_below at (node place name properties children siblings) (x ∷ p) =
+    if bytes_eq x name then place_below place children p else place_below at siblings (x ∷ p)
+
+abbrev pub place_of : PlacedTree → Path → Option ℕ
+place_of t path = place_below t.place t.children path
+
+-- the node has this path
+abbrev pub IsAt : PlacedTree → Path → ℕ → Type 0
+IsAt t path place = place_of t path ≡ Some place
+
+-- ---- what a node has, by its path
+
+-- the last name of a path, and none for the root's
+abbrev pub last_name : Path → Name
+last_name [] = []
+last_name (x ∷ []) = x
+last_name (x ∷ y ∷ p) = last_name (y ∷ p)
+
+abbrev pub properties_of : Option Node → List Property
+properties_of None = []
+properties_of (Some n) = n.properties
+
+abbrev pub names_of : Option Node → List Name
+names_of None = []
+names_of (Some n) = names n.children
+
+-- the properties of the path's node, in order
+abbrev pub properties_at : PlacedTree → Path → List Property
+properties_at t path = properties_of (node_at (reading_of t) path)
+
+-- the names of its children, in order
+abbrev pub child_names : PlacedTree → Path → List Name
+child_names t path = names_of (node_at (reading_of t) path)

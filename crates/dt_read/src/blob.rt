@@ -1,0 +1,162 @@
+//! A checked blob.
+
+ghost use Rattle.std.specs.Prelude.{◌≡◌, ◌≢◌, ◌+◌, ◌<◌, ◌^◌, Some, None, ℕ, length, IfOk, IfErr};
+ghost use Rattle.dt_model.specs.Checks.{BlobFault, IsFirstFault};
+ghost use Rattle.dt_model.specs.Format.{Reads, IsWithin};
+ghost use Rattle.dt_model.specs.Path.{Path};
+ghost use Rattle.dt_names.specs.declared.fault.FaultKind.TheVariants.{Limit};
+ghost use Rattle.dt_read.specs.Kinds.{kind_of};
+ghost use Rattle.dt_read.specs.Placed.{reading_of, IsAt};
+
+use crate::NodeId;
+use crate::blocks::blocks_of;
+use crate::counts::{Counts, count_pairs, count_tokens};
+use crate::distinct::has_distinct_names;
+use crate::pairs::Reservations;
+use crate::phandle::are_phandles;
+use crate::scan::BadToken;
+use crate::structure::Structure;
+use crate::walk::{Children, Props};
+use dt_names::{Fault, FaultKind};
+use std::marker::Model;
+
+/// A blob that reads as a tree. It is seen as that tree, with the places of its nodes.
+#[derive(Drop)]
+pub struct Blob<'a> {
+    structure: Structure<'a>,
+    reservations: &'a [u8],
+    boot_cpu: u32,
+}
+
+impl<'a> Model for Blob<'a> {
+    ghost use Rattle.dt_read.specs.Blocks.{IsWellPlaced};
+    ghost use Rattle.dt_read.specs.Pairs.{pairs_of};
+    ghost use Rattle.dt_read.specs.Placed.{PlacedTree};
+    ghost use Rattle.dt_read.specs.TreeCode.{coded_placed};
+
+    ghost Value = { PlacedTree };
+
+    ghost coded = { coded_placed };
+
+    ghost view = { λ b. record { boot_cpu = b.boot_cpu; reservations = pairs_of b.reservations.now; place = b.structure.place; properties = b.structure.properties; children = b.structure.children } };
+
+    ghost invariant = { λ b. IsWellPlaced (record { boot_cpu = b.boot_cpu; reservations = pairs_of b.reservations.now; place = b.structure.place; properties = b.structure.properties; children = b.structure.children }) };
+}
+
+// The fault of the token at so many bytes behind the front of the structure block. A limit has no place.
+fn placed(bad: BadToken, at: usize) -> Fault
+    requires { at + bad.offset < 2 ^ 64 }
+    ensures kind { result.kind ≡ bad.kind }
+    ensures limit { bad.kind ≡ Limit → result.at ≡ None }
+    ensures place { bad.kind ≢ Limit → result.at ≡ Some (at + bad.offset) }
+{
+    match bad.kind {
+        FaultKind::Limit => Fault::of(bad.kind),
+        _ => Fault::at(bad.kind, at + bad.offset),
+    }
+}
+
+impl<'a> Blob<'a> {
+    ghost use Rattle.std.specs.Prelude.{◌∷◌, ◌++◌, [], map};
+    ghost use Rattle.std.specs.List.{sum_by};
+    ghost use Rattle.std.specs.Option.{option_copied};
+    ghost use Rattle.dt_model.specs.Tree.{value_in, nodes_of};
+    ghost use Rattle.dt_read.specs.Placed.{place_of, last_name, properties_at, child_names};
+
+    /// Reads a blob (Devicetree Specification v0.4, chapter 5), or answers its first fault, in the order in which it is
+    /// read: the header, the reservations, the tokens of the structure block, names that differ, and phandles. A fault of a
+    /// token has the token's place; a limit hasn't. Takes no memory.
+    pub fn check(bytes: &'a [u8]) -> Result<Blob<'a>, Fault>
+        ensures reads { IfOk result (λ b. Reads bytes.now (reading_of b)) }
+        ensures within { IfOk result (λ b. IsWithin bytes.now (reading_of b)) }
+        ensures places { IfOk result (λ b. (p q : Path) (node : ℕ) → IsAt b p node → IsAt b q node → p ≡ q) }
+        ensures fault { IfErr result (λ e. (f : BlobFault) × (e.kind ≡ kind_of f) × IsFirstFault bytes.now f e.at) }
+    {
+        let blocks = blocks_of(bytes)?;
+        let structure = match Structure::check(blocks.strings, blocks.at, blocks.block) {
+            Ok(structure) => structure,
+            Err(bad) => return Err(placed(bad, blocks.at)),
+        };
+        if !has_distinct_names(&structure) {
+            return Err(Fault::of(FaultKind::Duplicate));
+        }
+        if !are_phandles(structure.start()) {
+            return Err(Fault::of(FaultKind::BlobPhandle));
+        }
+        Ok(Blob {
+            structure,
+            reservations: blocks.reservations,
+            boot_cpu: blocks.boot_cpu,
+        })
+    }
+
+    /// The number of the processor that boots.
+    pub fn boot_cpu(&self) -> u32
+        ensures { result ≡ self.now.boot_cpu }
+    {
+        self.boot_cpu
+    }
+
+    /// The memory reservations, in order (Devicetree Specification v0.4, 5.3).
+    pub fn reservations(&self) -> Reservations<'a>
+        ensures { result ≡ self.now.reservations }
+    {
+        Reservations::new(self.reservations)
+    }
+
+    /// How many nodes, properties and reservations there are. Reads all tokens.
+    pub fn counts(&self) -> Counts
+        ensures nodes { result.nodes ≡ length (nodes_of (reading_of self.now)) }
+        ensures properties { result.properties ≡ sum_by (λ n. length n.properties) (nodes_of (reading_of self.now)) }
+        ensures reservations { result.reservations ≡ length self.now.reservations }
+    {
+        let (nodes, properties) = count_tokens(self.structure.start());
+        let reservations = count_pairs(self.reservations);
+        Counts {
+            nodes,
+            properties,
+            reservations,
+        }
+    }
+
+    /// The root, which has no name.
+    pub fn root(&self) -> NodeId
+        ensures { IsAt self.now [] result }
+    {
+        self.structure.root()
+    }
+
+    /// The name of a node; the root's is empty.
+    pub fn name(&self, node: NodeId) -> &'a [u8]
+        requires { (path : Path) × IsAt self.now path node }
+        ensures { (path : Path) → IsAt self.now path node → result.now ≡ last_name path }
+    {
+        self.structure.name(node)
+    }
+
+    /// The value of a property of a node, None where it has no property of that name.
+    pub fn value(&self, node: NodeId, name: &[u8]) -> Option<&'a [u8]>
+        requires { (path : Path) × IsAt self.now path node }
+        ensures { (path : Path) → IsAt self.now path node →
+            option_copied result ≡ value_in (reading_of self.now) path name.now }
+    {
+        self.structure.value(node, name)
+    }
+
+    /// The properties of a node in order, as names and values.
+    pub fn props(&self, node: NodeId) -> Props<'a>
+        requires { (path : Path) × IsAt self.now path node }
+        ensures { (path : Path) → IsAt self.now path node → result ≡ properties_at self.now path }
+    {
+        self.structure.props(node)
+    }
+
+    /// The children of a node in order.
+    pub fn children(&self, node: NodeId) -> Children<'a>
+        requires { (path : Path) × IsAt self.now path node }
+        ensures { (path : Path) → IsAt self.now path node →
+            map (λ child. Some child) result ≡ map (λ x. place_of self.now (path ++ x ∷ [])) (child_names self.now path) }
+    {
+        Children::new(self.structure.siblings(node))
+    }
+}

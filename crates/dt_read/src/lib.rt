@@ -1,0 +1,29 @@
+//! The checked reader of flattened devicetree blobs.
+#![tactic(auto)]
+
+mod blob;
+mod blocks;
+mod counts;
+mod cursor;
+mod distinct;
+mod fault;
+mod header;
+mod name;
+mod pairs;
+mod parts;
+mod phandle;
+mod scan;
+mod structure;
+mod token;
+mod walk;
+
+pub use blob::Blob;
+pub use counts::Counts;
+pub use pairs::Reservations;
+pub use walk::{Children, Props};
+
+/// A node of a blob: the place of its BEGIN_NODE, in bytes from the blob's front.
+pub type NodeId = usize;
+
+#[cfg(test)]
+mod tests;

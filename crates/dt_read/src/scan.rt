@@ -1,0 +1,139 @@
+//! One pass over a structure block.
+
+ghost use Rattle.std.specs.Prelude.{ℕ, MatchOption, ◌≡◌, ◌+◌, ◌<◌, ◌^◌, ◌↔◌, ◌==◌, ◌&&◌, ◌||◌, IsTrue, IsNone, IfSome, length, nat_le, nat_lt};
+ghost use Rattle.std.specs.Option.{option_map};
+ghost use Rattle.dt_model.specs.Checks.{lead, is_behind, may_be_called, has_room};
+ghost use Rattle.dt_model.specs.Checks.{BlobFault, StopsAt};
+ghost use Rattle.dt_read.specs.Kinds.{kind_of};
+ghost use Rattle.dt_read.specs.Marks.{Root};
+ghost use Rattle.dt_read.specs.Reading.{HasTree};
+ghost use Rattle.dt_read.specs.Scan.{IsStuck, Leads};
+ghost use Rattle.dt_read.specs.View.{view, position_of};
+
+use crate::fault::fault_at;
+use crate::name::{may_name_a_node, may_name_a_property};
+use crate::token::{Token, token_at};
+use dt_names::FaultKind;
+
+/// The most names in the path of a node.
+const MOST_NAMES: usize = 64;
+
+/// The most nodes, the root among them.
+const MOST_NODES: usize = 65536;
+
+/// Where a scan stands between two tokens.
+#[derive(Clone, Copy, Debug)]
+pub struct Place {
+    /// How many nodes are open.
+    pub depth: usize,
+    /// The innermost open node has a child already; or with none open, the root has ended.
+    pub late: bool,
+    /// How many nodes have begun.
+    pub nodes: usize,
+}
+
+impl Place {
+    /// Whether the root has ended.
+    pub fn is_behind(self) -> bool
+        ensures { result ≡ is_behind (position_of self) }
+    {
+        self.depth == 0 && self.late
+    }
+
+    /// Whether a node that begins here may be called so: the root has no name.
+    pub fn may_be_called(self, name: &[u8]) -> bool
+        ensures { result ≡ may_be_called (position_of self) name.now }
+    {
+        if self.depth == 0 {
+            name.is_empty()
+        } else {
+            may_name_a_node(name)
+        }
+    }
+
+    /// Whether one more node may begin here.
+    pub fn has_room(self) -> bool
+        ensures { result ≡ has_room (position_of self) }
+    {
+        self.depth <= MOST_NAMES && self.nodes < MOST_NODES
+    }
+
+    // Where the next token stands, if this one may stand here.
+    fn after(self, token: Token) -> Option<Place>
+        ensures { option_map position_of result ≡ lead (view token.entry) (position_of self) }
+    {
+        match token {
+            Token::BeginNode(name) => {
+                if self.is_behind() || !self.may_be_called(name) || !self.has_room() {
+                    return None;
+                }
+                Some(Place {
+                    depth: self.depth + 1,
+                    late: false,
+                    nodes: self.nodes + 1,
+                })
+            }
+            Token::EndNode => {
+                if self.depth == 0 {
+                    return None;
+                }
+                Some(Place {
+                    depth: self.depth - 1,
+                    late: true,
+                    nodes: self.nodes,
+                })
+            }
+            Token::Property(name, _) => {
+                if self.depth == 0 || self.late || !may_name_a_property(name) {
+                    return None;
+                }
+                Some(self)
+            }
+            Token::Nop => Some(self),
+            Token::End => None,
+        }
+    }
+}
+
+// Reads the token at the front of some bytes: where the next one stands, and how many bytes it takes. None where no token
+// that may stand there does.
+fn step(strings: &[u8], place: Place, rest: &[u8]) -> Option<(Place, usize)>
+    requires { length rest.now < 2 ^ 32 }
+    ensures { MatchOption result (IsStuck strings.now (position_of place) rest.now)
+        (λ r. Leads strings.now (position_of place) rest.now (position_of r.0) r.1) }
+{
+    let (token, len) = token_at(strings, rest)?;
+    let next = place.after(token)?;
+    Some((next, len))
+}
+
+/// The first token that is wrong: so many bytes behind the front of the structure block, and what is wrong with it.
+#[derive(Clone, Copy, Debug, PartialEq, Eq)]
+pub struct BadToken {
+    pub offset: usize,
+    pub kind: FaultKind,
+}
+
+/// The first token of a structure block that is wrong; None where the block spells a tree.
+pub fn first_bad_token(strings: &[u8], block: &[u8]) -> Option<BadToken>
+    requires { length block.now < 2 ^ 32 }
+    ensures tree { IsNone result → (at : ℕ) → (tree : Root) × HasTree strings.now at block.now tree }
+    ensures first { IfSome result (λ bad. (f : BlobFault) × (bad.kind ≡ kind_of f) × StopsAt strings.now block.now bad.offset f) }
+{
+    let mut place = Place {
+        depth: 0,
+        late: false,
+        nodes: 0,
+    };
+    let mut offset = 0;
+    let mut rest = block;
+    while let Some((next, len)) = step(strings, place, rest) {
+        place = next;
+        offset += len;
+        rest = &rest[len..];
+    }
+    match fault_at(strings, place, rest) {
+        Some(kind) => Some(BadToken { offset, kind }),
+        None => None,
+    }
+}

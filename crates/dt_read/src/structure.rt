@@ -1,0 +1,124 @@
+//! A checked structure block.
+
+ghost use Rattle.std.specs.Prelude.{◌≡◌, ◌+◌, ◌<◌, ◌^◌, ◌∷◌, ◌++◌, [], length, IfOk, IfErr, IfSome, IsSome};
+
+use crate::NodeId;
+use crate::cursor::{Cursor, skip_properties};
+use crate::scan::{BadToken, first_bad_token};
+use crate::token::Token;
+use crate::walk::{Props, Siblings, value_in};
+use std::marker::Model;
+
+/// A structure block that spells a tree. It is seen as that tree.
+#[derive(Drop)]
+pub struct Structure<'a> {
+    strings: &'a [u8],
+    at: usize,
+    block: &'a [u8],
+}
+
+impl<'a> Model for Structure<'a> {
+    ghost use Rattle.dt_read.specs.Marks.{Root};
+    ghost use Rattle.dt_read.specs.TreeCode.{coded_root};
+    ghost use Rattle.dt_read.specs.Parsing.{tree_in};
+    ghost use Rattle.dt_read.specs.Reading.{IsStructure};
+
+    ghost Value = { Root };
+
+    ghost coded = { coded_root };
+
+    ghost view = { λ s. tree_in s.strings.now s.at s.block.now };
+
+    ghost invariant = { λ s. IsStructure s.strings.now s.at s.block.now };
+}
+
+impl<'a> Structure<'a> {
+    ghost use Rattle.std.specs.Option.{option_copied};
+    ghost use Rattle.dt_model.specs.Checks.{BlobFault, StopsAt};
+    ghost use Rattle.dt_model.specs.Tree.{value_of};
+    ghost use Rattle.dt_read.specs.Kinds.{kind_of};
+    ghost use Rattle.dt_read.specs.Marks.{last_mark, marks_of};
+    ghost use Rattle.dt_read.specs.Order.{HasRisingPlaces};
+    ghost use Rattle.dt_read.specs.Reading.{HasTree, node_of, heads_of, BeginsNode};
+
+    /// The tree that a structure block spells, or its first wrong token. The block stands at that place of the blob.
+    pub fn check(strings: &'a [u8], at: usize, block: &'a [u8]) -> Result<Structure<'a>, BadToken>
+        requires { at + length block.now < 2 ^ 32 }
+        ensures tree { IfOk result (λ tree. HasTree strings.now at block.now tree) }
+        ensures places { IfOk result HasRisingPlaces }
+        ensures first { IfErr result (λ bad. (f : BlobFault) × (bad.kind ≡ kind_of f)
+            × StopsAt strings.now block.now bad.offset f) }
+    {
+        match first_bad_token(strings, block) {
+            None => Ok(Structure { strings, at, block }),
+            Some(bad) => Err(bad),
+        }
+    }
+
+    /// The place where a node begins.
+    fn cursor_at(&self, node: NodeId) -> Cursor<'a>
+        requires { IsSome (node_of self.now node) }
+        ensures { IfSome (node_of self.now node) (BeginsNode result node) }
+    {
+        Cursor::new(self.strings, node, &self.block[node - self.at..])
+    }
+
+    /// The place of the first token.
+    pub fn start(&self) -> Cursor<'a>
+        ensures { result ≡ marks_of self.now ++ last_mark ∷ [] }
+    {
+        Cursor::new(self.strings, self.at, self.block)
+    }
+
+    /// The root.
+    pub fn root(&self) -> NodeId
+        ensures { result ≡ self.now.place }
+    {
+        let mut cursor = Cursor::new(self.strings, self.at, self.block);
+        match cursor.next() {
+            Some((node, _)) => node,
+            None => unreachable!(),
+        }
+    }
+
+    /// The name of a node; the root's is empty.
+    pub fn name(&self, node: NodeId) -> &'a [u8]
+        requires { IsSome (node_of self.now node) }
+        ensures { IfSome (node_of self.now node) (λ parts. result.now ≡ parts.name) }
+    {
+        let mut cursor = self.cursor_at(node);
+        match cursor.next() {
+            Some((_, Token::BeginNode(name))) => name,
+            _ => unreachable!(),
+        }
+    }
+
+    /// The properties of a node, in order.
+    pub fn props(&self, node: NodeId) -> Props<'a>
+        requires { IsSome (node_of self.now node) }
+        ensures { IfSome (node_of self.now node) (λ parts. result ≡ parts.properties) }
+    {
+        let mut cursor = self.cursor_at(node);
+        let _ = cursor.next();
+        Props::new(cursor)
+    }
+
+    /// The children of a node, in order, with their names.
+    pub fn siblings(&self, node: NodeId) -> Siblings<'a>
+        requires { IsSome (node_of self.now node) }
+        ensures { IfSome (node_of self.now node) (λ parts. result ≡ heads_of parts.children) }
+    {
+        let mut cursor = self.cursor_at(node);
+        let _ = cursor.next();
+        skip_properties(&mut cursor);
+        Siblings::new(cursor)
+    }
+
+    /// The value of a node's property, where it has the property.
+    pub fn value(&self, node: NodeId, name: &[u8]) -> Option<&'a [u8]>
+        requires { IsSome (node_of self.now node) }
+        ensures { IfSome (node_of self.now node) (λ parts. option_copied result ≡ value_of parts.properties name.now) }
+    {
+        value_in(self.props(node), name)
+    }
+}
