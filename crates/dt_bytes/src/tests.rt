@@ -24,9 +24,9 @@ fn numbers_and_texts(rt: HostRuntime) {
     assert_eq!(rt; be32(&bytes, usize::MAX), None);
     assert_eq!(rt; be64(&bytes, 1), Some(0xd00d_feed_0000_0001));
     assert_eq!(rt; be64(&bytes, 6), None);
-    assert_eq!(rt; text_at(&bytes, 9), Some(b"ab".as_slice()));
-    assert_eq!(rt; text_at(&bytes, 11), Some(b"".as_slice()));
-    assert_eq!(rt; text_at(&bytes, 12), None);
-    assert_eq!(rt; text_at(&bytes, 13), None);
-    assert_eq!(rt; text_at(&bytes, usize::MAX), None);
+    assert!(rt; text_at(&bytes, 9).is_some_and(|text| text == b"ab".as_slice()));
+    assert!(rt; text_at(&bytes, 11).is_some_and(|text| text.is_empty()));
+    for at in [12, 13, usize::MAX] {
+        assert!(rt; text_at(&bytes, at).is_none(), "at {at}");
+    }
 }
