@@ -8,6 +8,9 @@ pub mod View
 pub mod Kinds
 pub mod Scan
 pub mod Distinct
+pub mod Keys
+pub mod Filter
+pub mod Classes
 pub mod Phandle
 pub mod Pairs
 pub mod Blocks

@@ -80,7 +80,7 @@ impl<'a> Blob<'a> {
         if !has_distinct_names(&structure) {
             return Err(Fault::of(FaultKind::Duplicate));
         }
-        if !are_phandles(structure.start()) {
+        if !are_phandles(&structure) {
             return Err(Fault::of(FaultKind::BlobPhandle));
         }
         Ok(Blob {

@@ -1,81 +1,96 @@
-//! Names that differ, found with no memory: each name is compared with those behind it.
+//! Keys that differ, found with no memory: a table of bits tells most keys that are new, and an exact walk the others.
 
-ghost use Rattle.std.specs.Prelude.{◌≡◌, ◌↔◌, IsTrue, IsSome, IfSome};
-ghost use Rattle.std.specs.List.{list_any};
+ghost use Rattle.std.specs.Prelude.{◌≡◌, ◌↔◌, ◌<◌, ◌^◌, ◌%◌, ℕ, Some, IsTrue, OnTrue, OnFalse, length, take};
+ghost use Rattle.std.specs.List.{IsMember, slice_get};
 ghost use Rattle.dt_model.specs.Valid.{AreDistinct};
-ghost use Rattle.std.specs.Str.{bytes_eq};
-ghost use Rattle.dt_read.specs.Reading.{node_of};
-ghost use Rattle.dt_read.specs.Distinct.{property_names, head_names, AreDistinctParts, IsDistinctAt, HasDistinctNames};
+ghost use Rattle.dt_read.specs.Order.{HasRisingPlaces};
+ghost use Rattle.dt_read.specs.Distinct.{HasDistinctNames};
+ghost use Rattle.dt_read.specs.Keys.{said, keys_of};
+ghost use Rattle.dt_read.specs.Classes.{hash_of, IsNewIn};
 
-use crate::NodeId;
+use crate::filter::{put, seems_to_hold};
+use crate::keys::{Key, Keys, Wanted};
 use crate::structure::Structure;
-use crate::token::Token;
-use crate::walk::{Props, Siblings};
+use std::hash::{DefaultHasher, Hash, Hasher};
 
-fn has_property(mut props: Props, name: &[u8]) -> bool
-    ensures { result ≡ list_any (λ other. bytes_eq name.now other) (property_names props.entry) }
+// The table's words: 2^20 bits, 128 KiB.
+const WORDS: usize = 16_384;
+
+// As many keys as the table tells apart with few errors.
+const KEYS_OF_A_CLASS: usize = 16_384;
+
+fn hashed(key: &Key) -> u64
+    ensures { result ≡ hash_of (said key.now) }
 {
-    while let Some((other, _)) = props.next() {
-        if name == other {
-            return true;
+    let mut hasher = DefaultHasher::new();
+    key.hash(&mut hasher);
+    hasher.finish()
+}
+
+// Whether a key is among so many first keys.
+fn is_among(mut keys: Keys, count: usize, key: &Key) -> bool
+    ensures { IsTrue result ↔ IsMember (said key.now) (take count keys.entry) }
+{
+    for _ in 0..count {
+        match keys.next() {
+            Some(other) if other == *key => return true,
+            Some(_) => {}
+            None => return false,
         }
     }
     false
 }
 
-fn are_distinct_props(mut props: Props) -> bool
-    ensures { IsTrue result ↔ AreDistinct (property_names props.entry) }
+// Whether no key of a class, by the remainder of its hash, is equal to an earlier one.
+fn is_distinct_class(
+    structure: &Structure,
+    wanted: Wanted,
+    class: u64,
+    classes: u64,
+    words: &mut [u64],
+) -> bool
+    requires classes { 0 < classes }
+    requires some { 0 < length words.old }
+    requires few { length words.old < 2 ^ 32 }
+    ensures size { length words.new ≡ length words.old }
+    ensures apart { OnTrue result ((i : ℕ) (k : _) → slice_get (keys_of wanted structure.now) i ≡ Some k →
+        hash_of k % classes ≡ class → IsNewIn (keys_of wanted structure.now) i k) }
+    ensures equal { OnFalse result (AreDistinct (keys_of wanted structure.now) → ⊥) }
 {
-    while let Some((name, _)) = props.next() {
-        if has_property(props.copy(), name) {
-            return false;
+    words.fill(0);
+    let mut before = 0usize;
+    let mut keys = Keys::of(structure, wanted);
+    while let Some(key) = keys.next() {
+        let hash = hashed(&key);
+        if hash % classes == class {
+            if seems_to_hold(words, hash) && is_among(Keys::of(structure, wanted), before, &key) {
+                return false;
+            }
+            put(words, hash);
         }
+        before += 1;
     }
     true
 }
 
-fn has_child(mut children: Siblings, name: &[u8]) -> bool
-    ensures { result ≡ list_any (λ other. bytes_eq name.now other) (head_names children.entry) }
+/// Whether the keys of a tree differ.
+pub fn are_distinct(structure: &Structure, wanted: Wanted) -> bool
+    ensures { IsTrue result ↔ AreDistinct (keys_of wanted structure.now) }
 {
-    while let Some((_, other)) = children.next() {
-        if name == other {
-            return true;
-        }
-    }
-    false
-}
-
-fn are_distinct_children(mut children: Siblings) -> bool
-    ensures { IsTrue result ↔ AreDistinct (head_names children.entry) }
-{
-    while let Some((_, name)) = children.next() {
-        if has_child(children.copy(), name) {
+    let classes = (Keys::of(structure, wanted).count() / KEYS_OF_A_CLASS + 1) as u64;
+    let mut words = [0u64; WORDS];
+    for class in 0..classes {
+        if !is_distinct_class(structure, wanted, class, classes, &mut words) {
             return false;
         }
     }
     true
-}
-
-// Whether the names differ in a node.
-fn is_distinct_node(structure: &Structure, node: NodeId) -> bool
-    requires { IsSome (node_of structure.now node) }
-    ensures { IsTrue result ↔ IsDistinctAt structure.now node }
-{
-    are_distinct_props(structure.props(node)) && are_distinct_children(structure.siblings(node))
 }
 
 /// Whether the names differ in each node.
 pub fn has_distinct_names(structure: &Structure) -> bool
+    requires { HasRisingPlaces structure.now }
     ensures { IsTrue result ↔ HasDistinctNames structure.now }
 {
-    let mut cursor = structure.start();
-    while let Some((node, token)) = cursor.next() {
-        let Token::BeginNode(_) = token else {
-            continue;
-        };
-        if !is_distinct_node(structure, node) {
-            return false;
-        }
-    }
-    true
+    are_distinct(structure, Wanted::Names)
 }

@@ -1,30 +1,14 @@
 //! Phandles: each in range, and no two equal.
 
-ghost use Rattle.std.specs.Prelude.{◌≡◌, ◌↔◌, ◌∷◌, [], IsTrue};
-ghost use Rattle.std.specs.Option.{MatchOption};
-ghost use Rattle.std.specs.List.{list_any};
-ghost use Rattle.std.specs.Str.{bytes_eq};
+ghost use Rattle.std.specs.Prelude.{◌↔◌, ◌++◌, ◌∷◌, [], IsTrue};
 ghost use Rattle.dt_model.specs.Valid.{IsPhandle};
+ghost use Rattle.dt_read.specs.Marks.{last_mark, marks_of};
 ghost use Rattle.dt_read.specs.Phandle.{phandles_in, ArePhandles};
 
-use crate::cursor::Cursor;
-use crate::token::Token;
+use crate::distinct::are_distinct;
+use crate::keys::{Keys, Wanted};
+use crate::structure::Structure;
 use dt_bytes::be32;
-
-// Goes behind the next phandle, whichever node's.
-fn next_phandle<'a>(cursor: &mut Cursor<'a>) -> Option<&'a [u8]>
-    ensures { MatchOption result ((phandles_in cursor.old ≡ []) × (phandles_in cursor.new ≡ []))
-        (λ value. phandles_in cursor.old ≡ value.now ∷ phandles_in cursor.new) }
-{
-    while let Some((_, token)) = cursor.next() {
-        if let Token::Property(name, value) = token {
-            if b"phandle".as_slice() == name {
-                return Some(value);
-            }
-        }
-    }
-    None
-}
 
 // Whether the value is four bytes of 1 to 0xfffffffe.
 fn is_phandle(value: &[u8]) -> bool
@@ -39,28 +23,14 @@ fn is_phandle(value: &[u8]) -> bool
     }
 }
 
-fn has_phandle(mut cursor: Cursor, value: &[u8]) -> bool
-    ensures { result ≡ list_any (λ other. bytes_eq value.now other) (phandles_in cursor.entry) }
+/// Whether the phandles of a tree are right.
+pub fn are_phandles(structure: &Structure) -> bool
+    ensures { IsTrue result ↔ ArePhandles (phandles_in (marks_of structure.now ++ last_mark ∷ [])) }
 {
-    while let Some(other) = next_phandle(&mut cursor) {
-        if value == other {
-            return true;
-        }
-    }
-    false
-}
-
-/// Whether the phandles from a place on are right.
-pub fn are_phandles(mut cursor: Cursor) -> bool
-    ensures { IsTrue result ↔ ArePhandles (phandles_in cursor.entry) }
-{
-    while let Some(value) = next_phandle(&mut cursor) {
-        if !is_phandle(value) {
-            return false;
-        }
-        if has_phandle(cursor.copy(), value) {
+    for key in Keys::of(structure, Wanted::Phandles) {
+        if !is_phandle(key.bytes) {
             return false;
         }
     }
-    true
+    are_distinct(structure, Wanted::Phandles)
 }

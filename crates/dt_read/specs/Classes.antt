@@ -1,0 +1,14 @@
+-- The hashes of keys, and keys that differ from those before them.
+use Rattle.std.specs.Prelude.{◌≢◌, ℕ, List, ◌++◌, take, fold}
+use Rattle.std.specs.List.{AllByRecursion}
+use Rattle.std.specs.Hash as fed
+use Rattle.std.specs.Hash.DefaultHasher as sip
+use Rattle.dt_read.specs.Keys.{Key, number_of}
+
+-- SipHash of the key
+abbrev pub hash_of : Key → ℕ
+hash_of k = sip.finish (fold sip.write sip.initial (fed.u64 0))
+
+-- the keys before that place differ from the key
+abbrev pub IsNewIn : List Key → ℕ → Key → Type 0
+IsNewIn keys i k = AllByRecursion (λ other. other ≢ k) (take i keys)

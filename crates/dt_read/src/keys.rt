@@ -1,0 +1,118 @@
+//! What has to differ in a blob: names of siblings and of a node's properties, and phandles.
+
+ghost use Rattle.std.specs.Prelude.{◌≡◌, option_map};
+ghost use Rattle.std.specs.Iterator.{YieldsFirstBy, item_count};
+ghost use Rattle.dt_read.specs.View.{view_at};
+ghost use Rattle.dt_read.specs.Keys.{said, key_of, keys_of};
+
+use crate::NodeId;
+use crate::cursor::Cursor;
+use crate::open_nodes::OpenNodes;
+use crate::structure::Structure;
+use crate::token::Token;
+use std::marker::Model;
+
+/// What a key is of.
+#[derive(Clone, Copy, Debug, PartialEq, Eq, Hash)]
+pub enum Sort {
+    /// The name of a child.
+    Child,
+    /// The name of a property.
+    Property,
+    /// The value of a property `phandle`.
+    Phandle,
+}
+
+/// Bytes that have to differ from all others of their sort and of their owner.
+#[derive(Clone, Copy, Debug, PartialEq, Eq, Hash)]
+pub struct Key<'a> {
+    pub sort: Sort,
+    /// The node in which a name stands. Phandles have one owner, 0.
+    pub owner: NodeId,
+    pub bytes: &'a [u8],
+}
+
+/// Which keys are read.
+#[derive(Clone, Copy, Debug, PartialEq, Eq)]
+pub enum Wanted {
+    Names,
+    Phandles,
+}
+
+// The key that a token gives, where these nodes are open.
+fn key_at<'a>(wanted: Wanted, open_nodes: &OpenNodes, token: Token<'a>) -> Option<Key<'a>>
+    ensures { (place : ℕ) → option_map said result ≡ key_of wanted open_nodes.now (view_at place token) }
+{
+    let (sort, bytes) = match (wanted, token) {
+        (Wanted::Names, Token::BeginNode(name)) => (Sort::Child, name),
+        (Wanted::Names, Token::Property(name, _)) => (Sort::Property, name),
+        (Wanted::Phandles, Token::Property(name, value)) if name == b"phandle".as_slice() => {
+            return Some(Key {
+                sort: Sort::Phandle,
+                owner: 0,
+                bytes: value,
+            });
+        }
+        _ => return None,
+    };
+    let owner = open_nodes.innermost()?;
+    Some(Key { sort, owner, bytes })
+}
+
+/// The keys from a place on, in the order of the tokens. It is seen as the keys that are left.
+#[derive(Drop)]
+pub struct Keys<'a> {
+    wanted: Wanted,
+    cursor: Cursor<'a>,
+    open_nodes: OpenNodes,
+}
+
+impl<'a> Model for Keys<'a> {
+    ghost use Rattle.std.specs.Prelude.{List, length};
+    ghost use Rattle.std.specs.Coded.{coded_list};
+    ghost use Rattle.dt_read.specs.Keys.{Key, AreShallow, coded_key, keys_in};
+
+    ghost Value = { List Key };
+
+    ghost coded = { coded_list coded_key };
+
+    ghost view = { λ k. keys_in k.wanted k.open_nodes k.cursor };
+
+    ghost invariant = { λ k. AreShallow (length k.open_nodes) k.cursor };
+}
+
+impl<'a> Keys<'a> {
+    /// All keys of a tree.
+    pub fn of(structure: &Structure<'a>, wanted: Wanted) -> Keys<'a>
+        ensures { result ≡ keys_of wanted structure.now }
+    {
+        Keys {
+            wanted,
+            cursor: structure.start(),
+            open_nodes: OpenNodes::new(),
+        }
+    }
+}
+
+impl<'a> Iterator for Keys<'a> {
+    type Item = Key<'a>;
+
+    ghost next_gives = { YieldsFirstBy said (λ s. s) };
+
+    ghost remaining = { item_count (λ s. s) };
+
+    fn next(&mut self) -> Option<Key<'a>> {
+        while let Some((place, token)) = self.cursor.next() {
+            let key = key_at(self.wanted, &self.open_nodes, token);
+            match token {
+                Token::BeginNode(_) => self.open_nodes.push(place),
+                Token::EndNode => self.open_nodes.pop(),
+                _ => {}
+            }
+            if key.is_some() {
+                return key;
+            }
+        }
+        None
+    }
+}
