@@ -16,4 +16,7 @@ pub mod Headers
 pub mod Apart
 pub mod Wholes
 pub mod CountLemmas
+pub mod Shallow
 pub mod TableBits
+pub mod KeyCounts
+pub mod Novelty
