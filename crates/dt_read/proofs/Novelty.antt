@@ -1,7 +1,7 @@
 -- Lists in which no two are the same, one element after another.
 use Rattle.std.proofs.Common.{◌↔◌, ◌≡◌, ◌≢◌, ◌⊎◌, ℕ, true, false, zero, suc, ◌+◌, ◌<◌, ◌≤◌, List, [], ◌∷◌, ◌++◌, length, take, drop, Some, refl, sym, ap, subst, ◌∙◌, arith, inl, inr}
 use Rattle.std.specs.Prelude.{IsTrue}
-use Rattle.std.proofs.lemmas.Bool.{false≢true}
+use Rattle.std.proofs.lemmas.Bool.{false≢true, cases_lt}
 use Rattle.std.proofs.lemmas.List.{drop-drop}
 use Rattle.std.proofs.lemmas.Option.{same_Some}
 use Rattle.std.specs.List.{AllByRecursion, slice_get}
@@ -82,3 +82,45 @@ equal_earlier (y ∷ xs) (suc n) x is i d =
 pub distinct_by_place : {X : Type 0} (xs : List X) → ((i : ℕ) (x : X) → slice_get xs i ≡ Some x → AllByRecursion (λ other. other ≢ x) (take i xs)) → AreDistinct xs
 distinct_by_place [] h = tt
 distinct_by_place (x ∷ xs) h = (all_by_place (λ y. y ≢ x) xs (λ i y is e. (h (suc i) y is).0 (sym e)), distinct_by_place xs (λ i y is. (h (suc i) y is).1))
+
+-- ---- elements of a kind that are new at the first places, and held
+
+pub record AreNew {X : Type 0} (Is Held : X → Type 0) (xs : List X) (n : ℕ) : Type 0 where
+  pub held : (i : ℕ) (x : X) → i < n → slice_get xs i ≡ Some x → Is x → Held x
+  pub new : (i : ℕ) (x : X) → i < n → slice_get xs i ≡ Some x → Is x → AllByRecursion (λ other. other ≢ x) (take i xs)
+
+pub none_new : {X : Type 0} (Is Held : X → Type 0) (xs : List X) → AreNew Is Held xs 0
+none_new Is Held xs = record { held = λ i x lt. absurd (omega arith); new = λ i x lt. absurd (omega arith) }
+
+-- one of another kind
+pub new_skip : {X : Type 0} (Is Held : X → Type 0) (xs : List X) (n : ℕ) (x : X) → slice_get xs n ≡ Some x → ¬ Is x → AreNew Is Held xs n → AreNew Is Held xs (n + 1)
+new_skip Is Held xs n x is other so_far =
+    record {
+      held = λ i y lt at kind. elim (cases_lt i n) [ inl lower ↦ so_far.held i y lower at kind | inr here ↦ absurd (here_is i y lt at here kind) ];
+      new = λ i y lt at kind. elim (cases_lt i n) [ inl lower ↦ so_far.new i y lower at kind | inr here ↦ absurd (here_is i y lt at here kind) ];
+    }
+  where
+    here_is : (i : ℕ) (y : _) → i < n + 1 → slice_get xs i ≡ Some y → n ≤ i → ¬ Is y
+    here_is i y lt at here kind =
+        let place : i ≡ n = omega arith in
+        other (subst Is (same_Some y x (sym at ∙ ap (slice_get xs) place ∙ is)) kind)
+
+-- one more, which is new, is put in
+pub new_more : {X : Type 0} (Is Held Kept : X → Type 0) (xs : List X) (n : ℕ) (x : X) → slice_get xs n ≡ Some x →
+    AllByRecursion (λ other. other ≢ x) (take n xs) → Kept x → ((y : X) → Held y → Kept y) → AreNew Is Held xs n → AreNew Is Kept xs (n + 1)
+new_more Is Held Kept xs n x is new put kept so_far =
+    record {
+      held = λ i y lt at kind. elim (cases_lt i n) [ inl lower ↦ kept y (so_far.held i y lower at kind) | inr here ↦ (
+        let place : i ≡ n = omega arith in subst Kept (same_Some x y (sym is ∙ ap (slice_get xs) (sym place) ∙ at)) put
+      ) ];
+      new = λ i y lt at kind. elim (cases_lt i n) [ inl lower ↦ so_far.new i y lower at kind | inr here ↦ (
+        let place : i ≡ n = omega arith in
+        subst (λ k. AllByRecursion (λ other. other ≢ y) (take k xs)) (sym place)
+        (subst (λ z. AllByRecursion (λ other. other ≢ z) (take n xs)) (same_Some x y (sym is ∙ ap (slice_get xs) (sym place) ∙ at)) new)
+      ) ];
+    }
+
+-- what isn't held is new
+pub new_if_not_held : {X : Type 0} (Is Held : X → Type 0) (xs : List X) (n : ℕ) (x : X) → Is x → ¬ Held x → AreNew Is Held xs n → AllByRecursion (λ other. other ≢ x) (take n xs)
+new_if_not_held Is Held xs n x kind free so_far =
+    all_taken (λ other. other ≢ x) xs n (λ i y lt at same. free (subst Held same (so_far.held i y lt at (subst Is (sym same) kind))))
