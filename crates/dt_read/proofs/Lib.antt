@@ -20,3 +20,4 @@ pub mod Shallow
 pub mod TableBits
 pub mod KeyCounts
 pub mod Novelty
+pub mod PhandleKeys
