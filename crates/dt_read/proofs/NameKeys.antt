@@ -88,14 +88,16 @@ sibling_names owner (node place name properties children siblings) d =
     (others siblings (all-back (λ k. k ≢ child_key owner name) (node_keys place children) (node_keys owner siblings) later),
      sibling_names owner siblings (distinct-back (node_keys place children) (node_keys owner siblings) below))
   where
-    others : (nodes : Nodes) → AllByRecursion (λ k. k ≢ child_key owner name) (node_keys owner nodes) → AllByRecursion (λ n. n ≢ name) (head_names (heads_of nodes))
+    others : (nodes : Nodes) → AllByRecursion (λ k. k ≢ child_key owner name) (node_keys owner nodes)
+        → AllByRecursion (λ n. n ≢ name) (head_names (heads_of nodes))
     others no_nodes a = tt
     others (node at other ps inner after) a =
         let below = all-back (λ k. k ≢ child_key owner name) (own_keys at ps) (node_keys at inner ++ node_keys owner after) a.1 in
         (λ e. a.0 (λ i. record { sort = sorts.Child; owner = owner; bytes = e i }),
          others after (all-back (λ k. k ≢ child_key owner name) (node_keys at inner) (node_keys owner after) below))
 
-names_below : (owner : ℕ) (nodes : Nodes) → AreDistinct (node_keys owner nodes) → (place : ℕ) (parts : Parts) → HasBelow nodes place parts → AreDistinctParts parts
+names_below : (owner : ℕ) (nodes : Nodes) → AreDistinct (node_keys owner nodes)
+    → (place : ℕ) (parts : Parts) → HasBelow nodes place parts → AreDistinctParts parts
 names_below owner no_nodes d place parts h = absurd h
 names_below owner (node other name properties children siblings) d place parts h =
     let own = distinct-front (own_keys other properties) (node_keys other children ++ node_keys owner siblings) d.1 in
@@ -110,12 +112,14 @@ names_below owner (node other name properties children siblings) d place parts h
       ]
     ]
 
-names_from_keys : (tree : Root) → AreDistinct (own_keys tree.place tree.properties ++ node_keys tree.place tree.children) → HasDistinctNames tree
+names_from_keys : (tree : Root) → AreDistinct (own_keys tree.place tree.properties ++ node_keys tree.place tree.children)
+    → HasDistinctNames tree
 names_from_keys tree d place parts e =
     let own = distinct-front (own_keys tree.place tree.properties) (node_keys tree.place tree.children) d in
     let below = distinct-back (own_keys tree.place tree.properties) (node_keys tree.place tree.children) d in
     elim (chosen (eqb tree.place place) _ _ _ e) [
-      | inl root ↦ subst AreDistinctParts (same_Some _ parts root.1) (record { properties = own_names tree.place tree.properties own; children = sibling_names tree.place tree.children below })
+      | inl root ↦ subst AreDistinctParts (same_Some _ parts root.1)
+          (record { properties = own_names tree.place tree.properties own; children = sibling_names tree.place tree.children below })
       | inr further ↦ names_below tree.place tree.children below place parts (found_below place tree.children parts further.1)
     ]
 
@@ -150,32 +154,38 @@ below_are owner (node place name properties children siblings) low high r =
     let first = r.0 in
     let c = rise_bounds children (place + 1) r.1 r.2 in
     let s = rise_bounds siblings r.1 high r.3 in
-    let own = all_so (IsOwn place) (IsBelow owner low high) (own_keys place properties) (λ k is. (let o = is.0 in inr (omega arith, omega arith))) (own_are place properties) in
+    let own = all_so (IsOwn place) (IsBelow owner low high) (own_keys place properties)
+        (λ k is. (let o = is.0 in inr (omega arith, omega arith))) (own_are place properties) in
     let inner = all_so (IsBelow place (place + 1) r.1) (IsBelow owner low high) (node_keys place children)
         (λ k is. elim is [ inl child ↦ (let o = child.0 in inr (omega arith, omega arith)) | inr between ↦ inr (omega arith, omega arith) ])
         (below_are place children (place + 1) r.1 r.2) in
     let later = all_so (IsBelow owner r.1 high) (IsBelow owner low high) (node_keys owner siblings)
         (λ k is. elim is [ inl child ↦ inl child | inr between ↦ inr (omega arith, omega arith) ])
         (below_are owner siblings r.1 high r.3) in
-    (inl (refl, refl), all-append (IsBelow owner low high) (own_keys place properties) (node_keys place children ++ node_keys owner siblings) own
-        (all-append (IsBelow owner low high) (node_keys place children) (node_keys owner siblings) inner later))
+    (inl (refl, refl),
+     all-append (IsBelow owner low high) (own_keys place properties) (node_keys place children ++ node_keys owner siblings) own
+     (all-append (IsBelow owner low high) (node_keys place children) (node_keys owner siblings) inner later))
 
 own_apart : (owner : ℕ) (properties : List Property) → AreDistinct (property_names properties) → AreDistinct (own_keys owner properties)
 own_apart owner [] d = tt
 own_apart owner (p ∷ properties) d = (others properties d.0, own_apart owner properties d.1)
   where
-    others : (ps : List Property) → AllByRecursion (λ n. n ≢ p.name) (property_names ps) → AllByRecursion (λ k. k ≢ property_key owner p) (own_keys owner ps)
+    others : (ps : List Property) → AllByRecursion (λ n. n ≢ p.name) (property_names ps)
+        → AllByRecursion (λ k. k ≢ property_key owner p) (own_keys owner ps)
     others [] a = tt
     others (q ∷ ps) a = (λ e. a.0 (ap (λ (k : Key). k.bytes) e), others ps a.1)
 
 -- a child's key differs from those of what is below the child
-beside : (owner : ℕ) (name : Name) (place : ℕ) (properties : List Property) (children siblings : Nodes) (middle : ℕ) → owner < place → Rise (place + 1) children middle
+beside : (owner : ℕ) (name : Name) (place : ℕ) (properties : List Property) (children siblings : Nodes) (middle : ℕ)
+    → owner < place → Rise (place + 1) children middle
     → AllByRecursion (λ k. k ≢ child_key owner name) (node_keys owner siblings)
     → AllByRecursion (λ k. k ≢ child_key owner name) (own_keys place properties ++ (node_keys place children ++ node_keys owner siblings))
 beside owner name place properties children siblings middle lt r later =
     let other = λ (k : Key). k ≢ child_key owner name in
-    let own = all_so (IsOwn place) other (own_keys place properties) (λ k is. differ k (child_key owner name) (λ o s. omega arith)) (own_are place properties) in
-    let below = all_so (IsBelow place (place + 1) middle) other (node_keys place children) (λ k is. differ k (child_key owner name) (λ o s. omega arith)) (below_are place children (place + 1) middle r) in
+    let own = all_so (IsOwn place) other (own_keys place properties)
+        (λ k is. differ k (child_key owner name) (λ o s. omega arith)) (own_are place properties) in
+    let below = all_so (IsBelow place (place + 1) middle) other (node_keys place children)
+        (λ k is. differ k (child_key owner name) (λ o s. omega arith)) (below_are place children (place + 1) middle r) in
     all-append other (own_keys place properties) (node_keys place children ++ node_keys owner siblings) own
     (all-append other (node_keys place children) (node_keys owner siblings) below later)
 
@@ -186,7 +196,8 @@ first_apart owner name no_nodes low high r lt a = tt
 first_apart owner name (node place other properties children siblings) low high r lt a =
     let first = r.0 in
     let c = rise_bounds children (place + 1) r.1 r.2 in
-    (λ e. a.0 (ap (λ (k : Key). k.bytes) e), beside owner name place properties children siblings r.1 (omega arith) r.2 (first_apart owner name siblings r.1 high r.3 (omega arith) a.1))
+    (λ e. a.0 (ap (λ (k : Key). k.bytes) e),
+     beside owner name place properties children siblings r.1 (omega arith) r.2 (first_apart owner name siblings r.1 high r.3 (omega arith) a.1))
 
 keys_apart : (owner : ℕ) (nodes : Nodes) (low high : ℕ) → Rise low nodes high → owner < low → AreDistinct (head_names (heads_of nodes))
     → ((place : ℕ) (parts : Parts) → HasBelow nodes place parts → AreDistinctParts parts) → AreDistinct (node_keys owner nodes)
@@ -200,21 +211,29 @@ keys_apart owner (node place name properties children siblings) low high r lt d 
     let later = below_are owner siblings r.1 high r.3 in
     let inner = keys_apart place children (place + 1) r.1 r.2 (omega arith) parts.children (λ k p b. h k p (inr (inl b))) in
     let after = keys_apart owner siblings r.1 high r.3 (omega arith) d.1 (λ k p b. h k p (inr (inr b))) in
-    let from_inner = apart_by (IsOwn place) (IsBelow place (place + 1) r.1) (own_keys place properties) (node_keys place children) (λ x y p q. differ y x (λ o s. omega arith)) own below in
-    let from_after = apart_by (IsOwn place) (IsBelow owner r.1 high) (own_keys place properties) (node_keys owner siblings) (λ x y p q. differ y x (λ o s. omega arith)) own later in
-    let within = apart_by (IsBelow place (place + 1) r.1) (IsBelow owner r.1 high) (node_keys place children) (node_keys owner siblings) (λ x y p q. differ y x (λ o s. omega arith)) below later in
+    let from_inner = apart_by (IsOwn place) (IsBelow place (place + 1) r.1) (own_keys place properties) (node_keys place children)
+        (λ x y p q. differ y x (λ o s. omega arith)) own below in
+    let from_after = apart_by (IsOwn place) (IsBelow owner r.1 high) (own_keys place properties) (node_keys owner siblings)
+        (λ x y p q. differ y x (λ o s. omega arith)) own later in
+    let within = apart_by (IsBelow place (place + 1) r.1) (IsBelow owner r.1 high) (node_keys place children) (node_keys owner siblings)
+        (λ x y p q. differ y x (λ o s. omega arith)) below later in
     (beside owner name place properties children siblings r.1 (omega arith) r.2 (first_apart owner name siblings r.1 high r.3 (omega arith) d.0),
      distinct-append (own_keys place properties) (node_keys place children ++ node_keys owner siblings) (own_apart place properties parts.properties)
      (distinct-append (node_keys place children) (node_keys owner siblings) inner after within)
      (apart-right (own_keys place properties) (node_keys place children) (node_keys owner siblings) from_inner from_after))
 
-keys_from_names : (tree : Root) → HasRisingPlaces tree → HasDistinctNames tree → AreDistinct (own_keys tree.place tree.properties ++ node_keys tree.place tree.children)
+keys_from_names : (tree : Root) → HasRisingPlaces tree → HasDistinctNames tree
+    → AreDistinct (own_keys tree.place tree.properties ++ node_keys tree.place tree.children)
 keys_from_names tree rising h =
     let parts = h tree.place (record { name = []; properties = tree.properties; children = tree.children }) (root_is_node tree) in
-    let below = keys_apart tree.place tree.children (tree.place + 1) rising.high rising.rise (omega arith) parts.children (λ k p b. h k p (below_is_node tree k p rising b)) in
-    let apart = apart_by (IsOwn tree.place) (IsBelow tree.place (tree.place + 1) rising.high) (own_keys tree.place tree.properties) (node_keys tree.place tree.children)
-        (λ x y p q. differ y x (λ o s. omega arith)) (own_are tree.place tree.properties) (below_are tree.place tree.children (tree.place + 1) rising.high rising.rise) in
-    distinct-append (own_keys tree.place tree.properties) (node_keys tree.place tree.children) (own_apart tree.place tree.properties parts.properties) below apart
+    let below = keys_apart tree.place tree.children (tree.place + 1) rising.high rising.rise (omega arith) parts.children
+        (λ k p b. h k p (below_is_node tree k p rising b)) in
+    let own = own_are tree.place tree.properties in
+    let later = below_are tree.place tree.children (tree.place + 1) rising.high rising.rise in
+    let apart = apart_by (IsOwn tree.place) (IsBelow tree.place (tree.place + 1) rising.high) (own_keys tree.place tree.properties)
+        (node_keys tree.place tree.children) (λ x y p q. differ y x (λ o s. omega arith)) own later in
+    distinct-append (own_keys tree.place tree.properties) (node_keys tree.place tree.children)
+    (own_apart tree.place tree.properties parts.properties) below apart
 
 pub names_differ : (tree : Root) → HasRisingPlaces tree → AreDistinct (keys_of Names tree) ↔ HasDistinctNames tree
 names_differ tree rising =
