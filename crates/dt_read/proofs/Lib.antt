@@ -17,3 +17,4 @@ pub mod Apart
 pub mod Wholes
 pub mod CountLemmas
 pub mod Shallow
+pub mod NameKeys

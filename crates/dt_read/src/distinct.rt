@@ -1,6 +1,7 @@
 //! Keys that differ, found with no memory: a table of bits tells most keys that are new, and an exact walk the others.
 
-ghost use Rattle.std.specs.Prelude.{◌≡◌, ◌↔◌, ◌<◌, ◌^◌, ◌%◌, ℕ, Some, IsTrue, OnTrue, OnFalse, length, take};
+ghost use Rattle.std.specs.Prelude.{◌≡◌, ◌↔◌, ◌<◌, ◌^◌, ◌%◌, ℕ, Some, IsTrue, length, take};
+ghost use Rattle.std.specs.Bool.{OnTrue, OnFalse};
 ghost use Rattle.std.specs.List.{IsMember, slice_get};
 ghost use Rattle.dt_model.specs.Valid.{AreDistinct};
 ghost use Rattle.dt_read.specs.Order.{HasRisingPlaces};
