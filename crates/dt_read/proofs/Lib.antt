@@ -21,3 +21,4 @@ pub mod TableBits
 pub mod KeyCounts
 pub mod Novelty
 pub mod PhandleKeys
+pub mod NameKeys
