@@ -1,5 +1,6 @@
 -- Lists in which no two are the same, one element after another.
-use Rattle.std.proofs.Common.{◌↔◌, ◌≡◌, ◌≢◌, ◌⊎◌, ℕ, true, false, zero, suc, ◌+◌, ◌<◌, ◌≤◌, List, [], ◌∷◌, ◌++◌, length, take, drop, Some, refl, sym, ap, subst, ◌∙◌, arith, inl, inr}
+use Rattle.std.proofs.Common.{◌↔◌, ◌≡◌, ◌≢◌, ℕ, true, false, zero, suc, ◌+◌, ◌<◌, ◌≤◌, arith, inl, inr}
+use Rattle.std.proofs.Common.{List, [], ◌∷◌, take, drop, Some, refl, sym, ap, subst, ◌∙◌}
 use Rattle.std.specs.Prelude.{IsTrue}
 use Rattle.std.proofs.lemmas.Bool.{false≢true, cases_lt}
 use Rattle.std.proofs.lemmas.List.{drop-drop}
@@ -15,17 +16,14 @@ pub not_in : {X : Type 0} (x : X) (ys : List X) → ¬ IsIn x ys → AllByRecurs
 not_in x [] h = tt
 not_in x (y ∷ ys) h = (λ e. h (inl (sym e)), not_in x ys (λ i. h (inr i)))
 
--- what differs from each is no element
-pub none_in : {X : Type 0} (x : X) (ys : List X) → AllByRecursion (λ y. y ≢ x) ys → ¬ IsIn x ys
-none_in x [] a i = i
-none_in x (y ∷ ys) a i = elim i [ inl e ↦ a.0 (sym e) | inr i ↦ none_in x ys a.1 i ]
-
 -- ---- a walk over the first elements: what is left decides as the whole does
 
-pub among_here : {X : Type 0} (x y : X) (all rest : List X) (j : ℕ) (whole : Type 0) → all ≡ y ∷ rest → x ≡ y → (IsIn x (take (suc j) all) ↔ whole) → (IsTrue true ↔ whole)
+pub among_here : {X : Type 0} (x y : X) (all rest : List X) (j : ℕ) (whole : Type 0) → all ≡ y ∷ rest → x ≡ y
+    → (IsIn x (take (suc j) all) ↔ whole) → (IsTrue true ↔ whole)
 among_here x y all rest j whole e same so_far = (λ t. so_far.0 (subst (λ (l : List _). IsIn x (take (suc j) l)) (sym e) (inl same)), λ w. refl)
 
-pub among_further : {X : Type 0} (x y : X) (all rest : List X) (j : ℕ) (whole : Type 0) → all ≡ y ∷ rest → ¬ (x ≡ y) → (IsIn x (take (suc j) all) ↔ whole) → (IsIn x (take j rest) ↔ whole)
+pub among_further : {X : Type 0} (x y : X) (all rest : List X) (j : ℕ) (whole : Type 0) → all ≡ y ∷ rest → ¬ (x ≡ y)
+    → (IsIn x (take (suc j) all) ↔ whole) → (IsIn x (take j rest) ↔ whole)
 among_further x y all rest j whole e other so_far = (
   λ i. so_far.0 (subst (λ (l : List _). IsIn x (take (suc j) l)) (sym e) (inr i)),
   λ w. elim (subst (λ (l : List _). IsIn x (take (suc j) l)) e (so_far.1 w)) [ inl same ↦ absurd (other same) | inr i ↦ i ],
@@ -41,7 +39,8 @@ among_end x all whole so_far = (λ t. absurd (false≢true t), λ w. absurd (so_
 -- ---- places
 
 -- what holds at each of the first places
-pub all_taken : {X : Type 0} (P : X → Type 0) (xs : List X) (n : ℕ) → ((i : ℕ) (x : X) → i < n → slice_get xs i ≡ Some x → P x) → AllByRecursion P (take n xs)
+pub all_taken : {X : Type 0} (P : X → Type 0) (xs : List X) (n : ℕ)
+    → ((i : ℕ) (x : X) → i < n → slice_get xs i ≡ Some x → P x) → AllByRecursion P (take n xs)
 all_taken P xs zero h = tt
 all_taken P [] (suc n) h = tt
 all_taken P (x ∷ xs) (suc n) h = (h 0 x (omega arith) refl, all_taken P xs n (λ i y lt is. h (suc i) y (omega arith) is))
@@ -67,7 +66,7 @@ drop_next xs n x rest e = sym (drop-drop 1 n xs) ∙ ap (drop 1) e
 
 -- ---- lists whose elements differ
 
--- An element that is among the earlier ones
+-- an element that is equal to an earlier one
 pub equal_earlier : {X : Type 0} (xs : List X) (n : ℕ) (x : X) → slice_get xs n ≡ Some x → IsIn x (take n xs) → ¬ AreDistinct xs
 equal_earlier [] zero x is i d = i
 equal_earlier [] (suc n) x is i d = i
@@ -79,9 +78,11 @@ equal_earlier (y ∷ xs) (suc n) x is i d =
     ]
 
 -- each element is new at its place
-pub distinct_by_place : {X : Type 0} (xs : List X) → ((i : ℕ) (x : X) → slice_get xs i ≡ Some x → AllByRecursion (λ other. other ≢ x) (take i xs)) → AreDistinct xs
+pub distinct_by_place : {X : Type 0} (xs : List X)
+    → ((i : ℕ) (x : X) → slice_get xs i ≡ Some x → AllByRecursion (λ other. other ≢ x) (take i xs)) → AreDistinct xs
 distinct_by_place [] h = tt
-distinct_by_place (x ∷ xs) h = (all_by_place (λ y. y ≢ x) xs (λ i y is e. (h (suc i) y is).0 (sym e)), distinct_by_place xs (λ i y is. (h (suc i) y is).1))
+distinct_by_place (x ∷ xs) h =
+    (all_by_place (λ y. y ≢ x) xs (λ i y is e. (h (suc i) y is).0 (sym e)), distinct_by_place xs (λ i y is. (h (suc i) y is).1))
 
 -- ---- elements of a kind that are new at the first places, and held
 
@@ -89,11 +90,9 @@ pub record AreNew {X : Type 0} (Is Held : X → Type 0) (xs : List X) (n : ℕ) 
   pub held : (i : ℕ) (x : X) → i < n → slice_get xs i ≡ Some x → Is x → Held x
   pub new : (i : ℕ) (x : X) → i < n → slice_get xs i ≡ Some x → Is x → AllByRecursion (λ other. other ≢ x) (take i xs)
 
-pub none_new : {X : Type 0} (Is Held : X → Type 0) (xs : List X) → AreNew Is Held xs 0
-none_new Is Held xs = record { held = λ i x lt. absurd (omega arith); new = λ i x lt. absurd (omega arith) }
-
 -- one of another kind
-pub new_skip : {X : Type 0} (Is Held : X → Type 0) (xs : List X) (n : ℕ) (x : X) → slice_get xs n ≡ Some x → ¬ Is x → AreNew Is Held xs n → AreNew Is Held xs (n + 1)
+pub new_skip : {X : Type 0} (Is Held : X → Type 0) (xs : List X) (n : ℕ) (x : X) → slice_get xs n ≡ Some x → ¬ Is x
+    → AreNew Is Held xs n → AreNew Is Held xs (n + 1)
 new_skip Is Held xs n x is other so_far =
     record {
       held = λ i y lt at kind. elim (cases_lt i n) [ inl lower ↦ so_far.held i y lower at kind | inr here ↦ absurd (here_is i y lt at here kind) ];
@@ -106,21 +105,28 @@ new_skip Is Held xs n x is other so_far =
         other (subst Is (same_Some y x (sym at ∙ ap (slice_get xs) place ∙ is)) kind)
 
 -- one more, which is new, is put in
-pub new_more : {X : Type 0} (Is Held Kept : X → Type 0) (xs : List X) (n : ℕ) (x : X) → slice_get xs n ≡ Some x →
-    AllByRecursion (λ other. other ≢ x) (take n xs) → Kept x → ((y : X) → Held y → Kept y) → AreNew Is Held xs n → AreNew Is Kept xs (n + 1)
+pub new_more : {X : Type 0} (Is Held Kept : X → Type 0) (xs : List X) (n : ℕ) (x : X) → slice_get xs n ≡ Some x
+    → AllByRecursion (λ other. other ≢ x) (take n xs) → Kept x → ((y : X) → Held y → Kept y) → AreNew Is Held xs n → AreNew Is Kept xs (n + 1)
 new_more Is Held Kept xs n x is new put kept so_far =
     record {
-      held = λ i y lt at kind. elim (cases_lt i n) [ inl lower ↦ kept y (so_far.held i y lower at kind) | inr here ↦ (
-        let place : i ≡ n = omega arith in subst Kept (same_Some x y (sym is ∙ ap (slice_get xs) (sym place) ∙ at)) put
-      ) ];
-      new = λ i y lt at kind. elim (cases_lt i n) [ inl lower ↦ so_far.new i y lower at kind | inr here ↦ (
-        let place : i ≡ n = omega arith in
-        subst (λ k. AllByRecursion (λ other. other ≢ y) (take k xs)) (sym place)
-        (subst (λ z. AllByRecursion (λ other. other ≢ z) (take n xs)) (same_Some x y (sym is ∙ ap (slice_get xs) (sym place) ∙ at)) new)
-      ) ];
+      held = λ i y lt at kind. elim (cases_lt i n) [
+        | inl lower ↦ kept y (so_far.held i y lower at kind)
+        | inr here ↦ (
+            let place : i ≡ n = omega arith in subst Kept (same_Some x y (sym is ∙ ap (slice_get xs) (sym place) ∙ at)) put
+            )
+      ];
+      new = λ i y lt at kind. elim (cases_lt i n) [
+        | inl lower ↦ so_far.new i y lower at kind
+        | inr here ↦ (
+            let place : i ≡ n = omega arith in
+            subst (λ k. AllByRecursion (λ other. other ≢ y) (take k xs)) (sym place)
+            (subst (λ z. AllByRecursion (λ other. other ≢ z) (take n xs)) (same_Some x y (sym is ∙ ap (slice_get xs) (sym place) ∙ at)) new)
+            )
+      ];
     }
 
 -- what isn't held is new
-pub new_if_not_held : {X : Type 0} (Is Held : X → Type 0) (xs : List X) (n : ℕ) (x : X) → Is x → ¬ Held x → AreNew Is Held xs n → AllByRecursion (λ other. other ≢ x) (take n xs)
+pub new_if_not_held : {X : Type 0} (Is Held : X → Type 0) (xs : List X) (n : ℕ) (x : X) → Is x → ¬ Held x → AreNew Is Held xs n
+    → AllByRecursion (λ other. other ≢ x) (take n xs)
 new_if_not_held Is Held xs n x kind free so_far =
     all_taken (λ other. other ≢ x) xs n (λ i y lt at same. free (subst Held same (so_far.held i y lt at (subst Is (sym same) kind))))

@@ -29,6 +29,7 @@ fn hashed(key: &Key) -> u64
     hasher.finish()
 }
 
+// Whether two keys are one, wherever they lie in memory.
 fn same(a: &Key, b: &Key) -> bool
     ensures { IsTrue result ↔ said a.now ≡ said b.now }
 {

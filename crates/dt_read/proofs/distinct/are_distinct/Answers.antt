@@ -1,7 +1,7 @@
-use Rattle.std.proofs.Common.{◌≡◌, ◌+◌, ◌/◌, ◌%◌, ◌<◌, ℕ, Some, refl, arith}
+use Rattle.std.proofs.Common.{◌≡◌, ℕ, Some, refl, arith}
 use Rattle.std.specs.List.{slice_get}
 use Rattle.dt_read.specs.Keys.{Key, keys_of}
-use Rattle.dt_read.specs.Classes.{hash_of, IsNewIn}
+use Rattle.dt_read.specs.Classes.{IsNewIn}
 use Rattle.dt_read.proofs.Novelty.{distinct_by_place}
 use Rattle.dt_read.proofs.distinct.are_distinct.Goals as goal
 

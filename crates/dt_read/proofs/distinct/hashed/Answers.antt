@@ -1,8 +1,8 @@
-use Rattle.std.proofs.Common.{◌≡◌, ℕ, ◌∷◌, ◌++◌, refl, ap, ◌∙◌}
+use Rattle.std.proofs.Common.{◌≡◌, ℕ, ◌++◌, refl, ap, ◌∙◌}
 use Rattle.std.specs.Hash as fed
 use Rattle.std.specs.Hash.DefaultHasher as sip
 use Rattle.std.specs.List.{fold}
-use Rattle.dt_read.specs.Keys.{said, number_of}
+use Rattle.dt_read.specs.Keys.{number_of}
 use Rattle.dt_read.specs.Classes.{hash_of}
 use Rattle.dt_read.specs.declared.keys.Sort.{Sort}
 use Rattle.dt_read.specs.declared.keys.Sort.TheVariants.{Child, Property, Phandle}

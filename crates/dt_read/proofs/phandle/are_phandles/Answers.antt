@@ -3,19 +3,20 @@ use Rattle.std.proofs.lemmas.Bool.{false≢true}
 use Rattle.std.specs.List.{AllByRecursion}
 use Rattle.dt_model.specs.Valid.{IsPhandle}
 use Rattle.dt_read.specs.Keys.{Key}
-use Rattle.dt_read.proofs.PhandleKeys.{AreRight, right_keys}
+use Rattle.dt_read.proofs.PhandleKeys.{right_keys}
 use Rattle.dt_read.proofs.phandle.are_phandles.Goals as goal
 
 pub returns-then-not-is_phandle : goal.returns-then-not-is_phandle
 returns-then-not-is_phandle c =
-    let right = right_keys c.args.structure.now in
-    (λ t. absurd (false≢true t), λ a. c.if-not-is_phandle.ensures.1
-      (subst (λ (keys : List Key). AllByRecursion (λ k. IsPhandle k.bytes) keys) c.in-Some.ensures.steps (c.loop-key.invariant.2.1 (right.1 a).each)).0)
+    let right = right_keys c.args.structure.now in (
+      λ t. absurd (false≢true t),
+      λ a. c.if-not-is_phandle.ensures.1
+          (subst (λ (keys : List Key). AllByRecursion (λ k. IsPhandle k.bytes) keys) c.in-Some.ensures.steps (c.loop-key.invariant.2.1 (right.1 a).each)).0,
+    )
 
 pub returns : goal.returns
 returns c =
-    let right = right_keys c.args.structure.now in
-    (
+    let right = right_keys c.args.structure.now in (
       λ t. right.0 (record {
         each = c.loop-key.invariant.2.0 (subst (λ (keys : List Key). AllByRecursion (λ k. IsPhandle k.bytes) keys) (sym c.in-None.ensures.steps.0) tt);
         distinct = c.are_distinct.ensures.0 t;
