@@ -10,3 +10,5 @@ mod lists;
 mod premises;
 mod samples;
 mod sources;
+
+pub use blobs::blob_has_no_fault;

@@ -15,6 +15,7 @@ mod words;
 
 use dt_flat::FlatTree;
 use dt_names::Fault;
+pub use laws::written_reads;
 use std::alloc::Global;
 
 /// The blob of a tree: header, reservations, structure, strings, nothing between them (Devicetree Specification v0.4,
