@@ -1,5 +1,5 @@
 -- What the words of a command line ask for, as clap reads them.
-use Rattle.std.specs.Prelude.{◌≡◌, ◌≢◌, ◌⊎◌, [], List, Option, Some, true, false, codes}
+use Rattle.std.specs.Prelude.{◌≡◌, ◌≢◌, ◌⊎◌, [], List, Bool, Option, Some, true, false, codes}
 use Rattle.std.specs.IoError.{error_kind}
 use Rattle.std.specs.declared.io.Error as io
 use Rattle.std.specs.declared.io.ErrorKind.TheVariants as kind
@@ -8,7 +8,7 @@ use Rattle.clap.specs.declared.builder.action.ArgAction.TheVariants.{SetTrue}
 use Rattle.clap.specs.declared.error.kind.ErrorKind.TheVariants.{MissingSubcommand, OutOfMemory}
 use Rattle.clap.specs.declared.error.Error.{Error}
 use Rattle.dtool.specs.declared.job.Job.{Job}
-use Rattle.dtool.specs.declared.job.Job.TheVariants.{Compile}
+use Rattle.dtool.specs.declared.job.Job.TheVariants.{Compile, Check}
 use Rattle.dtool.specs.declared.words.Line.{Line}
 use Rattle.dtool.specs.declared.words.LineFault.{LineFault}
 use Rattle.dtool.specs.declared.words.LineFault.TheVariants.{Memory, Unread, Words}
@@ -25,23 +25,33 @@ file_word = record (new_rule (codes "FILE")) { required = true }
 abbrev pub compile_command : App
 compile_command = with_rule (with_rule (new_app (codes "compile")) hex_flag) file_word
 
+-- `check FILE`
+abbrev pub check_command : App
+check_command = with_rule (new_app (codes "check")) file_word
+
 -- `dtool`, with one of its commands
 abbrev pub dtool : App
 dtool =
     let bare = new_app (codes "dtool") in
-    with_subcommand (record bare { top = record bare.top { subcommand_required = true } }) compile_command.top
+    with_subcommand (with_subcommand (record bare { top = record bare.top { subcommand_required = true } }) compile_command.top) check_command.top
 
 -- a job's command
 abbrev pub command_of : Job → Text
 command_of Compile = codes "compile"
+command_of Check = codes "check"
+
+-- the flag `--hex` is there or not, as the line says; a job that writes no blob has none
+abbrev pub IsHex : Job → List Row → Bool → Type 0
+IsHex Compile rows hex =
+    (one_of (codes "hex") rows ≡ Some (codes "true") → hex ≡ true) × (one_of (codes "hex") rows ≡ Some (codes "false") → hex ≡ false)
+IsHex Check rows hex = hex ≡ false
 
 -- a command that was found is the job's, with the file, and with the flag or without
 pub record Names (found : Option (Text × List Row)) (line : Line) : Type 0 where
   pub rows : List Row
   pub command : found ≡ Some (command_of line.job, rows)
   pub file : first_of (codes "FILE") rows ≡ Some line.file.now
-  pub hex : one_of (codes "hex") rows ≡ Some (codes "true") → line.hex ≡ true
-  pub bytes : one_of (codes "hex") rows ≡ Some (codes "false") → line.hex ≡ false
+  pub hex : IsHex line.job rows line.hex
 
 -- it is no job's, or has no file
 abbrev pub NamesNone : Option (Text × List Row) → Type 0

@@ -1,11 +1,12 @@
 //! What the tool does with its inputs.
 
-ghost use Rattle.std.specs.Prelude.{◌≡◌, List, ℕ, length, map, OnOk, IfOk, IfErr, MatchResult};
+ghost use Rattle.std.specs.Prelude.{◌≡◌, ◌∷◌, [], List, ℕ, length, map, OnOk, IfErr};
 ghost use Rattle.std.specs.Io.KnownBytes.{Appends};
-ghost use Rattle.dtool.specs.Job.{IsAsked, IsMade, WhyNotMade, WhyNotPerformed, WhyNotShown, printed};
+ghost use Rattle.dtool.specs.Job.{IsAsked, IsWritten, WhyNotPerformed};
 
-use dt_chain::compile;
-use dt_names::{Fault, Sink, put_all};
+use crate::checking::check;
+use crate::compiling::compile;
+use dt_names::{Fault, Sink};
 use std::alloc::Global;
 
 /// What the tool can be asked for.
@@ -13,10 +14,12 @@ use std::alloc::Global;
 pub enum Job {
     /// A blob of one devicetree source.
     Compile,
+    /// A line that tells how many nodes, properties and reservations a blob has.
+    Check,
 }
 
 /// Does a job on its inputs, and writes what it makes: a blob as bytes, or with `hex` as lower-case hexadecimal and a
-/// line feed.
+/// line feed; or a line of text, whatever `hex`.
 ///
 /// # Errors
 ///
@@ -30,44 +33,28 @@ pub fn perform<S: Sink>(
     out: &mut S,
 ) -> Result<(), (usize, Fault)>
     requires { IsAsked job (length inputs.now) }
-    ensures written { OnOk result ((blob : List ℕ) × IsMade job (map (λ input. input.now) inputs.now) blob
-        × Appends (S.contents out.old) (S.contents out.new) (printed hex blob)) }
+    ensures written { OnOk result ((bytes : List ℕ) × IsWritten job hex (map (λ input. input.now) inputs.now) bytes
+        × Appends (S.contents out.old) (S.contents out.new) bytes) }
     ensures sound { OnOk result (S.has_failed out.new ≡ S.has_failed out.old) }
     ensures refused { IfErr result (λ e. (e.0 ≡ 0) × WhyNotPerformed e.1.kind e.1.at job hex (map (λ input. input.now) inputs.now)
         (S.contents out.old) (S.contents out.new) (S.has_failed out.old) (S.has_failed out.new)) }
 {
-    let blob = make(alloc, job, inputs)?;
-    match show(alloc, hex, blob.as_slice(), out) {
+    match run(alloc, job, hex, inputs[0], out) {
         Ok(()) => Ok(()),
         Err(fault) => Err((0, fault)),
     }
 }
 
-/// The blob that a job makes of its inputs.
-fn make(alloc: Global, job: Job, inputs: &[&[u8]]) -> Result<Vec<u8>, (usize, Fault)>
-    requires { IsAsked job (length inputs.now) }
-    ensures made { IfOk result (λ blob. IsMade job (map (λ input. input.now) inputs.now) blob.items) }
-    ensures refused { IfErr result (λ e. (e.0 ≡ 0) × WhyNotMade e.1.kind e.1.at job (map (λ input. input.now) inputs.now)) }
-{
-    match job {
-        Job::Compile => match compile(alloc, inputs[0]) {
-            Ok(blob) => Ok(blob),
-            Err(fault) => Err((0, fault)),
-        },
-    }
-}
-
-/// Writes a blob as bytes, or as hexadecimal and a line feed.
-fn show<S: Sink>(alloc: Global, hex: bool, blob: &[u8], out: &mut S) -> Result<(), Fault>
-    ensures written { OnOk result (Appends (S.contents out.old) (S.contents out.new) (printed hex blob.now)) }
+/// Does a job on its one input.
+fn run<S: Sink>(alloc: Global, job: Job, hex: bool, input: &[u8], out: &mut S) -> Result<(), Fault>
+    ensures written { OnOk result ((bytes : List ℕ) × IsWritten job hex (input.now ∷ []) bytes
+        × Appends (S.contents out.old) (S.contents out.new) bytes) }
     ensures sound { OnOk result (S.has_failed out.new ≡ S.has_failed out.old) }
-    ensures refused { IfErr result (λ fault. WhyNotShown fault.kind (printed hex blob.now)
+    ensures refused { IfErr result (λ fault. WhyNotPerformed fault.kind fault.at job hex (input.now ∷ [])
         (S.contents out.old) (S.contents out.new) (S.has_failed out.old) (S.has_failed out.new)) }
 {
-    if !hex {
-        return put_all(out, blob);
+    match job {
+        Job::Compile => compile(alloc, hex, input, out),
+        Job::Check => check(input, out),
     }
-    let mut text = hex::encode(alloc, blob)?;
-    text.push('\n')?;
-    put_all(out, text.as_bytes())
 }

@@ -1,4 +1,5 @@
-//! `dtool`, a tool for devicetrees: `dtool compile [--hex] FILE` makes a blob of a devicetree source.
+//! `dtool`, a tool for devicetrees: `dtool compile [--hex] FILE` makes a blob of a devicetree source, and
+//! `dtool check FILE` checks a blob and counts what it holds.
 //!
 //! The word `stdin` in place of a file is standard input. The exit status is 0, 1 at a fault of an input, which is told
 //! on standard error, or 2 where the words of the command line aren't a command.
@@ -8,11 +9,14 @@ ghost use Rattle.std.specs.Prelude.{◌≡◌};
 ghost use Rattle.dtool.specs.Refused.{Passes};
 ghost use Rattle.dtool.specs.declared.Refusal.TheVariants.{Input};
 
+mod checking;
+mod compiling;
 mod files;
 mod job;
 mod report;
 #[cfg(test)]
 mod tests;
+mod text;
 mod words;
 
 use crate::files::load;

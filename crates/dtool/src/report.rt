@@ -6,7 +6,8 @@ ghost use Rattle.dt_names.specs.declared.fault.FaultKind.TheVariants.{WriteFault
 ghost use Rattle.dtool.specs.Report.{fault_line, joined};
 ghost use Rattle.dtool.specs.Written.{IsCutShort};
 
-use dt_names::{Fault, Sink, put_all};
+use crate::text::put_pieces;
+use dt_names::{Fault, Sink};
 use itoa::Buffer;
 
 /// Tells a fault of an input, counted from 0, in a line of its own: `dtool: input K: fault N Name`, and ` at P` where
@@ -62,16 +63,4 @@ fn pieces<'a>(
         place,
         "\n",
     ]
-}
-
-/// Gives a sink all of some texts, one behind the other.
-fn put_pieces<S: Sink>(sink: &mut S, pieces: &[&str]) -> Result<(), Fault>
-    ensures ok { OnOk result (Appends (S.contents sink.old) (S.contents sink.new) (joined pieces.now)) }
-    ensures err { IfErr result (λ failure. (failure.kind ≡ WriteFault) × (failure.at ≡ None)
-        × IsCutShort (joined pieces.now) (S.contents sink.old) (S.contents sink.new) (S.has_failed sink.new)) }
-{
-    for piece in pieces {
-        put_all(sink, piece.as_bytes())?;
-    }
-    Ok(())
 }

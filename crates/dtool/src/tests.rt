@@ -79,6 +79,42 @@ fn a_blob_as_hexadecimal(rt: HostRuntime) -> Result<(), Fail> {
     Ok(())
 }
 
+// What is written of a blob that is checked, with the sink's room.
+fn checked(alloc: Global, blob: &[u8], room: usize) -> (Result<(), (usize, Fault)>, Vec<u8>) {
+    let mut out = Out::new(make_narrow(alloc, 3, room));
+    let result = perform(alloc, Job::Check, true, &[blob], &mut out);
+    (result, out.into_inner().held)
+}
+
+#[test]
+fn a_blob_that_is_checked(rt: HostRuntime) -> Result<(), Fail> {
+    let blob = hex::decode(rt.alloc(), BLOB)?;
+    let line: &[u8] = b"ok nodes 1 properties 0 reservations 0\n";
+    for room in 0..=line.len() {
+        let (result, held) = checked(rt.alloc(), blob.as_slice(), room);
+        let wanted = if room < line.len() {
+            result == Err((0, Fault::of(FaultKind::WriteFault)))
+        } else {
+            result.is_ok()
+        };
+        assert!(rt; wanted && held.len() == room && line.starts_with(held.as_slice()));
+    }
+    Ok(())
+}
+
+#[test]
+fn a_blob_that_is_refused(rt: HostRuntime) -> Result<(), Fail> {
+    let mut blob = hex::decode(rt.alloc(), BLOB)?;
+    let (result, held) = checked(rt.alloc(), &[], 100);
+    assert!(rt; result == Err((0, Fault::of(FaultKind::ShortHeader))) && held.is_empty());
+    if let Some(last) = blob.last_mut() {
+        *last = 5;
+    }
+    let (result, held) = checked(rt.alloc(), blob.as_slice(), 100);
+    assert!(rt; result == Err((0, Fault::at(FaultKind::BadTag, 68))) && held.is_empty());
+    Ok(())
+}
+
 #[test]
 fn a_refused_source(rt: HostRuntime) {
     let source: &[u8] = b"/ { };";
@@ -178,6 +214,13 @@ fn an_input_that_fails(rt: HostRuntime) {
 
 #[test]
 fn words_that_are_a_command(rt: HostRuntime) -> Result<(), Fail> {
+    let words = ["dtool", "check", "a.dtb"];
+    let wanted = Line {
+        job: Job::Check,
+        hex: false,
+        file: "a.dtb",
+    };
+    assert!(rt; parse(rt.alloc(), words.as_slice())? == wanted);
     let job = Job::Compile;
     for (words, hex, file) in [
         (["dtool", "compile", "stdin"].as_slice(), false, "stdin"),
@@ -213,6 +256,9 @@ fn words_that_are_none(rt: HostRuntime) -> Result<(), Fail> {
         "dtool compile --hexadecimal a.dts",
         "dtool --hex compile a.dts",
         "dtool decompile a.dts",
+        "dtool check",
+        "dtool check --hex a.dtb",
+        "dtool check a.dtb b.dtb",
         "dtool --help",
         "dtool help",
         "dtool compile --help",

@@ -1,8 +1,9 @@
 //! The words of the command line.
 
-ghost use Rattle.std.specs.Prelude.{◌≡◌, map, IfOk, IfErr, MatchOption};
-ghost use Rattle.clap.specs.Words.{app_of, subcommand_rows_of};
-ghost use Rattle.dtool.specs.Words.{IsLine, Names, NamesNone, Tells, TellsUnread, WhyNoLine, dtool};
+ghost use Rattle.std.specs.Prelude.{◌≡◌, false, map, IfOk, IfErr, MatchOption};
+ghost use Rattle.clap.specs.declared.builder.command.Command.{out-Command};
+ghost use Rattle.clap.specs.Words.{app_of, rule_of, subcommand_rows_of};
+ghost use Rattle.dtool.specs.Words.{IsLine, Names, NamesNone, Tells, TellsUnread, WhyNoLine, dtool, check_command, compile_command, file_word};
 ghost use Rattle.dtool.specs.declared.words.LineFault.TheVariants.{Memory};
 
 use crate::job::Job;
@@ -19,7 +20,7 @@ use thiserror::Error;
 pub struct Line<'a> {
     /// What to do.
     pub job: Job,
-    /// Whether a blob is written as hexadecimal.
+    /// Whether a blob is written as hexadecimal; false where none is written.
     pub hex: bool,
     /// The name of the input's file.
     pub file: &'a str,
@@ -111,27 +112,55 @@ fn line_in<'a>(matches: &ArgMatches<'a>) -> Option<Line<'a>>
             hex: found.get_flag("hex"),
             file: found.get_str("FILE")?,
         }),
+        Some(("check", found)) => Some(Line {
+            job: Job::Check,
+            hex: false,
+            file: found.get_str("FILE")?,
+        }),
         _ => None,
     }
+}
+
+/// The word for an input's file.
+fn file<'a>(alloc: Global, help: &'a str) -> Arg<'a>
+    ensures rule { rule_of result ≡ file_word }
+    ensures own { result.global ≡ false }
+{
+    Arg::new(alloc, "FILE").required(true).help(help)
+}
+
+/// `compile [--hex] FILE`.
+fn compile<'a>(alloc: Global) -> Result<Command<'a>, AllocError>
+    ensures shape { IfOk result (λ command. app_of command ≡ compile_command) }
+    ensures own { IfOk result (λ command. (out-Command command).has_globals ≡ false) }
+{
+    let hex = Arg::new(alloc, "hex")
+        .long("hex")
+        .action(ArgAction::SetTrue)
+        .help("Write the blob as lower-case hexadecimal and a line feed");
+    Command::new(alloc, "compile")
+        .about("Makes a blob of a devicetree source")
+        .arg(hex)?
+        .arg(file(alloc, "The source; the word stdin is standard input"))
+}
+
+/// `check FILE`.
+fn check<'a>(alloc: Global) -> Result<Command<'a>, AllocError>
+    ensures shape { IfOk result (λ command. app_of command ≡ check_command) }
+    ensures own { IfOk result (λ command. (out-Command command).has_globals ≡ false) }
+{
+    Command::new(alloc, "check")
+        .about("Checks a blob, and counts what it holds")
+        .arg(file(alloc, "The blob; the word stdin is standard input"))
 }
 
 /// The commands that the tool has.
 fn tool<'a>(alloc: Global) -> Result<Command<'a>, AllocError>
     ensures { IfOk result (λ command. app_of command ≡ dtool) }
 {
-    let hex = Arg::new(alloc, "hex")
-        .long("hex")
-        .action(ArgAction::SetTrue)
-        .help("Write the blob as lower-case hexadecimal and a line feed");
-    let file = Arg::new(alloc, "FILE")
-        .required(true)
-        .help("The source; the word stdin is standard input");
-    let compile = Command::new(alloc, "compile")
-        .about("Makes a blob of a devicetree source")
-        .arg(hex)?
-        .arg(file)?;
     Command::new(alloc, "dtool")
         .about("A tool for devicetrees")
         .subcommand_required(true)
-        .subcommand(compile)
+        .subcommand(compile(alloc)?)?
+        .subcommand(check(alloc)?)
 }

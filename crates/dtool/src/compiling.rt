@@ -1,0 +1,42 @@
+//! A blob of a source, as bytes or as hexadecimal.
+
+ghost use Rattle.std.specs.Prelude.{◌≡◌, List, ℕ, OnOk, IfErr};
+ghost use Rattle.std.specs.Io.KnownBytes.{Appends};
+ghost use Rattle.dt_chain.specs.Compiled.{IsCompiled};
+ghost use Rattle.dtool.specs.Compiling.{WhyNotCompiledTo, WhyNotShown};
+ghost use Rattle.dtool.specs.Job.{printed};
+
+use dt_names::{Fault, Sink, put_all};
+use std::alloc::Global;
+
+/// Compiles a source, and writes its blob as bytes, or with `hex` as lower-case hexadecimal and a line feed.
+///
+/// # Errors
+///
+/// Those of `dt_chain::compile`, and want of memory for the hexadecimal, where nothing is written; and `WriteFault`, where
+/// the sink took a front of what was to be written.
+pub fn compile<S: Sink>(alloc: Global, hex: bool, text: &[u8], out: &mut S) -> Result<(), Fault>
+    ensures written { OnOk result ((blob : List ℕ) × IsCompiled text.now blob
+        × Appends (S.contents out.old) (S.contents out.new) (printed hex blob)) }
+    ensures sound { OnOk result (S.has_failed out.new ≡ S.has_failed out.old) }
+    ensures refused { IfErr result (λ fault. WhyNotCompiledTo fault.kind fault.at hex text.now
+        (S.contents out.old) (S.contents out.new) (S.has_failed out.old) (S.has_failed out.new)) }
+{
+    let blob = dt_chain::compile(alloc, text)?;
+    show(alloc, hex, blob.as_slice(), out)
+}
+
+/// Writes a blob as bytes, or as hexadecimal and a line feed.
+fn show<S: Sink>(alloc: Global, hex: bool, blob: &[u8], out: &mut S) -> Result<(), Fault>
+    ensures written { OnOk result (Appends (S.contents out.old) (S.contents out.new) (printed hex blob.now)) }
+    ensures sound { OnOk result (S.has_failed out.new ≡ S.has_failed out.old) }
+    ensures refused { IfErr result (λ fault. WhyNotShown fault.kind (printed hex blob.now)
+        (S.contents out.old) (S.contents out.new) (S.has_failed out.old) (S.has_failed out.new)) }
+{
+    if !hex {
+        return put_all(out, blob);
+    }
+    let mut text = hex::encode(alloc, blob)?;
+    text.push('\n')?;
+    put_all(out, text.as_bytes())
+}
