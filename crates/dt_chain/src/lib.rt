@@ -12,6 +12,8 @@ ghost use Rattle.dt_chain.specs.Compiled.{IsCompiled, WhyNotCompiled, IsCompiler
 
 mod builder;
 mod coverage;
+#[cfg(test)]
+mod damage;
 mod input;
 #[cfg(test)]
 mod tests;
