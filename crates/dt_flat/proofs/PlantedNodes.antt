@@ -1,5 +1,5 @@
 -- What planting makes: a node in front of its children, all at the end of the nodes before; and it is read as what was planted.
-use Rattle.std.proofs.Common.{◌≡◌, ◌≢◌, ◌⊎◌, ℕ, zero, suc, ◌+◌, ◌<◌, ◌≤◌, Bool, true, false, cond, eqb, List, [], ◌∷◌, ◌++◌, length, map, refl, sym, ap, subst, ◌∙◌, arith, inl, inr, append_assoc}
+use Rattle.std.proofs.Common.{◌≡◌, ◌≢◌, ◌⊎◌, ℕ, suc, ◌+◌, ◌<◌, ◌≤◌, Bool, true, false, cond, eqb, List, [], ◌∷◌, ◌++◌, length, map, refl, sym, ap, ◌∙◌, arith, inl, inr, append_assoc}
 use Rattle.std.specs.List.{AllByRecursion}
 use Rattle.std.specs.Str.{bytes_eq}
 use Rattle.std.proofs.lemmas.List.{append-nil, length-append}
@@ -8,7 +8,7 @@ use Rattle.dt_model.specs.Names.{Name}
 use Rattle.dt_model.specs.Tree.{Property, Forest, no_nodes, branch, Reading}
 use Rattle.dt_model.specs.Changes.{set_property, set_properties}
 use Rattle.dt_model.specs.Valid.{AreDistinct, AreProperties, AreNodes, node_count, IsValid}
-use Rattle.dt_flat.specs.Arena.{Arena, Slot, root_alone, depth_of, forest_among, with_child, with_property, reading}
+use Rattle.dt_flat.specs.Arena.{Slot, root_alone, depth_of, forest_among, with_child, with_property, reading}
 use Rattle.dt_flat.specs.Planted.{with_properties, planted, planted_tree, arena_of}
 use Rattle.dt_flat.proofs.AfterChild.{tested, differs}
 use Rattle.dt_flat.proofs.Distinctness.{all-append}
