@@ -16,3 +16,4 @@ pub mod Headers
 pub mod Apart
 pub mod Wholes
 pub mod CountLemmas
+pub mod Growing

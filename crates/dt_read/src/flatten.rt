@@ -54,8 +54,8 @@ fn set(tree: &mut FlatTree, open_nodes: &OpenNodes, name: &[u8], value: &[u8]) -
 // One more token.
 fn take(tree: &mut FlatTree, open_nodes: &mut OpenNodes, token: Token<'_>) -> Result<(), Fault>
     requires { MayCome (view token) tree.old.slots open_nodes.old }
-    ensures tree { OnOk result (tree.new ≡ record tree.old { slots = slots_behind (view token) tree.old.slots open_nodes.old }) }
-    ensures numbers { OnOk result (open_nodes.new ≡ numbers_behind (view token) tree.old.slots open_nodes.old) }
+    ensures tree { OnOk result (tree.new ≡ record tree.old { slots = slots_behind (view token.entry) tree.old.slots open_nodes.old }) }
+    ensures numbers { OnOk result (open_nodes.new ≡ numbers_behind (view token.entry) tree.old.slots open_nodes.old) }
     ensures refused { IfErr result (λ fault. (fault.kind ≡ NoMemory) × (fault.at ≡ None)) }
 {
     match token {
@@ -71,7 +71,7 @@ fn take(tree: &mut FlatTree, open_nodes: &mut OpenNodes, token: Token<'_>) -> Re
 
 // All tokens from a place on.
 fn plant(tree: &mut FlatTree, mut cursor: Cursor<'_>) -> Result<(), Fault>
-    requires { MayGrow cursor.entry tree.old.slots [] }
+    requires { MayGrow cursor tree.old.slots [] }
     ensures tree { OnOk result (tree.new ≡ record tree.old { slots = grown cursor.entry tree.old.slots [] }) }
     ensures refused { IfErr result (λ fault. (fault.kind ≡ NoMemory) × (fault.at ≡ None)) }
 {
