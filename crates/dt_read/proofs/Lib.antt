@@ -14,6 +14,7 @@ pub mod Walkover
 pub mod Paths
 pub mod Headers
 pub mod Apart
+pub mod ByteValues
 pub mod Wholes
 pub mod CountLemmas
 pub mod Growing
