@@ -9,7 +9,6 @@ pub mod Nodes
 pub mod Walks
 pub mod Ordering
 pub mod PairLemmas
-pub mod Distinctness
 pub mod Walkover
 pub mod Paths
 pub mod Headers
@@ -18,3 +17,9 @@ pub mod ByteValues
 pub mod Wholes
 pub mod CountLemmas
 pub mod Growing
+pub mod Shallow
+pub mod TableBits
+pub mod KeyCounts
+pub mod Novelty
+pub mod PhandleKeys
+pub mod NameKeys

@@ -6,8 +6,8 @@ use Rattle.std.specs.Hash.DefaultHasher as sip
 use Rattle.dt_read.specs.Keys.{Key, number_of}
 
 -- SipHash of the key
-abbrev pub hash_of : Key → ℕ
-hash_of k = sip.finish (fold sip.write sip.initial (fed.u64 0))
+unfoldable pub hash_of : Key → ℕ
+hash_of k = sip.finish (fold sip.write sip.initial (fed.usize (number_of k.sort) ++ (fed.usize k.owner ++ fed.slice fed.u8 k.bytes)))
 
 -- the keys before that place differ from the key
 abbrev pub IsNewIn : List Key → ℕ → Key → Type 0

@@ -1,12 +1,14 @@
 -- A table of bits that holds hashes.
-use Rattle.std.specs.Prelude.{ℕ, ◌*◌, ◌/◌, ◌%◌, ◌^◌, Bool, ◌&&◌, ◌==◌, List, length, unwrap_or}
-use Rattle.std.specs.List.{slice_get}
+use Rattle.std.specs.Prelude.{ℕ, ◌*◌, ◌/◌, ◌%◌, ◌^◌, Bool, ◌&&◌, ◌==◌, List, length, slice_index}
+use Rattle.std.specs.Int.{bit_at}
 
--- the bit of that number, counted over the words, and round again behind the last
+-- the bit at that place, counted over the words
+unfoldable pub has_bit_at : List ℕ → ℕ → Bool
+has_bit_at words place = bit_at (slice_index words (place / 64)) (place % 64) == 1
+
+-- the bit of that number, counted round again behind the last
 abbrev pub is_set : List ℕ → ℕ → Bool
-is_set words number =
-    let bit = number % (length words * 64) in
-    unwrap_or (slice_get words (bit / 64)) 0 / 2 ^ (bit % 64) % 2 == 1
+is_set words number = has_bit_at words (number % (length words * 64))
 
 -- all bits of the hash are set
 abbrev pub holds : List ℕ → ℕ → Bool

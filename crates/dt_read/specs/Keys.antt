@@ -1,5 +1,5 @@
 -- What has to differ in a blob, in the order of its tokens (Devicetree Specification v0.4, 2.2 and 2.3.3).
-use Rattle.std.specs.Prelude.{ℕ, suc, ◌<◌, ◌-◌, List, [], ◌∷◌, ◌++◌, Option, Some, None, codes, if◌then◌else◌}
+use Rattle.std.specs.Prelude.{ℕ, zero, suc, ◌<◌, ◌-◌, List, [], ◌∷◌, ◌++◌, drop, Option, Some, None, codes, if◌then◌else◌}
 use Rattle.std.proofs.Common.{◌≡◌, refl, ap}
 use Rattle.std.specs.Coded.{Coded, code_by, coded×, coded_ℕ, coded_list}
 use Rattle.std.specs.Str.{bytes_eq}
@@ -31,8 +31,7 @@ key_of wanted open_nodes mark = None
 -- the places of the nodes that are open behind a token
 abbrev pub open_behind : List ℕ → Mark → List ℕ
 open_behind open_nodes (begin_mark place name) = place ∷ open_nodes
-open_behind [] end_mark = []
-open_behind (place ∷ open_nodes) end_mark = open_nodes
+open_behind open_nodes end_mark = drop 1 open_nodes
 open_behind open_nodes (prop_mark p) = open_nodes
 open_behind open_nodes nop_mark = open_nodes
 open_behind open_nodes last_mark = open_nodes
@@ -67,9 +66,9 @@ number_of Property = 1
 number_of Phandle = 2
 
 abbrev pub sort_of : ℕ → Sort
-sort_of 0 = Child
-sort_of 1 = Property
-sort_of _ = Phandle
+sort_of zero = Child
+sort_of (suc zero) = Property
+sort_of (suc (suc _)) = Phandle
 
 pub sort_again : (s : Sort) → sort_of (number_of s) ≡ s
 sort_again Child = refl

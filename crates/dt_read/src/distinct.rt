@@ -1,7 +1,9 @@
 //! Keys that differ, found with no memory: a table of bits tells most keys that are new, and an exact walk the others.
 
-ghost use Rattle.std.specs.Prelude.{◌≡◌, ◌↔◌, ◌<◌, ◌^◌, ◌%◌, ℕ, Some, IsTrue, OnTrue, OnFalse, length, take};
-ghost use Rattle.std.specs.List.{IsMember, slice_get};
+ghost use Rattle.std.specs.Prelude.{◌≡◌, ◌↔◌, ◌<◌, ◌^◌, ◌%◌, ℕ, Some, IsTrue, length, take};
+ghost use Rattle.std.specs.Bool.{OnTrue, OnFalse};
+ghost use Rattle.std.specs.List.{slice_get};
+ghost use Rattle.dt_model.specs.Lists.{IsIn};
 ghost use Rattle.dt_model.specs.Valid.{AreDistinct};
 ghost use Rattle.dt_read.specs.Order.{HasRisingPlaces};
 ghost use Rattle.dt_read.specs.Distinct.{HasDistinctNames};
@@ -27,13 +29,20 @@ fn hashed(key: &Key) -> u64
     hasher.finish()
 }
 
+// Whether two keys are one, wherever they lie in memory.
+fn same(a: &Key, b: &Key) -> bool
+    ensures { IsTrue result ↔ said a.now ≡ said b.now }
+{
+    a == b
+}
+
 // Whether a key is among so many first keys.
 fn is_among(mut keys: Keys, count: usize, key: &Key) -> bool
-    ensures { IsTrue result ↔ IsMember (said key.now) (take count keys.entry) }
+    ensures { IsTrue result ↔ IsIn (said key.now) (take count keys.entry) }
 {
     for _ in 0..count {
         match keys.next() {
-            Some(other) if other == *key => return true,
+            Some(other) if same(key, &other) => return true,
             Some(_) => {}
             None => return false,
         }

@@ -1,6 +1,6 @@
 //! What has to differ in a blob: names of siblings and of a node's properties, and phandles.
 
-ghost use Rattle.std.specs.Prelude.{◌≡◌, option_map};
+ghost use Rattle.std.specs.Prelude.{◌≡◌, ◌<◌, ◌^◌, ℕ, length, option_map};
 ghost use Rattle.std.specs.Iterator.{YieldsFirstBy, item_count};
 ghost use Rattle.dt_read.specs.View.{view_at};
 ghost use Rattle.dt_read.specs.Keys.{said, key_of, keys_of};
@@ -41,7 +41,7 @@ pub enum Wanted {
 
 // The key that a token gives, where these nodes are open.
 fn key_at<'a>(wanted: Wanted, open_nodes: &OpenNodes, token: Token<'a>) -> Option<Key<'a>>
-    ensures { (place : ℕ) → option_map said result ≡ key_of wanted open_nodes.now (view_at place token) }
+    ensures { (place : ℕ) → option_map said result ≡ key_of wanted open_nodes.now (view_at place token.entry) }
 {
     let (sort, bytes) = match (wanted, token) {
         (Wanted::Names, Token::BeginNode(name)) => (Sort::Child, name),
@@ -84,7 +84,8 @@ impl<'a> Model for Keys<'a> {
 impl<'a> Keys<'a> {
     /// All keys of a tree.
     pub fn of(structure: &Structure<'a>, wanted: Wanted) -> Keys<'a>
-        ensures { result ≡ keys_of wanted structure.now }
+        ensures all { result ≡ keys_of wanted structure.now }
+        ensures few { length result < 2 ^ 32 }
     {
         Keys {
             wanted,

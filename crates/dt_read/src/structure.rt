@@ -36,6 +36,7 @@ impl<'a> Structure<'a> {
     ghost use Rattle.std.specs.Option.{option_copied};
     ghost use Rattle.dt_model.specs.Checks.{BlobFault, StopsAt};
     ghost use Rattle.dt_model.specs.Tree.{value_of};
+    ghost use Rattle.dt_read.specs.Keys.{AreShallow};
     ghost use Rattle.dt_read.specs.Kinds.{kind_of};
     ghost use Rattle.dt_read.specs.Marks.{last_mark, marks_of};
     ghost use Rattle.dt_read.specs.Order.{HasRisingPlaces};
@@ -65,7 +66,9 @@ impl<'a> Structure<'a> {
 
     /// The place of the first token.
     pub fn start(&self) -> Cursor<'a>
-        ensures { result ≡ marks_of self.now ++ last_mark ∷ [] }
+        ensures tokens { result ≡ marks_of self.now ++ last_mark ∷ [] }
+        ensures shallow { AreShallow 0 result }
+        ensures few { length result < 2 ^ 32 }
     {
         Cursor::new(self.strings, self.at, self.block)
     }

@@ -1,19 +1,25 @@
-use Rattle.std.proofs.Common.{refl, ap, ◌∙◌}
-use Rattle.std.specs.List.{list_any}
-use Rattle.std.specs.Str.{bytes_eq}
-use Rattle.dt_read.specs.Phandle.{phandles_in, ArePhandles}
-use Rattle.dt_read.proofs.Distinctness.{phandles_more, phandles_twice, phandles_done}
+use Rattle.std.proofs.Common.{List, sym, subst}
+use Rattle.std.proofs.lemmas.Bool.{false≢true}
+use Rattle.std.specs.List.{AllByRecursion}
+use Rattle.dt_model.specs.Valid.{IsPhandle}
+use Rattle.dt_read.specs.Keys.{Key}
+use Rattle.dt_read.proofs.PhandleKeys.{right_keys}
 use Rattle.dt_read.proofs.phandle.are_phandles.Goals as goal
 
-pub returns-then-has_phandle : goal.returns-then-has_phandle
-returns-then-has_phandle c =
-    phandles_twice c.in-Some.value.now (phandles_in c.next_phandle.new.cursor) (phandles_in c.loop-value.cursor) (ArePhandles (phandles_in c.args.cursor)) c.in-Some.ensures
-    (c.if-has_phandle.ensures ∙ ap (λ s. list_any (λ other. bytes_eq c.in-Some.value.now other) (phandles_in s)) c.copy.ensures) c.loop-value.invariant
-
-pub loop-value-preserved : goal.loop-value-preserved
-loop-value-preserved c =
-    phandles_more c.in-Some.value.now (phandles_in c.next_phandle.new.cursor) (phandles_in c.loop-value.cursor) (ArePhandles (phandles_in c.args.cursor)) c.in-Some.ensures
-    (c.if-not-is_phandle.ensures.0 refl) (c.if-has_phandle.ensures ∙ ap (λ s. list_any (λ other. bytes_eq c.in-Some.value.now other) (phandles_in s)) c.copy.ensures) c.loop-value.invariant
+pub returns-then-not-is_phandle : goal.returns-then-not-is_phandle
+returns-then-not-is_phandle c =
+    let right = right_keys c.args.structure.now in (
+      λ t. absurd (false≢true t),
+      λ a. c.if-not-is_phandle.ensures.1
+          (subst (λ (keys : List Key). AllByRecursion (λ k. IsPhandle k.bytes) keys) c.in-Some.ensures.steps (c.loop-key.invariant.2.1 (right.1 a).each)).0,
+    )
 
 pub returns : goal.returns
-returns c = phandles_done (phandles_in c.loop-value.cursor) (ArePhandles (phandles_in c.args.cursor)) c.in_default.ensures.0 c.loop-value.invariant
+returns c =
+    let right = right_keys c.args.structure.now in (
+      λ t. right.0 (record {
+        each = c.loop-key.invariant.2.0 (subst (λ (keys : List Key). AllByRecursion (λ k. IsPhandle k.bytes) keys) (sym c.in-None.ensures.steps.0) tt);
+        distinct = c.are_distinct.ensures.0 t;
+      }),
+      λ a. c.are_distinct.ensures.1 (right.1 a).distinct,
+    )

@@ -1,6 +1,7 @@
-use Rattle.std.proofs.Common.{refl, sym, subst, ◌∙◌, arith, ap}
+use Rattle.std.proofs.Common.{◌∷◌, ◌++◌, [], refl, sym, subst, ◌∙◌, arith}
 use Rattle.std.proofs.lemmas.Bool.{false≢true}
 use Rattle.dt_model.specs.Checks.{IsFirstFault}
+use Rattle.dt_read.specs.Marks.{last_mark, marks_of}
 use Rattle.dt_read.specs.Phandle.{phandles_in}
 use Rattle.dt_read.proofs.Apart.{apart, distinct, tree_phandles}
 use Rattle.dt_read.proofs.Numbers.{IsBytes}
@@ -24,8 +25,8 @@ returns-then-not-are_phandles-clause-fault c =
     let tree = c.in-Ok.structure in
     let h = c.in-Ok.ensures.tree in
     let a = apart tree c.in-Ok.ensures.places h.properties h.nodes (c.if-not-has_distinct_names.ensures.0 refl) in
-    let values = ap phandles_in c.start.ensures ∙ tree_phandles tree a in
-    let first = phandles_at c.args.bytes.now c.in_ok-blocks.blocks tree c.in_ok-blocks.ensures.blocks h a (λ n. false≢true (c.if-not-are_phandles.ensures.1 (by_numbered tree (phandles_in c.start.result) values n))) in
+    let values = tree_phandles tree a in
+    let first = phandles_at c.args.bytes.now c.in_ok-blocks.blocks tree c.in_ok-blocks.ensures.blocks h a (λ n. false≢true (c.if-not-are_phandles.ensures.1 (by_numbered tree (phandles_in (marks_of tree ++ last_mark ∷ [])) values n))) in
     (_, c.of-then-not-are_phandles.ensures.kind, subst (IsFirstFault c.args.bytes.now _) (sym c.of-then-not-are_phandles.ensures.at) first)
 
 pub invariant_of-result : goal.invariant_of-result
@@ -50,8 +51,8 @@ returns-clause-reads c =
     let h = c.in-Ok.ensures.tree in
     let blocks = c.in_ok-blocks.ensures.blocks in
     let a = apart tree c.in-Ok.ensures.places h.properties h.nodes (c.if-not-has_distinct_names.ensures.0 refl) in
-    let values = ap phandles_in c.start.ensures ∙ tree_phandles tree a in
-    let n = numbered_by tree (phandles_in c.start.result) values (c.if-not-are_phandles.ensures.0 refl) in
+    let values = tree_phandles tree a in
+    let n = numbered_by tree (phandles_in (marks_of tree ++ last_mark ∷ [])) values (c.if-not-are_phandles.ensures.0 refl) in
     let small = number_small c.args.bytes.now 28 (λ i. omega (arith, c.type_inv.bytes i)) in
     let cpu = blocks.boot_cpu in
     reads c.args.bytes.now c.in_ok-blocks.blocks tree blocks (omega arith) h a n

@@ -1,0 +1,16 @@
+-- There are no more keys than tokens.
+use Rattle.std.proofs.Common.{ℕ, suc, ◌≤◌, List, [], ◌∷◌, length, Option, Some, None, arith}
+use Rattle.dt_read.specs.Marks.{Mark}
+use Rattle.dt_read.specs.Keys.{Key, key_of, open_behind, with_key, keys_in}
+use Rattle.dt_read.specs.declared.keys.Wanted.{Wanted}
+
+length-with_key : (key : Option Key) (keys : List Key) → length (with_key key keys) ≤ suc (length keys)
+length-with_key None keys = omega arith
+length-with_key (Some key) keys = omega arith
+
+pub length-keys_in : (wanted : Wanted) (open_nodes : List ℕ) (marks : List Mark) → length (keys_in wanted open_nodes marks) ≤ length marks
+length-keys_in wanted open_nodes [] = omega arith
+length-keys_in wanted open_nodes (mark ∷ marks) =
+    let first = length-with_key (key_of wanted open_nodes mark) (keys_in wanted (open_behind open_nodes mark) marks) in
+    let further = length-keys_in wanted (open_behind open_nodes mark) marks in
+    omega arith

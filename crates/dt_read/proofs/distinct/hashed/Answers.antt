@@ -1,0 +1,29 @@
+use Rattle.std.proofs.Common.{◌≡◌, ℕ, ◌++◌, refl, ap, ◌∙◌}
+use Rattle.std.specs.Hash as fed
+use Rattle.std.specs.Hash.DefaultHasher as sip
+use Rattle.std.specs.List.{fold}
+use Rattle.dt_read.specs.Keys.{number_of}
+use Rattle.dt_read.specs.Classes.{hash_of}
+use Rattle.dt_read.specs.declared.keys.Sort.{Sort}
+use Rattle.dt_read.specs.declared.keys.Sort.TheVariants.{Child, Property, Phandle}
+use Rattle.dt_read.specs.contracts.keys.Sort as sort
+use Rattle.dt_read.specs.declared.keys.Key.{Key}
+use denote.Enum.Declared.{tag_of}
+use Rattle.dt_read.proofs.distinct.hashed.Goals as goal
+
+number_is : (s : Sort) → tag_of sort.the_type s ≡ number_of s
+number_is Child = refl
+number_is Property = refl
+number_is Phandle = refl
+
+abbrev feed : Key → ℕ → fed.HashWrites
+feed k n = fed.usize n ++ (fed.usize k.owner ++ fed.slice fed.u8 k.bytes.now)
+
+pub returns : goal.returns
+unfolding hash_of
+returns c =
+    let k = c.args.key.now in
+    c.finish.ensures
+    ∙ ap sip.finish c.hash.ensures
+    ∙ ap (λ s. sip.finish (fold sip.write s (feed k (tag_of sort.the_type k.sort)))) c.new-hasher.ensures
+    ∙ ap (λ n. sip.finish (fold sip.write sip.initial (feed k n))) (number_is k.sort)
