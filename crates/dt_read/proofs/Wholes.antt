@@ -19,7 +19,7 @@ use Rattle.dt_read.specs.Reading.{Parts, node_of, heads_of, HasTree}
 use Rattle.dt_read.specs.Pairs.{pairs_of}
 use Rattle.dt_read.specs.Phandle.{ArePhandles}
 use Rattle.dt_read.specs.Blocks.{AreBlocks, whole_of, IsWellPlaced}
-use Rattle.dt_read.specs.Growth.{MayCopy}
+use Rattle.dt_read.specs.Growth.{reading_with, MayCopy}
 use Rattle.dt_read.proofs.Numbers.{IsBytes, IsBytes-drop, IsBytes-take, number_takes}
 use Rattle.dt_read.proofs.ByteValues.{has_own_numbers}
 use Rattle.dt_read.proofs.Headers.{fine, header_of, has_header, is_sound}
@@ -73,7 +73,7 @@ within bytes b tree a h =
 
 -- the tree may be copied
 pub may_copy : (bytes : List ℕ) (b : Blocks) (tree : Root) → IsBytes bytes → AreBlocks bytes b → b.boot_cpu < 2 ^ 32 → HasTree b.strings.now b.at b.block.now tree → AreApart tree.properties (forest_of tree.children) → AreNumbered tree.properties (forest_of tree.children)
-    → MayCopy (reading_of (placed_tree b tree))
+    → MayCopy (reading_with b.boot_cpu (pairs_of b.reservations.now) tree)
 may_copy bytes b tree fits a small h apart numbered =
     let block : IsBytes b.block.now = subst IsBytes (sym a.block) (IsBytes-take (number bytes 36) (drop (number bytes 8) bytes) (IsBytes-drop (number bytes 8) bytes fits)) in
     record {
