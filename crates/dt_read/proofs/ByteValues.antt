@@ -59,7 +59,7 @@ tree_bytes : (strings : List ℕ) (at : ℕ) (block : List ℕ) (tree : Root) �
 tree_bytes strings at block tree fits h a =
     let all = phandle_bytes strings at (h.marks ++ last_mark ∷ []) block fits h.spelled in
     let same : phandles_in (h.marks ++ last_mark ∷ []) ≡ phandle_values tree.properties ++ phandles (forest_of tree.children) =
-        sym (without_nops_same h.marks (last_mark ∷ [])) ∙ ap (λ (ms : List Mark). phandles_in (ms ++ last_mark ∷ [])) h.whole ∙ tree_phandles tree a in
+    sym (without_nops_same h.marks (last_mark ∷ [])) ∙ ap (λ (ms : List Mark). phandles_in (ms ++ last_mark ∷ [])) h.whole ∙ tree_phandles tree a in
     subst (AllByRecursion IsBytes) same all
 
 one_value : (v w : List ℕ) → IsPhandle v → IsPhandle w → IsBytes v → IsBytes w → from_be_bytes w32 v ≡ from_be_bytes w32 w → v ≡ w

@@ -83,8 +83,7 @@ may_nodes (node place name properties children siblings) rest slots p ps d deep 
     let all_more = longer_planted (forest_of children) own i in
     let beside = may_nodes siblings rest (planted own i (forest_of children)) p ps d deep (omega arith) h.4 shallow.2 may.3 later in
     let inside = may_nodes children (end_mark ∷ after) own i (p ∷ ps) (d + 1) (omega arith) (omega arith) h.2 shallow.1 may.2 (tt, beside) in
-    let first = may_properties properties (marks_of_nodes children ++ end_mark ∷ after) made i (p ∷ ps) (omega arith) (h.1).named may.1 inside in
-    (
+    let first = may_properties properties (marks_of_nodes children ++ end_mark ∷ after) made i (p ∷ ps) (omega arith) (h.1).named may.1 inside in (
       (lt, omega (arith, shallow.0), h.0, may.0),
       subst (λ (ms : List Mark). MayGrow ms made (i ∷ p ∷ ps)) (sym (regrouped properties (marks_of_nodes children) (marks_of_nodes siblings) rest)) first,
     )
@@ -105,10 +104,10 @@ pub copied : (t : Root) (boot_cpu : ℕ) (reservations : List (ℕ × ℕ)) (new
 copied t boot_cpu reservations new reserved whole marks begun with_pairs are done reads =
     let root = (root_alone 0).slots in
     let before : reserved ≡ record { boot_cpu = boot_cpu; reservations = reservations; slots = root } =
-        with_pairs ∙ ap (λ (a : Arena). record a { reservations = a.reservations ++ reservations }) begun in
+    with_pairs ∙ ap (λ (a : Arena). record a { reservations = a.reservations ++ reservations }) begun in
     let after : whole ≡ arena_of (reading_with boot_cpu reservations t) =
-        done ∙ ap (λ (a : Arena). record a { slots = grown marks a.slots [] }) before
-        ∙ ap (λ (slots : List Slot). record { boot_cpu = boot_cpu; reservations = reservations; slots = slots }) (ap (λ (ms : List Mark). grown ms root []) are ∙ grown_tree t) in
+    done ∙ ap (λ (a : Arena). record a { slots = grown marks a.slots [] }) before
+    ∙ ap (λ (slots : List Slot). record { boot_cpu = boot_cpu; reservations = reservations; slots = slots }) (ap (λ (ms : List Mark). grown ms root []) are ∙ grown_tree t) in
     ap reading after ∙ reads
 
 pub may_follow : (t : Root) (boot_cpu : ℕ) (reservations : List (ℕ × ℕ)) (new reserved : Arena) (marks : List Mark) → new ≡ root_alone boot_cpu → reserved ≡ record new { reservations = new.reservations ++ reservations }
