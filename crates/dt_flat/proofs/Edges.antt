@@ -1,11 +1,11 @@
 -- A child that is found by its name stands behind its parent, and knows its parent and its name.
-use Rattle.std.proofs.Common.{◌≡◌, ℕ, zero, suc, ◌+◌, ◌<◌, Bool, true, false, cond, eqb, List, [], ◌∷◌, length, drop, Option, Some, None, refl, sym, ap, ◌∙◌, arith}
+use Rattle.std.proofs.Common.{◌≡◌, ℕ, zero, suc, ◌+◌, ◌<◌, Bool, true, false, cond, eqb, List, [], ◌∷◌, length, drop, Some, refl, sym, ap, ◌∙◌, arith}
 use Rattle.std.specs.Str.{bytes_eq}
 use Rattle.std.proofs.lemmas.Bool.{eqb-true}
 use Rattle.std.proofs.lemmas.List.{length-drop}
 use Rattle.dt_model.specs.Names.{Name}
 use Rattle.dt_model.proofs.EventSteps.{bytes_eq-is}
-use Rattle.dt_flat.specs.Arena.{Slot, Child, named_among, named_children, child_of, parent_of, name_of}
+use Rattle.dt_flat.specs.Arena.{Slot, named_among, named_children, child_of, parent_of, name_of}
 
 -- the node that was found among those from number k on, d places behind the first of them
 record Found (k : ℕ) (ns : List Slot) (p : ℕ) (x : Name) (j : ℕ) : Type 0 where

@@ -9,3 +9,5 @@ pub mod Distinctness
 pub mod Validity
 pub mod Rooting
 pub mod Soundness
+pub mod PlantedNodes
+pub mod Plantable

@@ -16,7 +16,7 @@ parent-append [] ms i h = absurd (omega arith)
 parent-append (n ∷ ns) ms zero h = refl
 parent-append (n ∷ ns) ms (suc i) h = parent-append ns ms i (omega arith)
 
-depth-append : (ns ms : List Slot) (i : ℕ) → i < length ns → depth_of (ns ++ ms) i ≡ depth_of ns i
+pub depth-append : (ns ms : List Slot) (i : ℕ) → i < length ns → depth_of (ns ++ ms) i ≡ depth_of ns i
 depth-append [] ms i h = absurd (omega arith)
 depth-append (n ∷ ns) ms zero h = refl
 depth-append (n ∷ ns) ms (suc i) h = depth-append ns ms i (omega arith)
@@ -29,7 +29,7 @@ parent-last : (ns : List Slot) (m : Slot) → parent_of (ns ++ m ∷ []) (length
 parent-last [] m = refl
 parent-last (n ∷ ns) m = parent-last ns m
 
-depth-last : (ns : List Slot) (m : Slot) → depth_of (ns ++ m ∷ []) (length ns) ≡ m.depth
+pub depth-last : (ns : List Slot) (m : Slot) → depth_of (ns ++ m ∷ []) (length ns) ≡ m.depth
 depth-last [] m = refl
 depth-last (n ∷ ns) m = depth-last ns m
 

@@ -6,12 +6,14 @@ mod children;
 mod laws;
 mod phandles;
 mod places;
+mod planting;
 mod properties;
 #[cfg(test)]
 mod tests;
 mod tree;
 
 pub use children::Children;
+pub use planting::{may_be_planted, planted_reads};
 pub use properties::Props;
 pub use tree::{DEPTH_LIMIT, FlatTree, NODE_LIMIT};
 

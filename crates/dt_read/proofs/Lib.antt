@@ -13,8 +13,10 @@ pub mod Walkover
 pub mod Paths
 pub mod Headers
 pub mod Apart
+pub mod ByteValues
 pub mod Wholes
 pub mod CountLemmas
+pub mod Growing
 pub mod Shallow
 pub mod TableBits
 pub mod KeyCounts

@@ -1,5 +1,5 @@
 -- A blob that was checked is read as its tree, and each path of it as its node.
-use Rattle.std.proofs.Common.{◌⊎◌, ◌≡◌, ◌≢◌, ℕ, ◌+◌, ◌<◌, ◌≤◌, ◌^◌, List, [], ◌∷◌, ◌++◌, length, map, Option, Some, None, refl, sym, ap, subst, ◌∙◌, arith, inl, inr}
+use Rattle.std.proofs.Common.{◌⊎◌, ◌≡◌, ◌≢◌, ℕ, ◌+◌, ◌<◌, ◌≤◌, ◌^◌, List, [], ◌∷◌, ◌++◌, length, drop, map, Option, Some, None, refl, sym, ap, subst, ◌∙◌, arith, inl, inr}
 use Rattle.std.proofs.lemmas.Option.{same_Some}
 use Rattle.std.proofs.lemmas.List.{length-append}
 use Rattle.dt_model.specs.Names.{Name}
@@ -19,7 +19,9 @@ use Rattle.dt_read.specs.Reading.{Parts, node_of, heads_of, HasTree}
 use Rattle.dt_read.specs.Pairs.{pairs_of}
 use Rattle.dt_read.specs.Phandle.{ArePhandles}
 use Rattle.dt_read.specs.Blocks.{AreBlocks, whole_of, IsWellPlaced}
-use Rattle.dt_read.proofs.Numbers.{IsBytes, number_takes}
+use Rattle.dt_read.specs.Growth.{reading_with, MayCopy}
+use Rattle.dt_read.proofs.Numbers.{IsBytes, IsBytes-drop, IsBytes-take, number_takes}
+use Rattle.dt_read.proofs.ByteValues.{has_own_numbers}
 use Rattle.dt_read.proofs.Headers.{fine, header_of, has_header, is_sound}
 use Rattle.dt_read.proofs.Apart.{below_is_node, root_is_node, parts_apart}
 use Rattle.dt_read.proofs.Nodes.{at_node}
@@ -68,6 +70,17 @@ pub within : (bytes : List ℕ) (b : Blocks) (tree : Root) → AreBlocks bytes b
 within bytes b tree a h =
     let f = fine bytes a.passes in
     record { header = header_of bytes; words = has_header bytes f; size = f.size; tree = record { count = h.count; depth = h.depth } }
+
+-- the tree may be copied
+pub may_copy : (bytes : List ℕ) (b : Blocks) (tree : Root) → IsBytes bytes → AreBlocks bytes b → b.boot_cpu < 2 ^ 32 → HasTree b.strings.now b.at b.block.now tree → AreApart tree.properties (forest_of tree.children) → AreNumbered tree.properties (forest_of tree.children)
+    → MayCopy (reading_with b.boot_cpu (pairs_of b.reservations.now) tree)
+may_copy bytes b tree fits a small h apart numbered =
+    let block : IsBytes b.block.now = subst IsBytes (sym a.block) (IsBytes-take (number bytes 36) (drop (number bytes 8) bytes) (IsBytes-drop (number bytes 8) bytes fits)) in
+    record {
+      valid = (reads bytes b tree a small h apart numbered).valid;
+      within = (within bytes b tree a h).tree;
+      numbers = has_own_numbers b.strings.now b.at b.block.now tree block h apart numbered.valid numbered.own;
+    }
 
 pub numbered_by : (tree : Root) (values : List (List ℕ)) → values ≡ phandle_values tree.properties ++ phandles (forest_of tree.children) → ArePhandles values → AreNumbered tree.properties (forest_of tree.children)
 numbered_by tree values e a = let b = subst ArePhandles e a in record { valid = b.each; own = b.distinct }

@@ -5,7 +5,8 @@ use Rattle.dt_model.specs.Valid.{IsReservation}
 use Rattle.dt_model.specs.Format.{reservation_block}
 use Rattle.dt_model.specs.Checks.{header_fault, number, counted, strings_of, structure_of, AreApart}
 use Rattle.dt_read.specs.declared.blocks.Blocks.{Blocks}
-use Rattle.dt_read.specs.Placed.{PlacedTree, forest_of}
+use Rattle.dt_read.specs.Growth.{MayCopy}
+use Rattle.dt_read.specs.Placed.{PlacedTree, forest_of, reading_of}
 use Rattle.dt_read.specs.Marks.{Root}
 use Rattle.dt_read.specs.Order.{HasRisingPlaces}
 use Rattle.dt_read.specs.Pairs.{pairs_of}
@@ -31,7 +32,8 @@ pub record AreBlocks (bytes : List ℕ) (b : Blocks) : Type 0 where
 abbrev pub whole_of : PlacedTree → Root
 whole_of t = record { place = t.place; properties = t.properties; children = t.children }
 
--- places rise in preorder, and names are names, and differ
+-- places rise in preorder, names are names, and differ, and the tree may be copied
 pub record IsWellPlaced (t : PlacedTree) : Type 0 where
   pub rising : HasRisingPlaces (whole_of t)
   pub apart : AreApart t.properties (forest_of t.children)
+  pub copy : MayCopy (reading_of t)

@@ -15,3 +15,4 @@ pub mod Phandle
 pub mod Pairs
 pub mod Blocks
 pub mod Counting
+pub mod Growth

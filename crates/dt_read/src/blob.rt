@@ -4,7 +4,8 @@ ghost use Rattle.std.specs.Prelude.{◌≡◌, ◌≢◌, ◌+◌, ◌<◌, ◌^
 ghost use Rattle.dt_model.specs.Checks.{BlobFault, IsFirstFault};
 ghost use Rattle.dt_model.specs.Format.{Reads, IsWithin};
 ghost use Rattle.dt_model.specs.Path.{Path};
-ghost use Rattle.dt_names.specs.declared.fault.FaultKind.TheVariants.{Limit};
+ghost use Rattle.dt_names.specs.declared.fault.FaultKind.TheVariants.{Limit, NoMemory};
+ghost use Rattle.dt_flat.specs.Arena.{reading};
 ghost use Rattle.dt_read.specs.Kinds.{kind_of};
 ghost use Rattle.dt_read.specs.Placed.{reading_of, IsAt};
 
@@ -12,12 +13,15 @@ use crate::NodeId;
 use crate::blocks::blocks_of;
 use crate::counts::{Counts, count_pairs, count_tokens};
 use crate::distinct::has_distinct_names;
+use crate::flatten::flat_of;
 use crate::pairs::Reservations;
 use crate::phandle::are_phandles;
 use crate::scan::BadToken;
 use crate::structure::Structure;
 use crate::walk::{Children, Props};
+use dt_flat::FlatTree;
 use dt_names::{Fault, FaultKind};
+use std::alloc::Global;
 use std::marker::Model;
 
 /// A blob that reads as a tree. It is seen as that tree, with the places of its nodes.
@@ -158,5 +162,14 @@ impl<'a> Blob<'a> {
             map (λ child. Some child) result ≡ map (λ x. place_of self.now (path ++ x ∷ [])) (child_names self.now path) }
     {
         Children::new(self.structure.siblings(node))
+    }
+
+    /// The tree as one that can be changed, with the order of its nodes and properties. It wants memory, and nothing else is
+    /// in its way.
+    pub fn to_flat(&self, alloc: Global) -> Result<FlatTree, Fault>
+        ensures reads { IfOk result (λ tree. reading tree ≡ reading_of self.now) }
+        ensures refused { IfErr result (λ fault. (fault.kind ≡ NoMemory) × (fault.at ≡ None)) }
+    {
+        flat_of(alloc, &self.structure, self.reservations, self.boot_cpu)
     }
 }

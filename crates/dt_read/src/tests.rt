@@ -1,7 +1,9 @@
 //! Blobs that are accepted and refused.
 
 use super::*;
+use dt_flat::FlatTree;
 use dt_names::FaultKind;
+use std::alloc::{AllocError, Global};
 use std::test::*;
 
 const EMPTY: [u8; 72] = [
@@ -129,6 +131,19 @@ const PHANDLES: [u8; 124] = [
     0, 1, 0, 0, 0, 0, 0, 0, 0, 3, 0, 0, 0, 4, 0, 0, 0, 0, 0, 0, 0, 1, 0, 0, 0, 1, 110, 0, 0, 0, 0,
     0, 0, 3, 0, 0, 0, 4, 0, 0, 0, 0, 0, 0, 0, 2, 0, 0, 0, 2, 0, 0, 0, 2, 0, 0, 0, 9, 112, 104, 97,
     110, 100, 108, 101, 0,
+];
+
+// dtc's blob of `/memreserve/ 0x1000 0x20; / { q = [07]; p; n { phandle = <5>; k { p = "a"; }; }; m@1 { q; }; };`, boot
+// CPU 3.
+const NESTED: [u8; 208] = [
+    208, 13, 254, 237, 0, 0, 0, 208, 0, 0, 0, 72, 0, 0, 0, 196, 0, 0, 0, 40, 0, 0, 0, 17, 0, 0, 0,
+    16, 0, 0, 0, 3, 0, 0, 0, 12, 0, 0, 0, 124, 0, 0, 0, 0, 0, 0, 16, 0, 0, 0, 0, 0, 0, 0, 0, 32, 0,
+    0, 0, 0, 0, 0, 0, 0, 0, 0, 0, 0, 0, 0, 0, 0, 0, 0, 0, 1, 0, 0, 0, 0, 0, 0, 0, 3, 0, 0, 0, 1, 0,
+    0, 0, 0, 7, 0, 0, 0, 0, 0, 0, 3, 0, 0, 0, 0, 0, 0, 0, 2, 0, 0, 0, 1, 110, 0, 0, 0, 0, 0, 0, 3,
+    0, 0, 0, 4, 0, 0, 0, 4, 0, 0, 0, 5, 0, 0, 0, 1, 107, 0, 0, 0, 0, 0, 0, 3, 0, 0, 0, 2, 0, 0, 0,
+    2, 97, 0, 0, 0, 0, 0, 0, 2, 0, 0, 0, 2, 0, 0, 0, 1, 109, 64, 49, 0, 0, 0, 0, 3, 0, 0, 0, 0, 0,
+    0, 0, 0, 0, 0, 0, 2, 0, 0, 0, 2, 0, 0, 0, 9, 113, 0, 112, 0, 112, 104, 97, 110, 100, 108, 101,
+    0,
 ];
 
 fn is_blob(bytes: &[u8]) -> bool {
@@ -260,4 +275,43 @@ fn reads(rt: HostRuntime) -> Result<(), Fail> {
 fn counts_depths(rt: HostRuntime) {
     assert!(rt; is_blob(&DEEP));
     assert_eq!(rt; fault(&TOO_DEEP), Some((FaultKind::Limit, None)));
+}
+
+// What each node has, by their numbers: its name, its properties and its children.
+fn told(alloc: Global, tree: &FlatTree) -> Result<Vec<u8>, AllocError> {
+    let mut text = Vec::new(alloc);
+    for node in 0..tree.node_count() {
+        text.push(b'/')?;
+        text.extend_from_slice(tree.name(node))?;
+        for (name, value) in tree.props(node) {
+            text.push(b' ')?;
+            text.extend_from_slice(name)?;
+            text.push(b'=')?;
+            text.extend_from_slice(value)?;
+        }
+        for child in tree.children(node) {
+            text.push(b'>')?;
+            text.extend_from_slice(tree.name(child))?;
+        }
+    }
+    Ok(text)
+}
+
+// To be run with each allocation failing in turn.
+#[test]
+fn becomes_a_tree_that_can_be_changed(rt: HostRuntime) -> Result<(), Fail> {
+    let blob = Blob::check(&NESTED).ok().ok_or("refused")?;
+    let tree = match blob.to_flat(rt.alloc()) {
+        Ok(tree) => tree,
+        Err(fault) => {
+            assert!(rt; fault.kind == FaultKind::NoMemory && fault.at.is_none());
+            blob.to_flat(rt.alloc())?
+        }
+    };
+    assert_eq!(rt; tree.boot_cpu(), 3);
+    assert_eq!(rt; tree.reservations(), [(0x1000, 0x20)].as_slice());
+    let text = told(rt.alloc(), &tree)?;
+    let expected = b"/ q=\x07 p=>n>m@1/n phandle=\0\0\0\x05>k/k p=a\0/m@1 q=";
+    assert_eq!(rt; text.as_slice(), expected.as_slice());
+    Ok(())
 }

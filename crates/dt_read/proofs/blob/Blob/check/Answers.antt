@@ -4,7 +4,8 @@ use Rattle.dt_model.specs.Checks.{IsFirstFault}
 use Rattle.dt_read.specs.Marks.{last_mark, marks_of}
 use Rattle.dt_read.specs.Phandle.{phandles_in}
 use Rattle.dt_read.proofs.Apart.{apart, distinct, tree_phandles}
-use Rattle.dt_read.proofs.Wholes.{first_at, names_at, phandles_at, numbered_by, by_numbered, number_small, reads, within, places}
+use Rattle.dt_read.proofs.Numbers.{IsBytes}
+use Rattle.dt_read.proofs.Wholes.{first_at, names_at, phandles_at, numbered_by, by_numbered, number_small, reads, within, may_copy, places}
 use Rattle.dt_read.proofs.blob.Blob.check.Goals as goal
 
 pub returns-in-Err-clause-fault : goal.returns-in-Err-clause-fault
@@ -32,7 +33,17 @@ pub invariant_of-result : goal.invariant_of-result
 invariant_of-result c =
     let tree = c.in-Ok.structure in
     let h = c.in-Ok.ensures.tree in
-    record { rising = record { high = c.in-Ok.ensures.places.high; rise = c.in-Ok.ensures.places.rise }; apart = apart tree c.in-Ok.ensures.places h.properties h.nodes (c.if-not-has_distinct_names.ensures.0 refl) }
+    let blocks = c.in_ok-blocks.ensures.blocks in
+    let a = apart tree c.in-Ok.ensures.places h.properties h.nodes (c.if-not-has_distinct_names.ensures.0 refl) in
+    let n = numbered_by tree (phandles_in (marks_of tree ++ last_mark ∷ [])) (tree_phandles tree a) (c.if-not-are_phandles.ensures.0 refl) in
+    let fits : IsBytes c.args.bytes.now = λ i. omega (arith, c.type_inv.bytes i) in
+    let small = number_small c.args.bytes.now 28 fits in
+    let cpu = blocks.boot_cpu in
+    record {
+      rising = record { high = c.in-Ok.ensures.places.high; rise = c.in-Ok.ensures.places.rise };
+      apart = a;
+      copy = may_copy c.args.bytes.now c.in_ok-blocks.blocks tree fits blocks (omega arith) h a n;
+    }
 
 pub returns-clause-reads : goal.returns-clause-reads
 returns-clause-reads c =
