@@ -151,7 +151,7 @@ def best(command):
     times = []
     for _ in range(RUNS):
         start = time.perf_counter()
-        done = subprocess.run(command, stdout=subprocess.PIPE, check=True)
+        done = subprocess.run(command, stdout=subprocess.PIPE, stderr=subprocess.DEVNULL, check=True)
         times.append(time.perf_counter() - start)
     return min(times), done.stdout
 
