@@ -297,9 +297,21 @@ fn told(alloc: Global, tree: &FlatTree) -> Result<Vec<u8>, AllocError> {
     Ok(text)
 }
 
-// To be run with each allocation failing in turn.
 #[test]
 fn becomes_a_tree_that_can_be_changed(rt: HostRuntime) -> Result<(), Fail> {
+    let blob = Blob::check(&NESTED).ok().ok_or("refused")?;
+    let tree = blob.to_flat(rt.alloc())?;
+    assert_eq!(rt; tree.boot_cpu(), 3);
+    assert_eq!(rt; tree.reservations(), [(0x1000, 0x20)].as_slice());
+    let text = told(rt.alloc(), &tree)?;
+    let expected = b"/ q=\x07 p=>n>m@1/n phandle=\0\0\0\x05>k/k p=a\0/m@1 q=";
+    assert_eq!(rt; text.as_slice(), expected.as_slice());
+    Ok(())
+}
+
+// To be run with each allocation failing in turn.
+#[test]
+fn a_copy_is_refused_for_memory_only(rt: HostRuntime) -> Result<(), Fail> {
     let blob = Blob::check(&NESTED).ok().ok_or("refused")?;
     let tree = match blob.to_flat(rt.alloc()) {
         Ok(tree) => tree,
@@ -308,10 +320,7 @@ fn becomes_a_tree_that_can_be_changed(rt: HostRuntime) -> Result<(), Fail> {
             blob.to_flat(rt.alloc())?
         }
     };
-    assert_eq!(rt; tree.boot_cpu(), 3);
-    assert_eq!(rt; tree.reservations(), [(0x1000, 0x20)].as_slice());
-    let text = told(rt.alloc(), &tree)?;
-    let expected = b"/ q=\x07 p=>n>m@1/n phandle=\0\0\0\x05>k/k p=a\0/m@1 q=";
-    assert_eq!(rt; text.as_slice(), expected.as_slice());
+    assert_eq!(rt; tree.node_count(), 4);
+    assert_eq!(rt; tree.reservations().len(), 1);
     Ok(())
 }
