@@ -1,5 +1,7 @@
 //! Blobs that are accepted and refused.
 
+ghost use Rattle.std.specs.Prelude.{◌<◌, length};
+
 use super::*;
 use dt_flat::FlatTree;
 use dt_names::FaultKind;
@@ -277,6 +279,17 @@ fn counts_depths(rt: HostRuntime) {
     assert_eq!(rt; fault(&TOO_DEEP), Some((FaultKind::Limit, None)));
 }
 
+// The names of a node's children.
+fn tell_children(text: &mut Vec<u8>, tree: &FlatTree, node: usize) -> Result<(), AllocError>
+    requires { node < length tree.now.slots }
+{
+    for child in tree.children(node) {
+        text.push(b'>')?;
+        text.extend_from_slice(tree.name(child))?;
+    }
+    Ok(())
+}
+
 // What each node has, by their numbers: its name, its properties and its children.
 fn told(alloc: Global, tree: &FlatTree) -> Result<Vec<u8>, AllocError> {
     let mut text = Vec::new(alloc);
@@ -289,10 +302,7 @@ fn told(alloc: Global, tree: &FlatTree) -> Result<Vec<u8>, AllocError> {
             text.push(b'=')?;
             text.extend_from_slice(value)?;
         }
-        for child in tree.children(node) {
-            text.push(b'>')?;
-            text.extend_from_slice(tree.name(child))?;
-        }
+        tell_children(&mut text, tree, node)?;
     }
     Ok(text)
 }
