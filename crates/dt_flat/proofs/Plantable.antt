@@ -24,16 +24,19 @@ use Rattle.dt_flat.proofs.PlantedNodes.{rows, length-rows, made, made_last, leng
 -- ---- properties in their turn
 
 -- what holds of the value of the property phandle holds of each property of that name
-each_phandle : (P : List ℕ → Type 0) (ps : List Property) → AreDistinct (map (λ p. p.name) ps) → AllByRecursion P (phandle_values ps) → AllByRecursion (λ p. p.name ≡ codes "phandle" → P p.value) ps
+each_phandle : (P : List ℕ → Type 0) (ps : List Property) → AreDistinct (map (λ p. p.name) ps) → AllByRecursion P (phandle_values ps)
+    → AllByRecursion (λ p. p.name ≡ codes "phandle" → P p.value) ps
 each_phandle P [] d h = tt
 each_phandle P (p ∷ ps) d h = by (bytes_eq (codes "phandle") p.name) refl h (λ rest. each_phandle P ps d.1 rest)
   where
-    unnamed : (qs : List Property) → p.name ≡ codes "phandle" → AllByRecursion (λ y. y ≢ p.name) (map (λ q. q.name) qs) → AllByRecursion (λ q. q.name ≡ codes "phandle" → P q.value) qs
+    unnamed : (qs : List Property) → p.name ≡ codes "phandle" → AllByRecursion (λ y. y ≢ p.name) (map (λ q. q.name) qs)
+        → AllByRecursion (λ q. q.name ≡ codes "phandle" → P q.value) qs
     unnamed [] e a = tt
     unnamed (q ∷ qs) e a = ((λ f. absurd (a.0 (f ∙ sym e))), unnamed qs e a.1)
 
     by : (b : Bool) → bytes_eq (codes "phandle") p.name ≡ b → AllByRecursion P (option_to_list (cond b (Some p.value) (value_of ps (codes "phandle"))))
-        → (AllByRecursion P (phandle_values ps) → AllByRecursion (λ q. q.name ≡ codes "phandle" → P q.value) ps) → AllByRecursion (λ q. q.name ≡ codes "phandle" → P q.value) (p ∷ ps)
+        → (AllByRecursion P (phandle_values ps) → AllByRecursion (λ q. q.name ≡ codes "phandle" → P q.value) ps)
+        → AllByRecursion (λ q. q.name ≡ codes "phandle" → P q.value) (p ∷ ps)
     by true e x f = ((λ n. x.0), unnamed ps (sym ((bytes_eq-Decides (codes "phandle") p.name).0 e)) d.0)
     by false e x f = ((λ n. let t : bytes_eq (codes "phandle") p.name ≡ true = (bytes_eq-Decides (codes "phandle") p.name).1 (sym n) in absurd cc), f x)
 
@@ -48,7 +51,8 @@ only_kept slots p name value other h q d e = h q d (sym (phandle-other slots p n
 abbrev IsGood : List Slot → ℕ → Property → Type 0
 IsGood slots p x = x.name ≡ codes "phandle" → IsPhandle x.value × IsOnlyAt slots p x.value
 
-good_kept : (slots : List Slot) (p : ℕ) (name value : List ℕ) (xs : List Property) → AllByRecursion (IsGood slots p) xs → AllByRecursion (IsGood (with_property slots p name value) p) xs
+good_kept : (slots : List Slot) (p : ℕ) (name value : List ℕ) (xs : List Property) → AllByRecursion (IsGood slots p) xs
+    → AllByRecursion (IsGood (with_property slots p name value) p) xs
 good_kept slots p name value [] h = tt
 good_kept slots p name value (x ∷ xs) h = ((λ e. ((h.0 e).0, only_kept slots p name value x.value (h.0 e).1)), good_kept slots p name value xs h.1)
 
@@ -88,16 +92,16 @@ rows_free i p d (branch name properties children siblings) n h =
     let own = phandle_values properties in
     let both = own ++ phandles children in
     let whole = subst (AllByRecursion (λ k. k ≢ n)) (map-append (λ v. from_be_bytes w32 v) both (phandles siblings)) h in
-    let front = subst (AllByRecursion (λ k. k ≢ n)) (map-append (λ v. from_be_bytes w32 v) own (phandles children)) (all-front (λ k. k ≢ n) (numbers both) (numbers (phandles siblings)) whole) in
-    (
+    let front = subst (AllByRecursion (λ k. k ≢ n)) (map-append (λ v. from_be_bytes w32 v) own (phandles children)) (all-front (λ k. k ≢ n) (numbers both) (numbers (phandles siblings)) whole) in (
       all-front (λ k. k ≢ n) (numbers own) (numbers (phandles children)) front,
       all-append (λ m. AllByRecursion (λ k. k ≢ n) (numbers (phandle_values m.properties))) (rows (suc i) i (d + 1) children) (rows (suc i + node_count children) p d siblings)
-      (rows_free (suc i) i (d + 1) children n (all-back (λ k. k ≢ n) (numbers own) (numbers (phandles children)) front))
-      (rows_free (suc i + node_count children) p d siblings n (all-back (λ k. k ≢ n) (numbers both) (numbers (phandles siblings)) whole)),
+          (rows_free (suc i) i (d + 1) children n (all-back (λ k. k ≢ n) (numbers own) (numbers (phandles children)) front))
+          (rows_free (suc i + node_count children) p d siblings n (all-back (λ k. k ≢ n) (numbers both) (numbers (phandles siblings)) whole)),
     )
 
 -- numbers that are free stay so where nodes come that have none of them
-still_free : (slots ms : List Slot) (ns : List ℕ) → AllByRecursion (IsFree slots) ns → AllByRecursion (IsFree ms) ns → AllByRecursion (IsFree (slots ++ ms)) ns
+still_free : (slots ms : List Slot) (ns : List ℕ) → AllByRecursion (IsFree slots) ns → AllByRecursion (IsFree ms) ns
+    → AllByRecursion (IsFree (slots ++ ms)) ns
 still_free slots ms [] a b = tt
 still_free slots ms (n ∷ ns) a b = (all-append (λ m. AllByRecursion (λ k. k ≢ n) (numbers (phandle_values m.properties))) slots ms a.0 b.0, still_free slots ms ns a.1 b.1)
 
@@ -126,26 +130,29 @@ named_among-append i (n ∷ ns) ms p h =
     let rest = named_among-append (suc i) ns ms p h in
     λ j. cond (eqb n.parent p) (record { name = n.name; node = i } ∷ rest j) (rest j)
 
-named_children-append : (slots ms : List Slot) (p : ℕ) → p < length slots → AllByRecursion (λ m. m.parent ≢ p) ms → named_children (slots ++ ms) p ≡ named_children slots p
+named_children-append : (slots ms : List Slot) (p : ℕ) → p < length slots → AllByRecursion (λ m. m.parent ≢ p) ms
+    → named_children (slots ++ ms) p ≡ named_children slots p
 named_children-append slots ms p lt h =
     ap (λ (ns : List Slot). named_among (suc p) ns p) (drop-append-le (suc p) slots ms (omega arith)) ∙ named_among-append (suc p) (drop (suc p) slots) ms p h
 
-children-with_properties : (slots : List Slot) (p : ℕ) (xs : List Property) (i : ℕ) → named_children (with_properties slots p xs) i ≡ named_children slots i
+children-with_properties : (slots : List Slot) (p : ℕ) (xs : List Property) (i : ℕ)
+    → named_children (with_properties slots p xs) i ≡ named_children slots i
 children-with_properties slots p [] i = refl
 children-with_properties slots p (x ∷ xs) i = children-with_properties (with_property slots p x.name x.value) p xs i ∙ children-with_property slots p x.name x.value i
 
 -- the children after a node with properties is made
-children_made : (slots : List Slot) (p : ℕ) (name : Name) (ps : List Property) (i : ℕ) → AreProperties ps → named_children (slots ++ made slots p name ps ∷ []) i ≡ named_children (with_child slots p name) i
+children_made : (slots : List Slot) (p : ℕ) (name : Name) (ps : List Property) (i : ℕ) → AreProperties ps
+    → named_children (slots ++ made slots p name ps ∷ []) i ≡ named_children (with_child slots p name) i
 children_made slots p name ps i h = ap (λ (ns : List Slot). named_children ns i) (sym (made_last slots p name ps h)) ∙ children-with_properties (with_child slots p name) (length slots) ps i
 
-fresh_beside : (slots : List Slot) (p : ℕ) (name : Name) (ps : List Property) (xs : List Name) → p < length slots → AreProperties ps → child_of (named_children slots p) name ≡ None → AllByRecursion (λ y. y ≢ name) xs → AreFresh slots p xs
+fresh_beside : (slots : List Slot) (p : ℕ) (name : Name) (ps : List Property) (xs : List Name) → p < length slots → AreProperties ps
+    → child_of (named_children slots p) name ≡ None → AllByRecursion (λ y. y ≢ name) xs → AreFresh slots p xs
     → AreFresh (slots ++ made slots p name ps ∷ []) p xs
 fresh_beside slots p name ps [] lt h none d f = tt
 fresh_beside slots p name ps (x ∷ xs) lt h none d f =
-    let is : bytes_eq x name ≡ false = not_same x d.0 in
-    (
+    let is : bytes_eq x name ≡ false = not_same x d.0 in (
       ap (λ cs. child_of cs x) (children_made slots p name ps p h) ∙ child-with_child slots p name p x lt none
-      ∙ ap (λ (b : Bool). cond b (Some (length slots)) (child_of (named_children slots p) x)) (both (eqb p p) (bytes_eq x name) is) ∙ f.0,
+          ∙ ap (λ (b : Bool). cond b (Some (length slots)) (child_of (named_children slots p) x)) (both (eqb p p) (bytes_eq x name) is) ∙ f.0,
       fresh_beside slots p name ps xs lt h none d.1 f.1,
     )
   where
@@ -160,7 +167,8 @@ fresh_beside slots p name ps (x ∷ xs) lt h none d f =
     both true b e = e
     both false b e = refl
 
-fresh_further : (slots ms : List Slot) (p : ℕ) (xs : List Name) → p < length slots → AllByRecursion (λ m. m.parent ≢ p) ms → AreFresh slots p xs → AreFresh (slots ++ ms) p xs
+fresh_further : (slots ms : List Slot) (p : ℕ) (xs : List Name) → p < length slots → AllByRecursion (λ m. m.parent ≢ p) ms → AreFresh slots p xs
+    → AreFresh (slots ++ ms) p xs
 fresh_further slots ms p [] lt h f = tt
 fresh_further slots ms p (x ∷ xs) lt h f = (ap (λ cs. child_of cs x) (named_children-append slots ms p lt h) ∙ f.0, fresh_further slots ms p xs lt h f.1)
 
@@ -178,11 +186,13 @@ pub record Fits (slots : List Slot) (p : ℕ) (f : Forest) : Type 0 where
   pub free : AllByRecursion (IsFree slots) (numbers (phandles f))
 
 -- the numbers of a branch
-parted : (P : List ℕ → Type 0) (own inner outer : List (List ℕ)) → P (numbers ((own ++ inner) ++ outer)) → P ((numbers own ++ numbers inner) ++ numbers outer)
+parted : (P : List ℕ → Type 0) (own inner outer : List (List ℕ)) → P (numbers ((own ++ inner) ++ outer))
+    → P ((numbers own ++ numbers inner) ++ numbers outer)
 parted P own inner outer h =
     subst P (map-append (λ v. from_be_bytes w32 v) (own ++ inner) outer ∙ ap (λ (ns : List ℕ). ns ++ numbers outer) (map-append (λ v. from_be_bytes w32 v) own inner)) h
 
-fits_inside : (slots : List Slot) (p : ℕ) (name : Name) (properties : List Property) (children siblings : Forest) → Fits slots p (branch name properties children siblings) → Fits (slots ++ made slots p name properties ∷ []) (length slots) children
+fits_inside : (slots : List Slot) (p : ℕ) (name : Name) (properties : List Property) (children siblings : Forest)
+    → Fits slots p (branch name properties children siblings) → Fits (slots ++ made slots p name properties ∷ []) (length slots) children
 fits_inside slots p name properties children siblings f =
     let m = made slots p name properties in
     let h = f.nodes in
@@ -206,14 +216,15 @@ fits_inside slots p name properties children siblings f =
 
 rows_elsewhere : (i p q : ℕ) (ns : List Slot) → AreBelow i q ns → p < i → q ≢ p → AllByRecursion (λ n. n.parent ≢ p) ns
 rows_elsewhere i p q [] h lt d = tt
-rows_elsewhere i p q (n ∷ ns) h lt d = (elim h.0 [ | inl e ↦ (λ f. d (sym e ∙ f)) | inr e ↦ (λ f. omega arith) ], rows_elsewhere i p q ns h.1 lt d)
+rows_elsewhere i p q (n ∷ ns) h lt d = (elim h.0 [ inl e ↦ (λ f. d (sym e ∙ f)) | inr e ↦ (λ f. omega arith) ], rows_elsewhere i p q ns h.1 lt d)
 
 -- the nodes after a branch is made, without its siblings
 after_branch : List Slot → ℕ → Name → List Property → Forest → List Slot
 after_branch slots p name properties children =
     (slots ++ made slots p name properties ∷ []) ++ rows (suc (length slots)) (length slots) (depth_of slots p + 1 + 1) children
 
-fits_beside : (slots : List Slot) (p : ℕ) (name : Name) (properties : List Property) (children siblings : Forest) → MayAdd slots p name → Fits slots p (branch name properties children siblings) → Fits (after_branch slots p name properties children) p siblings
+fits_beside : (slots : List Slot) (p : ℕ) (name : Name) (properties : List Property) (children siblings : Forest) → MayAdd slots p name
+    → Fits slots p (branch name properties children siblings) → Fits (after_branch slots p name properties children) p siblings
 unfolding after_branch
 fits_beside slots p name properties children siblings may f =
     let m = made slots p name properties in
@@ -249,12 +260,14 @@ fits_beside slots p name properties children siblings may f =
 
 -- ---- what fits may be planted
 
-good : (slots : List Slot) (p : ℕ) (ps : List Property) → AreProperties ps → AllByRecursion IsPhandle (phandle_values ps) → AllByRecursion (IsFree slots) (numbers (phandle_values ps)) → (new : List Slot) → ((q : ℕ) → q ≢ p → phandle_at new q ≡ phandle_at slots q)
+good : (slots : List Slot) (p : ℕ) (ps : List Property) → AreProperties ps → AllByRecursion IsPhandle (phandle_values ps)
+    → AllByRecursion (IsFree slots) (numbers (phandle_values ps)) → (new : List Slot) → ((q : ℕ) → q ≢ p → phandle_at new q ≡ phandle_at slots q)
     → AllByRecursion (IsGood new p) ps
 good slots p ps h valid free new same =
     each_phandle (λ v. IsPhandle v × IsOnlyAt new p v) ps h.distinct (both (phandle_values ps) valid free)
   where
-    both : (vs : List (List ℕ)) → AllByRecursion IsPhandle vs → AllByRecursion (IsFree slots) (numbers vs) → AllByRecursion (λ v. IsPhandle v × IsOnlyAt new p v) vs
+    both : (vs : List (List ℕ)) → AllByRecursion IsPhandle vs → AllByRecursion (IsFree slots) (numbers vs)
+        → AllByRecursion (λ v. IsPhandle v × IsOnlyAt new p v) vs
     both [] a b = tt
     both (v ∷ vs) a b = ((a.0, λ q d e. free_nowhere slots (from_be_bytes w32 v) q b.0 (sym (same q d) ∙ e)), both vs a.1 b.1)
 
@@ -275,7 +288,7 @@ plant (branch name properties children siblings) slots p f =
     let set = may_set_all (with_child slots p name) i properties (good slots i properties h.1 valid free (with_child slots p name) (λ q d. ap phandle_of (properties-push slots (made slots p name []) q refl))) in
     let inside = fits_inside slots p name properties children siblings f in
     let is : planted ns i children ≡ after_branch slots p name properties children =
-        planted_rows children ns i (inside.within) h.2 ∙ (λ j. ns ++ rows (length-made slots m j) i (depth-last slots m j + 1) children) in
+    planted_rows children ns i (inside.within) h.2 ∙ (λ j. ns ++ rows (length-made slots m j) i (depth-last slots m j + 1) children) in
     let beside = plant siblings (after_branch slots p name properties children) p (fits_beside slots p name properties children siblings may f) in
     let further : MayPlant ns i children × MayPlant (planted ns i children) p siblings = (plant children ns i inside, subst (λ (x : List Slot). MayPlant x p siblings) (sym is) beside) in
     let both = subst (λ (x : List Slot). MayPlant x i children × MayPlant (planted x i children) p siblings) (sym (made_last slots p name properties h.1)) further in
@@ -288,17 +301,17 @@ may_make t v w own =
     let others = phandles t.children in
     let differ = subst AreDistinct (map-append (λ v. from_be_bytes w32 v) mine others) own in
     let fits : Fits (root_with t.properties) 0 t.children =
-        record {
-          within = omega arith;
-          nodes = v.nodes;
-          siblings = v.siblings;
-          fresh = bare (root_with t.properties) 0 (names t.children) refl;
-          few = omega (arith, w.count);
-          shallow = w.depth;
-          valid = all-back IsPhandle mine others v.phandles_valid;
-          numbered = distinct-back (numbers mine) (numbers others) differ;
-          free = apart_free (record { parent = 0; depth = 0; name = []; properties = t.properties }) (numbers others) (apart-flip (numbers mine) (numbers others) (distinct-apart (numbers mine) (numbers others) differ));
-        } in
+    record {
+      within = omega arith;
+      nodes = v.nodes;
+      siblings = v.siblings;
+      fresh = bare (root_with t.properties) 0 (names t.children) refl;
+      few = omega (arith, w.count);
+      shallow = w.depth;
+      valid = all-back IsPhandle mine others v.phandles_valid;
+      numbered = distinct-back (numbers mine) (numbers others) differ;
+      free = apart_free (record { parent = 0; depth = 0; name = []; properties = t.properties }) (numbers others) (apart-flip (numbers mine) (numbers others) (distinct-apart (numbers mine) (numbers others) differ));
+    } in
     record {
       set = may_set_all root 0 t.properties (good root 0 t.properties v.properties (all-front IsPhandle mine others v.phandles_valid) (unused (numbers mine)) root (λ q d. refl));
       plant = subst (λ (x : List Slot). MayPlant x 0 t.children) (sym (root_set t.properties v.properties)) (plant t.children (root_with t.properties) 0 fits);

@@ -1,5 +1,5 @@
 -- The phandles that a block spells are bytes, so that two of one number are the same.
-use Rattle.std.proofs.Common.{◌≡◌, ◌≢◌, ℕ, ◌+◌, ◌<◌, Bool, true, false, cond, List, [], ◌∷◌, ◌++◌, length, map, refl, sym, ap, subst, ◌∙◌, codes}
+use Rattle.std.proofs.Common.{◌≡◌, ◌≢◌, ℕ, ◌+◌, Bool, true, false, cond, List, [], ◌∷◌, ◌++◌, length, refl, sym, ap, subst, ◌∙◌, codes}
 use Rattle.std.specs.List.{AllByRecursion}
 use Rattle.std.specs.Int.{w32, from_be_bytes, to_be_bytes}
 use Rattle.std.specs.Str.{bytes_eq}
@@ -10,7 +10,7 @@ use Rattle.dt_model.specs.Valid.{AreDistinct, IsPhandle, phandle_values, phandle
 use Rattle.dt_model.specs.Checks.{AreApart}
 use Rattle.dt_flat.specs.Planted.{numbers, HasOwnNumbers}
 use Rattle.dt_read.specs.Placed.{forest_of}
-use Rattle.dt_read.specs.Marks.{Mark, begin_mark, end_mark, prop_mark, nop_mark, last_mark, SpellsMark, SpellsMarks, Root, marks_of, without_nop_marks}
+use Rattle.dt_read.specs.Marks.{Mark, begin_mark, end_mark, prop_mark, nop_mark, last_mark, SpellsMark, SpellsMarks, Root, without_nop_marks}
 use Rattle.dt_read.specs.Reading.{HasTree}
 use Rattle.dt_read.specs.Phandle.{phandles_in}
 use Rattle.dt_read.proofs.Numbers.{IsBytes, IsBytes-take, IsBytes-drop}
@@ -30,13 +30,15 @@ value_bytes strings at p own s h =
     let content = bytes_front (word 3 ++ sized) t.bytes.padding (subst IsBytes t.bytes.whole h) in
     bytes_back (word t.offset) p.value (bytes_back (word (length p.value)) value (bytes_back (word 3) sized content))
 
-phandle_bytes : (strings : List ℕ) (at : ℕ) (marks : List Mark) (bytes : List ℕ) → IsBytes bytes → SpellsMarks strings at marks bytes → AllByRecursion IsBytes (phandles_in marks)
+phandle_bytes : (strings : List ℕ) (at : ℕ) (marks : List Mark) (bytes : List ℕ) → IsBytes bytes → SpellsMarks strings at marks bytes
+    → AllByRecursion IsBytes (phandles_in marks)
 phandle_bytes strings at [] bytes h s = tt
 phandle_bytes strings at (mark ∷ marks) bytes h s =
     let whole = subst IsBytes s.2 h in
     by mark s.3 (bytes_front s.0 s.1 whole) (phandle_bytes strings (at + length s.0) marks s.1 (bytes_back s.0 s.1 whole) s.4)
   where
-    by : (m : Mark) → SpellsMark strings at m s.0 → IsBytes s.0 → AllByRecursion IsBytes (phandles_in marks) → AllByRecursion IsBytes (phandles_in (m ∷ marks))
+    by : (m : Mark) → SpellsMark strings at m s.0 → IsBytes s.0 → AllByRecursion IsBytes (phandles_in marks)
+        → AllByRecursion IsBytes (phandles_in (m ∷ marks))
     by (begin_mark place name) t own rest = rest
     by end_mark t own rest = rest
     by nop_mark t own rest = rest
@@ -55,7 +57,9 @@ without_nops_same (nop_mark ∷ marks) rest = without_nops_same marks rest
 without_nops_same (last_mark ∷ marks) rest = without_nops_same marks rest
 without_nops_same (prop_mark p ∷ marks) rest = ap (λ (vs : List (List ℕ)). cond (bytes_eq (codes "phandle") p.name) (p.value ∷ vs) vs) (without_nops_same marks rest)
 
-tree_bytes : (strings : List ℕ) (at : ℕ) (block : List ℕ) (tree : Root) → IsBytes block → HasTree strings at block tree → AreApart tree.properties (forest_of tree.children) → AllByRecursion IsBytes (phandle_values tree.properties ++ phandles (forest_of tree.children))
+tree_bytes : (strings : List ℕ) (at : ℕ) (block : List ℕ) (tree : Root) → IsBytes block → HasTree strings at block tree
+    → AreApart tree.properties (forest_of tree.children)
+    → AllByRecursion IsBytes (phandle_values tree.properties ++ phandles (forest_of tree.children))
 tree_bytes strings at block tree fits h a =
     let all = phandle_bytes strings at (h.marks ++ last_mark ∷ []) block fits h.spelled in
     let same : phandles_in (h.marks ++ last_mark ∷ []) ≡ phandle_values tree.properties ++ phandles (forest_of tree.children) =
@@ -69,11 +73,14 @@ own_numbers : (vs : List (List ℕ)) → AllByRecursion IsPhandle vs → AllByRe
 own_numbers [] p b d = tt
 own_numbers (v ∷ vs) p b d = (differ vs p.1 b.1 d.0, own_numbers vs p.1 b.1 d.1)
   where
-    differ : (ws : List (List ℕ)) → AllByRecursion IsPhandle ws → AllByRecursion IsBytes ws → AllByRecursion (λ w. w ≢ v) ws → AllByRecursion (λ n. n ≢ from_be_bytes w32 v) (numbers ws)
+    differ : (ws : List (List ℕ)) → AllByRecursion IsPhandle ws → AllByRecursion IsBytes ws → AllByRecursion (λ w. w ≢ v) ws
+        → AllByRecursion (λ n. n ≢ from_be_bytes w32 v) (numbers ws)
     differ [] q c e = tt
     differ (w ∷ ws) q c e = ((λ f. e.0 (one_value w v q.0 p.0 c.0 b.0 f)), differ ws q.1 c.1 e.1)
 
 -- no two nodes of a tree that a block spells have one number
-pub has_own_numbers : (strings : List ℕ) (at : ℕ) (block : List ℕ) (tree : Root) → IsBytes block → HasTree strings at block tree → AreApart tree.properties (forest_of tree.children)
-    → AllByRecursion IsPhandle (phandle_values tree.properties ++ phandles (forest_of tree.children)) → AreDistinct (phandle_values tree.properties ++ phandles (forest_of tree.children)) → HasOwnNumbers tree.properties (forest_of tree.children)
+pub has_own_numbers : (strings : List ℕ) (at : ℕ) (block : List ℕ) (tree : Root) → IsBytes block → HasTree strings at block tree
+    → AreApart tree.properties (forest_of tree.children)
+    → AllByRecursion IsPhandle (phandle_values tree.properties ++ phandles (forest_of tree.children))
+    → AreDistinct (phandle_values tree.properties ++ phandles (forest_of tree.children)) → HasOwnNumbers tree.properties (forest_of tree.children)
 has_own_numbers strings at block tree fits h a valid differ = own_numbers (phandle_values tree.properties ++ phandles (forest_of tree.children)) valid (tree_bytes strings at block tree fits h a) differ

@@ -9,19 +9,22 @@ use Rattle.dt_model.specs.Valid.{AreNodes, IsNoDeeper}
 use Rattle.dt_flat.specs.Arena.{Arena, Slot, root_alone, depth_of, with_child, with_property, reading}
 use Rattle.dt_flat.specs.Planted.{with_properties, planted, planted_tree, arena_of, MaySetAll, MayPlant, MayMake}
 use Rattle.dt_read.specs.Placed.{Nodes, no_nodes, node, forest_of}
-use Rattle.dt_read.specs.Marks.{Mark, begin_mark, end_mark, prop_mark, last_mark, Root, marks_of_nodes, marks_of}
+use Rattle.dt_read.specs.Marks.{Mark, end_mark, prop_mark, last_mark, Root, marks_of_nodes, marks_of}
 use Rattle.dt_read.specs.Growth.{grown, MayGrow, reading_with, MayCopy}
 
 -- ---- what the tokens make
 
-regrouped : (properties : List Property) (inner outer rest : List Mark) → (map prop_mark properties ++ (inner ++ end_mark ∷ outer)) ++ rest ≡ map prop_mark properties ++ (inner ++ end_mark ∷ (outer ++ rest))
+regrouped : (properties : List Property) (inner outer rest : List Mark)
+    → (map prop_mark properties ++ (inner ++ end_mark ∷ outer)) ++ rest ≡ map prop_mark properties ++ (inner ++ end_mark ∷ (outer ++ rest))
 regrouped properties inner outer rest = simp append_assoc
 
-grown_properties : (xs : List Property) (rest : List Mark) (slots : List Slot) (p : ℕ) (ps : List ℕ) → grown (map prop_mark xs ++ rest) slots (p ∷ ps) ≡ grown rest (with_properties slots p xs) (p ∷ ps)
+grown_properties : (xs : List Property) (rest : List Mark) (slots : List Slot) (p : ℕ) (ps : List ℕ)
+    → grown (map prop_mark xs ++ rest) slots (p ∷ ps) ≡ grown rest (with_properties slots p xs) (p ∷ ps)
 grown_properties [] rest slots p ps = refl
 grown_properties (x ∷ xs) rest slots p ps = grown_properties xs rest (with_property slots p x.name x.value) p ps
 
-grown_nodes : (nodes : Nodes) (rest : List Mark) (slots : List Slot) (p : ℕ) (ps : List ℕ) → grown (marks_of_nodes nodes ++ rest) slots (p ∷ ps) ≡ grown rest (planted slots p (forest_of nodes)) (p ∷ ps)
+grown_nodes : (nodes : Nodes) (rest : List Mark) (slots : List Slot) (p : ℕ) (ps : List ℕ)
+    → grown (marks_of_nodes nodes ++ rest) slots (p ∷ ps) ≡ grown rest (planted slots p (forest_of nodes)) (p ∷ ps)
 grown_nodes no_nodes rest slots p ps = refl
 grown_nodes (node place name properties children siblings) rest slots p ps =
     let i = length slots in
@@ -64,13 +67,15 @@ longer_planted (branch name properties children siblings) slots p =
 
 -- ---- nothing is in their way
 
-may_properties : (xs : List Property) (rest : List Mark) (slots : List Slot) (p : ℕ) (ps : List ℕ) → p < length slots → AllByRecursion (λ x. IsPropertyName x.name) xs → MaySetAll slots p xs
+may_properties : (xs : List Property) (rest : List Mark) (slots : List Slot) (p : ℕ) (ps : List ℕ) → p < length slots
+    → AllByRecursion (λ x. IsPropertyName x.name) xs → MaySetAll slots p xs
     → MayGrow rest (with_properties slots p xs) (p ∷ ps) → MayGrow (map prop_mark xs ++ rest) slots (p ∷ ps)
 may_properties [] rest slots p ps lt named may later = later
 may_properties (x ∷ xs) rest slots p ps lt named may later =
     ((lt, named.0, may.0), may_properties xs rest (with_property slots p x.name x.value) p ps (omega (arith, longer_property slots p x.name x.value)) named.1 may.1 later)
 
-may_nodes : (nodes : Nodes) (rest : List Mark) (slots : List Slot) (p : ℕ) (ps : List ℕ) (d : ℕ) → d ≡ suc (length ps) → p < length slots → AreNodes (forest_of nodes) → IsNoDeeper 64 d (forest_of nodes) → MayPlant slots p (forest_of nodes)
+may_nodes : (nodes : Nodes) (rest : List Mark) (slots : List Slot) (p : ℕ) (ps : List ℕ) (d : ℕ) → d ≡ suc (length ps) → p < length slots
+    → AreNodes (forest_of nodes) → IsNoDeeper 64 d (forest_of nodes) → MayPlant slots p (forest_of nodes)
     → MayGrow rest (planted slots p (forest_of nodes)) (p ∷ ps) → MayGrow (marks_of_nodes nodes ++ rest) slots (p ∷ ps)
 may_nodes no_nodes rest slots p ps d deep lt nodes shallow may later = later
 may_nodes (node place name properties children siblings) rest slots p ps d deep lt h shallow may later =
@@ -88,7 +93,8 @@ may_nodes (node place name properties children siblings) rest slots p ps d deep 
       subst (λ (ms : List Mark). MayGrow ms made (i ∷ p ∷ ps)) (sym (regrouped properties (marks_of_nodes children) (marks_of_nodes siblings) rest)) first,
     )
 
-pub may_tree : (t : Root) (boot_cpu : ℕ) (reservations : List (ℕ × ℕ)) → MayCopy (reading_with boot_cpu reservations t) → MayMake t.properties (forest_of t.children) → MayGrow (marks_of t ++ last_mark ∷ []) (root_alone 0).slots []
+pub may_tree : (t : Root) (boot_cpu : ℕ) (reservations : List (ℕ × ℕ)) → MayCopy (reading_with boot_cpu reservations t)
+    → MayMake t.properties (forest_of t.children) → MayGrow (marks_of t ++ last_mark ∷ []) (root_alone 0).slots []
 may_tree t boot_cpu reservations copy may =
     let root = (root_alone 0).slots in
     let more = longer_properties root 0 t.properties in
@@ -98,9 +104,11 @@ may_tree t boot_cpu reservations copy may =
 
 -- ---- the tree that is made
 
-pub copied : (t : Root) (boot_cpu : ℕ) (reservations : List (ℕ × ℕ)) (new reserved whole : Arena) (marks : List Mark) → new ≡ root_alone boot_cpu → reserved ≡ record new { reservations = new.reservations ++ reservations }
+pub copied : (t : Root) (boot_cpu : ℕ) (reservations : List (ℕ × ℕ)) (new reserved whole : Arena) (marks : List Mark) → new ≡ root_alone boot_cpu
+    → reserved ≡ record new { reservations = new.reservations ++ reservations }
     → marks ≡ marks_of t ++ last_mark ∷ [] → whole ≡ record reserved { slots = grown marks reserved.slots [] }
-    → reading (arena_of (reading_with boot_cpu reservations t)) ≡ reading_with boot_cpu reservations t → reading whole ≡ reading_with boot_cpu reservations t
+    → reading (arena_of (reading_with boot_cpu reservations t)) ≡ reading_with boot_cpu reservations t
+    → reading whole ≡ reading_with boot_cpu reservations t
 copied t boot_cpu reservations new reserved whole marks begun with_pairs are done reads =
     let root = (root_alone 0).slots in
     let before : reserved ≡ record { boot_cpu = boot_cpu; reservations = reservations; slots = root } =
@@ -110,7 +118,8 @@ copied t boot_cpu reservations new reserved whole marks begun with_pairs are don
     ∙ ap (λ (slots : List Slot). record { boot_cpu = boot_cpu; reservations = reservations; slots = slots }) (ap (λ (ms : List Mark). grown ms root []) are ∙ grown_tree t) in
     ap reading after ∙ reads
 
-pub may_follow : (t : Root) (boot_cpu : ℕ) (reservations : List (ℕ × ℕ)) (new reserved : Arena) (marks : List Mark) → new ≡ root_alone boot_cpu → reserved ≡ record new { reservations = new.reservations ++ reservations }
+pub may_follow : (t : Root) (boot_cpu : ℕ) (reservations : List (ℕ × ℕ)) (new reserved : Arena) (marks : List Mark) → new ≡ root_alone boot_cpu
+    → reserved ≡ record new { reservations = new.reservations ++ reservations }
     → marks ≡ marks_of t ++ last_mark ∷ [] → MayGrow (marks_of t ++ last_mark ∷ []) (root_alone 0).slots [] → MayGrow marks reserved.slots []
 may_follow t boot_cpu reservations new reserved marks begun with_pairs are may =
     let before : reserved.slots ≡ (root_alone 0).slots = ap (λ (a : Arena). a.slots) (with_pairs ∙ ap (λ (a : Arena). record a { reservations = a.reservations ++ reservations }) begun) in

@@ -1,5 +1,7 @@
 //! Blobs that are accepted and refused.
 
+ghost use Rattle.std.specs.Prelude.{◌<◌, length};
+
 use super::*;
 use dt_flat::FlatTree;
 use dt_names::FaultKind;
@@ -277,6 +279,17 @@ fn counts_depths(rt: HostRuntime) {
     assert_eq!(rt; fault(&TOO_DEEP), Some((FaultKind::Limit, None)));
 }
 
+// The names of a node's children.
+fn tell_children(text: &mut Vec<u8>, tree: &FlatTree, node: usize) -> Result<(), AllocError>
+    requires { node < length tree.now.slots }
+{
+    for child in tree.children(node) {
+        text.push(b'>')?;
+        text.extend_from_slice(tree.name(child))?;
+    }
+    Ok(())
+}
+
 // What each node has, by their numbers: its name, its properties and its children.
 fn told(alloc: Global, tree: &FlatTree) -> Result<Vec<u8>, AllocError> {
     let mut text = Vec::new(alloc);
@@ -289,17 +302,26 @@ fn told(alloc: Global, tree: &FlatTree) -> Result<Vec<u8>, AllocError> {
             text.push(b'=')?;
             text.extend_from_slice(value)?;
         }
-        for child in tree.children(node) {
-            text.push(b'>')?;
-            text.extend_from_slice(tree.name(child))?;
-        }
+        tell_children(&mut text, tree, node)?;
     }
     Ok(text)
 }
 
-// To be run with each allocation failing in turn.
 #[test]
 fn becomes_a_tree_that_can_be_changed(rt: HostRuntime) -> Result<(), Fail> {
+    let blob = Blob::check(&NESTED).ok().ok_or("refused")?;
+    let tree = blob.to_flat(rt.alloc())?;
+    assert_eq!(rt; tree.boot_cpu(), 3);
+    assert_eq!(rt; tree.reservations(), [(0x1000, 0x20)].as_slice());
+    let text = told(rt.alloc(), &tree)?;
+    let expected = b"/ q=\x07 p=>n>m@1/n phandle=\0\0\0\x05>k/k p=a\0/m@1 q=";
+    assert_eq!(rt; text.as_slice(), expected.as_slice());
+    Ok(())
+}
+
+// To be run with each allocation failing in turn.
+#[test]
+fn a_copy_is_refused_for_memory_only(rt: HostRuntime) -> Result<(), Fail> {
     let blob = Blob::check(&NESTED).ok().ok_or("refused")?;
     let tree = match blob.to_flat(rt.alloc()) {
         Ok(tree) => tree,
@@ -308,10 +330,7 @@ fn becomes_a_tree_that_can_be_changed(rt: HostRuntime) -> Result<(), Fail> {
             blob.to_flat(rt.alloc())?
         }
     };
-    assert_eq!(rt; tree.boot_cpu(), 3);
-    assert_eq!(rt; tree.reservations(), [(0x1000, 0x20)].as_slice());
-    let text = told(rt.alloc(), &tree)?;
-    let expected = b"/ q=\x07 p=>n>m@1/n phandle=\0\0\0\x05>k/k p=a\0/m@1 q=";
-    assert_eq!(rt; text.as_slice(), expected.as_slice());
+    assert_eq!(rt; tree.node_count(), 4);
+    assert_eq!(rt; tree.reservations().len(), 1);
     Ok(())
 }

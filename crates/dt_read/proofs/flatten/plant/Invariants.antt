@@ -1,6 +1,5 @@
 -- What is left makes what all tokens make.
 use Rattle.std.proofs.Common.{◌≡◌, [], length}
-use Rattle.dt_flat.specs.Arena.{Arena}
 use Rattle.dt_read.specs.Growth.{grown, MayGrow}
 use Rattle.dt_read.proofs.flatten.plant.Given as goal
 

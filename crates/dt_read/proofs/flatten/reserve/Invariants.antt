@@ -2,7 +2,6 @@
 use Rattle.std.proofs.Common.{◌≡◌, ◌++◌, length}
 use Rattle.std.specs.List.{AllByRecursion}
 use Rattle.dt_model.specs.Valid.{IsReservation}
-use Rattle.dt_flat.specs.Arena.{Arena}
 use Rattle.dt_read.specs.Pairs.{pairs_of}
 use Rattle.dt_read.proofs.flatten.reserve.Given as goal
 
