@@ -30,9 +30,6 @@ use Rattle.dt_read.proofs.Paths.{plain, one_path, found_below_path, child_places
 
 -- ---- the reading
 
-pub placed_tree : Blocks → Root → PlacedTree
-placed_tree b tree = record { boot_cpu = b.boot_cpu; reservations = pairs_of b.reservations.now; place = tree.place; properties = tree.properties; children = tree.children }
-
 pub reserved_at : (bytes : List ℕ) (b : Blocks) → AreBlocks bytes b → HasReservations bytes
 reserved_at bytes b a = (pairs_of b.reservations.now, a.reserved.behind, a.reserved.valid, sym a.reservations ∙ a.reserved.whole)
 
