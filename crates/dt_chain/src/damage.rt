@@ -60,7 +60,10 @@ fn blobs_with_a_wrong_byte(rt: HostRuntime) -> Result<(), Fail> {
                     continue;
                 };
                 *byte ^= change;
-                assert!(rt; is_told_or_kept(rt.alloc(), bytes.as_slice())?, "{at}: {change}");
+                assert!(rt;
+                    is_told_or_kept(rt.alloc(), bytes.as_slice())?,
+                    "{at}: {change}"
+                );
                 if let Some(byte) = bytes.get_mut(at) {
                     *byte ^= change;
                 }

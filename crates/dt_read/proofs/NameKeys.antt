@@ -48,12 +48,12 @@ nodes_read owner open_nodes no_nodes rest = refl
 nodes_read owner open_nodes (node place name properties children siblings) rest =
     let after = marks_of_nodes siblings ++ rest in
     let regroup : (map prop_mark properties ++ (marks_of_nodes children ++ end_mark ∷ marks_of_nodes siblings)) ++ rest
-        ≡ map prop_mark properties ++ (marks_of_nodes children ++ end_mark ∷ after) = simp append_assoc in
+    ≡ map prop_mark properties ++ (marks_of_nodes children ++ end_mark ∷ after) = simp append_assoc in
     let inside = nodes_read place (owner ∷ open_nodes) children (end_mark ∷ after) in
     let further = nodes_read owner open_nodes siblings rest in
     let more = keys_in Names (owner ∷ open_nodes) rest in
     let grouped : own_keys place properties ++ (node_keys place children ++ (node_keys owner siblings ++ more))
-        ≡ (own_keys place properties ++ (node_keys place children ++ node_keys owner siblings)) ++ more = simp append_assoc in
+    ≡ (own_keys place properties ++ (node_keys place children ++ node_keys owner siblings)) ++ more = simp append_assoc in
     ap (λ (ks : List Key). child_key owner name ∷ ks)
     (ap (keys_in Names (place ∷ owner ∷ open_nodes)) regroup
     ∙ own_read place (owner ∷ open_nodes) properties (marks_of_nodes children ++ end_mark ∷ after)
@@ -64,7 +64,7 @@ nodes_read owner open_nodes (node place name properties children siblings) rest 
 tree_read : (tree : Root) → keys_of Names tree ≡ own_keys tree.place tree.properties ++ node_keys tree.place tree.children
 tree_read tree =
     let regroup : (map prop_mark tree.properties ++ (marks_of_nodes tree.children ++ end_mark ∷ [])) ++ last_mark ∷ []
-        ≡ map prop_mark tree.properties ++ (marks_of_nodes tree.children ++ end_mark ∷ last_mark ∷ []) = simp append_assoc in
+    ≡ map prop_mark tree.properties ++ (marks_of_nodes tree.children ++ end_mark ∷ last_mark ∷ []) = simp append_assoc in
     let inside = nodes_read tree.place [] tree.children (end_mark ∷ last_mark ∷ []) in
     ap (keys_in Names (tree.place ∷ [])) regroup
     ∙ own_read tree.place [] tree.properties (marks_of_nodes tree.children ++ end_mark ∷ last_mark ∷ [])
@@ -84,17 +84,19 @@ sibling_names : (owner : ℕ) (nodes : Nodes) → AreDistinct (node_keys owner n
 sibling_names owner no_nodes d = tt
 sibling_names owner (node place name properties children siblings) d =
     let below = distinct-back (own_keys place properties) (node_keys place children ++ node_keys owner siblings) d.1 in
-    let later = all-back (λ k. k ≢ child_key owner name) (own_keys place properties) (node_keys place children ++ node_keys owner siblings) d.0 in
-    (others siblings (all-back (λ k. k ≢ child_key owner name) (node_keys place children) (node_keys owner siblings) later),
-     sibling_names owner siblings (distinct-back (node_keys place children) (node_keys owner siblings) below))
+    let later = all-back (λ k. k ≢ child_key owner name) (own_keys place properties) (node_keys place children ++ node_keys owner siblings) d.0 in (
+      others siblings (all-back (λ k. k ≢ child_key owner name) (node_keys place children) (node_keys owner siblings) later),
+      sibling_names owner siblings (distinct-back (node_keys place children) (node_keys owner siblings) below),
+    )
   where
     others : (nodes : Nodes) → AllByRecursion (λ k. k ≢ child_key owner name) (node_keys owner nodes)
         → AllByRecursion (λ n. n ≢ name) (head_names (heads_of nodes))
     others no_nodes a = tt
     others (node at other ps inner after) a =
-        let below = all-back (λ k. k ≢ child_key owner name) (own_keys at ps) (node_keys at inner ++ node_keys owner after) a.1 in
-        (λ e. a.0 (λ i. record { sort = sorts.Child; owner = owner; bytes = e i }),
-         others after (all-back (λ k. k ≢ child_key owner name) (node_keys at inner) (node_keys owner after) below))
+        let below = all-back (λ k. k ≢ child_key owner name) (own_keys at ps) (node_keys at inner ++ node_keys owner after) a.1 in (
+          λ e. a.0 (λ i. record { sort = sorts.Child; owner = owner; bytes = e i }),
+          others after (all-back (λ k. k ≢ child_key owner name) (node_keys at inner) (node_keys owner after) below),
+        )
 
 names_below : (owner : ℕ) (nodes : Nodes) → AreDistinct (node_keys owner nodes)
     → (place : ℕ) (parts : Parts) → HasBelow nodes place parts → AreDistinctParts parts
@@ -155,16 +157,17 @@ below_are owner (node place name properties children siblings) low high r =
     let c = rise_bounds children (place + 1) r.1 r.2 in
     let s = rise_bounds siblings r.1 high r.3 in
     let own = all_so (IsOwn place) (IsBelow owner low high) (own_keys place properties)
-        (λ k is. (let o = is.0 in inr (omega arith, omega arith))) (own_are place properties) in
+    (λ k is. (let o = is.0 in inr (omega arith, omega arith))) (own_are place properties) in
     let inner = all_so (IsBelow place (place + 1) r.1) (IsBelow owner low high) (node_keys place children)
-        (λ k is. elim is [ inl child ↦ (let o = child.0 in inr (omega arith, omega arith)) | inr between ↦ inr (omega arith, omega arith) ])
-        (below_are place children (place + 1) r.1 r.2) in
+    (λ k is. elim is [ inl child ↦ (let o = child.0 in inr (omega arith, omega arith)) | inr between ↦ inr (omega arith, omega arith) ])
+    (below_are place children (place + 1) r.1 r.2) in
     let later = all_so (IsBelow owner r.1 high) (IsBelow owner low high) (node_keys owner siblings)
-        (λ k is. elim is [ inl child ↦ inl child | inr between ↦ inr (omega arith, omega arith) ])
-        (below_are owner siblings r.1 high r.3) in
-    (inl (refl, refl),
-     all-append (IsBelow owner low high) (own_keys place properties) (node_keys place children ++ node_keys owner siblings) own
-     (all-append (IsBelow owner low high) (node_keys place children) (node_keys owner siblings) inner later))
+    (λ k is. elim is [ inl child ↦ inl child | inr between ↦ inr (omega arith, omega arith) ])
+    (below_are owner siblings r.1 high r.3) in (
+      inl (refl, refl),
+      all-append (IsBelow owner low high) (own_keys place properties) (node_keys place children ++ node_keys owner siblings) own
+          (all-append (IsBelow owner low high) (node_keys place children) (node_keys owner siblings) inner later),
+    )
 
 own_apart : (owner : ℕ) (properties : List Property) → AreDistinct (property_names properties) → AreDistinct (own_keys owner properties)
 own_apart owner [] d = tt
@@ -183,9 +186,9 @@ beside : (owner : ℕ) (name : Name) (place : ℕ) (properties : List Property) 
 beside owner name place properties children siblings middle lt r later =
     let other = λ (k : Key). k ≢ child_key owner name in
     let own = all_so (IsOwn place) other (own_keys place properties)
-        (λ k is. differ k (child_key owner name) (λ o s. omega arith)) (own_are place properties) in
+    (λ k is. differ k (child_key owner name) (λ o s. omega arith)) (own_are place properties) in
     let below = all_so (IsBelow place (place + 1) middle) other (node_keys place children)
-        (λ k is. differ k (child_key owner name) (λ o s. omega arith)) (below_are place children (place + 1) middle r) in
+    (λ k is. differ k (child_key owner name) (λ o s. omega arith)) (below_are place children (place + 1) middle r) in
     all-append other (own_keys place properties) (node_keys place children ++ node_keys owner siblings) own
     (all-append other (node_keys place children) (node_keys owner siblings) below later)
 
@@ -195,9 +198,10 @@ first_apart : (owner : ℕ) (name : Name) (nodes : Nodes) (low high : ℕ) → R
 first_apart owner name no_nodes low high r lt a = tt
 first_apart owner name (node place other properties children siblings) low high r lt a =
     let first = r.0 in
-    let c = rise_bounds children (place + 1) r.1 r.2 in
-    (λ e. a.0 (ap (λ (k : Key). k.bytes) e),
-     beside owner name place properties children siblings r.1 (omega arith) r.2 (first_apart owner name siblings r.1 high r.3 (omega arith) a.1))
+    let c = rise_bounds children (place + 1) r.1 r.2 in (
+      λ e. a.0 (ap (λ (k : Key). k.bytes) e),
+      beside owner name place properties children siblings r.1 (omega arith) r.2 (first_apart owner name siblings r.1 high r.3 (omega arith) a.1),
+    )
 
 keys_apart : (owner : ℕ) (nodes : Nodes) (low high : ℕ) → Rise low nodes high → owner < low → AreDistinct (head_names (heads_of nodes))
     → ((place : ℕ) (parts : Parts) → HasBelow nodes place parts → AreDistinctParts parts) → AreDistinct (node_keys owner nodes)
@@ -212,26 +216,27 @@ keys_apart owner (node place name properties children siblings) low high r lt d 
     let inner = keys_apart place children (place + 1) r.1 r.2 (omega arith) parts.children (λ k p b. h k p (inr (inl b))) in
     let after = keys_apart owner siblings r.1 high r.3 (omega arith) d.1 (λ k p b. h k p (inr (inr b))) in
     let from_inner = apart_by (IsOwn place) (IsBelow place (place + 1) r.1) (own_keys place properties) (node_keys place children)
-        (λ x y p q. differ y x (λ o s. omega arith)) own below in
+    (λ x y p q. differ y x (λ o s. omega arith)) own below in
     let from_after = apart_by (IsOwn place) (IsBelow owner r.1 high) (own_keys place properties) (node_keys owner siblings)
-        (λ x y p q. differ y x (λ o s. omega arith)) own later in
+    (λ x y p q. differ y x (λ o s. omega arith)) own later in
     let within = apart_by (IsBelow place (place + 1) r.1) (IsBelow owner r.1 high) (node_keys place children) (node_keys owner siblings)
-        (λ x y p q. differ y x (λ o s. omega arith)) below later in
-    (beside owner name place properties children siblings r.1 (omega arith) r.2 (first_apart owner name siblings r.1 high r.3 (omega arith) d.0),
-     distinct-append (own_keys place properties) (node_keys place children ++ node_keys owner siblings) (own_apart place properties parts.properties)
-     (distinct-append (node_keys place children) (node_keys owner siblings) inner after within)
-     (apart-right (own_keys place properties) (node_keys place children) (node_keys owner siblings) from_inner from_after))
+    (λ x y p q. differ y x (λ o s. omega arith)) below later in (
+      beside owner name place properties children siblings r.1 (omega arith) r.2 (first_apart owner name siblings r.1 high r.3 (omega arith) d.0),
+      distinct-append (own_keys place properties) (node_keys place children ++ node_keys owner siblings) (own_apart place properties parts.properties)
+          (distinct-append (node_keys place children) (node_keys owner siblings) inner after within)
+          (apart-right (own_keys place properties) (node_keys place children) (node_keys owner siblings) from_inner from_after),
+    )
 
 keys_from_names : (tree : Root) → HasRisingPlaces tree → HasDistinctNames tree
     → AreDistinct (own_keys tree.place tree.properties ++ node_keys tree.place tree.children)
 keys_from_names tree rising h =
     let parts = h tree.place (record { name = []; properties = tree.properties; children = tree.children }) (root_is_node tree) in
     let below = keys_apart tree.place tree.children (tree.place + 1) rising.high rising.rise (omega arith) parts.children
-        (λ k p b. h k p (below_is_node tree k p rising b)) in
+    (λ k p b. h k p (below_is_node tree k p rising b)) in
     let own = own_are tree.place tree.properties in
     let later = below_are tree.place tree.children (tree.place + 1) rising.high rising.rise in
     let apart = apart_by (IsOwn tree.place) (IsBelow tree.place (tree.place + 1) rising.high) (own_keys tree.place tree.properties)
-        (node_keys tree.place tree.children) (λ x y p q. differ y x (λ o s. omega arith)) own later in
+    (node_keys tree.place tree.children) (λ x y p q. differ y x (λ o s. omega arith)) own later in
     distinct-append (own_keys tree.place tree.properties) (node_keys tree.place tree.children)
     (own_apart tree.place tree.properties parts.properties) below apart
 
