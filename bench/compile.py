@@ -1,5 +1,5 @@
 #!/usr/bin/env python3
-"""Times `dtool compile` beside dtc on a made-up source, and compares what they make.
+"""Times `dtool compile` beside dtc on a made-up source, tells the memory of both, and compares what they make.
 
     python3 bench/compile.py crates/dtool/out/dtool
 
@@ -26,14 +26,19 @@ def source():
 
 
 def best(command, out):
-    """The shortest wall time of some runs, in seconds."""
-    times = []
+    """The shortest wall time of some runs, in seconds, and the most memory that one of them took, in MiB."""
+    times, peaks = [], []
     for _ in range(RUNS):
         with open(out, "wb") as to:
             start = time.perf_counter()
-            subprocess.run(command, stdout=to, check=True)
+            process = subprocess.Popen(command, stdout=to)
+            _, status, usage = os.wait4(process.pid, 0)
             times.append(time.perf_counter() - start)
-    return min(times)
+            process.returncode = os.waitstatus_to_exitcode(status)
+        if process.returncode:
+            sys.exit(f"{command[0]} ended with status {process.returncode}")
+        peaks.append(usage.ru_maxrss / 1024)
+    return min(times), max(peaks)
 
 
 def main():
@@ -42,12 +47,13 @@ def main():
         dts, ours, theirs = (os.path.join(folder, name) for name in ("big.dts", "ours.dtb", "theirs.dtb"))
         with open(dts, "w") as to:
             to.write(source())
-        seconds = best([tool, "compile", dts], ours)
-        seconds_dtc = best(["dtc", "-q", "-I", "dts", "-O", "dtb", dts], theirs)
+        seconds, peak = best([tool, "compile", dts], ours)
+        seconds_dtc, peak_dtc = best(["dtc", "-q", "-I", "dts", "-O", "dtb", dts], theirs)
         with open(ours, "rb") as a, open(theirs, "rb") as b:
             same = a.read() == b.read()
         print(f"source {os.path.getsize(dts)} bytes, {1 + BUSES * (1 + DEVICES)} nodes")
         print(f"dtool {seconds:.3f} s, dtc {seconds_dtc:.3f} s, ratio {seconds_dtc / seconds:.1f}")
+        print(f"dtool {peak:.0f} MiB, dtc {peak_dtc:.0f} MiB at most")
         print("the same bytes" if same else "other bytes")
 
 

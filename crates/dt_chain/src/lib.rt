@@ -12,11 +12,7 @@ ghost use Rattle.dt_chain.specs.Compiled.{IsCompiled, WhyNotCompiled, IsCompiler
 
 mod builder;
 mod coverage;
-#[cfg(test)]
-mod damage;
 mod input;
-#[cfg(test)]
-mod tests;
 
 use builder::build;
 use coverage::root_items;

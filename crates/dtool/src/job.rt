@@ -10,7 +10,7 @@ use dt_names::{Fault, Sink};
 use std::alloc::Global;
 
 /// What the tool can be asked for.
-#[derive(Clone, Copy, Debug, PartialEq, Eq)]
+#[derive(Clone, Copy, PartialEq, Eq)]
 pub enum Job {
     /// A blob of one devicetree source.
     Compile,

@@ -1,9 +1,13 @@
+//! What takes a sink, a feed or the words of a command line: cases that a table can't hold. Each test is one question to a
+//! function that borrows what is large, since a test that fails lets go of all that it holds.
+
 use crate::files::load;
 use crate::job::{Job, perform};
 use crate::report::report;
 use crate::words::{Line, LineFault, parse};
-use dt_chain::{compile, read_all};
-use dt_names::{Fault, FaultKind, In, Out};
+use dt_chain::read_all;
+use dt_names::{Fault, FaultKind, Feed, In, Out, Path, Sink, put_all};
+use hex::decode;
 use std::alloc::Global;
 use std::fs;
 use std::io::{Error, ErrorKind, Read, Result as IoResult, Write};
@@ -11,15 +15,17 @@ use std::test::*;
 
 const SOURCE: &[u8] = b"/dts-v1/; / { };";
 
-const BLOB: &str =
-    "d00dfeed0000004800000038000000480000002800000011000000100000000000000000000000100000000000000000000000000000000000000001000000000000000200000009";
+const BLOB: &str = "d00dfeed0000004800000038000000480000002800000011000000100000000000000000000000100000000000000000000000000000000000000001000000000000000200000009";
 
-// Takes at most `step` bytes at a call, and fails when it holds `room`.
+const COUNTS: &[u8] = b"ok nodes 1 properties 0 reservations 0\n";
+
+// Is interrupted at each other call, takes at most `step` bytes at the others, and fails once, when it holds `room`.
 #[derive(Drop)]
 struct Narrow {
     held: Vec<u8>,
     step: usize,
     room: usize,
+    was_interrupted: bool,
 }
 
 fn make_narrow(alloc: Global, step: usize, room: usize) -> Narrow {
@@ -27,13 +33,19 @@ fn make_narrow(alloc: Global, step: usize, room: usize) -> Narrow {
         held: Vec::new(alloc),
         step,
         room,
+        was_interrupted: false,
     }
 }
 
 impl Write for Narrow {
     fn write(&mut self, bytes: &[u8]) -> IoResult<usize> {
+        self.was_interrupted = !self.was_interrupted;
+        if self.was_interrupted {
+            return Err(Error::from(ErrorKind::Interrupted));
+        }
         let room = self.room.saturating_sub(self.held.len());
         if room == 0 {
+            self.room = usize::MAX;
             return Err(Error::from(ErrorKind::BrokenPipe));
         }
         let taken = bytes.len().min(self.step).min(room);
@@ -46,101 +58,187 @@ impl Write for Narrow {
     }
 }
 
-// Whether a blob is cut where the writer fails, at each byte, and is whole where it doesn't.
-fn is_cut_anywhere(alloc: Global, hex: bool, step: usize, whole: &[u8]) -> bool {
-    (0..=whole.len()).all(|room| {
-        let mut out = Out::new(make_narrow(alloc, step, room));
-        let result = perform(alloc, Job::Compile, hex, &[SOURCE], &mut out);
-        let held = out.into_inner().held;
-        let wanted = if room < whole.len() {
-            result == Err((0, Fault::of(FaultKind::WriteFault)))
-        } else {
-            result.is_ok()
-        };
-        wanted && held.len() == room && whole.starts_with(held.as_slice())
+// Whether a call that had room for so many bytes of a text wrote these, and was refused for the sink where they aren't all.
+fn is_cut(refused: Option<Fault>, room: usize, held: &[u8], whole: &[u8]) -> bool {
+    let is_told = if room < whole.len() {
+        refused == Some(Fault::of(FaultKind::WriteFault))
+    } else {
+        refused.is_none()
+    };
+    is_told && held == whole.get(..room).unwrap_or(whole)
+}
+
+// Whether a job is cut where the writer fails, at each byte, and is whole where it doesn't.
+fn is_cut_anywhere(alloc: Global, job: Job, hex: bool, input: &[u8], whole: &[u8]) -> bool {
+    [1, 3, 100].into_iter().all(|step| {
+        (0..=whole.len()).all(|room| {
+            let mut out = Out::new(make_narrow(alloc, step, room));
+            let refused = perform(alloc, job, hex, &[input], &mut out).err();
+            let is_first = refused.is_none_or(|(input, _)| input == 0);
+            let fault = refused.map(|(_, fault)| fault);
+            is_first && is_cut(fault, room, &out.into_inner().held, whole)
+        })
     })
 }
 
+fn are_jobs_cut(alloc: Global, blob: &[u8]) -> bool {
+    is_cut_anywhere(alloc, Job::Compile, false, SOURCE, blob)
+        && is_cut_anywhere(alloc, Job::Compile, true, SOURCE, b"d00dfeed0000004800000038000000480000002800000011000000100000000000000000000000100000000000000000000000000000000000000001000000000000000200000009\n")
+        && is_cut_anywhere(alloc, Job::Check, true, blob, COUNTS)
+}
+
 #[test]
-fn a_blob_as_bytes(rt: HostRuntime) -> Result<(), Fail> {
-    let whole = hex::decode(rt.alloc(), BLOB)?;
-    assert_eq!(rt; whole.len(), 72);
-    assert!(rt; is_cut_anywhere(rt.alloc(), false, 1, whole.as_slice()));
-    assert!(rt; is_cut_anywhere(rt.alloc(), false, 100, whole.as_slice()));
+fn jobs_into_a_sink_that_fails(rt: HostRuntime) -> Result<(), Fail> {
+    let blob = decode(rt.alloc(), BLOB)?;
+    assert!(rt; are_jobs_cut(rt.alloc(), blob.as_slice()));
     Ok(())
 }
 
-#[test]
-fn a_blob_as_hexadecimal(rt: HostRuntime) -> Result<(), Fail> {
-    let whole = format!(in rt.alloc(); "{BLOB}\n")?;
-    assert_eq!(rt; whole.len(), 145);
-    assert!(rt; is_cut_anywhere(rt.alloc(), true, 1, whole.as_bytes()));
-    assert!(rt; is_cut_anywhere(rt.alloc(), true, 100, whole.as_bytes()));
-    Ok(())
+// Whether a job refuses its input with this fault, and writes nothing.
+fn is_refused(alloc: Global, job: Job, input: &[u8], fault: Fault) -> bool {
+    let mut out = Out::new(make_narrow(alloc, 1, 100));
+    let refused = perform(alloc, job, true, &[input], &mut out).err();
+    refused == Some((0, fault)) && out.into_inner().held.is_empty()
 }
 
-// What is written of a blob that is checked, with the sink's room.
-fn checked(alloc: Global, blob: &[u8], room: usize) -> (Result<(), (usize, Fault)>, Vec<u8>) {
-    let mut out = Out::new(make_narrow(alloc, 3, room));
-    let result = perform(alloc, Job::Check, true, &[blob], &mut out);
-    (result, out.into_inner().held)
-}
-
-#[test]
-fn a_blob_that_is_checked(rt: HostRuntime) -> Result<(), Fail> {
-    let blob = hex::decode(rt.alloc(), BLOB)?;
-    let line: &[u8] = b"ok nodes 1 properties 0 reservations 0\n";
-    for room in 0..=line.len() {
-        let (result, held) = checked(rt.alloc(), blob.as_slice(), room);
-        let wanted = if room < line.len() {
-            result == Err((0, Fault::of(FaultKind::WriteFault)))
-        } else {
-            result.is_ok()
-        };
-        assert!(rt; wanted && held.len() == room && line.starts_with(held.as_slice()));
-    }
-    Ok(())
-}
-
-#[test]
-fn a_blob_that_is_refused(rt: HostRuntime) -> Result<(), Fail> {
-    let mut blob = hex::decode(rt.alloc(), BLOB)?;
-    let (result, held) = checked(rt.alloc(), &[], 100);
-    assert!(rt; result == Err((0, Fault::of(FaultKind::ShortHeader))) && held.is_empty());
+fn are_refused(alloc: Global, blob: &mut [u8]) -> bool {
     if let Some(last) = blob.last_mut() {
         *last = 5;
     }
-    let (result, held) = checked(rt.alloc(), blob.as_slice(), 100);
-    assert!(rt; result == Err((0, Fault::at(FaultKind::BadTag, 68))) && held.is_empty());
-    Ok(())
+    is_refused(alloc, Job::Check, &[], Fault::of(FaultKind::ShortHeader))
+        && is_refused(alloc, Job::Check, blob, Fault::at(FaultKind::BadTag, 68))
+        && is_refused(
+            alloc,
+            Job::Compile,
+            b"/ { };",
+            Fault::at(FaultKind::BadVersionTag, 0),
+        )
 }
 
 #[test]
-fn a_refused_source(rt: HostRuntime) {
-    let source: &[u8] = b"/ { };";
-    let fault = compile(rt.alloc(), source).err();
-    assert!(rt; fault.is_some());
-    let mut out = Out::new(make_narrow(rt.alloc(), 1, 100));
-    let result = perform(rt.alloc(), Job::Compile, true, &[source], &mut out);
-    assert!(rt; result.err() == fault.map(|fault| (0, fault)));
-    assert!(rt; out.into_inner().held.is_empty());
+fn inputs_that_are_refused(rt: HostRuntime) -> Result<(), Fail> {
+    let mut blob = decode(rt.alloc(), BLOB)?;
+    assert!(rt; are_refused(rt.alloc(), &mut blob));
+    Ok(())
+}
+
+fn is_told(alloc: Global, input: usize, fault: Fault, line: &[u8]) -> bool {
+    (0..=line.len()).all(|room| {
+        let mut err = Out::new(make_narrow(alloc, 5, room));
+        let refused = report(&mut err, input, fault).err();
+        is_cut(refused, room, &err.into_inner().held, line)
+    })
 }
 
 #[test]
 fn lines_of_faults(rt: HostRuntime) {
     let with_place = Fault::at(FaultKind::Syntax, 31);
     let without_place = Fault::of(FaultKind::ReadFault);
-    for (input, fault, line) in [
-        (2, with_place, "dtool: input 2: fault 12 Syntax at 31\n"),
-        (0, without_place, "dtool: input 0: fault 91 ReadFault\n"),
-    ] {
-        for room in 0..=line.len() {
-            let mut err = Out::new(make_narrow(rt.alloc(), 5, room));
-            assert_eq!(rt; report(&mut err, input, fault).is_ok(), room == line.len());
-            let held = err.into_inner().held;
-            assert!(rt; held.len() == room && line.as_bytes().starts_with(held.as_slice()));
-        }
+    assert!(rt; is_told(rt.alloc(), 2, with_place, b"dtool: input 2: fault 12 Syntax at 31\n")
+        && is_told(rt.alloc(), 0, without_place, b"dtool: input 0: fault 91 ReadFault\n"));
+}
+
+fn is_path_cut(alloc: Global, text: &[u8]) -> bool {
+    let Ok(path) = Path::parse(alloc, text) else {
+        return false;
+    };
+    (0..=text.len()).all(|room| {
+        let mut out = Out::new(make_narrow(alloc, 3, room));
+        let refused = path.write_to(&mut out).err();
+        is_cut(refused, room, &out.into_inner().held, text)
+    })
+}
+
+#[test]
+fn paths_into_a_sink_that_fails(rt: HostRuntime) {
+    assert!(rt; is_path_cut(rt.alloc(), b"/soc/uart@10") && is_path_cut(rt.alloc(), b"/"));
+}
+
+// Whether a sink tells how much it took, and fails for good.
+fn fails_for_good(alloc: Global) -> bool {
+    let mut out = Out::new(make_narrow(alloc, 1, 7));
+    let is_taken = put_all(&mut out, b"").is_ok()
+        && put_all(&mut out, b"dtool").is_ok()
+        && out.put(b"!?") == Some(1)
+        && put_all(&mut out, b"abc") == Err(Fault::of(FaultKind::WriteFault));
+    let is_over = out.put(b"g").is_none() && put_all(&mut out, b"g").is_err();
+    is_taken && is_over && out.into_inner().held.as_slice() == b"dtool!a".as_slice()
+}
+
+fn takes_nothing(alloc: Global) -> bool {
+    let mut out = Out::new(make_narrow(alloc, 0, 4));
+    out.put(b"") == Some(0) && out.put(b"a").is_none() && out.put(b"").is_none()
+}
+
+#[test]
+fn sinks(rt: HostRuntime) {
+    assert!(rt; fails_for_good(rt.alloc()) && takes_nothing(rt.alloc()));
+}
+
+// Is interrupted at each other call, gives at most `step` bytes at the others, and fails once, `until` bytes on.
+#[derive(Drop)]
+struct Dripping {
+    rest: &'static [u8],
+    step: usize,
+    until: usize,
+    was_interrupted: bool,
+}
+
+fn make_dripping(rest: &'static [u8], step: usize, until: usize) -> Dripping {
+    Dripping {
+        rest,
+        step,
+        until,
+        was_interrupted: false,
     }
+}
+
+impl Read for Dripping {
+    fn read(&mut self, buffer: &mut [u8]) -> IoResult<usize> {
+        self.was_interrupted = !self.was_interrupted;
+        if self.was_interrupted {
+            return Err(Error::from(ErrorKind::Interrupted));
+        }
+        if self.until == 0 {
+            self.until = usize::MAX;
+            return Err(Error::from(ErrorKind::BrokenPipe));
+        }
+        let most = buffer.len().min(self.step).min(self.until);
+        let given = self.rest.read(&mut buffer[..most])?;
+        self.until = self.until.saturating_sub(given);
+        Ok(given)
+    }
+}
+
+fn reads_to_its_end() -> bool {
+    let mut feed = In::new(make_dripping(b"abc", 2, 9));
+    let mut buffer = [0u8; 4];
+    let first = feed.get(&mut buffer) == Some(2) && &buffer[..2] == b"ab".as_slice();
+    let second = feed.get(&mut buffer) == Some(1) && buffer[0] == b'c';
+    let last = feed.get(&mut buffer) == Some(0);
+    first && second && last && feed.into_inner().rest.is_empty()
+}
+
+fn stops_for_good() -> bool {
+    let mut feed = In::new(make_dripping(b"abcdef", 9, 4));
+    let mut buffer = [0u8; 9];
+    let first = feed.get(&mut buffer) == Some(4);
+    let is_over = feed.get(&mut buffer).is_none() && feed.get(&mut buffer).is_none();
+    first && is_over && feed.into_inner().rest == b"ef".as_slice()
+}
+
+// Whether an input of three bytes that fails behind so many is ReadFault, and else is whole.
+fn is_read_or_told(alloc: Global, until: usize) -> bool {
+    match read_all(alloc, &mut In::new(make_dripping(b"abc", 1, until))) {
+        Ok(all) => until > 3 && all.as_slice() == b"abc".as_slice(),
+        Err(fault) => until <= 3 && fault == Fault::of(FaultKind::ReadFault),
+    }
+}
+
+#[test]
+fn feeds(rt: HostRuntime) {
+    assert!(rt; reads_to_its_end() && stops_for_good());
+    assert!(rt; (0..6).all(|until| is_read_or_told(rt.alloc(), until)));
 }
 
 // Gives so many bytes, at most `step` at a call.
@@ -158,128 +256,81 @@ impl Read for Zeros {
     }
 }
 
+// How many bytes are read of an input of so many, or why none.
+fn size_read(alloc: Global, left: usize, step: usize) -> Result<usize, Fault> {
+    Ok(read_all(alloc, &mut In::new(Zeros { left, step }))?.len())
+}
+
 #[test]
 fn the_longest_input(rt: HostRuntime) {
-    for (left, is_read) in [(0, true), (16_777_216, true), (16_777_217, false)] {
-        let mut feed = In::new(Zeros { left, step: 5000 });
-        let all = read_all(rt.alloc(), &mut feed);
-        assert_eq!(rt; all.is_ok(), is_read, "{left} bytes");
-        match all {
-            Ok(all) => assert_eq!(rt; all.len(), left),
-            Err(fault) => assert!(rt; fault == Fault::of(FaultKind::Limit)),
-        }
-    }
+    let limit = Err(Fault::of(FaultKind::Limit));
+    assert!(rt; size_read(rt.alloc(), 0, 5000) == Ok(0));
+    assert!(rt; size_read(rt.alloc(), 16_777_216, 5000) == Ok(16_777_216));
+    assert!(rt; size_read(rt.alloc(), 16_777_217, 5000) == limit);
+    assert!(rt; size_read(rt.alloc(), usize::MAX, usize::MAX) == limit);
 }
 
-#[test]
-fn an_endless_input(rt: HostRuntime) {
-    let mut feed = In::new(Zeros {
-        left: usize::MAX,
-        step: usize::MAX,
-    });
-    let fault = read_all(rt.alloc(), &mut feed).err();
-    assert!(rt; fault == Some(Fault::of(FaultKind::Limit)));
-}
-
-// Gives ten bytes at each of three reads, and then none; one read fails.
-#[derive(Drop)]
-struct Failing {
-    reads: usize,
-    failing: usize,
-}
-
-impl Read for Failing {
-    fn read(&mut self, buffer: &mut [u8]) -> IoResult<usize> {
-        let read = self.reads;
-        self.reads = read.saturating_add(1);
-        if read == self.failing {
-            return Err(Error::from(ErrorKind::BrokenPipe));
-        }
-        Ok(if read < 3 { buffer.len().min(10) } else { 0 })
-    }
-}
-
-#[test]
-fn an_input_that_fails(rt: HostRuntime) {
-    for failing in 0..6 {
-        let mut feed = In::new(Failing { reads: 0, failing });
-        match read_all(rt.alloc(), &mut feed) {
-            Ok(all) => assert!(rt; failing > 3 && all.len() == 30),
-            Err(fault) => {
-                assert!(rt; failing <= 3 && fault == Fault::of(FaultKind::ReadFault));
-            }
-        }
-    }
-}
-
-#[test]
-fn words_that_are_a_command(rt: HostRuntime) -> Result<(), Fail> {
-    let words = ["dtool", "check", "a.dtb"];
-    let wanted = Line {
-        job: Job::Check,
-        hex: false,
-        file: "a.dtb",
+// Whether the words, parted by blanks, ask for this.
+fn asks_for(alloc: Global, line: &str, job: Job, hex: bool, file: &str) -> bool {
+    let Ok(words) = line.split(' ').collect::<Vec<&str>>(alloc) else {
+        return false;
     };
-    assert!(rt; parse(rt.alloc(), words.as_slice())? == wanted);
-    let job = Job::Compile;
-    for (words, hex, file) in [
-        (["dtool", "compile", "stdin"].as_slice(), false, "stdin"),
-        (
-            ["dtool", "compile", "--hex", "a.dts"].as_slice(),
-            true,
-            "a.dts",
-        ),
-        (
-            ["dtool", "compile", "a.dts", "--hex"].as_slice(),
-            true,
-            "a.dts",
-        ),
-        (
-            ["dtool", "compile", "--", "--hex"].as_slice(),
-            false,
-            "--hex",
-        ),
-    ] {
-        assert!(rt; parse(rt.alloc(), words)? == Line { job, hex, file });
+    match parse(alloc, words.as_slice()) {
+        Ok(line) => line == Line { job, hex, file },
+        Err(_) => false,
     }
-    Ok(())
 }
 
 #[test]
-fn words_that_are_none(rt: HostRuntime) -> Result<(), Fail> {
-    for line in [
-        "",
-        "dtool",
-        "dtool compile",
-        "dtool compile a.dts b.dts",
-        "dtool compile --hex --hex a.dts",
-        "dtool compile --hexadecimal a.dts",
-        "dtool --hex compile a.dts",
-        "dtool decompile a.dts",
-        "dtool check",
-        "dtool check --hex a.dtb",
-        "dtool check a.dtb b.dtb",
-        "dtool --help",
-        "dtool help",
-        "dtool compile --help",
-    ] {
-        let words: Vec<&str> = line.split(' ').collect(rt.alloc())?;
-        let refused = matches!(
-            parse(rt.alloc(), words.as_slice()),
-            Err(LineFault::Words(_))
-        );
-        assert!(rt; refused, "{line}");
+fn words_that_are_a_command(rt: HostRuntime) {
+    assert!(rt; asks_for(rt.alloc(), "dtool check a.dtb", Job::Check, false, "a.dtb"));
+    assert!(rt; asks_for(rt.alloc(), "dtool compile stdin", Job::Compile, false, "stdin"));
+    assert!(rt; asks_for(rt.alloc(), "dtool compile --hex a.dts", Job::Compile, true, "a.dts"));
+    assert!(rt; asks_for(rt.alloc(), "dtool compile a.dts --hex", Job::Compile, true, "a.dts"));
+    assert!(rt; asks_for(rt.alloc(), "dtool compile -- --hex", Job::Compile, false, "--hex"));
+}
+
+const NO_COMMANDS: [&str; 14] = [
+    "",
+    "dtool",
+    "dtool compile",
+    "dtool compile a.dts b.dts",
+    "dtool compile --hex --hex a.dts",
+    "dtool compile --hexadecimal a.dts",
+    "dtool --hex compile a.dts",
+    "dtool decompile a.dts",
+    "dtool check",
+    "dtool check --hex a.dtb",
+    "dtool check a.dtb b.dtb",
+    "dtool --help",
+    "dtool help",
+    "dtool compile --help",
+];
+
+fn is_no_command(alloc: Global, line: &str) -> bool {
+    match line.split(' ').collect::<Vec<&str>>(alloc) {
+        Ok(words) => matches!(parse(alloc, words.as_slice()), Err(LineFault::Words(_))),
+        Err(_) => false,
     }
-    Ok(())
+}
+
+#[test]
+fn words_that_are_none(rt: HostRuntime) {
+    for line in NO_COMMANDS {
+        assert!(rt; is_no_command(rt.alloc(), line), "{line}");
+    }
+}
+
+fn is_source(text: Result<Vec<u8>, Fault>) -> bool {
+    text.is_ok_and(|text| text.as_slice() == SOURCE)
 }
 
 #[test]
 fn files(rt: HostRuntime) -> Result<(), Fail> {
     fs::write(&rt, "input-of-a-test.dts", SOURCE)?;
-    let text = load(&rt, "input-of-a-test.dts");
+    let is_read = is_source(load(&rt, "input-of-a-test.dts"));
     fs::remove_file(&rt, "input-of-a-test.dts")?;
-    assert!(rt; text.is_ok_and(|text| text.as_slice() == SOURCE));
     let fault = load(&rt, "input-of-a-test.dts").err();
-    assert!(rt; fault == Some(Fault::of(FaultKind::ReadFault)));
+    assert!(rt; is_read && fault == Some(Fault::of(FaultKind::ReadFault)));
     Ok(())
 }

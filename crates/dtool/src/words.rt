@@ -16,7 +16,7 @@ use std::{env, io};
 use thiserror::Error;
 
 /// What the words of a command line ask for.
-#[derive(Clone, Copy, Debug, PartialEq, Eq)]
+#[derive(Clone, Copy, PartialEq, Eq)]
 pub struct Line<'a> {
     /// What to do.
     pub job: Job,
@@ -158,9 +158,28 @@ fn check<'a>(alloc: Global) -> Result<Command<'a>, AllocError>
 fn tool<'a>(alloc: Global) -> Result<Command<'a>, AllocError>
     ensures { IfOk result (λ command. app_of command ≡ dtool) }
 {
+    let compile = compile(alloc)?;
+    match check(alloc) {
+        Ok(check) => with_commands(alloc, compile, check),
+        Err(error) => Err(error),
+    }
+}
+
+/// The tool with these commands.
+fn with_commands<'a>(
+    alloc: Global,
+    compile: Command<'a>,
+    check: Command<'a>,
+) -> Result<Command<'a>, AllocError>
+    requires compile { app_of compile ≡ compile_command }
+    requires compile_own { (out-Command compile).has_globals ≡ false }
+    requires check { app_of check ≡ check_command }
+    requires check_own { (out-Command check).has_globals ≡ false }
+    ensures { IfOk result (λ command. app_of command ≡ dtool) }
+{
     Command::new(alloc, "dtool")
         .about("A tool for devicetrees")
         .subcommand_required(true)
-        .subcommand(compile(alloc)?)?
-        .subcommand(check(alloc)?)
+        .subcommand(compile)?
+        .subcommand(check)
 }

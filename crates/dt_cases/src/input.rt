@@ -1,0 +1,124 @@
+//! What goes into a case.
+
+use crate::answer::Stop;
+use crate::numbers::number;
+use hex::decode;
+use itoa::Buffer;
+use std::alloc::{AllocError, Global};
+
+/// The bytes that the lines of a case spell, one line's behind the other's.
+pub fn input_of(alloc: Global, lines: &[&str], table: &[&str]) -> Result<Vec<u8>, Stop> {
+    let mut input = Vec::new(alloc);
+    for line in lines
+        .iter()
+        .skip_while(|line| line.starts_with('#'))
+        .skip(1)
+    {
+        match line.strip_prefix("@ ") {
+            Some(name) => push_sample(&mut input, alloc, table, name)?,
+            None => push_piece(&mut input, alloc, line)?,
+        }
+    }
+    Ok(input)
+}
+
+/// Appends the bytes of the table's sample of a name.
+fn push_sample(input: &mut Vec<u8>, alloc: Global, table: &[&str], name: &str) -> Result<(), Stop> {
+    let mut is_found = false;
+    for line in table {
+        match line.strip_prefix("sample ") {
+            Some(found) => is_found = found == name,
+            None if line.is_empty() => is_found = false,
+            None if is_found => push_piece(input, alloc, line)?,
+            None => {}
+        }
+    }
+    Ok(())
+}
+
+/// Appends the bytes that a line spells.
+fn push_piece(input: &mut Vec<u8>, alloc: Global, line: &str) -> Result<(), Stop> {
+    match line.split_once(' ') {
+        Some(("|", text)) => Ok(input.extend_from_slice(text.as_bytes())?),
+        Some(("x", digits)) => push_bytes(input, alloc, 0, 1, digits),
+        Some(("*", text)) => {
+            let (first, end, piece) = repetition(text).ok_or(Stop::Malformed)?;
+            Ok(push_numbered(input, first, end, piece)?)
+        }
+        Some(("*x", text)) => {
+            let (first, end, digits) = repetition(text).ok_or(Stop::Malformed)?;
+            push_bytes(input, alloc, first, end, digits)
+        }
+        Some(("=" | "#", _)) => Ok(()),
+        _ => Err(Stop::Malformed),
+    }
+}
+
+/// Appends the bytes that hexadecimal digits spell, once for each number.
+fn push_bytes(
+    input: &mut Vec<u8>,
+    alloc: Global,
+    first: u64,
+    end: u64,
+    digits: &str,
+) -> Result<(), Stop> {
+    let bytes = bytes_of(alloc, digits)?;
+    Ok(push_repeated(input, first, end, &bytes)?)
+}
+
+/// The numbers from the first, 0 if it isn't said, up to the end, and the text behind them.
+fn repetition(text: &str) -> Option<(u64, u64, &str)> {
+    let (times, piece) = text.split_once(' ')?;
+    let (first, end) = times.split_once("..").unwrap_or(("0", times));
+    Some((number(first)?, number(end)?, piece))
+}
+
+/// The bytes that pairs of hexadecimal digits spell, with blanks between them.
+pub fn bytes_of(alloc: Global, digits: &str) -> Result<Vec<u8>, Stop> {
+    let joined = without_blanks(alloc, digits)?;
+    match decode(alloc, joined.as_str()) {
+        Ok(bytes) => Ok(bytes),
+        Err(hex::FromHexError::OutOfMemory) => Err(Stop::from(AllocError)),
+        Err(_) => Err(Stop::Malformed),
+    }
+}
+
+fn without_blanks(alloc: Global, digits: &str) -> Result<String, AllocError> {
+    let mut joined = String::new(alloc);
+    for word in digits.split_whitespace() {
+        joined.push_str(word)?;
+    }
+    Ok(joined)
+}
+
+/// Appends a text once for each number, which stands in the place of each `{}`.
+fn push_numbered(input: &mut Vec<u8>, first: u64, end: u64, piece: &str) -> Result<(), AllocError> {
+    for count in first..end {
+        let mut buffer = Buffer::new();
+        push_parts(input, buffer.format(count), piece)?;
+    }
+    Ok(())
+}
+
+fn push_parts(input: &mut Vec<u8>, digits: &str, piece: &str) -> Result<(), AllocError> {
+    for (at, part) in piece.split("{}").enumerate() {
+        if at > 0 {
+            input.extend_from_slice(digits.as_bytes())?;
+        }
+        input.extend_from_slice(part.as_bytes())?;
+    }
+    Ok(())
+}
+
+/// Appends bytes once for each number.
+fn push_repeated(
+    input: &mut Vec<u8>,
+    first: u64,
+    end: u64,
+    bytes: &[u8],
+) -> Result<(), AllocError> {
+    for _ in first..end {
+        input.extend_from_slice(bytes)?;
+    }
+    Ok(())
+}

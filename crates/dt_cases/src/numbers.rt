@@ -1,0 +1,80 @@
+//! Numbers and texts at a place of bytes, and numbers in elements.
+
+use crate::answer::{Answer, Stop, bytes, told};
+use dt_bytes::{be32, be64, put32, text_at};
+use dt_expr::fit;
+use std::alloc::Global;
+
+/// A number: decimal, hexadecimal behind `0x`, or behind `-` what is added to it to give 0, modulo 2^64.
+pub fn number(word: &str) -> Option<u64> {
+    match word.strip_prefix('-') {
+        Some(digits) => Some(magnitude(digits)?.wrapping_neg()),
+        None => magnitude(word),
+    }
+}
+
+fn magnitude(digits: &str) -> Option<u64> {
+    match digits.strip_prefix("0x") {
+        Some(digits) => u64::from_str_radix(digits, 16).ok(),
+        None => digits.parse::<u64>().ok(),
+    }
+}
+
+/// A number of an index.
+pub fn index(word: &str) -> Option<usize> {
+    usize::try_from(number(word)?).ok()
+}
+
+/// `be32 AT`, `be64 AT` and `text-at AT` tell what stands at a place; `put32 AT NUMBER` gives the bytes with the number there;
+/// `fit NUMBER BITS` tells what an element of so many bits has for a number.
+pub fn call(alloc: Global, name: &str, words: &str, input: &[u8]) -> Result<Answer, Stop> {
+    let (first, second) = words.split_once(' ').unwrap_or((words, "0"));
+    let (Some(first), Some(second)) = (number(first), number(second)) else {
+        return Err(Stop::Malformed);
+    };
+    match name {
+        "be32" => found(alloc, be32(input, first as usize).map(u64::from)),
+        "be64" => found(alloc, be64(input, first as usize)),
+        "text-at" => match text_at(input, first as usize) {
+            Some(text) => bytes(alloc, text),
+            None => told(alloc, "none"),
+        },
+        "put32" => put(alloc, input, first as usize, second),
+        _ => fitted(alloc, first, second),
+    }
+}
+
+fn found(alloc: Global, number: Option<u64>) -> Result<Answer, Stop> {
+    match number {
+        Some(number) => Ok(Answer::Told(format!(in alloc; "{number:#x}\n")?)),
+        None => told(alloc, "none"),
+    }
+}
+
+fn put(alloc: Global, input: &[u8], at: usize, number: u64) -> Result<Answer, Stop> {
+    let Ok(number) = u32::try_from(number) else {
+        return Err(Stop::Malformed);
+    };
+    let mut changed = Vec::from_slice(alloc, input)?;
+    if is_put(&mut changed, at, number, input) {
+        Ok(Answer::Bytes(changed))
+    } else {
+        told(alloc, "none")
+    }
+}
+
+/// Whether a number was put at a place; where it wasn't, no byte may have changed.
+fn is_put(bytes: &mut [u8], at: usize, number: u32, input: &[u8]) -> bool {
+    put32(bytes, at, number) || *bytes != *input
+}
+
+fn fitted(alloc: Global, number: u64, bits: u64) -> Result<Answer, Stop> {
+    let fitted = match bits {
+        8 => fit(number, 8)?,
+        16 => fit(number, 16)?,
+        32 => fit(number, 32)?,
+        64 => fit(number, 64)?,
+        _ => return Err(Stop::Malformed),
+    };
+    found(alloc, Some(fitted))
+}

@@ -1,0 +1,134 @@
+//! Trees that are changed step by step.
+
+use crate::answer::{Answer, Stop, push_fault, push_line};
+use crate::input::bytes_of;
+use crate::numbers::{index, number};
+use crate::reading::{lines_of, push_value};
+use dt_flat::FlatTree;
+use dt_names::{Fault, FaultKind, NodeName, PropName};
+use dt_write::write_blob;
+use std::alloc::Global;
+
+/// `tree [CPU]` tells what the steps on a new tree tell: each that is refused its fault, `read` the tree's lines, `count` how many nodes there
+/// are, and `value NODE NAME` a value. `tree-blob [CPU]` gives the blob of the tree behind the last step. Steps end with `;`. They are `reserve ADDRESS SIZE`,
+/// `node PARENT NAME`, `set NODE NAME [HEX]`, `set-number NODE NAME NUMBER` and `set-size NODE NAME SIZE`, of a value of so many bytes. A node is its number: 0 is
+/// the root's, and each new node has the next one.
+pub fn call(alloc: Global, name: &str, words: &str, input: &[u8]) -> Result<Answer, Stop> {
+    let steps = str::from_utf8(input).map_err(|_| Stop::Malformed)?;
+    let boot_cpu = match words {
+        "" => 0,
+        _ => match u32::try_from(number(words).ok_or(Stop::Malformed)?) {
+            Ok(boot_cpu) => boot_cpu,
+            Err(_) => return Err(Stop::Malformed),
+        },
+    };
+    let mut tree = FlatTree::new(alloc, boot_cpu);
+    stepped(&mut tree, alloc, name, steps)
+}
+
+fn stepped(tree: &mut FlatTree, alloc: Global, name: &str, steps: &str) -> Result<Answer, Stop> {
+    let mut lines = String::new(alloc);
+    take_all(tree, &mut lines, alloc, steps)?;
+    match name {
+        "tree" => Ok(Answer::Told(lines)),
+        _ => Ok(Answer::Bytes(write_blob(alloc, tree)?)),
+    }
+}
+
+fn take_all(
+    tree: &mut FlatTree,
+    lines: &mut String,
+    alloc: Global,
+    steps: &str,
+) -> Result<(), Stop> {
+    for step in steps.split_terminator(';') {
+        match take(tree, lines, alloc, step.trim()) {
+            Ok(()) => {}
+            Err(Stop::Refused(fault)) if fault.kind != FaultKind::NoMemory => {
+                push_fault(lines, alloc, fault)?;
+                lines.push('\n')?;
+            }
+            Err(stop) => return Err(stop),
+        }
+    }
+    Ok(())
+}
+
+/// Takes one step.
+fn take(tree: &mut FlatTree, lines: &mut String, alloc: Global, step: &str) -> Result<(), Stop> {
+    let (verb, words) = step.split_once(' ').unwrap_or((step, ""));
+    match verb {
+        "" => Ok(()),
+        "reserve" => {
+            let (address, size) = words.split_once(' ').ok_or(Stop::Malformed)?;
+            let address = number(address).ok_or(Stop::Malformed)?;
+            Ok(tree.reserve(address, number(size).ok_or(Stop::Malformed)?)?)
+        }
+        "count" => {
+            let count = tree.node_count();
+            Ok(push_line(lines, format!(in alloc; "{count}\n"))?)
+        }
+        "read" => Ok(push_line(lines, lines_of(alloc, tree))?),
+        _ => {
+            let (node, words) = words.split_once(' ').ok_or(Stop::Malformed)?;
+            let node = index(node).ok_or(Stop::Malformed)?;
+            let (name, words) = words.split_once(' ').unwrap_or((words, ""));
+            at_node(tree, lines, alloc, verb, node, name.as_bytes(), words)
+        }
+    }
+}
+
+/// Takes a step that speaks of a node and a name.
+fn at_node(
+    tree: &mut FlatTree,
+    lines: &mut String,
+    alloc: Global,
+    verb: &str,
+    node: usize,
+    name: &[u8],
+    words: &str,
+) -> Result<(), Stop> {
+    if node >= tree.node_count() {
+        return Err(Stop::Malformed);
+    }
+    match verb {
+        "node" => {
+            tree.add_node(node, &NodeName::new(name)?)?;
+            Ok(())
+        }
+        "value" => {
+            match tree.value(node, name) {
+                Some(value) => push_value(lines, alloc, value)?,
+                None => lines.push_str("none")?,
+            }
+            Ok(lines.push('\n')?)
+        }
+        _ => {
+            let value = value_of(alloc, verb, words)?;
+            set(tree, node, name, &value)
+        }
+    }
+}
+
+fn set(tree: &mut FlatTree, node: usize, name: &[u8], value: &[u8]) -> Result<(), Stop> {
+    if node >= tree.node_count() {
+        return Err(Stop::Malformed);
+    }
+    Ok(tree.set_prop(node, &PropName::new(name)?, value)?)
+}
+
+/// The value that a step sets.
+fn value_of(alloc: Global, verb: &str, words: &str) -> Result<Vec<u8>, Stop> {
+    match verb {
+        "set" => bytes_of(alloc, words),
+        "set-number" => match u32::try_from(number(words).ok_or(Stop::Malformed)?) {
+            Ok(number) => Ok(Vec::from_slice(alloc, &number.to_be_bytes())?),
+            Err(_) => Err(Stop::Malformed),
+        },
+        "set-size" => {
+            let size = index(words).ok_or(Stop::Malformed)?;
+            Ok(vec![in alloc; 7; size]?)
+        }
+        _ => Err(Stop::Malformed),
+    }
+}
