@@ -15,7 +15,8 @@ use std::test::*;
 
 const SOURCE: &[u8] = b"/dts-v1/; / { };";
 
-const BLOB: &str = "d00dfeed0000004800000038000000480000002800000011000000100000000000000000000000100000000000000000000000000000000000000001000000000000000200000009";
+const BLOB: &str =
+    "d00dfeed0000004800000038000000480000002800000011000000100000000000000000000000100000000000000000000000000000000000000001000000000000000200000009";
 
 const COUNTS: &[u8] = b"ok nodes 1 properties 0 reservations 0\n";
 
@@ -83,7 +84,13 @@ fn is_cut_anywhere(alloc: Global, job: Job, hex: bool, input: &[u8], whole: &[u8
 
 fn are_jobs_cut(alloc: Global, blob: &[u8]) -> bool {
     is_cut_anywhere(alloc, Job::Compile, false, SOURCE, blob)
-        && is_cut_anywhere(alloc, Job::Compile, true, SOURCE, b"d00dfeed0000004800000038000000480000002800000011000000100000000000000000000000100000000000000000000000000000000000000001000000000000000200000009\n")
+        && is_cut_anywhere(
+            alloc,
+            Job::Compile,
+            true,
+            SOURCE,
+            b"d00dfeed0000004800000038000000480000002800000011000000100000000000000000000000100000000000000000000000000000000000000001000000000000000200000009\n",
+        )
         && is_cut_anywhere(alloc, Job::Check, true, blob, COUNTS)
 }
 
@@ -134,8 +141,19 @@ fn is_told(alloc: Global, input: usize, fault: Fault, line: &[u8]) -> bool {
 fn lines_of_faults(rt: HostRuntime) {
     let with_place = Fault::at(FaultKind::Syntax, 31);
     let without_place = Fault::of(FaultKind::ReadFault);
-    assert!(rt; is_told(rt.alloc(), 2, with_place, b"dtool: input 2: fault 12 Syntax at 31\n")
-        && is_told(rt.alloc(), 0, without_place, b"dtool: input 0: fault 91 ReadFault\n"));
+    assert!(rt;
+        is_told(
+            rt.alloc(),
+            2,
+            with_place,
+            b"dtool: input 2: fault 12 Syntax at 31\n"
+        ) && is_told(
+            rt.alloc(),
+            0,
+            without_place,
+            b"dtool: input 0: fault 91 ReadFault\n"
+        )
+    );
 }
 
 fn is_path_cut(alloc: Global, text: &[u8]) -> bool {
@@ -284,10 +302,42 @@ fn asks_for(alloc: Global, line: &str, job: Job, hex: bool, file: &str) -> bool 
 #[test]
 fn words_that_are_a_command(rt: HostRuntime) {
     assert!(rt; asks_for(rt.alloc(), "dtool check a.dtb", Job::Check, false, "a.dtb"));
-    assert!(rt; asks_for(rt.alloc(), "dtool compile stdin", Job::Compile, false, "stdin"));
-    assert!(rt; asks_for(rt.alloc(), "dtool compile --hex a.dts", Job::Compile, true, "a.dts"));
-    assert!(rt; asks_for(rt.alloc(), "dtool compile a.dts --hex", Job::Compile, true, "a.dts"));
-    assert!(rt; asks_for(rt.alloc(), "dtool compile -- --hex", Job::Compile, false, "--hex"));
+    assert!(rt;
+        asks_for(
+            rt.alloc(),
+            "dtool compile stdin",
+            Job::Compile,
+            false,
+            "stdin"
+        )
+    );
+    assert!(rt;
+        asks_for(
+            rt.alloc(),
+            "dtool compile --hex a.dts",
+            Job::Compile,
+            true,
+            "a.dts"
+        )
+    );
+    assert!(rt;
+        asks_for(
+            rt.alloc(),
+            "dtool compile a.dts --hex",
+            Job::Compile,
+            true,
+            "a.dts"
+        )
+    );
+    assert!(rt;
+        asks_for(
+            rt.alloc(),
+            "dtool compile -- --hex",
+            Job::Compile,
+            false,
+            "--hex"
+        )
+    );
 }
 
 const NO_COMMANDS: [&str; 14] = [
