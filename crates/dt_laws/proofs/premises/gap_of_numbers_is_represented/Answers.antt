@@ -1,5 +1,5 @@
 use Rattle.dt_laws.proofs.CheckedCases.{base_means, base_is}
-use Rattle.dt_laws.proofs.CheckedGapOfNumbers.{gap_of_numbers_base, gap_of_numbers_checked}
+use Rattle.dt_laws.proofs.CheckedBases.{gap_of_numbers_base, gap_of_numbers_checked}
 use Rattle.dt_laws.proofs.premises.gap_of_numbers_is_represented.Goals as goal
 
 pub returns-clause-source : goal.returns-clause-source

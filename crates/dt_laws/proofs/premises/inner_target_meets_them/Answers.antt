@@ -1,7 +1,7 @@
 use Rattle.dt_model.specs.Rows.{inner_sites}
 use Rattle.dt_laws.proofs.CheckedCases.{base_means, object_means, object_fixups, object_are_of, object_applies}
-use Rattle.dt_laws.proofs.CheckedController.{controller_base, controller_checked}
-use Rattle.dt_laws.proofs.CheckedInnerTarget.{inner_target_object, inner_target_checked, inner_target_applicable}
+use Rattle.dt_laws.proofs.CheckedBases.{controller_base, controller_checked}
+use Rattle.dt_laws.proofs.CheckedExamples.{inner_target_object, inner_target_checked, inner_target_applicable}
 use Rattle.dt_laws.proofs.premises.inner_target_meets_them.Goals as goal
 
 pub returns-clause-base_source : goal.returns-clause-base_source

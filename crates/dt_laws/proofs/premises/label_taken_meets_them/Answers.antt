@@ -1,7 +1,7 @@
 use Rattle.dt_model.specs.Rows.{two_cells_sites}
 use Rattle.dt_laws.proofs.CheckedCases.{base_means, object_means, object_fixups, object_are_of, object_applies}
-use Rattle.dt_laws.proofs.CheckedReferring.{referring_base, referring_checked}
-use Rattle.dt_laws.proofs.CheckedLabelTaken.{label_taken_object, label_taken_checked, label_taken_applicable}
+use Rattle.dt_laws.proofs.CheckedBases.{referring_base, referring_checked}
+use Rattle.dt_laws.proofs.CheckedExamples.{label_taken_object, label_taken_checked, label_taken_applicable}
 use Rattle.dt_laws.proofs.premises.label_taken_meets_them.Goals as goal
 
 pub returns-clause-base_source : goal.returns-clause-base_source

@@ -1,7 +1,6 @@
 use Rattle.dt_laws.proofs.CheckedCases.{object_fixups, object_are_of}
-use Rattle.dt_laws.proofs.CheckedOneNode.{one_node_base, one_node_checked}
-use Rattle.dt_laws.proofs.CheckedTwoCells.{two_cells_object, two_cells_checked}
-use Rattle.dt_laws.proofs.CheckedMissingLabel.{missing_label_refused}
+use Rattle.dt_laws.proofs.CheckedBases.{one_node_base, one_node_checked}
+use Rattle.dt_laws.proofs.CheckedExamples.{two_cells_object, two_cells_checked, missing_label_refused}
 use Rattle.dt_laws.proofs.premises.missing_label_meets_them.Goals as goal
 
 pub returns-clause-are_of : goal.returns-clause-are_of

@@ -1,6 +1,6 @@
 use Rattle.dt_laws.proofs.CheckedCases.{object_means, object_fixups, object_are_of}
-use Rattle.dt_laws.proofs.CheckedController.{controller_base, controller_checked}
-use Rattle.dt_laws.proofs.CheckedSecondPhandle.{second_phandle_object, second_phandle_checked, second_phandle_refused}
+use Rattle.dt_laws.proofs.CheckedBases.{controller_base, controller_checked}
+use Rattle.dt_laws.proofs.CheckedExamples.{second_phandle_object, second_phandle_checked, second_phandle_refused}
 use Rattle.dt_laws.proofs.premises.second_phandle_meets_them.Goals as goal
 
 pub returns-clause-source : goal.returns-clause-source

@@ -1,7 +1,7 @@
 use Rattle.dt_model.specs.Rows.{three_values_sites}
 use Rattle.dt_laws.proofs.CheckedCases.{base_means, object_means, object_fixups, object_are_of, object_applies}
-use Rattle.dt_laws.proofs.CheckedOneNode.{one_node_base, one_node_checked}
-use Rattle.dt_laws.proofs.CheckedThreeValues.{three_values_object, three_values_checked, three_values_applicable}
+use Rattle.dt_laws.proofs.CheckedBases.{one_node_base, one_node_checked}
+use Rattle.dt_laws.proofs.CheckedExamples.{three_values_object, three_values_checked, three_values_applicable}
 use Rattle.dt_laws.proofs.premises.three_values_meet_them.Goals as goal
 
 pub returns-clause-base_source : goal.returns-clause-base_source

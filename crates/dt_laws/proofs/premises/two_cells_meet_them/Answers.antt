@@ -1,7 +1,7 @@
 use Rattle.dt_model.specs.Rows.{two_cells_sites}
 use Rattle.dt_laws.proofs.CheckedCases.{base_means, object_means, object_fixups, object_are_of, object_applies}
-use Rattle.dt_laws.proofs.CheckedController.{controller_base, controller_checked}
-use Rattle.dt_laws.proofs.CheckedTwoCells.{two_cells_object, two_cells_checked, two_cells_applicable}
+use Rattle.dt_laws.proofs.CheckedBases.{controller_base, controller_checked}
+use Rattle.dt_laws.proofs.CheckedExamples.{two_cells_object, two_cells_checked, two_cells_applicable}
 use Rattle.dt_laws.proofs.premises.two_cells_meet_them.Goals as goal
 
 pub returns-clause-base_source : goal.returns-clause-base_source

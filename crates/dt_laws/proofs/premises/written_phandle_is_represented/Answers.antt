@@ -1,5 +1,5 @@
 use Rattle.dt_laws.proofs.CheckedCases.{base_means, base_is}
-use Rattle.dt_laws.proofs.CheckedWrittenPhandle.{written_phandle_base, written_phandle_checked}
+use Rattle.dt_laws.proofs.CheckedBases.{written_phandle_base, written_phandle_checked}
 use Rattle.dt_laws.proofs.premises.written_phandle_is_represented.Goals as goal
 
 pub returns-clause-source : goal.returns-clause-source
