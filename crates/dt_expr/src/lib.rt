@@ -13,6 +13,3 @@ pub use evaluation::eval;
 pub use expression::Expr;
 pub use laws::{one_expression, values_fit};
 pub use step::{Binary, Step, Unary};
-
-#[cfg(test)]
-mod tests;

@@ -4,7 +4,7 @@ ghost use Rattle.std.specs.Prelude.{◌≡◌};
 ghost use Rattle.dt_expr.specs.Operands.{operands};
 
 /// An operator in front of one operand.
-#[derive(Clone, Copy, Debug, PartialEq, Eq)]
+#[derive(Clone, Copy, PartialEq, Eq)]
 pub enum Unary {
     /// `-`
     Minus,
@@ -15,7 +15,7 @@ pub enum Unary {
 }
 
 /// An operator between two operands.
-#[derive(Clone, Copy, Debug, PartialEq, Eq)]
+#[derive(Clone, Copy, PartialEq, Eq)]
 pub enum Binary {
     /// `||`
     Or,
@@ -56,7 +56,7 @@ pub enum Binary {
 }
 
 /// A part of an expression in postfix order: a number, or an operator behind its operands.
-#[derive(Clone, Copy, Debug, PartialEq, Eq)]
+#[derive(Clone, Copy, PartialEq, Eq)]
 pub enum Step {
     Number(u64),
     Unary(Unary),

@@ -1,5 +1,5 @@
 -- What an overlay's source means, by tests on its events.
-use Rattle.std.proofs.Common.{◌≡◌, ℕ, ◌<◌, Bool, true, ◌&&◌, List, [], ◌∷◌, Some, None, Ok, map, reverse, sym, ap, subst, ◌∙◌}
+use Rattle.std.proofs.Common.{◌≡◌, ℕ, ◌<◌, Bool, true, ◌&&◌, List, [], ◌∷◌, Some, None, Result, Ok, Err, map, reverse, refl, sym, ap, subst, ◌∙◌}
 use Rattle.std.specs.Prelude.{nat_lt}
 use Rattle.std.specs.List.{AllByRecursion, list_all, flat_map}
 use Rattle.std.specs.Str.{bytes_eq}
@@ -10,7 +10,7 @@ use Rattle.dt_model.specs.Meaning.{Item}
 use Rattle.dt_model.specs.Event.{age, value_at}
 use Rattle.dt_model.specs.Overlay.{OverlayReference, Target, at_reference, at_path, Fragment, Overlay, content, IsContained, HoldsTarget, IsOverlay}
 use Rattle.dt_model.specs.Source.{Place, Events, labelled}
-use Rattle.dt_model.specs.OverlaySource.{OverlaySoFar, overlay_start, root_children, read_overlays, overlay_items, overlay_of, OverlayMeans}
+use Rattle.dt_model.specs.OverlaySource.{OverlaySoFar, OverlayRefusal, overlay_start, root_children, read_overlays, overlay_items, overlay_of, OverlayMeans}
 use Rattle.dt_laws.proofs.Tests.{and_left, and_right, all_at}
 use Rattle.dt_laws.proofs.Cases.{map_some}
 use Rattle.dt_laws.proofs.Tests.{each_in}
@@ -52,13 +52,19 @@ abbrev target_contained : List Fragment → Target → Bool
 target_contained fragments (at_reference r) = is_contained fragments r
 target_contained fragments (at_path p) = true
 
+-- all places are read, no body is left open, and these are the events
+abbrev pub EndsWith : Events → Result OverlaySoFar OverlayRefusal → Type 0
+EndsWith es (Ok s) = (s.source.bodies ≡ []) × (s.source.events ≡ es)
+EndsWith es (Err refusal) = ⊥
+
+the_end : (es : Events) (r : Result OverlaySoFar OverlayRefusal) → EndsWith es r → (s : OverlaySoFar) × (r ≡ Ok s) × (s.source.bodies ≡ []) × (s.source.events ≡ es)
+the_end es (Ok s) h = (s, refl, h.0, h.1)
+the_end es (Err refusal) h = absurd h
+
 -- the tests of an overlay's source
 pub record IsOverlayRead (places : List Place) (es : Events) (qs : List Path) (ns : List Name) (fragments : List Fragment) : Type 0 where
   pub places_valid : list_all is_place places ≡ true
-  pub last : OverlaySoFar
-  pub all_read : read_overlays (root_children None places) overlay_start places ≡ Ok last
-  pub closed : last.source.bodies ≡ []
-  pub events : last.source.events ≡ es
+  pub ended : EndsWith es (read_overlays (root_children None places) overlay_start places)
   pub covered : covers_events qs ns es ≡ true
   pub stand : list_all (λ f. (overlay_of es fragments).stands (content f)) (names_of fragments) ≡ true
   pub listed : list_all (is_listed es fragments) qs ≡ true
@@ -91,16 +97,18 @@ module _ (places : List Place) (es : Events) (qs : List Path) (ns : List Name) (
   target_of f x i e = ap (target_contained fragments) (sym e) ∙ all_at (λ (f : Fragment). target_contained fragments f.target) fragments f r.targets_contained i
 
   pub overlay_means : OverlayMeans places (overlay_of es fragments)
-  overlay_means = record {
-    so_far = r.last;
-    all_read = r.all_read;
-    closed = r.closed;
-    means = ap (λ (events : Events). overlay_of events fragments) (sym r.events);
-    ordered = subst (λ (events : Events). AreInOrder (older events) (λ f. (overlay_of es fragments).stands (content f)) (names_of fragments)) (sym r.events) ordered;
-    targeted = λ f i. each_in (λ f. HoldsTarget (overlay_of es fragments) f.name f.target) fragments f r.targeted i;
-    contained = λ p n items brought e. each_reference qs ns (overlay_of es fragments).value value_within (is_contained fragments) (IsContained (overlay_of es fragments)) (contained (overlay_of es fragments)) r.contained p n items e;
-    targets_contained = λ f x i e. contained (overlay_of es fragments) x (target_of f x i e);
-  }
+  overlay_means =
+      let last = the_end es (read_overlays (root_children None places) overlay_start places) r.ended in
+      record {
+        so_far = last.0;
+        all_read = last.1;
+        closed = last.2;
+        means = ap (λ (events : Events). overlay_of events fragments) (sym last.3);
+        ordered = subst (λ (events : Events). AreInOrder (older events) (λ f. (overlay_of es fragments).stands (content f)) (names_of fragments)) (sym last.3) ordered;
+        targeted = λ f i. each_in (λ f. HoldsTarget (overlay_of es fragments) f.name f.target) fragments f r.targeted i;
+        contained = λ p n items brought e. each_reference qs ns (overlay_of es fragments).value value_within (is_contained fragments) (IsContained (overlay_of es fragments)) (contained (overlay_of es fragments)) r.contained p n items e;
+        targets_contained = λ f x i e. contained (overlay_of es fragments) x (target_of f x i e);
+      }
 
   pub is_overlay : IsOverlay (overlay_of es fragments)
   is_overlay = source_overlay places (overlay_of es fragments) (places_are places r.places_valid) overlay_means

@@ -1,5 +1,5 @@
 -- What a base's source means, by tests on its events.
-use Rattle.std.proofs.Common.{◌≡◌, ℕ, Bool, true, false, ◌&&◌, ◌||◌, List, [], length, Option, Some, None, is_some, Ok, reverse, sym, ap, subst, ◌∙◌}
+use Rattle.std.proofs.Common.{◌≡◌, ℕ, Bool, true, false, ◌&&◌, ◌||◌, List, [], length, Option, Some, None, is_some, Result, Ok, Err, reverse, refl, sym, ap, subst, ◌∙◌}
 use Rattle.std.specs.Prelude.{nat_eq, nat_lt, codes}
 use Rattle.std.specs.List.{list_all}
 use Rattle.std.specs.Str.{bytes_eq}
@@ -9,7 +9,7 @@ use Rattle.dt_model.specs.Path.{Path, path_eq}
 use Rattle.dt_model.specs.Lists.{IsIn}
 use Rattle.dt_model.specs.Meaning.{IsMeaning, IsPlain}
 use Rattle.dt_model.specs.Event.{Stack, Event, opening, giving, definition, undefinition, deletion, defines, drops, value_at}
-use Rattle.dt_model.specs.Source.{Part, Place, base, Events, SoFar, nothing, read_all, all_bound, written, written_number, meaning_of, IsResolved, SourceMeans}
+use Rattle.dt_model.specs.Source.{Part, Place, base, Events, Refusal, SoFar, nothing, read_all, all_bound, written, written_number, meaning_of, IsResolved, SourceMeans}
 use Rattle.dt_laws.proofs.Tests.{and_left, and_right, all_at, bytes_eq_refl, path_eq_true}
 use Rattle.dt_laws.proofs.Cases.{then_some}
 use Rattle.dt_laws.proofs.Lasts.{last_each, value_by}
@@ -40,14 +40,20 @@ number_is (Some x) (Some y) k h i = let same : x ≡ y = cc in ap (nat_eq x) (sy
 abbrev is_alone : Events → Path → Path → Bool
 is_alone es p q = implies (is_number (written_number es (reverse p)) (written_number es (reverse q))) (path_eq p q)
 
+-- all places are read, no body is left open, and these are the events
+abbrev pub EndsWith : Events → Result SoFar Refusal → Type 0
+EndsWith es (Ok s) = (s.bodies ≡ []) × (s.events ≡ es)
+EndsWith es (Err refusal) = ⊥
+
+the_end : (es : Events) (r : Result SoFar Refusal) → EndsWith es r → (s : SoFar) × (r ≡ Ok s) × (s.bodies ≡ []) × (s.events ≡ es)
+the_end es (Ok s) h = (s, refl, h.0, h.1)
+the_end es (Err refusal) h = absurd h
+
 -- the events of a source's places, the paths at which they have nodes, and the names of properties and labels
 pub record IsRead (places : List Place) (es : Events) (qs : List Path) (ns : List Name) : Type 0 where
   pub some : nat_lt 0 (length places) ≡ true
   pub places_valid : list_all is_place places ≡ true
-  pub last : SoFar
-  pub all_read : read_all base nothing places ≡ Ok last
-  pub closed : last.bodies ≡ []
-  pub events : last.events ≡ es
+  pub ended : EndsWith es (read_all base nothing places)
   pub covered : covers_events qs ns es ≡ true
   pub resolved : list_all (is_resolved es) es ≡ true
   pub alone : list_all (λ p. list_all (is_alone es p) qs) qs ≡ true
@@ -79,13 +85,15 @@ module _ (es : Events) (qs : List Path) (ns : List Name) (covered : covers_event
 
 module _ (places : List Place) (es : Events) (qs : List Path) (ns : List Name) (r : IsRead places es qs ns) where
   pub read_means : SourceMeans base [] places (meaning_of [] es)
-  read_means = record {
-    so_far = r.last;
-    all_read = r.all_read;
-    closed = r.closed;
-    resolved = subst IsResolved (sym r.events) (are_resolved es qs ns r.covered r.resolved r.alone);
-    means = ap (meaning_of []) (sym r.events);
-  }
+  read_means =
+      let last = the_end es (read_all base nothing places) r.ended in
+      record {
+        so_far = last.0;
+        all_read = last.1;
+        closed = last.2;
+        resolved = subst IsResolved (sym last.3) (are_resolved es qs ns r.covered r.resolved r.alone);
+        means = ap (meaning_of []) (sym last.3);
+      }
 
   pub read_meaning : IsMeaning (meaning_of [] es)
   read_meaning = source_meaning base [] places (meaning_of [] es) (below 0 (length places) r.some) (places_are places r.places_valid) tt read_means

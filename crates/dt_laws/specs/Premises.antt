@@ -1,28 +1,65 @@
--- The numbers and the fixups of some bases and objects.
+-- Bases and objects on which the premises of the laws are worked out.
 use Rattle.std.specs.Prelude.{ℕ, List, [], ◌∷◌, ◌++◌, codes, unwrap_or}
 use Rattle.dt_model.specs.Path.{Path}
 use Rattle.dt_model.specs.Names.{Name}
-use Rattle.dt_model.specs.Object.{Cell}
-use Rattle.dt_model.specs.Meaning.{cell}
-use Rattle.dt_model.specs.Source.{by_path, Place, block, child, label, property, close}
+use Rattle.dt_model.specs.Object.{Cell, HasFixups}
+use Rattle.dt_model.specs.Overlay.{Fragment, Overlay}
+use Rattle.dt_model.specs.OverlaySource.{OverlayMeans}
+use Rattle.dt_model.specs.Meaning.{cell, Meaning}
+use Rattle.dt_model.specs.Source.{by_path, Place, block, child, label, property, close, base, SourceMeans}
 use Rattle.dt_model.specs.Tree.{Reading, no_nodes, branch}
-use Rattle.dt_model.specs.Rows.{fragment, content_of, set, tree, symbols, symbol_of, phandle_of}
-use Rattle.dt_model.specs.Numbers.{number_in}
+use Rattle.dt_model.specs.Rows.{fragment, content_of, set, tree, symbols, symbol_of, phandle_of, meaning, overlay, controller, controller_source, one_node, one_node_source, referring, referring_source, two_cells, two_cells_source, two_cells_fragments, three_values, three_values_source, three_values_fragments, inner_target, inner_source, inner_fragments, label_taken, label_taken_source, second_phandle, written_phandle, gap_of_numbers}
+use Rattle.dt_model.specs.Numbers.{number_in, AreNewNumbers}
+use Rattle.dt_laws.specs.Applying.{AreOf}
 
 -- the number that the list has for a path, 0 where it has none
 abbrev pub numbering : List (Path × ℕ) → Path → ℕ
 numbering numbers p = unwrap_or (number_in numbers p) 0
+
+-- a base's source, its tree, and the numbers of its keyed nodes
+pub record Base : Type 0 where
+  pub places : List Place
+  pub tree : Reading
+  pub numbers : List (Path × ℕ)
+
+-- an overlay's source, its fragments, its object, the numbers of its keyed nodes, and its cells by their labels
+pub record Object : Type 0 where
+  pub places : List Place
+  pub fragments : List Fragment
+  pub tree : Reading
+  pub numbers : List (Path × ℕ)
+  pub fixups : List (Name × Cell)
+
+abbrev pub base_meaning : Base → Meaning
+base_meaning b = meaning b.places
+
+abbrev pub object_overlay : Object → Overlay
+object_overlay x = overlay x.places x.fragments
+
+-- a base and an object meet what the laws of applying ask for, with these new numbers
+pub record MeetThem (b : Base) (x : Object) (numbers : List (Path × ℕ)) : Type 0 where
+  pub base_source : SourceMeans base [] b.places (base_meaning b)
+  pub source : OverlayMeans x.places (object_overlay x)
+  pub are_of : AreOf b.tree x.tree (base_meaning b) (object_overlay x) (numbering b.numbers) (numbering x.numbers)
+  pub fixups : HasFixups x.tree x.fixups
+  pub new : AreNewNumbers b.tree x.tree numbers
 
 -- ---- the base with a controller, and the object with two cells
 
 abbrev pub controller_numbers : List (Path × ℕ)
 controller_numbers = (codes "ic" ∷ [], 1) ∷ []
 
+abbrev pub controller_base : Base
+controller_base = record { places = controller_source; tree = controller; numbers = controller_numbers }
+
 abbrev pub two_cells_numbers : List (Path × ℕ)
 two_cells_numbers = (content_of 0 ++ codes "f" ∷ [], 1) ∷ []
 
 abbrev pub two_cells_fixups : List (Name × Cell)
 two_cells_fixups = (codes "gic", record { path = content_of 0 ++ codes "d" ∷ []; property = codes "p"; offset = 1 }) ∷ []
+
+abbrev pub two_cells_object : Object
+two_cells_object = record { places = two_cells_source; fragments = two_cells_fragments; tree = two_cells; numbers = two_cells_numbers; fixups = two_cells_fixups }
 
 abbrev pub two_cells_new : List (Path × ℕ)
 two_cells_new = (content_of 0 ++ codes "f" ∷ [], 2) ∷ []
@@ -32,6 +69,9 @@ two_cells_new = (content_of 0 ++ codes "f" ∷ [], 2) ∷ []
 abbrev pub one_node_numbers : List (Path × ℕ)
 one_node_numbers = (codes "s" ∷ [], 1) ∷ []
 
+abbrev pub one_node_base : Base
+one_node_base = record { places = one_node_source; tree = one_node; numbers = one_node_numbers }
+
 abbrev pub three_values_numbers : List (Path × ℕ)
 three_values_numbers = (content_of 0 ++ codes "x" ∷ [], 1) ∷ []
 
@@ -39,6 +79,9 @@ abbrev pub three_values_fixups : List (Name × Cell)
 three_values_fixups =
     (codes "a", record { path = fragment 0 ∷ []; property = codes "target"; offset = 0 })
     ∷ (codes "a", record { path = fragment 1 ∷ []; property = codes "target"; offset = 0 }) ∷ []
+
+abbrev pub three_values_object : Object
+three_values_object = record { places = three_values_source; fragments = three_values_fragments; tree = three_values; numbers = three_values_numbers; fixups = three_values_fixups }
 
 abbrev pub three_values_new : List (Path × ℕ)
 three_values_new = (content_of 0 ++ codes "x" ∷ [], 2) ∷ []
@@ -48,6 +91,9 @@ three_values_new = (content_of 0 ++ codes "x" ∷ [], 2) ∷ []
 abbrev pub inner_target_numbers : List (Path × ℕ)
 inner_target_numbers = (codes "g" ∷ codes "__overlay__" ∷ codes "x" ∷ [], 1) ∷ []
 
+abbrev pub inner_target_object : Object
+inner_target_object = record { places = inner_source; fragments = inner_fragments; tree = inner_target; numbers = inner_target_numbers; fixups = [] }
+
 abbrev pub inner_target_new : List (Path × ℕ)
 inner_target_new = (codes "g" ∷ codes "__overlay__" ∷ codes "x" ∷ [], 2) ∷ []
 
@@ -56,8 +102,14 @@ inner_target_new = (codes "g" ∷ codes "__overlay__" ∷ codes "x" ∷ [], 2) �
 abbrev pub referring_numbers : List (Path × ℕ)
 referring_numbers = (codes "a" ∷ [], 1) ∷ []
 
+abbrev pub referring_base : Base
+referring_base = record { places = referring_source; tree = referring; numbers = referring_numbers }
+
 abbrev pub label_taken_numbers : List (Path × ℕ)
 label_taken_numbers = (content_of 0 ++ codes "b" ∷ [], 1) ∷ []
+
+abbrev pub label_taken_object : Object
+label_taken_object = record { places = label_taken_source; fragments = two_cells_fragments; tree = label_taken; numbers = label_taken_numbers; fixups = [] }
 
 abbrev pub label_taken_new : List (Path × ℕ)
 label_taken_new = (content_of 0 ++ codes "b" ∷ [], 2) ∷ []
@@ -71,6 +123,9 @@ second_phandle_source =
 
 abbrev pub second_phandle_numbers : List (Path × ℕ)
 second_phandle_numbers = (content_of 0 ++ codes "ic" ∷ [], 1) ∷ []
+
+abbrev pub second_phandle_object : Object
+second_phandle_object = record { places = second_phandle_source; fragments = two_cells_fragments; tree = second_phandle; numbers = second_phandle_numbers; fixups = [] }
 
 abbrev pub second_phandle_new : List (Path × ℕ)
 second_phandle_new = (content_of 0 ++ codes "ic" ∷ [], 2) ∷ []
@@ -87,6 +142,9 @@ with_written_phandle = tree []
 abbrev pub written_phandle_numbers : List (Path × ℕ)
 written_phandle_numbers = (codes "a" ∷ [], 2) ∷ (codes "b" ∷ [], 1) ∷ []
 
+abbrev pub written_phandle_base : Base
+written_phandle_base = record { places = written_phandle; tree = with_written_phandle; numbers = written_phandle_numbers }
+
 -- / { p = <&b &{/c}>; l: a { phandle = <2>; }; b: b { }; c { x: d { }; }; };
 abbrev pub with_gap_of_numbers : Reading
 with_gap_of_numbers = tree (set (codes "p") (cell 1 ++ cell 3) ∷ [])
@@ -98,3 +156,6 @@ with_gap_of_numbers = tree (set (codes "p") (cell 1 ++ cell 3) ∷ [])
 
 abbrev pub gap_of_numbers_numbers : List (Path × ℕ)
 gap_of_numbers_numbers = (codes "a" ∷ [], 2) ∷ (codes "b" ∷ [], 1) ∷ (codes "c" ∷ [], 3) ∷ (codes "c" ∷ codes "d" ∷ [], 4) ∷ []
+
+abbrev pub gap_of_numbers_base : Base
+gap_of_numbers_base = record { places = gap_of_numbers; tree = with_gap_of_numbers; numbers = gap_of_numbers_numbers }

@@ -1,13 +1,16 @@
 -- Rules that are tried in order.
-use Rattle.std.proofs.Common.{◌≡◌, Bool, ℕ, zero, suc, ◌+◌, ◌<◌, ◌≤◌, List, [], ◌∷◌, length, Some, ⊎_elim, refl, ap, subst, arith, length-append}
+use Rattle.std.proofs.Common.{◌≡◌, Bool, ℕ, zero, suc, ◌+◌, ◌<◌, ◌≤◌, List, [], ◌∷◌, ◌++◌, ◌-◌, take, length, Some, ⊎_elim, refl, sym, ap, subst, arith, length-append}
 use Rattle.std.specs.Prelude.{slice_get, slice_index, slice_index_or}
 use Rattle.std.specs.List.{filter}
 use Rattle.std.proofs.str.Laws.{order}
+use Rattle.std.proofs.lemmas.List.{take_at}
 use Rattle.dt_lex.specs.declared.token.Mode.{Mode}
 use Rattle.dt_lex.specs.declared.rule.Rule.{Rule}
+use Rattle.dt_lex.specs.declared.rule.Rule.TheVariants as rule
 use Rattle.dt_lex.specs.Words.{IsLongestWord, NoneFits}
 use Rattle.dt_lex.specs.Leaders.{leader_of, leads}
 use Rattle.dt_lex.specs.Lexing.{IsCut, HasNoCut}
+use Rattle.dt_lex.specs.Pieces.{IsWordOf}
 use Rattle.dt_lex.proofs.LeaderLemmas.{FirstAt, first_of_all, none_of_all, not_led}
 use Rattle.dt_lex.specs.Rules.{In, rules}
 
@@ -45,3 +48,14 @@ module _ (m : Mode) (fresh : Bool) (s : List ℕ) (tried : List Rule) (kept : tr
   no_cut_here none =
       none_of_all (leads (leader_of (slice_index s 0))) (λ q. NoneFits (In q m fresh) s) (not_led m fresh s) rules
       (subst (λ (xs : List Rule). (i : ℕ) (q : Rule) → slice_get xs i ≡ Some q → NoneFits (In q m fresh) s) kept none)
+
+-- the word of a cut is the front of the text
+pub front_of : (s w rest : List ℕ) → s ≡ w ++ rest → take (length s - length rest) s ≡ w
+front_of s w rest e =
+    subst (λ (x : List ℕ). take (length x - length rest) x ≡ w) (sym e)
+    (take_at w rest (length (w ++ rest) - length rest) (omega (arith, length-append w rest)))
+
+-- and one of its rule
+pub word_of : (m : Mode) (fresh : Bool) (s : List ℕ) (r : Rule) (w rest : List ℕ) → IsCut m fresh s r w rest → IsWordOf r w
+word_of m fresh s rule.Byte w rest k = k.longest.fits.1
+word_of m fresh s _ w rest k = tt

@@ -297,3 +297,18 @@ two_some p s b c t e h i = record {
   fits = (b ∷ [], c ∷ [], refl, (b, refl, h), (c, refl, i));
   longest = λ v more f (x, y, g, k, l). omega (arith, ap length g, ap length k.1, ap length l.1, length-append x y);
 }
+
+-- each word of a list is no longer than k, or doesn't begin the text
+abbrev pub NoneLonger : (k s : List ℕ) → List (List ℕ) → Type 0
+NoneLonger k s [] = Unit {0}
+NoneLonger k s (j ∷ js) = (NoneFits (Word j) s ⊎ (length j ≤ length k)) × NoneLonger k s js
+
+none_longer : (k s : List ℕ) (js : List (List ℕ)) → NoneLonger k s js → (v more : List ℕ) → s ≡ v ++ more → AnyOf js v → length v ≤ length k
+none_longer k s [] h v more e f = absurd f
+none_longer k s (j ∷ js) (inl none, h) v more e (inl f) = absurd (none v more e f)
+none_longer k s (j ∷ js) (inr short, h) v more e (inl f) = omega (arith, short, ap length f)
+none_longer k s (j ∷ js) (g, h) v more e (inr f) = none_longer k s js h v more e f
+
+-- a word of a list that begins the text is the longest where no longer one does
+pub any_longest : (k s t : List ℕ) (js : List (List ℕ)) → s ≡ k ++ t → AnyOf js k → NoneLonger k s js → IsLongestWord (AnyOf js) s k t
+any_longest k s t js e f h = record { split = e; fits = f; longest = none_longer k s js h }

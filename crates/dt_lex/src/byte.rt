@@ -4,7 +4,7 @@ ghost use Rattle.std.specs.Prelude.{◌≡◌};
 ghost use Rattle.dt_lex.specs.Bytes.{is_in};
 
 /// A class of bytes.
-#[derive(Clone, Copy, Debug)]
+#[derive(Clone, Copy)]
 pub enum Class {
     /// A space, tab, line feed, carriage return, vertical tab or form feed.
     Blank,

@@ -10,7 +10,7 @@ use crate::rule::{Directive, Rule};
 use crate::token::{Keyword, Mark};
 
 /// What the first byte of a text is.
-#[derive(Clone, Copy, Debug)]
+#[derive(Clone, Copy)]
 pub enum Leader {
     Slash,
     Hash,

@@ -17,8 +17,6 @@ mod number;
 mod outcome;
 mod quoted;
 mod rule;
-#[cfg(test)]
-mod tests;
 mod token;
 mod word;
 

@@ -3,7 +3,7 @@
 use crate::token::{Keyword, Mark};
 
 /// A word between slashes that is refused: the text would need other files, or nodes that may be left out.
-#[derive(Clone, Copy, Debug)]
+#[derive(Clone, Copy)]
 pub enum Directive {
     /// `/include/`
     Include,
@@ -14,7 +14,7 @@ pub enum Directive {
 }
 
 /// A rule.
-#[derive(Clone, Copy, Debug)]
+#[derive(Clone, Copy)]
 pub enum Rule {
     Blanks,
     BlockComment,

@@ -4,7 +4,7 @@ ghost use Rattle.std.specs.Prelude.{◌≡◌, ◌<◌, length};
 ghost use Rattle.dt_lex.specs.Modes.{mark_bytes, keyword_bytes, mode_behind};
 
 /// How a text is read at a place.
-#[derive(Clone, Copy, Debug, PartialEq, Eq)]
+#[derive(Clone, Copy)]
 pub enum Mode {
     /// A word is a name.
     Name,
@@ -15,7 +15,7 @@ pub enum Mode {
 }
 
 /// A word between slashes.
-#[derive(Clone, Copy, Debug, PartialEq, Eq)]
+#[derive(Clone, Copy, PartialEq, Eq)]
 pub enum Keyword {
     /// `/dts-v1/`
     Version,
@@ -32,7 +32,7 @@ pub enum Keyword {
 }
 
 /// One or two bytes that are a token by themselves.
-#[derive(Clone, Copy, Debug, PartialEq, Eq)]
+#[derive(Clone, Copy, PartialEq, Eq)]
 pub enum Mark {
     /// `<<`
     ShiftLeft,
@@ -77,7 +77,7 @@ pub enum Mark {
 
 /// What a token is. Of a label, a reference, a name and a text it says no more than that: their bytes are those of the
 /// token's place.
-#[derive(Clone, Copy, Debug, PartialEq, Eq)]
+#[derive(Clone, Copy, PartialEq, Eq)]
 pub enum TokenKind {
     /// `name:`
     Label,
@@ -97,7 +97,7 @@ pub enum TokenKind {
 }
 
 /// A token of a text: what it is, its first byte, and the byte behind it.
-#[derive(Clone, Copy, Debug, PartialEq, Eq)]
+#[derive(Clone, Copy, PartialEq, Eq)]
 pub struct Token {
     pub kind: TokenKind,
     pub start: u32,
@@ -105,7 +105,7 @@ pub struct Token {
 }
 
 /// What is wrong with a word.
-#[derive(Clone, Copy, Debug, PartialEq, Eq)]
+#[derive(Clone, Copy)]
 pub enum Flaw {
     /// It begins no token.
     BadToken,

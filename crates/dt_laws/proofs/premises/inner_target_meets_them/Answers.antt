@@ -1,20 +1,13 @@
+use Rattle.std.proofs.Common.{[], rules}
 use Rattle.dt_model.specs.Rows.{inner_sites}
-use Rattle.dt_laws.proofs.CheckedCases.{base_means, object_means, object_fixups, object_are_of, object_applies}
-use Rattle.dt_laws.proofs.CheckedController.{controller_base, controller_checked}
-use Rattle.dt_laws.proofs.CheckedInnerTarget.{inner_target_object, inner_target_checked, inner_target_applicable}
+use Rattle.dt_laws.specs.Premises.{controller_base, inner_target_object, inner_target_new}
+use Rattle.dt_laws.proofs.CheckedCases.{meet_them, object_applies}
+use Rattle.dt_laws.proofs.CheckedBases.{controller_names, controller_checked}
+use Rattle.dt_laws.proofs.CheckedExamples.{inner_target_names, inner_target_checked, inner_target_applicable}
 use Rattle.dt_laws.proofs.premises.inner_target_meets_them.Goals as goal
 
-pub returns-clause-base_source : goal.returns-clause-base_source
-returns-clause-base_source c = base_means controller_base controller_checked
-
-pub returns-clause-source : goal.returns-clause-source
-returns-clause-source c = object_means inner_target_object inner_target_checked
-
-pub returns-clause-are_of : goal.returns-clause-are_of
-returns-clause-are_of c = object_are_of inner_target_object inner_target_checked controller_base controller_checked
-
-pub returns-clause-fixups : goal.returns-clause-fixups
-returns-clause-fixups c = object_fixups inner_target_object inner_target_checked
+pub returns-clause-meet : goal.returns-clause-meet
+returns-clause-meet c = meet_them inner_target_object inner_target_names [] inner_target_checked controller_base controller_names controller_checked inner_target_new (search rules)
 
 pub returns-clause-applies : goal.returns-clause-applies
-returns-clause-applies c = object_applies inner_target_object inner_target_checked controller_base inner_sites inner_target_applicable
+returns-clause-applies c = object_applies inner_target_object inner_target_names [] inner_target_checked controller_base inner_sites inner_target_applicable

@@ -1,20 +1,13 @@
+use Rattle.std.proofs.Common.{rules}
 use Rattle.dt_model.specs.Rows.{three_values_sites}
-use Rattle.dt_laws.proofs.CheckedCases.{base_means, object_means, object_fixups, object_are_of, object_applies}
-use Rattle.dt_laws.proofs.CheckedOneNode.{one_node_base, one_node_checked}
-use Rattle.dt_laws.proofs.CheckedThreeValues.{three_values_object, three_values_checked, three_values_applicable}
+use Rattle.dt_laws.specs.Premises.{one_node_base, three_values_object, three_values_new}
+use Rattle.dt_laws.proofs.CheckedCases.{meet_them, object_applies}
+use Rattle.dt_laws.proofs.CheckedBases.{one_node_names, one_node_checked}
+use Rattle.dt_laws.proofs.CheckedExamples.{three_values_names, three_values_groups, three_values_checked, three_values_applicable}
 use Rattle.dt_laws.proofs.premises.three_values_meet_them.Goals as goal
 
-pub returns-clause-base_source : goal.returns-clause-base_source
-returns-clause-base_source c = base_means one_node_base one_node_checked
-
-pub returns-clause-source : goal.returns-clause-source
-returns-clause-source c = object_means three_values_object three_values_checked
-
-pub returns-clause-are_of : goal.returns-clause-are_of
-returns-clause-are_of c = object_are_of three_values_object three_values_checked one_node_base one_node_checked
-
-pub returns-clause-fixups : goal.returns-clause-fixups
-returns-clause-fixups c = object_fixups three_values_object three_values_checked
+pub returns-clause-meet : goal.returns-clause-meet
+returns-clause-meet c = meet_them three_values_object three_values_names three_values_groups three_values_checked one_node_base one_node_names one_node_checked three_values_new (search rules)
 
 pub returns-clause-applies : goal.returns-clause-applies
-returns-clause-applies c = object_applies three_values_object three_values_checked one_node_base three_values_sites three_values_applicable
+returns-clause-applies c = object_applies three_values_object three_values_names three_values_groups three_values_checked one_node_base three_values_sites three_values_applicable
