@@ -75,6 +75,3 @@ pub fn text_at(bytes: &[u8], at: usize) -> Option<&[u8]>
     }
     first_text(&bytes[at..])
 }
-
-#[cfg(test)]
-mod tests;

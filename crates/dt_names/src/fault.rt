@@ -7,7 +7,7 @@ ghost use Rattle.dt_names.specs.declared.fault.FaultKind.TheVariants.{NoMemory};
 use std::alloc::{AllocError, AllocFailed};
 
 /// What kind of fault it is.
-#[derive(Clone, Copy, Debug, PartialEq, Eq)]
+#[derive(Clone, Copy, PartialEq, Eq)]
 pub enum FaultKind {
     /// Memory was refused.
     NoMemory,
@@ -158,7 +158,7 @@ impl FaultKind {
 }
 
 /// A refusal, and the place in the input, in bytes from its start, where one is told.
-#[derive(Clone, Copy, Debug, PartialEq, Eq)]
+#[derive(Clone, Copy, PartialEq, Eq)]
 pub struct Fault {
     pub kind: FaultKind,
     pub at: Option<usize>,

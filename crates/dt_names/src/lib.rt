@@ -12,6 +12,3 @@ pub use fault::{Fault, FaultKind};
 pub use name::{Label, NodeName, PropName};
 pub use path::Path;
 pub use stream::{Feed, In, Out, Sink, put_all};
-
-#[cfg(test)]
-mod tests;

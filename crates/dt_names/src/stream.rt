@@ -46,7 +46,7 @@ pub trait Feed {
 
 /// A sink over a writer of std. An error of the writer is a failure, and so is a piece of which it takes no byte; a
 /// call that a signal interrupted is made again.
-#[derive(Debug, Drop)]
+#[derive(Drop)]
 pub struct Out<W> {
     writer: W,
     has_failed: bool,
@@ -106,7 +106,7 @@ fn write_once<W: Write>(writer: &mut W, bytes: &[u8]) -> Option<usize>
 }
 
 /// A feed over a reader of std. An error of the reader is a failure; a call that a signal interrupted is made again.
-#[derive(Debug, Drop)]
+#[derive(Drop)]
 pub struct In<R> {
     reader: R,
     has_failed: bool,

@@ -4,7 +4,7 @@ use dt_names::FaultKind;
 use std::alloc::{AllocError, AllocFailed};
 
 /// A fault, and how many tokens are left from the first on at which it shows; for `NoMemory` that is 0.
-#[derive(Clone, Copy, Debug, PartialEq, Eq)]
+#[derive(Clone, Copy, PartialEq, Eq)]
 pub(crate) struct Stop {
     pub kind: FaultKind,
     pub left: usize,

@@ -9,7 +9,6 @@ pub mod Nodes
 pub mod Walks
 pub mod Ordering
 pub mod PairLemmas
-pub mod Walkover
 pub mod Paths
 pub mod Headers
 pub mod Apart

@@ -1,5 +1,5 @@
 -- Places rise, so a child's place finds that child.
-use Rattle.std.proofs.Common.{◌⊎◌, ◌≡◌, ℕ, ◌+◌, ◌<◌, ◌≤◌, Bool, true, false, cond, List, [], ◌∷◌, ◌++◌, length, map, Option, Some, None, refl, sym, ap, subst, ◌∙◌, append_assoc, arith, inl, inr}
+use Rattle.std.proofs.Common.{◌⊎◌, ◌≡◌, ℕ, ◌+◌, ◌<◌, ◌≤◌, Bool, true, false, cond, List, [], ◌∷◌, ◌++◌, length, map, Option, Some, None, refl, ap, subst, ◌∙◌, append_assoc, arith, inl, inr}
 use Rattle.std.proofs.Math.Dec.{eqb}
 use Rattle.std.proofs.lemmas.Bool.{eqb-true, eq-eqb}
 use Rattle.std.proofs.lemmas.List.{length-append}
@@ -7,8 +7,8 @@ use Rattle.std.proofs.lemmas.Option.{same_Some}
 use Rattle.dt_model.specs.Tree.{Property}
 use Rattle.dt_read.specs.Placed.{Nodes, no_nodes, node}
 use Rattle.dt_read.specs.Marks.{Mark, begin_mark, end_mark, prop_mark, nop_mark, last_mark, SpellsMark, SpellsMarks, Root, marks_of_nodes, marks_of, without_nop_marks}
-use Rattle.dt_read.specs.Reading.{Parts, or_else, find_in, node_of, HasTree}
-use Rattle.dt_read.specs.Order.{Rise, HasRisingPlaces, IsSibling}
+use Rattle.dt_read.specs.Reading.{Parts, or_else, find_in, HasTree}
+use Rattle.dt_read.specs.Order.{Rise, HasRisingPlaces}
 use Rattle.dt_read.proofs.Tokens.{chosen}
 use Rattle.dt_read.proofs.Trees.{spelled_len, place_is}
 use Rattle.dt_read.proofs.Nodes.{or_else_some}
@@ -96,22 +96,6 @@ found_below place (node other name properties children siblings) parts e =
       ]
     ]
 
-sibling_below : (nodes : Nodes) (place : ℕ) (parts : Parts) → IsSibling nodes place parts → HasBelow nodes place parts
-sibling_below no_nodes place parts s = s
-sibling_below (node other name properties children siblings) place parts s =
-    elim s [ inl here ↦ inl here | inr after ↦ inr (inr (sibling_below siblings place parts after)) ]
-
-child_below : (nodes : Nodes) (place : ℕ) (parts : Parts) (child : ℕ) (child_parts : Parts) → HasBelow nodes place parts → IsSibling parts.children child child_parts → HasBelow nodes child child_parts
-child_below no_nodes place parts child child_parts h s = h
-child_below (node other name properties children siblings) place parts child child_parts h s =
-    elim h [
-      | inl here ↦ inr (inl (sibling_below children child child_parts (subst (λ (p : Parts). IsSibling p.children child child_parts) (sym here.1) s)))
-      | inr further ↦ elim further [
-        | inl inside ↦ inr (inl (child_below children place parts child child_parts inside s))
-        | inr after ↦ inr (inr (child_below siblings place parts child child_parts after s))
-      ]
-    ]
-
 pub rise_bounds : (nodes : Nodes) (low high : ℕ) → Rise low nodes high → low ≤ high
 rise_bounds no_nodes low high r = r
 rise_bounds (node place name properties children siblings) low high r =
@@ -165,15 +149,3 @@ below_found (node other name properties children siblings) low high place parts 
     not_inside : (place : ℕ) (children : Nodes) (rest : Option Parts) → ((p : Parts) → find_in place children ≡ Some p → ⊥) → (o : Option Parts) → find_in place children ≡ o → or_else (find_in place children) rest ≡ rest
     not_inside place children rest h None e = ap (λ (o : Option Parts). or_else o rest) e
     not_inside place children rest h (Some p) e = absurd (h p e)
-
--- a child's place finds that child
-pub child_found : (tree : Root) (place : ℕ) (parts : Parts) (child : ℕ) (child_parts : Parts) → HasRisingPlaces tree → node_of tree place ≡ Some parts → IsSibling parts.children child child_parts → node_of tree child ≡ Some child_parts
-child_found tree place parts child child_parts rising e s =
-    let below : HasBelow tree.children child child_parts =
-    elim (chosen (eqb tree.place place) _ _ _ e) [
-      | inl root ↦ sibling_below tree.children child child_parts (subst (λ (p : Parts). IsSibling p.children child child_parts) (sym (same_Some _ parts root.1)) s)
-      | inr further ↦ child_below tree.children place parts child child_parts (found_below place tree.children parts further.1) s
-    ] in
-    let b = below_bounds tree.children (tree.place + 1) rising.high child child_parts rising.rise below in
-    let lt : tree.place < child = omega arith in
-    find_further tree.place child _ _ lt ∙ below_found tree.children (tree.place + 1) rising.high child child_parts rising.rise below

@@ -42,9 +42,6 @@ lead_push (first ∷ tokens) token p q r l e =
     let s = then_some (lead_all tokens) (lead first p) q l in
     ap (option_and_then (lead_all (tokens ++ token ∷ []))) s.1 ∙ lead_push tokens token s.0 q r s.2 e
 
-pub reaches_start : (strings block : List ℕ) → Reaches strings block 0 block front
-reaches_start strings block = record { tokens = []; before = []; whole = refl; place = refl; spelled = refl; led = refl }
-
 pub reaches_more : (strings block : List ℕ) (here : ℕ) (rest : List ℕ) (p q : Position) (n : ℕ) → Leads strings p rest q n → Reaches strings block here rest p → Reaches strings block (here + n) (drop n rest) q
 reaches_more strings block here rest p q n l r =
     let len : length (take n rest) ≡ n = omega (arith, length-take n rest, l.takes.within) in

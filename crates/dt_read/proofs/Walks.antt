@@ -40,13 +40,6 @@ goes_behind (node place other properties children siblings) more marks at name r
 pub next_sibling_behind : (marks : List Mark) (at : ℕ) (name : List ℕ) (rest : List Mark) → AreSiblings marks → marks ≡ begin_mark at name ∷ rest → GoesBehind marks at name rest
 next_sibling_behind marks at name rest a e = goes_behind a.siblings a.more marks at name rest a.whole e
 
-not_empty : (siblings : Nodes) (more : List Mark) → marks_of_nodes siblings ++ end_mark ∷ more ≡ [] → ⊥
-not_empty no_nodes more e = cc
-not_empty (node place name properties children siblings) more e = cc
-
-pub siblings_stand : (marks : List Mark) → AreSiblings marks → marks ≡ [] → ⊥
-siblings_stand marks a e = not_empty a.siblings a.more (sym a.whole ∙ e)
-
 none_begins : (siblings : Nodes) (more : List Mark) (mark : Mark) (rest : List Mark) → ((place : ℕ) (name : List ℕ) → mark ≡ begin_mark place name → ⊥) → marks_of_nodes siblings ++ end_mark ∷ more ≡ mark ∷ rest → heads_of siblings ≡ []
 none_begins no_nodes more mark rest bars e = refl
 none_begins (node place name properties children siblings) more mark rest bars e = let is : mark ≡ begin_mark place name = cc in absurd (bars place name is)

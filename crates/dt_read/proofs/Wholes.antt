@@ -1,7 +1,6 @@
 -- A blob that was checked is read as its tree, and each path of it as its node.
-use Rattle.std.proofs.Common.{◌⊎◌, ◌≡◌, ◌≢◌, ℕ, ◌+◌, ◌<◌, ◌≤◌, ◌^◌, List, [], ◌∷◌, ◌++◌, length, drop, map, Option, Some, None, refl, sym, ap, subst, ◌∙◌, arith, inl, inr}
+use Rattle.std.proofs.Common.{◌⊎◌, ◌≡◌, ◌≢◌, ℕ, ◌+◌, ◌<◌, ◌^◌, List, [], ◌∷◌, ◌++◌, drop, map, Option, Some, None, refl, sym, ap, subst, ◌∙◌, arith, inl, inr}
 use Rattle.std.proofs.lemmas.Option.{same_Some}
-use Rattle.std.proofs.lemmas.List.{length-append}
 use Rattle.dt_model.specs.Names.{Name}
 use Rattle.dt_model.specs.Path.{Path}
 use Rattle.dt_model.specs.Tree.{Property, Node, node_at, value_of, value_in}
@@ -106,9 +105,6 @@ limit_or checks.late_property = inr (λ e. absurd cc, λ e. absurd cc)
 limit_or checks.bad_end = inr (λ e. absurd cc, λ e. absurd cc)
 limit_or checks.duplicate = inr (λ e. absurd cc, λ e. absurd cc)
 limit_or checks.bad_phandle = inr (λ e. absurd cc, λ e. absurd cc)
-
-pub stop_within : (strings block : List ℕ) (offset : ℕ) (f : BlobFault) → StopsAt strings block offset f → offset ≤ length block
-stop_within strings block offset f s = let is = s.place in omega (arith, ap length s.whole, length-append s.before s.rest)
 
 pub first_at : (bytes : List ℕ) (b : Blocks) (f : BlobFault) (kind : FaultKind) (offset : ℕ) (at : Option ℕ) → AreBlocks bytes b → kind ≡ kind_of f → StopsAt b.strings.now b.block.now offset f
     → (kind ≡ Limit → at ≡ None) → (kind ≢ Limit → at ≡ Some (b.at + offset)) → IsFirstFault bytes f at

@@ -1,9 +1,9 @@
 -- Names that differ (Devicetree Specification v0.4, 2.2), by the nodes' places.
-use Rattle.std.specs.Prelude.{◌≡◌, ℕ, List, [], ◌∷◌, map, Some, IfSome}
+use Rattle.std.specs.Prelude.{◌≡◌, ℕ, List, map, Some}
 use Rattle.dt_model.specs.Names.{Name}
 use Rattle.dt_model.specs.Tree.{Property}
 use Rattle.dt_model.specs.Valid.{AreDistinct}
-use Rattle.dt_read.specs.Marks.{Mark, begin_mark, end_mark, prop_mark, nop_mark, last_mark, Root}
+use Rattle.dt_read.specs.Marks.{Root}
 use Rattle.dt_read.specs.Reading.{Parts, node_of, heads_of}
 
 abbrev pub property_names : List Property → List Name
@@ -20,16 +20,3 @@ pub record AreDistinctParts (parts : Parts) : Type 0 where
 -- so in each node
 abbrev pub HasDistinctNames : Root → Type 0
 HasDistinctNames tree = (place : ℕ) (parts : Parts) → node_of tree place ≡ Some parts → AreDistinctParts parts
-
--- the places of the nodes that begin, in preorder
-abbrev pub places_in : List Mark → List ℕ
-places_in [] = []
-places_in (begin_mark place name ∷ marks) = place ∷ places_in marks
-places_in (end_mark ∷ marks) = places_in marks
-places_in (prop_mark p ∷ marks) = places_in marks
-places_in (nop_mark ∷ marks) = places_in marks
-places_in (last_mark ∷ marks) = places_in marks
-
--- the node at that place has distinct names
-abbrev pub IsDistinctAt : Root → ℕ → Type 0
-IsDistinctAt tree place = IfSome (node_of tree place) AreDistinctParts

@@ -1,8 +1,7 @@
 -- Places that rise in preorder, so that each is one node's.
 use Rattle.dt_read.specs.Placed.{Nodes, no_nodes, node}
 use Rattle.dt_read.specs.Marks.{Root}
-use Rattle.std.specs.Prelude.{◌≡◌, ◌⊎◌, ℕ, ◌+◌, ◌≤◌}
-use Rattle.dt_read.specs.Reading.{Parts}
+use Rattle.std.specs.Prelude.{ℕ, ◌+◌, ◌≤◌}
 
 -- the places of siblings, and of what is below them, rise from low and stay below high
 abbrev pub Rise : ℕ → Nodes → ℕ → Type 0
@@ -12,8 +11,3 @@ Rise low (node place name properties children siblings) high = (low ≤ place) �
 pub record HasRisingPlaces (tree : Root) : Type 0 where
   pub high : ℕ
   pub rise : Rise (tree.place + 1) tree.children high
-
--- among these siblings is this one
-abbrev pub IsSibling : Nodes → ℕ → Parts → Type 0
-IsSibling no_nodes child parts = ⊥
-IsSibling (node place name properties children siblings) child parts = ((place ≡ child) × (record { name = name; properties = properties; children = children } ≡ parts)) ⊎ IsSibling siblings child parts

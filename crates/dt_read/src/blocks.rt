@@ -12,7 +12,7 @@ use dt_names::{Fault, FaultKind};
 
 /// The blocks of a blob: the bytes from the reservations on, the strings, and the structure block with its place in the
 /// blob; and the number of the processor that boots.
-#[derive(Clone, Copy, Debug)]
+#[derive(Clone, Copy)]
 pub struct Blocks<'a> {
     pub reservations: &'a [u8],
     pub strings: &'a [u8],

@@ -10,7 +10,7 @@ use crate::token::Token;
 
 /// How many nodes there are, the root among them, how many properties they have, and how many memory reservations there
 /// are.
-#[derive(Clone, Copy, Debug, PartialEq, Eq)]
+#[derive(Clone, Copy, PartialEq, Eq)]
 pub struct Counts {
     pub nodes: usize,
     pub properties: usize,

@@ -5,7 +5,7 @@ ghost use Rattle.std.specs.List.{AllByRecursion};
 ghost use Rattle.dt_model.specs.Format.{begin_node, prop};
 ghost use Rattle.dt_model.specs.Valid.{IsReservation};
 ghost use Rattle.dt_names.specs.declared.fault.FaultKind.TheVariants.{NoMemory};
-ghost use Rattle.dt_flat.specs.Arena.{reading};
+ghost use Rattle.dt_flat.specs.Arena.{reading, root_alone};
 ghost use Rattle.dt_read.specs.Growth.{numbers_behind, slots_behind, MayCome, grown, MayGrow, reading_with, MayCopy};
 ghost use Rattle.dt_read.specs.Pairs.{pairs_of};
 ghost use Rattle.dt_read.specs.View.{view};
@@ -96,6 +96,19 @@ fn reserve(tree: &mut FlatTree, pairs: &[u8]) -> Result<(), Fault>
     Ok(())
 }
 
+// Fills a tree that is a root alone with the tokens of a structure block, and with reservations up to a pair of zeros.
+fn fill(tree: &mut FlatTree, structure: &Structure<'_>, reservations: &[u8]) -> Result<(), Fault>
+    requires alone { tree.old ≡ root_alone tree.old.boot_cpu }
+    requires copy { MayCopy (reading_with tree.old.boot_cpu (pairs_of reservations.now) structure.now) }
+    ensures reads { OnOk result (reading tree.new ≡ reading_with tree.old.boot_cpu (pairs_of reservations.now) structure.now) }
+    ensures refused { IfErr result (λ fault. (fault.kind ≡ NoMemory) × (fault.at ≡ None)) }
+{
+    planted_reads();
+    may_be_planted();
+    reserve(tree, reservations)?;
+    plant(tree, structure.start())
+}
+
 /// The tree of a structure block, with reservations up to a pair of zeros. It wants memory, and nothing else is in its way.
 pub fn flat_of(
     alloc: Global,
@@ -108,10 +121,7 @@ pub fn flat_of(
         reading tree ≡ reading_with boot_cpu (pairs_of reservations.now) structure.now) }
     ensures refused { IfErr result (λ fault. (fault.kind ≡ NoMemory) × (fault.at ≡ None)) }
 {
-    planted_reads();
-    may_be_planted();
     let mut tree = FlatTree::new(alloc, boot_cpu);
-    reserve(&mut tree, reservations)?;
-    plant(&mut tree, structure.start())?;
+    fill(&mut tree, structure, reservations)?;
     Ok(tree)
 }

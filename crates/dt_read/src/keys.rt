@@ -13,7 +13,7 @@ use crate::token::Token;
 use std::marker::Model;
 
 /// What a key is of.
-#[derive(Clone, Copy, Debug, PartialEq, Eq, Hash)]
+#[derive(Clone, Copy, PartialEq, Eq, Hash)]
 pub enum Sort {
     /// The name of a child.
     Child,
@@ -24,7 +24,7 @@ pub enum Sort {
 }
 
 /// Bytes that have to differ from all others of their sort and of their owner.
-#[derive(Clone, Copy, Debug, PartialEq, Eq, Hash)]
+#[derive(Clone, Copy, PartialEq, Eq, Hash)]
 pub struct Key<'a> {
     pub sort: Sort,
     /// The node in which a name stands. Phandles have one owner, 0.
@@ -33,7 +33,7 @@ pub struct Key<'a> {
 }
 
 /// Which keys are read.
-#[derive(Clone, Copy, Debug, PartialEq, Eq)]
+#[derive(Clone, Copy)]
 pub enum Wanted {
     Names,
     Phandles,

@@ -28,6 +28,3 @@ pub use walk::{Children, Props};
 
 /// A node of a blob: the place of its BEGIN_NODE, in bytes from the blob's front.
 pub type NodeId = usize;
-
-#[cfg(test)]
-mod tests;

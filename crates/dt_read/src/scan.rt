@@ -22,7 +22,7 @@ const MOST_NAMES: usize = 64;
 const MOST_NODES: usize = 65536;
 
 /// Where a scan stands between two tokens.
-#[derive(Clone, Copy, Debug)]
+#[derive(Clone, Copy)]
 pub struct Place {
     /// How many nodes are open.
     pub depth: usize,
@@ -108,7 +108,7 @@ fn step(strings: &[u8], place: Place, rest: &[u8]) -> Option<(Place, usize)>
 }
 
 /// The first token that is wrong: so many bytes behind the front of the structure block, and what is wrong with it.
-#[derive(Clone, Copy, Debug, PartialEq, Eq)]
+#[derive(Clone, Copy)]
 pub struct BadToken {
     pub offset: usize,
     pub kind: FaultKind,

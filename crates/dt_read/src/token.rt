@@ -19,7 +19,7 @@ const NOP: u32 = 4;
 const END: u32 = 9;
 
 /// A token, with slices of the blob.
-#[derive(Clone, Copy, Debug)]
+#[derive(Clone, Copy)]
 pub enum Token<'a> {
     BeginNode(&'a [u8]),
     EndNode,

@@ -75,15 +75,6 @@ impl<'a> Props<'a> {
     {
         Props { cursor }
     }
-
-    /// The same properties.
-    pub fn copy(&self) -> Props<'a>
-        ensures { result ≡ self.now }
-    {
-        Props {
-            cursor: self.cursor.copy(),
-        }
-    }
 }
 
 impl<'a> Iterator for Props<'a> {
@@ -135,16 +126,6 @@ impl<'a> Siblings<'a> {
         ensures { result ≡ heads_left cursor.entry }
     {
         Siblings { cursor }
-    }
-
-    /// The same nodes.
-    pub fn copy(&self) -> Siblings<'a>
-        ensures { result ≡ self.now }
-    {
-        let cursor = &self.cursor;
-        Siblings {
-            cursor: cursor.copy(),
-        }
     }
 }
 
