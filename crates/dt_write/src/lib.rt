@@ -32,6 +32,3 @@ pub fn write_blob(alloc: Global, tree: &FlatTree) -> Result<Vec<u8>, Fault>
     let _root = tree.root();
     whole::blob_of(alloc, tree)
 }
-
-#[cfg(test)]
-mod tests;
