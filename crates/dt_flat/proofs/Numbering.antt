@@ -167,6 +167,3 @@ may_give slots table p value numbered may = record {
   valid = may.valid refl;
   own = λ i at. may.own refl i (numbered.sound (from_be_bytes w32 value) i at);
 }
-
-pub given-same : (old new : Table) (before : Option ℕ) (number node n : ℕ) → new.entries ≡ old.entries → given new before number node n ≡ given old before number node n
-given-same old new before number node n e = ap (λ (h : Option ℕ). cond (eqb n number) (Some node) (cond (is_number before n) None h)) (holder-same old new n e)

@@ -2,13 +2,13 @@
 use Rattle.std.proofs.Common.{◌≡◌, ℕ, ◌+◌, ◌<◌, ◌≤◌, List, [], ◌++◌, length, take, drop, drop_of_length-le, replicate, sym, ap, subst, ◌∙◌, append_assoc, arith}
 use Rattle.std.proofs.lemmas.List.{append-nil, length-append, drop_at, drop-append-le, take_all}
 use Rattle.dt_names.specs.declared.fault.FaultKind.{FaultKind}
-use Rattle.dt_names.specs.declared.fault.FaultKind.TheVariants.{NoMemory, Limit}
+use Rattle.dt_names.specs.declared.fault.FaultKind.TheVariants.{Limit}
 use Rattle.dt_model.specs.Names.{Name}
 use Rattle.dt_model.specs.Tree.{Forest, no_nodes, branch, Reading}
 use Rattle.dt_model.specs.Valid.{IsValid, IsWithinLimits}
 use Rattle.dt_model.specs.Format.{word, reservation_block, Reads, IsWithin}
 use Rattle.dt_flat.specs.Arena.{Slot, name_of, properties, below}
-use Rattle.dt_write.specs.Written.{used_below, nodes_block, strings_block, header, root_node, names_of, structure_block, assembled, written}
+use Rattle.dt_write.specs.Written.{used_below, nodes_block, strings_block, header, root_node, names_of, structure_block, written}
 use Rattle.dt_write.specs.Parts.{tree_at, PutsNodes, nodes_size, IsFront, IsBody, IsBlob}
 use Rattle.dt_write.specs.Refusals.{WhyNoBlob, WhyNotWritten}
 use Rattle.dt_write.proofs.Sizes.{longer, block_same}
@@ -88,10 +88,6 @@ header_set t names front body whole blob r s n is b strings-is r-is s-is n-is e 
 pub written_back : (n : ℕ) (bytes items : List ℕ) → length bytes ≡ n → length items ≡ n → take n (bytes ++ drop (length bytes) items) ≡ bytes
 written_back n bytes items e f =
     ap (λ (w : List ℕ). take n (bytes ++ w)) (drop_of_length-le items (omega arith)) ∙ ap (take n) (append-nil bytes) ∙ take_all n bytes (omega arith)
-
--- memory may be refused at any time
-pub no_memory : (t : Reading) → WhyNotWritten t NoMemory
-no_memory t = record { why = tt }
 
 -- the blob is read as the tree, and is within the limits
 pub blob_reads : (t : Reading) (blob : List ℕ) → IsValid t → IsBlob t blob → Reads blob t

@@ -5,7 +5,7 @@ use Rattle.std.proofs.lemmas.Result.{err_from_is_err_and}
 use Rattle.dt_model.specs.Tree.{Property, Forest}
 use Rattle.dt_flat.specs.Arena.{properties, name_of, children, below}
 use Rattle.dt_write.specs.Written.{begin_block}
-use Rattle.dt_write.specs.Parts.{tree_at, trees_at, properties_size, nodes_size, PutsProperties, PutsNodes}
+use Rattle.dt_write.specs.Parts.{tree_at, trees_at, nodes_size, PutsProperties, PutsNodes}
 use Rattle.dt_write.proofs.Puts.{PutsNodes-branch, below_is}
 use Rattle.dt_write.proofs.Sizes.{longer}
 use Rattle.dt_write.proofs.Left.{nodes_begin, nodes_step, node_within, properties_within, children_within, nodes_over, transitive}

@@ -1,7 +1,7 @@
 use Rattle.std.proofs.lemmas.Result.{err_from_is_err_and}
 use Rattle.dt_flat.specs.Arena.{reading}
 use Rattle.dt_write.specs.Parts.{tree_at}
-use Rattle.dt_write.proofs.WholeLemmas.{root_is, body_put, nodes_too_large, no_memory}
+use Rattle.dt_write.proofs.WholeLemmas.{root_is, body_put, nodes_too_large}
 use Rattle.dt_write.proofs.whole.put_structure.Goals as goal
 
 pub returns-in_err-put_node-clause-refused : goal.returns-in_err-put_node-clause-refused

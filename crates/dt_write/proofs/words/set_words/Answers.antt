@@ -1,4 +1,4 @@
-use Rattle.std.proofs.Common.{◌≡◌, ◌+◌, ◌*◌, ◌≤◌, ℕ, length, get_or, refl, arith}
+use Rattle.std.proofs.Common.{◌+◌, ◌*◌, ◌≤◌, length, get_or, refl, arith}
 use Rattle.dt_write.proofs.WordLemmas.{word_set, was_true}
 use Rattle.dt_write.proofs.words.set_words.Goals as goal
 

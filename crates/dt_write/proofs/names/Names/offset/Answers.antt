@@ -1,4 +1,4 @@
-use Rattle.std.proofs.Common.{◌≡◌, ◌+◌, ◌<◌, ◌∙◌, refl, sym, ap, ℕ, List, ◌++◌, ◌∷◌, [], length, arith}
+use Rattle.std.proofs.Common.{◌+◌, ◌<◌, ◌∙◌, refl, sym, ap, ℕ, List, ◌∷◌, [], length, arith}
 use Rattle.std.proofs.lemmas.List.{length-append}
 use Rattle.dt_write.specs.Written.{used, terminated, strings_block, offset_of}
 use Rattle.dt_write.specs.Places.{names_kept}
