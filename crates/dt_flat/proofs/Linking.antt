@@ -103,6 +103,11 @@ linked-added ns made h none linked =
     let there : AreLinked (all ++ m ∷ []) 0 (added ns made.name.items made) = subst (λ (k : ℕ). AreLinked (all ++ m ∷ []) 0 (listed ns made.parent (record { name = made.name.items; node = k }) ++ made ∷ [])) len whole in
     subst (λ (slots : List Slot). AreLinked slots 0 (added ns made.name.items made)) (sym (kept-added ns made.name.items made)) there
 
+-- a node that is put at the end, after its parent has listed it
+pub added_last : (ns : List Place) (root : Place) (os ms : List Place) (name : List ℕ) (p : ℕ) (made : Place) → root ∷ os ≡ listed ns p (record { name = name; node = length ns }) → ms ≡ os ++ made ∷ [] → made.parent ≡ p → root ∷ ms ≡ added ns name made
+added_last ns root os ms name p made list last parent =
+    ap (λ (xs : List Place). root ∷ xs) last ∙ ap (λ (xs : List Place). xs ++ made ∷ []) list ∙ ap (λ (q : ℕ). listed ns q (record { name = name; node = length ns }) ++ made ∷ []) (sym parent)
+
 -- one more in a list of children, as a write of its place
 pub listed-set : (ns : List Place) (p : ℕ) (d : Place) (child : Child) → set ns p (record (get_or ns p d) { children = (get_or ns p d).children ++ child ∷ [] }) ≡ listed ns p child
 listed-set [] p d child = refl

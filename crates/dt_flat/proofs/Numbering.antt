@@ -9,7 +9,8 @@ use Rattle.std.proofs.lemmas.Slice.Eq.{bytes_eq-Decides}
 use Rattle.dt_model.specs.Tree.{Property, value_of}
 use Rattle.dt_flat.specs.Arena.{Slot, properties, with_property, number_in, phandle_at}
 use Rattle.dt_model.specs.Changes.{set_property}
-use Rattle.dt_flat.specs.Numbers.{Table, holder, is_number, given, IsNumbered}
+use Rattle.dt_flat.specs.Numbers.{Table, holder, is_number, given, MayGive, IsNumbered}
+use Rattle.dt_flat.specs.Refusals.{MaySet}
 use Rattle.dt_flat.proofs.AfterChild.{tested, differs, properties-push}
 use Rattle.dt_flat.proofs.AfterProperty.{properties-same, properties-other}
 
@@ -148,8 +149,21 @@ pub IsNumbered-same : (slots : List Slot) (old new : Table) → new.entries ≡ 
 IsNumbered-same slots old new e h = record { sound = λ n i g. h.sound n i (sym (holder-same old new n e) ∙ g); whole = λ n i g. holder-same old new n e ∙ h.whole n i g }
 
 -- the arena after a phandle is set
-pub IsNumbered-set : (slots : List Slot) (p number : ℕ) (name value : List ℕ) (old room table : Table) (before : Option ℕ) → p < length slots → name ≡ codes "phandle" → length value ≡ 4 → number ≡ from_be_bytes w32 value
-    → room.entries ≡ old.entries → before ≡ phandle_at slots p → ((i : ℕ) → holder old number ≡ Some i → i ≡ p) → ((n : ℕ) → holder table n ≡ given room before number p n) → IsNumbered slots old → IsNumbered (with_property slots p name value) table
-IsNumbered-set slots p number name value old room table before lt named four is same was free gives numbered =
-    let own : phandle_at (with_property slots p name value) p ≡ Some number = ap (λ (n : List ℕ). phandle_at (with_property slots p n value) p) named ∙ phandle-set slots p value lt four ∙ ap (λ (k : ℕ). Some k) (sym is) in
-    IsNumbered-given slots (with_property slots p name value) p number room table before was (λ q d. phandle-other slots p name value q d) own (λ i e. free i (sym (holder-same old room number same) ∙ e)) gives (IsNumbered-same slots old room same numbered)
+pub IsNumbered-set : (slots : List Slot) (p number : ℕ) (value : List ℕ) (old table : Table) → p < length slots → length value ≡ 4 → number ≡ from_be_bytes w32 value
+    → ((i : ℕ) → holder old number ≡ Some i → i ≡ p) → ((n : ℕ) → holder table n ≡ given old (phandle_at slots p) number p n) → IsNumbered slots old → IsNumbered (with_property slots p (codes "phandle") value) table
+IsNumbered-set slots p number value old table lt four is free gives numbered =
+    let own : phandle_at (with_property slots p (codes "phandle") value) p ≡ Some number = phandle-set slots p value lt four ∙ ap (λ (k : ℕ). Some k) (sym is) in
+    IsNumbered-given slots (with_property slots p (codes "phandle") value) p number old table (phandle_at slots p) refl (λ q d. phandle-other slots p (codes "phandle") value q d) own free gives numbered
+
+-- what gives a node a number is a phandle that may be set, and nothing else
+pub may_set : (slots : List Slot) (table : Table) (p : ℕ) (value : List ℕ) → IsNumbered slots table → MayGive table p value → MaySet slots p (codes "phandle") value
+may_set slots table p value numbered may = record {
+  valid = λ e. may.valid;
+  own = λ e q at. may.own q (numbered.whole (from_be_bytes w32 value) q at);
+}
+
+pub may_give : (slots : List Slot) (table : Table) (p : ℕ) (value : List ℕ) → IsNumbered slots table → MaySet slots p (codes "phandle") value → MayGive table p value
+may_give slots table p value numbered may = record {
+  valid = may.valid refl;
+  own = λ i at. may.own refl i (numbered.sound (from_be_bytes w32 value) i at);
+}

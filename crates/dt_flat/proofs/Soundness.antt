@@ -1,15 +1,16 @@
 -- What holds of each tree holds of the first one, and goes on to.
-use Rattle.std.proofs.Common.{◌≡◌, ◌≢◌, ℕ, zero, suc, ◌+◌, ◌<◌, ◌≤◌, ◌^◌, eqb, List, [], ◌∷◌, ◌++◌, length, map, Option, None, Some, arith, refl, sym, ap, subst, ◌∙◌}
-use Rattle.std.specs.Prelude.{codes}
+use Rattle.std.proofs.Common.{◌≡◌, ◌≢◌, ℕ, zero, suc, ◌+◌, ◌<◌, ◌≤◌, ◌^◌, eqb, List, [], ◌∷◌, ◌++◌, length, map, None, Some, arith, refl, sym, ap, subst, ◌∙◌}
+use Rattle.std.specs.Prelude.{codes, IsTrue}
 use Rattle.std.specs.Int.{w32, from_be_bytes}
 use Rattle.std.specs.Map.{lookup}
 use Rattle.std.proofs.lemmas.List.{drop_all}
-use Rattle.dt_model.specs.Names.{Name, IsNodeName, IsPropertyName}
-use Rattle.dt_model.specs.Valid.{AreDistinct, IsPhandle, IsReservation}
+use Rattle.std.proofs.lemmas.List.Elements.{All-from_recursion}
+use Rattle.dt_model.specs.Names.{Name, is_name_byte, IsNodeName, IsPropertyName}
+use Rattle.dt_model.specs.Valid.{AreDistinct, IsReservation}
 use Rattle.dt_flat.specs.Arena.{Arena, Slot, root_alone, named_among, named_children, child_of, depth_of, phandle_at, with_child, with_property}
-use Rattle.dt_flat.specs.Numbers.{Table, holder, given}
+use Rattle.dt_flat.specs.Numbers.{Table, holder, given, MayGive}
 use Rattle.dt_flat.specs.Sound.{IsSound}
-use Rattle.dt_flat.proofs.Numbering.{IsNumbered-added, IsNumbered-kept, IsNumbered-set}
+use Rattle.dt_flat.proofs.Numbering.{IsNumbered-added, IsNumbered-kept, IsNumbered-same, IsNumbered-set}
 use Rattle.dt_flat.proofs.Rooting.{IsRooted-child, IsRooted-property}
 use Rattle.dt_flat.proofs.Validity.{AreValid-added, AreValid-set, reserved}
 
@@ -44,17 +45,33 @@ IsSound-property a table p name value lt named ne sound = record {
   valid = AreValid-set a.slots p name value named (λ e. absurd (ne e)) sound.valid;
 }
 
--- a phandle that no other node has, in a table with room for it
-pub IsSound-phandle : (a : Arena) (old room table : Table) (p number : ℕ) (name : Name) (value : List ℕ) (before : Option ℕ) → p < length a.slots → IsPropertyName name → name ≡ codes "phandle" → IsPhandle value → number ≡ from_be_bytes w32 value
-    → room.entries ≡ old.entries → before ≡ phandle_at a.slots p → ((i : ℕ) → holder old number ≡ Some i → i ≡ p) → ((n : ℕ) → holder table n ≡ given room before number p n) → IsSound a old
-    → IsSound (record a { slots = with_property a.slots p name value }) table
-IsSound-phandle a old room table p number name value before lt named phandle valid is same was free gives sound = record {
+-- a table of the same entries
+pub IsSound-same : (a : Arena) (old new : Table) → new.entries ≡ old.entries → IsSound a old → IsSound a new
+IsSound-same a old new e sound = record {
   boot_cpu = sound.boot_cpu;
   reservations = sound.reservations;
-  rooted = IsRooted-property a.slots p name value sound.rooted;
-  numbered = IsNumbered-set a.slots p number name value old room table before lt phandle valid.four is same was free gives sound.numbered;
-  valid = AreValid-set a.slots p name value named (λ e. valid) sound.valid;
+  rooted = sound.rooted;
+  numbered = IsNumbered-same a.slots old new e sound.numbered;
+  valid = sound.valid;
 }
+
+-- a phandle that no other node has
+pub IsSound-phandle : (a : Arena) (old table : Table) (p number : ℕ) (value : List ℕ) → p < length a.slots → MayGive old p value → number ≡ from_be_bytes w32 value → ((n : ℕ) → holder table n ≡ given old (phandle_at a.slots p) number p n) → IsSound a old
+    → IsSound (record a { slots = with_property a.slots p (codes "phandle") value }) table
+IsSound-phandle a old table p number value lt may is gives sound = record {
+  boot_cpu = sound.boot_cpu;
+  reservations = sound.reservations;
+  rooted = IsRooted-property a.slots p (codes "phandle") value sound.rooted;
+  numbered = IsNumbered-set a.slots p number value old table lt may.valid.four is (λ i e. may.own i (ap (holder old) (sym is) ∙ e)) gives sound.numbered;
+  valid = AreValid-set a.slots p (codes "phandle") value phandle_named (λ e. may.valid) sound.valid;
+}
+  where
+    phandle_named : IsPropertyName (codes "phandle")
+    phandle_named = record {
+      not_empty = omega arith;
+      short = omega arith;
+      allowed = All-from_recursion (λ b. IsTrue (is_name_byte b)) (codes "phandle") (refl, (refl, (refl, (refl, (refl, (refl, (refl, tt)))))));
+    }
 
 pub IsSound-root : (boot_cpu : ℕ) (table : Table) → boot_cpu < 2 ^ 32 → table.entries ≡ [] → IsSound (root_alone boot_cpu) table
 IsSound-root boot_cpu table fits none = record {

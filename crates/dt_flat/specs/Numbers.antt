@@ -2,7 +2,9 @@
 use Rattle.std.specs.Prelude.{◌≡◌, ℕ, ◌==◌, if◌then◌else◌, List, Option, Some, None, nat_eq, Bool, false}
 use Rattle.std.specs.declared.hash.FoldHasher.{FoldHasher}
 use Rattle.std.specs.declared.hash.BuildHasherDefault.{BuildHasherDefault}
+use Rattle.std.specs.Int.{w32, from_be_bytes}
 use Rattle.indexmap.specs.IndexMap.{IndexMap, get}
+use Rattle.dt_model.specs.Valid.{IsPhandle}
 use Rattle.dt_flat.specs.Arena.{Slot, phandle_at}
 
 -- a table from numbers to nodes
@@ -22,6 +24,11 @@ is_number (Some m) n = n == m
 abbrev pub given : Table → Option ℕ → ℕ → ℕ → ℕ → Option ℕ
 given old before number node n =
     if n == number then Some node else (if is_number before n then None else holder old n)
+
+-- a node may be given the number in a value: it is in range, and no other node has it
+pub record MayGive (table : Table) (node : ℕ) (value : List ℕ) : Type 0 where
+  pub valid : IsPhandle value
+  pub own : (i : ℕ) → holder table (from_be_bytes w32 value) ≡ Some i → i ≡ node
 
 -- the table has each number of a node, and no others
 pub record IsNumbered (slots : List Slot) (table : Table) : Type 0 where

@@ -8,8 +8,6 @@ mod phandles;
 mod places;
 mod planting;
 mod properties;
-#[cfg(test)]
-mod tests;
 mod tree;
 
 pub use children::Children;

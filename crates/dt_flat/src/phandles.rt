@@ -3,7 +3,7 @@
 ghost use Rattle.std.specs.Prelude.{◌≡◌, ◌≤◌, ◌<◌, ℕ, ◌↔◌, Option, Some, None, IfSome, IfNone, OnOk, IsSome, IsTrue};
 ghost use Rattle.std.specs.Int.{w32, from_be_bytes};
 ghost use Rattle.indexmap.specs.IndexMap.{IsUnchanged, spare};
-ghost use Rattle.dt_flat.specs.Numbers.{holder, given};
+ghost use Rattle.dt_flat.specs.Numbers.{holder, given, MayGive};
 ghost use Rattle.dt_model.specs.Valid.{IsPhandle};
 
 use crate::NodeId;
@@ -13,21 +13,33 @@ use std::alloc::{AllocError, Global};
 /// Which node has a number.
 pub type Phandles = IndexMap<u32, NodeId>;
 
-/// The node that has the number.
-pub fn find(phandles: &Phandles, number: u32) -> Option<NodeId>
+// The node that has the number.
+fn find(phandles: &Phandles, number: u32) -> Option<NodeId>
     ensures { result ≡ holder phandles.now number }
 {
     phandles.get(&number).copied()
 }
 
-/// Has no other node the number?
-pub fn is_free(phandles: &Phandles, number: u32, node: NodeId) -> bool
+// Has no other node the number?
+fn is_free(phandles: &Phandles, number: u32, node: NodeId) -> bool
     ensures { IsTrue result ↔ ((i : ℕ) → holder phandles.now number ≡ Some i → i ≡ node) }
 {
     match find(phandles, number) {
         Some(holder) => holder == node,
         None => true,
     }
+}
+
+/// The number that a value of the property `phandle` gives a node; None where it gives none, or another node has it.
+pub fn free_number(phandles: &Phandles, node: NodeId, value: &[u8]) -> Option<u32>
+    ensures may { IsSome result ↔ MayGive phandles.now node value.now }
+    ensures number { IfSome result (λ number. number ≡ from_be_bytes w32 value.now) }
+{
+    let number = number_of(value)?;
+    if !is_free(phandles, number, node) {
+        return None;
+    }
+    Some(number)
 }
 
 /// Gives a node a number in the place of the one before. No node has the number yet, or this node has it.
@@ -43,8 +55,8 @@ pub fn give(phandles: &mut Phandles, before: Option<u32>, number: u32, node: Nod
     }
 }
 
-/// The number that a value of the property `phandle` gives.
-pub fn number_of(value: &[u8]) -> Option<u32>
+// The number that a value of the property `phandle` gives.
+fn number_of(value: &[u8]) -> Option<u32>
     ensures valid { IsSome result ↔ IsPhandle value.now }
     ensures number { IfSome result (λ number. number ≡ from_be_bytes w32 value.now) }
 {

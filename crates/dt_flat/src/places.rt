@@ -1,7 +1,7 @@
 //! The nodes of a tree, each with what it has.
 
 ghost use Rattle.std.specs.Prelude.{◌≡◌, ◌<◌, ◌++◌, ◌∷◌, [], suc, None, length, vec_len, vec_capacity, OnOk, OnErr};
-ghost use Rattle.dt_flat.specs.Linked.{children_at, listed, added, with_value};
+ghost use Rattle.dt_flat.specs.Linked.{children_at, listed, with_value};
 ghost use Rattle.dt_flat.specs.Arena.{Slot, named_children, child_of, with_child, with_property, properties, name_of, depth_of};
 
 use crate::NodeId;
@@ -82,25 +82,25 @@ fn list(
     }
 }
 
-// Adds a node at the end, and to the children of its parent.
-fn link(
+// Adds the node that comes next to the children that its parent lists, and makes room for it at the end.
+fn list_next(
     root: &mut Place,
     others: &mut Vec<Place>,
     alloc: Global,
+    parent: NodeId,
     name: &[u8],
-    made: Place,
 ) -> Result<(), AllocError>
-    requires parent { made.parent < suc (length others.old.items) }
-    requires absent { child_of (children_at (root.old ∷ others.old.items) made.parent) name.now ≡ None }
-    ensures ok { OnOk result (root.new ∷ others.new.items ≡ added (root.old ∷ others.old.items) name.now made) }
+    requires parent { parent < suc (length others.old.items) }
+    requires absent { child_of (children_at (root.old ∷ others.old.items) parent) name.now ≡ None }
+    ensures ok { OnOk result (root.new ∷ others.new.items ≡
+        listed (root.old ∷ others.old.items) parent (record { name = name.now; node = suc (length others.old.items) })) }
+    ensures room { OnOk result (vec_len others.new < vec_capacity others.new) }
     ensures root { OnErr result (root.new ≡ root.old) }
     ensures others { OnErr result (others.new.items ≡ others.old.items) }
 {
     let node = 1 + others.len();
     others.reserve(1)?;
-    list(root, others, alloc, made.parent, name, node)?;
-    others.push(made)?;
-    Ok(())
+    list(root, others, alloc, parent, name, node)
 }
 
 // Sets a property of a node.
@@ -173,8 +173,10 @@ impl Places {
         ensures err { OnErr result (self.new ≡ self.old) }
     {
         let depth = self.get(parent).depth + 1;
-        let made = Place::new(alloc, parent, depth, Vec::from_slice(alloc, name)?);
-        link(&mut self.root, &mut self.others, alloc, name, made)?;
+        let kept = Vec::from_slice(alloc, name)?;
+        list_next(&mut self.root, &mut self.others, alloc, parent, name)?;
+        self.others
+            .push_reserved(Place::new(alloc, parent, depth, kept));
         Ok(())
     }
 

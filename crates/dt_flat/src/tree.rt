@@ -1,18 +1,19 @@
 //! Ordered trees with byte values.
 
-ghost use Rattle.std.specs.Prelude.{◌≡◌, ◌<◌, ◌++◌, ◌∷◌, [], ℕ, None, length, All, IsOk, OnOk, OnErr, IfOk, IfErr, option_map};
+ghost use Rattle.std.specs.Prelude.{◌≡◌, ◌<◌, ◌++◌, ◌∷◌, [], ℕ, None, length, All, IsOk, OnOk, OnErr, IfOk, IfErr, option_map, codes};
 ghost use Rattle.dt_model.specs.Tree.{value_of};
 ghost use Rattle.dt_model.specs.Valid.{IsValid, IsWithinLimits};
+ghost use Rattle.dt_flat.specs.Numbers.{holder, given};
 ghost use Rattle.dt_flat.specs.Refusals.{WhyNoNode, WhyNotReserved, WhyNotSet, MaySet};
 ghost use Rattle.dt_flat.specs.Arena.{Arena, IsRooted, root_alone, children, named_children, child_of, with_child, with_property, properties, name_of, depth_of, phandle_at, reading};
 
 use crate::NodeId;
 use crate::children::Children;
-use crate::phandles::{Phandles, give, is_free, number_of};
+use crate::phandles::{Phandles, free_number, give};
 use crate::places::Places;
 use crate::properties::Props;
 use dt_names::{Fault, FaultKind, NodeName, PropName};
-use std::alloc::Global;
+use std::alloc::{AllocError, Global};
 use std::marker::Model;
 
 /// The most nodes that a tree has, the root included.
@@ -41,6 +42,40 @@ impl Model for FlatTree {
     ghost view = { λ a. record { boot_cpu = a.boot_cpu; reservations = a.reservations.items; slots = a.places } };
 
     ghost invariant = { λ a. IsSound (record { boot_cpu = a.boot_cpu; reservations = a.reservations.items; slots = a.places }) a.phandles };
+}
+
+// The number that a node's property `phandle` gives it.
+fn number_at(places: &Places, node: NodeId) -> Option<u32>
+    requires { node < length places.now }
+    ensures { result ≡ phandle_at places.now node }
+{
+    let value = places.get(node).properties.get(b"phandle".as_slice())?;
+    if value.len() != 4 {
+        return None;
+    }
+    Some(u32::from_be_bytes([value[0], value[1], value[2], value[3]]))
+}
+
+// Sets the property `phandle` of a node, which gives it a number in the place of the one before.
+fn put_number(
+    places: &mut Places,
+    phandles: &mut Phandles,
+    alloc: Global,
+    node: NodeId,
+    number: u32,
+    value: &[u8],
+) -> Result<(), AllocError>
+    requires { node < length places.old }
+    ensures ok { OnOk result (places.new ≡ with_property places.old node (codes "phandle") value.now) }
+    ensures given { OnOk result ((n : ℕ) → holder phandles.new n ≡ given phandles.old (phandle_at places.old node) number node n) }
+    ensures places { OnErr result (places.new ≡ places.old) }
+    ensures phandles { OnErr result (phandles.new.entries ≡ phandles.old.entries) }
+{
+    let before = number_at(places, node);
+    phandles.reserve(1)?;
+    places.set(alloc, node, b"phandle".as_slice(), value)?;
+    give(phandles, before, number, node);
+    Ok(())
 }
 
 impl FlatTree {
@@ -116,29 +151,31 @@ impl FlatTree {
             self.places.set(self.alloc, node, name, value)?;
             return Ok(());
         }
-        let Some(number) = number_of(value) else {
-            return Err(Fault::of(FaultKind::BlobPhandle));
-        };
-        if !is_free(&self.phandles, number, node) {
-            return Err(Fault::of(FaultKind::BlobPhandle));
-        }
-        let before = self.phandle(node);
-        self.phandles.reserve(1)?;
-        self.places.set(self.alloc, node, name, value)?;
-        give(&mut self.phandles, before, number, node);
-        Ok(())
+        self.set_phandle(node, value)
     }
 
-    // The number that a node's property `phandle` gives it.
-    fn phandle(&self, node: NodeId) -> Option<u32>
-        requires { node < length self.now.slots }
-        ensures { result ≡ phandle_at self.now.slots node }
+    // Sets the property `phandle` of a node.
+    fn set_phandle(&mut self, node: NodeId, value: &[u8]) -> Result<(), Fault>
+        requires { node < length self.old.slots }
+        ensures ok { OnOk result
+            (self.new ≡ record self.old { slots = with_property self.old.slots node (codes "phandle") value.now }) }
+        ensures allowed { IsOk result → MaySet self.old.slots node (codes "phandle") value.now }
+        ensures err { OnErr result (self.new ≡ self.old) }
+        ensures refused { IfErr result
+            (λ fault. WhyNotSet fault.kind self.old.slots node (codes "phandle") value.now × (fault.at ≡ None)) }
     {
-        let value = self.value(node, b"phandle".as_slice())?;
-        if value.len() != 4 {
-            return None;
-        }
-        Some(u32::from_be_bytes([value[0], value[1], value[2], value[3]]))
+        let Some(number) = free_number(&self.phandles, node, value) else {
+            return Err(Fault::of(FaultKind::BlobPhandle));
+        };
+        put_number(
+            &mut self.places,
+            &mut self.phandles,
+            self.alloc,
+            node,
+            number,
+            value,
+        )?;
+        Ok(())
     }
 
     /// The root, which has no name.

@@ -6,3 +6,4 @@ pub mod Puts
 pub mod Sizes
 pub mod Left
 pub mod WholeLemmas
+pub mod WordLemmas

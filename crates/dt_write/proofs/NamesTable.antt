@@ -1,9 +1,10 @@
 -- The table of names, after a look and after one is put at its end.
 use Rattle.std.proofs.Common.{◌≡◌, ℕ, ◌+◌, ◌≤◌, Bool, true, false, cond, ◌||◌, List, [], ◌∷◌, ◌++◌, length, Some, None, refl, sym, ap, subst, ◌∙◌, arith}
+use Rattle.std.specs.List.{flat_map}
 use Rattle.std.specs.Global.{Vec}
-use Rattle.std.specs.Map.{lookup}
+use Rattle.std.specs.Map.{lookup, keys_of}
 use Rattle.std.specs.Str.{bytes_eq}
-use Rattle.std.proofs.lemmas.List.{append-nil, length-append, append_assoc}
+use Rattle.std.proofs.lemmas.List.{append-nil, length-append}
 use Rattle.std.proofs.lemmas.List.Concat.{flat_map-append}
 use Rattle.indexmap.specs.IndexMap.{insert_entry}
 use Rattle.dt_write.specs.Written.{has, used, terminated, strings_block, offset_of}
@@ -70,22 +71,29 @@ offset-new (n ∷ ns) name h =
     ap (λ (b : Bool). cond b 0 (length (terminated n) + offset_of (ns ++ name ∷ []) name)) both.0 ∙ ap (λ (k : ℕ). length (terminated n) + k) (offset-new ns name both.1) ∙ sym (length-append (terminated n) (strings_block ns))
 
 -- a table with one more name
-pub record Added (es es' : List (Vec ℕ × ℕ)) (bytes' name : List ℕ) : Type 0 where
-  pub table : IsTable es' bytes'
+pub record Added (es es' : List (Vec ℕ × ℕ)) (size' : ℕ) (name : List ℕ) : Type 0 where
+  pub table : IsTable es' size'
   pub names : names_kept es' ≡ names_kept es ++ name ∷ []
 
-pub added : (es es' : List (Vec ℕ × ℕ)) (bytes kept more bytes' name : List ℕ) (k : Vec ℕ) (v : ℕ) → IsTable es bytes → has (names_kept es) name ≡ false → k.items ≡ name → v ≡ length bytes → length name + 1 + v ≤ 16777216
-    → es' ≡ insert_entry (λ x y. bytes_eq x.items y.items) es k v → kept ≡ bytes → more ≡ kept ++ name → bytes' ≡ more ++ 0 ∷ [] → Added es es' bytes' name
-added es es' bytes kept more bytes' name k v table new key at fits e same one two =
+pub added : (es es' : List (Vec ℕ × ℕ)) (size size' : ℕ) (name : List ℕ) (k : Vec ℕ) (v : ℕ) → IsTable es size → has (names_kept es) name ≡ false → k.items ≡ name → v ≡ size → size' ≡ size + length name + 1 → size' ≤ 16777216
+    → es' ≡ insert_entry (λ x y. bytes_eq x.items y.items) es k v → Added es es' size' name
+added es es' size size' name k v table new key at more fits e =
     let unknown : has (names_kept es) k.items ≡ false = ap (has (names_kept es)) key ∙ new in
     let entries : es' ≡ es ++ (k, v) ∷ [] = e ∙ inserted es k v unknown in
     let names : names_kept es' ≡ names_kept es ++ name ∷ [] = ap names_kept entries ∙ names-push es k v ∙ ap (λ (n : List ℕ). names_kept es ++ n ∷ []) key in
-    let whole : bytes' ≡ bytes ++ terminated name = two ∙ ap (λ (x : List ℕ). x ++ 0 ∷ []) (one ∙ ap (λ (x : List ℕ). x ++ name) same) ∙ append_assoc bytes name (0 ∷ []) in
+    let longer : length (strings_block (names_kept es')) ≡ length (strings_block (names_kept es)) + length (terminated name) =
+    ap (λ (ns : List (List ℕ)). length (strings_block ns)) names ∙ ap length (block-push (names_kept es) name) ∙ length-append (strings_block (names_kept es)) (terminated name) in
     record {
       table = record {
-        block = whole ∙ ap (λ (x : List ℕ). x ++ terminated name) table.block ∙ sym (block-push (names_kept es) name) ∙ ap strings_block (sym names);
-        offsets = subst (AreOffsets 0) (sym entries) (offsets-push 0 es k v table.offsets (omega (arith, ap length table.block)));
-        short = omega (arith, ap length whole, length-append bytes (terminated name), length-append name (0 ∷ []));
+        block = omega (arith, table.block, longer, length-append name (0 ∷ []));
+        offsets = subst (AreOffsets 0) (sym entries) (offsets-push 0 es k v table.offsets (omega (arith, table.block)));
+        short = fits;
       };
       names = names;
     }
+
+-- ---- the strings block, name by name
+
+pub keys_block : (es : List (Vec ℕ × ℕ)) → flat_map (λ (k : Vec ℕ). terminated k.items) (keys_of es) ≡ strings_block (names_kept es)
+keys_block [] = refl
+keys_block (e ∷ es) = ap (λ (x : List ℕ). terminated e.0.items ++ x) (keys_block es)

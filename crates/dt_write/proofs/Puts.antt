@@ -49,20 +49,21 @@ PutsProperties-more ps qs a b c x y z p q =
     }
 
 -- one property, by its parts
-pub property_put : (p : Property) (old new : List (List ℕ)) (offset : ℕ) (u v w x y z : List ℕ) → new ≡ used old p.name → offset ≡ offset_of new p.name
-    → v ≡ u ++ word 3 → w ≡ v ++ word (length p.value) → x ≡ w ++ word offset → y ≡ x ++ p.value → z ≡ y ++ zeros_after (length p.value) → PutsProperties (p ∷ []) old new u z
-property_put p old new offset u v w x y z named place e1 e2 e3 e4 e5 = record {
+pub property_put : (p : Property) (old new : List (List ℕ)) (offset : ℕ) (x y : List ℕ) → new ≡ used old p.name → offset ≡ offset_of new p.name
+    → y ≡ x ++ (word 3 ++ word (length p.value) ++ word offset ++ p.value ++ zeros_after (length p.value)) → PutsProperties (p ∷ []) old new x y
+property_put p old new offset x y named place e = record {
   names = named;
   bytes = λ later.
       let there : has new p.name ≡ true = subst (λ (n : List (List ℕ)). has n p.name ≡ true) (sym named) (has-used old p.name) in
       let same : offset ≡ offset_of (new ++ later) p.name = place ∙ sym (offset-append new later p.name there) in
-      rows u (word 3) (word (length p.value)) (word (offset_of (new ++ later) p.name)) p.value (zeros_after (length p.value)) v w x y z e1 e2 (e3 ∙ ap (λ (k : ℕ). w ++ word k) same) e4 e5;
+      e ∙ ap (λ (k : ℕ). x ++ (word 3 ++ word (length p.value) ++ word k ++ p.value ++ zeros_after (length p.value))) same
+      ∙ ap (λ (w : List ℕ). x ++ w) (sym (append-nil (property_block (new ++ later) p)));
 }
-  where
-    rows : (u b1 b2 b3 b4 b5 v w x y z : List ℕ) → v ≡ u ++ b1 → w ≡ v ++ b2 → x ≡ w ++ b3 → y ≡ x ++ b4 → z ≡ y ++ b5 → z ≡ u ++ (b1 ++ b2 ++ b3 ++ b4 ++ b5 ++ [])
-    rows u b1 b2 b3 b4 b5 v w x y z e1 e2 e3 e4 e5 =
-        e5 ∙ ap (λ (t : List ℕ). t ++ b5) (e4 ∙ ap (λ (t : List ℕ). t ++ b4) (e3 ∙ ap (λ (t : List ℕ). t ++ b3) (e2 ∙ ap (λ (t : List ℕ). t ++ b2) e1)))
-        ∙ (simp (append_assoc, append-nil))
+
+-- five pieces, put one after the other
+pub five_put : (a b1 b2 b3 b4 b5 x1 x2 x3 x4 x5 : List ℕ) → x1 ≡ a ++ b1 → x2 ≡ x1 ++ b2 → x3 ≡ x2 ++ b3 → x4 ≡ x3 ++ b4 → x5 ≡ x4 ++ b5 → x5 ≡ a ++ (b1 ++ b2 ++ b3 ++ b4 ++ b5)
+five_put a b1 b2 b3 b4 b5 x1 x2 x3 x4 x5 e1 e2 e3 e4 e5 =
+    e5 ∙ ap (λ (t : List ℕ). t ++ b5) (e4 ∙ ap (λ (t : List ℕ). t ++ b4) (e3 ∙ ap (λ (t : List ℕ). t ++ b3) (e2 ∙ ap (λ (t : List ℕ). t ++ b2) e1))) ∙ simp append_assoc
 
 pub PutsNodes-none : (names : List (List ℕ)) (bytes : List ℕ) → PutsNodes no_nodes names names bytes bytes
 PutsNodes-none names bytes = record { names = refl; bytes = λ later. sym (append-nil bytes) }
@@ -123,10 +124,3 @@ trees_among slots i (n ∷ ns) p e =
 
 pub below_is : (slots : List Slot) (p : ℕ) → below slots p ≡ trees_at slots (children slots p)
 below_is slots p = trees_among slots (suc p) (drop (suc p) slots) p refl
-
--- ten pieces put one after the other
-pub ten_put : (a b1 b2 b3 b4 b5 b6 b7 b8 b9 b10 x1 x2 x3 x4 x5 x6 x7 x8 x9 x10 : List ℕ) → x1 ≡ a ++ b1 → x2 ≡ x1 ++ b2 → x3 ≡ x2 ++ b3 → x4 ≡ x3 ++ b4 → x5 ≡ x4 ++ b5
-    → x6 ≡ x5 ++ b6 → x7 ≡ x6 ++ b7 → x8 ≡ x7 ++ b8 → x9 ≡ x8 ++ b9 → x10 ≡ x9 ++ b10 → x10 ≡ a ++ (b1 ++ b2 ++ b3 ++ b4 ++ b5 ++ b6 ++ b7 ++ b8 ++ b9 ++ b10)
-ten_put a b1 b2 b3 b4 b5 b6 b7 b8 b9 b10 x1 x2 x3 x4 x5 x6 x7 x8 x9 x10 e1 e2 e3 e4 e5 e6 e7 e8 e9 e10 =
-    e10 ∙ ap (λ (t : List ℕ). t ++ b10) (e9 ∙ ap (λ (t : List ℕ). t ++ b9) (e8 ∙ ap (λ (t : List ℕ). t ++ b8) (e7 ∙ ap (λ (t : List ℕ). t ++ b7) (e6 ∙ ap (λ (t : List ℕ). t ++ b6) (e5 ∙ ap (λ (t : List ℕ). t ++ b5)
-    (e4 ∙ ap (λ (t : List ℕ). t ++ b4) (e3 ∙ ap (λ (t : List ℕ). t ++ b3) (e2 ∙ ap (λ (t : List ℕ). t ++ b2) e1)))))))) ∙ simp append_assoc

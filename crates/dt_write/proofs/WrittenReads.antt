@@ -83,7 +83,7 @@ pairs_length : (rs : List (ℕ × ℕ)) → length (flat_map pair rs) ≡ 16 * l
 pairs_length [] = refl
 pairs_length (r ∷ rs) = omega (arith, length-append (pair r) (flat_map pair rs), pairs_length rs)
 
-block_length : (rs : List (ℕ × ℕ)) → length (reservation_block rs) ≡ 16 * length rs + 16
+pub block_length : (rs : List (ℕ × ℕ)) → length (reservation_block rs) ≡ 16 * length rs + 16
 block_length rs = omega (arith, length-append (flat_map pair rs) (pair (0, 0)), pairs_length rs)
 
 assembled_reads : (t : Reading) (s n : List ℕ) → 40 + length (reservation_block t.reservations) + length s + length n < 2 ^ 32 → SpellsTree n t.properties t.children s → IsValid t → Reads (assembled t.boot_cpu (reservation_block t.reservations) s n) t

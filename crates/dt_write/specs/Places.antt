@@ -14,8 +14,8 @@ abbrev pub AreOffsets : ℕ → List (Vec ℕ × ℕ) → Type 0
 AreOffsets at [] = Unit {0}
 AreOffsets at (e ∷ es) = (e.1 ≡ at) × AreOffsets (at + length (terminated e.0.items)) es
 
--- the entries are those of the strings block, which fits a blob
-pub record IsTable (entries : List (Vec ℕ × ℕ)) (bytes : List ℕ) : Type 0 where
-  pub block : bytes ≡ strings_block (names_kept entries)
+-- the entries are those of a strings block of this size, which fits a blob
+pub record IsTable (entries : List (Vec ℕ × ℕ)) (size : ℕ) : Type 0 where
+  pub block : size ≡ length (strings_block (names_kept entries))
   pub offsets : AreOffsets 0 entries
-  pub short : length bytes ≤ 16777216
+  pub short : size ≤ 16777216

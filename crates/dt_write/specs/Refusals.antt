@@ -1,10 +1,16 @@
 -- Why a tree isn't written.
-use Rattle.std.specs.Prelude.{ℕ, ◌<◌}
+use Rattle.std.specs.Prelude.{ℕ, ◌<◌, length}
 use Rattle.dt_names.specs.declared.fault.FaultKind.{FaultKind}
 use Rattle.dt_names.specs.declared.fault.FaultKind.TheVariants.{NoMemory, Limit}
+use Rattle.dt_model.specs.Tree.{Reading}
+use Rattle.dt_write.specs.Written.{written}
 
 -- memory may be refused at any time, a limit only where the blob would be longer than 16 MiB
 abbrev pub WhyNoBlob : FaultKind → ℕ → Type 0
 WhyNoBlob NoMemory size = Unit {0}
 WhyNoBlob Limit size = 16777216 < size
 WhyNoBlob _ size = ⊥
+
+-- why the blob of a tree isn't written
+pub record WhyNotWritten (t : Reading) (kind : FaultKind) : Type 0 where
+  pub why : WhyNoBlob kind (length (written t))

@@ -30,8 +30,7 @@ pub fn write_blob(alloc: Global, tree: &FlatTree) -> Result<Vec<u8>, Fault>
 {
     // the contract of `root` says that a blob may hold the tree
     let _root = tree.root();
-    whole::blob_of(alloc, tree)
+    let mut blob = Vec::new(alloc);
+    whole::put_blob(alloc, tree, &mut blob)?;
+    Ok(blob)
 }
-
-#[cfg(test)]
-mod tests;

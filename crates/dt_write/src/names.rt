@@ -1,21 +1,21 @@
 //! The names of properties that a blob uses, each once: its strings block.
 
-ghost use Rattle.std.specs.Prelude.{◌≡◌, ◌≤◌, [], length, OnOk, IfOk, IfErr, None};
+ghost use Rattle.std.specs.Prelude.{◌≡◌, ◌≤◌, ◌++◌, [], length, OnOk, IfOk, IfErr, None};
 ghost use Rattle.dt_write.specs.Written.{used, offset_of, strings_block};
 ghost use Rattle.dt_write.specs.Refusals.{WhyNoBlob};
 
-use crate::words::SIZE_LIMIT;
+use crate::words::fits;
 use dt_names::{Fault, FaultKind};
 use indexmap::IndexMap;
-use std::alloc::Global;
+use std::alloc::{AllocError, Global};
 use std::marker::Model;
 
-/// A strings block that grows. It is seen as its names, in the order of first use.
+/// The names of a strings block, with the places where they begin in it. It is seen as the names, in the order of first use.
 #[derive(Drop)]
 pub struct Names {
     alloc: Global,
     offsets: IndexMap<Vec<u8>, usize>,
-    bytes: Vec<u8>,
+    size: usize,
 }
 
 impl Model for Names {
@@ -27,7 +27,7 @@ impl Model for Names {
 
     ghost view = { λ a. names_kept a.offsets.entries };
 
-    ghost invariant = { λ a. IsTable a.offsets.entries a.bytes.items };
+    ghost invariant = { λ a. IsTable a.offsets.entries a.size };
 }
 
 impl Names {
@@ -38,16 +38,16 @@ impl Names {
         Names {
             alloc,
             offsets: IndexMap::new(alloc),
-            bytes: Vec::new(alloc),
+            size: 0,
         }
     }
 
-    /// The strings block of the names.
-    pub fn bytes(&self) -> &[u8]
-        ensures block { result.now ≡ strings_block self.now }
-        ensures short { length (strings_block self.now) ≤ 16777216 }
+    /// How many bytes the strings block of the names has.
+    pub fn size(&self) -> usize
+        ensures block { result ≡ length (strings_block self.now) }
+        ensures short { result ≤ 16777216 }
     {
-        &self.bytes
+        self.size
     }
 
     /// Where the name begins, in bytes from the start of the strings block; a name that isn't there is put at its end.
@@ -61,15 +61,24 @@ impl Names {
         if let Some(offset) = self.offsets.get(name) {
             return Ok(*offset);
         }
-        let offset = self.bytes.len();
-        if name.len() >= SIZE_LIMIT - offset {
+        let offset = self.size;
+        if !fits(offset, name.len() + 1) {
             return Err(Fault::of(FaultKind::Limit));
         }
         let key = Vec::from_slice(self.alloc, name)?;
-        self.bytes.reserve(name.len() + 1)?;
         self.offsets.insert(key, offset)?;
-        self.bytes.extend_from_slice(name)?;
-        self.bytes.push(0)?;
+        self.size = offset + name.len() + 1;
         Ok(offset)
+    }
+
+    /// Puts the strings block of the names at the end.
+    pub fn put(&self, out: &mut Vec<u8>) -> Result<(), AllocError>
+        ensures { OnOk result (out.new.items ≡ out.old.items ++ strings_block self.now) }
+    {
+        for name in self.offsets.keys().as_slice() {
+            out.extend_from_slice(name)?;
+            out.push(0)?;
+        }
+        Ok(())
     }
 }

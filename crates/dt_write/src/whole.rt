@@ -1,14 +1,15 @@
 //! A whole blob of its blocks (Devicetree Specification v0.4, 5.2 and 5.3).
 
-ghost use Rattle.std.specs.Prelude.{◌≡◌, ◌+◌, ◌<◌, ◌≤◌, ◌↔◌, ◌++◌, [], length, IsTrue, OnOk, IfOk, IfErr, None};
+ghost use Rattle.std.specs.Prelude.{◌≡◌, ◌+◌, ◌≤◌, ◌++◌, [], length, drop, OnOk, IfErr, None};
 ghost use Rattle.dt_model.specs.Format.{reservation_block};
 ghost use Rattle.dt_flat.specs.Arena.{reading};
-ghost use Rattle.dt_write.specs.Written.{header, structure_block, names_of, written};
-ghost use Rattle.dt_write.specs.Refusals.{WhyNoBlob};
+ghost use Rattle.dt_write.specs.Written.{header, strings_block};
+ghost use Rattle.dt_write.specs.Parts.{IsFront, IsBody, IsBlob};
+ghost use Rattle.dt_write.specs.Refusals.{WhyNoBlob, WhyNotWritten};
 
 use crate::names::Names;
 use crate::structure::put_node;
-use crate::words::{SIZE_LIMIT, put_pair, put_word};
+use crate::words::{SIZE_LIMIT, fits, put_pair, put_word, set_words};
 use dt_flat::FlatTree;
 use dt_names::{Fault, FaultKind};
 use std::alloc::{AllocError, Global};
@@ -21,31 +22,37 @@ const LAST_COMPATIBLE_VERSION: u32 = 16;
 
 const HEADER_SIZE: usize = 40;
 
+const PAIR_SIZE: usize = 16;
+
 const END: u32 = 9;
 
-fn put_header(
-    out: &mut Vec<u8>,
+// Sets the words of the header, when the sizes of the blocks are known.
+fn set_header(
+    bytes: &mut [u8],
     boot_cpu: u32,
     reservations: usize,
     structure: usize,
     strings: usize,
-) -> Result<(), AllocError>
-    requires { 40 + reservations + structure + strings ≤ 16777216 }
-    ensures { OnOk result (out.new.items ≡ out.old.items ++ header boot_cpu reservations structure strings) }
+)
+    requires room { 40 ≤ length bytes.old }
+    requires fits { 40 + reservations + structure + strings ≤ 16777216 }
+    ensures { bytes.new ≡ header boot_cpu reservations structure strings ++ drop 40 bytes.old }
 {
     let structure_offset = HEADER_SIZE + reservations;
     let strings_offset = structure_offset + structure;
-    put_word(out, MAGIC)?;
-    put_word(out, (strings_offset + strings) as u32)?;
-    put_word(out, structure_offset as u32)?;
-    put_word(out, strings_offset as u32)?;
-    put_word(out, HEADER_SIZE as u32)?;
-    put_word(out, VERSION)?;
-    put_word(out, LAST_COMPATIBLE_VERSION)?;
-    put_word(out, boot_cpu)?;
-    put_word(out, strings as u32)?;
-    put_word(out, structure as u32)?;
-    Ok(())
+    let words = [
+        MAGIC,
+        (strings_offset + strings) as u32,
+        structure_offset as u32,
+        strings_offset as u32,
+        HEADER_SIZE as u32,
+        VERSION,
+        LAST_COMPATIBLE_VERSION,
+        boot_cpu,
+        strings as u32,
+        structure as u32,
+    ];
+    set_words(bytes, &words);
 }
 
 fn put_reservations(out: &mut Vec<u8>, reservations: &[(u64, u64)]) -> Result<(), AllocError>
@@ -57,53 +64,73 @@ fn put_reservations(out: &mut Vec<u8>, reservations: &[(u64, u64)]) -> Result<()
     put_pair(out, 0, 0)
 }
 
-fn structure_of(alloc: Global, tree: &FlatTree, names: &mut Names) -> Result<Vec<u8>, Fault>
-    requires { names.old ≡ [] }
-    ensures names { OnOk result (names.new ≡ names_of (reading tree.now)) }
-    ensures block { IfOk result (λ block. block.items ≡ structure_block (reading tree.now)) }
-    ensures refused { IfErr result (λ fault. WhyNoBlob fault.kind (length (written (reading tree.now))) × (fault.at ≡ None)) }
+// Puts room for the header, and the block of reservations.
+fn put_front(tree: &FlatTree, out: &mut Vec<u8>) -> Result<(), AllocError>
+    requires { out.old.items ≡ [] }
+    ensures { OnOk result (IsFront tree.now.reservations out.new.items) }
 {
-    let mut out = Vec::new(alloc);
-    put_node(tree, tree.root(), names, &mut out)?;
-    put_word(&mut out, END)?;
-    Ok(out)
+    out.extend_from_slice(&[0; HEADER_SIZE])?;
+    put_reservations(out, tree.reservations())
 }
 
-// Whether blocks of these sizes, with a header, are longer than a blob may be.
-fn is_too_long(reservations: usize, structure: usize, strings: usize) -> bool
-    requires { strings ≤ 16777216 }
-    ensures { IsTrue result ↔ (16777216 < 40 + reservations + structure + strings) }
+// Puts the structure block, and its names into the table.
+fn put_structure(tree: &FlatTree, names: &mut Names, out: &mut Vec<u8>) -> Result<(), Fault>
+    requires unnamed { names.old ≡ [] }
+    requires front { IsFront tree.now.reservations out.old.items }
+    ensures body { OnOk result (IsBody (reading tree.now) names.new out.old.items out.new.items) }
+    ensures refused { IfErr result (λ fault. WhyNotWritten (reading tree.now) fault.kind × (fault.at ≡ None)) }
 {
-    structure > SIZE_LIMIT
-        || reservations > SIZE_LIMIT
-        || HEADER_SIZE + reservations + structure + strings > SIZE_LIMIT
+    put_node(tree, tree.root(), names, out)?;
+    put_word(out, END)?;
+    Ok(())
 }
 
-/// The blob of a tree.
-pub fn blob_of(alloc: Global, tree: &FlatTree) -> Result<Vec<u8>, Fault>
-    ensures written { IfOk result (λ blob. blob.items ≡ written (reading tree.now)) }
-    ensures size { IfOk result (λ blob. length blob.items ≤ 16777216) }
-    ensures refused { IfErr result (λ fault. WhyNoBlob fault.kind (length (written (reading tree.now))) × (fault.at ≡ None)) }
+// Puts the strings block, where the blob is not too long with it.
+fn put_strings(names: &Names, out: &mut Vec<u8>) -> Result<(), Fault>
+    ensures put { OnOk result (out.new.items ≡ out.old.items ++ strings_block names.now) }
+    ensures size { OnOk result (length out.new.items ≤ 16777216) }
+    ensures refused { IfErr result
+        (λ fault. WhyNoBlob fault.kind (length out.old.items + length (strings_block names.now)) × (fault.at ≡ None)) }
 {
-    let mut names = Names::new(alloc);
-    let structure = structure_of(alloc, tree, &mut names)?;
-    let strings = names.bytes();
-    let mut reservations = Vec::new(alloc);
-    put_reservations(&mut reservations, tree.reservations())?;
-    if is_too_long(reservations.len(), structure.len(), strings.len()) {
+    if !fits(out.len(), names.size()) {
         return Err(Fault::of(FaultKind::Limit));
     }
-    let size = HEADER_SIZE + reservations.len() + structure.len() + strings.len();
-    let mut out = Vec::with_capacity(alloc, size)?;
-    put_header(
-        &mut out,
+    names.put(out)?;
+    Ok(())
+}
+
+// Puts the blocks of a blob one after the other, and then sets its header.
+fn put_blocks(tree: &FlatTree, names: &mut Names, out: &mut Vec<u8>) -> Result<(), Fault>
+    requires unnamed { names.old ≡ [] }
+    requires empty { out.old.items ≡ [] }
+    ensures blob { OnOk result (IsBlob (reading tree.now) out.new.items) }
+    ensures refused { IfErr result (λ fault. WhyNotWritten (reading tree.now) fault.kind × (fault.at ≡ None)) }
+{
+    put_front(tree, out)?;
+    let structure = out.len();
+    put_structure(tree, names, out)?;
+    let strings = out.len();
+    put_strings(names, out)?;
+    set_header(
+        out,
         tree.boot_cpu(),
-        reservations.len(),
-        structure.len(),
-        strings.len(),
-    )?;
-    out.extend_from_slice(&reservations)?;
-    out.extend_from_slice(&structure)?;
-    out.extend_from_slice(strings)?;
-    Ok(out)
+        structure - HEADER_SIZE,
+        strings - structure,
+        names.size(),
+    );
+    Ok(())
+}
+
+/// Puts the blob of a tree into an empty buffer, which doesn't grow far beyond the limit where the blob would be too long.
+pub fn put_blob(alloc: Global, tree: &FlatTree, out: &mut Vec<u8>) -> Result<(), Fault>
+    requires { out.old.items ≡ [] }
+    ensures blob { OnOk result (IsBlob (reading tree.now) out.new.items) }
+    ensures refused { IfErr result (λ fault. WhyNotWritten (reading tree.now) fault.kind × (fault.at ≡ None)) }
+{
+    // reservations that fill a blob alone aren't put at all
+    if tree.reservations().len() > SIZE_LIMIT / PAIR_SIZE {
+        return Err(Fault::of(FaultKind::Limit));
+    }
+    let mut names = Names::new(alloc);
+    put_blocks(tree, &mut names, out)
 }

@@ -1,15 +1,26 @@
-//! Numbers at the end of some bytes, the highest byte first.
+//! Numbers in bytes, the highest byte first, and how many bytes a blob may have.
 
-ghost use Rattle.std.specs.Prelude.{◌≡◌, ◌++◌, OnOk};
+ghost use Rattle.std.specs.Prelude.{◌≡◌, ◌+◌, ◌*◌, ◌<◌, ◌≤◌, ◌++◌, length, drop, OnOk};
+ghost use Rattle.std.specs.Bool.{OnTrue, OnFalse};
 ghost use Rattle.std.specs.Int.{w64, to_be_bytes};
+ghost use Rattle.std.specs.List.{flat_map};
 ghost use Rattle.dt_model.specs.Format.{word, pair};
 ghost use Rattle.dt_write.specs.Written.{zeros_after};
 
 use byteorder::{BigEndian, ByteOrder};
+use dt_bytes::put32;
 use std::alloc::AllocError;
 
 /// Bytes that a blob may have.
 pub const SIZE_LIMIT: usize = 16_777_216;
+
+/// Whether a blob may have so many bytes and more behind them.
+pub fn fits(used: usize, more: usize) -> bool
+    ensures within { OnTrue result (used + more ≤ 16777216) }
+    ensures beyond { OnFalse result (16777216 < used + more) }
+{
+    used <= SIZE_LIMIT && more <= SIZE_LIMIT - used
+}
 
 /// Puts a 32-bit word at the end.
 pub fn put_word(out: &mut Vec<u8>, number: u32) -> Result<(), AllocError>
@@ -45,4 +56,14 @@ pub fn put_zeros(out: &mut Vec<u8>, size: usize) -> Result<(), AllocError>
         out.push(0)?;
     }
     Ok(())
+}
+
+/// Sets 32-bit words, one after the other from the front of some bytes.
+pub fn set_words(bytes: &mut [u8], numbers: &[u32])
+    requires { 4 * length numbers.now ≤ length bytes.old }
+    ensures { bytes.new ≡ flat_map word numbers.now ++ drop (4 * length numbers.now) bytes.old }
+{
+    for (place, number) in numbers.iter().enumerate() {
+        put32(bytes, 4 * place, *number);
+    }
 }

@@ -1,23 +1,21 @@
-use Rattle.std.proofs.Common.{◌≡◌, ◌<◌, ◌≤◌, ◌∙◌, ◌++◌, ◌∷◌, ℕ, List, length, sym, subst}
+use Rattle.std.proofs.Common.{◌≡◌, ◌+◌, ◌<◌, ◌≤◌, ◌∙◌, ◌++◌, ◌∷◌, ℕ, List, length, sym, subst}
 use Rattle.std.specs.List.{AllByRecursion}
 use Rattle.std.proofs.lemmas.List.Elements.{recursion_from_All}
 use Rattle.std.proofs.lemmas.Result.{err_from_is_err_and}
 use Rattle.dt_model.specs.Tree.{Property, Forest}
 use Rattle.dt_flat.specs.Arena.{properties, name_of, children, below}
 use Rattle.dt_write.specs.Written.{begin_block}
-use Rattle.dt_write.specs.Parts.{tree_at, trees_at, properties_size, nodes_size, PutsProperties, PutsNodes}
+use Rattle.dt_write.specs.Parts.{tree_at, trees_at, nodes_size, PutsProperties, PutsNodes}
 use Rattle.dt_write.proofs.Puts.{PutsNodes-branch, below_is}
-use Rattle.dt_write.proofs.Sizes.{longer, properties_in}
-use Rattle.dt_write.proofs.Left.{nodes_begin, nodes_step, node_within, children_within, nodes_over, transitive}
+use Rattle.dt_write.proofs.Sizes.{longer}
+use Rattle.dt_write.proofs.Left.{nodes_begin, nodes_step, node_within, properties_within, children_within, nodes_over, transitive}
 use Rattle.dt_write.proofs.structure.+put_node.Goals as goal
 
 pub returns-in_err-put_properties-clause-refused : goal.returns-in_err-put_properties-clause-refused
 returns-in_err-put_properties-clause-refused t c =
     let e = err_from_is_err_and c.from_residual-in_err-put_properties.result c.from_residual-in_err-put_properties.ensures.1 in
     let r = c.in_err-put_properties.ensures.refused in
-    let slots = c.args.tree.now.slots in
-    let node = c.args.node in
-    let size : properties_size c.args.names.now c.props.result ≤ nodes_size c.args.names.now (tree_at slots node) = subst (λ (ps : List Property). properties_size c.args.names.now ps ≤ nodes_size c.args.names.now (tree_at slots node)) (sym c.props.ensures) (properties_in c.args.names.now (name_of slots node) (properties slots node) (below slots node)) in
+    let size = properties_within c.args.tree.now.slots c.args.node c.args.names.now c.name.result.now c.props.result c.args.out.now.items c.put_begin.new.out.items c.name.ensures c.props.ensures c.in_ok-put_begin.ensures in
     rw (e.1, e.2) (longer c.in_err-put_properties.field-0.0.kind _ _ size r.0, r.1)
 
 pub returns-clause-put : goal.returns-clause-put
@@ -69,6 +67,6 @@ returns-in_err-put_node-clause-refused t c =
     let all = children slots node in
     let part = node_within slots (trees_at slots all) c.loop-child.child-iterator c.next.new.self c.in-Some.child c.put_properties.new.names c.loop-child.names c.put_properties.new.out.items c.loop-child.out.items
     c.in-Some.ensures.steps c.loop-child.invariant.left in
-    let own : nodes_size c.put_properties.new.names (trees_at slots all) ≤ nodes_size c.args.names.now (tree_at slots node) =
-    children_within slots node c.args.names.now c.put_properties.new.names c.props.result c.put_begin.new.out.items c.put_properties.new.out.items c.props.ensures c.in_ok-put_properties.ensures.put in
+    let own : length c.put_properties.new.out.items + nodes_size c.put_properties.new.names (trees_at slots all) ≤ length c.args.out.now.items + nodes_size c.args.names.now (tree_at slots node) =
+    children_within slots node c.args.names.now c.put_properties.new.names c.name.result.now c.props.result c.args.out.now.items c.put_begin.new.out.items c.put_properties.new.out.items c.name.ensures c.props.ensures c.in_ok-put_begin.ensures c.in_ok-put_properties.ensures.put in
     rw (e.1, e.2) (longer c.in_err-put_node.field-0.0.kind _ _ (transitive _ _ _ part own) r.0, r.1)
