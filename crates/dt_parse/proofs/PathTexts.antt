@@ -7,12 +7,12 @@ use Rattle.dt_model.specs.Names.{Name, IsNodeName, IsLabel, is_name_byte}
 use Rattle.dt_model.specs.Path.{Path, path_text}
 use Rattle.dt_model.specs.Source.{Reference, by_label, by_path}
 use Rattle.dt_lex.specs.declared.token.TokenKind.{TokenKind}
-use Rattle.dt_parse.specs.Words.{IsReferenceWord, to_label, to_path}
-use Rattle.dt_parse.specs.Unchecked.{a_label, a_path, all_but_last, ended_names, path_of_names, reference_in}
-use Rattle.dt_parse.specs.Relaxed.{a_reference}
-use Rattle.dt_parse.specs.Strict.{IsLabelText, IsReferenceText}
+use Rattle.dt_grammar.specs.Words.{IsReferenceWord, to_label, to_path}
+use Rattle.dt_grammar.specs.Unchecked.{a_label, a_path, all_but_last, ended_names, path_of_names, reference_in}
+use Rattle.dt_grammar.specs.Relaxed.{a_reference}
+use Rattle.dt_grammar.specs.Strict.{IsLabelText, IsReferenceText}
 use Rattle.dt_parse.specs.Paths.{braced, IsPathText, slashed, AreNames, BeginsName}
-use Rattle.dt_parse.proofs.Names.{path_back, all_but_colon}
+use Rattle.dt_grammar.proofs.Names.{path_back, all_but_colon}
 
 abbrev AllNamed : Path → Type 0
 AllNamed p = AllByRecursion IsNodeName p

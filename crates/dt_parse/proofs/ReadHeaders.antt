@@ -7,14 +7,14 @@ use Rattle.dt_lex.specs.declared.token.TokenKind.TheVariants as kind
 use Rattle.dt_lex.specs.declared.token.Mark.TheVariants as mark
 use Rattle.dt_lex.specs.declared.token.Keyword.TheVariants as keyword
 use Rattle.dt_parse.specs.declared.stop.Stop.{Stop}
-use Rattle.dt_parse.specs.Words.{Words}
-use Rattle.dt_parse.specs.Wanted.{Made, Wanted, Done, Whole, AfterVersion, AfterHeader, PluginEnd, MoreHeaders, NextVersion, NextHeader, Top, refuse, want, kind_at}
-use Rattle.dt_parse.specs.Moves.{at_version, at_semicolon, at_first_plugin, at_next_plugin, at_header, source_with}
-use Rattle.dt_parse.specs.Descent.{found, gives, Descends, move_at, first, after}
-use Rattle.dt_parse.specs.Faults.{Around, outside, Passes, Breaks, in_part}
+use Rattle.dt_grammar.specs.Words.{Words}
+use Rattle.dt_grammar.specs.Wanted.{Made, Wanted, Done, Whole, AfterVersion, AfterHeader, PluginEnd, MoreHeaders, NextVersion, NextHeader, Top, refuse, want, kind_at}
+use Rattle.dt_grammar.specs.Moves.{at_version, at_semicolon, at_first_plugin, at_next_plugin, at_header, source_with}
+use Rattle.dt_grammar.specs.Descent.{found, gives, Descends, move_at, first, after}
+use Rattle.dt_grammar.specs.Faults.{Around, outside, Passes, Breaks, in_part}
 use Rattle.dt_parse.specs.Reading.{IsRead, IsBroken}
 use Rattle.dt_parse.specs.Leading.{Leads}
-use Rattle.dt_parse.proofs.Stepping.{part_then}
+use Rattle.dt_grammar.proofs.Stepping.{part_then}
 use Rattle.dt_parse.proofs.Leading.{unexpected, leads_on, leads_then, leads_stop}
 
 -- ---- tokens that can't stand there

@@ -11,12 +11,12 @@ use Rattle.dt_parse.specs.declared.body.Front.{Front}
 use Rattle.dt_parse.specs.declared.body.Front.TheVariants as front
 use Rattle.dt_parse.specs.declared.body.Behind.{Behind}
 use Rattle.dt_parse.specs.declared.body.Behind.TheVariants as behind
-use Rattle.dt_parse.specs.Words.{Words}
-use Rattle.dt_parse.specs.Unchecked.{RawPlace, raw_close}
-use Rattle.dt_parse.specs.Strict.{IsSound, IsOrdered}
-use Rattle.dt_parse.specs.Wanted.{SomeMembers, AfterMemberLabels, BlockClose, made_places}
-use Rattle.dt_parse.specs.Descent.{found, Descends}
-use Rattle.dt_parse.specs.Faults.{Around, in_bodies, outside, Breaks}
+use Rattle.dt_grammar.specs.Words.{Words}
+use Rattle.dt_grammar.specs.Unchecked.{RawPlace, raw_close}
+use Rattle.dt_grammar.specs.Strict.{IsSound, IsOrdered}
+use Rattle.dt_grammar.specs.Wanted.{SomeMembers, AfterMemberLabels, BlockClose, made_places}
+use Rattle.dt_grammar.specs.Descent.{found, Descends}
+use Rattle.dt_grammar.specs.Faults.{Around, in_bodies, outside, Breaks}
 use Rattle.dt_parse.specs.Reading.{IsBroken}
 
 -- what a member, or the end of a body, begins with

@@ -10,11 +10,11 @@ use Rattle.dt_lex.specs.declared.token.Keyword.TheVariants as keyword
 use Rattle.dt_lex.specs.declared.token.Token.{Token}
 use Rattle.dt_lex.specs.Lexing.{IsLexed, WhyNotLexed, text_limit}
 use Rattle.dt_parse.specs.declared.stop.Stop.{Stop}
-use Rattle.dt_parse.specs.Words.{Words, words_of, IsKeyword, IsMark}
-use Rattle.dt_parse.specs.Grammar.{Says, SpellsSource}
-use Rattle.dt_parse.specs.Wanted.{Made, Wanted, Whole, kind_at}
-use Rattle.dt_parse.specs.Descent.{first, after, found, Descends}
-use Rattle.dt_parse.specs.Faults.{Around, outside, IsFine, Breaks}
+use Rattle.dt_grammar.specs.Words.{Words, words_of, IsKeyword, IsMark}
+use Rattle.dt_grammar.specs.Grammar.{Says, SpellsSource}
+use Rattle.dt_grammar.specs.Wanted.{Made, Wanted, Whole, kind_at}
+use Rattle.dt_grammar.specs.Descent.{first, after, found, Descends}
+use Rattle.dt_grammar.specs.Faults.{Around, outside, IsFine, Breaks}
 
 -- a part was read: this was made of the tokens up to those that are left, and no fault shows in it
 pub record IsRead (a : Around) (g : Wanted) (ws : Words) (made : Made) (left : Words) : Type 0 where

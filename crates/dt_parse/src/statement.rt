@@ -1,11 +1,11 @@
 //! Statements: blocks, and deletions of nodes.
 
 ghost use Rattle.std.specs.Prelude.{◌≡◌, ◌≢◌, ◌++◌, [], true, false, List, ℕ, map, OnOk, IfErr};
-ghost use Rattle.dt_parse.specs.Unchecked.{RawPlace, place_of, all_but_last};
-ghost use Rattle.dt_parse.specs.Strict.{AreLabelTexts};
-ghost use Rattle.dt_parse.specs.Wanted.{OneStatement, StatementThen, made_places, kind_at};
-ghost use Rattle.dt_parse.specs.Descent.{first};
-ghost use Rattle.dt_parse.specs.Faults.{outside};
+ghost use Rattle.dt_grammar.specs.Unchecked.{RawPlace, place_of, all_but_last};
+ghost use Rattle.dt_grammar.specs.Strict.{AreLabelTexts};
+ghost use Rattle.dt_grammar.specs.Wanted.{OneStatement, StatementThen, made_places, kind_at};
+ghost use Rattle.dt_grammar.specs.Descent.{first};
+ghost use Rattle.dt_grammar.specs.Faults.{outside};
 ghost use Rattle.dt_parse.specs.Reading.{IsRead, IsBroken};
 ghost use Rattle.dt_parse.specs.Said.{places_said};
 ghost use Rattle.dt_parse.specs.declared.statement.Start.TheVariants as start;

@@ -7,11 +7,11 @@ use Rattle.dt_lex.specs.declared.token.Mark.TheVariants as mark
 use Rattle.dt_lex.specs.declared.token.Keyword.TheVariants as keyword
 use Rattle.dt_parse.specs.declared.body.Front.TheVariants as front
 use Rattle.dt_parse.specs.declared.body.Behind.TheVariants as behind
-use Rattle.dt_parse.specs.Words.{Words}
-use Rattle.dt_parse.specs.Unchecked.{RawPlace, RawComponent, raw_child, raw_label, raw_close, raw_property, raw_delete_property, raw_delete_child, place_of}
-use Rattle.dt_parse.specs.Wanted.{kind_at, bytes_at, OneValue, made_value, made_places, AfterName, AfterMemberLabels}
-use Rattle.dt_parse.specs.Descent.{first, after, found, Descends}
-use Rattle.dt_parse.specs.Faults.{outside}
+use Rattle.dt_grammar.specs.Words.{Words}
+use Rattle.dt_grammar.specs.Unchecked.{RawPlace, RawComponent, raw_child, raw_label, raw_close, raw_property, raw_delete_property, raw_delete_child, place_of}
+use Rattle.dt_grammar.specs.Wanted.{kind_at, bytes_at, OneValue, made_value, made_places, AfterName, AfterMemberLabels}
+use Rattle.dt_grammar.specs.Descent.{first, after, found, Descends}
+use Rattle.dt_grammar.specs.Faults.{outside}
 use Rattle.dt_parse.specs.declared.stop.Stop.{Stop}
 use Rattle.dt_parse.specs.declared.source.Item.TheVariants as item
 use Rattle.dt_parse.specs.Reading.{IsBroken, no_memory}

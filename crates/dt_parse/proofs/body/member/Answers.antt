@@ -5,11 +5,11 @@ use Rattle.dt_lex.specs.declared.token.TokenKind.TheVariants as kind
 use Rattle.dt_lex.specs.declared.token.Mark.TheVariants as mark
 use Rattle.dt_parse.specs.declared.body.Front.TheVariants as front
 use Rattle.dt_parse.specs.declared.body.Behind.TheVariants as behind
-use Rattle.dt_parse.specs.Words.{Words}
-use Rattle.dt_parse.specs.Unchecked.{RawPlace, raw_child, raw_label, raw_close, place_of}
-use Rattle.dt_parse.specs.Wanted.{kind_at, bytes_at, BlockOpen, AfterMemberLabels}
-use Rattle.dt_parse.specs.Descent.{first, after}
-use Rattle.dt_parse.specs.Faults.{outside}
+use Rattle.dt_grammar.specs.Words.{Words}
+use Rattle.dt_grammar.specs.Unchecked.{RawPlace, raw_child, raw_label, raw_close, place_of}
+use Rattle.dt_grammar.specs.Wanted.{kind_at, bytes_at, BlockOpen, AfterMemberLabels}
+use Rattle.dt_grammar.specs.Descent.{first, after}
+use Rattle.dt_grammar.specs.Faults.{outside}
 use Rattle.dt_parse.specs.Reading.{IsBroken}
 use Rattle.dt_parse.specs.Said.{places_said}
 use Rattle.dt_parse.specs.Nested.{front_of, behind_of, in_body, IsMember, Goes}

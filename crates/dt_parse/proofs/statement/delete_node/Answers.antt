@@ -3,11 +3,11 @@ use Rattle.std.proofs.lemmas.Result.{err_from_is_err_and}
 use Rattle.dt_model.specs.Source as model
 use Rattle.dt_parse.specs.declared.source.Item.TheVariants as item
 use Rattle.dt_parse.specs.declared.statement.Start.TheVariants as start
-use Rattle.dt_parse.specs.Words.{Words}
-use Rattle.dt_parse.specs.Unchecked.{RawPlace, raw_root, raw_block, raw_delete_node, raw_label, place_of}
-use Rattle.dt_parse.specs.Wanted.{kind_at, bytes_at, OneStatement, made_places}
-use Rattle.dt_parse.specs.Descent.{first, after}
-use Rattle.dt_parse.specs.Faults.{outside}
+use Rattle.dt_grammar.specs.Words.{Words}
+use Rattle.dt_grammar.specs.Unchecked.{RawPlace, raw_root, raw_block, raw_delete_node, raw_label, place_of}
+use Rattle.dt_grammar.specs.Wanted.{kind_at, bytes_at, OneStatement, made_places}
+use Rattle.dt_grammar.specs.Descent.{first, after}
+use Rattle.dt_grammar.specs.Faults.{outside}
 use Rattle.dt_parse.specs.Reading.{IsRead, IsBroken}
 use Rattle.dt_parse.specs.Starts.{start_of}
 use Rattle.dt_parse.proofs.Members.{err_is, said_one, said_more, no_labels, some_labels, empty_is, full_is}

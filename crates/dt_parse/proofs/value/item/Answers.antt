@@ -2,10 +2,10 @@ use Rattle.std.proofs.Common.{sym, ◌∙◌, ap, ◌++◌, ◌∷◌, [], map}
 use Rattle.std.proofs.lemmas.Result.{IfErr-weaker, on_ok_weaker}
 use Rattle.dt_model.specs.Source.{one, text_of}
 use Rattle.dt_lex.specs.Texts.{text_bytes}
-use Rattle.dt_parse.specs.Unchecked.{cell_item, text_item, byte_item, path_item}
-use Rattle.dt_parse.specs.Wanted.{OneItem, bytes_at}
-use Rattle.dt_parse.specs.Descent.{first}
-use Rattle.dt_parse.specs.Faults.{Around}
+use Rattle.dt_grammar.specs.Unchecked.{cell_item, text_item, byte_item, path_item}
+use Rattle.dt_grammar.specs.Wanted.{OneItem, bytes_at}
+use Rattle.dt_grammar.specs.Descent.{first}
+use Rattle.dt_grammar.specs.Faults.{Around}
 use Rattle.dt_parse.specs.Reading.{IsBroken}
 use Rattle.dt_parse.specs.Openings.{opening_of}
 use Rattle.dt_parse.specs.Said.{value_said}

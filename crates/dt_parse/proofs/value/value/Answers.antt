@@ -1,7 +1,7 @@
 use Rattle.std.proofs.Common.{sym, ◌∙◌, ◌++◌, ◌∷◌, []}
 use Rattle.std.proofs.lemmas.Bool.{not-true, not-false}
-use Rattle.dt_parse.specs.Wanted.{made_value, OneValue}
-use Rattle.dt_parse.specs.Faults.{Around}
+use Rattle.dt_grammar.specs.Wanted.{made_value, OneValue}
+use Rattle.dt_grammar.specs.Faults.{Around}
 use Rattle.dt_parse.specs.Reading.{IsBroken}
 use Rattle.dt_parse.specs.Said.{value_said}
 use Rattle.dt_parse.proofs.SameKinds.{same_next, other_next}
