@@ -1,6 +1,5 @@
 -- Labels that are read one by one.
-use Rattle.std.proofs.Common.{◌≡◌, ◌≢◌, ℕ, suc, ◌<◌, true, false, List, [], ◌∷◌, ◌++◌, map, length, Option, Some, None, refl, sym, ap, ◌∙◌, subst, append_assoc, arith}
-use Rattle.std.specs.List.{AllByRecursion}
+use Rattle.std.proofs.Common.{◌≡◌, ◌≢◌, ℕ, ◌<◌, true, false, List, [], ◌∷◌, ◌++◌, map, length, Option, Some, None, refl, sym, ap, ◌∙◌, subst, append_assoc, arith}
 use Rattle.std.proofs.lemmas.List.{append-nil}
 use Rattle.dt_names.specs.declared.fault.FaultKind.{FaultKind}
 use Rattle.dt_names.specs.declared.fault.FaultKind.TheVariants as fault
@@ -10,11 +9,11 @@ use Rattle.dt_parse.specs.declared.stop.Stop.{Stop}
 use Rattle.dt_grammar.specs.Words.{Words}
 use Rattle.dt_grammar.specs.Unchecked.{all_but_last}
 use Rattle.dt_grammar.specs.Strict.{IsLabelText, AreLabelTexts}
-use Rattle.dt_grammar.specs.Wanted.{Made, made_labels, labels_in, Wanted, SomeLabels, Done, give, want, kind_at, bytes_at}
+use Rattle.dt_grammar.specs.Wanted.{made_labels, labels_in, SomeLabels, Done, give, want, kind_at, bytes_at}
 use Rattle.dt_grammar.specs.Moves.{at_labels}
 use Rattle.dt_grammar.specs.Descent.{move_at, first, after, found, gives, Descends}
-use Rattle.dt_grammar.specs.Faults.{Around, label_named, IsNamed, Passes, Shows, unnamed, Breaks, in_part}
-use Rattle.dt_parse.specs.Reading.{IsRead, IsBroken, no_memory}
+use Rattle.dt_grammar.specs.Faults.{Around, label_named, Passes, Shows, unnamed, Breaks, in_part}
+use Rattle.dt_parse.specs.Reading.{IsRead, IsBroken}
 use Rattle.dt_grammar.proofs.Stepping.{given, part_then}
 use Rattle.dt_parse.proofs.Stopping.{stopped, stops_too}
 

@@ -1,5 +1,5 @@
 -- Reading goes on from one place at another: through a part, behind one, and over the elements of a list.
-use Rattle.std.proofs.Common.{◌≡◌, ◌≤◌, ◌<◌, ℕ, Some, ap, arith, Bool, true, false, List, [], ◌∷◌, ◌++◌, length, refl, sym, subst, append_assoc}
+use Rattle.std.proofs.Common.{◌≡◌, ◌≤◌, ◌<◌, Some, ap, arith, Bool, true, List, [], ◌∷◌, ◌++◌, length, sym, subst, append_assoc}
 use Rattle.std.specs.Prelude.{Result, IfErr}
 use Rattle.std.specs.Result.{IsErrAnd}
 use Rattle.std.proofs.lemmas.Result.{err_from_is_err_and}

@@ -8,15 +8,14 @@ use Rattle.dt_lex.specs.declared.token.TokenKind.{TokenKind}
 use Rattle.dt_lex.specs.declared.token.TokenKind.TheVariants as kind
 use Rattle.dt_lex.specs.declared.token.Mark.TheVariants as mark
 use Rattle.dt_parse.specs.declared.stop.Stop.{Stop}
-use Rattle.dt_parse.specs.declared.body.Front.TheVariants as front
 use Rattle.dt_grammar.specs.Words.{Word, Words}
 use Rattle.dt_grammar.specs.Unchecked.{RawPlace, raw_child, raw_label, raw_close}
 use Rattle.dt_grammar.specs.Relaxed.{word, a_mark}
 use Rattle.dt_grammar.specs.Strict.{AreLabelTexts, IsSound, IsOrdered}
-use Rattle.dt_grammar.specs.Wanted.{Made, made_places, made_labels, labels_in, places_in, SomeLabels, SomeMembers, AfterMemberLabels, AfterName, More, BlockOpen, BlockClose, Done, kind_at, bytes_at, give, want}
+use Rattle.dt_grammar.specs.Wanted.{made_places, made_labels, labels_in, places_in, SomeLabels, SomeMembers, AfterMemberLabels, AfterName, More, BlockOpen, BlockClose, Done, kind_at, bytes_at}
 use Rattle.dt_grammar.specs.Moves.{and_more, at_block_open}
-use Rattle.dt_grammar.specs.Descent.{found, Outcome, Descends, first, after, move_at}
-use Rattle.dt_grammar.specs.Faults.{Around, outside, within, in_bodies, Breaks, in_part, behind_part, Passes, IsFine, body_placed}
+use Rattle.dt_grammar.specs.Descent.{found, Outcome, Descends, first, after}
+use Rattle.dt_grammar.specs.Faults.{Around, outside, Breaks, in_part, behind_part, Passes, IsFine, body_placed}
 use Rattle.dt_parse.specs.Reading.{IsBroken}
 use Rattle.dt_parse.specs.Nested.{in_body, Closes, IsMember, Finishes, finished, closing, AreFine, BreaksIn, in_members, at_close, behind_close, flags, Goes, IsUnclosed, labelled, unclosed}
 use Rattle.dt_grammar.proofs.Names.{word_is}

@@ -1,12 +1,11 @@
 -- The bytes of labels and of references, and the names of nodes that stand between slashes.
-use Rattle.std.proofs.Common.{◌≡◌, ◌≢◌, ℕ, zero, suc, ◌-◌, ◌<◌, ◌≤◌, ◌==◌, ◌||◌, codes, List, [], ◌∷◌, ◌++◌, All, IsTrue, length, take, drop, slice_index, refl, sym, ap, ◌∙◌, subst, true≢false, arith, length-append}
+use Rattle.std.proofs.Common.{◌≡◌, ◌≢◌, ℕ, zero, suc, ◌-◌, ◌<◌, ◌==◌, ◌||◌, codes, List, [], ◌∷◌, ◌++◌, All, IsTrue, length, take, drop, slice_index, refl, sym, ap, ◌∙◌, subst, true≢false, arith}
 use Rattle.std.specs.List.{AllByRecursion}
 use Rattle.std.proofs.lemmas.List.{append-nil}
 use Rattle.std.proofs.lemmas.List.Elements.{recursion_from_All, All-weaker}
 use Rattle.dt_model.specs.Names.{Name, IsNodeName, IsLabel, is_name_byte}
 use Rattle.dt_model.specs.Path.{Path, path_text}
-use Rattle.dt_model.specs.Source.{Reference, by_label, by_path}
-use Rattle.dt_lex.specs.declared.token.TokenKind.{TokenKind}
+use Rattle.dt_model.specs.Source.{Reference, by_path}
 use Rattle.dt_grammar.specs.Words.{IsReferenceWord, to_label, to_path}
 use Rattle.dt_grammar.specs.Unchecked.{a_label, a_path, all_but_last, ended_names, path_of_names, reference_in}
 use Rattle.dt_grammar.specs.Relaxed.{a_reference}

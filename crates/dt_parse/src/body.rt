@@ -31,7 +31,7 @@ use std::alloc::Global;
 const MOST_BODIES: usize = 65;
 
 /// What a member, or the end of a body, begins with.
-#[derive(Clone, Copy, Debug, PartialEq, Eq)]
+#[derive(Clone, Copy)]
 pub(crate) enum Front {
     Name,
     DeleteProperty,
@@ -40,7 +40,7 @@ pub(crate) enum Front {
 }
 
 /// What stands behind a name.
-#[derive(Clone, Copy, Debug, PartialEq, Eq)]
+#[derive(Clone, Copy)]
 pub(crate) enum Behind {
     /// `;`
     End,
@@ -52,7 +52,7 @@ pub(crate) enum Behind {
 }
 
 /// What is around the members of a body.
-#[derive(Clone, Copy, Debug, PartialEq, Eq)]
+#[derive(Clone, Copy)]
 struct Depth {
     /// How many bodies are open.
     open: usize,
@@ -80,42 +80,6 @@ fn behind_of(kind: Option<TokenKind>) -> Behind
         Some(TokenKind::Mark(Mark::OpenBrace)) => Behind::Body,
         _ => Behind::Other,
     }
-}
-
-/// Steps over `;`.
-pub(crate) fn semicolon(cursor: &mut Cursor<'_, '_>) -> Result<(), Stop>
-    ensures ok { OnOk result ((kind_at (first cursor.old) ≡ Some (kind.Mark mark.Semicolon)) × (cursor.new ≡ after true cursor.old)) }
-    ensures err { IfErr result (λ stop. (kind_at (first cursor.old) ≢ Some (kind.Mark mark.Semicolon)) × (stop.kind ≡ fault.Syntax) × (stop.left ≡ length cursor.old)) }
-{
-    if cursor.kind() != Some(TokenKind::Mark(Mark::Semicolon)) {
-        return Err(cursor.stop(FaultKind::Syntax));
-    }
-    cursor.advance();
-    Ok(())
-}
-
-/// Steps over `{`.
-fn open_brace(cursor: &mut Cursor<'_, '_>) -> Result<(), Stop>
-    ensures ok { OnOk result ((kind_at (first cursor.old) ≡ Some (kind.Mark mark.OpenBrace)) × (cursor.new ≡ after true cursor.old)) }
-    ensures err { IfErr result (λ stop. (kind_at (first cursor.old) ≢ Some (kind.Mark mark.OpenBrace)) × (stop.kind ≡ fault.Syntax) × (stop.left ≡ length cursor.old)) }
-{
-    if cursor.kind() != Some(TokenKind::Mark(Mark::OpenBrace)) {
-        return Err(cursor.stop(FaultKind::Syntax));
-    }
-    cursor.advance();
-    Ok(())
-}
-
-/// Steps over `}`.
-fn close_brace(cursor: &mut Cursor<'_, '_>) -> Result<(), Stop>
-    ensures ok { OnOk result ((kind_at (first cursor.old) ≡ Some (kind.Mark mark.CloseBrace)) × (cursor.new ≡ after true cursor.old)) }
-    ensures err { IfErr result (λ stop. (kind_at (first cursor.old) ≢ Some (kind.Mark mark.CloseBrace)) × (stop.kind ≡ fault.Syntax) × (stop.left ≡ length cursor.old)) }
-{
-    if cursor.kind() != Some(TokenKind::Mark(Mark::CloseBrace)) {
-        return Err(cursor.stop(FaultKind::Syntax));
-    }
-    cursor.advance();
-    Ok(())
 }
 
 /// The property's name that the next token is; `BadName` where it isn't one.
@@ -157,7 +121,7 @@ fn assigned<'a>(alloc: Global, cursor: &mut Cursor<'a, '_>) -> Result<Value<'a>,
         _ => {
             cursor.advance();
             let value = value(alloc, cursor)?;
-            semicolon(cursor)?;
+            cursor.expect(TokenKind::Mark(Mark::Semicolon))?;
             Ok(value)
         }
     }
@@ -182,8 +146,38 @@ fn property<'a>(
         return Err(cursor.stop(FaultKind::PropertyAfterNode));
     }
     let value = assigned(alloc, cursor)?;
-    items.push(Item::Property(name, value))?;
+    push_item(Item::Property(name, value), items)
+}
+
+/// Appends an item.
+pub(crate) fn push_item<'a>(item: Item<'a>, items: &mut Vec<Item<'a>>) -> Result<(), Stop>
+    ensures ok { OnOk result (items.new.items ≡ items.old.items ++ item.entry ∷ []) }
+    ensures err { IfErr result (λ stop. stop.kind ≡ fault.NoMemory) }
+{
+    items.push(item)?;
     Ok(())
+}
+
+/// Reads `name {`.
+fn open_child<'a>(
+    bodies: usize,
+    cursor: &mut Cursor<'a, '_>,
+    items: &mut Vec<Item<'a>>,
+) -> Result<(), Stop>
+    requires named { kind_at (first cursor.old) ≡ Some kind.Name }
+    requires opened { behind_of (kind_at (first (after true cursor.old))) ≡ behind.Body }
+    ensures ok { OnOk result (IsNodeName (bytes_at (first cursor.old)) × (bodies < 65)
+        × (cursor.new ≡ after true (after true cursor.old))
+        × (places_said items.new.items ≡ places_said items.old.items ++ place_of (raw_child (bytes_at (first cursor.old))) ∷ [])) }
+    ensures err { IfErr result (λ stop. (ls : List (List ℕ)) (late : Bool) (outer : List Bool) → length outer + 1 ≡ bodies → IsBroken (in_body late outer) (AfterMemberLabels ls) cursor.old stop) }
+{
+    let name = node_name(cursor)?;
+    cursor.advance();
+    if MOST_BODIES <= bodies {
+        return Err(cursor.stop(FaultKind::Limit));
+    }
+    cursor.advance();
+    push_item(Item::Child(name), items)
 }
 
 /// Reads `name {`, and appends the labels in front of it, too.
@@ -200,15 +194,8 @@ fn child<'a>(
         × (places_said items.new.items ≡ places_said items.old.items ++ map place_of (raw_child (bytes_at (first cursor.old)) ∷ map raw_label ls))) }
     ensures err { IfErr result (λ stop. (ls : List (List ℕ)) (late : Bool) (outer : List Bool) → length outer + 1 ≡ bodies → IsBroken (in_body late outer) (AfterMemberLabels ls) cursor.old stop) }
 {
-    let name = node_name(cursor)?;
-    cursor.advance();
-    if MOST_BODIES <= bodies {
-        return Err(cursor.stop(FaultKind::Limit));
-    }
-    cursor.advance();
-    items.push(Item::Child(name))?;
-    push_labels(names, items)?;
-    Ok(())
+    open_child(bodies, cursor, items)?;
+    push_labels(names, items)
 }
 
 /// Appends labels.
@@ -217,7 +204,7 @@ pub(crate) fn push_labels<'a>(names: Vec<Label<'a>>, items: &mut Vec<Item<'a>>) 
     ensures err { IfErr result (λ stop. stop.kind ≡ fault.NoMemory) }
 {
     for name in names {
-        items.push(Item::Label(name))?;
+        push_item(Item::Label(name), items)?;
     }
     Ok(())
 }
@@ -259,8 +246,7 @@ fn delete_property<'a>(
     let name = property_name(cursor)?;
     cursor.advance();
     cursor.advance();
-    items.push(Item::DeleteProperty(name))?;
-    Ok(())
+    push_item(Item::DeleteProperty(name), items)
 }
 
 /// Reads `/delete-node/ name;`.
@@ -275,8 +261,7 @@ fn delete_child<'a>(cursor: &mut Cursor<'a, '_>, items: &mut Vec<Item<'a>>) -> R
     let name = node_name(cursor)?;
     cursor.advance();
     cursor.advance();
-    items.push(Item::DeleteChild(name))?;
-    Ok(())
+    push_item(Item::DeleteChild(name), items)
 }
 
 /// Reads `};`.
@@ -293,10 +278,9 @@ fn close<'a>(
     if labelled {
         return Err(cursor.stop(FaultKind::Syntax));
     }
-    close_brace(cursor)?;
-    semicolon(cursor)?;
-    items.push(Item::Close)?;
-    Ok(())
+    cursor.expect(TokenKind::Mark(Mark::CloseBrace))?;
+    cursor.expect(TokenKind::Mark(Mark::Semicolon))?;
+    push_item(Item::Close, items)
 }
 
 /// Reads a member, or what stands in front of a child's members, or the end of a body. Answers what is around the next.
@@ -364,7 +348,7 @@ pub(crate) fn body<'a>(
         × (places_said items.new.items ≡ places_said items.old.items ++ map place_of qs)) }
     ensures err { IfErr result (λ stop. (ps : List RawPlace) → IsBroken outside (BlockOpen ps) cursor.old stop) }
 {
-    open_brace(cursor)?;
+    cursor.expect(TokenKind::Mark(Mark::OpenBrace))?;
     let mut depth = Depth {
         open: 1,
         late: false,

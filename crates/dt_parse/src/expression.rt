@@ -10,7 +10,7 @@ use dt_lex::{Mark, Token, TokenKind};
 use std::alloc::{AllocError, Global};
 
 /// What waits for an operand or for a mark.
-#[derive(Clone, Copy, Debug, PartialEq, Eq)]
+#[derive(Clone, Copy)]
 pub enum Pending {
     Unary(Unary),
     Binary(Binary),
@@ -23,7 +23,7 @@ pub enum Pending {
 }
 
 /// What stands in front of a token.
-#[derive(Clone, Copy, Debug, PartialEq, Eq)]
+#[derive(Clone, Copy)]
 pub enum Stage {
     /// An operand is wanted.
     Wanted,
@@ -34,7 +34,7 @@ pub enum Stage {
 }
 
 /// What is done at a token.
-#[derive(Clone, Copy, Debug, PartialEq, Eq)]
+#[derive(Clone, Copy)]
 pub enum Turn {
     Number(u64),
     Push(Pending),
@@ -48,7 +48,7 @@ pub enum Turn {
 }
 
 /// Why there is no expression.
-#[derive(Clone, Copy, Debug, PartialEq, Eq)]
+#[derive(Clone, Copy)]
 pub(crate) enum Refusal {
     Memory,
     /// The token can't stand there; so many are left from it on.

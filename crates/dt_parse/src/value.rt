@@ -29,7 +29,7 @@ use std::alloc::{AllocError, Global};
 const CELL: u32 = 32;
 
 /// What a token begins in a value.
-#[derive(Clone, Copy, Debug, PartialEq, Eq)]
+#[derive(Clone, Copy)]
 pub enum Opening {
     Cells,
     /// `/bits/`
@@ -41,7 +41,7 @@ pub enum Opening {
 }
 
 /// What a token begins between `<` and `>`.
-#[derive(Clone, Copy, Debug, PartialEq, Eq)]
+#[derive(Clone, Copy)]
 pub enum CellOpening {
     Label,
     Reference,
@@ -50,7 +50,7 @@ pub enum CellOpening {
 }
 
 /// What a token is between `[` and `]`.
-#[derive(Clone, Copy, Debug, PartialEq, Eq)]
+#[derive(Clone, Copy)]
 pub enum ByteOpening {
     Label,
     Byte(u8),

@@ -1,20 +1,14 @@
-use Rattle.std.proofs.Common.{arith, refl, sym, ◌∙◌, ap, subst, ◌≡◌, ◌≢◌, ◌⊎◌, inl, inr, ◌++◌, ◌∷◌, ◌<◌, ◌≤◌, ◌+◌, [], true, false, List, ℕ, Bool, Option, Some, map, length, zero}
+use Rattle.std.proofs.Common.{sym, ◌∙◌, ap, ◌≡◌, ◌∷◌, [], true, map}
 use Rattle.std.proofs.lemmas.Result.{err_from_is_err_and}
-use Rattle.std.proofs.lemmas.List.{append-nil, map-id}
-use Rattle.dt_lex.specs.declared.token.TokenKind.TheVariants as kind
-use Rattle.dt_lex.specs.declared.token.Mark.TheVariants as mark
 use Rattle.dt_parse.specs.declared.body.Front.TheVariants as front
 use Rattle.dt_parse.specs.declared.body.Behind.TheVariants as behind
-use Rattle.dt_grammar.specs.Words.{Words}
-use Rattle.dt_grammar.specs.Unchecked.{RawPlace, raw_child, raw_label, raw_close, place_of}
-use Rattle.dt_grammar.specs.Wanted.{kind_at, bytes_at, BlockOpen, AfterMemberLabels}
+use Rattle.dt_grammar.specs.Unchecked.{raw_child, raw_label, raw_close}
+use Rattle.dt_grammar.specs.Wanted.{kind_at, bytes_at}
 use Rattle.dt_grammar.specs.Descent.{first, after}
 use Rattle.dt_grammar.specs.Faults.{outside}
-use Rattle.dt_parse.specs.Reading.{IsBroken}
-use Rattle.dt_parse.specs.Said.{places_said}
-use Rattle.dt_parse.specs.Nested.{front_of, behind_of, in_body, IsMember, Goes}
-use Rattle.dt_parse.proofs.Members.{err_is, said_one, said_more, label_said, labels_said, child_said, not_open, bad_child, too_deep_at, unfollowed_at, name_front, delete_property_front, delete_node_front, brace_behind, none_read, no_labels, some_labels, empty_is, full_is}
-use Rattle.dt_parse.proofs.NestedBodies.{labels_stop_at, members_stop_at, member_at, child_at, close_at, close_stops_at, shorter_by_labels, goes_on, goes_nowhere, block_reads, block_stops, block_ordered}
+use Rattle.dt_parse.specs.Nested.{front_of, behind_of, in_body}
+use Rattle.dt_parse.proofs.Members.{err_is, unfollowed_at, name_front, brace_behind, none_read, no_labels, some_labels, empty_is, full_is}
+use Rattle.dt_parse.proofs.NestedBodies.{labels_stop_at, members_stop_at, member_at, child_at, close_at, close_stops_at, shorter_by_labels}
 use Rattle.dt_parse.proofs.body.member.Goals as goal
 
 pub returns-in_err-names-clause-err : goal.returns-in_err-names-clause-err
