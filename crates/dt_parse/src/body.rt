@@ -8,12 +8,13 @@ ghost use Rattle.dt_lex.specs.declared.token.TokenKind.TheVariants as kind;
 ghost use Rattle.dt_lex.specs.declared.token.Mark.TheVariants as mark;
 ghost use Rattle.dt_lex.specs.declared.token.Keyword.TheVariants as keyword;
 ghost use Rattle.dt_model.specs.Source.{close};
+ghost use Rattle.dt_grammar.specs.Words.{Words};
 ghost use Rattle.dt_grammar.specs.Unchecked.{RawPlace, RawComponent, raw_child, raw_label, raw_property, all_but_last, value_parts, place_of};
 ghost use Rattle.dt_grammar.specs.Strict.{AreLabelTexts, IsComponent, IsSound, IsOrdered};
-ghost use Rattle.dt_grammar.specs.Wanted.{AfterMemberLabels, AfterName, BlockOpen, made_places, kind_at, bytes_at};
+ghost use Rattle.dt_grammar.specs.Wanted.{AfterMemberLabels, AfterName, BlockOpen, SomeLabels, made_labels, made_places, kind_at, bytes_at};
 ghost use Rattle.dt_grammar.specs.Descent.{first, after, found, Descends};
 ghost use Rattle.dt_grammar.specs.Faults.{outside};
-ghost use Rattle.dt_parse.specs.Reading.{IsBroken};
+ghost use Rattle.dt_parse.specs.Reading.{IsRead, IsBroken};
 ghost use Rattle.dt_parse.specs.Said.{value_said, places_said};
 ghost use Rattle.dt_parse.specs.declared.body.Front.TheVariants as front;
 ghost use Rattle.dt_parse.specs.declared.body.Behind.TheVariants as behind;
@@ -283,6 +284,78 @@ fn close<'a>(
     push_item(Item::Close, items)
 }
 
+/// Whether a name and `{` are next.
+fn opens_child(cursor: &Cursor<'_, '_>) -> bool
+    ensures { IsTrue result ↔ ((kind_at (first cursor.now) ≡ Some kind.Name) × (kind_at (first (after true cursor.now)) ≡ Some (kind.Mark mark.OpenBrace))) }
+{
+    cursor.kind() == Some(TokenKind::Name)
+        && cursor.second() == Some(TokenKind::Mark(Mark::OpenBrace))
+}
+
+/// Reads what a name that opens no child begins.
+fn named<'a>(
+    alloc: Global,
+    late: bool,
+    cursor: &mut Cursor<'a, '_>,
+    items: &mut Vec<Item<'a>>,
+) -> Result<(), Stop>
+    requires named { kind_at (first cursor.old) ≡ Some kind.Name }
+    requires unopened { behind_of (kind_at (first (after true cursor.old))) ≢ behind.Body }
+    ensures ok { (ls : List (List ℕ)) → AreLabelTexts ls → OnOk result ((p : RawPlace) × IsMember ls late cursor.old p late cursor.new
+        × (places_said items.new.items ≡ places_said items.old.items ++ place_of p ∷ [])) }
+    ensures err { IfErr result (λ stop. (ls : List (List ℕ)) (outer : List Bool) → IsBroken (in_body late outer) (AfterMemberLabels ls) cursor.old stop) }
+{
+    match behind_of(cursor.second()) {
+        Behind::Other => {
+            cursor.advance();
+            Err(cursor.stop(FaultKind::Syntax))
+        }
+        _ => property(alloc, late, cursor, items),
+    }
+}
+
+/// Reads a member that is no child, or the end of a body, behind its labels. Answers what is around the next.
+fn member_behind<'a>(
+    alloc: Global,
+    labelled: bool,
+    depth: Depth,
+    cursor: &mut Cursor<'a, '_>,
+    items: &mut Vec<Item<'a>>,
+) -> Result<Depth, Stop>
+    requires inside { 0 < depth.open }
+    requires unopened { ¬ ((kind_at (first cursor.old) ≡ Some kind.Name) × (kind_at (first (after true cursor.old)) ≡ Some (kind.Mark mark.OpenBrace))) }
+    ensures ok { (ls : List (List ℕ)) (ws : Words) → IsRead outside SomeLabels ws (made_labels ls) cursor.old → (labelled ≡ false → ls ≡ []) → IfOk result
+        (λ next. (ps : List RawPlace) × Goes depth.open depth.late ws ps next.open next.late cursor.new
+        × (length cursor.new < length ws) × (places_said items.new.items ≡ places_said items.old.items ++ map place_of ps)) }
+    ensures err { (ls : List (List ℕ)) (ws : Words) → IsRead outside SomeLabels ws (made_labels ls) cursor.old → (labelled ≡ false → ls ≡ []) → (labelled ≡ true → ls ≢ []) →
+        IfErr result (λ stop. BreaksIn depth.open depth.late ws stop) }
+{
+    match front_of(cursor.kind()) {
+        Front::Name => {
+            named(alloc, depth.late, cursor, items)?;
+            Ok(depth)
+        }
+        Front::DeleteProperty => {
+            delete_property(depth.late, cursor, items)?;
+            Ok(depth)
+        }
+        Front::DeleteNode => {
+            delete_child(cursor, items)?;
+            Ok(Depth {
+                open: depth.open,
+                late: true,
+            })
+        }
+        Front::Other => {
+            close(labelled, cursor, items)?;
+            Ok(Depth {
+                open: depth.open - 1,
+                late: true,
+            })
+        }
+    }
+}
+
 /// Reads a member, or what stands in front of a child's members, or the end of a body. Answers what is around the next.
 fn member<'a>(
     alloc: Global,
@@ -296,43 +369,14 @@ fn member<'a>(
     ensures err { IfErr result (λ stop. BreaksIn depth.open depth.late cursor.old stop) }
 {
     let names = labels(alloc, cursor)?;
-    match front_of(cursor.kind()) {
-        Front::Name => match behind_of(cursor.second()) {
-            Behind::Body => {
-                child(names, depth.open, cursor, items)?;
-                Ok(Depth {
-                    open: depth.open + 1,
-                    late: false,
-                })
-            }
-            Behind::Other => {
-                cursor.advance();
-                Err(cursor.stop(FaultKind::Syntax))
-            }
-            _ => {
-                property(alloc, depth.late, cursor, items)?;
-                Ok(depth)
-            }
-        },
-        Front::DeleteProperty => {
-            delete_property(depth.late, cursor, items)?;
-            Ok(depth)
-        }
-        Front::DeleteNode => {
-            delete_child(cursor, items)?;
-            Ok(Depth {
-                open: depth.open,
-                late: true,
-            })
-        }
-        Front::Other => {
-            close(!names.is_empty(), cursor, items)?;
-            Ok(Depth {
-                open: depth.open - 1,
-                late: true,
-            })
-        }
+    if opens_child(cursor) {
+        child(names, depth.open, cursor, items)?;
+        return Ok(Depth {
+            open: depth.open + 1,
+            late: false,
+        });
     }
+    member_behind(alloc, !names.is_empty(), depth, cursor, items)
 }
 
 /// Reads a body from its `{` to the `;` behind it, and appends its items; however deep bodies stand in it, nothing recurses

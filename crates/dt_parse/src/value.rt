@@ -12,6 +12,7 @@ ghost use Rattle.dt_grammar.specs.Relaxed.{reference_kind};
 ghost use Rattle.dt_grammar.specs.Strict.{IsLabelText, IsReferenceText};
 ghost use Rattle.dt_grammar.specs.Wanted.{SomeLabels, SomeCells, SomeBytes, OneItem, BitsNumber, BitsOpen, OneValue, Done, refuse, want, made_labels, made_cells, made_item, made_value, kind_at, bytes_at};
 ghost use Rattle.dt_grammar.specs.Descent.{first, move_at};
+ghost use Rattle.dt_parse.specs.declared.value.Opening.TheVariants as opening;
 ghost use Rattle.dt_parse.specs.Openings.{opening_of, cell_opening, byte_opening};
 ghost use Rattle.dt_grammar.specs.Faults.{Around, in_elements};
 ghost use Rattle.dt_parse.specs.Reading.{IsRead, IsBroken};
@@ -336,6 +337,47 @@ fn sized_cells<'a>(
     cell_list(alloc, bits, cursor, value)
 }
 
+/// Reads a text.
+fn text<'a>(cursor: &mut Cursor<'a, '_>, value: &mut Value<'a>) -> Result<(), Stop>
+    requires { opening_of (kind_at (first cursor.old)) ≡ opening.Text }
+    ensures ok { OnOk result ((i : RawItem) × ((a : Around) → IsRead a OneItem cursor.old (made_item i) cursor.new)
+        × (value_said value.new ≡ value_said value.old ++ item_parts i)) }
+    ensures err { IfErr result (λ stop. (a : Around) → IsBroken a OneItem cursor.old stop) }
+{
+    value.push_string(cursor.bytes())?;
+    cursor.advance();
+    Ok(())
+}
+
+/// Reads a list of bytes, from its `[` to its `]`.
+fn byte_list<'a>(cursor: &mut Cursor<'a, '_>, value: &mut Value<'a>) -> Result<(), Stop>
+    requires { opening_of (kind_at (first cursor.old)) ≡ opening.Bytes }
+    ensures ok { OnOk result ((i : RawItem) × ((a : Around) → IsRead a OneItem cursor.old (made_item i) cursor.new)
+        × (value_said value.new ≡ value_said value.old ++ item_parts i)) }
+    ensures err { IfErr result (λ stop. (a : Around) → IsBroken a OneItem cursor.old stop) }
+{
+    cursor.advance();
+    bytes(cursor, value)?;
+    cursor.expect(TokenKind::Mark(Mark::CloseBracket))
+}
+
+/// Reads a reference outside a cell list.
+fn path_text<'a>(
+    alloc: Global,
+    cursor: &mut Cursor<'a, '_>,
+    value: &mut Value<'a>,
+) -> Result<(), Stop>
+    requires { opening_of (kind_at (first cursor.old)) ≡ opening.Reference }
+    ensures ok { OnOk result ((i : RawItem) × ((a : Around) → IsRead a OneItem cursor.old (made_item i) cursor.new)
+        × (value_said value.new ≡ value_said value.old ++ item_parts i)) }
+    ensures err { IfErr result (λ stop. (a : Around) → IsBroken a OneItem cursor.old stop) }
+{
+    let target = reference(cursor)?;
+    cursor.advance();
+    value.push_reference(alloc, Form::Text, target)?;
+    Ok(())
+}
+
 /// Reads one component of a value, without the labels around it.
 fn item<'a>(alloc: Global, cursor: &mut Cursor<'a, '_>, value: &mut Value<'a>) -> Result<(), Stop>
     ensures ok { OnOk result ((i : RawItem) × ((a : Around) → IsRead a OneItem cursor.old (made_item i) cursor.new)
@@ -348,22 +390,9 @@ fn item<'a>(alloc: Global, cursor: &mut Cursor<'a, '_>, value: &mut Value<'a>) -
             cursor.advance();
             sized_cells(alloc, cursor, value)
         }
-        Opening::Text => {
-            value.push_string(cursor.bytes())?;
-            cursor.advance();
-            Ok(())
-        }
-        Opening::Bytes => {
-            cursor.advance();
-            bytes(cursor, value)?;
-            cursor.expect(TokenKind::Mark(Mark::CloseBracket))
-        }
-        Opening::Reference => {
-            let target = reference(cursor)?;
-            cursor.advance();
-            value.push_reference(alloc, Form::Text, target)?;
-            Ok(())
-        }
+        Opening::Text => text(cursor, value),
+        Opening::Bytes => byte_list(cursor, value),
+        Opening::Reference => path_text(alloc, cursor, value),
         Opening::Nothing => Err(cursor.stop(FaultKind::Syntax)),
     }
 }

@@ -1,0 +1,32 @@
+use Rattle.std.proofs.Common.{sym, ◌∙◌, ap, ◌++◌, ◌∷◌, [], map}
+use Rattle.std.proofs.lemmas.Result.{IfErr-weaker, on_ok_weaker}
+use Rattle.dt_model.specs.Source.{one, text_of}
+use Rattle.dt_lex.specs.Texts.{text_bytes}
+use Rattle.dt_grammar.specs.Unchecked.{cell_item, text_item, byte_item, path_item}
+use Rattle.dt_grammar.specs.Wanted.{OneItem, kind_at, bytes_at}
+use Rattle.dt_grammar.specs.Descent.{first}
+use Rattle.dt_grammar.specs.Faults.{Around}
+use Rattle.dt_parse.specs.Reading.{IsBroken}
+use Rattle.dt_parse.specs.Openings.{opening_of}
+use Rattle.dt_parse.specs.Said.{value_said}
+use Rattle.dt_parse.proofs.Leading.{handed_on}
+use Rattle.dt_parse.proofs.ReadItems.{at_cell_list, at_byte_list, at_sized_list, at_text, at_reference, item_stop, bytes_stop, plain_read, plain_stop, byte_list_read, bytes_end_stop, bits_read, bits_stop, text_read, reference_read, reference_stop}
+use Rattle.dt_parse.proofs.value.byte_list.Goals as goal
+
+pub returns-in_err-bytes-clause-err : goal.returns-in_err-bytes-clause-err
+returns-in_err-bytes-clause-err c =
+    let k = at_byte_list (kind_at (first c.args.cursor.now)) c.requires in
+    handed_on c.from_residual.result c.in_err-bytes.field-0.0 (λ stop. (a : Around) → IsBroken a OneItem c.args.cursor.now stop) c.from_residual.ensures.1
+    (bytes_stop _ _ _ k c.advance.ensures c.in_err-bytes.ensures.err)
+
+pub returns-clause-ok : goal.returns-clause-ok
+returns-clause-ok c =
+    let k = at_byte_list (kind_at (first c.args.cursor.now)) c.requires in
+    let r = c.in_ok-bytes.ensures.ok in
+    on_ok_weaker c.expect.result (λ t. (byte_item r.0, byte_list_read _ _ _ _ r.0 k c.advance.ensures r.1 t.0 t.1, r.2)) c.expect.ensures.ok
+
+pub returns-clause-err : goal.returns-clause-err
+returns-clause-err c =
+    let k = at_byte_list (kind_at (first c.args.cursor.now)) c.requires in
+    let r = c.in_ok-bytes.ensures.ok in
+    IfErr-weaker c.expect.result _ _ (λ stop e. bytes_end_stop _ _ _ r.0 stop k c.advance.ensures r.1 e.0 e.1 e.2) c.expect.ensures.err
