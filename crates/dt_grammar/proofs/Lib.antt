@@ -27,3 +27,5 @@ pub mod UnbrokenSources
 pub mod Stops
 pub mod FineParts
 pub mod OneFault
+pub mod PathTexts
+pub mod SameKinds

@@ -9,3 +9,4 @@ pub mod Descent
 pub mod Samples
 pub mod Strict
 pub mod Exactly
+pub mod Paths

@@ -5,9 +5,7 @@ pub mod Turns
 pub mod Stopping
 pub mod NestedBodies
 pub mod Members
-pub mod PathTexts
 pub mod Leading
-pub mod SameKinds
 pub mod ReadHeaders
 pub mod ReadItems
 pub mod LabelLists

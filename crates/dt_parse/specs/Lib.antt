@@ -11,7 +11,6 @@ pub mod Machine
 pub mod Turns
 pub mod Standing
 pub mod Nested
-pub mod Paths
 pub mod Leading
 pub mod Openings
 pub mod Numbers

@@ -8,7 +8,7 @@ ghost use Rattle.dt_grammar.specs.Grammar.{SpellsSource};
 ghost use Rattle.dt_grammar.specs.Words.{Words};
 ghost use Rattle.dt_grammar.specs.Unchecked.{a_path, path_of_names, ended_names};
 ghost use Rattle.dt_grammar.specs.Strict.{IsReferenceText};
-ghost use Rattle.dt_parse.specs.Paths.{IsPathText, AreNames, BeginsName, braced};
+ghost use Rattle.dt_grammar.specs.Paths.{IsPathText, AreNames, BeginsName, braced};
 ghost use Rattle.dt_parse.specs.Said.{reservation_said, place_said, said};
 
 use dt_names::{Label, NodeName, PropName};

@@ -397,19 +397,33 @@ fn item<'a>(alloc: Global, cursor: &mut Cursor<'a, '_>, value: &mut Value<'a>) -
     }
 }
 
+/// Reads components with commas between them, and appends what they say.
+fn components<'a>(
+    alloc: Global,
+    cursor: &mut Cursor<'a, '_>,
+    value: &mut Value<'a>,
+) -> Result<(), Stop>
+    requires { value_said value.old ≡ [] }
+    ensures ok { OnOk result ((cs : List RawComponent) × ((a : Around) → IsRead a OneValue cursor.old (made_value cs) cursor.new) × (value_said value.new ≡ value_parts cs)) }
+    ensures err { IfErr result (λ stop. (a : Around) → IsBroken a OneValue cursor.old stop) }
+{
+    'components: loop {
+        labels(alloc, cursor)?;
+        item(alloc, cursor, value)?;
+        labels(alloc, cursor)?;
+        if cursor.kind() != Some(TokenKind::Mark(Mark::Comma)) {
+            return Ok(());
+        }
+        cursor.advance();
+    }
+}
+
 /// Reads a value: components with commas between them, labels before and behind each (Devicetree Specification v0.4, 6.3).
 pub(crate) fn value<'a>(alloc: Global, cursor: &mut Cursor<'a, '_>) -> Result<Value<'a>, Stop>
     ensures ok { IfOk result (λ v. (cs : List RawComponent) × ((a : Around) → IsRead a OneValue cursor.old (made_value cs) cursor.new) × (value_said v ≡ value_parts cs)) }
     ensures err { IfErr result (λ stop. (a : Around) → IsBroken a OneValue cursor.old stop) }
 {
     let mut value = Value::new(alloc);
-    'components: loop {
-        labels(alloc, cursor)?;
-        item(alloc, cursor, &mut value)?;
-        labels(alloc, cursor)?;
-        if cursor.kind() != Some(TokenKind::Mark(Mark::Comma)) {
-            return Ok(value);
-        }
-        cursor.advance();
-    }
+    components(alloc, cursor, &mut value)?;
+    Ok(value)
 }

@@ -1,14 +1,12 @@
-use Rattle.std.proofs.Common.{sym, ◌∙◌, ap, ◌≡◌, ◌∷◌, [], true, map}
+use Rattle.std.proofs.Common.{sym, ◌∙◌, ap, ◌≡◌, ◌∷◌, [], true}
 use Rattle.std.proofs.lemmas.Result.{err_from_is_err_and}
 use Rattle.dt_parse.specs.declared.body.Front.TheVariants as front
-use Rattle.dt_parse.specs.declared.body.Behind.TheVariants as behind
-use Rattle.dt_grammar.specs.Unchecked.{raw_child, raw_label, raw_close}
-use Rattle.dt_grammar.specs.Wanted.{kind_at, bytes_at}
+use Rattle.dt_grammar.specs.Unchecked.{raw_close}
+use Rattle.dt_grammar.specs.Wanted.{kind_at}
 use Rattle.dt_grammar.specs.Descent.{first, after}
-use Rattle.dt_grammar.specs.Faults.{outside}
-use Rattle.dt_parse.specs.Nested.{front_of, behind_of, in_body}
-use Rattle.dt_parse.proofs.Members.{err_is, unfollowed_at, name_front, brace_behind, none_read, no_labels, some_labels, empty_is, full_is}
-use Rattle.dt_parse.proofs.NestedBodies.{labels_stop_at, members_stop_at, member_at, child_at, close_at, close_stops_at, shorter_by_labels}
+use Rattle.dt_parse.specs.Nested.{front_of}
+use Rattle.dt_parse.proofs.Members.{err_is, name_front, brace_behind, none_read}
+use Rattle.dt_parse.proofs.NestedBodies.{members_stop_at, member_at, close_at, close_stops_at, shorter_by_labels}
 use Rattle.dt_parse.proofs.body.member_behind.Goals as goal
 
 pub returns-in_err-named-in-Name-clause-err : goal.returns-in_err-named-in-Name-clause-err

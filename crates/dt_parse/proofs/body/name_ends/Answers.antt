@@ -1,6 +1,6 @@
 use Rattle.std.proofs.Common.{refl, sym, ◌∙◌, ap, inl, inr, length}
 use Rattle.std.proofs.lemmas.Bool.{not-true, not-false}
-use Rattle.dt_parse.proofs.SameKinds.{same_next, other_next}
+use Rattle.dt_grammar.proofs.SameKinds.{same_next, other_next}
 use Rattle.dt_parse.proofs.body.name_ends.Goals as goal
 
 pub returns-then-ne-clause-err : goal.returns-then-ne-clause-err

@@ -1,15 +1,10 @@
-use Rattle.std.proofs.Common.{refl, ◌⊎◌, inr, inl, sym, ◌∙◌, ap, ◌≡◌, ◌∷◌, [], true, map, ◌≢◌}
-use Rattle.std.proofs.lemmas.Result.{err_from_is_err_and}
-use Rattle.dt_parse.specs.declared.body.Front.TheVariants as front
+use Rattle.std.proofs.Common.{refl, ◌⊎◌, inr, inl, sym, ◌∙◌, ap, ◌≡◌, true, ◌≢◌}
 use Rattle.dt_parse.specs.declared.body.Behind.{Behind}
 use Rattle.dt_parse.specs.declared.body.Behind.TheVariants as behind
-use Rattle.dt_grammar.specs.Unchecked.{raw_child, raw_label, raw_close}
-use Rattle.dt_grammar.specs.Wanted.{kind_at, bytes_at}
+use Rattle.dt_grammar.specs.Wanted.{kind_at}
 use Rattle.dt_grammar.specs.Descent.{first, after}
-use Rattle.dt_grammar.specs.Faults.{outside}
-use Rattle.dt_parse.specs.Nested.{front_of, behind_of, in_body}
-use Rattle.dt_parse.proofs.Members.{err_is, unfollowed_at, name_front, brace_behind, none_read, no_labels, some_labels, empty_is, full_is}
-use Rattle.dt_parse.proofs.NestedBodies.{labels_stop_at, members_stop_at, member_at, child_at, close_at, close_stops_at, shorter_by_labels}
+use Rattle.dt_parse.specs.Nested.{behind_of, in_body}
+use Rattle.dt_parse.proofs.Members.{unfollowed_at}
 use Rattle.dt_parse.proofs.body.named.Goals as goal
 
 ended_or_assigned : (b : Behind) → b ≢ behind.Other → b ≢ behind.Body → (b ≡ behind.End) ⊎ (b ≡ behind.Value)

@@ -1,16 +1,8 @@
-use Rattle.std.proofs.Common.{sym, ◌∙◌, ap, ◌++◌, ◌∷◌, [], map}
+use Rattle.std.proofs.Common.{sym, ◌∙◌, ap}
 use Rattle.std.proofs.lemmas.Result.{IfErr-weaker, on_ok_weaker}
-use Rattle.dt_model.specs.Source.{one, text_of}
-use Rattle.dt_lex.specs.Texts.{text_bytes}
-use Rattle.dt_grammar.specs.Unchecked.{cell_item, text_item, byte_item, path_item}
-use Rattle.dt_grammar.specs.Wanted.{OneItem, bytes_at}
-use Rattle.dt_grammar.specs.Descent.{first}
-use Rattle.dt_grammar.specs.Faults.{Around}
-use Rattle.dt_parse.specs.Reading.{IsBroken}
+use Rattle.dt_grammar.specs.Unchecked.{cell_item}
 use Rattle.dt_parse.specs.Openings.{opening_of}
-use Rattle.dt_parse.specs.Said.{value_said}
-use Rattle.dt_parse.proofs.Leading.{handed_on}
-use Rattle.dt_parse.proofs.ReadItems.{at_cell_list, at_byte_list, at_sized_list, at_text, at_reference, item_stop, bytes_stop, plain_read, plain_stop, byte_list_read, bytes_end_stop, bits_read, bits_stop, text_read, reference_read, reference_stop}
+use Rattle.dt_parse.proofs.ReadItems.{at_cell_list, at_sized_list, item_stop, plain_read, plain_stop, bits_read, bits_stop}
 use Rattle.dt_parse.proofs.value.item.Goals as goal
 
 pub returns-in-Cells-clause-ok : goal.returns-in-Cells-clause-ok

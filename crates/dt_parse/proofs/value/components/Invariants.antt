@@ -3,7 +3,7 @@ use Rattle.dt_grammar.specs.Unchecked.{RawComponent, value_parts}
 use Rattle.dt_grammar.specs.Wanted.{made_value, OneValue}
 use Rattle.dt_parse.specs.Said.{value_said}
 use Rattle.dt_parse.proofs.Leading.{Goes}
-use Rattle.dt_parse.proofs.value.value.Given as goal
+use Rattle.dt_parse.proofs.value.components.Given as goal
 
 abbrev pub invariant-components : goal.invariant-components
 invariant-components l = (done : List RawComponent) × Goes made_value OneValue (λ a. a) l.fn.cursor l.cursor done × (value_said l.value ≡ value_parts done)

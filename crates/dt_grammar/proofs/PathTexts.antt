@@ -10,7 +10,7 @@ use Rattle.dt_grammar.specs.Words.{IsReferenceWord, to_label, to_path}
 use Rattle.dt_grammar.specs.Unchecked.{a_label, a_path, all_but_last, ended_names, path_of_names, reference_in}
 use Rattle.dt_grammar.specs.Relaxed.{a_reference}
 use Rattle.dt_grammar.specs.Strict.{IsLabelText, IsReferenceText}
-use Rattle.dt_parse.specs.Paths.{braced, IsPathText, slashed, AreNames, BeginsName}
+use Rattle.dt_grammar.specs.Paths.{braced, IsPathText, slashed, AreNames, BeginsName}
 use Rattle.dt_grammar.proofs.Names.{path_back, all_but_colon}
 
 abbrev AllNamed : Path → Type 0
