@@ -1,5 +1,5 @@
 -- Statements, one by one, and their faults.
-use Rattle.std.proofs.Common.{◌≡◌, ◌≢◌, Result, Ok, Err, OnOk, IfErr, ℕ, Bool, true, false, List, [], ◌∷◌, ◌++◌, length, map, Option, Some, None, refl, sym, ◌∙◌, ap, subst, arith}
+use Rattle.std.proofs.Common.{◌≡◌, ◌≢◌, Result, Ok, Err, OnOk, IfErr, ℕ, true, false, List, [], ◌∷◌, ◌++◌, length, map, Option, Some, refl, sym, ◌∙◌, ap, subst}
 use Rattle.std.specs.List.{AllByRecursion}
 use Rattle.dt_names.specs.declared.fault.FaultKind.TheVariants as fault
 use Rattle.dt_lex.specs.declared.token.TokenKind.{TokenKind}
@@ -7,19 +7,18 @@ use Rattle.dt_lex.specs.declared.token.TokenKind.TheVariants as kind
 use Rattle.dt_lex.specs.declared.token.Mark.TheVariants as mark
 use Rattle.dt_lex.specs.declared.token.Keyword.TheVariants as keyword
 use Rattle.dt_parse.specs.declared.stop.Stop.{Stop}
-use Rattle.dt_parse.specs.declared.statement.Start.{Start}
 use Rattle.dt_parse.specs.declared.statement.Start.TheVariants as start
-use Rattle.dt_parse.specs.Words.{Words}
-use Rattle.dt_parse.specs.Unchecked.{Target, a_label, a_path, RawPlace, raw_root, raw_block, raw_delete_node, raw_label}
-use Rattle.dt_parse.specs.Relaxed.{reference_kind}
-use Rattle.dt_parse.specs.Strict.{AreLabelTexts, IsReferenceText, IsSound, IsOrdered}
-use Rattle.dt_parse.specs.Wanted.{Made, Move, made_places, OneStatement, BlockOpen, DeletedNode, Ending, Done, kind_at, bytes_at, refuse, want}
-use Rattle.dt_parse.specs.Moves.{at_statement, at_deleted_node, at_ending, without_labels}
-use Rattle.dt_parse.specs.Descent.{found, Descends, first, after, move_at}
-use Rattle.dt_parse.specs.Faults.{Around, outside, Passes, unwanted, unnamed, reference_named, IsFine}
+use Rattle.dt_grammar.specs.Words.{Words}
+use Rattle.dt_grammar.specs.Unchecked.{Target, a_label, a_path, RawPlace, raw_root, raw_block, raw_delete_node, raw_label}
+use Rattle.dt_grammar.specs.Relaxed.{reference_kind}
+use Rattle.dt_grammar.specs.Strict.{AreLabelTexts, IsReferenceText, IsSound, IsOrdered}
+use Rattle.dt_grammar.specs.Wanted.{Move, made_places, OneStatement, BlockOpen, DeletedNode, Ending, Done, kind_at, bytes_at, refuse, want}
+use Rattle.dt_grammar.specs.Moves.{at_statement, at_deleted_node, at_ending, without_labels}
+use Rattle.dt_grammar.specs.Descent.{found, Descends, first, after, move_at}
+use Rattle.dt_grammar.specs.Faults.{outside, Passes, unwanted, unnamed, reference_named}
 use Rattle.dt_parse.specs.Reading.{IsRead, IsBroken}
 use Rattle.dt_parse.specs.Starts.{start_of}
-use Rattle.dt_parse.proofs.Stepping.{given, part_then}
+use Rattle.dt_grammar.proofs.Stepping.{given, part_then}
 use Rattle.dt_parse.proofs.NestedBodies.{all_together, labels_sound, labels_ordered}
 use Rattle.dt_parse.proofs.Members.{stopped_as, part_stops, no_ending}
 

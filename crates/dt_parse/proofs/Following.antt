@@ -1,21 +1,22 @@
 -- Statements, one behind the other.
-use Rattle.std.proofs.Common.{◌≡◌, ◌≢◌, ◌<◌, ℕ, Bool, true, false, List, [], ◌∷◌, ◌++◌, length, map, Option, Some, None, refl, sym, ◌∙◌, ap, subst, append_assoc, arith, length-append}
+use Rattle.std.proofs.Common.{◌≡◌, ◌≢◌, ◌<◌, ℕ, Bool, true, false, List, [], ◌∷◌, ◌++◌, length, map, refl, sym, ◌∙◌, ap, subst, append_assoc, arith, length-append}
 use Rattle.std.specs.List.{AllByRecursion}
 use Rattle.dt_names.specs.declared.fault.FaultKind.{FaultKind}
 use Rattle.dt_parse.specs.declared.stop.Stop.{Stop}
-use Rattle.dt_parse.specs.Words.{Words}
-use Rattle.dt_parse.specs.Unchecked.{RawPlace, raw_label, raw_close}
-use Rattle.dt_parse.specs.Relaxed.{Members, no_more_members, a_flag, a_property, a_deleted_property, a_child, a_deleted_child, Statement, a_root_block, a_node_block, a_deleted_node}
-use Rattle.dt_parse.specs.Strict.{AreLabelTexts, IsSound, IsOrdered}
-use Rattle.dt_parse.specs.Wanted.{Made, made_places, made_labels, places_in, labels_in, SomeLabels, OneStatement, SomeStatements, StatementThen, MoreStatements, Done}
-use Rattle.dt_parse.specs.Descent.{found, Descends, first, after}
-use Rattle.dt_parse.specs.Faults.{outside, Breaks, in_part, behind_part}
+use Rattle.dt_grammar.specs.Words.{Words}
+use Rattle.dt_grammar.specs.Unchecked.{RawPlace, raw_label, raw_close}
+use Rattle.dt_grammar.specs.Relaxed.{Members, no_more_members, a_flag, a_property, a_deleted_property, a_child, a_deleted_child, Statement, a_root_block, a_node_block, a_deleted_node}
+use Rattle.dt_grammar.specs.Strict.{IsSound, IsOrdered}
+use Rattle.dt_grammar.specs.Wanted.{made_places, made_labels, places_in, labels_in, SomeLabels, OneStatement, SomeStatements, StatementThen, MoreStatements, Done}
+use Rattle.dt_grammar.specs.Descent.{found, Descends}
+use Rattle.dt_grammar.specs.Faults.{outside, Breaks, in_part, behind_part}
 use Rattle.dt_parse.specs.Reading.{IsRead, IsBroken}
 use Rattle.dt_parse.specs.Starts.{Follows}
-use Rattle.dt_parse.proofs.Sound.{sound}
-use Rattle.dt_parse.proofs.StrictBodies.{child_regroup}
-use Rattle.dt_parse.proofs.CheckedBodies.{all_front, all_behind, behind_labels, members_back}
-use Rattle.dt_parse.proofs.Stepping.{given, part_then, stops_too}
+use Rattle.dt_grammar.proofs.Sound.{sound}
+use Rattle.dt_grammar.proofs.StrictBodies.{child_regroup}
+use Rattle.dt_grammar.proofs.CheckedBodies.{all_front, all_behind, behind_labels, members_back}
+use Rattle.dt_grammar.proofs.Stepping.{given, part_then}
+use Rattle.dt_parse.proofs.Stopping.{stops_too}
 use Rattle.dt_parse.proofs.NestedBodies.{all_together, labels_ordered}
 use Rattle.dt_parse.proofs.Members.{not_longer}
 

@@ -1,21 +1,21 @@
 -- Labels that are read one by one.
-use Rattle.std.proofs.Common.{◌≡◌, ◌≢◌, ℕ, suc, ◌<◌, true, false, List, [], ◌∷◌, ◌++◌, map, length, Option, Some, None, refl, sym, ap, ◌∙◌, subst, append_assoc, arith}
-use Rattle.std.specs.List.{AllByRecursion}
+use Rattle.std.proofs.Common.{◌≡◌, ◌≢◌, ℕ, ◌<◌, true, false, List, [], ◌∷◌, ◌++◌, map, length, Option, Some, None, refl, sym, ap, ◌∙◌, subst, append_assoc, arith}
 use Rattle.std.proofs.lemmas.List.{append-nil}
 use Rattle.dt_names.specs.declared.fault.FaultKind.{FaultKind}
 use Rattle.dt_names.specs.declared.fault.FaultKind.TheVariants as fault
 use Rattle.dt_lex.specs.declared.token.TokenKind.{TokenKind}
 use Rattle.dt_lex.specs.declared.token.TokenKind.TheVariants as kind
 use Rattle.dt_parse.specs.declared.stop.Stop.{Stop}
-use Rattle.dt_parse.specs.Words.{Words}
-use Rattle.dt_parse.specs.Unchecked.{all_but_last}
-use Rattle.dt_parse.specs.Strict.{IsLabelText, AreLabelTexts}
-use Rattle.dt_parse.specs.Wanted.{Made, made_labels, labels_in, Wanted, SomeLabels, Done, give, want, kind_at, bytes_at}
-use Rattle.dt_parse.specs.Moves.{at_labels}
-use Rattle.dt_parse.specs.Descent.{move_at, first, after, found, gives, Descends}
-use Rattle.dt_parse.specs.Faults.{Around, label_named, IsNamed, Passes, Shows, unnamed, Breaks, in_part}
-use Rattle.dt_parse.specs.Reading.{IsRead, IsBroken, no_memory}
-use Rattle.dt_parse.proofs.Stepping.{given, part_then, stopped, stops_too}
+use Rattle.dt_grammar.specs.Words.{Words}
+use Rattle.dt_grammar.specs.Unchecked.{all_but_last}
+use Rattle.dt_grammar.specs.Strict.{IsLabelText, AreLabelTexts}
+use Rattle.dt_grammar.specs.Wanted.{made_labels, labels_in, SomeLabels, Done, give, want, kind_at, bytes_at}
+use Rattle.dt_grammar.specs.Moves.{at_labels}
+use Rattle.dt_grammar.specs.Descent.{move_at, first, after, found, gives, Descends}
+use Rattle.dt_grammar.specs.Faults.{Around, label_named, Passes, Shows, unnamed, Breaks, in_part}
+use Rattle.dt_parse.specs.Reading.{IsRead, IsBroken}
+use Rattle.dt_grammar.proofs.Stepping.{given, part_then}
+use Rattle.dt_parse.proofs.Stopping.{stopped, stops_too}
 
 -- some labels are read, and what is read on from here is read from the start
 pub record LabelsRead (start now : Words) (names : List (List ℕ)) : Type 0 where

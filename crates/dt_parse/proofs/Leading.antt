@@ -1,5 +1,5 @@
 -- Reading goes on from one place at another: through a part, behind one, and over the elements of a list.
-use Rattle.std.proofs.Common.{◌≡◌, ◌≤◌, ◌<◌, ℕ, Some, ap, arith, Bool, true, false, List, [], ◌∷◌, ◌++◌, length, refl, sym, subst, append_assoc}
+use Rattle.std.proofs.Common.{◌≡◌, ◌≤◌, ◌<◌, Some, ap, arith, Bool, true, List, [], ◌∷◌, ◌++◌, length, sym, subst, append_assoc}
 use Rattle.std.specs.Prelude.{Result, IfErr}
 use Rattle.std.specs.Result.{IsErrAnd}
 use Rattle.std.proofs.lemmas.Result.{err_from_is_err_and}
@@ -8,14 +8,15 @@ use Rattle.dt_names.specs.declared.fault.FaultKind.{FaultKind}
 use Rattle.dt_names.specs.declared.fault.FaultKind.TheVariants as fault
 use Rattle.dt_parse.specs.declared.stop.Stop.{Stop}
 use Rattle.dt_lex.specs.declared.token.TokenKind.{TokenKind}
-use Rattle.dt_parse.specs.Words.{Words}
-use Rattle.dt_parse.specs.Wanted.{Made, Wanted, Done, kind_at, refuse, give, want}
-use Rattle.dt_parse.specs.Descent.{Outcome, found, stuck, gives, part_stuck, Descends, move_at, first, after}
-use Rattle.dt_parse.specs.Faults.{Around, within, Shows, unwanted, Passes, IsFine, IsNoNumber, Breaks, in_part, behind_part}
+use Rattle.dt_grammar.specs.Words.{Words}
+use Rattle.dt_grammar.specs.Wanted.{Made, Wanted, Done, kind_at, refuse, give, want}
+use Rattle.dt_grammar.specs.Descent.{Outcome, found, stuck, gives, part_stuck, Descends, move_at, first, after}
+use Rattle.dt_grammar.specs.Faults.{Around, within, Shows, unwanted, Passes, IsFine, IsNoNumber, Breaks, in_part, behind_part}
 use Rattle.dt_parse.specs.Reading.{IsRead, IsBroken}
 use Rattle.dt_parse.specs.Leading.{Leads}
-use Rattle.dt_parse.proofs.Descent.{by_move}
-use Rattle.dt_parse.proofs.Stepping.{given, part_then, stopped, stops_too}
+use Rattle.dt_grammar.proofs.Descent.{by_move}
+use Rattle.dt_grammar.proofs.Stepping.{given, part_then}
+use Rattle.dt_parse.proofs.Stopping.{stopped, stops_too}
 
 -- the next token can't stand there
 pub unexpected : (a : Around) (g : Wanted) (ws : Words) (stop : Stop) → move_at g (first ws) ≡ refuse → stop.kind ≡ fault.Syntax → stop.left ≡ length ws → IsBroken a g ws stop

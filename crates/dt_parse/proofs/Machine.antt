@@ -5,13 +5,13 @@ use Rattle.dt_lex.specs.declared.token.TokenKind.TheVariants as kind
 use Rattle.dt_lex.specs.declared.token.Mark.TheVariants as mark
 use Rattle.dt_expr.specs.declared.step.Unary.{Unary}
 use Rattle.dt_expr.specs.declared.step.Binary.{Binary}
-use Rattle.dt_parse.specs.Words.{Word, Words, unary_of, binary_of, level_of}
-use Rattle.dt_parse.specs.Wanted.{Made, Wanted, Any, AfterCondition, AfterThis, Level, AfterLeft, Prefix, Prim, Closing, Done, kind_at, binary_at, Move, give, want}
-use Rattle.dt_parse.specs.Moves.{with_one, with_two, with_three, at_prefix, at_prim, at_question, at_colon, at_closing}
-use Rattle.dt_parse.specs.Descent.{move_at, first, after, Outcome, found, stuck, Does, gives, part_stuck, part_found}
+use Rattle.dt_grammar.specs.Words.{Word, Words, unary_of, binary_of, level_of}
+use Rattle.dt_grammar.specs.Wanted.{Made, Wanted, Any, AfterCondition, AfterThis, Level, AfterLeft, Prefix, Prim, Closing, Done, kind_at, binary_at, Move, give, want}
+use Rattle.dt_grammar.specs.Moves.{with_one, with_two, with_three, at_prefix, at_prim, at_question, at_colon, at_closing}
+use Rattle.dt_grammar.specs.Descent.{move_at, first, after, Outcome, found, stuck, Does, gives, part_stuck, part_found}
 use Rattle.dt_parse.specs.Machine.{Frame, unary_frame, binary_frame, open_frame, question_frame, colon_frame, Cont, Through, goes, stops, Leads, climb, bound, conts_of, condition_then, grouped, IsLevelled, IsPlain}
-use Rattle.dt_parse.proofs.Descent.{deterministic}
-use Rattle.dt_parse.proofs.Expressions.{Stops, give_at, want_at}
+use Rattle.dt_grammar.proofs.Descent.{deterministic}
+use Rattle.dt_grammar.proofs.Expressions.{Stops, give_at, want_at}
 
 pub by_same : (K : Cont) (m n : Move) (s : Words) (o : Outcome) → m ≡ n → Through K n s o → Through K m s o
 by_same K m n s o e t = subst (λ (x : Move). Through K x s o) (sym e) t

@@ -1,5 +1,5 @@
 -- Members of bodies, one by one, and their faults.
-use Rattle.std.proofs.Common.{◌≡◌, ◌≢◌, ◌⊎◌, inl, inr, not, ◌==◌, ◌+◌, Result, Ok, Err, IfOk, IfErr, ℕ, ◌<◌, ◌≤◌, Bool, true, false, ◌||◌, true≢false, List, [], ◌∷◌, ◌++◌, length, map, Option, Some, None, refl, sym, ◌∙◌, ap, subst, arith, length-append, append_assoc}
+use Rattle.std.proofs.Common.{◌≡◌, ◌≢◌, ◌⊎◌, inl, inr, not, ◌==◌, ◌+◌, Result, Err, IfOk, IfErr, ℕ, ◌<◌, ◌≤◌, Bool, true, false, ◌||◌, true≢false, List, [], ◌∷◌, ◌++◌, length, map, Option, Some, refl, sym, ◌∙◌, ap, subst, arith, length-append, append_assoc}
 use Rattle.std.specs.List.{AllByRecursion}
 use Rattle.dt_names.specs.declared.fault.FaultKind.{FaultKind}
 use Rattle.dt_names.specs.declared.fault.FaultKind.TheVariants as fault
@@ -19,19 +19,20 @@ use Rattle.dt_parse.specs.declared.source.Item.TheVariants as item
 use Rattle.dt_parse.specs.declared.source.Item.{Item}
 use Rattle.dt_parse.specs.declared.body.Behind.{Behind}
 use Rattle.dt_parse.specs.Said.{place_said, places_said}
-use Rattle.dt_parse.specs.Words.{Word, Words}
-use Rattle.dt_parse.specs.Unchecked.{RawComponent, RawPlace, raw_child, raw_label, raw_property, raw_delete_property, raw_delete_child, place_of, all_but_last}
-use Rattle.dt_parse.specs.Relaxed.{word, a_mark, a_keyword}
-use Rattle.dt_parse.specs.Strict.{AreLabelTexts, IsComponent, IsSound, IsOrdered}
-use Rattle.dt_parse.specs.Wanted.{Made, Wanted, Move, made_places, made_value, value_in, places_in, SomeMembers, AfterMemberLabels, AfterName, DeletedProperty, DeletedChild, More, Ending, OneValue, BlockOpen, BlockClose, Done, kind_at, bytes_at, refuse, want}
-use Rattle.dt_parse.specs.Moves.{and_more, at_name, at_ending, at_member, at_block_close, at_block_open, no_member, at_deleted_property, at_deleted_child}
-use Rattle.dt_parse.specs.Descent.{found, Descends, first, after, move_at}
-use Rattle.dt_parse.specs.Faults.{Around, outside, within, is_child, Breaks, in_part, behind_part, Passes, Shows, unwanted, unnamed, unplaced, IsFine, IsNamed, IsPlaced, IsNoNumber, name_before, member_named, body_placed, shows, deleted_named, name_placed, member_placed, misplaced}
-use Rattle.dt_parse.specs.Reading.{IsRead, IsBroken, no_memory, broken}
-use Rattle.dt_parse.specs.Nested.{front_of, behind_of, in_body, Closes, IsMember, IsUnclosed, labelled, unclosed}
-use Rattle.dt_parse.proofs.Names.{label_places}
-use Rattle.dt_parse.proofs.Descent.{local}
-use Rattle.dt_parse.proofs.Stepping.{given, part_then, stopped, stops_too}
+use Rattle.dt_grammar.specs.Words.{Word, Words}
+use Rattle.dt_grammar.specs.Unchecked.{RawComponent, RawPlace, raw_child, raw_label, raw_property, raw_delete_property, raw_delete_child, place_of, all_but_last}
+use Rattle.dt_grammar.specs.Relaxed.{word, a_mark, a_keyword}
+use Rattle.dt_grammar.specs.Strict.{AreLabelTexts, IsComponent, IsSound, IsOrdered}
+use Rattle.dt_grammar.specs.Wanted.{Made, Wanted, made_places, made_value, value_in, places_in, SomeMembers, AfterMemberLabels, AfterName, DeletedProperty, DeletedChild, More, Ending, OneValue, BlockOpen, BlockClose, Done, kind_at, bytes_at, refuse, want}
+use Rattle.dt_grammar.specs.Moves.{and_more, at_name, at_ending, at_member, at_block_close, at_block_open, no_member, at_deleted_property, at_deleted_child}
+use Rattle.dt_grammar.specs.Descent.{found, Descends, first, after, move_at}
+use Rattle.dt_grammar.specs.Faults.{Around, outside, within, is_child, Breaks, in_part, behind_part, Passes, Shows, unwanted, unnamed, unplaced, IsNoNumber, name_before, member_named, body_placed, shows, deleted_named, name_placed, member_placed}
+use Rattle.dt_parse.specs.Reading.{IsBroken, broken}
+use Rattle.dt_parse.specs.Nested.{front_of, behind_of, in_body, Closes, IsMember, IsUnclosed, unclosed}
+use Rattle.dt_grammar.proofs.Names.{label_places}
+use Rattle.dt_grammar.proofs.Descent.{local}
+use Rattle.dt_grammar.proofs.Stepping.{given, part_then}
+use Rattle.dt_parse.proofs.Stopping.{stopped, stops_too}
 use Rattle.dt_parse.proofs.NestedBodies.{more_read, front_word}
 
 -- ---- stops

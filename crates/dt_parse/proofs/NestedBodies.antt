@@ -8,21 +8,21 @@ use Rattle.dt_lex.specs.declared.token.TokenKind.{TokenKind}
 use Rattle.dt_lex.specs.declared.token.TokenKind.TheVariants as kind
 use Rattle.dt_lex.specs.declared.token.Mark.TheVariants as mark
 use Rattle.dt_parse.specs.declared.stop.Stop.{Stop}
-use Rattle.dt_parse.specs.declared.body.Front.TheVariants as front
-use Rattle.dt_parse.specs.Words.{Word, Words}
-use Rattle.dt_parse.specs.Unchecked.{RawPlace, raw_child, raw_label, raw_close}
-use Rattle.dt_parse.specs.Relaxed.{word, a_mark}
-use Rattle.dt_parse.specs.Strict.{AreLabelTexts, IsSound, IsOrdered}
-use Rattle.dt_parse.specs.Wanted.{Made, made_places, made_labels, labels_in, places_in, SomeLabels, SomeMembers, AfterMemberLabels, AfterName, More, BlockOpen, BlockClose, Done, kind_at, bytes_at, give, want}
-use Rattle.dt_parse.specs.Moves.{and_more, at_block_open}
-use Rattle.dt_parse.specs.Descent.{found, Outcome, Descends, first, after, move_at}
-use Rattle.dt_parse.specs.Faults.{Around, outside, within, in_bodies, Breaks, in_part, behind_part, Passes, IsFine, body_placed}
+use Rattle.dt_grammar.specs.Words.{Word, Words}
+use Rattle.dt_grammar.specs.Unchecked.{RawPlace, raw_child, raw_label, raw_close}
+use Rattle.dt_grammar.specs.Relaxed.{word, a_mark}
+use Rattle.dt_grammar.specs.Strict.{AreLabelTexts, IsSound, IsOrdered}
+use Rattle.dt_grammar.specs.Wanted.{made_places, made_labels, labels_in, places_in, SomeLabels, SomeMembers, AfterMemberLabels, AfterName, More, BlockOpen, BlockClose, Done, kind_at, bytes_at}
+use Rattle.dt_grammar.specs.Moves.{and_more, at_block_open}
+use Rattle.dt_grammar.specs.Descent.{found, Outcome, Descends, first, after}
+use Rattle.dt_grammar.specs.Faults.{Around, outside, Breaks, in_part, behind_part, Passes, IsFine, body_placed}
 use Rattle.dt_parse.specs.Reading.{IsBroken}
 use Rattle.dt_parse.specs.Nested.{in_body, Closes, IsMember, Finishes, finished, closing, AreFine, BreaksIn, in_members, at_close, behind_close, flags, Goes, IsUnclosed, labelled, unclosed}
-use Rattle.dt_parse.proofs.Names.{word_is}
-use Rattle.dt_parse.proofs.Bodies.{child_then}
-use Rattle.dt_parse.proofs.Descent.{local}
-use Rattle.dt_parse.proofs.Stepping.{given, part_then, stops_too}
+use Rattle.dt_grammar.proofs.Names.{word_is}
+use Rattle.dt_grammar.proofs.Bodies.{child_then}
+use Rattle.dt_grammar.proofs.Descent.{local}
+use Rattle.dt_grammar.proofs.Stepping.{given, part_then}
+use Rattle.dt_parse.proofs.Stopping.{stops_too}
 
 -- a token of this kind is the first
 pub front_word : (ws : Words) (k : TokenKind) → kind_at (first ws) ≡ Some k → ws ≡ word k (bytes_at (first ws)) ∷ after true ws

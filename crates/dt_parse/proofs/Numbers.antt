@@ -1,5 +1,5 @@
 -- Numbers of tokens: how many steps they have, and where they break.
-use Rattle.std.proofs.Common.{◌≡◌, ℕ, suc, ◌+◌, ◌-◌, ◌<◌, ◌≤◌, true, List, [], ◌∷◌, ◌++◌, length, drop, map, Option, Some, None, refl, sym, ap, ◌∙◌, subst, arith, length-append, length-drop}
+use Rattle.std.proofs.Common.{◌≡◌, ℕ, ◌+◌, ◌-◌, ◌<◌, ◌≤◌, true, List, [], ◌∷◌, ◌++◌, length, drop, Option, Some, None, refl, sym, ap, ◌∙◌, subst, arith, length-append, length-drop}
 use Rattle.std.specs.Option.{option_map_or}
 use Rattle.std.proofs.lemmas.List.{length-map}
 use Rattle.dt_names.specs.declared.fault.FaultKind.{FaultKind}
@@ -8,25 +8,25 @@ use Rattle.dt_lex.specs.declared.token.Token.{Token}
 use Rattle.dt_lex.specs.declared.token.TokenKind.{TokenKind}
 use Rattle.dt_expr.specs.declared.step.Step.{Step}
 use Rattle.dt_expr.specs.declared.step.Step.TheVariants as step
-use Rattle.dt_expr.specs.Expression.{Expression, number, steps, value, AreSteps, height}
+use Rattle.dt_expr.specs.Expression.{Expression, number, steps, value}
 use Rattle.dt_expr.specs.Fits.{Fits}
 use Rattle.dt_parse.specs.declared.stop.Stop.{Stop}
 use Rattle.dt_parse.specs.declared.expression.Refusal.TheVariants as refusal
-use Rattle.dt_parse.specs.Words.{Words, word_of, words_of}
-use Rattle.dt_parse.specs.Grammar.{Class, primary, SpellsExpression, integer, character, group, no_prefix, with_prefix, tightest, tighter, joins, no_condition, with_condition}
-use Rattle.dt_parse.specs.Unchecked.{number_in}
-use Rattle.dt_parse.specs.Strict.{IsNumber}
-use Rattle.dt_parse.specs.Wanted.{Made, made_expression, size_in, expression_in, Prim, give, kind_at}
-use Rattle.dt_parse.specs.Moves.{at_prim}
-use Rattle.dt_parse.specs.Descent.{move_at, first, after, Outcome, found, stuck, Descends}
-use Rattle.dt_parse.specs.Faults.{Around, in_elements, NumberBreaks, cut_off, unended, too_long, valueless, too_large, Breaks, in_number}
-use Rattle.dt_parse.specs.Reading.{IsRead, IsBroken, no_memory, broken}
+use Rattle.dt_grammar.specs.Words.{Words, word_of, words_of}
+use Rattle.dt_grammar.specs.Grammar.{Class, SpellsExpression, integer, character, group, no_prefix, with_prefix, tightest, tighter, joins, no_condition, with_condition}
+use Rattle.dt_grammar.specs.Unchecked.{number_in}
+use Rattle.dt_grammar.specs.Strict.{IsNumber}
+use Rattle.dt_grammar.specs.Wanted.{Made, made_expression, size_in, expression_in, Prim, give, kind_at}
+use Rattle.dt_grammar.specs.Moves.{at_prim}
+use Rattle.dt_grammar.specs.Descent.{first, Outcome, found, stuck, Descends}
+use Rattle.dt_grammar.specs.Faults.{Around, in_elements, NumberBreaks, cut_off, unended, too_long, valueless, too_large, in_number}
+use Rattle.dt_parse.specs.Reading.{IsBroken, broken}
 use Rattle.dt_parse.specs.Standing.{IsDone, Refused}
 use Rattle.dt_parse.specs.Numbers.{IsLiteral, IsMeasured, IsValued}
-use Rattle.dt_parse.proofs.Descent.{deterministic, left_of, local, on}
-use Rattle.dt_parse.proofs.Expressions.{complete}
-use Rattle.dt_parse.proofs.Sound.{sound}
-use Rattle.dt_parse.proofs.Stepping.{given}
+use Rattle.dt_grammar.proofs.Descent.{deterministic, left_of, local, on}
+use Rattle.dt_grammar.proofs.Expressions.{complete}
+use Rattle.dt_grammar.proofs.Sound.{sound}
+use Rattle.dt_grammar.proofs.Stepping.{given}
 
 -- ---- how many steps there are
 

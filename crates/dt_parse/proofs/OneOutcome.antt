@@ -8,14 +8,14 @@ use Rattle.dt_lex.specs.declared.token.Token.{Token}
 use Rattle.dt_lex.specs.declared.token.Flaw.TheVariants.{BadToken, BadInteger}
 use Rattle.dt_lex.specs.Spans.{fault_of}
 use Rattle.dt_lex.specs.Lexing.{FirstFlaw, Lexed, IsLexed, WhyNotLexed, text_limit, no_memory, too_long, bad_token, bad_integer}
-use Rattle.dt_parse.specs.Words.{Words, word_of, words_of}
-use Rattle.dt_parse.specs.Wanted.{Whole}
-use Rattle.dt_parse.specs.Faults.{outside, Breaks}
-use Rattle.dt_parse.specs.Grammar.{Says, SpellsSource, SpellsHeaders, base_header, plugin_header, more_headers}
+use Rattle.dt_grammar.specs.Words.{Words, word_of, words_of}
+use Rattle.dt_grammar.specs.Wanted.{Whole}
+use Rattle.dt_grammar.specs.Faults.{outside, Breaks}
+use Rattle.dt_grammar.specs.Grammar.{Says, SpellsSource, SpellsHeaders, base_header, plugin_header, more_headers}
 use Rattle.dt_parse.specs.Reading.{IsTagged, place_of, told_at, IsParsed, WhyNotParsed, unlexed, untagged, broken}
-use Rattle.dt_parse.proofs.OneSource.{one_source}
-use Rattle.dt_parse.proofs.UnbrokenSources.{no_fault}
-use Rattle.dt_parse.proofs.OneFault.{one as one_break}
+use Rattle.dt_grammar.proofs.OneSource.{one_source}
+use Rattle.dt_grammar.proofs.UnbrokenSources.{no_fault}
+use Rattle.dt_grammar.proofs.OneFault.{one as one_break}
 
 -- a text has one token list or one first flaw
 abbrev pub OneAnswer : Type 0

@@ -10,22 +10,22 @@ use Rattle.dt_lex.specs.declared.token.Token.{Token}
 use Rattle.dt_lex.specs.Lexing.{text_limit, IsLexed, WhyNotLexed, no_memory, too_long as text_too_long, bad_token, bad_integer}
 use Rattle.dt_lex.specs.Spans.{AreSpans}
 use Rattle.dt_parse.specs.declared.stop.Stop.{Stop}
-use Rattle.dt_parse.specs.Words.{Words, word_of, words_of}
-use Rattle.dt_parse.specs.Grammar.{SpellsSource}
-use Rattle.dt_parse.specs.Unchecked.{RawPlace, RawReserve, RawSource, place_of as said_at, reserve_of, says_of}
+use Rattle.dt_grammar.specs.Words.{Words, word_of, words_of}
+use Rattle.dt_grammar.specs.Grammar.{SpellsSource}
+use Rattle.dt_grammar.specs.Unchecked.{RawPlace, RawReserve, RawSource, place_of as said_at, reserve_of, says_of}
 use Rattle.dt_parse.specs.declared.source.Item.{Item}
 use Rattle.dt_parse.specs.declared.source.Reservation.{Reservation}
 use Rattle.dt_parse.specs.Said.{reservation_said, places_said, said}
-use Rattle.dt_parse.specs.Moves.{source_with}
-use Rattle.dt_parse.specs.Strict.{IsReserve, IsStrict}
-use Rattle.dt_parse.specs.Wanted.{Made, made_places, made_behind, made_source, Wanted, SomeCells, AfterMemberLabels, AfterName, Prim, StatementThen, Top, AfterAddress, Whole}
-use Rattle.dt_parse.specs.Descent.{after, found, stuck, Descends}
-use Rattle.dt_parse.specs.Faults.{Around, outside, Shows, unwanted, unnamed, unplaced, misplaced, NumberBreaks, cut_off, unended, too_long, valueless, too_large, Breaks, shows, in_number, in_part, behind_part}
+use Rattle.dt_grammar.specs.Moves.{source_with}
+use Rattle.dt_grammar.specs.Strict.{IsReserve, IsStrict}
+use Rattle.dt_grammar.specs.Wanted.{Made, made_places, made_behind, made_source, Wanted, SomeCells, AfterMemberLabels, AfterName, Prim, StatementThen, Top, AfterAddress, Whole}
+use Rattle.dt_grammar.specs.Descent.{after, found, stuck, Descends}
+use Rattle.dt_grammar.specs.Faults.{Around, outside, Shows, unwanted, unnamed, unplaced, misplaced, NumberBreaks, cut_off, unended, too_long, valueless, too_large, Breaks, shows, in_number, in_part, behind_part}
 use Rattle.dt_parse.specs.Reading.{IsRead, IsBroken, IsTagged, IsInside, place_of, told_at, WhyNotParsed, IsGrammarFault, IsSourceFault}
 use Rattle.dt_parse.specs.Reading as reading
-use Rattle.dt_parse.proofs.Descent.{local}
-use Rattle.dt_parse.proofs.Sound.{source_read}
-use Rattle.dt_parse.proofs.CheckedSources.{source_back}
+use Rattle.dt_grammar.proofs.Descent.{local}
+use Rattle.dt_grammar.proofs.Sound.{source_read}
+use Rattle.dt_grammar.proofs.CheckedSources.{source_back}
 
 -- ---- what is read
 

@@ -1,9 +1,7 @@
 -- Elements that are read one by one, between `<` and `>` and between `[` and `]`.
-use Rattle.std.proofs.Common.{◌≡◌, ◌≢◌, ℕ, ◌<◌, ◌≤◌, ◌+◌, ◌%◌, ◌^◌, Bool, true, false, List, [], ◌∷◌, ◌++◌, length, map, Option, Some, None, refl, sym, ◌∙◌, ap, subst, arith, mod-lt, append_assoc, length-append}
-use Rattle.std.specs.List.{AllByRecursion}
+use Rattle.std.proofs.Common.{◌≡◌, ◌≢◌, ℕ, ◌<◌, ◌≤◌, ◌^◌, true, false, List, [], ◌∷◌, ◌++◌, length, Option, Some, refl, sym, ◌∙◌, ap, subst, arith, mod-lt, append_assoc, length-append}
 use Rattle.std.proofs.lemmas.List.{append-nil}
 use Rattle.std.proofs.lemmas.Nat.{pow_pos}
-use Rattle.dt_names.specs.declared.fault.FaultKind.{FaultKind}
 use Rattle.dt_names.specs.declared.fault.FaultKind.TheVariants as fault
 use Rattle.dt_lex.specs.declared.token.TokenKind.{TokenKind}
 use Rattle.dt_lex.specs.declared.token.TokenKind.TheVariants as kind
@@ -14,19 +12,20 @@ use Rattle.dt_parse.specs.declared.stop.Stop.{Stop}
 use Rattle.dt_parse.specs.declared.value.CellOpening.TheVariants as cell
 use Rattle.dt_parse.specs.declared.value.ByteOpening.TheVariants as byte
 use Rattle.dt_parse.specs.Openings.{cell_opening, byte_opening}
-use Rattle.dt_parse.specs.Words.{Words}
-use Rattle.dt_parse.specs.Unchecked.{Target, a_label, a_path, RawCell, label_cell, number_cell, reference_cell, byte_cell, number_in, cell_parts, cells_parts, width_of, reference_in}
-use Rattle.dt_parse.specs.Relaxed.{reference_kind}
-use Rattle.dt_parse.specs.Strict.{IsLabelText, IsReferenceText, IsNumber, IsCell}
-use Rattle.dt_parse.specs.Wanted.{Made, made_expression, made_cells, cells_in, size_in, expression_in, Wanted, Done, Any, Closing, Prim, AfterCell, SomeCells, SomeBytes, Move, refuse, give, want, kind_at, bytes_at}
-use Rattle.dt_parse.specs.Moves.{at_prim, at_closing, at_cells, at_bytes, cell_first}
-use Rattle.dt_parse.specs.Descent.{Outcome, found, stuck, Does, gives, refuses, part_found, Descends, move_at, first, after}
-use Rattle.dt_parse.specs.Faults.{Around, in_elements, within, label_named, cell_named, cell_placed, IsNamed, IsPlaced, misplaced, Passes, Shows, unnamed, unplaced, IsFine, IsNoNumber, Breaks, in_part, behind_part}
+use Rattle.dt_grammar.specs.Words.{Words}
+use Rattle.dt_grammar.specs.Unchecked.{Target, a_label, a_path, RawCell, label_cell, number_cell, reference_cell, byte_cell, cell_parts, cells_parts}
+use Rattle.dt_grammar.specs.Relaxed.{reference_kind}
+use Rattle.dt_grammar.specs.Strict.{IsLabelText, IsReferenceText, IsNumber, IsCell}
+use Rattle.dt_grammar.specs.Wanted.{Made, made_expression, made_cells, size_in, expression_in, Wanted, Prim, AfterCell, SomeCells, SomeBytes, Move, refuse, give, want, kind_at, bytes_at}
+use Rattle.dt_grammar.specs.Moves.{at_prim, at_cells, at_bytes, cell_first}
+use Rattle.dt_grammar.specs.Descent.{Outcome, found, Does, gives, refuses, part_found, Descends, move_at, first, after}
+use Rattle.dt_grammar.specs.Faults.{Around, in_elements, within, label_named, cell_named, cell_placed, Passes, Shows, unnamed, unplaced, IsFine, IsNoNumber, Breaks, in_part, behind_part}
 use Rattle.dt_parse.specs.Reading.{IsRead, IsBroken}
-use Rattle.dt_parse.proofs.Descent.{deterministic, left_of, local}
+use Rattle.dt_grammar.proofs.Descent.{deterministic, left_of, local}
 use Rattle.dt_parse.proofs.Numbers.{number_of}
-use Rattle.dt_parse.proofs.Stepping.{given, part_then, stopped, stops_too}
-use Rattle.dt_parse.proofs.Leading.{Goes, goes_on, goes_to_end, goes_stop, part_stop, shorter, no_longer}
+use Rattle.dt_grammar.proofs.Stepping.{given, part_then}
+use Rattle.dt_parse.proofs.Stopping.{stopped}
+use Rattle.dt_parse.proofs.Leading.{Goes, part_stop, shorter}
 
 -- ---- numbers
 

@@ -1,5 +1,5 @@
 -- What the first tokens of a source lead to: headers.
-use Rattle.std.proofs.Common.{◌≡◌, ◌≢◌, ℕ, Bool, true, false, List, [], ◌∷◌, ◌++◌, length, Option, Some, None, refl, sym, ap, subst}
+use Rattle.std.proofs.Common.{◌≡◌, ◌≢◌, Bool, true, false, length, Option, Some, refl, ap}
 use Rattle.dt_names.specs.declared.fault.FaultKind.{FaultKind}
 use Rattle.dt_names.specs.declared.fault.FaultKind.TheVariants as fault
 use Rattle.dt_lex.specs.declared.token.TokenKind.{TokenKind}
@@ -7,14 +7,14 @@ use Rattle.dt_lex.specs.declared.token.TokenKind.TheVariants as kind
 use Rattle.dt_lex.specs.declared.token.Mark.TheVariants as mark
 use Rattle.dt_lex.specs.declared.token.Keyword.TheVariants as keyword
 use Rattle.dt_parse.specs.declared.stop.Stop.{Stop}
-use Rattle.dt_parse.specs.Words.{Words}
-use Rattle.dt_parse.specs.Wanted.{Made, Wanted, Done, Whole, AfterVersion, AfterHeader, PluginEnd, MoreHeaders, NextVersion, NextHeader, Top, refuse, want, kind_at}
-use Rattle.dt_parse.specs.Moves.{at_version, at_semicolon, at_first_plugin, at_next_plugin, at_header, source_with}
-use Rattle.dt_parse.specs.Descent.{found, gives, Descends, move_at, first, after}
-use Rattle.dt_parse.specs.Faults.{Around, outside, Passes, Breaks, in_part}
-use Rattle.dt_parse.specs.Reading.{IsRead, IsBroken}
+use Rattle.dt_grammar.specs.Words.{Words}
+use Rattle.dt_grammar.specs.Wanted.{Made, Wanted, Done, Whole, AfterVersion, AfterHeader, PluginEnd, MoreHeaders, NextVersion, NextHeader, Top, refuse, want, kind_at}
+use Rattle.dt_grammar.specs.Moves.{at_version, at_semicolon, at_first_plugin, at_next_plugin, at_header, source_with}
+use Rattle.dt_grammar.specs.Descent.{found, gives, Descends, first, after}
+use Rattle.dt_grammar.specs.Faults.{outside, Breaks, in_part}
+use Rattle.dt_parse.specs.Reading.{IsBroken}
 use Rattle.dt_parse.specs.Leading.{Leads}
-use Rattle.dt_parse.proofs.Stepping.{part_then}
+use Rattle.dt_grammar.proofs.Stepping.{part_then}
 use Rattle.dt_parse.proofs.Leading.{unexpected, leads_on, leads_then, leads_stop}
 
 -- ---- tokens that can't stand there

@@ -1,6 +1,5 @@
 -- What the tokens of a component lead to: cell lists, texts, lists of bytes and references.
-use Rattle.std.proofs.Common.{◌≡◌, ◌≢◌, ℕ, Bool, true, false, List, [], ◌∷◌, ◌++◌, length, Option, Some, None, refl, sym, ◌∙◌, ap, subst}
-use Rattle.std.specs.List.{AllByRecursion}
+use Rattle.std.proofs.Common.{◌≡◌, ◌≢◌, ℕ, true, List, length, Option, Some, refl, sym, ◌∙◌, ap, subst}
 use Rattle.dt_names.specs.declared.fault.FaultKind.{FaultKind}
 use Rattle.dt_names.specs.declared.fault.FaultKind.TheVariants as fault
 use Rattle.dt_lex.specs.declared.token.TokenKind.{TokenKind}
@@ -8,20 +7,21 @@ use Rattle.dt_lex.specs.declared.token.TokenKind.TheVariants as kind
 use Rattle.dt_lex.specs.declared.token.Mark.TheVariants as mark
 use Rattle.dt_lex.specs.declared.token.Keyword.TheVariants as keyword
 use Rattle.dt_parse.specs.declared.stop.Stop.{Stop}
-use Rattle.dt_parse.specs.Words.{Words}
-use Rattle.dt_parse.specs.Unchecked.{Target, a_label, a_path, RawCell, RawItem, cell_item, text_item, byte_item, path_item}
-use Rattle.dt_parse.specs.Relaxed.{reference_kind}
-use Rattle.dt_parse.specs.Strict.{IsReferenceText, IsItem}
-use Rattle.dt_parse.specs.Wanted.{Made, made_cells, made_item, cells_in, Wanted, Done, OneItem, BitsNumber, BitsOpen, CellsEnd, BytesEnd, SomeCells, SomeBytes, refuse, give, want, kind_at, bytes_at}
-use Rattle.dt_parse.specs.Moves.{at_item, at_bits_open, at_cells_end, at_bytes_end}
-use Rattle.dt_parse.specs.Descent.{found, Descends, move_at, first, after}
-use Rattle.dt_parse.specs.Faults.{Around, in_elements, within, reference_named, Passes, Shows, unwanted, unnamed, unplaced, Breaks, shows, in_part, behind_part}
+use Rattle.dt_grammar.specs.Words.{Words}
+use Rattle.dt_grammar.specs.Unchecked.{Target, a_label, a_path, RawCell, RawItem, cell_item, text_item, byte_item, path_item}
+use Rattle.dt_grammar.specs.Relaxed.{reference_kind}
+use Rattle.dt_grammar.specs.Strict.{IsReferenceText}
+use Rattle.dt_grammar.specs.Wanted.{made_cells, made_item, cells_in, Done, OneItem, BitsNumber, BitsOpen, CellsEnd, BytesEnd, SomeCells, SomeBytes, refuse, want, kind_at, bytes_at}
+use Rattle.dt_grammar.specs.Moves.{at_item, at_bits_open, at_cells_end, at_bytes_end}
+use Rattle.dt_grammar.specs.Descent.{found, Descends, move_at, first, after}
+use Rattle.dt_grammar.specs.Faults.{Around, in_elements, reference_named, Passes, Shows, unwanted, unnamed, unplaced, Breaks, shows, in_part, behind_part}
 use Rattle.dt_parse.specs.Reading.{IsRead, IsBroken}
 use Rattle.dt_parse.specs.Leading.{Leads}
 use Rattle.dt_parse.specs.declared.value.Opening.TheVariants as opening
 use Rattle.dt_parse.specs.Openings.{opening_of}
-use Rattle.dt_parse.proofs.Descent.{by_move}
-use Rattle.dt_parse.proofs.Stepping.{given, stopped, stops_too}
+use Rattle.dt_grammar.proofs.Descent.{by_move}
+use Rattle.dt_grammar.proofs.Stepping.{given}
+use Rattle.dt_parse.proofs.Stopping.{stopped, stops_too}
 use Rattle.dt_parse.proofs.Leading.{unexpected, leads_on, leads_behind, leads_stop, leads_to_end, part_stop}
 
 -- ---- what a token begins

@@ -1,5 +1,5 @@
 -- Reservations that are read one by one.
-use Rattle.std.proofs.Common.{◌≡◌, ◌≢◌, ℕ, ◌<◌, ◌≤◌, ◌%◌, ◌^◌, ◌⊎◌, inl, inr, Bool, true, false, List, [], ◌∷◌, ◌++◌, length, map, Option, Some, None, refl, sym, ◌∙◌, ap, subst, arith, append_assoc, mod-eq_of_lt}
+use Rattle.std.proofs.Common.{◌≡◌, ◌≢◌, ℕ, ◌<◌, ◌^◌, inl, inr, true, false, List, [], ◌∷◌, ◌++◌, length, map, Option, Some, refl, sym, ◌∙◌, ap, subst, arith, append_assoc, mod-eq_of_lt}
 use Rattle.std.specs.List.{AllByRecursion}
 use Rattle.std.proofs.lemmas.List.{append-nil}
 use Rattle.dt_names.specs.declared.fault.FaultKind.{FaultKind}
@@ -12,21 +12,22 @@ use Rattle.dt_model.specs.Valid.{IsReservation}
 use Rattle.dt_expr.specs.Expression.{value}
 use Rattle.dt_expr.specs.Fits.{Fits, element}
 use Rattle.dt_parse.specs.declared.stop.Stop.{Stop}
-use Rattle.dt_parse.specs.Words.{Words}
-use Rattle.dt_parse.specs.Unchecked.{RawPlace, RawReserve, reserve_of, number_in}
-use Rattle.dt_parse.specs.Strict.{AreLabelTexts, IsNumber, IsReserve}
-use Rattle.dt_parse.specs.Wanted.{Made, made_expression, made_labels, made_places, made_behind, labels_in, places_in, reserves_in, size_in, expression_in, Wanted, Done, Prim, SomeLabels, Top, AfterTopLabels, AfterAddress, ReserveEnd, StatementThen, refuse, want, kind_at}
-use Rattle.dt_parse.specs.Moves.{at_top, at_reserve_end, reserve_with}
-use Rattle.dt_parse.specs.Descent.{found, stuck, refuses, gives, Descends, move_at, first, after}
-use Rattle.dt_parse.specs.Faults.{Around, outside, Passes, Shows, unwanted, unnamed, unplaced, IsReservedWith, NumberBreaks, cut_off, unended, too_long, valueless, too_large, IsFine, Breaks, shows, in_number, in_part, behind_part}
+use Rattle.dt_grammar.specs.Words.{Words}
+use Rattle.dt_grammar.specs.Unchecked.{RawPlace, RawReserve, reserve_of, number_in}
+use Rattle.dt_grammar.specs.Strict.{AreLabelTexts, IsNumber, IsReserve}
+use Rattle.dt_grammar.specs.Wanted.{Made, made_labels, made_places, made_behind, labels_in, places_in, reserves_in, size_in, expression_in, Done, Prim, SomeLabels, Top, AfterTopLabels, AfterAddress, ReserveEnd, StatementThen, refuse, want, kind_at}
+use Rattle.dt_grammar.specs.Moves.{at_top, at_reserve_end, reserve_with}
+use Rattle.dt_grammar.specs.Descent.{found, stuck, refuses, gives, Descends, first, after}
+use Rattle.dt_grammar.specs.Faults.{Around, outside, Passes, Shows, unwanted, unnamed, unplaced, IsReservedWith, NumberBreaks, cut_off, unended, too_long, valueless, too_large, IsFine, Breaks, shows, in_number, in_part, behind_part}
 use Rattle.dt_parse.specs.Reading.{IsRead, IsBroken}
 use Rattle.dt_parse.specs.Leading.{Leads, Reserves}
 use Rattle.dt_parse.specs.declared.source.Reservation.{Reservation}
 use Rattle.dt_parse.specs.Said.{reservation_said}
-use Rattle.dt_parse.proofs.Descent.{deterministic, by_move}
+use Rattle.dt_grammar.proofs.Descent.{deterministic, by_move}
 use Rattle.dt_parse.proofs.Numbers.{number_of}
-use Rattle.dt_parse.proofs.Stepping.{part_then, stopped, stops_too}
-use Rattle.dt_parse.proofs.Leading.{unexpected, leads_behind, leads_then, leads_stop, part_stop, shorter, no_longer}
+use Rattle.dt_grammar.proofs.Stepping.{part_then}
+use Rattle.dt_parse.proofs.Stopping.{stopped, stops_too}
+use Rattle.dt_parse.proofs.Leading.{unexpected, leads_behind, leads_then, leads_stop, part_stop, no_longer}
 use Rattle.dt_parse.proofs.ReadCells.{number_shorter}
 
 -- ---- numbers

@@ -1,21 +1,21 @@
 -- Components that are read one by one.
-use Rattle.std.proofs.Common.{◌≡◌, ◌≢◌, ◌<◌, ◌≤◌, Bool, true, false, List, [], ◌∷◌, ◌++◌, length, Option, Some, refl, sym, ◌∙◌, ap, subst, arith, append_assoc, ℕ}
+use Rattle.std.proofs.Common.{◌≡◌, ◌≢◌, ◌<◌, ◌≤◌, true, false, List, [], ◌∷◌, ◌++◌, length, Option, Some, refl, sym, ◌∙◌, ap, subst, arith, append_assoc, ℕ}
 use Rattle.std.proofs.lemmas.List.{append-nil}
 use Rattle.dt_lex.specs.declared.token.TokenKind.{TokenKind}
 use Rattle.dt_lex.specs.declared.token.TokenKind.TheVariants as kind
 use Rattle.dt_lex.specs.declared.token.Mark.TheVariants as mark
 use Rattle.dt_model.specs.Source.{Part}
 use Rattle.dt_parse.specs.declared.stop.Stop.{Stop}
-use Rattle.dt_parse.specs.Words.{Words}
-use Rattle.dt_parse.specs.Unchecked.{RawItem, RawComponent, item_parts, value_parts}
-use Rattle.dt_parse.specs.Strict.{IsComponent}
-use Rattle.dt_parse.specs.Wanted.{Made, made_labels, made_item, made_value, labels_in, item_in, value_in, Wanted, Done, SomeLabels, OneItem, OneValue, AfterComponentLabels, BehindItem, AfterComponent, give, kind_at}
-use Rattle.dt_parse.specs.Moves.{at_comma, component_of}
-use Rattle.dt_parse.specs.Descent.{found, gives, Descends, first, after}
-use Rattle.dt_parse.specs.Faults.{Around, outside, in_elements, Passes, Breaks, in_part}
+use Rattle.dt_grammar.specs.Words.{Words}
+use Rattle.dt_grammar.specs.Unchecked.{RawItem, RawComponent, item_parts, value_parts}
+use Rattle.dt_grammar.specs.Strict.{IsComponent}
+use Rattle.dt_grammar.specs.Wanted.{made_labels, made_item, made_value, labels_in, item_in, value_in, Done, SomeLabels, OneItem, OneValue, AfterComponentLabels, BehindItem, AfterComponent, give, kind_at}
+use Rattle.dt_grammar.specs.Moves.{at_comma, component_of}
+use Rattle.dt_grammar.specs.Descent.{found, gives, Descends, first, after}
+use Rattle.dt_grammar.specs.Faults.{Around, outside, Breaks, in_part}
 use Rattle.dt_parse.specs.Reading.{IsRead, IsBroken}
 use Rattle.dt_parse.specs.Leading.{Leads}
-use Rattle.dt_parse.proofs.Stepping.{part_then}
+use Rattle.dt_grammar.proofs.Stepping.{part_then}
 use Rattle.dt_parse.proofs.Leading.{Goes, leads_behind, leads_then, leads_stop, leads_to_end, part_stop, shorter}
 use Rattle.dt_parse.proofs.ReadCells.{no_more}
 

@@ -17,15 +17,15 @@ use Rattle.dt_parse.specs.declared.expression.Pending.TheVariants as pending
 use Rattle.dt_parse.specs.declared.expression.Stage.{Stage}
 use Rattle.dt_parse.specs.declared.expression.Stage.TheVariants as stage
 use Rattle.dt_parse.specs.declared.expression.Turn.TheVariants as turn_kind
-use Rattle.dt_parse.specs.Words.{word_of, words_of, unary_of, level_of}
-use Rattle.dt_parse.specs.Wanted.{Made, expression_in, Prim, binary_at, kind_at, refuse}
-use Rattle.dt_parse.specs.Moves.{with_one, with_two, with_three, at_prim, at_question as moved_question, at_colon, at_closing}
-use Rattle.dt_parse.specs.Descent.{first, refuses, part_stuck}
+use Rattle.dt_grammar.specs.Words.{word_of, words_of, unary_of, level_of}
+use Rattle.dt_grammar.specs.Wanted.{Made, expression_in, Prim, binary_at, kind_at, refuse}
+use Rattle.dt_grammar.specs.Moves.{with_one, with_two, with_three, at_prim, at_question as moved_question, at_colon, at_closing}
+use Rattle.dt_grammar.specs.Descent.{first, refuses, part_stuck}
 use Rattle.dt_parse.specs.Machine.{Frame, unary_frame, binary_frame, open_frame, question_frame, colon_frame, bound, grouped, stops, IsLevelled, IsPlain}
 use Rattle.dt_parse.specs.Turns.{at_operand, or_unary, behind_binary, behind_operand, at_question, at_else, at_close, operand_turn, whole_turn, wanted_turn, turn_at, kind_in, binary_in}
 use Rattle.dt_parse.specs.Standing.{top_of, written, IsSome, AreFrames, IsWanted, IsOperand, IsWhole, Stands, Behind, After}
-use Rattle.dt_parse.proofs.Descent.{by_move}
-use Rattle.dt_parse.proofs.Expressions.{Stops}
+use Rattle.dt_grammar.proofs.Descent.{by_move}
+use Rattle.dt_grammar.proofs.Expressions.{Stops}
 use Rattle.dt_parse.proofs.Machine.{prefix_from, joined_from, binary_from, question_from, whole_from, else_from, close_from}
 use Rattle.dt_parse.proofs.Turning.{shorter, at_primary}
 

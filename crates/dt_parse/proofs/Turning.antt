@@ -9,14 +9,14 @@ use Rattle.dt_expr.specs.declared.step.Step.{Step}
 use Rattle.dt_expr.specs.declared.step.Step.TheVariants as step
 use Rattle.dt_expr.specs.Expression.{number}
 use Rattle.dt_parse.specs.declared.expression.Stage.TheVariants as stage
-use Rattle.dt_parse.specs.Words.{word_of, words_of, unary_of}
-use Rattle.dt_parse.specs.Wanted.{made_expression, Prim, refuse, give}
-use Rattle.dt_parse.specs.Moves.{at_prefix, at_prim}
-use Rattle.dt_parse.specs.Descent.{Outcome, stuck, refuses, Descends}
+use Rattle.dt_grammar.specs.Words.{word_of, words_of, unary_of}
+use Rattle.dt_grammar.specs.Wanted.{made_expression, Prim, refuse, give}
+use Rattle.dt_grammar.specs.Moves.{at_prefix, at_prim}
+use Rattle.dt_grammar.specs.Descent.{Outcome, stuck, refuses, Descends}
 use Rattle.dt_parse.specs.Machine.{Frame, open_frame, stops, Leads, conts_of}
 use Rattle.dt_parse.specs.Turns.{at_operand, kind_in, unary_in}
 use Rattle.dt_parse.specs.Standing.{written, AreFrames, IsWanted, Behind, After}
-use Rattle.dt_parse.proofs.Descent.{by_move}
+use Rattle.dt_grammar.proofs.Descent.{by_move}
 use Rattle.dt_parse.proofs.Machine.{by_same, giving, prim_from, open_from}
 
 pub shorter : (t : Token) (ts : List Token) → length (drop 1 (t ∷ ts)) < length (t ∷ ts)

@@ -1,9 +1,9 @@
 -- The two stacks before and after a turn.
 use Rattle.std.proofs.Common.{true, false, true≢false, ◌==◌, ◌≡◌, ℕ, ◌+◌, List, [], ◌∷◌, ◌++◌, length, Option, Some, None, refl, sym, ◌∙◌, ap, subst, arith, length-append}
 use Rattle.std.proofs.lemmas.Bool.{eqb-true}
-use Rattle.dt_parse.specs.Words.{Words}
-use Rattle.dt_parse.specs.Wanted.{Prim}
-use Rattle.dt_parse.specs.Descent.{Outcome, stuck, Descends}
+use Rattle.dt_grammar.specs.Words.{Words}
+use Rattle.dt_grammar.specs.Wanted.{Prim}
+use Rattle.dt_grammar.specs.Descent.{Outcome, stuck, Descends}
 use Rattle.dt_lex.specs.declared.token.Token.{Token}
 use Rattle.dt_lex.specs.declared.token.TokenKind.{TokenKind}
 use Rattle.dt_expr.specs.declared.step.Step.{Step}

@@ -1,12 +1,12 @@
 -- How reading at one place goes on at another.
 use Rattle.std.specs.Prelude.{◌≡◌, ℕ, List, ◌∷◌}
 use Rattle.dt_names.specs.declared.fault.FaultKind.{FaultKind}
-use Rattle.dt_parse.specs.Words.{Words}
-use Rattle.dt_parse.specs.Unchecked.{RawPlace, RawReserve, reserve_of}
-use Rattle.dt_parse.specs.Strict.{IsReserve}
-use Rattle.dt_parse.specs.Wanted.{Wanted, AfterTopLabels, Top, made_behind}
-use Rattle.dt_parse.specs.Descent.{Outcome, found, Descends}
-use Rattle.dt_parse.specs.Faults.{Around, outside, Breaks}
+use Rattle.dt_grammar.specs.Words.{Words}
+use Rattle.dt_grammar.specs.Unchecked.{RawPlace, RawReserve, reserve_of}
+use Rattle.dt_grammar.specs.Strict.{IsReserve}
+use Rattle.dt_grammar.specs.Wanted.{Wanted, AfterTopLabels, Top, made_behind}
+use Rattle.dt_grammar.specs.Descent.{Outcome, found, Descends}
+use Rattle.dt_grammar.specs.Faults.{Around, outside, Breaks}
 
 -- what is read on from the second place is read from the first, and what breaks from there breaks from the first
 pub record Leads (a : Around) (g : Wanted) (ws : Words) (b : Around) (h : Wanted) (vs : Words) : Type 0 where

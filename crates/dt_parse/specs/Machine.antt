@@ -2,10 +2,10 @@
 use Rattle.std.specs.Prelude.{◌≡◌, ℕ, zero, suc, ◌-◌, ◌+◌, List, [], ◌∷◌}
 use Rattle.dt_expr.specs.declared.step.Unary.{Unary}
 use Rattle.dt_expr.specs.declared.step.Binary.{Binary}
-use Rattle.dt_parse.specs.Words.{Words, level_of}
-use Rattle.dt_parse.specs.Wanted.{Made, made_expression, size_in, expression_in, Wanted, AfterCondition, AfterThis, AfterLeft, Prim, Closing, Move}
-use Rattle.dt_parse.specs.Moves.{with_one, with_two, with_three}
-use Rattle.dt_parse.specs.Descent.{move_at, first, Outcome, found, stuck, Does}
+use Rattle.dt_grammar.specs.Words.{Words, level_of}
+use Rattle.dt_grammar.specs.Wanted.{Made, made_expression, size_in, expression_in, Wanted, AfterCondition, AfterThis, AfterLeft, Prim, Closing, Move}
+use Rattle.dt_grammar.specs.Moves.{with_one, with_two, with_three}
+use Rattle.dt_grammar.specs.Descent.{move_at, first, Outcome, found, stuck, Does}
 
 -- in parentheses
 abbrev pub grouped : Made → Made

@@ -1,5 +1,5 @@
 -- How the members of bodies are read where bodies stand in bodies: what each of them leaves to be read, however many are open.
-use Rattle.std.specs.Prelude.{◌≡◌, ℕ, zero, suc, ◌<◌, Bool, true, false, List, [], ◌∷◌, ◌++◌, length, replicate, Option, Some, None}
+use Rattle.std.specs.Prelude.{◌≡◌, ℕ, zero, suc, ◌<◌, Bool, true, List, [], ◌∷◌, ◌++◌, length, replicate, Option, Some}
 use Rattle.std.specs.List.{AllByRecursion}
 use Rattle.dt_names.specs.declared.fault.FaultKind.{FaultKind}
 use Rattle.dt_lex.specs.declared.token.TokenKind.{TokenKind}
@@ -11,12 +11,12 @@ use Rattle.dt_parse.specs.declared.body.Front.{Front}
 use Rattle.dt_parse.specs.declared.body.Front.TheVariants as front
 use Rattle.dt_parse.specs.declared.body.Behind.{Behind}
 use Rattle.dt_parse.specs.declared.body.Behind.TheVariants as behind
-use Rattle.dt_parse.specs.Words.{Words}
-use Rattle.dt_parse.specs.Unchecked.{RawPlace, raw_close}
-use Rattle.dt_parse.specs.Strict.{IsSound, IsOrdered}
-use Rattle.dt_parse.specs.Wanted.{SomeMembers, AfterMemberLabels, BlockClose, made_places}
-use Rattle.dt_parse.specs.Descent.{found, Descends}
-use Rattle.dt_parse.specs.Faults.{Around, in_bodies, outside, Breaks}
+use Rattle.dt_grammar.specs.Words.{Words}
+use Rattle.dt_grammar.specs.Unchecked.{RawPlace, raw_close}
+use Rattle.dt_grammar.specs.Strict.{IsSound, IsOrdered}
+use Rattle.dt_grammar.specs.Wanted.{SomeMembers, AfterMemberLabels, BlockClose, made_places}
+use Rattle.dt_grammar.specs.Descent.{found, Descends}
+use Rattle.dt_grammar.specs.Faults.{Around, in_bodies, outside, Breaks}
 use Rattle.dt_parse.specs.Reading.{IsBroken}
 
 -- what a member, or the end of a body, begins with

@@ -3,10 +3,10 @@ use Rattle.std.specs.Prelude.{◌≡◌, ℕ, ◌≤◌, true, List, length, dro
 use Rattle.dt_lex.specs.declared.token.TokenKind.{TokenKind}
 use Rattle.dt_expr.specs.declared.step.Step.{Step}
 use Rattle.dt_expr.specs.Expression.{Expression, number, steps, value}
-use Rattle.dt_parse.specs.Words.{Words}
-use Rattle.dt_parse.specs.Wanted.{made_expression, Prim, give}
-use Rattle.dt_parse.specs.Moves.{at_prim}
-use Rattle.dt_parse.specs.Descent.{found, Descends}
+use Rattle.dt_grammar.specs.Words.{Words}
+use Rattle.dt_grammar.specs.Wanted.{made_expression, Prim, give}
+use Rattle.dt_grammar.specs.Moves.{at_prim}
+use Rattle.dt_grammar.specs.Descent.{found, Descends}
 
 -- the token is a number by itself
 abbrev pub IsLiteral : Option TokenKind → ℕ → Type 0

@@ -1,20 +1,19 @@
 -- What a part of a source is read as, and where it breaks.
-use Rattle.std.specs.Prelude.{◌≡◌, ℕ, ◌≤◌, List, [], ◌∷◌, ◌++◌, length, map, Option, Some, None, Ok, true}
+use Rattle.std.specs.Prelude.{◌≡◌, ℕ, ◌≤◌, List, [], ◌∷◌, ◌++◌, length, Option, Some, None, Ok, true}
 use Rattle.dt_names.specs.declared.fault.Fault.{Fault}
 use Rattle.dt_names.specs.declared.fault.FaultKind.{FaultKind}
 use Rattle.dt_names.specs.declared.fault.FaultKind.TheVariants as fault
-use Rattle.dt_lex.specs.declared.token.TokenKind.{TokenKind}
 use Rattle.dt_lex.specs.declared.token.TokenKind.TheVariants as kind
 use Rattle.dt_lex.specs.declared.token.Mark.TheVariants as mark
 use Rattle.dt_lex.specs.declared.token.Keyword.TheVariants as keyword
 use Rattle.dt_lex.specs.declared.token.Token.{Token}
 use Rattle.dt_lex.specs.Lexing.{IsLexed, WhyNotLexed, text_limit}
 use Rattle.dt_parse.specs.declared.stop.Stop.{Stop}
-use Rattle.dt_parse.specs.Words.{Words, words_of, IsKeyword, IsMark}
-use Rattle.dt_parse.specs.Grammar.{Says, SpellsSource}
-use Rattle.dt_parse.specs.Wanted.{Made, Wanted, Whole, kind_at}
-use Rattle.dt_parse.specs.Descent.{first, after, found, Descends}
-use Rattle.dt_parse.specs.Faults.{Around, outside, IsFine, Breaks}
+use Rattle.dt_grammar.specs.Words.{Words, words_of}
+use Rattle.dt_grammar.specs.Grammar.{Says, SpellsSource}
+use Rattle.dt_grammar.specs.Wanted.{Made, Wanted, Whole, kind_at}
+use Rattle.dt_grammar.specs.Descent.{first, after, found, Descends}
+use Rattle.dt_grammar.specs.Faults.{Around, outside, IsFine, Breaks}
 
 -- a part was read: this was made of the tokens up to those that are left, and no fault shows in it
 pub record IsRead (a : Around) (g : Wanted) (ws : Words) (made : Made) (left : Words) : Type 0 where

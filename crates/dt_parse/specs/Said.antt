@@ -11,7 +11,7 @@ use Rattle.dt_parse.specs.declared.source.Value.{Value}
 use Rattle.dt_parse.specs.declared.source.Item.{Item}
 use Rattle.dt_parse.specs.declared.source.Item.TheVariants as item
 use Rattle.dt_parse.specs.declared.source.Reservation.{Reservation}
-use Rattle.dt_parse.specs.Grammar.{Says}
+use Rattle.dt_grammar.specs.Grammar.{Says}
 
 abbrev pub reference_of : Reference → model.Reference
 reference_of (reference.Label l) = model.by_label l

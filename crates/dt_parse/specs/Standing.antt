@@ -14,9 +14,9 @@ use Rattle.dt_parse.specs.declared.expression.Turn.{Turn}
 use Rattle.dt_parse.specs.declared.expression.Turn.TheVariants as turn_kind
 use Rattle.dt_parse.specs.declared.expression.Refusal.{Refusal}
 use Rattle.dt_parse.specs.declared.expression.Refusal.TheVariants as refusal
-use Rattle.dt_parse.specs.Words.{Words, words_of, level_of}
-use Rattle.dt_parse.specs.Wanted.{Made, expression_in, Wanted, Prefix, Prim}
-use Rattle.dt_parse.specs.Descent.{Outcome, found, stuck, Descends}
+use Rattle.dt_grammar.specs.Words.{Words, words_of, level_of}
+use Rattle.dt_grammar.specs.Wanted.{Made, expression_in, Wanted, Prefix, Prim}
+use Rattle.dt_grammar.specs.Descent.{Outcome, found, stuck, Descends}
 use Rattle.dt_parse.specs.Machine.{Frame, unary_frame, binary_frame, open_frame, question_frame, colon_frame, Leads, bound, conts_of, IsLevelled, IsPlain}
 
 abbrev pub pending_of : Frame → Pending

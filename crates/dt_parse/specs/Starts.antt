@@ -6,12 +6,12 @@ use Rattle.dt_lex.specs.declared.token.TokenKind.{TokenKind}
 use Rattle.dt_lex.specs.declared.token.TokenKind.TheVariants as kind
 use Rattle.dt_lex.specs.declared.token.Mark.TheVariants as mark
 use Rattle.dt_lex.specs.declared.token.Keyword.TheVariants as keyword
-use Rattle.dt_parse.specs.Words.{Words}
-use Rattle.dt_parse.specs.Unchecked.{RawPlace}
-use Rattle.dt_parse.specs.Strict.{IsSound, IsOrdered}
-use Rattle.dt_parse.specs.Wanted.{StatementThen, made_places}
-use Rattle.dt_parse.specs.Descent.{found, Descends}
-use Rattle.dt_parse.specs.Faults.{outside, Breaks}
+use Rattle.dt_grammar.specs.Words.{Words}
+use Rattle.dt_grammar.specs.Unchecked.{RawPlace}
+use Rattle.dt_grammar.specs.Strict.{IsSound, IsOrdered}
+use Rattle.dt_grammar.specs.Wanted.{StatementThen, made_places}
+use Rattle.dt_grammar.specs.Descent.{found, Descends}
+use Rattle.dt_grammar.specs.Faults.{outside, Breaks}
 use Rattle.dt_parse.specs.declared.statement.Start.{Start}
 use Rattle.dt_parse.specs.declared.statement.Start.TheVariants as start
 

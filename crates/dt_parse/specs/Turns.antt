@@ -13,7 +13,7 @@ use Rattle.dt_parse.specs.declared.expression.Stage.{Stage}
 use Rattle.dt_parse.specs.declared.expression.Stage.TheVariants as stage
 use Rattle.dt_parse.specs.declared.expression.Turn.{Turn}
 use Rattle.dt_parse.specs.declared.expression.Turn.TheVariants as turn_kind
-use Rattle.dt_parse.specs.Words.{unary_of, binary_of, level_of}
+use Rattle.dt_grammar.specs.Words.{unary_of, binary_of, level_of}
 
 abbrev pub kind_in : List Token → Option TokenKind
 kind_in [] = None

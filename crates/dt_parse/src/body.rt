@@ -8,12 +8,13 @@ ghost use Rattle.dt_lex.specs.declared.token.TokenKind.TheVariants as kind;
 ghost use Rattle.dt_lex.specs.declared.token.Mark.TheVariants as mark;
 ghost use Rattle.dt_lex.specs.declared.token.Keyword.TheVariants as keyword;
 ghost use Rattle.dt_model.specs.Source.{close};
-ghost use Rattle.dt_parse.specs.Unchecked.{RawPlace, RawComponent, raw_child, raw_label, raw_property, all_but_last, value_parts, place_of};
-ghost use Rattle.dt_parse.specs.Strict.{AreLabelTexts, IsComponent, IsSound, IsOrdered};
-ghost use Rattle.dt_parse.specs.Wanted.{AfterMemberLabels, AfterName, BlockOpen, made_places, kind_at, bytes_at};
-ghost use Rattle.dt_parse.specs.Descent.{first, after, found, Descends};
-ghost use Rattle.dt_parse.specs.Faults.{outside};
-ghost use Rattle.dt_parse.specs.Reading.{IsBroken};
+ghost use Rattle.dt_grammar.specs.Words.{Words};
+ghost use Rattle.dt_grammar.specs.Unchecked.{RawPlace, RawComponent, raw_child, raw_label, raw_property, all_but_last, value_parts, place_of};
+ghost use Rattle.dt_grammar.specs.Strict.{AreLabelTexts, IsComponent, IsSound, IsOrdered};
+ghost use Rattle.dt_grammar.specs.Wanted.{AfterMemberLabels, AfterName, BlockOpen, SomeLabels, made_labels, made_places, kind_at, bytes_at};
+ghost use Rattle.dt_grammar.specs.Descent.{first, after, found, Descends};
+ghost use Rattle.dt_grammar.specs.Faults.{outside};
+ghost use Rattle.dt_parse.specs.Reading.{IsRead, IsBroken};
 ghost use Rattle.dt_parse.specs.Said.{value_said, places_said};
 ghost use Rattle.dt_parse.specs.declared.body.Front.TheVariants as front;
 ghost use Rattle.dt_parse.specs.declared.body.Behind.TheVariants as behind;
@@ -31,7 +32,7 @@ use std::alloc::Global;
 const MOST_BODIES: usize = 65;
 
 /// What a member, or the end of a body, begins with.
-#[derive(Clone, Copy, Debug, PartialEq, Eq)]
+#[derive(Clone, Copy)]
 pub(crate) enum Front {
     Name,
     DeleteProperty,
@@ -40,7 +41,7 @@ pub(crate) enum Front {
 }
 
 /// What stands behind a name.
-#[derive(Clone, Copy, Debug, PartialEq, Eq)]
+#[derive(Clone, Copy)]
 pub(crate) enum Behind {
     /// `;`
     End,
@@ -52,7 +53,7 @@ pub(crate) enum Behind {
 }
 
 /// What is around the members of a body.
-#[derive(Clone, Copy, Debug, PartialEq, Eq)]
+#[derive(Clone, Copy)]
 struct Depth {
     /// How many bodies are open.
     open: usize,
@@ -80,42 +81,6 @@ fn behind_of(kind: Option<TokenKind>) -> Behind
         Some(TokenKind::Mark(Mark::OpenBrace)) => Behind::Body,
         _ => Behind::Other,
     }
-}
-
-/// Steps over `;`.
-pub(crate) fn semicolon(cursor: &mut Cursor<'_, '_>) -> Result<(), Stop>
-    ensures ok { OnOk result ((kind_at (first cursor.old) ≡ Some (kind.Mark mark.Semicolon)) × (cursor.new ≡ after true cursor.old)) }
-    ensures err { IfErr result (λ stop. (kind_at (first cursor.old) ≢ Some (kind.Mark mark.Semicolon)) × (stop.kind ≡ fault.Syntax) × (stop.left ≡ length cursor.old)) }
-{
-    if cursor.kind() != Some(TokenKind::Mark(Mark::Semicolon)) {
-        return Err(cursor.stop(FaultKind::Syntax));
-    }
-    cursor.advance();
-    Ok(())
-}
-
-/// Steps over `{`.
-fn open_brace(cursor: &mut Cursor<'_, '_>) -> Result<(), Stop>
-    ensures ok { OnOk result ((kind_at (first cursor.old) ≡ Some (kind.Mark mark.OpenBrace)) × (cursor.new ≡ after true cursor.old)) }
-    ensures err { IfErr result (λ stop. (kind_at (first cursor.old) ≢ Some (kind.Mark mark.OpenBrace)) × (stop.kind ≡ fault.Syntax) × (stop.left ≡ length cursor.old)) }
-{
-    if cursor.kind() != Some(TokenKind::Mark(Mark::OpenBrace)) {
-        return Err(cursor.stop(FaultKind::Syntax));
-    }
-    cursor.advance();
-    Ok(())
-}
-
-/// Steps over `}`.
-fn close_brace(cursor: &mut Cursor<'_, '_>) -> Result<(), Stop>
-    ensures ok { OnOk result ((kind_at (first cursor.old) ≡ Some (kind.Mark mark.CloseBrace)) × (cursor.new ≡ after true cursor.old)) }
-    ensures err { IfErr result (λ stop. (kind_at (first cursor.old) ≢ Some (kind.Mark mark.CloseBrace)) × (stop.kind ≡ fault.Syntax) × (stop.left ≡ length cursor.old)) }
-{
-    if cursor.kind() != Some(TokenKind::Mark(Mark::CloseBrace)) {
-        return Err(cursor.stop(FaultKind::Syntax));
-    }
-    cursor.advance();
-    Ok(())
 }
 
 /// The property's name that the next token is; `BadName` where it isn't one.
@@ -157,7 +122,7 @@ fn assigned<'a>(alloc: Global, cursor: &mut Cursor<'a, '_>) -> Result<Value<'a>,
         _ => {
             cursor.advance();
             let value = value(alloc, cursor)?;
-            semicolon(cursor)?;
+            cursor.expect(TokenKind::Mark(Mark::Semicolon))?;
             Ok(value)
         }
     }
@@ -182,8 +147,38 @@ fn property<'a>(
         return Err(cursor.stop(FaultKind::PropertyAfterNode));
     }
     let value = assigned(alloc, cursor)?;
-    items.push(Item::Property(name, value))?;
+    push_item(Item::Property(name, value), items)
+}
+
+/// Appends an item.
+pub(crate) fn push_item<'a>(item: Item<'a>, items: &mut Vec<Item<'a>>) -> Result<(), Stop>
+    ensures ok { OnOk result (items.new.items ≡ items.old.items ++ item.entry ∷ []) }
+    ensures err { IfErr result (λ stop. stop.kind ≡ fault.NoMemory) }
+{
+    items.push(item)?;
     Ok(())
+}
+
+/// Reads `name {`.
+fn open_child<'a>(
+    bodies: usize,
+    cursor: &mut Cursor<'a, '_>,
+    items: &mut Vec<Item<'a>>,
+) -> Result<(), Stop>
+    requires named { kind_at (first cursor.old) ≡ Some kind.Name }
+    requires opened { behind_of (kind_at (first (after true cursor.old))) ≡ behind.Body }
+    ensures ok { OnOk result (IsNodeName (bytes_at (first cursor.old)) × (bodies < 65)
+        × (cursor.new ≡ after true (after true cursor.old))
+        × (places_said items.new.items ≡ places_said items.old.items ++ place_of (raw_child (bytes_at (first cursor.old))) ∷ [])) }
+    ensures err { IfErr result (λ stop. (ls : List (List ℕ)) (late : Bool) (outer : List Bool) → length outer + 1 ≡ bodies → IsBroken (in_body late outer) (AfterMemberLabels ls) cursor.old stop) }
+{
+    let name = node_name(cursor)?;
+    cursor.advance();
+    if MOST_BODIES <= bodies {
+        return Err(cursor.stop(FaultKind::Limit));
+    }
+    cursor.advance();
+    push_item(Item::Child(name), items)
 }
 
 /// Reads `name {`, and appends the labels in front of it, too.
@@ -200,15 +195,8 @@ fn child<'a>(
         × (places_said items.new.items ≡ places_said items.old.items ++ map place_of (raw_child (bytes_at (first cursor.old)) ∷ map raw_label ls))) }
     ensures err { IfErr result (λ stop. (ls : List (List ℕ)) (late : Bool) (outer : List Bool) → length outer + 1 ≡ bodies → IsBroken (in_body late outer) (AfterMemberLabels ls) cursor.old stop) }
 {
-    let name = node_name(cursor)?;
-    cursor.advance();
-    if MOST_BODIES <= bodies {
-        return Err(cursor.stop(FaultKind::Limit));
-    }
-    cursor.advance();
-    items.push(Item::Child(name))?;
-    push_labels(names, items)?;
-    Ok(())
+    open_child(bodies, cursor, items)?;
+    push_labels(names, items)
 }
 
 /// Appends labels.
@@ -217,7 +205,7 @@ pub(crate) fn push_labels<'a>(names: Vec<Label<'a>>, items: &mut Vec<Item<'a>>) 
     ensures err { IfErr result (λ stop. stop.kind ≡ fault.NoMemory) }
 {
     for name in names {
-        items.push(Item::Label(name))?;
+        push_item(Item::Label(name), items)?;
     }
     Ok(())
 }
@@ -259,8 +247,7 @@ fn delete_property<'a>(
     let name = property_name(cursor)?;
     cursor.advance();
     cursor.advance();
-    items.push(Item::DeleteProperty(name))?;
-    Ok(())
+    push_item(Item::DeleteProperty(name), items)
 }
 
 /// Reads `/delete-node/ name;`.
@@ -275,8 +262,7 @@ fn delete_child<'a>(cursor: &mut Cursor<'a, '_>, items: &mut Vec<Item<'a>>) -> R
     let name = node_name(cursor)?;
     cursor.advance();
     cursor.advance();
-    items.push(Item::DeleteChild(name))?;
-    Ok(())
+    push_item(Item::DeleteChild(name), items)
 }
 
 /// Reads `};`.
@@ -293,10 +279,81 @@ fn close<'a>(
     if labelled {
         return Err(cursor.stop(FaultKind::Syntax));
     }
-    close_brace(cursor)?;
-    semicolon(cursor)?;
-    items.push(Item::Close)?;
-    Ok(())
+    cursor.expect(TokenKind::Mark(Mark::CloseBrace))?;
+    cursor.expect(TokenKind::Mark(Mark::Semicolon))?;
+    push_item(Item::Close, items)
+}
+
+/// Whether a name and `{` are next.
+fn opens_child(cursor: &Cursor<'_, '_>) -> bool
+    ensures { IsTrue result ↔ ((kind_at (first cursor.now) ≡ Some kind.Name) × (kind_at (first (after true cursor.now)) ≡ Some (kind.Mark mark.OpenBrace))) }
+{
+    cursor.kind() == Some(TokenKind::Name)
+        && cursor.second() == Some(TokenKind::Mark(Mark::OpenBrace))
+}
+
+/// Reads what a name that opens no child begins.
+fn named<'a>(
+    alloc: Global,
+    late: bool,
+    cursor: &mut Cursor<'a, '_>,
+    items: &mut Vec<Item<'a>>,
+) -> Result<(), Stop>
+    requires named { kind_at (first cursor.old) ≡ Some kind.Name }
+    requires unopened { behind_of (kind_at (first (after true cursor.old))) ≢ behind.Body }
+    ensures ok { (ls : List (List ℕ)) → AreLabelTexts ls → OnOk result ((p : RawPlace) × IsMember ls late cursor.old p late cursor.new
+        × (places_said items.new.items ≡ places_said items.old.items ++ place_of p ∷ [])) }
+    ensures err { IfErr result (λ stop. (ls : List (List ℕ)) (outer : List Bool) → IsBroken (in_body late outer) (AfterMemberLabels ls) cursor.old stop) }
+{
+    match behind_of(cursor.second()) {
+        Behind::Other => {
+            cursor.advance();
+            Err(cursor.stop(FaultKind::Syntax))
+        }
+        _ => property(alloc, late, cursor, items),
+    }
+}
+
+/// Reads a member that is no child, or the end of a body, behind its labels. Answers what is around the next.
+fn member_behind<'a>(
+    alloc: Global,
+    labelled: bool,
+    depth: Depth,
+    cursor: &mut Cursor<'a, '_>,
+    items: &mut Vec<Item<'a>>,
+) -> Result<Depth, Stop>
+    requires inside { 0 < depth.open }
+    requires unopened { ¬ ((kind_at (first cursor.old) ≡ Some kind.Name) × (kind_at (first (after true cursor.old)) ≡ Some (kind.Mark mark.OpenBrace))) }
+    ensures ok { (ls : List (List ℕ)) (ws : Words) → IsRead outside SomeLabels ws (made_labels ls) cursor.old → (labelled ≡ false → ls ≡ []) → IfOk result
+        (λ next. (ps : List RawPlace) × Goes depth.open depth.late ws ps next.open next.late cursor.new
+        × (length cursor.new < length ws) × (places_said items.new.items ≡ places_said items.old.items ++ map place_of ps)) }
+    ensures err { (ls : List (List ℕ)) (ws : Words) → IsRead outside SomeLabels ws (made_labels ls) cursor.old → (labelled ≡ false → ls ≡ []) → (labelled ≡ true → ls ≢ []) →
+        IfErr result (λ stop. BreaksIn depth.open depth.late ws stop) }
+{
+    match front_of(cursor.kind()) {
+        Front::Name => {
+            named(alloc, depth.late, cursor, items)?;
+            Ok(depth)
+        }
+        Front::DeleteProperty => {
+            delete_property(depth.late, cursor, items)?;
+            Ok(depth)
+        }
+        Front::DeleteNode => {
+            delete_child(cursor, items)?;
+            Ok(Depth {
+                open: depth.open,
+                late: true,
+            })
+        }
+        Front::Other => {
+            close(labelled, cursor, items)?;
+            Ok(Depth {
+                open: depth.open - 1,
+                late: true,
+            })
+        }
+    }
 }
 
 /// Reads a member, or what stands in front of a child's members, or the end of a body. Answers what is around the next.
@@ -312,43 +369,14 @@ fn member<'a>(
     ensures err { IfErr result (λ stop. BreaksIn depth.open depth.late cursor.old stop) }
 {
     let names = labels(alloc, cursor)?;
-    match front_of(cursor.kind()) {
-        Front::Name => match behind_of(cursor.second()) {
-            Behind::Body => {
-                child(names, depth.open, cursor, items)?;
-                Ok(Depth {
-                    open: depth.open + 1,
-                    late: false,
-                })
-            }
-            Behind::Other => {
-                cursor.advance();
-                Err(cursor.stop(FaultKind::Syntax))
-            }
-            _ => {
-                property(alloc, depth.late, cursor, items)?;
-                Ok(depth)
-            }
-        },
-        Front::DeleteProperty => {
-            delete_property(depth.late, cursor, items)?;
-            Ok(depth)
-        }
-        Front::DeleteNode => {
-            delete_child(cursor, items)?;
-            Ok(Depth {
-                open: depth.open,
-                late: true,
-            })
-        }
-        Front::Other => {
-            close(!names.is_empty(), cursor, items)?;
-            Ok(Depth {
-                open: depth.open - 1,
-                late: true,
-            })
-        }
+    if opens_child(cursor) {
+        child(names, depth.open, cursor, items)?;
+        return Ok(Depth {
+            open: depth.open + 1,
+            late: false,
+        });
     }
+    member_behind(alloc, !names.is_empty(), depth, cursor, items)
 }
 
 /// Reads a body from its `{` to the `;` behind it, and appends its items; however deep bodies stand in it, nothing recurses
@@ -364,7 +392,7 @@ pub(crate) fn body<'a>(
         × (places_said items.new.items ≡ places_said items.old.items ++ map place_of qs)) }
     ensures err { IfErr result (λ stop. (ps : List RawPlace) → IsBroken outside (BlockOpen ps) cursor.old stop) }
 {
-    open_brace(cursor)?;
+    cursor.expect(TokenKind::Mark(Mark::OpenBrace))?;
     let mut depth = Depth {
         open: 1,
         late: false,

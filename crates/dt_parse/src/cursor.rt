@@ -4,9 +4,9 @@ ghost use Rattle.std.specs.Prelude.{◌≡◌, ◌≢◌, length, true, Some, On
 ghost use Rattle.std.specs.List.{AllByRecursion};
 ghost use Rattle.dt_names.specs.declared.fault.FaultKind.{FaultKind};
 ghost use Rattle.dt_names.specs.declared.fault.FaultKind.TheVariants.{Syntax};
-ghost use Rattle.dt_parse.specs.Words.{words_of};
-ghost use Rattle.dt_parse.specs.Wanted.{kind_at, bytes_at};
-ghost use Rattle.dt_parse.specs.Descent.{first, after};
+ghost use Rattle.dt_grammar.specs.Words.{words_of};
+ghost use Rattle.dt_grammar.specs.Wanted.{kind_at, bytes_at};
+ghost use Rattle.dt_grammar.specs.Descent.{first, after};
 ghost use Rattle.dt_parse.specs.Reading.{IsInside};
 
 use crate::stop::Stop;
@@ -24,7 +24,7 @@ pub(crate) struct Cursor<'a, 't> {
 impl<'a, 't> Model for Cursor<'a, 't> {
     ghost use Rattle.std.specs.Prelude.{length};
     ghost use Rattle.std.specs.List.{AllByRecursion};
-    ghost use Rattle.dt_parse.specs.Words.{Words, words_of};
+    ghost use Rattle.dt_grammar.specs.Words.{Words, words_of};
     ghost use Rattle.dt_parse.specs.Reading.{IsInside};
 
     ghost Value = { Words };

@@ -1,7 +1,7 @@
 //! Expressions, as steps in postfix order, by two stacks.
 
 ghost use Rattle.std.specs.Prelude.{◌≡◌, ◌++◌, ◌∷◌, [], List, drop, OnOk};
-ghost use Rattle.dt_parse.specs.Words.{unary_of, binary_of, level_of};
+ghost use Rattle.dt_grammar.specs.Words.{unary_of, binary_of, level_of};
 ghost use Rattle.dt_parse.specs.Standing.{Answers};
 ghost use Rattle.dt_parse.specs.Turns.{turn_at, operand_turn, whole_turn, wanted_turn, at_question, at_operand, behind_binary, behind_operand, at_else, at_close, unary_in, binary_in, kind_in};
 
@@ -10,7 +10,7 @@ use dt_lex::{Mark, Token, TokenKind};
 use std::alloc::{AllocError, Global};
 
 /// What waits for an operand or for a mark.
-#[derive(Clone, Copy, Debug, PartialEq, Eq)]
+#[derive(Clone, Copy)]
 pub enum Pending {
     Unary(Unary),
     Binary(Binary),
@@ -23,7 +23,7 @@ pub enum Pending {
 }
 
 /// What stands in front of a token.
-#[derive(Clone, Copy, Debug, PartialEq, Eq)]
+#[derive(Clone, Copy)]
 pub enum Stage {
     /// An operand is wanted.
     Wanted,
@@ -34,7 +34,7 @@ pub enum Stage {
 }
 
 /// What is done at a token.
-#[derive(Clone, Copy, Debug, PartialEq, Eq)]
+#[derive(Clone, Copy)]
 pub enum Turn {
     Number(u64),
     Push(Pending),
@@ -48,7 +48,7 @@ pub enum Turn {
 }
 
 /// Why there is no expression.
-#[derive(Clone, Copy, Debug, PartialEq, Eq)]
+#[derive(Clone, Copy)]
 pub(crate) enum Refusal {
     Memory,
     /// The token can't stand there; so many are left from it on.

@@ -4,10 +4,10 @@ ghost use Rattle.std.specs.Prelude.{◌≡◌, ◌≤◌, ◌-◌, ℕ, List, le
 ghost use Rattle.dt_names.specs.declared.fault.FaultKind.TheVariants.{Limit};
 ghost use Rattle.dt_expr.specs.Expression.{Expression, steps, value};
 ghost use Rattle.dt_expr.specs.Fits.{element, IsWidth};
-ghost use Rattle.dt_parse.specs.Words.{words_of};
-ghost use Rattle.dt_parse.specs.Unchecked.{number_in};
-ghost use Rattle.dt_parse.specs.Wanted.{Made, Prim, expression_in};
-ghost use Rattle.dt_parse.specs.Faults.{Around, in_elements};
+ghost use Rattle.dt_grammar.specs.Words.{words_of};
+ghost use Rattle.dt_grammar.specs.Unchecked.{number_in};
+ghost use Rattle.dt_grammar.specs.Wanted.{Made, Prim, expression_in};
+ghost use Rattle.dt_grammar.specs.Faults.{Around, in_elements};
 ghost use Rattle.dt_parse.specs.Reading.{IsRead, IsBroken};
 ghost use Rattle.dt_parse.specs.Standing.{Refused};
 ghost use Rattle.dt_parse.specs.Numbers.{IsLiteral, IsMeasured, IsValued};

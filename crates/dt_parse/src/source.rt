@@ -4,11 +4,11 @@ ghost use Rattle.std.specs.Prelude.{◌≡◌, ◌≢◌, ◌↔◌, ◌++◌, �
 ghost use Rattle.std.specs.List.{AllByRecursion};
 ghost use Rattle.dt_model.specs.Names.{IsNodeName};
 ghost use Rattle.dt_model.specs.Path.{path_text};
-ghost use Rattle.dt_parse.specs.Grammar.{SpellsSource};
-ghost use Rattle.dt_parse.specs.Words.{Words};
-ghost use Rattle.dt_parse.specs.Unchecked.{a_path, path_of_names, ended_names};
-ghost use Rattle.dt_parse.specs.Strict.{IsReferenceText};
-ghost use Rattle.dt_parse.specs.Paths.{IsPathText, AreNames, BeginsName, braced};
+ghost use Rattle.dt_grammar.specs.Grammar.{SpellsSource};
+ghost use Rattle.dt_grammar.specs.Words.{Words};
+ghost use Rattle.dt_grammar.specs.Unchecked.{a_path, path_of_names, ended_names};
+ghost use Rattle.dt_grammar.specs.Strict.{IsReferenceText};
+ghost use Rattle.dt_grammar.specs.Paths.{IsPathText, AreNames, BeginsName, braced};
 ghost use Rattle.dt_parse.specs.Said.{reservation_said, place_said, said};
 
 use dt_names::{Label, NodeName, PropName};
@@ -23,8 +23,8 @@ pub struct NodePath<'a> {
 
 impl<'a> Model for NodePath<'a> {
     ghost use Rattle.std.specs.Prelude.{List, ℕ, drop};
-    ghost use Rattle.dt_parse.specs.Unchecked.{a_path, path_of_names, ended_names};
-    ghost use Rattle.dt_parse.specs.Strict.{IsReferenceText};
+    ghost use Rattle.dt_grammar.specs.Unchecked.{a_path, path_of_names, ended_names};
+    ghost use Rattle.dt_grammar.specs.Strict.{IsReferenceText};
 
     ghost Value = { List (List ℕ) };
 
@@ -181,8 +181,8 @@ pub struct Source<'a> {
 }
 
 impl<'a> Model for Source<'a> {
-    ghost use Rattle.dt_parse.specs.Words.{Words};
-    ghost use Rattle.dt_parse.specs.Grammar.{Says, SpellsSource};
+    ghost use Rattle.dt_grammar.specs.Words.{Words};
+    ghost use Rattle.dt_grammar.specs.Grammar.{Says, SpellsSource};
     ghost use Rattle.dt_parse.specs.Said.{said};
 
     ghost Value = { Says };

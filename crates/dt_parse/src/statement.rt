@@ -1,17 +1,18 @@
 //! Statements: blocks, and deletions of nodes.
 
-ghost use Rattle.std.specs.Prelude.{◌≡◌, ◌≢◌, ◌++◌, [], true, false, List, ℕ, map, OnOk, IfErr};
-ghost use Rattle.dt_parse.specs.Unchecked.{RawPlace, place_of, all_but_last};
-ghost use Rattle.dt_parse.specs.Strict.{AreLabelTexts};
-ghost use Rattle.dt_parse.specs.Wanted.{OneStatement, StatementThen, made_places, kind_at};
-ghost use Rattle.dt_parse.specs.Descent.{first};
-ghost use Rattle.dt_parse.specs.Faults.{outside};
+ghost use Rattle.std.specs.Prelude.{◌≡◌, ◌≢◌, ◌++◌, ◌∷◌, [], Some, true, false, List, ℕ, map, OnOk, IfErr};
+ghost use Rattle.dt_grammar.specs.Unchecked.{Target, RawPlace, raw_block, place_of, all_but_last};
+ghost use Rattle.dt_grammar.specs.Relaxed.{reference_kind};
+ghost use Rattle.dt_grammar.specs.Strict.{AreLabelTexts, IsReferenceText};
+ghost use Rattle.dt_grammar.specs.Wanted.{OneStatement, StatementThen, made_places, kind_at, bytes_at};
+ghost use Rattle.dt_grammar.specs.Descent.{first, after};
+ghost use Rattle.dt_grammar.specs.Faults.{outside};
 ghost use Rattle.dt_parse.specs.Reading.{IsRead, IsBroken};
 ghost use Rattle.dt_parse.specs.Said.{places_said};
 ghost use Rattle.dt_parse.specs.declared.statement.Start.TheVariants as start;
 ghost use Rattle.dt_parse.specs.Starts.{start_of};
 
-use crate::body::{body, push_labels, semicolon};
+use crate::body::{body, push_item, push_labels};
 use crate::cursor::Cursor;
 use crate::source::Item;
 use crate::stop::Stop;
@@ -21,7 +22,7 @@ use dt_names::{FaultKind, Label};
 use std::alloc::Global;
 
 /// What a statement begins with, behind its labels.
-#[derive(Clone, Copy, Debug, PartialEq, Eq)]
+#[derive(Clone, Copy)]
 pub(crate) enum Start {
     /// `/`
     Root,
@@ -60,9 +61,21 @@ fn root<'a>(
         return Err(cursor.stop(FaultKind::Syntax));
     }
     cursor.advance();
-    items.push(Item::Root)?;
-    body(alloc, cursor, items)?;
-    Ok(())
+    push_item(Item::Root, items)?;
+    body(alloc, cursor, items)
+}
+
+/// Reads the reference in front of a body.
+fn open_block<'a>(cursor: &mut Cursor<'a, '_>, items: &mut Vec<Item<'a>>) -> Result<(), Stop>
+    requires { start_of (kind_at (first cursor.old)) ≡ start.Node }
+    ensures ok { (t : Target) → kind_at (first cursor.old) ≡ Some (reference_kind t) → OnOk result
+        (IsReferenceText t (bytes_at (first cursor.old)) × (cursor.new ≡ after true cursor.old)
+        × (places_said items.new.items ≡ places_said items.old.items ++ place_of (raw_block t (bytes_at (first cursor.old))) ∷ [])) }
+    ensures err { IfErr result (λ stop. (ls : List (List ℕ)) → IsBroken outside (OneStatement ls) cursor.old stop) }
+{
+    let node = reference(cursor)?;
+    cursor.advance();
+    push_item(Item::Block(node), items)
 }
 
 /// Reads a reference and a body, behind labels.
@@ -78,12 +91,9 @@ fn block<'a>(
         × (places_said items.new.items ≡ places_said items.old.items ++ map place_of ps)) }
     ensures err { IfErr result (λ stop. (ls : List (List ℕ)) → IsBroken outside (OneStatement ls) cursor.old stop) }
 {
-    let node = reference(cursor)?;
-    cursor.advance();
-    items.push(Item::Block(node))?;
+    open_block(cursor, items)?;
     push_labels(names, items)?;
-    body(alloc, cursor, items)?;
-    Ok(())
+    body(alloc, cursor, items)
 }
 
 /// Reads `/delete-node/`, a reference and `;`.
@@ -105,9 +115,8 @@ fn delete_node<'a>(
         Start::Node => {
             let node = reference(cursor)?;
             cursor.advance();
-            semicolon(cursor)?;
-            items.push(Item::DeleteNode(node))?;
-            Ok(())
+            cursor.expect(TokenKind::Mark(Mark::Semicolon))?;
+            push_item(Item::DeleteNode(node), items)
         }
         _ => Err(cursor.stop(FaultKind::Syntax)),
     }

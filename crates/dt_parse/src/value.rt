@@ -7,13 +7,14 @@ ghost use Rattle.dt_model.specs.Source.{one};
 ghost use Rattle.dt_lex.specs.declared.token.TokenKind.TheVariants as kind;
 ghost use Rattle.dt_lex.specs.Texts.{text_bytes};
 ghost use Rattle.dt_expr.specs.Fits.{IsWidth};
-ghost use Rattle.dt_parse.specs.Unchecked.{Target, a_label, RawCell, RawItem, cell_item, RawComponent, all_but_last, width_of, reference_in, cells_parts, item_parts, value_parts};
-ghost use Rattle.dt_parse.specs.Relaxed.{reference_kind};
-ghost use Rattle.dt_parse.specs.Strict.{IsLabelText, IsReferenceText};
-ghost use Rattle.dt_parse.specs.Wanted.{SomeLabels, SomeCells, SomeBytes, OneItem, BitsNumber, BitsOpen, OneValue, Done, refuse, want, made_labels, made_cells, made_item, made_value, kind_at, bytes_at};
-ghost use Rattle.dt_parse.specs.Descent.{first, move_at};
+ghost use Rattle.dt_grammar.specs.Unchecked.{Target, a_label, RawCell, RawItem, cell_item, RawComponent, all_but_last, width_of, reference_in, cells_parts, item_parts, value_parts};
+ghost use Rattle.dt_grammar.specs.Relaxed.{reference_kind};
+ghost use Rattle.dt_grammar.specs.Strict.{IsLabelText, IsReferenceText};
+ghost use Rattle.dt_grammar.specs.Wanted.{SomeLabels, SomeCells, SomeBytes, OneItem, BitsNumber, BitsOpen, OneValue, Done, refuse, want, made_labels, made_cells, made_item, made_value, kind_at, bytes_at};
+ghost use Rattle.dt_grammar.specs.Descent.{first, move_at};
+ghost use Rattle.dt_parse.specs.declared.value.Opening.TheVariants as opening;
 ghost use Rattle.dt_parse.specs.Openings.{opening_of, cell_opening, byte_opening};
-ghost use Rattle.dt_parse.specs.Faults.{Around, in_elements};
+ghost use Rattle.dt_grammar.specs.Faults.{Around, in_elements};
 ghost use Rattle.dt_parse.specs.Reading.{IsRead, IsBroken};
 ghost use Rattle.dt_parse.specs.Said.{value_said, reference_of, referring};
 
@@ -29,7 +30,7 @@ use std::alloc::{AllocError, Global};
 const CELL: u32 = 32;
 
 /// What a token begins in a value.
-#[derive(Clone, Copy, Debug, PartialEq, Eq)]
+#[derive(Clone, Copy)]
 pub enum Opening {
     Cells,
     /// `/bits/`
@@ -41,7 +42,7 @@ pub enum Opening {
 }
 
 /// What a token begins between `<` and `>`.
-#[derive(Clone, Copy, Debug, PartialEq, Eq)]
+#[derive(Clone, Copy)]
 pub enum CellOpening {
     Label,
     Reference,
@@ -50,7 +51,7 @@ pub enum CellOpening {
 }
 
 /// What a token is between `[` and `]`.
-#[derive(Clone, Copy, Debug, PartialEq, Eq)]
+#[derive(Clone, Copy)]
 pub enum ByteOpening {
     Label,
     Byte(u8),
@@ -336,6 +337,47 @@ fn sized_cells<'a>(
     cell_list(alloc, bits, cursor, value)
 }
 
+/// Reads a text.
+fn text<'a>(cursor: &mut Cursor<'a, '_>, value: &mut Value<'a>) -> Result<(), Stop>
+    requires { opening_of (kind_at (first cursor.old)) ≡ opening.Text }
+    ensures ok { OnOk result ((i : RawItem) × ((a : Around) → IsRead a OneItem cursor.old (made_item i) cursor.new)
+        × (value_said value.new ≡ value_said value.old ++ item_parts i)) }
+    ensures err { IfErr result (λ stop. (a : Around) → IsBroken a OneItem cursor.old stop) }
+{
+    value.push_string(cursor.bytes())?;
+    cursor.advance();
+    Ok(())
+}
+
+/// Reads a list of bytes, from its `[` to its `]`.
+fn byte_list<'a>(cursor: &mut Cursor<'a, '_>, value: &mut Value<'a>) -> Result<(), Stop>
+    requires { opening_of (kind_at (first cursor.old)) ≡ opening.Bytes }
+    ensures ok { OnOk result ((i : RawItem) × ((a : Around) → IsRead a OneItem cursor.old (made_item i) cursor.new)
+        × (value_said value.new ≡ value_said value.old ++ item_parts i)) }
+    ensures err { IfErr result (λ stop. (a : Around) → IsBroken a OneItem cursor.old stop) }
+{
+    cursor.advance();
+    bytes(cursor, value)?;
+    cursor.expect(TokenKind::Mark(Mark::CloseBracket))
+}
+
+/// Reads a reference outside a cell list.
+fn path_text<'a>(
+    alloc: Global,
+    cursor: &mut Cursor<'a, '_>,
+    value: &mut Value<'a>,
+) -> Result<(), Stop>
+    requires { opening_of (kind_at (first cursor.old)) ≡ opening.Reference }
+    ensures ok { OnOk result ((i : RawItem) × ((a : Around) → IsRead a OneItem cursor.old (made_item i) cursor.new)
+        × (value_said value.new ≡ value_said value.old ++ item_parts i)) }
+    ensures err { IfErr result (λ stop. (a : Around) → IsBroken a OneItem cursor.old stop) }
+{
+    let target = reference(cursor)?;
+    cursor.advance();
+    value.push_reference(alloc, Form::Text, target)?;
+    Ok(())
+}
+
 /// Reads one component of a value, without the labels around it.
 fn item<'a>(alloc: Global, cursor: &mut Cursor<'a, '_>, value: &mut Value<'a>) -> Result<(), Stop>
     ensures ok { OnOk result ((i : RawItem) × ((a : Around) → IsRead a OneItem cursor.old (made_item i) cursor.new)
@@ -348,23 +390,31 @@ fn item<'a>(alloc: Global, cursor: &mut Cursor<'a, '_>, value: &mut Value<'a>) -
             cursor.advance();
             sized_cells(alloc, cursor, value)
         }
-        Opening::Text => {
-            value.push_string(cursor.bytes())?;
-            cursor.advance();
-            Ok(())
-        }
-        Opening::Bytes => {
-            cursor.advance();
-            bytes(cursor, value)?;
-            cursor.expect(TokenKind::Mark(Mark::CloseBracket))
-        }
-        Opening::Reference => {
-            let target = reference(cursor)?;
-            cursor.advance();
-            value.push_reference(alloc, Form::Text, target)?;
-            Ok(())
-        }
+        Opening::Text => text(cursor, value),
+        Opening::Bytes => byte_list(cursor, value),
+        Opening::Reference => path_text(alloc, cursor, value),
         Opening::Nothing => Err(cursor.stop(FaultKind::Syntax)),
+    }
+}
+
+/// Reads components with commas between them, and appends what they say.
+fn components<'a>(
+    alloc: Global,
+    cursor: &mut Cursor<'a, '_>,
+    value: &mut Value<'a>,
+) -> Result<(), Stop>
+    requires { value_said value.old ≡ [] }
+    ensures ok { OnOk result ((cs : List RawComponent) × ((a : Around) → IsRead a OneValue cursor.old (made_value cs) cursor.new) × (value_said value.new ≡ value_parts cs)) }
+    ensures err { IfErr result (λ stop. (a : Around) → IsBroken a OneValue cursor.old stop) }
+{
+    'components: loop {
+        labels(alloc, cursor)?;
+        item(alloc, cursor, value)?;
+        labels(alloc, cursor)?;
+        if cursor.kind() != Some(TokenKind::Mark(Mark::Comma)) {
+            return Ok(());
+        }
+        cursor.advance();
     }
 }
 
@@ -374,13 +424,6 @@ pub(crate) fn value<'a>(alloc: Global, cursor: &mut Cursor<'a, '_>) -> Result<Va
     ensures err { IfErr result (λ stop. (a : Around) → IsBroken a OneValue cursor.old stop) }
 {
     let mut value = Value::new(alloc);
-    'components: loop {
-        labels(alloc, cursor)?;
-        item(alloc, cursor, &mut value)?;
-        labels(alloc, cursor)?;
-        if cursor.kind() != Some(TokenKind::Mark(Mark::Comma)) {
-            return Ok(value);
-        }
-        cursor.advance();
-    }
+    components(alloc, cursor, &mut value)?;
+    Ok(value)
 }

@@ -1,23 +1,14 @@
-use Rattle.std.proofs.Common.{rules, arith, refl, sym, ◌∙◌, ap, subst, ◌≡◌, ◌≢◌, ◌⊎◌, inl, inr, ◌++◌, ◌∷◌, ◌<◌, ◌≤◌, ◌+◌, [], true, false, List, ℕ, Bool, Option, Some, map, length}
-use Rattle.std.specs.List.{AllByRecursion}
-use Rattle.std.proofs.lemmas.Result.{err_from_is_err_and}
-use Rattle.dt_lex.specs.declared.token.TokenKind.{TokenKind}
+use Rattle.std.proofs.Common.{sym, ◌∙◌, ap, subst, ◌≡◌, true, Bool, Some, length}
+use Rattle.std.proofs.lemmas.Result.{err_from_is_err_and, IfErr-weaker, on_ok_weaker}
 use Rattle.dt_lex.specs.declared.token.TokenKind.TheVariants as kind
 use Rattle.dt_lex.specs.declared.token.Mark.TheVariants as mark
-use Rattle.dt_lex.specs.declared.token.Keyword.TheVariants as keyword
-use Rattle.dt_parse.specs.declared.body.Front.TheVariants as front
-use Rattle.dt_parse.specs.declared.body.Behind.TheVariants as behind
-use Rattle.dt_parse.specs.Words.{Words}
-use Rattle.dt_parse.specs.Unchecked.{RawPlace, RawComponent, raw_child, raw_label, raw_close, raw_property, raw_delete_property, raw_delete_child, place_of}
-use Rattle.dt_parse.specs.Wanted.{kind_at, bytes_at, OneValue, made_value, made_places, AfterName, AfterMemberLabels}
-use Rattle.dt_parse.specs.Descent.{first, after, found, Descends}
-use Rattle.dt_parse.specs.Faults.{outside}
-use Rattle.dt_parse.specs.declared.stop.Stop.{Stop}
-use Rattle.dt_parse.specs.declared.source.Item.TheVariants as item
+use Rattle.dt_grammar.specs.Words.{Words}
+use Rattle.dt_grammar.specs.Unchecked.{raw_delete_property}
+use Rattle.dt_grammar.specs.Wanted.{kind_at, bytes_at, AfterMemberLabels}
+use Rattle.dt_grammar.specs.Descent.{first, after}
 use Rattle.dt_parse.specs.Reading.{IsBroken, no_memory}
-use Rattle.dt_parse.specs.Said.{places_said}
-use Rattle.dt_parse.specs.Nested.{front_of, behind_of, in_body, IsMember, labelled, unclosed}
-use Rattle.dt_parse.proofs.Members.{err_is, ok_is_none, said_one, unclosed_end, closed, with_value, past_name_at, late_at, property_at, delete_property_at, delete_child_at, too_deep_at, unfollowed_at, labels_unfollowed, no_brace, bad_property, bad_child, flag_shorter, flag_read, assigned_shorter, assigned_read, value_stops, unended, delete_property_late, delete_property_unended, delete_property_bad, delete_child_unended, delete_child_bad}
+use Rattle.dt_parse.specs.Nested.{in_body}
+use Rattle.dt_parse.proofs.Members.{err_is, said_one, delete_property_at, delete_property_late, delete_property_unended, delete_property_bad}
 use Rattle.dt_model.specs.Source as model
 use Rattle.dt_model.specs.Names.{IsPropertyName}
 use Rattle.dt_parse.proofs.Members.{NotEnded}
@@ -37,8 +28,13 @@ returns-in_err-name-clause-err c =
 
 pub returns-clause-ok : goal.returns-clause-ok
 returns-clause-ok c =
-    λ ls t. (
+    λ ls t. on_ok_weaker c.push_item.result
+    (λ e. (
       (raw_delete_property ls (bytes_at (first (after true c.args.cursor.now)))),
       delete_property_at ls c.args.late c.args.cursor.now _ c.if-late.false c.requires (subst (λ (x : Words). kind_at (first x) ≡ Some kind.Name) c.advance.ensures c.in_ok-name_ends.ensures.ok.0) (subst (λ (x : Words). kind_at (first (after true x)) ≡ Some (kind.Mark mark.Semicolon)) c.advance.ensures c.in_ok-name_ends.ensures.ok.1) (c.advance-3.ensures ∙ ap (after true) (c.advance-2.ensures ∙ ap (after true) (c.in_ok-name_ends.ensures.ok.2 ∙ c.advance.ensures))) t (subst (λ (x : Words). IsPropertyName (bytes_at (first x))) (c.in_ok-name_ends.ensures.ok.2 ∙ c.advance.ensures) c.in_ok-name.ensures.0),
-      said_one _ _ _ (raw_delete_property ls (bytes_at (first (after true c.args.cursor.now)))) c.in_ok-push.ensures.items (ap model.delete_property (c.in_ok-name.ensures.1 ∙ ap (λ (x : Words). bytes_at (first x)) (c.in_ok-name_ends.ensures.ok.2 ∙ c.advance.ensures))),
-    )
+      said_one _ _ _ (raw_delete_property ls (bytes_at (first (after true c.args.cursor.now)))) e (ap model.delete_property (c.in_ok-name.ensures.1 ∙ ap (λ (x : Words). bytes_at (first x)) (c.in_ok-name_ends.ensures.ok.2 ∙ c.advance.ensures))),
+    ))
+    c.push_item.ensures.ok
+
+pub returns-clause-err : goal.returns-clause-err
+returns-clause-err c = IfErr-weaker c.push_item.result _ _ (λ stop k ls outer. no_memory k) c.push_item.ensures.err

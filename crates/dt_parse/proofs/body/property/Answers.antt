@@ -1,23 +1,11 @@
-use Rattle.std.proofs.Common.{rules, arith, refl, sym, ◌∙◌, ap, subst, ◌≡◌, ◌≢◌, ◌⊎◌, inl, inr, ◌++◌, ◌∷◌, ◌<◌, ◌≤◌, ◌+◌, [], true, false, List, ℕ, Bool, Option, Some, map, length}
-use Rattle.std.specs.List.{AllByRecursion}
-use Rattle.std.proofs.lemmas.Result.{err_from_is_err_and}
-use Rattle.dt_lex.specs.declared.token.TokenKind.{TokenKind}
-use Rattle.dt_lex.specs.declared.token.TokenKind.TheVariants as kind
-use Rattle.dt_lex.specs.declared.token.Mark.TheVariants as mark
-use Rattle.dt_lex.specs.declared.token.Keyword.TheVariants as keyword
-use Rattle.dt_parse.specs.declared.body.Front.TheVariants as front
-use Rattle.dt_parse.specs.declared.body.Behind.TheVariants as behind
-use Rattle.dt_parse.specs.Words.{Words}
-use Rattle.dt_parse.specs.Unchecked.{RawPlace, RawComponent, raw_child, raw_label, raw_close, raw_property, raw_delete_property, raw_delete_child, place_of}
-use Rattle.dt_parse.specs.Wanted.{kind_at, bytes_at, OneValue, made_value, made_places, AfterName, AfterMemberLabels}
-use Rattle.dt_parse.specs.Descent.{first, after, found, Descends}
-use Rattle.dt_parse.specs.Faults.{outside}
-use Rattle.dt_parse.specs.declared.stop.Stop.{Stop}
-use Rattle.dt_parse.specs.declared.source.Item.TheVariants as item
+use Rattle.std.proofs.Common.{sym, subst, Bool}
+use Rattle.std.proofs.lemmas.Result.{err_from_is_err_and, IfErr-weaker, on_ok_weaker}
+use Rattle.dt_grammar.specs.Unchecked.{raw_property}
+use Rattle.dt_grammar.specs.Wanted.{bytes_at, AfterName}
+use Rattle.dt_grammar.specs.Descent.{first}
 use Rattle.dt_parse.specs.Reading.{IsBroken, no_memory}
-use Rattle.dt_parse.specs.Said.{places_said}
-use Rattle.dt_parse.specs.Nested.{front_of, behind_of, in_body, IsMember, labelled, unclosed}
-use Rattle.dt_parse.proofs.Members.{err_is, ok_is_none, said_one, unclosed_end, closed, with_value, past_name_at, late_at, property_at, delete_property_at, delete_child_at, too_deep_at, unfollowed_at, labels_unfollowed, no_brace, bad_property, bad_child, flag_shorter, flag_read, assigned_shorter, assigned_read, value_stops, unended, delete_property_late, delete_property_unended, delete_property_bad, delete_child_unended, delete_child_bad}
+use Rattle.dt_parse.specs.Nested.{in_body}
+use Rattle.dt_parse.proofs.Members.{err_is, said_one, past_name_at, late_at, property_at, bad_property}
 use Rattle.dt_model.specs.Source as model
 use Rattle.dt_parse.proofs.body.property.Goals as goal
 
@@ -36,8 +24,13 @@ returns-in_err-value-clause-err c =
 pub returns-clause-ok : goal.returns-clause-ok
 returns-clause-ok c =
     let h = c.in_ok-value.ensures.ok in
-    λ ls t. (
+    λ ls t. on_ok_weaker c.push_item.result
+    (λ e. (
       raw_property ls (bytes_at (first c.args.cursor.now)) h.0,
       property_at ls c.args.late c.args.cursor.now c.advance.new.self c.assigned.new.cursor h.0 c.if-late.false c.advance.ensures c.requires.named c.requires.assigned t c.in_ok-name.ensures.0 h.1 (h.4 ls (bytes_at (first c.args.cursor.now))) h.3,
-      said_one _ _ _ (raw_property ls (bytes_at (first c.args.cursor.now)) h.0) c.in_ok-push.ensures.items (λ i. model.property (c.in_ok-name.ensures.1 i) (h.2 i)),
-    )
+      said_one _ _ _ (raw_property ls (bytes_at (first c.args.cursor.now)) h.0) e (λ i. model.property (c.in_ok-name.ensures.1 i) (h.2 i)),
+    ))
+    c.push_item.ensures.ok
+
+pub returns-clause-err : goal.returns-clause-err
+returns-clause-err c = IfErr-weaker c.push_item.result _ _ (λ stop k ls outer. no_memory k) c.push_item.ensures.err

@@ -1,20 +1,7 @@
-use Rattle.std.proofs.Common.{arith, refl, sym, ◌∙◌, ap, subst, ◌≡◌, ◌≢◌, ◌⊎◌, inl, inr, ◌++◌, ◌∷◌, ◌<◌, ◌≤◌, ◌+◌, [], true, false, List, ℕ, Bool, Option, Some, map, length, zero}
-use Rattle.std.proofs.lemmas.Result.{err_from_is_err_and}
+use Rattle.std.proofs.Common.{sym, ◌∙◌}
 use Rattle.std.proofs.lemmas.List.{append-nil, map-id}
-use Rattle.dt_lex.specs.declared.token.TokenKind.TheVariants as kind
-use Rattle.dt_lex.specs.declared.token.Mark.TheVariants as mark
-use Rattle.dt_parse.specs.declared.body.Front.TheVariants as front
-use Rattle.dt_parse.specs.declared.body.Behind.TheVariants as behind
-use Rattle.dt_parse.specs.Words.{Words}
-use Rattle.dt_parse.specs.Unchecked.{RawPlace, raw_child, raw_label, raw_close, place_of}
-use Rattle.dt_parse.specs.Wanted.{kind_at, bytes_at, BlockOpen, AfterMemberLabels}
-use Rattle.dt_parse.specs.Descent.{first, after}
-use Rattle.dt_parse.specs.Faults.{outside}
-use Rattle.dt_parse.specs.Reading.{IsBroken}
 use Rattle.dt_parse.specs.Said.{places_said}
-use Rattle.dt_parse.specs.Nested.{front_of, behind_of, in_body, IsMember, Goes}
-use Rattle.dt_parse.proofs.Members.{err_is, said_one, said_more, label_said, labels_said, child_said, not_open, bad_child, too_deep_at, unfollowed_at, name_front, delete_property_front, delete_node_front, brace_behind, none_read}
-use Rattle.dt_parse.proofs.NestedBodies.{labels_stop_at, members_stop_at, member_at, child_at, close_at, close_stops_at, shorter_by_labels, goes_on, goes_nowhere, block_reads, block_stops, block_ordered}
+use Rattle.dt_parse.proofs.Members.{label_said, labels_said}
 use Rattle.std.proofs.lemmas.Iterator.Adapters.{YieldsList-from_vec}
 use Rattle.std.proofs.lemmas.Iterator.Consumers.{YieldsList-end}
 use Rattle.dt_parse.proofs.body.push_labels.Goals as goal
@@ -25,7 +12,7 @@ loop-name-init c =
 
 pub loop-name-preserved : goal.loop-name-preserved
 loop-name-preserved c =
-    label_said c.args.items.now.items c.loop-name.items.items c.push.new.self.items c.loop-name.yielded c.in-Some.name c.loop-name.invariant c.in_ok-push.ensures.items
+    label_said c.args.items.now.items c.loop-name.items.items c.push_item.new.items.items c.loop-name.yielded c.in-Some.name c.loop-name.invariant c.in_ok-push_item.ensures.ok
 
 pub returns-clause-ok : goal.returns-clause-ok
 returns-clause-ok c =

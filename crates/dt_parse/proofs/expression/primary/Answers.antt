@@ -1,6 +1,6 @@
 use Rattle.std.proofs.Common.{[], ◌∷◌, length, refl, ◌∙◌, ap, arith, length-append}
 use Rattle.std.proofs.lemmas.Result.{err_from_is_err_and}
-use Rattle.dt_parse.specs.Words.{words_of}
+use Rattle.dt_grammar.specs.Words.{words_of}
 use Rattle.dt_parse.specs.Standing.{weight}
 use Rattle.dt_parse.proofs.Turns.{after_turn, behind_done, behind_more, done_as, turning_as, pushed_turning, popped_stack, popped_frames, start_from, none_waits, one_waits}
 use Rattle.dt_parse.proofs.expression.primary.Goals as goal

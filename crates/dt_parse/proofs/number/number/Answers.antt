@@ -1,7 +1,7 @@
 use Rattle.std.proofs.Common.{rules}
 use Rattle.std.proofs.lemmas.Result.{err_from_is_err_and}
 use Rattle.dt_expr.specs.Fits.{Fits}
-use Rattle.dt_parse.specs.Faults.{in_elements}
+use Rattle.dt_grammar.specs.Faults.{in_elements}
 use Rattle.dt_parse.proofs.Numbers.{unfit}
 use Rattle.dt_parse.proofs.number.number.Goals as goal
 

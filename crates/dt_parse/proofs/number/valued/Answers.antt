@@ -1,8 +1,8 @@
 use Rattle.std.proofs.Common.{subst}
 use Rattle.std.proofs.lemmas.Result.{err_from_is_err_and}
-use Rattle.dt_parse.specs.Words.{Words}
-use Rattle.dt_parse.specs.Wanted.{Prim}
-use Rattle.dt_parse.specs.Faults.{Around}
+use Rattle.dt_grammar.specs.Words.{Words}
+use Rattle.dt_grammar.specs.Wanted.{Prim}
+use Rattle.dt_grammar.specs.Faults.{Around}
 use Rattle.dt_parse.specs.Reading.{IsBroken}
 use Rattle.dt_parse.specs.Numbers.{IsMeasured}
 use Rattle.dt_parse.proofs.Numbers.{literal_valued, undivided}

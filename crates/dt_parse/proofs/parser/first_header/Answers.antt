@@ -1,9 +1,9 @@
 use Rattle.std.proofs.Common.{sym, ◌∙◌, true, false}
 use Rattle.std.proofs.lemmas.Bool.{not-true, not-false}
-use Rattle.dt_parse.specs.Faults.{outside}
+use Rattle.dt_grammar.specs.Faults.{outside}
 use Rattle.dt_parse.specs.Reading.{IsBroken}
-use Rattle.dt_parse.specs.Wanted.{Whole, AfterVersion, AfterHeader, PluginEnd, MoreHeaders}
-use Rattle.dt_parse.proofs.SameKinds.{same_next, other_next}
+use Rattle.dt_grammar.specs.Wanted.{Whole, AfterVersion, AfterHeader, PluginEnd, MoreHeaders}
+use Rattle.dt_grammar.proofs.SameKinds.{same_next, other_next}
 use Rattle.dt_parse.proofs.Leading.{handed_on, leads_then, leads_stop}
 use Rattle.dt_parse.proofs.ReadHeaders.{whole_stop, whole_leads, version_stop, version_leads, first_plugin_leads, no_plugin_leads, plugin_stop, plugin_leads}
 use Rattle.dt_parse.proofs.parser.first_header.Goals as goal

@@ -1,8 +1,8 @@
 use Rattle.std.proofs.Common.{sym, ◌∙◌, arith}
-use Rattle.dt_parse.specs.Faults.{outside}
+use Rattle.dt_grammar.specs.Faults.{outside}
 use Rattle.dt_parse.specs.Reading.{IsBroken}
-use Rattle.dt_parse.specs.Wanted.{Whole, MoreHeaders, NextVersion}
-use Rattle.dt_parse.proofs.SameKinds.{same_next, other_next}
+use Rattle.dt_grammar.specs.Wanted.{Whole, MoreHeaders, NextVersion}
+use Rattle.dt_grammar.proofs.SameKinds.{same_next, other_next}
 use Rattle.dt_parse.proofs.Leading.{handed_on, leads_then, leads_stop, shorter}
 use Rattle.dt_parse.proofs.ReadHeaders.{header_leads, behind_headers, behind_headers_breaks}
 use Rattle.dt_parse.proofs.parser.headers.Goals as goal

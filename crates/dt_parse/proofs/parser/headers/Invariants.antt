@@ -1,6 +1,6 @@
 use Rattle.std.proofs.Common.{length}
-use Rattle.dt_parse.specs.Wanted.{Whole, MoreHeaders}
-use Rattle.dt_parse.specs.Faults.{outside}
+use Rattle.dt_grammar.specs.Wanted.{Whole, MoreHeaders}
+use Rattle.dt_grammar.specs.Faults.{outside}
 use Rattle.dt_parse.specs.Leading.{Leads}
 use Rattle.dt_parse.proofs.parser.headers.Given as goal
 

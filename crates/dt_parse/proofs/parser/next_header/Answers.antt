@@ -1,8 +1,8 @@
 use Rattle.std.proofs.Common.{arith}
 use Rattle.std.proofs.lemmas.Result.{IfErr-weaker, on_ok_weaker}
-use Rattle.dt_parse.specs.Faults.{outside}
+use Rattle.dt_grammar.specs.Faults.{outside}
 use Rattle.dt_parse.specs.Reading.{IsBroken}
-use Rattle.dt_parse.specs.Wanted.{NextVersion}
+use Rattle.dt_grammar.specs.Wanted.{NextVersion}
 use Rattle.dt_parse.proofs.Leading.{handed_on, no_longer}
 use Rattle.dt_parse.proofs.ReadHeaders.{next_stop, next_plain, next_tagged_stop, next_tagged_end_stop, next_tagged}
 use Rattle.dt_parse.proofs.parser.next_header.Goals as goal

@@ -1,15 +1,15 @@
 use Rattle.std.proofs.Common.{subst, sym, ap, ◌∙◌, rules, ◌≡◌, ◌-◌, [], List, drop, length}
 use Rattle.std.specs.List.{AllByRecursion}
 use Rattle.dt_names.specs.declared.fault.FaultKind.TheVariants.{NoMemory}
-use Rattle.dt_parse.specs.Words.{Words, words_of}
-use Rattle.dt_parse.specs.Wanted.{made_source, Whole}
-use Rattle.dt_parse.specs.Descent.{found, Descends}
-use Rattle.dt_parse.specs.Faults.{outside}
+use Rattle.dt_grammar.specs.Words.{Words, words_of}
+use Rattle.dt_grammar.specs.Wanted.{made_source, Whole}
+use Rattle.dt_grammar.specs.Descent.{found, Descends}
+use Rattle.dt_grammar.specs.Faults.{outside}
 use Rattle.dt_parse.specs.Reading.{IsInside, IsBroken, IsBroken, IsTagged, place_of, told_at, unlexed}
 use Rattle.dt_parse.proofs.parser.parse.Goals as goal
 use Rattle.dt_lex.specs.declared.token.Token.{Token}
 use Rattle.dt_lex.specs.Lexing.{WhyNotLexed}
-use Rattle.dt_parse.specs.Grammar.{SpellsSource}
+use Rattle.dt_grammar.specs.Grammar.{SpellsSource}
 use Rattle.std.proofs.lemmas.Result.{err_from_is_err_and}
 use Rattle.dt_parse.proofs.Parsing.{all_inside, source_spelled, why_untagged, why_broken, source_kind}
 

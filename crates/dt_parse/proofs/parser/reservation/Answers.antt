@@ -1,8 +1,8 @@
 use Rattle.std.proofs.Common.{refl, ℕ, List, [], arith}
 use Rattle.std.proofs.lemmas.Bool.{false≢true}
-use Rattle.dt_parse.specs.Faults.{outside}
+use Rattle.dt_grammar.specs.Faults.{outside}
 use Rattle.dt_parse.specs.Reading.{IsBroken}
-use Rattle.dt_parse.specs.Wanted.{AfterTopLabels}
+use Rattle.dt_grammar.specs.Wanted.{AfterTopLabels}
 use Rattle.dt_parse.proofs.Leading.{handed_on, no_longer}
 use Rattle.dt_parse.proofs.ReadReserves.{address_stop, size_stop, zeros_stop, numbers_read, end_stop, reserves}
 use Rattle.dt_parse.proofs.parser.reservation.Goals as goal

@@ -2,12 +2,12 @@ use Rattle.std.proofs.Common.{◌≢◌, Some, sym, ◌∙◌, ap, ◌++◌, ◌
 use Rattle.std.proofs.lemmas.Bool.{not-true}
 use Rattle.dt_lex.specs.declared.token.TokenKind.TheVariants as kind
 use Rattle.dt_lex.specs.declared.token.Keyword.TheVariants as keyword
-use Rattle.dt_parse.specs.Descent.{first}
-use Rattle.dt_parse.specs.Faults.{outside}
+use Rattle.dt_grammar.specs.Descent.{first}
+use Rattle.dt_grammar.specs.Faults.{outside}
 use Rattle.dt_parse.specs.Reading.{IsBroken}
 use Rattle.dt_parse.specs.Said.{reservation_said}
-use Rattle.dt_parse.specs.Wanted.{Top, kind_at}
-use Rattle.dt_parse.proofs.SameKinds.{other_next}
+use Rattle.dt_grammar.specs.Wanted.{Top, kind_at}
+use Rattle.dt_grammar.proofs.SameKinds.{other_next}
 use Rattle.dt_parse.proofs.Leading.{handed_on}
 use Rattle.dt_parse.proofs.ReadCells.{no_more}
 use Rattle.dt_parse.proofs.ReadReserves.{none_read, top_stop, reserve_stop, another_read, statements_follow, statements_break, said_more}

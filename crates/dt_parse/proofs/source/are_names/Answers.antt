@@ -2,8 +2,8 @@ use Rattle.std.proofs.Common.{rules, ◌≡◌, ◌≢◌, ◌∙◌, ◌++◌, 
 use Rattle.std.proofs.lemmas.List.{take_rest}
 use Rattle.std.proofs.lemmas.Bool.{false≢true}
 use Rattle.dt_model.specs.Names.{IsNodeName}
-use Rattle.dt_parse.specs.Paths.{BeginsName}
-use Rattle.dt_parse.proofs.PathTexts.{Begun, headed, unheaded, first_name, decides_on}
+use Rattle.dt_grammar.specs.Paths.{BeginsName}
+use Rattle.dt_grammar.proofs.PathTexts.{Begun, headed, unheaded, first_name, decides_on}
 use Rattle.dt_parse.proofs.source.are_names.Goals as goal
 
 never : {P : Type 0} → ¬ P → (IsTrue false → P) × (P → IsTrue false)

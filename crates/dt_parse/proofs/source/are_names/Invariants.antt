@@ -1,6 +1,6 @@
 -- What is left is names where the whole is.
 use Rattle.std.proofs.Common.{length}
-use Rattle.dt_parse.proofs.PathTexts.{Decides}
+use Rattle.dt_grammar.proofs.PathTexts.{Decides}
 use Rattle.dt_parse.proofs.source.are_names.Given as goal
 
 abbrev pub invariant-loop-rest : goal.invariant-loop-rest

@@ -1,6 +1,6 @@
 use Rattle.std.proofs.Common.{rules, ◌≡◌, ◌≢◌, length, codes}
 use Rattle.std.proofs.lemmas.Bool.{false≢true}
-use Rattle.dt_parse.proofs.PathTexts.{empty_text, text_of_names, names_of_text}
+use Rattle.dt_grammar.proofs.PathTexts.{empty_text, text_of_names, names_of_text}
 use Rattle.dt_parse.proofs.source.is_path_text.Goals as goal
 
 pub returns-then-is_empty : goal.returns-then-is_empty

@@ -1,17 +1,10 @@
-use Rattle.std.proofs.Common.{arith, refl, sym, ◌∙◌, ap, subst, ◌≡◌, ◌≢◌, ◌++◌, ◌∷◌, [], true, false, List, ℕ, Bool, Option, Some, map, length}
-use Rattle.std.proofs.lemmas.Result.{err_from_is_err_and}
-use Rattle.dt_model.specs.Source as model
-use Rattle.dt_parse.specs.declared.source.Item.TheVariants as item
-use Rattle.dt_parse.specs.declared.statement.Start.TheVariants as start
-use Rattle.dt_parse.specs.Words.{Words}
-use Rattle.dt_parse.specs.Unchecked.{RawPlace, raw_root, raw_block, raw_delete_node, raw_label, place_of}
-use Rattle.dt_parse.specs.Wanted.{kind_at, bytes_at, OneStatement, made_places}
-use Rattle.dt_parse.specs.Descent.{first, after}
-use Rattle.dt_parse.specs.Faults.{outside}
-use Rattle.dt_parse.specs.Reading.{IsRead, IsBroken}
+use Rattle.std.proofs.Common.{sym, ◌∙◌, ap, subst, List, ℕ}
+use Rattle.dt_grammar.specs.Wanted.{OneStatement, made_places}
+use Rattle.dt_grammar.specs.Faults.{outside}
+use Rattle.dt_parse.specs.Reading.{IsRead}
 use Rattle.dt_parse.specs.Starts.{start_of}
-use Rattle.dt_parse.proofs.Members.{err_is, said_one, said_more, no_labels, some_labels, empty_is, full_is}
-use Rattle.dt_parse.proofs.Beginnings.{node_start, unstarted, labelled_root, labelled_deletion, bad_node, root_read, root_stops, block_read, block_stops_in, delete_read, no_reference, bad_deletion, unended_deletion, err_weaker, ok_weaker}
+use Rattle.dt_parse.proofs.Members.{no_labels, some_labels, empty_is, full_is}
+use Rattle.dt_parse.proofs.Beginnings.{unstarted, err_weaker, ok_weaker}
 use Rattle.dt_parse.proofs.statement.statement.Goals as goal
 
 pub returns-in-Root-clause-err : goal.returns-in-Root-clause-err

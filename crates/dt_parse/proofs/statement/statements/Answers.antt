@@ -1,7 +1,7 @@
-use Rattle.std.proofs.Common.{◌≡◌, ◌≢◌, ◌++◌, [], List, ℕ, length, arith}
+use Rattle.std.proofs.Common.{◌≡◌, ◌≢◌, ◌++◌, [], length, arith}
 use Rattle.std.proofs.lemmas.Result.{err_from_is_err_and}
-use Rattle.dt_parse.specs.Wanted.{SomeLabels, made_labels}
-use Rattle.dt_parse.specs.Faults.{outside}
+use Rattle.dt_grammar.specs.Wanted.{SomeLabels, made_labels}
+use Rattle.dt_grammar.specs.Faults.{outside}
 use Rattle.dt_parse.proofs.Members.{err_is, said_more, not_longer}
 use Rattle.dt_parse.proofs.Following.{statement_stops, statement_shorter, labels_between, one_follows, follows_on, follows_nothing, all_read, stops_behind}
 use Rattle.dt_parse.proofs.statement.statements.Goals as goal

@@ -1,9 +1,9 @@
 use Rattle.std.proofs.Common.{◌≡◌, ◌++◌, ℕ, List, map, length}
-use Rattle.dt_parse.specs.Words.{Words}
-use Rattle.dt_parse.specs.Unchecked.{RawPlace, place_of, all_but_last}
-use Rattle.dt_parse.specs.Strict.{AreLabelTexts}
-use Rattle.dt_parse.specs.Wanted.{OneStatement, made_places}
-use Rattle.dt_parse.specs.Faults.{outside}
+use Rattle.dt_grammar.specs.Words.{Words}
+use Rattle.dt_grammar.specs.Unchecked.{RawPlace, place_of, all_but_last}
+use Rattle.dt_grammar.specs.Strict.{AreLabelTexts}
+use Rattle.dt_grammar.specs.Wanted.{OneStatement, made_places}
+use Rattle.dt_grammar.specs.Faults.{outside}
 use Rattle.dt_parse.specs.Reading.{IsRead}
 use Rattle.dt_parse.specs.Said.{places_said}
 use Rattle.dt_parse.specs.Starts.{Follows}

@@ -1,9 +1,9 @@
 use Rattle.std.proofs.Common.{refl, ap, sym, ◌∙◌, ◌++◌, ◌∷◌, []}
 use Rattle.std.proofs.lemmas.List.{append-nil}
-use Rattle.dt_parse.specs.Unchecked.{label_cell, byte_cell}
-use Rattle.dt_parse.specs.Wanted.{made_cells, SomeBytes, bytes_at}
-use Rattle.dt_parse.specs.Descent.{first}
-use Rattle.dt_parse.specs.Faults.{Around}
+use Rattle.dt_grammar.specs.Unchecked.{label_cell, byte_cell}
+use Rattle.dt_grammar.specs.Wanted.{made_cells, SomeBytes, bytes_at}
+use Rattle.dt_grammar.specs.Descent.{first}
+use Rattle.dt_grammar.specs.Faults.{Around}
 use Rattle.dt_parse.specs.Reading.{IsBroken}
 use Rattle.dt_parse.specs.Openings.{byte_opening}
 use Rattle.dt_parse.specs.Said.{value_said}

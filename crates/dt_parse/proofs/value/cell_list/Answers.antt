@@ -1,6 +1,6 @@
 use Rattle.std.proofs.lemmas.Result.{IfErr-weaker, on_ok_weaker}
-use Rattle.dt_parse.specs.Wanted.{BitsOpen}
-use Rattle.dt_parse.specs.Faults.{Around}
+use Rattle.dt_grammar.specs.Wanted.{BitsOpen}
+use Rattle.dt_grammar.specs.Faults.{Around}
 use Rattle.dt_parse.specs.Reading.{IsBroken}
 use Rattle.dt_parse.proofs.Leading.{handed_on}
 use Rattle.dt_parse.proofs.ReadItems.{open_stop, cells_stop, cells_end_stop, cell_list_read}

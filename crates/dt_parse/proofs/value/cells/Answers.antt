@@ -2,10 +2,10 @@ use Rattle.std.proofs.Common.{refl, ap, sym, ◌∙◌, ◌++◌, ◌∷◌, [],
 use Rattle.std.proofs.lemmas.List.{append-nil}
 use Rattle.std.specs.Int.{to_be_bytes}
 use Rattle.dt_model.specs.Source.{one, number_of}
-use Rattle.dt_parse.specs.Unchecked.{label_cell, number_cell, reference_cell, width_of}
-use Rattle.dt_parse.specs.Wanted.{made_cells, SomeCells, bytes_at, size_in, expression_in}
-use Rattle.dt_parse.specs.Descent.{first}
-use Rattle.dt_parse.specs.Faults.{Around, outside, in_elements}
+use Rattle.dt_grammar.specs.Unchecked.{label_cell, number_cell, reference_cell, width_of}
+use Rattle.dt_grammar.specs.Wanted.{made_cells, SomeCells, bytes_at, size_in, expression_in}
+use Rattle.dt_grammar.specs.Descent.{first}
+use Rattle.dt_grammar.specs.Faults.{Around, outside, in_elements}
 use Rattle.dt_parse.specs.Reading.{IsBroken}
 use Rattle.dt_parse.specs.Openings.{cell_opening}
 use Rattle.dt_parse.specs.Said.{value_said}

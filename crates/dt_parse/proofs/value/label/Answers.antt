@@ -1,7 +1,7 @@
 use Rattle.std.proofs.Common.{rules, ◌≡◌, ◌≢◌, ◌-◌, List, ℕ, length, take, slice_index, refl, ◌∙◌, subst}
-use Rattle.dt_parse.specs.Unchecked.{all_but_last}
-use Rattle.dt_parse.specs.Strict.{IsLabelText}
-use Rattle.dt_parse.proofs.PathTexts.{label_text, front_of}
+use Rattle.dt_grammar.specs.Unchecked.{all_but_last}
+use Rattle.dt_grammar.specs.Strict.{IsLabelText}
+use Rattle.dt_grammar.proofs.PathTexts.{label_text, front_of}
 use Rattle.dt_parse.proofs.value.label.Goals as goal
 
 pub returns-in-Ok : goal.returns-in-Ok

@@ -1,7 +1,7 @@
 use Rattle.std.proofs.Common.{rules, ◌≡◌, ◌≢◌, ◌∙◌, length, slice_index, refl, subst, sym, drop}
 use Rattle.std.proofs.lemmas.List.{take_rest}
 use Rattle.dt_model.specs.Names.{IsLabel}
-use Rattle.dt_parse.proofs.PathTexts.{begun_label, no_label}
+use Rattle.dt_grammar.proofs.PathTexts.{begun_label, no_label}
 use Rattle.dt_parse.proofs.value.label_referred_to.Goals as goal
 
 pub returns-in-Ok : goal.returns-in-Ok

@@ -2,8 +2,8 @@ use Rattle.std.proofs.Common.{◌≡◌, ◌≢◌, Some, sym, ◌∙◌}
 use Rattle.std.proofs.lemmas.Bool.{false≢true}
 use Rattle.std.proofs.lemmas.Result.{err_from_is_err_and}
 use Rattle.dt_lex.specs.declared.token.TokenKind.TheVariants as kind
-use Rattle.dt_parse.specs.Wanted.{kind_at}
-use Rattle.dt_parse.specs.Descent.{first}
+use Rattle.dt_grammar.specs.Wanted.{kind_at}
+use Rattle.dt_grammar.specs.Descent.{first}
 use Rattle.dt_parse.proofs.LabelLists.{bad_label, another_read, all_read}
 use Rattle.dt_parse.proofs.value.labels.Goals as goal
 

@@ -1,7 +1,7 @@
 use Rattle.std.proofs.lemmas.Result.{IfErr-weaker, on_ok_weaker}
-use Rattle.dt_parse.specs.Unchecked.{cell_item}
-use Rattle.dt_parse.specs.Wanted.{BitsNumber}
-use Rattle.dt_parse.specs.Faults.{Around}
+use Rattle.dt_grammar.specs.Unchecked.{cell_item}
+use Rattle.dt_grammar.specs.Wanted.{BitsNumber}
+use Rattle.dt_grammar.specs.Faults.{Around}
 use Rattle.dt_parse.specs.Reading.{IsBroken}
 use Rattle.dt_parse.proofs.Leading.{handed_on}
 use Rattle.dt_parse.proofs.ReadItems.{width_stop, sized_stop, sized_read}

@@ -1,6 +1,6 @@
 use Rattle.std.proofs.Common.{sym, ap, ◌∙◌, drop}
 use Rattle.std.proofs.lemmas.List.{take_rest, drop-map}
-use Rattle.dt_parse.specs.Words.{word_of, words_of}
+use Rattle.dt_grammar.specs.Words.{word_of, words_of}
 use Rattle.dt_parse.proofs.cursor.Cursor.skip.Goals as goal
 
 pub returns : goal.returns

@@ -1,5 +1,5 @@
 use Rattle.std.proofs.Common.{rules, IsTrue, refl}
-use Rattle.dt_parse.proofs.PathTexts.{is_path}
+use Rattle.dt_grammar.proofs.PathTexts.{is_path}
 use Rattle.dt_parse.proofs.source.NodePath.new.Goals as goal
 
 pub invariant_of-result : goal.invariant_of-result

@@ -1,0 +1,12 @@
+pub mod Faults
+pub mod Words
+pub mod Grammar
+pub mod Unchecked
+pub mod Relaxed
+pub mod Wanted
+pub mod Moves
+pub mod Descent
+pub mod Samples
+pub mod Strict
+pub mod Exactly
+pub mod Paths

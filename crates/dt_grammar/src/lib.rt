@@ -1,0 +1,6 @@
+//! The grammar of DTS version 1 (Devicetree Specification v0.4, chapter 6), and theorems about it alone: that tokens say one
+//! thing at most, that the descent with one token of look-ahead reads it exactly, and which fault shows first. They stand
+//! apart from the code that reads a source, so that they aren't checked again with it.
+#![tactic(auto)]
+
+mod laws;

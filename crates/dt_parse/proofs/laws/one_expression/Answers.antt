@@ -1,5 +1,0 @@
-use Rattle.dt_parse.proofs.Expressions.{one_reading}
-use Rattle.dt_parse.proofs.laws.one_expression.Goals as goal
-
-pub returns : goal.returns
-returns c = one_reading

@@ -1,5 +1,0 @@
-use Rattle.dt_parse.proofs.Headers.{one_relaxed}
-use Rattle.dt_parse.proofs.laws.one_relaxed.Goals as goal
-
-pub returns : goal.returns
-returns c = one_relaxed

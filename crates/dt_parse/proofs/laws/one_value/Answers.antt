@@ -1,5 +1,0 @@
-use Rattle.dt_parse.proofs.OneSource.{one_value}
-use Rattle.dt_parse.proofs.laws.one_value.Goals as goal
-
-pub returns : goal.returns
-returns c = one_value
