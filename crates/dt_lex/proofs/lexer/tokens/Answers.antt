@@ -1,4 +1,4 @@
-use Rattle.std.proofs.Common.{◌≡◌, ℕ, ◌+◌, List, [], ◌++◌, length, true, Ok, Err, inr, refl, sym, ◌∙◌, ap, subst, arith, false-eqb}
+use Rattle.std.proofs.Common.{◌≡◌, ℕ, ◌+◌, List, [], ◌++◌, length, true, Ok, Err, inr, refl, sym, ◌∙◌, ap, subst, arith, false-eqb, zero-add}
 use Rattle.std.proofs.lemmas.List.{append-nil}
 use Rattle.std.proofs.lemmas.Result.{err_from_is_err_and}
 use Rattle.std.proofs.lemmas.Bool.{eqb-true}
@@ -6,7 +6,7 @@ use Rattle.dt_lex.specs.declared.token.Mode.TheVariants as mode
 use Rattle.dt_lex.specs.declared.token.Token.{Token}
 use Rattle.dt_lex.specs.Lexing.{Lexed, Lexes, FirstFlaw, IsLexed, WhyNotLexed, with_tokens}
 use Rattle.dt_lex.specs.Pieces.{tokens_of}
-use Rattle.dt_lex.proofs.Lexed.{unique, later, with_more, goes_on, fault_here, end_here, longer, out_of_memory, flaw_reported, are_spans}
+use Rattle.dt_lex.proofs.Lexed.{unique, later, with_none, with_more, goes_on, fault_here, end_here, longer, out_of_memory, flaw_reported, are_spans}
 use Rattle.dt_lex.specs.Labels.{IsUnlabelled}
 use Rattle.dt_lex.proofs.LabelLemmas.{unlabelled_behind}
 use Rattle.dt_lex.proofs.lexer.tokens.Goals as goal
@@ -32,6 +32,14 @@ returns-in-Err-clause-only c a d short =
     let flaw : FirstFlaw = record { flaw = c.in-Err.flaw; at = l.start } in
     let lexed = l.invariant.follows (Err flaw) (fault_here l.mode l.fresh l.start l.rest.now c.in-Err.flaw (λ e. omega (arith, ap length e, false-eqb _ 0 c.loop-rest-test.ensures)) c.in-Err.ensures.exact) in
     inr (flaw, c.fault_at.ensures, unique d lexed)
+
+pub loop-rest-init : goal.loop-rest-init
+loop-rest-init c = record {
+  short = c.if-text-gt-TEXT_LIMIT.false;
+  free = λ u v e l. absurd (omega (arith, l));
+  place = zero-add (length c.args.text.now);
+  follows = λ a d. subst (IsLexed c.args.text.now) (sym (ap (λ (ts : List Token). with_tokens ts a) c.new-out.ensures.items ∙ with_none a)) d;
+}
 
 pub loop-rest-preserved : goal.loop-rest-preserved
 loop-rest-preserved c =
