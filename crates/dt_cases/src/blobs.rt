@@ -17,18 +17,15 @@ use std::alloc::{AllocError, Global};
 /// these ones as its strings block.
 pub fn call(alloc: Global, name: &str, words: &str, input: &[u8]) -> Result<Answer, Stop> {
     match name {
-        "compile" => Ok(Answer::Bytes(compile(alloc, input)?)),
-        "check" => checked(alloc, &Blob::check(input)?),
+        "compile" => bytes_of_blob(compile(alloc, input)),
+        "check" => checked(alloc, input),
         "read" => read(alloc, input),
-        "root" => root_of(alloc, &Blob::check(input)?),
+        "root" => root_of(alloc, input),
         "rewrite" => rewritten(alloc, input),
         "size" => size(alloc, input.len()),
-        "first" => {
-            let size = index(words).ok_or(Stop::Malformed)?;
-            bytes(alloc, input.get(..size).ok_or(Stop::Malformed)?)
-        }
+        "first" => front(alloc, words, input),
         "change" => changed(alloc, words, input),
-        "structure" => structured(alloc, &bytes_of(alloc, words)?, input),
+        "structure" => structured(alloc, words, input),
         _ => Err(Stop::Malformed),
     }
 }
@@ -56,12 +53,17 @@ fn bytes_of_blob(blob: Result<Vec<u8>, Fault>) -> Result<Answer, Stop> {
     Ok(Answer::Bytes(blob?))
 }
 
+fn front(alloc: Global, words: &str, input: &[u8]) -> Result<Answer, Stop> {
+    let size = index(words).ok_or(Stop::Malformed)?;
+    bytes(alloc, input.get(..size).ok_or(Stop::Malformed)?)
+}
+
 fn size(alloc: Global, size: usize) -> Result<Answer, Stop> {
     Ok(Answer::Told(format!(in alloc; "{size}\n")?))
 }
 
-fn checked(alloc: Global, blob: &Blob<'_>) -> Result<Answer, Stop> {
-    let counts = blob.counts();
+fn checked(alloc: Global, input: &[u8]) -> Result<Answer, Stop> {
+    let counts = Blob::check(input)?.counts();
     let nodes = counts.nodes;
     let properties = counts.properties;
     let reservations = counts.reservations;
@@ -71,36 +73,47 @@ fn checked(alloc: Global, blob: &Blob<'_>) -> Result<Answer, Stop> {
 }
 
 /// What the calls of a blob tell of it and of its root.
-fn root_of(alloc: Global, blob: &Blob<'_>) -> Result<Answer, Stop> {
+fn root_of(alloc: Global, input: &[u8]) -> Result<Answer, Stop> {
+    let blob = Blob::check(input)?;
     let mut lines = String::new(alloc);
-    push_blob(&mut lines, alloc, blob)?;
-    push_root(&mut lines, alloc, blob)?;
+    push_blob(&mut lines, alloc, &blob)?;
     Ok(Answer::Told(lines))
 }
 
 fn push_blob(lines: &mut String, alloc: Global, blob: &Blob<'_>) -> Result<(), AllocError> {
     let boot_cpu = blob.boot_cpu();
     push_line(lines, format!(in alloc; "boot {boot_cpu}\n"))?;
-    for (address, size) in blob.reservations() {
-        push_line(lines, format!(in alloc; "reserve {address:#x} {size:#x}\n"))?;
-    }
-    Ok(())
-}
-
-fn push_root(lines: &mut String, alloc: Global, blob: &Blob<'_>) -> Result<(), AllocError> {
+    push_reservations(lines, alloc, blob)?;
     let root = blob.root();
     let size = blob.name(root).len();
     push_line(
         lines,
         format!(in alloc; "root at {root}, its name {size} bytes\n"),
     )?;
+    push_properties(lines, alloc, blob)?;
+    push_children(lines, alloc, blob)
+}
+
+fn push_reservations(lines: &mut String, alloc: Global, blob: &Blob<'_>) -> Result<(), AllocError> {
+    for (address, size) in blob.reservations() {
+        push_line(lines, format!(in alloc; "reserve {address:#x} {size:#x}\n"))?;
+    }
+    Ok(())
+}
+
+fn push_properties(lines: &mut String, alloc: Global, blob: &Blob<'_>) -> Result<(), AllocError> {
+    let root = blob.root();
     for (name, value) in blob.props(root) {
         push_property(lines, alloc, name, value)?;
         if blob.value(root, name) != Some(value) {
             lines.push_str("  and another value by its name\n")?;
         }
     }
-    for child in blob.children(root) {
+    Ok(())
+}
+
+fn push_children(lines: &mut String, alloc: Global, blob: &Blob<'_>) -> Result<(), AllocError> {
+    for child in blob.children(blob.root()) {
         push_line(lines, format!(in alloc; "child at {child}\n"))?;
     }
     Ok(())
@@ -130,7 +143,13 @@ fn push_both(bytes: &mut Vec<u8>, first: &[u8], second: &[u8]) -> Result<(), All
 }
 
 /// A blob without reservations whose header fits the two blocks.
-fn structured(alloc: Global, strings: &[u8], structure: &[u8]) -> Result<Answer, Stop> {
+fn structured(alloc: Global, words: &str, structure: &[u8]) -> Result<Answer, Stop> {
+    let strings = bytes_of(alloc, words)?;
+    let blob = with_header(alloc, &strings, structure);
+    bytes_of_blob(blob)
+}
+
+fn with_header(alloc: Global, strings: &[u8], structure: &[u8]) -> Result<Vec<u8>, Fault> {
     let end = structure.len().saturating_add(56);
     let total = end.saturating_add(strings.len());
     let header = [
@@ -152,14 +171,12 @@ fn structured(alloc: Global, strings: &[u8], structure: &[u8]) -> Result<Answer,
     let mut blob = Vec::new(alloc);
     push_words(&mut blob, &header)?;
     push_both(&mut blob, structure, strings)?;
-    Ok(Answer::Bytes(blob))
+    Ok(blob)
 }
 
-fn push_words(bytes: &mut Vec<u8>, numbers: &[usize]) -> Result<(), Stop> {
+fn push_words(bytes: &mut Vec<u8>, numbers: &[usize]) -> Result<(), AllocError> {
     for number in numbers {
-        let Ok(number) = u32::try_from(*number) else {
-            return Err(Stop::Malformed);
-        };
+        let number = u32::try_from(*number).unwrap_or(u32::MAX);
         bytes.extend_from_slice(&number.to_be_bytes())?;
     }
     Ok(())

@@ -1,6 +1,6 @@
 //! Tokens, and the bytes of texts.
 
-use crate::answer::{Answer, Stop, bytes};
+use crate::answer::{Answer, Stop, bytes, push_line};
 use dt_lex::{Keyword, Mark, Token, TokenKind, push_text, tokens};
 use std::alloc::{AllocError, Global};
 
@@ -33,25 +33,24 @@ fn lines_of(alloc: Global, tokens: &[Token]) -> Result<Answer, Stop> {
 
 fn push_token(lines: &mut String, alloc: Global, token: Token) -> Result<(), AllocError> {
     let Token { kind, start, end } = token;
-    let line = match kind {
-        TokenKind::Label => format!(in alloc; "{start} {end} label\n")?,
-        TokenKind::Keyword(keyword) => {
-            let word = keyword_text(keyword);
-            format!(in alloc; "{start} {end} {word}\n")?
-        }
-        TokenKind::LabelReference => format!(in alloc; "{start} {end} label reference\n")?,
-        TokenKind::PathReference => format!(in alloc; "{start} {end} path reference\n")?,
-        TokenKind::Name => format!(in alloc; "{start} {end} name\n")?,
-        TokenKind::Byte(byte) => format!(in alloc; "{start} {end} byte {byte}\n")?,
-        TokenKind::Integer(number) => format!(in alloc; "{start} {end} integer {number}\n")?,
-        TokenKind::Character(code) => format!(in alloc; "{start} {end} character {code}\n")?,
-        TokenKind::Text => format!(in alloc; "{start} {end} text\n")?,
-        TokenKind::Mark(mark) => {
-            let mark = mark_text(mark);
-            format!(in alloc; "{start} {end} {mark}\n")?
-        }
-    };
-    lines.push_str(line.as_str())
+    push_line(lines, format!(in alloc; "{start} {end} "))?;
+    push_kind(lines, alloc, kind)?;
+    lines.push('\n')
+}
+
+fn push_kind(lines: &mut String, alloc: Global, kind: TokenKind) -> Result<(), AllocError> {
+    match kind {
+        TokenKind::Label => lines.push_str("label"),
+        TokenKind::Keyword(keyword) => lines.push_str(keyword_text(keyword)),
+        TokenKind::LabelReference => lines.push_str("label reference"),
+        TokenKind::PathReference => lines.push_str("path reference"),
+        TokenKind::Name => lines.push_str("name"),
+        TokenKind::Byte(byte) => push_line(lines, format!(in alloc; "byte {byte}")),
+        TokenKind::Integer(number) => push_line(lines, format!(in alloc; "integer {number}")),
+        TokenKind::Character(code) => push_line(lines, format!(in alloc; "character {code}")),
+        TokenKind::Text => lines.push_str("text"),
+        TokenKind::Mark(mark) => lines.push_str(mark_text(mark)),
+    }
 }
 
 fn keyword_text(keyword: Keyword) -> &'static str {

@@ -15,15 +15,17 @@ use std::alloc::Global;
 /// the root's, and each new node has the next one.
 pub fn call(alloc: Global, name: &str, words: &str, input: &[u8]) -> Result<Answer, Stop> {
     let steps = str::from_utf8(input).map_err(|_| Stop::Malformed)?;
-    let boot_cpu = match words {
-        "" => 0,
-        _ => match u32::try_from(number(words).ok_or(Stop::Malformed)?) {
-            Ok(boot_cpu) => boot_cpu,
-            Err(_) => return Err(Stop::Malformed),
-        },
-    };
+    let boot_cpu = boot_cpu_of(words).ok_or(Stop::Malformed)?;
     let mut tree = FlatTree::new(alloc, boot_cpu);
     stepped(&mut tree, alloc, name, steps)
+}
+
+/// The boot CPU that the words say, 0 where they say none.
+fn boot_cpu_of(words: &str) -> Option<u32> {
+    match words {
+        "" => Some(0),
+        _ => u32::try_from(number(words)?).ok(),
+    }
 }
 
 fn stepped(tree: &mut FlatTree, alloc: Global, name: &str, steps: &str) -> Result<Answer, Stop> {
