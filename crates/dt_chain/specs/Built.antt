@@ -1,6 +1,7 @@
 -- What the builder's steps do, and why it refuses a place.
 use Rattle.std.specs.Prelude.{◌≡◌, ℕ, zero, suc, ◌+◌, ◌<◌, ◌≤◌, ◌⊎◌, List, [], ◌∷◌, ◌++◌, length, Result, Ok, Err, MatchResult}
 use Rattle.std.specs.List.{AllByRecursion}
+use Rattle.dt_model.specs.Limits.{most_nodes}
 use Rattle.dt_model.specs.Source.{Place, SoFar, base, read, read_all, too_deep, duplicate_property, duplicate_node, reserved_name}
 use Rattle.dt_names.specs.declared.fault.Fault.{Fault}
 use Rattle.dt_names.specs.declared.fault.FaultKind.{FaultKind}
@@ -29,7 +30,7 @@ IsRefused s place = (t : SoFar) → read base s place ≡ Ok t → ⊥
 -- the place is refused, or memory is wanted
 abbrev pub WhyNotRead : FaultKind → SoFar → Place → Type 0
 WhyNotRead NoMemory s place = Unit {0}
-WhyNotRead Limit s place = (read base s place ≡ Err too_deep) ⊎ ((65536 ≤ opened s.events) × IsOpening place)
+WhyNotRead Limit s place = (read base s place ≡ Err too_deep) ⊎ ((most_nodes ≤ opened s.events) × IsOpening place)
 WhyNotRead Syntax s place = IsRefused s place × (s.bodies ≡ [])
 WhyNotRead DuplicateProperty s place = read base s place ≡ Err duplicate_property
 WhyNotRead DuplicateNode s place = read base s place ≡ Err duplicate_node
@@ -73,7 +74,7 @@ AreUnbalanced (suc outer) (place ∷ places) = AreUnbalanced (depth_behind place
 -- the places mean nothing, or too much, or memory is wanted
 abbrev pub WhyNotBuilt : FaultKind → List Place → Type 0
 WhyNotBuilt NoMemory places = Unit {0}
-WhyNotBuilt Limit places = (read_all base started places ≡ Err too_deep) ⊎ (65536 < 1 + children_in places)
+WhyNotBuilt Limit places = (read_all base started places ≡ Err too_deep) ⊎ (most_nodes < 1 + children_in places)
 WhyNotBuilt Syntax places = IsNotBuilt places × AreUnbalanced 1 places
 WhyNotBuilt DuplicateProperty places = read_all base started places ≡ Err duplicate_property
 WhyNotBuilt DuplicateNode places = read_all base started places ≡ Err duplicate_node

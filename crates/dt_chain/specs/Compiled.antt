@@ -1,6 +1,7 @@
 -- What the compiler answers.
 use Rattle.std.specs.Prelude.{◌≡◌, ℕ, ◌+◌, ◌<◌, ◌≤◌, true, false, List, length, Err, None, Some}
 use Rattle.std.specs.List.{AllByRecursion}
+use Rattle.dt_model.specs.Limits.{most_bytes, most_nodes}
 use Rattle.dt_model.specs.Path.{Path}
 use Rattle.dt_model.specs.Meaning.{Meaning}
 use Rattle.dt_model.specs.Tree.{Reading}
@@ -19,7 +20,7 @@ use Rattle.dt_chain.specs.Means.{TextMeans}
 
 -- The text means something, and the blob is read as a tree that represents it, with boot CPU 0; both are within the limits.
 pub record IsCompiled (text blob : List ℕ) : Type 0 where
-  pub size : length text ≤ 16777216
+  pub size : length text ≤ most_bytes
   pub meaning : Meaning
   pub tree : Reading
   pub number : Path → ℕ
@@ -65,9 +66,9 @@ pub data WhyNotCompiled (text : List ℕ) : Fault → Type 0 where
   -- the path of a node has more than 64 names
   deep : (s : Says) → IsBase text s → IsRefusedFor too_deep s → WhyNotCompiled text (told fault.Limit)
   -- it has more than 65,536 nodes, the root among them
-  many : (s : Says) → IsBase text s → 65536 < 1 + children_in s.places → WhyNotCompiled text (told fault.Limit)
+  many : (s : Says) → IsBase text s → most_nodes < 1 + children_in s.places → WhyNotCompiled text (told fault.Limit)
   -- the blob would be longer than 16 MiB
-  big : (m : Meaning) (t : Reading) (number : Path → ℕ) → TextMeans text m → Represents t m number → 16777216 < length (written t) →
+  big : (m : Meaning) (t : Reading) (number : Path → ℕ) → TextMeans text m → Represents t m number → most_bytes < length (written t) →
       WhyNotCompiled text (told fault.Limit)
 
 -- a fault that the compiler tells

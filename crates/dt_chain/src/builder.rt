@@ -83,8 +83,7 @@ impl Builder {
         if is_reserved(&self.tree, parent, name.as_bytes()) {
             return Err(Fault::of(FaultKind::ReservedName));
         }
-        // the contract of `root` ties the depth of a node to its path
-        let _root = self.tree.root();
+        self.tree.validity();
         match self.tree.add_node(parent, name) {
             Ok(node) => {
                 push(&mut self.stack, node)?;

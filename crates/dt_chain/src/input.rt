@@ -2,13 +2,12 @@
 
 ghost use Rattle.std.specs.Prelude.{◌≡◌, ◌≤◌, false, None, IfOk, IfErr, IsOk, length};
 ghost use Rattle.std.specs.Io.KnownBytes.{Consumes, IsAtEnd};
+ghost use Rattle.dt_model.specs.Limits.{most_bytes};
 ghost use Rattle.dt_chain.specs.Input.{WhyNotRead};
 
+use dt_names::limits::MOST_BYTES;
 use dt_names::{Fault, FaultKind, Feed};
 use std::alloc::Global;
-
-/// The most bytes that an input may have: 16 MiB.
-pub const INPUT_LIMIT: usize = 16_777_216;
 
 /// All bytes that a feed gives, up to its end.
 ///
@@ -18,7 +17,7 @@ pub const INPUT_LIMIT: usize = 16_777_216;
 /// fails; and `NoMemory`. None has a place.
 pub fn read_all<F: Feed>(alloc: Global, feed: &mut F) -> Result<Vec<u8>, Fault>
     ensures bytes { IfOk result (λ all. Consumes (F.remaining feed.old) (F.remaining feed.new) all.items
-        × IsAtEnd (F.remaining feed.new) × (length all.items ≤ 16777216)) }
+        × IsAtEnd (F.remaining feed.new) × (length all.items ≤ most_bytes)) }
     ensures sound { IsOk result → F.has_failed feed.new ≡ false }
     ensures refused { IfErr result (λ fault.
         WhyNotRead fault.kind (F.remaining feed.old) (F.remaining feed.new) (F.has_failed feed.new)
@@ -26,7 +25,7 @@ pub fn read_all<F: Feed>(alloc: Global, feed: &mut F) -> Result<Vec<u8>, Fault>
 {
     let mut all = Vec::new(alloc);
     let mut piece = [0; 4096];
-    while all.len() <= INPUT_LIMIT {
+    while all.len() <= MOST_BYTES {
         match feed.get(&mut piece) {
             Some(0) => return Ok(all),
             Some(given) => all.extend_from_slice(&piece[..given])?,

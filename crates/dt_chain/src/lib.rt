@@ -37,6 +37,7 @@ pub fn compile(alloc: Global, text: &[u8]) -> Result<Vec<u8>, Fault>
     ensures kinds { IfErr result (λ fault. IsCompilerFault fault.kind) }
 {
     let source = parse(alloc, text)?;
+    source.spelled();
     if source.is_overlay() {
         return Err(Fault::at(FaultKind::BadVersionTag, 0));
     }

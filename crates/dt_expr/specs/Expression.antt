@@ -1,6 +1,7 @@
 -- Expressions, their values, and their steps in postfix order (Devicetree Specification v0.4, 6.3).
 use Rattle.std.specs.Prelude.{◌≡◌, ℕ, suc, zero, ◌+◌, ◌-◌, ◌*◌, ◌/◌, ◌%◌, ◌^◌, ◌==◌, ◌≤◌, ◌&&◌, ◌||◌, not, Bool, nat_lt, nat_le, List, [], ◌∷◌, ◌++◌, length, Option, Some, None, option_and_then, option_map, if◌then◌else◌}
 use Rattle.std.specs.Int.Bits.{bit_and, bit_or, bit_xor}
+use Rattle.dt_model.specs.Limits.{most_tokens}
 use Rattle.dt_expr.specs.declared.step.Unary.{Unary}
 use Rattle.dt_expr.specs.declared.step.Unary.TheVariants as unary
 use Rattle.dt_expr.specs.declared.step.Binary.{Binary}
@@ -87,4 +88,4 @@ height _ (step.Conditional ∷ ss) = None
 -- the steps are an expression's, of at most so many as there are tokens of one in a source
 pub record AreSteps (ss : List Step) : Type 0 where
   pub one : height 0 ss ≡ Some 1
-  pub few : length ss ≤ 1024
+  pub few : length ss ≤ most_tokens

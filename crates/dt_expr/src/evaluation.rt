@@ -1,6 +1,7 @@
 //! The value of an expression.
 
 ghost use Rattle.std.specs.Prelude.{◌≡◌, ◌+◌, ◌*◌, ◌/◌, ◌%◌, ◌^◌, ◌<◌, ◌≤◌, [], ◌∷◌, length, Some, None, MatchOption, MatchResult};
+ghost use Rattle.dt_model.specs.Limits.{most_tokens};
 ghost use Rattle.dt_names.specs.declared.fault.FaultKind.TheVariants.{DivideByZero};
 ghost use Rattle.dt_expr.specs.Expression.{Expression, steps, value, unary_value, binary_value};
 ghost use Rattle.dt_expr.specs.Operands.{operands};
@@ -8,27 +9,26 @@ ghost use Rattle.dt_expr.specs.Evaluation.{after};
 
 use crate::expression::Expr;
 use crate::step::{Binary, Step, Unary};
+use dt_names::limits::MOST_TOKENS;
 use dt_names::{Fault, FaultKind};
 use std::marker::Model;
 
-/// The most numbers that wait for their operators at once: an expression has at most so many steps.
-const MOST_NUMBERS: usize = 1024;
-
-/// The numbers that wait for their operators, the last one first.
+/// The numbers that wait for their operators, the last one first: never more than an expression has tokens.
 #[derive(Drop)]
 struct Stack {
-    numbers: [u64; MOST_NUMBERS],
+    numbers: [u64; MOST_TOKENS],
     top: usize,
 }
 
 impl Model for Stack {
     ghost use Rattle.std.specs.Prelude.{ℕ, ◌≤◌, List, drop};
+    ghost use Rattle.dt_model.specs.Limits.{most_tokens};
 
     ghost Value = { List ℕ };
 
     ghost view = { λ s. drop s.top s.numbers };
 
-    ghost invariant = { λ s. s.top ≤ 1024 };
+    ghost invariant = { λ s. s.top ≤ most_tokens };
 }
 
 /// The number shifted to the left, modulo 2^64.
@@ -89,13 +89,13 @@ impl Stack {
         ensures { result ≡ [] }
     {
         Stack {
-            numbers: [0; MOST_NUMBERS],
-            top: MOST_NUMBERS,
+            numbers: [0; MOST_TOKENS],
+            top: MOST_TOKENS,
         }
     }
 
     fn push(&mut self, number: u64)
-        requires { length self.old < 1024 }
+        requires { length self.old < most_tokens }
         ensures { self.new ≡ number ∷ self.old }
     {
         self.top -= 1;

@@ -4,10 +4,8 @@ ghost use Rattle.std.specs.Prelude.{◌≡◌, ◌↔◌, IsSome, IfSome, IsTrue
 ghost use Rattle.dt_expr.specs.Expression.{AreSteps};
 
 use crate::step::Step;
+use dt_names::limits::MOST_TOKENS;
 use std::marker::Model;
-
-/// The most steps that an expression may have: so many as it may have tokens in a source.
-const MOST_STEPS: usize = 1024;
 
 /// An expression, as its steps in postfix order: each operator behind its operands. However deep the parentheses of a source
 /// nest, it is a list.
@@ -31,7 +29,7 @@ impl Model for Expr {
 fn are_steps(steps: &[Step]) -> bool
     ensures { IsTrue result ↔ AreSteps steps.now }
 {
-    if steps.len() > MOST_STEPS {
+    if steps.len() > MOST_TOKENS {
         return false;
     }
     let mut height = 0;

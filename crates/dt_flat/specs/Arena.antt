@@ -2,6 +2,7 @@
 use Rattle.std.specs.Prelude.{◌≡◌, ℕ, zero, suc, ◌+◌, ◌<◌, ◌≤◌, ◌==◌, if◌then◌else◌, List, [], ◌∷◌, ◌++◌, drop, length, option_and_then, Option, Some, None, codes}
 use Rattle.std.specs.Str.{bytes_eq}
 use Rattle.std.specs.Int.{w32, from_be_bytes}
+use Rattle.dt_model.specs.Limits.{most_names, most_nodes}
 use Rattle.dt_model.specs.Names.{Name}
 use Rattle.dt_model.specs.Path.{Path}
 use Rattle.dt_model.specs.Changes.{set_property}
@@ -127,9 +128,9 @@ reading a = record {
 -- what is true of the numbers, the depths and the parents of each arena
 pub record IsRooted (slots : List Slot) : Type 0 where
   pub some : 0 < length slots
-  pub few : length slots ≤ 65536
+  pub few : length slots ≤ most_nodes
   pub unnamed : name_of slots 0 ≡ []
   pub top : depth_of slots 0 ≡ 0
   pub above : (i : ℕ) → 0 < i → i < length slots → parent_of slots i < i
   pub deeper : (i : ℕ) → 0 < i → i < length slots → depth_of slots i ≡ depth_of slots (parent_of slots i) + 1
-  pub shallow : (i : ℕ) → i < length slots → depth_of slots i ≤ 64
+  pub shallow : (i : ℕ) → i < length slots → depth_of slots i ≤ most_names

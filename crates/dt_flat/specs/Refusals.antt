@@ -1,6 +1,7 @@
 -- When a tree refuses a change. Memory is asked for last, so it is refused only where nothing else is.
 use Rattle.std.specs.Prelude.{◌≡◌, ℕ, ◌<◌, ◌≤◌, ◌⊎◌, List, length, None, Some, IsSome, codes}
 use Rattle.std.specs.Int.{w32, from_be_bytes}
+use Rattle.dt_model.specs.Limits.{most_names, most_nodes}
 use Rattle.dt_names.specs.declared.fault.FaultKind.{FaultKind}
 use Rattle.dt_names.specs.declared.fault.FaultKind.TheVariants.{NoMemory, Limit, OutOfRange, Duplicate, BlobPhandle}
 use Rattle.dt_model.specs.Names.{Name}
@@ -10,15 +11,15 @@ use Rattle.dt_flat.specs.Arena.{Slot, named_children, child_of, depth_of, phandl
 -- a child of that name may be added to p
 pub record MayAdd (slots : List Slot) (p : ℕ) (name : Name) : Type 0 where
   pub fresh : child_of (named_children slots p) name ≡ None
-  pub few : length slots < 65536
-  pub shallow : depth_of slots p < 64
+  pub few : length slots < most_nodes
+  pub shallow : depth_of slots p < most_names
 
 -- no child of that name is added to p: it has one; or else the tree is as large or p as deep as one may be
 abbrev pub WhyNoNode : FaultKind → List Slot → ℕ → Name → Type 0
 WhyNoNode NoMemory slots p name = MayAdd slots p name
 WhyNoNode Duplicate slots p name = IsSome (child_of (named_children slots p) name)
 WhyNoNode Limit slots p name =
-    (child_of (named_children slots p) name ≡ None) × ((65536 ≤ length slots) ⊎ (64 ≤ depth_of slots p))
+    (child_of (named_children slots p) name ≡ None) × ((most_nodes ≤ length slots) ⊎ (most_names ≤ depth_of slots p))
 WhyNoNode _ slots p name = ⊥
 
 -- no such reservation is added: two zeros end the list of them (Devicetree Specification v0.4, 5.3)

@@ -5,6 +5,8 @@ ghost use Rattle.std.specs.Str.{bytes_eq};
 ghost use Rattle.dt_model.specs.Names.{Name};
 ghost use Rattle.dt_model.specs.Path.{Path};
 ghost use Rattle.dt_model.specs.Tree.{value_of, node_at};
+ghost use Rattle.dt_names.specs.Fault.{IsExclusive, IsOneRefusal};
+ghost use Rattle.dt_flat.specs.Refusals.{MayAdd, MaySet, WhyNoNode, WhyNotReserved, WhyNotSet};
 ghost use Rattle.dt_flat.specs.Arena.{Arena, Slot, reading, named_children, child_of, properties, below, node_from, with_child, with_property};
 
 /// The node of a path in the reading is what the arena has at the number to which the path leads.
@@ -37,4 +39,18 @@ pub fn after_a_property()
     ensures values { (slots : List Slot) (p : ℕ) (n : Name) (v : List ℕ) (i : ℕ) (m : Name) → p < length slots →
         value_of (properties (with_property slots p n v) i) m ≡
         (if (p == i) && bytes_eq m n then Some v else value_of (properties slots i) m) }
+{}
+
+/// A change of a tree is made, or is refused for one reason, and not both, unless memory is wanted.
+pub fn one_outcome()
+    ensures reserved { (address size : ℕ) →
+        IsExclusive (¬ ((address ≡ 0) × (size ≡ 0))) (λ kind. WhyNotReserved kind address size) }
+    ensures not_reserved { (address size : ℕ) → IsOneRefusal (λ kind. WhyNotReserved kind address size) }
+    ensures added { (slots : List Slot) (p : ℕ) (name : Name) →
+        IsExclusive (MayAdd slots p name) (λ kind. WhyNoNode kind slots p name) }
+    ensures not_added { (slots : List Slot) (p : ℕ) (name : Name) → IsOneRefusal (λ kind. WhyNoNode kind slots p name) }
+    ensures set { (slots : List Slot) (p : ℕ) (name : Name) (value : List ℕ) →
+        IsExclusive (MaySet slots p name value) (λ kind. WhyNotSet kind slots p name value) }
+    ensures not_set { (slots : List Slot) (p : ℕ) (name : Name) (value : List ℕ) →
+        IsOneRefusal (λ kind. WhyNotSet kind slots p name value) }
 {}

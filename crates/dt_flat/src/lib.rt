@@ -11,9 +11,8 @@ mod properties;
 mod tree;
 
 pub use children::Children;
+pub use dt_names::NodeId;
+pub use laws::{after_a_child, after_a_property, one_outcome, reading_by_path};
 pub use planting::{may_be_planted, planted_reads};
 pub use properties::Props;
-pub use tree::{DEPTH_LIMIT, FlatTree, NODE_LIMIT};
-
-/// The number of a node of one tree, in the order in which its nodes were made.
-pub type NodeId = usize;
+pub use tree::FlatTree;

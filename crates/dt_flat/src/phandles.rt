@@ -7,6 +7,7 @@ ghost use Rattle.dt_flat.specs.Numbers.{holder, given, MayGive};
 ghost use Rattle.dt_model.specs.Valid.{IsPhandle};
 
 use crate::NodeId;
+use dt_names::phandle_of;
 use indexmap::IndexMap;
 use std::alloc::{AllocError, Global};
 
@@ -35,7 +36,7 @@ pub fn free_number(phandles: &Phandles, node: NodeId, value: &[u8]) -> Option<u3
     ensures may { IsSome result ↔ MayGive phandles.now node value.now }
     ensures number { IfSome result (λ number. number ≡ from_be_bytes w32 value.now) }
 {
-    let number = number_of(value)?;
+    let number = phandle_of(value)?;
     if !is_free(phandles, number, node) {
         return None;
     }
@@ -53,19 +54,4 @@ pub fn give(phandles: &mut Phandles, before: Option<u32>, number: u32, node: Nod
     if phandles.insert(number, node).is_err() {
         unreachable!();
     }
-}
-
-// The number that a value of the property `phandle` gives.
-fn number_of(value: &[u8]) -> Option<u32>
-    ensures valid { IsSome result ↔ IsPhandle value.now }
-    ensures number { IfSome result (λ number. number ≡ from_be_bytes w32 value.now) }
-{
-    let [a, b, c, d] = value else {
-        return None;
-    };
-    let number = u32::from_be_bytes([*a, *b, *c, *d]);
-    if number == 0 || number == u32::MAX {
-        return None;
-    }
-    Some(number)
 }

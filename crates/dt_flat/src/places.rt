@@ -1,6 +1,7 @@
 //! The nodes of a tree, each with what it has.
 
 ghost use Rattle.std.specs.Prelude.{◌≡◌, ◌<◌, ◌++◌, ◌∷◌, [], suc, None, length, vec_len, vec_capacity, OnOk, OnErr};
+ghost use Rattle.dt_model.specs.Limits.{most_names};
 ghost use Rattle.dt_flat.specs.Linked.{children_at, listed, with_value};
 ghost use Rattle.dt_flat.specs.Arena.{Slot, named_children, child_of, with_child, with_property, properties, name_of, depth_of};
 
@@ -168,7 +169,7 @@ impl Places {
     pub fn add(&mut self, alloc: Global, parent: NodeId, name: &[u8]) -> Result<(), AllocError>
         requires parent { parent < length self.old }
         requires absent { child_of (named_children self.old parent) name.now ≡ None }
-        requires shallow { depth_of self.old parent < 64 }
+        requires shallow { depth_of self.old parent < most_names }
         ensures ok { OnOk result (self.new ≡ with_child self.old parent name.now) }
         ensures err { OnErr result (self.new ≡ self.old) }
     {

@@ -1,6 +1,7 @@
 //! Ordered trees with byte values.
 
 ghost use Rattle.std.specs.Prelude.{◌≡◌, ◌<◌, ◌++◌, ◌∷◌, [], ℕ, None, length, All, IsOk, OnOk, OnErr, IfOk, IfErr, option_map, codes};
+ghost use Rattle.dt_model.specs.Limits.{most_names, most_nodes};
 ghost use Rattle.dt_model.specs.Tree.{value_of};
 ghost use Rattle.dt_model.specs.Valid.{IsValid, IsWithinLimits};
 ghost use Rattle.dt_flat.specs.Numbers.{holder, given};
@@ -12,14 +13,10 @@ use crate::children::Children;
 use crate::phandles::{Phandles, free_number, give};
 use crate::places::Places;
 use crate::properties::Props;
+use dt_names::limits::{MOST_NAMES, MOST_NODES};
 use dt_names::{Fault, FaultKind, NodeName, PropName};
 use std::alloc::{AllocError, Global};
 use std::marker::Model;
-
-/// The most nodes that a tree has, the root included.
-pub const NODE_LIMIT: usize = 65536;
-/// The most names that the path of a node has.
-pub const DEPTH_LIMIT: usize = 64;
 
 /// A tree of nodes, in which nothing is ever taken away. It is seen as the list of its nodes in the order in which they
 /// were made, each with its parent, its depth, its name and its properties.
@@ -116,7 +113,7 @@ impl FlatTree {
         ensures ok { IfOk result (λ node. (node ≡ length self.old.slots)
             × (self.new ≡ record self.old { slots = with_child self.old.slots parent name.now })) }
         ensures fresh { IsOk result → child_of (named_children self.old.slots parent) name.now ≡ None }
-        ensures room { IsOk result → (length self.old.slots < 65536) × (depth_of self.old.slots parent < 64) }
+        ensures room { IsOk result → (length self.old.slots < most_nodes) × (depth_of self.old.slots parent < most_names) }
         ensures err { OnErr result (self.new ≡ self.old) }
         ensures refused { IfErr result
             (λ fault. WhyNoNode fault.kind self.old.slots parent name.now × (fault.at ≡ None)) }
@@ -127,7 +124,7 @@ impl FlatTree {
         if above.children.find(name).is_some() {
             return Err(Fault::of(FaultKind::Duplicate));
         }
-        if node >= NODE_LIMIT || above.depth >= DEPTH_LIMIT {
+        if node >= MOST_NODES || above.depth >= MOST_NAMES {
             return Err(Fault::of(FaultKind::Limit));
         }
         self.places.add(self.alloc, parent, name)?;
@@ -178,12 +175,22 @@ impl FlatTree {
         Ok(())
     }
 
+    /// What is true of each tree: a blob may hold it (Devicetree Specification v0.4, chapters 2 and 5), it is within the
+    /// limits, and its nodes stand behind their parents, the root first. Does nothing.
+    pub fn validity(&self)
+        ensures valid { IsValid (reading self.now) }
+        ensures within { IsWithinLimits (reading self.now) }
+        ensures rooted { IsRooted self.now.slots }
+    {
+        // The invariant says it, and it is known where a field is named.
+        let _ = &self.places;
+    }
+
     /// The root, which has no name.
     pub fn root(&self) -> NodeId
         ensures node { result ≡ 0 }
-        ensures rooted { IsRooted self.now.slots }
-        ensures valid { IsValid (reading self.now) }
-        ensures within { IsWithinLimits (reading self.now) }
+        ensures there { 0 < length self.now.slots }
+        ensures unnamed { name_of self.now.slots 0 ≡ [] }
     {
         self.places.root()
     }

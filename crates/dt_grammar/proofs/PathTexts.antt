@@ -1,105 +1,19 @@
--- The bytes of labels and of references, and the names of nodes that stand between slashes.
-use Rattle.std.proofs.Common.{◌≡◌, ◌≢◌, ℕ, zero, suc, ◌-◌, ◌<◌, ◌==◌, ◌||◌, codes, List, [], ◌∷◌, ◌++◌, All, IsTrue, length, take, drop, slice_index, refl, sym, ap, ◌∙◌, subst, true≢false, arith}
+-- The bytes of labels and of references.
+use Rattle.std.proofs.Common.{◌≡◌, ◌≢◌, ℕ, zero, suc, ◌-◌, codes, List, [], ◌∷◌, ◌++◌, length, take, drop, slice_index, refl, sym, ap, ◌∙◌, subst, arith}
 use Rattle.std.specs.List.{AllByRecursion}
-use Rattle.std.proofs.lemmas.List.{append-nil}
-use Rattle.std.proofs.lemmas.List.Elements.{recursion_from_All, All-weaker}
-use Rattle.dt_model.specs.Names.{Name, IsNodeName, IsLabel, is_name_byte}
+use Rattle.std.proofs.lemmas.List.{append_cancel_right}
+use Rattle.dt_model.specs.Names.{IsNodeName, IsLabel}
 use Rattle.dt_model.specs.Path.{Path, path_text}
 use Rattle.dt_model.specs.Source.{Reference, by_path}
 use Rattle.dt_grammar.specs.Words.{IsReferenceWord, to_label, to_path}
 use Rattle.dt_grammar.specs.Unchecked.{a_label, a_path, all_but_last, ended_names, path_of_names, reference_in}
 use Rattle.dt_grammar.specs.Relaxed.{a_reference}
 use Rattle.dt_grammar.specs.Strict.{IsLabelText, IsReferenceText}
-use Rattle.dt_grammar.specs.Paths.{braced, IsPathText, slashed, AreNames, BeginsName}
+use Rattle.dt_grammar.specs.Paths.{braced}
 use Rattle.dt_grammar.proofs.Names.{path_back, all_but_colon}
 
 abbrev AllNamed : Path → Type 0
 AllNamed p = AllByRecursion IsNodeName p
-
-abbrev NoSlash : List ℕ → Type 0
-NoSlash x = AllByRecursion (λ b. b ≢ 47) x
-
--- ---- names between slashes
-
-no_slash : (c : ℕ) → IsTrue (is_name_byte c || (c == 64)) → c ≢ 47
-no_slash c h e = true≢false (sym h ∙ ap (λ b. is_name_byte b || (b == 64)) e)
-
-no_slashes : (x : Name) → IsNodeName x → NoSlash x
-no_slashes x n = recursion_from_All (λ b. b ≢ 47) x (All-weaker (λ b. IsTrue (is_name_byte b || (b == 64))) (λ b. b ≢ 47) no_slash x n.allowed)
-
-slashed_begins : (p : Path) → BeginsName (slashed p)
-slashed_begins [] = tt
-slashed_begins (x ∷ p) = refl
-
-same_cut : (x y s t : List ℕ) → NoSlash x → NoSlash y → BeginsName s → BeginsName t → x ++ s ≡ y ++ t → (x ≡ y) × (s ≡ t)
-same_cut [] [] s t a h i j e = (refl, e)
-same_cut [] (b ∷ y) [] t a h i j e = cc
-same_cut [] (b ∷ y) (c ∷ s) t a h i j e = let f : b ≡ c = cc in absurd (h.0 (f ∙ i))
-same_cut (b ∷ x) [] s [] a h i j e = cc
-same_cut (b ∷ x) [] s (c ∷ t) a h i j e = let f : b ≡ c = cc in absurd (a.0 (f ∙ j))
-same_cut (b ∷ x) (c ∷ y) s t a h i j e =
-    let f : b ≡ c = cc in
-    let g : x ++ s ≡ y ++ t = cc in
-    let r = same_cut x y s t a.1 h.1 i j g in
-    ((λ k. f k ∷ r.0 k), r.1)
-
-first_of : (name behind : List ℕ) → NoSlash name → BeginsName behind → (p : Path) → AllNamed p → 47 ∷ (name ++ behind) ≡ slashed p → IsNodeName name × AreNames behind
-first_of name behind a b [] h e = cc
-first_of name behind a b (x ∷ p) h e =
-    let g : name ++ behind ≡ x ++ slashed p = cc in
-    let r = same_cut name x behind (slashed p) a (no_slashes x h.0) b (slashed_begins p) g in
-    (subst IsNodeName (sym r.0) h.0, (p, h.1, r.1))
-
--- what a text is whose first name stands before the others
-pub record Begun (rest name behind : List ℕ) : Type 0 where
-  pub split : rest ≡ 47 ∷ (name ++ behind)
-  pub lacks : All (λ b. b ≢ 47) name
-  pub begins : BeginsName behind
-
-pub first_name : (rest name behind : List ℕ) → Begun rest name behind → AreNames rest → IsNodeName name × AreNames behind
-first_name rest name behind b w =
-    first_of name behind (recursion_from_All (λ c. c ≢ 47) name b.lacks) b.begins w.0 w.1 (sym b.split ∙ w.2)
-
-pub more_names : (rest name behind : List ℕ) → Begun rest name behind → IsNodeName name → AreNames behind → AreNames rest
-more_names rest name behind b n w = (name ∷ w.0, (n, w.1), b.split ∙ ap (λ (z : List ℕ). 47 ∷ (name ++ z)) w.2)
-
-pub headed : (rest : List ℕ) → 0 < length rest → slice_index rest 0 ≡ 47 → rest ≡ 47 ∷ drop 1 rest
-headed [] less e = absurd (omega arith)
-headed (b ∷ rest) less e = ap (λ c. c ∷ rest) e
-
-pub unheaded : (rest : List ℕ) → 0 < length rest → slice_index rest 0 ≢ 47 → ¬ AreNames rest
-unheaded rest less other w = at w.0 w.2
-  where
-    at : (p : Path) → rest ≡ slashed p → ⊥
-    at [] e = omega (arith, less, ap length e)
-    at (x ∷ p) e = other (ap (λ (z : List ℕ). slice_index z 0) e)
-
--- ---- texts of paths
-
-slashed_text : (x : Name) (p : Path) → slashed (x ∷ p) ≡ path_text (x ∷ p)
-slashed_text x [] = ap (λ (z : List ℕ). 47 ∷ z) (append-nil x)
-slashed_text x (y ∷ p) = ap (λ (z : List ℕ). 47 ∷ (x ++ z)) (slashed_text y p)
-
-some_text : (p : Path) → 0 < length (path_text p)
-some_text [] = omega arith
-some_text (x ∷ p) = omega (arith, ap length (slashed_text x p))
-
-pub empty_text : (text : List ℕ) → length text ≡ 0 → ¬ IsPathText text
-empty_text text none w = omega (arith, none, some_text w.0, ap length w.2)
-
-pub text_of_names : (text : List ℕ) → length text ≢ 0 → AreNames text → IsPathText text
-text_of_names text some w = at w.0 w.1 w.2
-  where
-    at : (p : Path) → AllNamed p → text ≡ slashed p → IsPathText text
-    at [] h e = absurd (some (ap length e))
-    at (x ∷ p) h e = (x ∷ p, h, e ∙ slashed_text x p)
-
-pub names_of_text : (text : List ℕ) → text ≢ codes "/" → IsPathText text → AreNames text
-names_of_text text other w = at w.0 w.1 w.2
-  where
-    at : (p : Path) → AllNamed p → text ≡ path_text p → AreNames text
-    at [] h e = absurd (other e)
-    at (x ∷ p) h e = (x ∷ p, h, e ∙ sym (slashed_text x p))
 
 -- ---- references to paths
 
@@ -107,11 +21,19 @@ path_in : {bytes : List ℕ} {r : Reference} → IsReferenceWord (a_reference a_
 path_in (to_label l k b v) = cc
 path_in (to_path p k b v) = (p, v, b)
 
-pub is_path : (bytes text : List ℕ) → bytes ≡ braced text → IsPathText text → IsReferenceText a_path bytes
-is_path bytes text e w =
-    let is : bytes ≡ braced (path_text w.0) = e ∙ ap braced w.2 in
-    let says : by_path w.0 ≡ reference_in a_path bytes = ap by_path (sym (ap (λ (z : List ℕ). path_of_names (ended_names (drop 3 z))) is ∙ path_back w.0 w.1)) in
-    subst (λ (r : Reference). IsReferenceWord (a_reference a_path bytes) r) says (to_path w.0 refl is w.1)
+same_text : (s t : List ℕ) → braced s ≡ braced t → s ≡ t
+same_text s t e = append_cancel_right s t (codes "}") (ap (drop 2) e)
+
+-- the bytes refer to the path whose text stands between the braces
+pub refers : (bytes text : List ℕ) (p : Path) → bytes ≡ braced text → AllNamed p → text ≡ path_text p → IsReferenceText a_path bytes × (p ≡ path_of_names (ended_names (drop 3 bytes)))
+refers bytes text p e named written =
+    let is : bytes ≡ braced (path_text p) = e ∙ ap braced written in
+    let same : path_of_names (ended_names (drop 3 bytes)) ≡ p = ap (λ (z : List ℕ). path_of_names (ended_names (drop 3 z))) is ∙ path_back p named in
+    (subst (λ (r : Reference). IsReferenceWord (a_reference a_path bytes) r) (ap by_path (sym same)) (to_path p refl is named), sym same)
+
+-- the path to which bytes refer is that of the text between the braces
+pub referred : (bytes text : List ℕ) → bytes ≡ braced text → IsReferenceText a_path bytes → (p : Path) × AllNamed p × (text ≡ path_text p)
+referred bytes text e h = let r = path_in h in (r.0, r.1, same_text text (path_text r.0) (sym e ∙ r.2))
 
 -- ---- the last byte
 
@@ -144,14 +66,3 @@ begun_label (b ∷ bytes) some e l = to_label bytes refl (ap (λ (c : ℕ). c �
 
 pub no_label : (bytes : List ℕ) → ¬ IsLabel (drop 1 bytes) → ¬ IsReferenceText a_label bytes
 no_label bytes none h = none (label_in h).1
-
--- ---- names that are read one by one
-
--- what is left is names where the whole is
-pub record Decides (whole rest : List ℕ) : Type 0 where
-  pub onward : AreNames rest → AreNames whole
-  pub back : AreNames whole → AreNames rest
-
-pub decides_on : (whole rest name behind : List ℕ) → Begun rest name behind → IsNodeName name → Decides whole rest → Decides whole behind
-decides_on whole rest name behind b n d =
-    record { onward = λ w. d.onward (more_names rest name behind b n w); back = λ w. (first_name rest name behind b (d.back w)).1 }

@@ -2,6 +2,7 @@
 -- the first token at which one shows, and which it is.
 use Rattle.std.specs.Prelude.{◌≡◌, ℕ, ◌+◌, ◌<◌, ◌≤◌, Bool, true, false, ◌||◌, List, [], ◌∷◌, length, drop, Option, Some, None}
 use Rattle.std.specs.List.{AllByRecursion}
+use Rattle.dt_model.specs.Limits.{most_bodies, most_tokens}
 use Rattle.dt_model.specs.Names.{IsNodeName, IsPropertyName}
 use Rattle.dt_model.specs.Valid.{IsReservation}
 use Rattle.dt_names.specs.declared.fault.FaultKind.{FaultKind}
@@ -122,7 +123,7 @@ member_placed bodies _ = Unit {0}
 
 -- a body is inside 64 others at most
 abbrev pub body_placed : List Bool → Option TokenKind → Type 0
-body_placed bodies (Some (kind.Mark mark.OpenBrace)) = length bodies < 65
+body_placed bodies (Some (kind.Mark mark.OpenBrace)) = length bodies < most_bodies
 body_placed bodies _ = Unit {0}
 
 -- two numbers, of which the second stands at the front, are a reservation's: one of them isn't 0
@@ -162,10 +163,10 @@ pub record Passes (a : Around) (g : Wanted) (ws : Words) : Type 0 where
 -- A fault of a number: one of its first 1,025 tokens can't stand there; it has more than 1,024; or it is complete, and divides
 -- by 0 or is too large for its element.
 pub data NumberBreaks (bits : ℕ) (ws : Words) : FaultKind → Words → Type 0 where
-  cut_off : (left : Words) → Descends Prim ws (stuck left) → length ws ≤ length left + 1024 → NumberBreaks bits ws fault.Syntax left
-  unended : (left : Words) → Descends Prim ws (stuck left) → length left + 1024 < length ws → NumberBreaks bits ws fault.Limit (drop 1024 ws)
-  too_long : (m : Made) (left : Words) → Descends Prim ws (found m left) → 1024 < size_in m → NumberBreaks bits ws fault.Limit (drop 1024 ws)
-  valueless : (m : Made) (left : Words) → Descends Prim ws (found m left) → size_in m ≤ 1024 → value (expression_in m) ≡ None →
+  cut_off : (left : Words) → Descends Prim ws (stuck left) → length ws ≤ length left + most_tokens → NumberBreaks bits ws fault.Syntax left
+  unended : (left : Words) → Descends Prim ws (stuck left) → length left + most_tokens < length ws → NumberBreaks bits ws fault.Limit (drop most_tokens ws)
+  too_long : (m : Made) (left : Words) → Descends Prim ws (found m left) → most_tokens < size_in m → NumberBreaks bits ws fault.Limit (drop most_tokens ws)
+  valueless : (m : Made) (left : Words) → Descends Prim ws (found m left) → size_in m ≤ most_tokens → value (expression_in m) ≡ None →
       NumberBreaks bits ws fault.DivideByZero ws
   too_large : (m : Made) (left : Words) → Descends Prim ws (found m left) → IsNumber (size_in m) (expression_in m) → ¬ Fits bits (number_in (expression_in m)) →
       NumberBreaks bits ws fault.OutOfRange ws

@@ -2,6 +2,7 @@
 -- what its places are.
 use Rattle.std.specs.Prelude.{◌≡◌, ℕ, suc, ◌<◌, ◌≤◌, Bool, true, false, List, [], ◌∷◌, ◌++◌, length, map, Some}
 use Rattle.std.specs.Int.{w8, w16, w32, w64, to_be_bytes, Width}
+use Rattle.dt_model.specs.Limits.{most_bodies, most_tokens}
 use Rattle.dt_model.specs.Names.{Name}
 use Rattle.dt_model.specs.Valid.{IsReservation}
 use Rattle.dt_model.specs.Source.{Reference, Part, one, number_of, text_of, Place, root, block, delete_node, child, label, property, delete_property, delete_child, close}
@@ -50,7 +51,7 @@ pub data SpellsExpression : Class → Words → Expression → Type 0 where
 pub record SpellsNumber (ws : Words) (n : ℕ) : Type 0 where
   pub expression : Expression
   pub spelled : SpellsExpression primary ws expression
-  pub few : length ws ≤ 1024
+  pub few : length ws ≤ most_tokens
   pub evaluated : value expression ≡ Some n
 
 -- ---- values of properties
@@ -132,7 +133,7 @@ pub data SpellsProperties : Words → List Place → Type 0 where
 pub data SpellsChildren : ℕ → Words → List Place → Type 0 where
   no_children : (around : ℕ) → SpellsChildren around [] []
   opened : (around : ℕ) (us properties children ws : Words) (w opening closing semicolon : Word) (n : Name) (ls : List Name) (ps cs places : List Place) →
-      SpellsLabels us ls → IsNodeWord w n → IsMark mark.OpenBrace opening → around < 65 → SpellsProperties properties ps →
+      SpellsLabels us ls → IsNodeWord w n → IsMark mark.OpenBrace opening → around < most_bodies → SpellsProperties properties ps →
       SpellsChildren (suc around) children cs → IsMark mark.CloseBrace closing → IsMark mark.Semicolon semicolon → SpellsChildren around ws places →
       SpellsChildren around (us ++ w ∷ opening ∷ (properties ++ (children ++ closing ∷ semicolon ∷ ws)))
       (child n ∷ (map label ls ++ (ps ++ (cs ++ close ∷ places))))

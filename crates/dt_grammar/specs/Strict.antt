@@ -1,6 +1,7 @@
 -- What is checked of a relaxed source: where all of it holds, it is a source.
 use Rattle.std.specs.Prelude.{◌≡◌, ℕ, ◌<◌, ◌≤◌, Bool, true, false, List, [], ◌∷◌, ◌++◌, length, codes, Some}
 use Rattle.std.specs.List.{AllByRecursion}
+use Rattle.dt_model.specs.Limits.{most_bodies, most_tokens}
 use Rattle.dt_model.specs.Names.{IsLabel, IsNodeName, IsPropertyName}
 use Rattle.dt_model.specs.Valid.{IsReservation}
 use Rattle.dt_expr.specs.Expression.{Expression, value}
@@ -22,7 +23,7 @@ IsReferenceText target bytes = IsReferenceWord (a_reference target bytes) (refer
 
 -- an expression of so many tokens, which has a value
 pub record IsNumber (size : ℕ) (e : Expression) : Type 0 where
-  pub few : size ≤ 1024
+  pub few : size ≤ most_tokens
   pub evaluated : value e ≡ Some (number_in e)
 
 abbrev pub IsCell : ℕ → RawCell → Type 0
@@ -62,7 +63,7 @@ IsOrdered bodies (raw_block target bytes ∷ ps) = IsOrdered (false ∷ bodies) 
 IsOrdered bodies (raw_delete_node target bytes ∷ ps) = IsOrdered bodies ps
 IsOrdered bodies (raw_label bytes ∷ ps) = IsOrdered bodies ps
 IsOrdered [] (raw_child bytes ∷ ps) = ⊥
-IsOrdered (b ∷ bodies) (raw_child bytes ∷ ps) = (length (b ∷ bodies) < 65) × IsOrdered (false ∷ true ∷ bodies) ps
+IsOrdered (b ∷ bodies) (raw_child bytes ∷ ps) = (length (b ∷ bodies) < most_bodies) × IsOrdered (false ∷ true ∷ bodies) ps
 IsOrdered [] (raw_property ls bytes components ∷ ps) = ⊥
 IsOrdered (b ∷ bodies) (raw_property ls bytes components ∷ ps) = (b ≡ false) × IsOrdered (false ∷ bodies) ps
 IsOrdered [] (raw_delete_property ls bytes ∷ ps) = ⊥

@@ -2,6 +2,7 @@
 use Rattle.std.proofs.Common.{◌≡◌, ℕ, ◌+◌, ◌<◌, ◌≤◌, Bool, List, [], ◌∷◌, ◌++◌, length, Option, Some, None, Ok, Err, ◌⊎◌, inl, inr, ⊎_elim, refl, sym, ◌∙◌, ap, subst, append_assoc, arith, length-append}
 use Rattle.std.specs.Prelude.{slice_get}
 use Rattle.std.proofs.str.Laws.{order}
+use Rattle.dt_model.specs.Limits.{most_bytes}
 use Rattle.dt_lex.specs.declared.token.Mode.{Mode}
 use Rattle.dt_lex.specs.declared.token.TokenKind.{TokenKind}
 use Rattle.dt_lex.specs.declared.token.Token.{Token}
@@ -12,7 +13,7 @@ use Rattle.dt_lex.specs.Modes.{mode_behind}
 use Rattle.dt_lex.specs.Words.{IsLongestWord}
 use Rattle.dt_lex.specs.Rules.{In, rules}
 use Rattle.dt_lex.specs.Outcomes.{Outcome, outcome}
-use Rattle.dt_lex.specs.Lexing.{IsCut, HasNoCut, Lexed, FirstFlaw, with_tokens, ends_line, token, Lexes, done, no_rule, faulty, skipped, given, IsLexed, WhyNotLexed, text_limit, no_memory, too_long, bad_token, bad_integer}
+use Rattle.dt_lex.specs.Lexing.{IsCut, HasNoCut, Lexed, FirstFlaw, with_tokens, ends_line, token, Lexes, done, no_rule, faulty, skipped, given, IsLexed, WhyNotLexed, no_memory, too_long, bad_token, bad_integer}
 use Rattle.dt_lex.specs.Pieces.{tokens_of, mode_after}
 use Rattle.dt_lex.specs.Spans.{AreSpans, Reports, fault_of}
 use Rattle.dt_lex.specs.Spans as spans
@@ -145,10 +146,10 @@ are_spans {at = at} (given {result = a} r w rest k c e d) to l ts f =
 pub out_of_memory : (text : List ℕ) (e : Fault) → e ≡ spans.no_memory → WhyNotLexed text e
 out_of_memory text e h = subst (WhyNotLexed text) (sym h) no_memory
 
-pub longer : (text : List ℕ) (e : Fault) → e.kind ≡ fault.Limit → e.at ≡ None → text_limit < length text → WhyNotLexed text e
+pub longer : (text : List ℕ) (e : Fault) → e.kind ≡ fault.Limit → e.at ≡ None → most_bytes < length text → WhyNotLexed text e
 longer text e h i l = subst (WhyNotLexed text) (λ j. record { kind = sym h j; at = sym i j }) (too_long l)
 
-pub flaw_reported : (text : List ℕ) (f : FirstFlaw) → length text ≤ text_limit → IsLexed text (Err f) → WhyNotLexed text (fault_of f)
+pub flaw_reported : (text : List ℕ) (f : FirstFlaw) → length text ≤ most_bytes → IsLexed text (Err f) → WhyNotLexed text (fault_of f)
 flaw_reported text f l h = at f.flaw f.at h
   where
     at : (x : Flaw) (place : ℕ) → IsLexed text (Err (record { flaw = x; at = place })) → WhyNotLexed text (fault_of (record { flaw = x; at = place }))

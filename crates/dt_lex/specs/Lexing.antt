@@ -1,5 +1,6 @@
 -- Token lists, and the first fault of a text that has none.
 use Rattle.std.specs.Prelude.{◌≡◌, ℕ, ◌+◌, ◌-◌, ◌<◌, ◌≤◌, ◌==◌, Bool, true, List, [], ◌∷◌, ◌++◌, length, Some, None, Result, Ok, Err, slice_get, slice_index}
+use Rattle.dt_model.specs.Limits.{most_bytes}
 use Rattle.dt_lex.specs.declared.token.Mode.{Mode}
 use Rattle.dt_lex.specs.declared.token.Mode.TheVariants as mode
 use Rattle.dt_lex.specs.declared.token.TokenKind.{TokenKind}
@@ -65,15 +66,11 @@ pub data Lexes : Mode → Bool → ℕ → List ℕ → Lexed → Type 0 where
 abbrev pub IsLexed : List ℕ → Lexed → Type 0
 IsLexed text result = Lexes mode.Name true 0 text result
 
--- how many bytes a text may have
-abbrev pub text_limit : ℕ
-text_limit = 16777216
-
 -- why a text's tokens aren't answered: memory is wanted; it is too long, which comes before all else; or its first flaw
 pub data WhyNotLexed (text : List ℕ) : Fault → Type 0 where
   no_memory : WhyNotLexed text (record { kind = fault.NoMemory; at = None })
-  too_long : text_limit < length text → WhyNotLexed text (record { kind = fault.Limit; at = None })
-  bad_token : (at : ℕ) → length text ≤ text_limit → IsLexed text (Err (record { flaw = BadToken; at = at })) →
+  too_long : most_bytes < length text → WhyNotLexed text (record { kind = fault.Limit; at = None })
+  bad_token : (at : ℕ) → length text ≤ most_bytes → IsLexed text (Err (record { flaw = BadToken; at = at })) →
       WhyNotLexed text (record { kind = fault.BadToken; at = Some at })
-  bad_integer : (at : ℕ) → length text ≤ text_limit → IsLexed text (Err (record { flaw = BadInteger; at = at })) →
+  bad_integer : (at : ℕ) → length text ≤ most_bytes → IsLexed text (Err (record { flaw = BadInteger; at = at })) →
       WhyNotLexed text (record { kind = fault.BadInteger; at = Some at })

@@ -1,7 +1,8 @@
 //! A text, cut into tokens from its first byte to its last.
 
 ghost use Rattle.std.specs.Prelude.{◌≡◌, ◌<◌, ◌≤◌, ◌+◌, ◌^◌, ◌++◌, Ok, List, ℕ, IfOk, IfErr, OnOk, MatchResult, length};
-ghost use Rattle.dt_lex.specs.Lexing.{Lexed, IsLexed, WhyNotLexed, text_limit};
+ghost use Rattle.dt_model.specs.Limits.{most_bytes};
+ghost use Rattle.dt_lex.specs.Lexing.{Lexed, IsLexed, WhyNotLexed};
 ghost use Rattle.dt_lex.specs.Labels.{IsUnlabelled};
 ghost use Rattle.dt_lex.specs.Pieces.{IsPiece, mode_after, tokens_of};
 ghost use Rattle.dt_lex.specs.Spans.{AreSpans, Reports, fault_of, no_memory};
@@ -10,11 +11,9 @@ use crate::cut::cut;
 use crate::label::unlabelled;
 use crate::outcome::{byte_at, outcome};
 use crate::token::{Flaw, Mode, Token, TokenKind, mode_behind};
+use dt_names::limits::MOST_BYTES;
 use dt_names::{Fault, FaultKind};
 use std::alloc::Global;
-
-/// How many bytes a text may have: 16 MiB.
-pub const TEXT_LIMIT: usize = 16_777_216;
 
 /// A word that was cut off: the token that it gives, its length, whether it ends a line, and the text after it.
 #[derive(Clone, Copy)]
@@ -92,15 +91,15 @@ fn fault_at(flaw: Flaw, place: usize) -> Fault
 /// NoMemory only where memory is refused.
 pub fn tokens(alloc: Global, text: &[u8]) -> Result<Vec<Token>, Fault>
     // What is answered is the text's token list.
-    ensures ok { IfOk result (λ v. (length text.now ≤ text_limit) × IsLexed text.now (Ok v.items)) }
+    ensures ok { IfOk result (λ v. (length text.now ≤ most_bytes) × IsLexed text.now (Ok v.items)) }
     ensures spans { IfOk result (λ v. AreSpans 0 (length text.now) v.items) }
     // A fault is the text's length, or the text's first flaw, and then it has no token list.
     ensures err { IfErr result (λ e. WhyNotLexed text.now e) }
     // Nothing else is answered, unless memory is wanted.
-    ensures only { (a : Lexed) → IsLexed text.now a → length text.now ≤ text_limit →
+    ensures only { (a : Lexed) → IsLexed text.now a → length text.now ≤ most_bytes →
         MatchResult result (λ v. a ≡ Ok v.items) (λ e. Reports e a) }
 {
-    if text.len() > TEXT_LIMIT {
+    if text.len() > MOST_BYTES {
         return Err(Fault::of(FaultKind::Limit));
     }
     let mut out = Vec::new(alloc);

@@ -22,5 +22,5 @@ mod word;
 
 pub use laws::{one_answer, texts_are_read};
 pub use letter::push_text;
-pub use lexer::{TEXT_LIMIT, tokens};
+pub use lexer::tokens;
 pub use token::{Keyword, Mark, Token, TokenKind};

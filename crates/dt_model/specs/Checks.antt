@@ -2,6 +2,7 @@
 -- reader checks (Devicetree Specification v0.4, chapter 5; the order is this project's).
 use Rattle.std.specs.Prelude.{◌≡◌, ◌≢◌, ℕ, ◌+◌, ◌-◌, ◌%◌, Bool, true, false, not, ◌&&◌, ◌||◌, List, [], ◌∷◌, ◌++◌, length, take, drop, Option, Some, None, unwrap_or, nat_le, nat_lt, option_and_then, ◌==◌, if◌then◌else◌}
 use Rattle.std.specs.List.{AllByRecursion}
+use Rattle.dt_model.specs.Limits.{most_bytes, most_names, most_nodes}
 use Rattle.dt_model.specs.Names.{Name, is_node_name, is_property_name}
 use Rattle.dt_model.specs.Tree.{Property, Forest}
 use Rattle.dt_model.specs.Valid.{AreDistinct, AreProperties, AreNodes, IsPhandle, IsReservation, names, phandle_values, phandles}
@@ -54,7 +55,7 @@ header_fault bytes =
     if nat_lt (length bytes) 40 then Some short_header
     else if not (number bytes 0 == 0xd00dfeed) then Some bad_magic
     else if not (nat_le 40 (number bytes 4) && nat_le (number bytes 4) (length bytes)) then Some bad_total
-    else if not (nat_le (number bytes 4) 16777216) then Some over_limit
+    else if not (nat_le (number bytes 4) most_bytes) then Some over_limit
     else if not (nat_le 17 (number bytes 20) && nat_le (number bytes 24) 17) then Some bad_version
     else if not ((number bytes 16 % 8 == 0) && (number bytes 8 % 4 == 0)) then Some misaligned
     else if not (nat_le (number bytes 16) (number bytes 4) && nat_le (number bytes 8 + number bytes 36) (number bytes 4) && nat_le (number bytes 12 + number bytes 32) (number bytes 4)) then Some block_outside
@@ -93,7 +94,7 @@ may_be_called p name = if p.depth == 0 then length name == 0 else is_node_name n
 
 -- one more node may begin there
 abbrev pub has_room : Position → Bool
-has_room p = nat_le p.depth 64 && nat_lt p.nodes 65536
+has_room p = nat_le p.depth most_names && nat_lt p.nodes most_nodes
 
 -- the root has ended
 abbrev pub is_behind : Position → Bool

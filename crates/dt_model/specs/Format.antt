@@ -3,6 +3,7 @@
 use Rattle.std.specs.Prelude.{◌≡◌, ◌≢◌, ℕ, ◌+◌, ◌%◌, ◌<◌, ◌≤◌, ◌^◌, List, [], ◌∷◌, ◌++◌, length, take, drop, map, Option, Some, None, nat_le, if◌then◌else◌}
 use Rattle.std.specs.List.{AllByRecursion, flat_map}
 use Rattle.std.specs.Int.{w32, w64, to_be_bytes, from_be_bytes}
+use Rattle.dt_model.specs.Limits.{most_bytes}
 use Rattle.dt_model.specs.Names.{Name}
 use Rattle.dt_model.specs.Tree.{Property, Forest, no_nodes, branch, Reading}
 use Rattle.dt_model.specs.Valid.{IsValid, IsWithinLimits}
@@ -162,5 +163,5 @@ pub record Reads (bytes : List ℕ) (t : Reading) : Type 0 where
 pub record IsWithin (bytes : List ℕ) (t : Reading) : Type 0 where
   pub header : Header
   pub words : HasHeader bytes header
-  pub size : header.total_size ≤ 16777216
+  pub size : header.total_size ≤ most_bytes
   pub tree : IsWithinLimits t

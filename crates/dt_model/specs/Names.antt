@@ -2,6 +2,7 @@
 -- nodes and properties, and up to 255 bytes, are this project's choice).
 use Rattle.std.specs.Prelude.{◌≢◌, ℕ, ◌<◌, ◌≤◌, ◌==◌, ◌||◌, ◌&&◌, Bool, not, nat_le, nat_lt, List, length, slice_index, IsTrue, All, count_by, codes}
 use Rattle.std.specs.List.{list_all}
+use Rattle.dt_model.specs.Limits.{most_name_bytes}
 
 -- the bytes of a node's, a property's or a label's name
 abbrev pub Name : Type 0
@@ -22,13 +23,13 @@ is_name_byte b =
 -- what a property may be called
 pub record IsPropertyName (name : Name) : Type 0 where
   pub not_empty : 0 < length name
-  pub short : length name ≤ 255
+  pub short : length name ≤ most_name_bytes
   pub allowed : All (λ b. IsTrue (is_name_byte b)) name
 
 -- what a node other than the root may be called: a name, and perhaps an @ and a unit address
 pub record IsNodeName (name : Name) : Type 0 where
   pub not_empty : 0 < length name
-  pub short : length name ≤ 255
+  pub short : length name ≤ most_name_bytes
   pub allowed : All (λ b. IsTrue (is_name_byte b || (b == 64))) name
   pub one_at : count_by (λ b. b == 64) name ≤ 1
   pub not_first : slice_index name 0 ≢ 64
@@ -36,7 +37,7 @@ pub record IsNodeName (name : Name) : Type 0 where
 -- what a label may be: letters, digits and _, no digit first, and not the text phandle
 pub record IsLabel (label : Name) : Type 0 where
   pub not_empty : 0 < length label
-  pub short : length label ≤ 255
+  pub short : length label ≤ most_name_bytes
   pub allowed : All (λ b. IsTrue (is_letter b || is_digit b || (b == 95))) label
   pub no_digit_first : ¬ IsTrue (is_digit (slice_index label 0))
   pub not_phandle : label ≢ codes "phandle"
@@ -44,9 +45,9 @@ pub record IsLabel (label : Name) : Type 0 where
 -- ---- tests, for the definitions that compute
 
 abbrev pub is_property_name : Name → Bool
-is_property_name name = nat_lt 0 (length name) && nat_le (length name) 255 && list_all is_name_byte name
+is_property_name name = nat_lt 0 (length name) && nat_le (length name) most_name_bytes && list_all is_name_byte name
 
 abbrev pub is_node_name : Name → Bool
 is_node_name name =
-    nat_lt 0 (length name) && nat_le (length name) 255 && list_all (λ b. is_name_byte b || (b == 64)) name
+    nat_lt 0 (length name) && nat_le (length name) most_name_bytes && list_all (λ b. is_name_byte b || (b == 64)) name
     && nat_le (count_by (λ b. b == 64) name) 1 && not (slice_index name 0 == 64)

@@ -5,6 +5,7 @@ use Rattle.std.specs.List.{AllByRecursion, list_any}
 use Rattle.std.specs.Option.{option_map_or}
 use Rattle.std.specs.Int.{w32, from_be_bytes}
 use Rattle.std.specs.Str.{bytes_eq}
+use Rattle.dt_model.specs.Limits.{most_names}
 use Rattle.dt_model.specs.Names.{Name, IsNodeName, IsPropertyName, IsLabel}
 use Rattle.dt_model.specs.Path.{Path, path_eq, path_value, is_bookkeeping_name}
 use Rattle.dt_model.specs.Meaning.{Item, byte, reference, Meaning}
@@ -172,7 +173,7 @@ abbrev pub open_child : Mode → SoFar → Name → Body → List Body → Resul
 open_child mode s n b bs =
     if is_reserved mode s.node n then Err reserved_name
     else (if is_among n b.children then Err duplicate_node
-    else (if nat_le 64 (length s.node) then Err too_deep
+    else (if nat_le most_names (length s.node) then Err too_deep
     else Ok (enter s (n ∷ s.node) ((record { properties = b.properties; children = n ∷ b.children }) ∷ bs))))
 
 -- a property is defined in a body

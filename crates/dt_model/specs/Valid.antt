@@ -3,6 +3,7 @@ use Rattle.std.specs.Prelude.{◌≡◌, ◌≢◌, ℕ, ◌+◌, ◌<◌, ◌�
 use Rattle.std.specs.List.{AllByRecursion}
 use Rattle.std.specs.Option.{option_to_list}
 use Rattle.std.specs.Int.{w32, from_be_bytes}
+use Rattle.dt_model.specs.Limits.{most_names, most_nodes}
 use Rattle.dt_model.specs.Names.{Name, IsNodeName, IsPropertyName}
 use Rattle.dt_model.specs.Tree.{Property, Forest, no_nodes, branch, Reading, value_of}
 
@@ -73,5 +74,5 @@ IsNoDeeper limit depth (branch name properties children siblings) =
 
 -- at most 65,536 nodes, the root among them, and at most 64 names in a path
 pub record IsWithinLimits (t : Reading) : Type 0 where
-  pub count : 1 + node_count t.children ≤ 65536
-  pub depth : IsNoDeeper 64 1 t.children
+  pub count : 1 + node_count t.children ≤ most_nodes
+  pub depth : IsNoDeeper most_names 1 t.children

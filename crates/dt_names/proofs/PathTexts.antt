@@ -5,10 +5,12 @@ use Rattle.std.proofs.lemmas.Bool.{ne_eqb}
 use Rattle.std.proofs.lemmas.List.{take-append-drop, drop_more}
 use Rattle.std.proofs.lemmas.List.Sums.{count_by-le-length}
 use Rattle.std.proofs.lemmas.List.Elements.{All-weaker}
+use Rattle.std.proofs.lemmas.Slice.Eq.{bytes_eq-Decides}
+use Rattle.std.specs.Str.{bytes_eq}
 use Rattle.std.proofs.lemmas.List.Splits.{slice_split_none, slice_split_at, slice_split-cons_yes, length-slice_split, join_with_byte-slice_split}
 use Rattle.dt_model.specs.Names.{Name, IsNodeName}
 use Rattle.dt_model.specs.Path.{Path, path_text}
-use Rattle.dt_names.specs.Paths.{IsPathOf, behind_first, parts, parts_left, names_in, AreNames, IsKept}
+use Rattle.dt_names.specs.Paths.{IsPathOf, behind_first, parts, parts_left, names_in, path_in, AreNames, IsKept}
 use Rattle.dt_names.proofs.Names.{Allowed}
 
 abbrev is_slash : ℕ → Bool
@@ -104,6 +106,17 @@ names_of_path text (x ∷ p) i other =
     let e : parts text ≡ [] ∷ x ∷ p = ap parts i.written ∙ parts_text x p i.named in
     let n : names_in text ≡ x ∷ p = names_from text [] (x ∷ p) e in
     record { begins = e ∙ ap (λ q. [] ∷ q) (sym n); named = subst AllNamed (sym n) i.named }
+
+pub root_path : IsPathOf (codes "/") (path_in (codes "/"))
+root_path = record { written = refl; named = tt }
+
+-- the path of any other text that is kept
+pub other_path : (text : List ℕ) → AreNames text → 0 < length text → text ≢ codes "/" → IsPathOf text (path_in text)
+other_path text a some other = by (bytes_eq text (codes "/")) refl
+  where
+    by : (b : Bool) → bytes_eq text (codes "/") ≡ b → IsPathOf text (cond b [] (names_in text))
+    by true e = absurd (other ((bytes_eq-Decides text (codes "/")).0 e))
+    by false e = path_of_names text a some
 
 root_alone : (y : Name) (q : Path) → AllNamed (y ∷ q) → codes "/" ≡ path_text (y ∷ q) → ⊥
 unfolding parts

@@ -1,5 +1,5 @@
--- The number and the name of each kind of fault, which a caller may show or compare.
-use Rattle.std.specs.Prelude.{ℕ, List, codes}
+-- The number and the name of each kind of fault, which a caller may show or compare; and what is true of the refusals of a call.
+use Rattle.std.specs.Prelude.{◌≡◌, ◌≢◌, ℕ, List, codes}
 use Rattle.dt_names.specs.declared.fault.FaultKind.{FaultKind}
 use Rattle.dt_names.specs.declared.fault.FaultKind.TheVariants.{NoMemory, Limit, BadVersionTag, BadToken, Syntax, BadInteger, DivideByZero, OutOfRange, BadReferenceWidth, PropertyAfterNode, DuplicateProperty, DuplicateNode, BadPhandle, ReservedName, ShortHeader, BadMagic, BadTotal, BadVersion, Misaligned, BlockOutside, NoReservationEnd, BadTag, StructureCut, BadName, BadNameOffset, BadNesting, LateProperty, Duplicate, BadEnd, BlobPhandle, WriteFault, ReadFault}
 
@@ -72,3 +72,11 @@ fault_name BadEnd = codes "BadEnd"
 fault_name BlobPhandle = codes "BlobPhandle"
 fault_name WriteFault = codes "WriteFault"
 fault_name ReadFault = codes "ReadFault"
+
+-- what is answered isn't refused, unless memory is wanted
+abbrev pub IsExclusive : (answered : Type 0) (refused : FaultKind → Type 0) → Type 0
+IsExclusive answered refused = (kind : FaultKind) → answered → refused kind → kind ≡ NoMemory
+
+-- what is refused is refused for one reason, unless memory is wanted
+abbrev pub IsOneRefusal : (refused : FaultKind → Type 0) → Type 0
+IsOneRefusal refused = (kind other : FaultKind) → kind ≢ NoMemory → other ≢ NoMemory → refused kind → refused other → kind ≡ other

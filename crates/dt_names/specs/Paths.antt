@@ -1,7 +1,9 @@
 -- Paths of nodes as texts, and when one is refused.
-use Rattle.std.specs.Prelude.{◌≡◌, ℕ, ◌<◌, ◌≤◌, ◌==◌, Option, None, Some, List, [], ◌∷◌, length}
+use Rattle.std.specs.Prelude.{◌≡◌, ℕ, ◌<◌, ◌≤◌, ◌==◌, Option, None, Some, List, [], ◌∷◌, length, codes, if◌then◌else◌}
+use Rattle.std.specs.Str.{bytes_eq}
 use Rattle.std.specs.Borrow.{Bor}
 use Rattle.std.specs.List.{slice_split, AllByRecursion}
+use Rattle.dt_model.specs.Limits.{most_names}
 use Rattle.dt_model.specs.Names.{Name, IsNodeName}
 use Rattle.dt_model.specs.Path.{Path, path_text}
 use Rattle.dt_names.specs.declared.fault.FaultKind.{FaultKind}
@@ -14,15 +16,15 @@ pub record IsPathOf (text : List ℕ) (p : Path) : Type 0 where
 
 -- a text is read as no path: memory is asked for last, so it is refused only where nothing else refuses
 abbrev pub WhyNoPath : FaultKind → List ℕ → Type 0
-WhyNoPath NoMemory text = (p : Path) × IsPathOf text p × (length p ≤ 64)
-WhyNoPath Limit text = (p : Path) × IsPathOf text p × (64 < length p)
+WhyNoPath NoMemory text = (p : Path) × IsPathOf text p × (length p ≤ most_names)
+WhyNoPath Limit text = (p : Path) × IsPathOf text p × (most_names < length p)
 WhyNoPath BadName text = (p : Path) → ¬ IsPathOf text p
 WhyNoPath _ text = ⊥
 
 -- no name is added to a path
 abbrev pub WhyNotPushed : FaultKind → Path → Type 0
-WhyNotPushed NoMemory p = length p < 64
-WhyNotPushed Limit p = length p ≡ 64
+WhyNotPushed NoMemory p = length p < most_names
+WhyNotPushed Limit p = length p ≡ most_names
 WhyNotPushed _ p = ⊥
 
 -- ---- how a path is kept: each name with a `/` before it, and nothing for the root
@@ -45,6 +47,10 @@ behind_first (x ∷ xs) = xs
 unfoldable pub names_in : List ℕ → Path
 names_in text = behind_first (parts text)
 
+-- the path that a text is of, where it is of one
+abbrev pub path_in : List ℕ → Path
+path_in text = if bytes_eq text (codes "/") then [] else names_in text
+
 -- the text is names of nodes, each with a `/` before it
 pub record AreNames (text : List ℕ) : Type 0 where
   pub begins : parts text ≡ [] ∷ names_in text
@@ -54,4 +60,4 @@ pub record AreNames (text : List ℕ) : Type 0 where
 pub record IsKept (text : List ℕ) (count : ℕ) : Type 0 where
   pub names : AreNames text
   pub counted : count ≡ length (names_in text)
-  pub few : count ≤ 64
+  pub few : count ≤ most_names

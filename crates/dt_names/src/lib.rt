@@ -1,14 +1,21 @@
-//! Names of devicetree nodes and properties, labels and paths, the faults of the crates above, and streams of bytes that
-//! fail for good.
+//! Names of devicetree nodes and properties, labels, paths and phandles, the limits and the faults of the crates above, and
+//! streams of bytes that fail for good.
 #![tactic(auto)]
 
 mod fault;
 mod laws;
+pub mod limits;
 mod name;
 mod path;
+mod phandle;
 mod stream;
 
 pub use fault::{Fault, FaultKind};
+pub use laws::{one_outcome, one_path};
 pub use name::{Label, NodeName, PropName};
-pub use path::Path;
+pub use path::{NodePath, Path};
+pub use phandle::phandle_of;
 pub use stream::{Feed, In, Out, Sink, put_all};
+
+/// A node, by the number that the tree or the blob that it is of has for it.
+pub type NodeId = usize;

@@ -5,10 +5,8 @@ ghost use Rattle.dt_model.specs.Names.{is_name_byte, is_letter, is_digit, IsNode
 ghost use Rattle.dt_names.specs.declared.fault.FaultKind.TheVariants.{BadName};
 
 use crate::fault::{Fault, FaultKind};
+use crate::limits::MOST_NAME_BYTES;
 use std::marker::Model;
-
-/// The most bytes that a name or a label may have.
-const MOST_BYTES: usize = 255;
 
 /// The name of a node that isn't the root: a name, and perhaps an `@` and a unit address.
 #[derive(Drop)]
@@ -71,7 +69,7 @@ fn may_stand_in_a_name(byte: u8) -> bool
 pub(crate) fn is_node_name(bytes: &[u8]) -> bool
     ensures { IsTrue result ↔ IsNodeName bytes.now }
 {
-    if bytes.is_empty() || bytes.len() > MOST_BYTES || bytes[0] == b'@' {
+    if bytes.is_empty() || bytes.len() > MOST_NAME_BYTES || bytes[0] == b'@' {
         return false;
     }
     let mut has_at = false;
@@ -92,7 +90,7 @@ fn is_property_name(bytes: &[u8]) -> bool
     ensures { IsTrue result ↔ IsPropertyName bytes.now }
 {
     !bytes.is_empty()
-        && bytes.len() <= MOST_BYTES
+        && bytes.len() <= MOST_NAME_BYTES
         && bytes.iter().all(|byte| may_stand_in_a_name(*byte))
 }
 
@@ -111,7 +109,7 @@ fn is_a_digit(byte: u8) -> bool
 fn is_label(bytes: &[u8]) -> bool
     ensures { IsTrue result ↔ IsLabel bytes.now }
 {
-    if bytes.is_empty() || bytes.len() > MOST_BYTES || is_a_digit(bytes[0]) {
+    if bytes.is_empty() || bytes.len() > MOST_NAME_BYTES || is_a_digit(bytes[0]) {
         return false;
     }
     if bytes == b"phandle".as_slice() {

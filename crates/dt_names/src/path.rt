@@ -4,19 +4,19 @@ ghost use Rattle.std.specs.Prelude.{◌≡◌, ℕ, ◌<◌, ◌≤◌, ◌++◌
 ghost use Rattle.std.specs.List.{AllByRecursion};
 ghost use Rattle.std.specs.Option.{option_copied};
 ghost use Rattle.std.specs.Io.KnownBytes.{Appends};
+ghost use Rattle.dt_model.specs.Limits.{most_names};
 ghost use Rattle.dt_model.specs.Names.{IsNodeName};
 ghost use Rattle.dt_model.specs.Path.{path_text};
-ghost use Rattle.dt_names.specs.Paths.{parts, parts_left, names_in, AreNames, WhyNoPath, WhyNotPushed};
+ghost use Rattle.dt_model.specs.Path.{Path as Names};
+ghost use Rattle.dt_names.specs.Paths.{parts, parts_left, names_in, AreNames, IsPathOf, WhyNoPath, WhyNotPushed};
 ghost use Rattle.dt_names.specs.declared.fault.FaultKind.TheVariants.{WriteFault};
 
 use crate::fault::{Fault, FaultKind};
+use crate::limits::MOST_NAMES;
 use crate::name::{NodeName, is_node_name};
 use crate::stream::{Sink, put_all};
 use std::alloc::{AllocError, Global};
 use std::marker::Model;
-
-/// The most names that a path has.
-const MOST_NAMES: usize = 64;
 
 /// The names of nodes from the root down to a node, at most 64; the root's own path has none (Devicetree Specification
 /// v0.4, 2.2.3; the limit is this project's choice). It is seen as the list of the names. It owns its bytes: each name
@@ -36,6 +36,24 @@ impl Model for Path {
     ghost view = { λ p. names_in p.text.items };
 
     ghost invariant = { λ p. IsKept p.text.items p.count };
+}
+
+/// The path of a node as it is written, of any number of names: `/` for the root, or else each name with a `/` before it
+/// (Devicetree Specification v0.4, 2.2.3). It is seen as the list of the names.
+#[derive(Drop)]
+pub struct NodePath<'a> {
+    text: &'a [u8],
+}
+
+impl<'a> Model for NodePath<'a> {
+    ghost use Rattle.std.specs.Prelude.{List, ℕ};
+    ghost use Rattle.dt_names.specs.Paths.{path_in, IsPathOf};
+
+    ghost Value = { List (List ℕ) };
+
+    ghost view = { λ p. path_in p.text.now };
+
+    ghost invariant = { λ p. IsPathOf p.text.now (path_in p.text.now) };
 }
 
 // The bytes before the first `/`, and those behind it, where there is one.
@@ -82,6 +100,31 @@ fn add(text: &mut Vec<u8>, name: &[u8]) -> Result<(), AllocError>
     Ok(())
 }
 
+impl<'a> NodePath<'a> {
+    /// The path of a text; none where the text is of no path. Takes no memory.
+    pub fn new(text: &'a [u8]) -> Option<NodePath<'a>>
+        ensures { MatchOption result ((path : Names) → ¬ IsPathOf text.now path) (IsPathOf text.now) }
+    {
+        if text.is_empty() {
+            return None;
+        }
+        if text == b"/".as_slice() {
+            return Some(NodePath { text });
+        }
+        count_names(text)?;
+        Some(NodePath { text })
+    }
+
+    /// The path's text: `/` for the root, or else each name with a `/` before it.
+    pub fn text(&self) -> &'a [u8]
+        ensures value { result.now ≡ path_text self.now }
+        // Each name is a node's.
+        ensures names { AllByRecursion IsNodeName self.now }
+    {
+        self.text
+    }
+}
+
 impl Path {
     /// The path of the root. Takes no memory.
     pub fn root(alloc: Global) -> Path
@@ -99,7 +142,7 @@ impl Path {
     pub fn parse(alloc: Global, text: &[u8]) -> Result<Path, Fault>
         ensures text { IfOk result (λ path. text.now ≡ path_text path) }
         ensures names { IfOk result (λ path. AllByRecursion IsNodeName path) }
-        ensures few { IfOk result (λ path. length path ≤ 64) }
+        ensures few { IfOk result (λ path. length path ≤ most_names) }
         ensures refused { IfErr result (λ fault. WhyNoPath fault.kind text.now × (fault.at ≡ None)) }
     {
         if text.is_empty() {
@@ -122,7 +165,7 @@ impl Path {
     /// refused. At a fault, which has no place, the path is unchanged.
     pub fn push(&mut self, name: &NodeName<'_>) -> Result<(), Fault>
         ensures ok { OnOk result (self.new ≡ self.old ++ name.now ∷ []) }
-        ensures room { IsOk result → length self.old < 64 }
+        ensures room { IsOk result → length self.old < most_names }
         ensures err { OnErr result (self.new ≡ self.old) }
         ensures refused { IfErr result (λ fault. WhyNotPushed fault.kind self.old × (fault.at ≡ None)) }
     {
@@ -137,7 +180,7 @@ impl Path {
     /// How many names the path has.
     pub fn len(&self) -> usize
         ensures value { result ≡ length self.now }
-        ensures few { result ≤ 64 }
+        ensures few { result ≤ most_names }
     {
         self.count
     }

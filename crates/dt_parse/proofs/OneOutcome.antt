@@ -2,12 +2,13 @@
 use Rattle.std.proofs.Common.{◌⊎◌, inl, inr, ◌≡◌, ℕ, ◌≤◌, Bool, List, ◌++◌, length, drop, Some, Ok, Err, refl, sym, ◌∙◌, ap, subst, append_assoc, arith, length-append}
 use Rattle.std.proofs.lemmas.List.{length-map}
 use Rattle.std.proofs.Math.Seq.{drop-append_seam}
+use Rattle.dt_model.specs.Limits.{most_bytes}
 use Rattle.dt_names.specs.declared.fault.Fault.{Fault}
 use Rattle.dt_names.specs.declared.fault.FaultKind.TheVariants as fault
 use Rattle.dt_lex.specs.declared.token.Token.{Token}
 use Rattle.dt_lex.specs.declared.token.Flaw.TheVariants.{BadToken, BadInteger}
 use Rattle.dt_lex.specs.Spans.{fault_of}
-use Rattle.dt_lex.specs.Lexing.{FirstFlaw, Lexed, IsLexed, WhyNotLexed, text_limit, no_memory, too_long, bad_token, bad_integer}
+use Rattle.dt_lex.specs.Lexing.{FirstFlaw, Lexed, IsLexed, WhyNotLexed, no_memory, too_long, bad_token, bad_integer}
 use Rattle.dt_grammar.specs.Words.{Words, word_of, words_of}
 use Rattle.dt_grammar.specs.Wanted.{Whole}
 use Rattle.dt_grammar.specs.Faults.{outside, Breaks}
@@ -32,7 +33,7 @@ headers_tagged (more_headers plugin us ws h l) rest = subst IsTagged (sym (appen
 pub source_tagged : (ws : Words) (s : Says) → SpellsSource ws s → IsTagged ws
 source_tagged ws s h = subst IsTagged (sym h.together) (headers_tagged h.spelled_headers (h.reserves ++ h.statements))
 
-lexed_or_not : OneAnswer → (text : List ℕ) (tokens : List Token) (e : Fault) → length text ≤ text_limit → IsLexed text (Ok tokens) → WhyNotLexed text e → e.kind ≡ fault.NoMemory
+lexed_or_not : OneAnswer → (text : List ℕ) (tokens : List Token) (e : Fault) → length text ≤ most_bytes → IsLexed text (Ok tokens) → WhyNotLexed text e → e.kind ≡ fault.NoMemory
 lexed_or_not one text tokens _ size l no_memory = refl
 lexed_or_not one text tokens _ size l (too_long h) = let never : ⊥ = omega (arith, size, h) in absurd never
 lexed_or_not one text tokens _ size l (bad_token at h m) = let same = one text _ _ l m in cc
@@ -61,7 +62,7 @@ record HasFlaw (text : List ℕ) (e : Fault) : Type 0 where
   told : e ≡ fault_of flaw
   lexed : IsLexed text (Err flaw)
 
-has_flaw : (text : List ℕ) (e : Fault) → length text ≤ text_limit → WhyNotLexed text e → ¬ e.kind ≡ fault.NoMemory → HasFlaw text e
+has_flaw : (text : List ℕ) (e : Fault) → length text ≤ most_bytes → WhyNotLexed text e → ¬ e.kind ≡ fault.NoMemory → HasFlaw text e
 has_flaw text _ size no_memory n = absurd (n refl)
 has_flaw text _ size (too_long h) n = let never : ⊥ = omega (arith, size, h) in absurd never
 has_flaw text _ size (bad_token at h l) n = record { flaw = record { flaw = BadToken; at = at }; told = refl; lexed = l }
@@ -78,7 +79,7 @@ same_end xs ys us vs e h =
     let many : length xs ≡ length ys = omega (arith, sym (length-append xs us), ap length e, length-append ys vs, h) in
     sym (drop-append_seam xs us) ∙ ap (λ (n : ℕ). drop n (xs ++ us)) many ∙ ap (λ (ts : List Token). drop (length ys) ts) e ∙ drop-append_seam ys vs
 
-too_long_first : (text : List ℕ) (e f : Fault) → WhyNotLexed text e → WhyNotLexed text f → ¬ e.kind ≡ fault.NoMemory → ¬ f.kind ≡ fault.NoMemory → (e ≡ f) ⊎ (length text ≤ text_limit)
+too_long_first : (text : List ℕ) (e f : Fault) → WhyNotLexed text e → WhyNotLexed text f → ¬ e.kind ≡ fault.NoMemory → ¬ f.kind ≡ fault.NoMemory → (e ≡ f) ⊎ (length text ≤ most_bytes)
 too_long_first text _ _ no_memory w n m = absurd (n refl)
 too_long_first text _ _ (bad_token at h l) w n m = inr h
 too_long_first text _ _ (bad_integer at h l) w n m = inr h
@@ -87,7 +88,7 @@ too_long_first text _ _ (too_long h) (too_long i) n m = inl refl
 too_long_first text _ _ (too_long h) (bad_token at i l) n m = inr i
 too_long_first text _ _ (too_long h) (bad_integer at i l) n m = inr i
 
-by_size : (text : List ℕ) (e f : Fault) → (e ≡ f) ⊎ (length text ≤ text_limit) → (length text ≤ text_limit → e ≡ f) → e ≡ f
+by_size : (text : List ℕ) (e f : Fault) → (e ≡ f) ⊎ (length text ≤ most_bytes) → (length text ≤ most_bytes → e ≡ f) → e ≡ f
 by_size text e f (inl same) g = same
 by_size text e f (inr size) g = g size
 

@@ -3,11 +3,12 @@ use Rattle.std.proofs.Common.{◌≡◌, ◌≤◌, ℕ, ◌-◌, Bool, true, fa
 use Rattle.std.specs.List.{AllByRecursion}
 use Rattle.std.proofs.lemmas.List.{take-append-drop, drop-map, length-map}
 use Rattle.std.proofs.Math.Seq.{drop-append_seam}
+use Rattle.dt_model.specs.Limits.{most_bytes}
 use Rattle.dt_names.specs.declared.fault.Fault.{Fault}
 use Rattle.dt_names.specs.declared.fault.FaultKind.{FaultKind}
 use Rattle.dt_names.specs.declared.fault.FaultKind.TheVariants as fault
 use Rattle.dt_lex.specs.declared.token.Token.{Token}
-use Rattle.dt_lex.specs.Lexing.{text_limit, IsLexed, WhyNotLexed, no_memory, too_long as text_too_long, bad_token, bad_integer}
+use Rattle.dt_lex.specs.Lexing.{IsLexed, WhyNotLexed, no_memory, too_long as text_too_long, bad_token, bad_integer}
 use Rattle.dt_lex.specs.Spans.{AreSpans}
 use Rattle.dt_parse.specs.declared.stop.Stop.{Stop}
 use Rattle.dt_grammar.specs.Words.{Words, word_of, words_of}
@@ -143,7 +144,7 @@ pub record Tells (text : List ℕ) (tokens : List Token) (stop : Stop) (e : Faul
   pub memory : stop.kind ≡ fault.NoMemory → e ≡ record { kind = fault.NoMemory; at = None }
   pub told : ¬ stop.kind ≡ fault.NoMemory → e ≡ record { kind = stop.kind; at = told_at stop.kind (place_of text (drop (length tokens - stop.left) tokens)) }
 
-pub why_broken : (text : List ℕ) (tokens : List Token) (stop : Stop) (e : Fault) → length text ≤ text_limit → IsLexed text (Ok tokens) → IsTagged (words_of text tokens) →
+pub why_broken : (text : List ℕ) (tokens : List Token) (stop : Stop) (e : Fault) → length text ≤ most_bytes → IsLexed text (Ok tokens) → IsTagged (words_of text tokens) →
     IsBroken outside Whole (words_of text tokens) stop → Tells text tokens stop e → WhyNotParsed text e
 why_broken text tokens stop e size lexed tagged (reading.no_memory k) tells = subst (WhyNotParsed text) (sym (tells.memory k)) (reading.unlexed _ no_memory)
 why_broken text tokens stop e size lexed tagged (reading.broken left many b) tells =
@@ -154,7 +155,7 @@ why_broken text tokens stop e size lexed tagged (reading.broken left many b) tel
     (reading.broken tokens (take n tokens) (drop n tokens) stop.kind size lexed tagged (sym (take-append-drop n tokens))
     (subst (λ (x : Words). Breaks outside Whole (words_of text tokens) stop.kind x) (sym same) b))
 
-pub why_untagged : (text : List ℕ) (tokens : List Token) (e : Fault) → length text ≤ text_limit → IsLexed text (Ok tokens) → ¬ IsTagged (words_of text tokens) →
+pub why_untagged : (text : List ℕ) (tokens : List Token) (e : Fault) → length text ≤ most_bytes → IsLexed text (Ok tokens) → ¬ IsTagged (words_of text tokens) →
     e.kind ≡ fault.BadVersionTag → e.at ≡ Some 0 → WhyNotParsed text e
 why_untagged text tokens e size lexed h k a =
     let same : e ≡ record { kind = fault.BadVersionTag; at = Some 0 } = λ i. record { kind = k i; at = a i } in

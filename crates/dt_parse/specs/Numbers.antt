@@ -1,5 +1,6 @@
 -- Numbers that are read, with how many tokens they are.
 use Rattle.std.specs.Prelude.{◌≡◌, ℕ, ◌≤◌, true, List, length, drop, Option, Some}
+use Rattle.dt_model.specs.Limits.{most_tokens}
 use Rattle.dt_lex.specs.declared.token.TokenKind.{TokenKind}
 use Rattle.dt_expr.specs.declared.step.Step.{Step}
 use Rattle.dt_expr.specs.Expression.{Expression, number, steps, value}
@@ -18,7 +19,7 @@ pub record IsMeasured (ws : Words) (ss : List Step) (used : ℕ) : Type 0 where
   pub steps_are : ss ≡ steps expression
   pub read : Descends Prim ws (found (made_expression used expression) (drop used ws))
   pub inside : used ≤ length ws
-  pub few : used ≤ 1024
+  pub few : used ≤ most_tokens
   pub short : length ss ≤ used
 
 -- the first tokens, at most 1,024, are an expression of this value
@@ -27,4 +28,4 @@ pub record IsValued (ws : Words) (n used : ℕ) : Type 0 where
   pub is : value expression ≡ Some n
   pub read : Descends Prim ws (found (made_expression used expression) (drop used ws))
   pub inside : used ≤ length ws
-  pub few : used ≤ 1024
+  pub few : used ≤ most_tokens

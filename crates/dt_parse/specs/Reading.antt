@@ -1,5 +1,6 @@
 -- What a part of a source is read as, and where it breaks.
 use Rattle.std.specs.Prelude.{◌≡◌, ℕ, ◌≤◌, List, [], ◌∷◌, ◌++◌, length, Option, Some, None, Ok, true}
+use Rattle.dt_model.specs.Limits.{most_bytes}
 use Rattle.dt_names.specs.declared.fault.Fault.{Fault}
 use Rattle.dt_names.specs.declared.fault.FaultKind.{FaultKind}
 use Rattle.dt_names.specs.declared.fault.FaultKind.TheVariants as fault
@@ -7,7 +8,7 @@ use Rattle.dt_lex.specs.declared.token.TokenKind.TheVariants as kind
 use Rattle.dt_lex.specs.declared.token.Mark.TheVariants as mark
 use Rattle.dt_lex.specs.declared.token.Keyword.TheVariants as keyword
 use Rattle.dt_lex.specs.declared.token.Token.{Token}
-use Rattle.dt_lex.specs.Lexing.{IsLexed, WhyNotLexed, text_limit}
+use Rattle.dt_lex.specs.Lexing.{IsLexed, WhyNotLexed}
 use Rattle.dt_parse.specs.declared.stop.Stop.{Stop}
 use Rattle.dt_grammar.specs.Words.{Words, words_of}
 use Rattle.dt_grammar.specs.Grammar.{Says, SpellsSource}
@@ -46,7 +47,7 @@ told_at _ place = Some place
 
 -- the text has a token list, which the grammar spells, and this is what it says
 pub record IsParsed (text : List ℕ) (s : Says) : Type 0 where
-  pub size : length text ≤ text_limit
+  pub size : length text ≤ most_bytes
   pub tokens : List Token
   pub lexed : IsLexed text (Ok tokens)
   pub spelled : SpellsSource (words_of text tokens) s
@@ -55,9 +56,9 @@ pub record IsParsed (text : List ℕ) (s : Says) : Type 0 where
 -- tag, which is told at its start; or they break, at the first of these that are left.
 pub data WhyNotParsed (text : List ℕ) : Fault → Type 0 where
   unlexed : (e : Fault) → WhyNotLexed text e → WhyNotParsed text e
-  untagged : (tokens : List Token) → length text ≤ text_limit → IsLexed text (Ok tokens) → ¬ IsTagged (words_of text tokens) →
+  untagged : (tokens : List Token) → length text ≤ most_bytes → IsLexed text (Ok tokens) → ¬ IsTagged (words_of text tokens) →
       WhyNotParsed text (record { kind = fault.BadVersionTag; at = Some 0 })
-  broken : (tokens before left : List Token) (k : FaultKind) → length text ≤ text_limit → IsLexed text (Ok tokens) → IsTagged (words_of text tokens) → tokens ≡ before ++ left →
+  broken : (tokens before left : List Token) (k : FaultKind) → length text ≤ most_bytes → IsLexed text (Ok tokens) → IsTagged (words_of text tokens) → tokens ≡ before ++ left →
       Breaks outside Whole (words_of text tokens) k (words_of text left) →
       WhyNotParsed text (record { kind = k; at = told_at k (place_of text left) })
 

@@ -2,6 +2,7 @@
 
 ghost use Rattle.std.specs.Prelude.{◌≡◌, ◌≢◌, ◌⊎◌, ◌++◌, ◌∷◌, ◌<◌, ◌≤◌, ◌+◌, [], true, false, List, ℕ, Bool, Some, map, length, OnOk, IfOk, IfErr, MatchResult, IsTrue, ◌↔◌};
 ghost use Rattle.std.specs.List.{AllByRecursion};
+ghost use Rattle.dt_model.specs.Limits.{most_bodies};
 ghost use Rattle.dt_names.specs.declared.fault.FaultKind.TheVariants as fault;
 ghost use Rattle.dt_model.specs.Names.{IsNodeName, IsPropertyName};
 ghost use Rattle.dt_lex.specs.declared.token.TokenKind.TheVariants as kind;
@@ -25,11 +26,9 @@ use crate::source::{Item, Value};
 use crate::stop::Stop;
 use crate::value::{labels, value};
 use dt_lex::{Keyword, Mark, TokenKind};
+use dt_names::limits::MOST_BODIES;
 use dt_names::{FaultKind, Label, NodeName, PropName};
 use std::alloc::Global;
-
-/// How many bodies are open at once, at most.
-const MOST_BODIES: usize = 65;
 
 /// What a member, or the end of a body, begins with.
 #[derive(Clone, Copy)]
@@ -167,7 +166,7 @@ fn open_child<'a>(
 ) -> Result<(), Stop>
     requires named { kind_at (first cursor.old) ≡ Some kind.Name }
     requires opened { behind_of (kind_at (first (after true cursor.old))) ≡ behind.Body }
-    ensures ok { OnOk result (IsNodeName (bytes_at (first cursor.old)) × (bodies < 65)
+    ensures ok { OnOk result (IsNodeName (bytes_at (first cursor.old)) × (bodies < most_bodies)
         × (cursor.new ≡ after true (after true cursor.old))
         × (places_said items.new.items ≡ places_said items.old.items ++ place_of (raw_child (bytes_at (first cursor.old))) ∷ [])) }
     ensures err { IfErr result (λ stop. (ls : List (List ℕ)) (late : Bool) (outer : List Bool) → length outer + 1 ≡ bodies → IsBroken (in_body late outer) (AfterMemberLabels ls) cursor.old stop) }
@@ -190,7 +189,7 @@ fn child<'a>(
 ) -> Result<(), Stop>
     requires named { kind_at (first cursor.old) ≡ Some kind.Name }
     requires opened { behind_of (kind_at (first (after true cursor.old))) ≡ behind.Body }
-    ensures ok { (ls : List (List ℕ)) → names.entry.items ≡ map all_but_last ls → OnOk result (IsNodeName (bytes_at (first cursor.old)) × (bodies < 65)
+    ensures ok { (ls : List (List ℕ)) → names.entry.items ≡ map all_but_last ls → OnOk result (IsNodeName (bytes_at (first cursor.old)) × (bodies < most_bodies)
         × (cursor.new ≡ after true (after true cursor.old))
         × (places_said items.new.items ≡ places_said items.old.items ++ map place_of (raw_child (bytes_at (first cursor.old)) ∷ map raw_label ls))) }
     ensures err { IfErr result (λ stop. (ls : List (List ℕ)) (late : Bool) (outer : List Bool) → length outer + 1 ≡ bodies → IsBroken (in_body late outer) (AfterMemberLabels ls) cursor.old stop) }

@@ -14,4 +14,4 @@ mod value;
 
 pub use laws::one_outcome;
 pub use parser::parse;
-pub use source::{Form, Item, NodePath, Piece, Reference, Reservation, Source, Value};
+pub use source::{Form, Item, Piece, Reference, Reservation, Source, Value};

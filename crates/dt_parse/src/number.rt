@@ -1,6 +1,7 @@
 //! Numbers of cell lists and of reservations.
 
 ghost use Rattle.std.specs.Prelude.{◌≡◌, ◌≤◌, ◌-◌, ℕ, List, length, MatchOption, IfOk, IfErr};
+ghost use Rattle.dt_model.specs.Limits.{most_tokens};
 ghost use Rattle.dt_names.specs.declared.fault.FaultKind.TheVariants.{Limit};
 ghost use Rattle.dt_expr.specs.Expression.{Expression, steps, value};
 ghost use Rattle.dt_expr.specs.Fits.{element, IsWidth};
@@ -18,10 +19,8 @@ use crate::stop::Stop;
 use dt_expr::{Expr, Step, eval, fit, one_expression};
 use dt_lex::{Token, TokenKind};
 use dt_names::FaultKind;
+use dt_names::limits::MOST_TOKENS;
 use std::alloc::Global;
-
-/// The most tokens of a number, its outer parentheses among them.
-const MOST_TOKENS: usize = 1024;
 
 /// The number that a token is by itself.
 fn literal(next: Option<TokenKind>) -> Option<u64>
@@ -36,9 +35,9 @@ fn literal(next: Option<TokenKind>) -> Option<u64>
 
 /// More tokens than a number may have: the first that is too many.
 fn over_limit(tokens: &[Token]) -> Stop
-    requires { 1024 ≤ length tokens.now }
+    requires { most_tokens ≤ length tokens.now }
     ensures kind { result.kind ≡ Limit }
-    ensures left { result.left ≡ length tokens.now - 1024 }
+    ensures left { result.left ≡ length tokens.now - most_tokens }
 {
     Stop {
         kind: FaultKind::Limit,
@@ -89,7 +88,7 @@ fn measured(alloc: Global, tokens: &[Token]) -> Result<(Vec<Step>, usize), Stop>
 
 /// The value of an expression; none where it divides by 0.
 fn value_of(found: Vec<Step>) -> Option<u64>
-    ensures { (e : Expression) → found.items ≡ steps e → length found.items ≤ 1024 → result ≡ value e }
+    ensures { (e : Expression) → found.items ≡ steps e → length found.items ≤ most_tokens → result ≡ value e }
 {
     one_expression();
     let expression = Expr::new(found)?;

@@ -1,37 +1,15 @@
 //! What the grammar makes of a text: sources, as items in the order of their text.
 
-ghost use Rattle.std.specs.Prelude.{◌≡◌, ◌≢◌, ◌↔◌, ◌++◌, ◌∷◌, [], ℕ, List, All, IsTrue, MatchOption, codes, drop, map};
-ghost use Rattle.std.specs.List.{AllByRecursion};
-ghost use Rattle.dt_model.specs.Names.{IsNodeName};
-ghost use Rattle.dt_model.specs.Path.{path_text};
+ghost use Rattle.std.specs.Prelude.{◌≡◌, ◌≢◌, ℕ, List, MatchOption, drop, map};
 ghost use Rattle.dt_grammar.specs.Grammar.{SpellsSource};
 ghost use Rattle.dt_grammar.specs.Words.{Words};
 ghost use Rattle.dt_grammar.specs.Unchecked.{a_path, path_of_names, ended_names};
 ghost use Rattle.dt_grammar.specs.Strict.{IsReferenceText};
-ghost use Rattle.dt_grammar.specs.Paths.{IsPathText, AreNames, BeginsName, braced};
+ghost use Rattle.dt_grammar.specs.Paths.{braced};
 ghost use Rattle.dt_parse.specs.Said.{reservation_said, place_said, said};
 
-use dt_names::{Label, NodeName, PropName};
+use dt_names::{Label, NodeName, NodePath, PropName};
 use std::marker::Model;
-
-/// The path of a node in a source: the names from the root down, of any number (Devicetree Specification v0.4, 2.2.3).
-#[derive(Drop)]
-pub struct NodePath<'a> {
-    // `&{/path}`
-    bytes: &'a [u8],
-}
-
-impl<'a> Model for NodePath<'a> {
-    ghost use Rattle.std.specs.Prelude.{List, ℕ, drop};
-    ghost use Rattle.dt_grammar.specs.Unchecked.{a_path, path_of_names, ended_names};
-    ghost use Rattle.dt_grammar.specs.Strict.{IsReferenceText};
-
-    ghost Value = { List (List ℕ) };
-
-    ghost view = { λ p. path_of_names (ended_names (drop 3 p.bytes.now)) };
-
-    ghost invariant = { λ p. IsReferenceText a_path p.bytes.now };
-}
 
 /// What stands between `&{` and `}`; none where the bytes begin or end in another way.
 fn between_braces(bytes: &[u8]) -> Option<&[u8]>
@@ -44,69 +22,12 @@ fn between_braces(bytes: &[u8]) -> Option<&[u8]>
     Some(&bytes[2..size - 1])
 }
 
-/// The bytes before the first `/`, and those from there on.
-fn cut(bytes: &[u8]) -> (&[u8], &[u8])
-    ensures split { bytes.now ≡ result.0.now ++ result.1.now }
-    ensures before { All (λ b. b ≢ 47) result.0.now }
-    ensures behind { BeginsName result.1.now }
+/// The path that a reference's bytes are by; none where they aren't `&{`, a path's text and `}`. Takes no memory.
+pub(crate) fn referred_path(bytes: &[u8]) -> Option<NodePath<'_>>
+    ensures { MatchOption result (¬ IsReferenceText a_path bytes.now)
+        (λ path. IsReferenceText a_path bytes.now × (path ≡ path_of_names (ended_names (drop 3 bytes.now)))) }
 {
-    for (at, byte) in bytes.iter().enumerate() {
-        if *byte == b'/' {
-            return bytes.split_at(at);
-        }
-    }
-    (bytes, &[])
-}
-
-/// Whether a text is names of nodes, each with a `/` before it.
-fn are_names(text: &[u8]) -> bool
-    ensures { IsTrue result ↔ AreNames text.now }
-{
-    let mut rest = text;
-    while !rest.is_empty() {
-        if rest[0] != b'/' {
-            return false;
-        }
-        let (name, behind) = cut(&rest[1..]);
-        if NodeName::new(name).is_err() {
-            return false;
-        }
-        rest = behind;
-    }
-    true
-}
-
-/// Whether a text is a path's: `/`, or names of nodes, each with a `/` before it.
-fn is_path_text(text: &[u8]) -> bool
-    ensures { IsTrue result ↔ IsPathText text.now }
-{
-    if text.is_empty() {
-        return false;
-    }
-    text == b"/".as_slice() || are_names(text)
-}
-
-impl<'a> NodePath<'a> {
-    /// The path that a reference's bytes are by; none where they aren't `&{`, a path's text and `}`. Takes no memory.
-    pub(crate) fn new(bytes: &'a [u8]) -> Option<NodePath<'a>>
-        ensures { MatchOption result (¬ IsReferenceText a_path bytes.now)
-            (λ path. IsReferenceText a_path bytes.now × (path ≡ path_of_names (ended_names (drop 3 bytes.now)))) }
-    {
-        let text = between_braces(bytes)?;
-        if !is_path_text(text) {
-            return None;
-        }
-        Some(NodePath { bytes })
-    }
-
-    /// The path's text: `/`, or each name with a `/` before it.
-    pub fn text(&self) -> &'a [u8]
-        ensures value { result.now ≡ path_text self.now }
-        // Each name is a node's.
-        ensures names { AllByRecursion IsNodeName self.now }
-    {
-        &self.bytes[2..self.bytes.len() - 1]
-    }
+    NodePath::new(between_braces(bytes)?)
 }
 
 /// A node as a source refers to it: `&label`, or `&{/path}` (Devicetree Specification v0.4, 6.3).
@@ -209,11 +130,17 @@ impl<'a> Source<'a> {
         }
     }
 
+    /// What is true of each source: some tokens spell it. Does nothing.
+    pub fn spelled(&self)
+        ensures { (ws : Words) × SpellsSource ws self.now }
+    {
+        // The invariant says it, and it is known where a field is named.
+        let _ = &self.items;
+    }
+
     /// Whether it is an overlay's: `/plugin/;` stands behind `/dts-v1/;`.
     pub fn is_overlay(&self) -> bool
-        ensures value { result ≡ self.now.plugin }
-        // Some tokens spell it.
-        ensures spelled { (ws : Words) × SpellsSource ws self.now }
+        ensures { result ≡ self.now.plugin }
     {
         self.plugin
     }

@@ -20,7 +20,7 @@ ghost use Rattle.dt_parse.specs.Said.{value_said, reference_of, referring};
 
 use crate::cursor::Cursor;
 use crate::number::number;
-use crate::source::{Form, NodePath, Piece, Reference, Value};
+use crate::source::{Form, Piece, Reference, Value, referred_path};
 use crate::stop::Stop;
 use dt_lex::{Keyword, Mark, TokenKind, push_text};
 use dt_names::{FaultKind, Label};
@@ -197,7 +197,7 @@ fn reference_of<'a>(kind: Option<TokenKind>, bytes: &'a [u8]) -> Option<Referenc
         (λ r. IsReferenceText t bytes.now × (reference_of r ≡ reference_in t bytes.now)) }
 {
     match kind {
-        Some(TokenKind::PathReference) => Some(Reference::Path(NodePath::new(bytes)?)),
+        Some(TokenKind::PathReference) => Some(Reference::Path(referred_path(bytes)?)),
         _ => Some(Reference::Label(label_referred_to(bytes)?)),
     }
 }

@@ -1,5 +1,6 @@
 -- How a tree grows by the tokens of a structure block, where the open nodes have numbers, the innermost first.
 use Rattle.std.specs.Prelude.{ℕ, ◌<◌, List, [], ◌∷◌, length, drop}
+use Rattle.dt_model.specs.Limits.{most_names}
 use Rattle.dt_model.specs.Names.{IsNodeName, IsPropertyName}
 use Rattle.dt_model.specs.Tree.{Reading}
 use Rattle.dt_model.specs.Valid.{IsValid, IsWithinLimits}
@@ -32,7 +33,7 @@ slots_behind end_tree slots ps = slots
 -- nothing but memory is in the way of the token
 abbrev pub MayCome : Token → List Slot → List ℕ → Type 0
 MayCome (begin_node name) slots [] = Unit {0}
-MayCome (begin_node name) slots (p ∷ ps) = (p < length slots) × (length ps < 64) × IsNodeName name × MayAdd slots p name
+MayCome (begin_node name) slots (p ∷ ps) = (p < length slots) × (length ps < most_names) × IsNodeName name × MayAdd slots p name
 MayCome end_node slots ps = Unit {0}
 MayCome (prop x) slots [] = ⊥
 MayCome (prop x) slots (p ∷ ps) = (p < length slots) × IsPropertyName x.name × MaySet slots p x.name x.value

@@ -3,6 +3,7 @@ use Rattle.std.specs.Prelude.{ℕ, zero, suc, ◌<◌, ◌-◌, List, [], ◌∷
 use Rattle.std.proofs.Common.{◌≡◌, refl, ap}
 use Rattle.std.specs.Coded.{Coded, code_by, coded×, coded_ℕ, coded_list}
 use Rattle.std.specs.Str.{bytes_eq}
+use Rattle.dt_model.specs.Limits.{most_bodies}
 use Rattle.dt_read.specs.Marks.{Mark, begin_mark, end_mark, prop_mark, nop_mark, last_mark, Root, marks_of}
 use Rattle.dt_read.specs.declared.keys.Sort.{Sort}
 use Rattle.dt_read.specs.declared.keys.Sort.TheVariants.{Child, Property, Phandle}
@@ -52,7 +53,7 @@ keys_of wanted tree = keys_in wanted [] (marks_of tree ++ last_mark ∷ [])
 -- with so many open nodes, no more than 65 are open at once
 abbrev pub AreShallow : ℕ → List Mark → Type 0
 AreShallow count [] = Unit {0}
-AreShallow count (begin_mark place name ∷ marks) = (count < 65) × AreShallow (suc count) marks
+AreShallow count (begin_mark place name ∷ marks) = (count < most_bodies) × AreShallow (suc count) marks
 AreShallow count (end_mark ∷ marks) = AreShallow (count - 1) marks
 AreShallow count (prop_mark p ∷ marks) = AreShallow count marks
 AreShallow count (nop_mark ∷ marks) = AreShallow count marks

@@ -7,6 +7,7 @@ use Rattle.dt_model.specs.Valid.{node_count, IsNoDeeper}
 use Rattle.dt_model.specs.Checks.{IsSpelled}
 use Rattle.dt_read.specs.Marks.{Mark, begin_mark, end_mark, prop_mark, nop_mark, last_mark, SpellsMarks, Root, marks_of_nodes, marks_of, without_nop_marks}
 use Rattle.std.specs.Prelude.{◌≡◌, ℕ, zero, suc, ◌+◌, ◌<◌, ◌≤◌, ◌^◌, List, [], ◌∷◌, ◌++◌, length, map, Option, Some, None, ◌==◌, if◌then◌else◌}
+use Rattle.dt_model.specs.Limits.{most_names, most_nodes}
 use Rattle.dt_read.specs.Parsing.{lexed, left_by, tree_in}
 
 -- the tokens at an offset, without NOPs
@@ -88,8 +89,8 @@ pub record HasTree (strings : List ℕ) (at : ℕ) (block : List ℕ) (tree : Ro
   pub checked : IsSpelled strings block tree.properties (forest_of tree.children)
   pub properties : AllByRecursion (λ p. IsPropertyName p.name) tree.properties
   pub nodes : AreNamed tree.children
-  pub count : 1 + node_count (forest_of tree.children) ≤ 65536
-  pub depth : IsNoDeeper 64 1 (forest_of tree.children)
+  pub count : 1 + node_count (forest_of tree.children) ≤ most_nodes
+  pub depth : IsNoDeeper most_names 1 (forest_of tree.children)
 
 -- a structure block whose one reading is the tree
 pub record IsStructure (strings : List ℕ) (at : ℕ) (block : List ℕ) : Type 0 where

@@ -7,15 +7,13 @@ ghost use Rattle.dt_read.specs.Kinds.{kind_of};
 
 use dt_bytes::be32;
 use dt_names::FaultKind;
+use dt_names::limits::MOST_BYTES;
 
 /// The number that a blob begins with.
 const MAGIC: usize = 0xd00d_feed;
 
 /// The version that is read.
 const VERSION: usize = 17;
-
-/// The most bytes of a blob.
-const MOST_BYTES: usize = 16_777_216;
 
 /// How many bytes a header has.
 const HEADER_BYTES: usize = 40;

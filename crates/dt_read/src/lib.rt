@@ -23,8 +23,7 @@ mod walk;
 
 pub use blob::Blob;
 pub use counts::Counts;
+pub use dt_names::NodeId;
 pub use pairs::Reservations;
 pub use walk::{Children, Props};
 
-/// A node of a blob: the place of its BEGIN_NODE, in bytes from the blob's front.
-pub type NodeId = usize;

@@ -1,27 +1,27 @@
 //! The nodes that are open at a place of the structure block.
 
 ghost use Rattle.std.specs.Prelude.{◌≡◌, ◌<◌, ◌∷◌, [], length, drop, MatchOption};
+ghost use Rattle.dt_model.specs.Limits.{most_bodies};
 
+use dt_names::limits::MOST_BODIES;
 use std::marker::Model;
-
-// As many nodes as can be open at once: the root, and 64 below it.
-const OPEN_LIMIT: usize = 65;
 
 /// A number for each open node. It is seen as those numbers, the innermost node's first.
 #[derive(Drop)]
 pub struct OpenNodes {
-    numbers: [usize; OPEN_LIMIT],
+    numbers: [usize; MOST_BODIES],
     top: usize,
 }
 
 impl Model for OpenNodes {
     ghost use Rattle.std.specs.Prelude.{List, ℕ, ◌≤◌, drop};
+    ghost use Rattle.dt_model.specs.Limits.{most_bodies};
 
     ghost Value = { List ℕ };
 
     ghost view = { λ s. drop s.top s.numbers };
 
-    ghost invariant = { λ s. s.top ≤ 65 };
+    ghost invariant = { λ s. s.top ≤ most_bodies };
 }
 
 impl OpenNodes {
@@ -30,14 +30,14 @@ impl OpenNodes {
         ensures { result ≡ [] }
     {
         OpenNodes {
-            numbers: [0; OPEN_LIMIT],
-            top: OPEN_LIMIT,
+            numbers: [0; MOST_BODIES],
+            top: MOST_BODIES,
         }
     }
 
     /// A node begins.
     pub fn push(&mut self, number: usize)
-        requires { length self.old < 65 }
+        requires { length self.old < most_bodies }
         ensures { self.new ≡ number ∷ self.old }
     {
         self.top -= 1;
@@ -48,7 +48,7 @@ impl OpenNodes {
     pub fn pop(&mut self)
         ensures { self.new ≡ drop 1 self.old }
     {
-        if self.top < OPEN_LIMIT {
+        if self.top < MOST_BODIES {
             self.top += 1;
         }
     }
@@ -57,7 +57,7 @@ impl OpenNodes {
     pub fn innermost(&self) -> Option<usize>
         ensures { MatchOption result (self.now ≡ []) (λ number. self.now ≡ number ∷ drop 1 self.now) }
     {
-        if self.top == OPEN_LIMIT {
+        if self.top == MOST_BODIES {
             return None;
         }
         Some(self.numbers[self.top])

@@ -1,34 +1,20 @@
 //! Phandles: each in range, and no two equal.
 
 ghost use Rattle.std.specs.Prelude.{◌↔◌, ◌++◌, ◌∷◌, [], IsTrue};
-ghost use Rattle.dt_model.specs.Valid.{IsPhandle};
 ghost use Rattle.dt_read.specs.Marks.{last_mark, marks_of};
 ghost use Rattle.dt_read.specs.Phandle.{phandles_in, ArePhandles};
 
 use crate::distinct::are_distinct;
 use crate::keys::{Keys, Wanted};
 use crate::structure::Structure;
-use dt_bytes::be32;
-
-// Whether the value is four bytes of 1 to 0xfffffffe.
-fn is_phandle(value: &[u8]) -> bool
-    ensures { IsTrue result ↔ IsPhandle value.now }
-{
-    if value.len() != 4 {
-        return false;
-    }
-    match be32(value, 0) {
-        Some(number) => number >= 1 && number <= 0xffff_fffe,
-        None => false,
-    }
-}
+use dt_names::phandle_of;
 
 /// Whether the phandles of a tree are right.
 pub fn are_phandles(structure: &Structure) -> bool
     ensures { IsTrue result ↔ ArePhandles (phandles_in (marks_of structure.now ++ last_mark ∷ [])) }
 {
     for key in Keys::of(structure, Wanted::Phandles) {
-        if !is_phandle(key.bytes) {
+        if phandle_of(key.bytes).is_none() {
             return false;
         }
     }

@@ -14,12 +14,7 @@ use crate::fault::fault_at;
 use crate::name::{may_name_a_node, may_name_a_property};
 use crate::token::{Token, token_at};
 use dt_names::FaultKind;
-
-/// The most names in the path of a node.
-const MOST_NAMES: usize = 64;
-
-/// The most nodes, the root among them.
-const MOST_NODES: usize = 65536;
+use dt_names::limits::{MOST_NAMES, MOST_NODES};
 
 /// Where a scan stands between two tokens.
 #[derive(Clone, Copy)]

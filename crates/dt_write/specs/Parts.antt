@@ -1,6 +1,7 @@
 -- What each part of the writer adds to the structure block and to the names.
 use Rattle.std.specs.Prelude.{◌≡◌, ℕ, ◌+◌, ◌≤◌, List, [], ◌∷◌, ◌++◌, length, drop}
 use Rattle.std.specs.List.{flat_map}
+use Rattle.dt_model.specs.Limits.{most_bytes}
 use Rattle.dt_model.specs.Names.{Name}
 use Rattle.dt_model.specs.Tree.{Property, Forest, no_nodes, branch, Reading}
 use Rattle.dt_model.specs.Format.{reservation_block}
@@ -47,7 +48,7 @@ pub record IsBody (t : Reading) (names : List Name) (front body : List ℕ) : Ty
 -- the blob of a tree, which isn't too long
 pub record IsBlob (t : Reading) (blob : List ℕ) : Type 0 where
   pub is : blob ≡ written t
-  pub size : length blob ≤ 16777216
+  pub size : length blob ≤ most_bytes
 
 -- ---- while a loop puts one after the other
 

@@ -1,6 +1,7 @@
 -- The names that were used, with their offsets.
 use Rattle.std.specs.Prelude.{◌≡◌, ℕ, ◌+◌, ◌≤◌, List, [], ◌∷◌, length}
 use Rattle.std.specs.Global.{Vec}
+use Rattle.dt_model.specs.Limits.{most_bytes}
 use Rattle.dt_model.specs.Names.{Name}
 use Rattle.dt_write.specs.Written.{terminated, strings_block}
 
@@ -18,4 +19,4 @@ AreOffsets at (e ∷ es) = (e.1 ≡ at) × AreOffsets (at + length (terminated e
 pub record IsTable (entries : List (Vec ℕ × ℕ)) (size : ℕ) : Type 0 where
   pub block : size ≡ length (strings_block (names_kept entries))
   pub offsets : AreOffsets 0 entries
-  pub short : size ≤ 16777216
+  pub short : size ≤ most_bytes

@@ -1,5 +1,6 @@
 -- Why a tree isn't written.
 use Rattle.std.specs.Prelude.{ℕ, ◌<◌, length}
+use Rattle.dt_model.specs.Limits.{most_bytes}
 use Rattle.dt_names.specs.declared.fault.FaultKind.{FaultKind}
 use Rattle.dt_names.specs.declared.fault.FaultKind.TheVariants.{NoMemory, Limit}
 use Rattle.dt_model.specs.Tree.{Reading}
@@ -8,7 +9,7 @@ use Rattle.dt_write.specs.Written.{written}
 -- memory may be refused at any time, a limit only where the blob would be longer than 16 MiB
 abbrev pub WhyNoBlob : FaultKind → ℕ → Type 0
 WhyNoBlob NoMemory size = Unit {0}
-WhyNoBlob Limit size = 16777216 < size
+WhyNoBlob Limit size = most_bytes < size
 WhyNoBlob _ size = ⊥
 
 -- why the blob of a tree isn't written

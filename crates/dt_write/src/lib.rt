@@ -2,6 +2,7 @@
 #![tactic(auto)]
 
 ghost use Rattle.std.specs.Prelude.{◌≡◌, ◌≤◌, length, IfOk, IfErr, None};
+ghost use Rattle.dt_model.specs.Limits.{most_bytes};
 ghost use Rattle.dt_model.specs.Format.{Reads, IsWithin};
 ghost use Rattle.dt_flat.specs.Arena.{reading};
 ghost use Rattle.dt_write.specs.Written.{written};
@@ -15,7 +16,7 @@ mod words;
 
 use dt_flat::FlatTree;
 use dt_names::Fault;
-pub use laws::written_reads;
+pub use laws::{one_outcome, written_reads};
 use std::alloc::Global;
 
 /// The blob of a tree: header, reservations, structure, strings, nothing between them (Devicetree Specification v0.4,
@@ -25,11 +26,10 @@ pub fn write_blob(alloc: Global, tree: &FlatTree) -> Result<Vec<u8>, Fault>
     ensures written { IfOk result (λ blob. blob.items ≡ written (reading tree.now)) }
     ensures reads { IfOk result (λ blob. Reads blob.items (reading tree.now)) }
     ensures within { IfOk result (λ blob. IsWithin blob.items (reading tree.now)) }
-    ensures size { IfOk result (λ blob. length blob.items ≤ 16777216) }
+    ensures size { IfOk result (λ blob. length blob.items ≤ most_bytes) }
     ensures refused { IfErr result (λ fault. WhyNoBlob fault.kind (length (written (reading tree.now))) × (fault.at ≡ None)) }
 {
-    // the contract of `root` says that a blob may hold the tree
-    let _root = tree.root();
+    tree.validity();
     let mut blob = Vec::new(alloc);
     whole::put_blob(alloc, tree, &mut blob)?;
     Ok(blob)

@@ -1,6 +1,7 @@
 //! The names of properties that a blob uses, each once: its strings block.
 
 ghost use Rattle.std.specs.Prelude.{◌≡◌, ◌≤◌, ◌++◌, [], length, OnOk, IfOk, IfErr, None};
+ghost use Rattle.dt_model.specs.Limits.{most_bytes};
 ghost use Rattle.dt_write.specs.Written.{used, offset_of, strings_block};
 ghost use Rattle.dt_write.specs.Refusals.{WhyNoBlob};
 
@@ -45,7 +46,7 @@ impl Names {
     /// How many bytes the strings block of the names has.
     pub fn size(&self) -> usize
         ensures block { result ≡ length (strings_block self.now) }
-        ensures short { result ≤ 16777216 }
+        ensures short { result ≤ most_bytes }
     {
         self.size
     }
@@ -55,7 +56,7 @@ impl Names {
     pub fn offset(&mut self, name: &[u8]) -> Result<usize, Fault>
         ensures names { OnOk result (self.new ≡ used self.old name.now) }
         ensures offset { IfOk result (λ offset. offset ≡ offset_of self.new name.now) }
-        ensures within { IfOk result (λ offset. offset ≤ 16777216) }
+        ensures within { IfOk result (λ offset. offset ≤ most_bytes) }
         ensures refused { IfErr result (λ fault. WhyNoBlob fault.kind (length (strings_block (used self.old name.now))) × (fault.at ≡ None)) }
     {
         if let Some(offset) = self.offsets.get(name) {

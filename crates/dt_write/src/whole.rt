@@ -1,6 +1,7 @@
 //! A whole blob of its blocks (Devicetree Specification v0.4, 5.2 and 5.3).
 
 ghost use Rattle.std.specs.Prelude.{◌≡◌, ◌+◌, ◌≤◌, ◌++◌, [], length, drop, OnOk, IfErr, None};
+ghost use Rattle.dt_model.specs.Limits.{most_bytes};
 ghost use Rattle.dt_model.specs.Format.{reservation_block};
 ghost use Rattle.dt_flat.specs.Arena.{reading};
 ghost use Rattle.dt_write.specs.Written.{header, strings_block};
@@ -9,8 +10,9 @@ ghost use Rattle.dt_write.specs.Refusals.{WhyNoBlob, WhyNotWritten};
 
 use crate::names::Names;
 use crate::structure::put_node;
-use crate::words::{SIZE_LIMIT, fits, put_pair, put_word, set_words};
+use crate::words::{fits, put_pair, put_word, set_words};
 use dt_flat::FlatTree;
+use dt_names::limits::MOST_BYTES;
 use dt_names::{Fault, FaultKind};
 use std::alloc::{AllocError, Global};
 
@@ -35,7 +37,7 @@ fn set_header(
     strings: usize,
 )
     requires room { 40 ≤ length bytes.old }
-    requires fits { 40 + reservations + structure + strings ≤ 16777216 }
+    requires fits { 40 + reservations + structure + strings ≤ most_bytes }
     ensures { bytes.new ≡ header boot_cpu reservations structure strings ++ drop 40 bytes.old }
 {
     let structure_offset = HEADER_SIZE + reservations;
@@ -88,7 +90,7 @@ fn put_structure(tree: &FlatTree, names: &mut Names, out: &mut Vec<u8>) -> Resul
 // Puts the strings block, where the blob is not too long with it.
 fn put_strings(names: &Names, out: &mut Vec<u8>) -> Result<(), Fault>
     ensures put { OnOk result (out.new.items ≡ out.old.items ++ strings_block names.now) }
-    ensures size { OnOk result (length out.new.items ≤ 16777216) }
+    ensures size { OnOk result (length out.new.items ≤ most_bytes) }
     ensures refused { IfErr result
         (λ fault. WhyNoBlob fault.kind (length out.old.items + length (strings_block names.now)) × (fault.at ≡ None)) }
 {
@@ -128,7 +130,7 @@ pub fn put_blob(alloc: Global, tree: &FlatTree, out: &mut Vec<u8>) -> Result<(),
     ensures refused { IfErr result (λ fault. WhyNotWritten (reading tree.now) fault.kind × (fault.at ≡ None)) }
 {
     // reservations that fill a blob alone aren't put at all
-    if tree.reservations().len() > SIZE_LIMIT / PAIR_SIZE {
+    if tree.reservations().len() > MOST_BYTES / PAIR_SIZE {
         return Err(Fault::of(FaultKind::Limit));
     }
     let mut names = Names::new(alloc);

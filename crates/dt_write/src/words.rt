@@ -4,22 +4,21 @@ ghost use Rattle.std.specs.Prelude.{◌≡◌, ◌+◌, ◌*◌, ◌<◌, ◌≤
 ghost use Rattle.std.specs.Bool.{OnTrue, OnFalse};
 ghost use Rattle.std.specs.Int.{w64, to_be_bytes};
 ghost use Rattle.std.specs.List.{flat_map};
+ghost use Rattle.dt_model.specs.Limits.{most_bytes};
 ghost use Rattle.dt_model.specs.Format.{word, pair};
 ghost use Rattle.dt_write.specs.Written.{zeros_after};
 
 use byteorder::{BigEndian, ByteOrder};
 use dt_bytes::put32;
+use dt_names::limits::MOST_BYTES;
 use std::alloc::AllocError;
-
-/// Bytes that a blob may have.
-pub const SIZE_LIMIT: usize = 16_777_216;
 
 /// Whether a blob may have so many bytes and more behind them.
 pub fn fits(used: usize, more: usize) -> bool
-    ensures within { OnTrue result (used + more ≤ 16777216) }
-    ensures beyond { OnFalse result (16777216 < used + more) }
+    ensures within { OnTrue result (used + more ≤ most_bytes) }
+    ensures beyond { OnFalse result (most_bytes < used + more) }
 {
-    used <= SIZE_LIMIT && more <= SIZE_LIMIT - used
+    used <= MOST_BYTES && more <= MOST_BYTES - used
 }
 
 /// Puts a 32-bit word at the end.

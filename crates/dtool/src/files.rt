@@ -1,6 +1,7 @@
 //! Where the inputs come from.
 
 ghost use Rattle.std.specs.Prelude.{◌≡◌, ◌≤◌, None, IfOk, IfErr, length};
+ghost use Rattle.dt_model.specs.Limits.{most_bytes};
 ghost use Rattle.dtool.specs.Files.{IsOfLoading};
 
 use dt_chain::read_all;
@@ -14,7 +15,7 @@ use std::rt::Files;
 ///
 /// `ReadFault` where the file can't be opened or read, `Limit` past 16,777,216 bytes, and `NoMemory`.
 pub fn load<R: Files + Input + AllocGlobal>(rt: &R, name: &str) -> Result<Vec<u8>, Fault>
-    ensures bytes { IfOk result (λ bytes. length bytes.items ≤ 16777216) }
+    ensures bytes { IfOk result (λ bytes. length bytes.items ≤ most_bytes) }
     ensures refused { IfErr result (λ fault. IsOfLoading fault.kind × (fault.at ≡ None)) }
 {
     if name == "stdin" {

@@ -31,16 +31,16 @@ returns-in_err-source-clause-refused c =
 
 pub returns-then-is_overlay-clause-refused : goal.returns-then-is_overlay-clause-refused
 returns-then-is_overlay-clause-refused c =
-    overlay_told c.args.text.now c.in_ok-source.source c.at.result c.in_ok-source.ensures.ok (sym c.is_overlay.ensures.value ∙ c.if-is_overlay.true) c.at.ensures.kind c.at.ensures.at
+    overlay_told c.args.text.now c.in_ok-source.source c.at.result c.in_ok-source.ensures.ok (sym c.is_overlay.ensures ∙ c.if-is_overlay.true) c.at.ensures.kind c.at.ensures.at
 
 pub returns-in_default-clause-refused : goal.returns-in_default-clause-refused
 returns-in_default-clause-refused c =
-    uncovered_told c.args.text.now c.in_ok-source.source c.of.result c.in_ok-source.ensures.ok (sym c.is_overlay.ensures.value ∙ c.if-is_overlay.false)
+    uncovered_told c.args.text.now c.in_ok-source.source c.of.result c.in_ok-source.ensures.ok (sym c.is_overlay.ensures ∙ c.if-is_overlay.false)
     (λ covered. c.in_default.ensures (subst IsCovered (sym c.items.ensures) covered)) c.of.ensures.kind c.of.ensures.at
 
 pub build-requires-clause-reserved : goal.build-requires-clause-reserved
 build-requires-clause-reserved c =
-    subst (AllByRecursion IsReservation) (sym c.reservations.ensures) (source_reserves c.is_overlay.ensures.spelled.0 c.in_ok-source.source c.is_overlay.ensures.spelled.1)
+    subst (AllByRecursion IsReservation) (sym c.reservations.ensures) (source_reserves c.spelled.ensures.0 c.in_ok-source.source c.spelled.ensures.1)
 
 pub returns-in_err-tree-clause-refused : goal.returns-in_err-tree-clause-refused
 returns-in_err-tree-clause-refused c =
@@ -48,7 +48,7 @@ returns-in_err-tree-clause-refused c =
     let e = err_from_is_err_and c.from_residual-in_err-tree.result c.from_residual-in_err-tree.ensures.1 in
     let places = map place_said c.in-Some.items.now in
     let h = root_of c.args.text.now c.in_ok-source.source (map place_said c.items.result.now) places c.in_ok-source.ensures.ok
-    (sym c.is_overlay.ensures.value ∙ c.if-is_overlay.false) c.items.ensures c.in-Some.ensures.0 c.in-Some.ensures.1 in
+    (sym c.is_overlay.ensures ∙ c.if-is_overlay.false) c.items.ensures c.in-Some.ensures.0 c.in-Some.ensures.1 in
     rw (e.1, e.2) (not_built c.args.text.now c.in_ok-source.source places fault h c.in_err-tree.ensures)
 
 pub returns-clause-blob : goal.returns-clause-blob
@@ -58,7 +58,7 @@ returns-clause-blob c =
     let tree = c.in_ok-tree.tree in
     let places = map place_said c.in-Some.items.now in
     let h = root_of c.args.text.now c.in_ok-source.source (map place_said c.items.result.now) places c.in_ok-source.ensures.ok
-    (sym c.is_overlay.ensures.value ∙ c.if-is_overlay.false) c.items.ensures c.in-Some.ensures.0 c.in-Some.ensures.1 in
+    (sym c.is_overlay.ensures ∙ c.if-is_overlay.false) c.items.ensures c.in-Some.ensures.0 c.in-Some.ensures.1 in
     let built : IsReserved tree s.reservations places = subst (λ (rs : List (ℕ × ℕ)). IsReserved tree rs places) c.reservations.ensures c.in_ok-tree.ensures in
     if_both (λ blob. Reads blob.items (reading tree)) (λ blob. IsWithin blob.items (reading tree)) (λ blob. IsCompiled text blob.items)
     (λ blob reads within. compiled text s places tree blob.items h built reads within)
@@ -71,7 +71,7 @@ returns-clause-refused c =
     let tree = c.in_ok-tree.tree in
     let places = map place_said c.in-Some.items.now in
     let h = root_of c.args.text.now c.in_ok-source.source (map place_said c.items.result.now) places c.in_ok-source.ensures.ok
-    (sym c.is_overlay.ensures.value ∙ c.if-is_overlay.false) c.items.ensures c.in-Some.ensures.0 c.in-Some.ensures.1 in
+    (sym c.is_overlay.ensures ∙ c.if-is_overlay.false) c.items.ensures c.in-Some.ensures.0 c.in-Some.ensures.1 in
     let built : IsReserved tree s.reservations places = subst (λ (rs : List (ℕ × ℕ)). IsReserved tree rs places) c.reservations.ensures c.in_ok-tree.ensures in
     if_refused (λ fault. WhyNoBlob fault.kind (length (written (reading tree))) × (fault.at ≡ None)) (WhyNotCompiled text)
     (λ fault why. not_written text s places tree fault h built why)

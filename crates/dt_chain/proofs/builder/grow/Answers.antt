@@ -22,7 +22,7 @@ pub loop-item-init : goal.loop-item-init
 loop-item-init c =
     let numbers : c.push.new.stack.items ≡ 0 ∷ [] = alone c.push.new.stack.items c.new-stack.result.items c.root.result c.in_ok-push.ensures c.new-stack.ensures.items c.root.ensures.node in
     let tree = c.new-tree.result in (
-      subst (AreInside tree) (sym numbers) (c.root.ensures.rooted.some, tt),
+      subst (AreInside tree) (sym numbers) (c.root.ensures.there, tt),
       starts tree c.push.new.stack.items (map place_said c.args.items.now) (start_holds tree c.push.new.stack.items c.new-tree.ensures numbers),
     )
 

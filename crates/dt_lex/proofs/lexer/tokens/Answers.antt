@@ -11,8 +11,8 @@ use Rattle.dt_lex.specs.Labels.{IsUnlabelled}
 use Rattle.dt_lex.proofs.LabelLemmas.{unlabelled_behind}
 use Rattle.dt_lex.proofs.lexer.tokens.Goals as goal
 
-pub returns-then-text-gt-TEXT_LIMIT-clause-err : goal.returns-then-text-gt-TEXT_LIMIT-clause-err
-returns-then-text-gt-TEXT_LIMIT-clause-err c = longer c.args.text.now c.of.result c.of.ensures.kind c.of.ensures.at (omega (arith, c.if-text-gt-TEXT_LIMIT.true))
+pub returns-then-text-gt-MOST_BYTES-clause-err : goal.returns-then-text-gt-MOST_BYTES-clause-err
+returns-then-text-gt-MOST_BYTES-clause-err c = longer c.args.text.now c.of.result c.of.ensures.kind c.of.ensures.at (omega (arith, c.if-text-gt-MOST_BYTES.true))
 
 pub returns-in_err-mode-clause-err : goal.returns-in_err-mode-clause-err
 returns-in_err-mode-clause-err c =
@@ -35,7 +35,7 @@ returns-in-Err-clause-only c a d short =
 
 pub loop-rest-init : goal.loop-rest-init
 loop-rest-init c = record {
-  short = c.if-text-gt-TEXT_LIMIT.false;
+  short = c.if-text-gt-MOST_BYTES.false;
   free = λ u v e l. absurd (omega (arith, l));
   place = zero-add (length c.args.text.now);
   follows = λ a d. subst (IsLexed c.args.text.now) (sym (ap (λ (ts : List Token). with_tokens ts a) c.new-out.ensures.items ∙ with_none a)) d;

@@ -1,13 +1,14 @@
 use Rattle.std.proofs.Common.{◌≡◌, ◌+◌, ◌≤◌, length, true}
+use Rattle.dt_model.specs.Limits.{most_bytes}
 use Rattle.dt_lex.specs.declared.token.Mode.TheVariants as mode
-use Rattle.dt_lex.specs.Lexing.{Lexed, Lexes, with_tokens, text_limit}
+use Rattle.dt_lex.specs.Lexing.{Lexed, Lexes, with_tokens}
 use Rattle.dt_lex.specs.Labels.{IsUnlabelled}
 use Rattle.dt_lex.proofs.lexer.tokens.Given as goal
 
 -- what holds of the rest from here on holds of the text
 abbrev pub invariant-loop-rest : goal.invariant-loop-rest
 invariant-loop-rest l = record {
-  short : length l.text ≤ text_limit;
+  short : length l.text ≤ most_bytes;
   free : IsUnlabelled l.known l.rest;
   place : l.start + length l.rest ≡ length l.text;
   follows : (a : Lexed) → Lexes l.mode l.fresh l.start l.rest a → Lexes mode.Name true 0 l.text (with_tokens l.out.items a);

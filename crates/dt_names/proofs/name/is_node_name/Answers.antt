@@ -28,4 +28,4 @@ returns c =
     let behind : drop c.loop-byte.byte-index bytes ≡ [] = drop_of_length-le bytes c.loop-byte-test.false in
     let rest : IsRest false bytes =
     c.loop-byte.invariant.1 (subst (IsRest c.loop-byte.has_at) (sym behind) (nothing_left c.loop-byte.has_at)) in
-    (λ _. whole_name bytes (search rules) c.if-bytes-gt-MOST_BYTES.false c.if-bytes-eq64.false rest, λ _. refl)
+    (λ _. whole_name bytes (search rules) c.if-bytes-gt-MOST_NAME_BYTES.false c.if-bytes-eq64.false rest, λ _. refl)

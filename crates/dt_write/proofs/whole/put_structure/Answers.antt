@@ -11,7 +11,7 @@ returns-in_err-put_node-clause-refused c =
     let t = c.args.tree.now in
     rw (e.1, e.2) (
       nodes_too_large (reading t) (tree_at t.slots c.root.result) c.args.names.now c.args.out.now.items c.in_err-put_node.field-0.0.kind
-          (root_is t.slots c.root.result c.root.ensures.node c.root.ensures.rooted.unnamed) c.requires.unnamed c.requires.front r.0,
+          (root_is t.slots c.root.result c.root.ensures.node c.root.ensures.unnamed) c.requires.unnamed c.requires.front r.0,
       r.1,
     )
 
@@ -19,4 +19,4 @@ pub returns-clause-body : goal.returns-clause-body
 returns-clause-body c =
     let t = c.args.tree.now in
     body_put (reading t) (tree_at t.slots c.root.result) c.args.names.now c.put_node.new.names c.args.out.now.items c.put_node.new.out.items c.put_word.new.out.items
-    (root_is t.slots c.root.result c.root.ensures.node c.root.ensures.rooted.unnamed) c.requires.unnamed c.in_ok-put_node.ensures.put c.in_ok-put_word.ensures
+    (root_is t.slots c.root.result c.root.ensures.node c.root.ensures.unnamed) c.requires.unnamed c.in_ok-put_node.ensures.put c.in_ok-put_word.ensures
