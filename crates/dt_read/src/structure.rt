@@ -21,7 +21,7 @@ impl<'a> Model for Structure<'a> {
     ghost use Rattle.dt_read.specs.Marks.{Root};
     ghost use Rattle.dt_read.specs.TreeCode.{coded_root};
     ghost use Rattle.dt_read.specs.Parsing.{tree_in};
-    ghost use Rattle.dt_read.specs.Reading.{IsStructure};
+    ghost use Rattle.dt_read.specs.TreeTokens.{IsStructure};
 
     ghost Value = { Root };
 
@@ -40,7 +40,7 @@ impl<'a> Structure<'a> {
     ghost use Rattle.dt_read.specs.Kinds.{kind_of};
     ghost use Rattle.dt_read.specs.Marks.{last_mark, marks_of};
     ghost use Rattle.dt_read.specs.Order.{HasRisingPlaces};
-    ghost use Rattle.dt_read.specs.Reading.{HasTree, node_of, heads_of, BeginsNode};
+    ghost use Rattle.dt_read.specs.TreeTokens.{HasTree, node_of, heads_of, BeginsNode};
 
     /// The tree that a structure block spells, or its first wrong token. The block stands at that place of the blob.
     pub fn check(strings: &'a [u8], at: usize, block: &'a [u8]) -> Result<Structure<'a>, BadToken>
