@@ -24,7 +24,7 @@ fn is_phandle(value: &[u8]) -> bool
 }
 
 /// Whether the phandles of a tree are right.
-pub fn are_phandles(structure: &Structure) -> bool
+pub fn are_phandles(structure: &Structure, seed: u64) -> bool
     ensures { IsTrue result ↔ ArePhandles (phandles_in (marks_of structure.now ++ last_mark ∷ [])) }
 {
     for key in Keys::of(structure, Wanted::Phandles) {
@@ -32,5 +32,5 @@ pub fn are_phandles(structure: &Structure) -> bool
             return false;
         }
     }
-    are_distinct(structure, Wanted::Phandles)
+    are_distinct(structure, Wanted::Phandles, seed)
 }
