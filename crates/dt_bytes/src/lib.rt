@@ -10,6 +10,7 @@ ghost use Rattle.dt_model.specs.Lexing.{text_in};
 ghost use Rattle.dt_bytes.specs.Places.{long_at};
 
 use byteorder::{BigEndian, ByteOrder};
+use memchr::memchr;
 
 /// Writes a 32-bit big-endian number at a place of some bytes; false, and nothing changed, where four bytes don't stand
 /// there.
@@ -57,12 +58,8 @@ fn first_text(bytes: &[u8]) -> Option<&[u8]>
     ensures text { option_copied result ≡ text_in bytes.now }
     ensures within { IfSome result (λ text. length text.now < length bytes.now) }
 {
-    for (i, byte) in bytes.iter().enumerate() {
-        if *byte == 0 {
-            return Some(&bytes[..i]);
-        }
-    }
-    None
+    let len = memchr(0, bytes)?;
+    Some(&bytes[..len])
 }
 
 /// The bytes from a place of some bytes up to the first NUL; None where no NUL stands there or behind.

@@ -11,4 +11,4 @@ mod premises;
 mod samples;
 mod sources;
 
-pub use blobs::blob_has_no_fault;
+pub use blobs::{blob_has_no_fault, first_fault_is_one};

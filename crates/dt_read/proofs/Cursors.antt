@@ -10,7 +10,7 @@ use Rattle.dt_read.specs.View.{view_at}
 use Rattle.dt_read.specs.Placed.{Nodes, no_nodes, node}
 use Rattle.dt_read.specs.Marks.{Mark, begin_mark, end_mark, prop_mark, nop_mark, last_mark, token_of, mark_at, SpellsMarks, Takes, marks_of_nodes, without_nop_marks}
 use Rattle.dt_read.specs.Parsing.{lexed}
-use Rattle.dt_read.specs.Reading.{AreTokens, marks_in, past, past_properties, Parts, marks_of_parts}
+use Rattle.dt_read.specs.TreeTokens.{AreTokens, marks_in, past, past_properties, Parts, marks_of_parts}
 use Rattle.dt_read.proofs.Trees.{read_again, first_mark, lexed_is, spelled_len}
 
 -- the tokens behind the first

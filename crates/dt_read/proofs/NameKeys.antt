@@ -10,7 +10,7 @@ use Rattle.dt_model.specs.Valid.{AreDistinct}
 use Rattle.dt_flat.proofs.Distinctness.{Apart, all-append, all-back, distinct-append, distinct-front, distinct-back, apart-right}
 use Rattle.dt_read.specs.Placed.{Nodes, no_nodes, node}
 use Rattle.dt_read.specs.Marks.{Mark, end_mark, prop_mark, last_mark, Root, marks_of_nodes}
-use Rattle.dt_read.specs.Reading.{Parts, heads_of}
+use Rattle.dt_read.specs.TreeTokens.{Parts, heads_of}
 use Rattle.dt_read.specs.Order.{Rise, HasRisingPlaces}
 use Rattle.dt_read.specs.Distinct.{property_names, head_names, AreDistinctParts, HasDistinctNames}
 use Rattle.dt_read.specs.Keys.{Key, number_of, keys_in, keys_of}

@@ -13,7 +13,7 @@ use Rattle.dt_model.specs.Format.{begin_node, end_node, prop}
 use Rattle.dt_model.specs.Checks.{Position, front, is_behind, may_be_called, has_room, lead, lead_all}
 use Rattle.dt_read.specs.Placed.{Nodes, no_nodes, node, forest_of}
 use Rattle.dt_read.specs.Marks.{Mark, begin_mark, end_mark, prop_mark, nop_mark, last_mark, token_of, Root, marks_of_nodes, marks_of, without_nop_marks}
-use Rattle.dt_read.specs.Reading.{AreNamed}
+use Rattle.dt_read.specs.TreeTokens.{AreNamed}
 use Rattle.dt_read.proofs.Tokens.{chosen}
 use Rattle.dt_read.proofs.NameTests.{node_tests, property_tests}
 

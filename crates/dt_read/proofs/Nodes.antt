@@ -8,7 +8,7 @@ use Rattle.dt_read.specs.Placed.{Nodes, no_nodes, node}
 use Rattle.dt_read.specs.Marks.{Mark, begin_mark, end_mark, prop_mark, nop_mark, last_mark, SpellsMarks, Root, marks_of_nodes, marks_of, without_nop_marks}
 use Rattle.dt_read.specs.Parsing.{root_of, tree_in, tree_of_marks}
 use Rattle.dt_read.specs.TreeCode.{tree_again}
-use Rattle.dt_read.specs.Reading.{AreTokens, marks_in, Parts, or_else, find_in, node_of, marks_of_parts, BeginsNode, HasTree, IsStructure}
+use Rattle.dt_read.specs.TreeTokens.{AreTokens, marks_in, Parts, or_else, find_in, node_of, marks_of_parts, BeginsNode, HasTree, IsStructure}
 use Rattle.dt_read.proofs.Tokens.{chosen}
 use Rattle.dt_read.proofs.Trees.{lexed_is, left_by-without_nop_marks, place_is}
 

@@ -9,7 +9,7 @@ use Rattle.dt_read.specs.Placed.{Nodes, no_nodes, node}
 use Rattle.dt_read.specs.Marks.{Mark, begin_mark, end_mark, prop_mark, marks_of_nodes}
 use Rattle.dt_read.specs.Parsing.{left_by}
 use Rattle.dt_read.specs.TreeCode.{left_by_nodes, left_by_properties}
-use Rattle.dt_read.specs.Reading.{AreSiblings, Parts, marks_of_parts, BeginsNode, heads_of, first_heads, heads_left, past, past_properties}
+use Rattle.dt_read.specs.TreeTokens.{AreSiblings, Parts, marks_of_parts, BeginsNode, heads_of, first_heads, heads_left, past, past_properties}
 use Rattle.dt_read.proofs.Cursors.{past_node, past_properties_at}
 
 pub heads_left_is : (siblings : Nodes) (more : List Mark) → heads_left (marks_of_nodes siblings ++ end_mark ∷ more) ≡ heads_of siblings

@@ -14,7 +14,7 @@ use Rattle.dt_read.specs.declared.blocks.Blocks.{Blocks}
 use Rattle.dt_read.specs.Kinds.{kind_of}
 use Rattle.dt_read.specs.Placed.{forest_of, PlacedTree, reading_of, place_of, IsAt, last_name, properties_of, names_of, properties_at, child_names}
 use Rattle.dt_read.specs.Marks.{Root}
-use Rattle.dt_read.specs.Reading.{Parts, node_of, heads_of, HasTree}
+use Rattle.dt_read.specs.TreeTokens.{Parts, node_of, heads_of, HasTree}
 use Rattle.dt_read.specs.Pairs.{pairs_of}
 use Rattle.dt_read.specs.Phandle.{ArePhandles}
 use Rattle.dt_read.specs.Blocks.{AreBlocks, whole_of, IsWellPlaced}

@@ -4,7 +4,7 @@ use Rattle.dt_model.specs.Names.{Name}
 use Rattle.dt_model.specs.Tree.{Property}
 use Rattle.dt_model.specs.Valid.{AreDistinct}
 use Rattle.dt_read.specs.Marks.{Root}
-use Rattle.dt_read.specs.Reading.{Parts, node_of, heads_of}
+use Rattle.dt_read.specs.TreeTokens.{Parts, node_of, heads_of}
 
 abbrev pub property_names : List Property → List Name
 property_names properties = map (λ p. p.name) properties

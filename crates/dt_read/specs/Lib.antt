@@ -2,7 +2,7 @@ pub mod Placed
 pub mod Marks
 pub mod Parsing
 pub mod TreeCode
-pub mod Reading
+pub mod TreeTokens
 pub mod Order
 pub mod View
 pub mod Kinds

@@ -4,6 +4,7 @@ ghost use Rattle.std.specs.Prelude.{◌≡◌, ◌≢◌, ◌+◌, ◌<◌, ◌^
 ghost use Rattle.dt_model.specs.Checks.{BlobFault, IsFirstFault};
 ghost use Rattle.dt_model.specs.Format.{Reads, IsWithin};
 ghost use Rattle.dt_model.specs.Path.{Path};
+ghost use Rattle.dt_model.specs.Valid.{IsValid, IsWithinLimits};
 ghost use Rattle.dt_names.specs.declared.fault.FaultKind.TheVariants.{Limit, NoMemory};
 ghost use Rattle.dt_flat.specs.Arena.{reading};
 ghost use Rattle.dt_read.specs.Kinds.{kind_of};
@@ -81,10 +82,11 @@ impl<'a> Blob<'a> {
             Ok(structure) => structure,
             Err(bad) => return Err(placed(bad, blocks.at)),
         };
-        if !has_distinct_names(&structure) {
+        let seed = structure.seed();
+        if !has_distinct_names(&structure, seed) {
             return Err(Fault::of(FaultKind::Duplicate));
         }
-        if !are_phandles(&structure) {
+        if !are_phandles(&structure, seed) {
             return Err(Fault::of(FaultKind::BlobPhandle));
         }
         Ok(Blob {
@@ -92,6 +94,17 @@ impl<'a> Blob<'a> {
             reservations: blocks.reservations,
             boot_cpu: blocks.boot_cpu,
         })
+    }
+
+    /// What is true of each blob: it holds a tree that a blob may hold (Devicetree Specification v0.4, chapters 2 and 5), within
+    /// the limits, and a place is one node's.
+    pub fn validity(&self)
+        ensures valid { IsValid (reading_of self.now) }
+        ensures within { IsWithinLimits (reading_of self.now) }
+        ensures places { (p q : Path) (node : ℕ) → IsAt self.now p node → IsAt self.now q node → p ≡ q }
+    {
+        // The invariant says it, and it is known where a field is named.
+        let _ = &self.structure;
     }
 
     /// The number of the processor that boots.

@@ -3,7 +3,7 @@
 ghost use Rattle.std.specs.Prelude.{◌≡◌, ◌∷◌, [], ◌<◌, ◌^◌, length};
 ghost use Rattle.std.specs.Option.{MatchOption, IfSome};
 ghost use Rattle.dt_read.specs.View.{view_at};
-ghost use Rattle.dt_read.specs.Reading.{AreTokens, marks_in, past, past_properties};
+ghost use Rattle.dt_read.specs.TreeTokens.{AreTokens, marks_in, past, past_properties};
 
 use crate::token::{Token, token_at};
 use std::marker::Model;
@@ -59,7 +59,7 @@ impl<'a> Model for Cursor<'a> {
     ghost use Rattle.std.specs.Prelude.{List};
     ghost use Rattle.dt_read.specs.Marks.{Mark};
     ghost use Rattle.dt_read.specs.TreeCode.{coded_marks};
-    ghost use Rattle.dt_read.specs.Reading.{AreTokens, marks_in};
+    ghost use Rattle.dt_read.specs.TreeTokens.{AreTokens, marks_in};
 
     ghost Value = { List Mark };
 

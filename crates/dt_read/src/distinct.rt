@@ -21,11 +21,14 @@ const WORDS: usize = 16_384;
 // As many keys as the table tells apart with few errors.
 const KEYS_OF_A_CLASS: usize = 16_384;
 
-fn hashed(key: &Key) -> u64
-    ensures { result ≡ hash_of (said key.now) }
+fn hashed(key: &Key, seed: u64) -> u64
+    ensures { result ≡ hash_of seed (said key.now) }
 {
     let mut hasher = DefaultHasher::new();
-    key.hash(&mut hasher);
+    hasher.write_u64(seed);
+    key.sort.hash(&mut hasher);
+    hasher.write_usize(key.owner);
+    hasher.write(key.bytes);
     hasher.finish()
 }
 
@@ -54,6 +57,7 @@ fn is_among(mut keys: Keys, count: usize, key: &Key) -> bool
 fn is_distinct_class(
     structure: &Structure,
     wanted: Wanted,
+    seed: u64,
     class: u64,
     classes: u64,
     words: &mut [u64],
@@ -63,14 +67,14 @@ fn is_distinct_class(
     requires few { length words.old < 2 ^ 32 }
     ensures size { length words.new ≡ length words.old }
     ensures apart { OnTrue result ((i : ℕ) (k : _) → slice_get (keys_of wanted structure.now) i ≡ Some k →
-        hash_of k % classes ≡ class → IsNewIn (keys_of wanted structure.now) i k) }
+        hash_of seed k % classes ≡ class → IsNewIn (keys_of wanted structure.now) i k) }
     ensures equal { OnFalse result (AreDistinct (keys_of wanted structure.now) → ⊥) }
 {
     words.fill(0);
     let mut before = 0usize;
     let mut keys = Keys::of(structure, wanted);
     while let Some(key) = keys.next() {
-        let hash = hashed(&key);
+        let hash = hashed(&key, seed);
         if hash % classes == class {
             if seems_to_hold(words, hash) && is_among(Keys::of(structure, wanted), before, &key) {
                 return false;
@@ -82,14 +86,14 @@ fn is_distinct_class(
     true
 }
 
-/// Whether the keys of a tree differ.
-pub fn are_distinct(structure: &Structure, wanted: Wanted) -> bool
+/// Whether the keys of a tree differ. The seed decides only how long it takes.
+pub fn are_distinct(structure: &Structure, wanted: Wanted, seed: u64) -> bool
     ensures { IsTrue result ↔ AreDistinct (keys_of wanted structure.now) }
 {
     let classes = (Keys::of(structure, wanted).count() / KEYS_OF_A_CLASS + 1) as u64;
     let mut words = [0u64; WORDS];
     for class in 0..classes {
-        if !is_distinct_class(structure, wanted, class, classes, &mut words) {
+        if !is_distinct_class(structure, wanted, seed, class, classes, &mut words) {
             return false;
         }
     }
@@ -97,9 +101,9 @@ pub fn are_distinct(structure: &Structure, wanted: Wanted) -> bool
 }
 
 /// Whether the names differ in each node.
-pub fn has_distinct_names(structure: &Structure) -> bool
+pub fn has_distinct_names(structure: &Structure, seed: u64) -> bool
     requires { HasRisingPlaces structure.now }
     ensures { IsTrue result ↔ HasDistinctNames structure.now }
 {
-    are_distinct(structure, Wanted::Names)
+    are_distinct(structure, Wanted::Names, seed)
 }

@@ -24,7 +24,7 @@ pub enum Sort {
 }
 
 /// Bytes that have to differ from all others of their sort and of their owner.
-#[derive(Clone, Copy, PartialEq, Eq, Hash)]
+#[derive(Clone, Copy, PartialEq, Eq)]
 pub struct Key<'a> {
     pub sort: Sort,
     /// The node in which a name stands. Phandles have one owner, 0.

@@ -11,6 +11,7 @@ mod filter;
 mod flatten;
 mod header;
 mod keys;
+mod laws;
 mod name;
 mod open_nodes;
 mod pairs;
@@ -24,6 +25,7 @@ mod walk;
 pub use blob::Blob;
 pub use counts::Counts;
 pub use dt_names::NodeId;
+pub use laws::one_answer;
 pub use pairs::Reservations;
 pub use walk::{Children, Props};
 

@@ -10,7 +10,7 @@ use crate::structure::Structure;
 use dt_names::phandle_of;
 
 /// Whether the phandles of a tree are right.
-pub fn are_phandles(structure: &Structure) -> bool
+pub fn are_phandles(structure: &Structure, seed: u64) -> bool
     ensures { IsTrue result ↔ ArePhandles (phandles_in (marks_of structure.now ++ last_mark ∷ [])) }
 {
     for key in Keys::of(structure, Wanted::Phandles) {
@@ -18,5 +18,5 @@ pub fn are_phandles(structure: &Structure) -> bool
             return false;
         }
     }
-    are_distinct(structure, Wanted::Phandles)
+    are_distinct(structure, Wanted::Phandles, seed)
 }

@@ -6,7 +6,7 @@ ghost use Rattle.dt_model.specs.Checks.{lead, is_behind, may_be_called, has_room
 ghost use Rattle.dt_model.specs.Checks.{BlobFault, StopsAt};
 ghost use Rattle.dt_read.specs.Kinds.{kind_of};
 ghost use Rattle.dt_read.specs.Marks.{Root};
-ghost use Rattle.dt_read.specs.Reading.{HasTree};
+ghost use Rattle.dt_read.specs.TreeTokens.{HasTree};
 ghost use Rattle.dt_read.specs.Scan.{IsStuck, Leads};
 ghost use Rattle.dt_read.specs.View.{view, position_of};
 

@@ -7,6 +7,7 @@ use crate::cursor::{Cursor, skip_properties};
 use crate::scan::{BadToken, first_bad_token};
 use crate::token::Token;
 use crate::walk::{Props, Siblings, value_in};
+use std::hash::{DefaultHasher, Hasher};
 use std::marker::Model;
 
 /// A structure block that spells a tree. It is seen as that tree.
@@ -21,7 +22,7 @@ impl<'a> Model for Structure<'a> {
     ghost use Rattle.dt_read.specs.Marks.{Root};
     ghost use Rattle.dt_read.specs.TreeCode.{coded_root};
     ghost use Rattle.dt_read.specs.Parsing.{tree_in};
-    ghost use Rattle.dt_read.specs.Reading.{IsStructure};
+    ghost use Rattle.dt_read.specs.TreeTokens.{IsStructure};
 
     ghost Value = { Root };
 
@@ -40,7 +41,7 @@ impl<'a> Structure<'a> {
     ghost use Rattle.dt_read.specs.Kinds.{kind_of};
     ghost use Rattle.dt_read.specs.Marks.{last_mark, marks_of};
     ghost use Rattle.dt_read.specs.Order.{HasRisingPlaces};
-    ghost use Rattle.dt_read.specs.Reading.{HasTree, node_of, heads_of, BeginsNode};
+    ghost use Rattle.dt_read.specs.TreeTokens.{HasTree, node_of, heads_of, BeginsNode};
 
     /// The tree that a structure block spells, or its first wrong token. The block stands at that place of the blob.
     pub fn check(strings: &'a [u8], at: usize, block: &'a [u8]) -> Result<Structure<'a>, BadToken>
@@ -71,6 +72,14 @@ impl<'a> Structure<'a> {
         ensures few { length result < 2 ^ 32 }
     {
         Cursor::new(self.strings, self.at, self.block)
+    }
+
+    /// A hash of all bytes that names come from. Whoever makes names for one seed changes it by them.
+    pub fn seed(&self) -> u64 {
+        let mut hasher = DefaultHasher::new();
+        hasher.write(self.block);
+        hasher.write(self.strings);
+        hasher.finish()
     }
 
     /// The root.

@@ -4,7 +4,7 @@ ghost use Rattle.std.specs.Prelude.{◌≡◌, ◌++◌, ◌∷◌, [], List, �
 ghost use Rattle.std.specs.Option.{MatchOption, option_copied};
 ghost use Rattle.dt_model.specs.Tree.{value_of};
 ghost use Rattle.dt_read.specs.Parsing.{left_by};
-ghost use Rattle.dt_read.specs.Reading.{AreSiblings, heads_left};
+ghost use Rattle.dt_read.specs.TreeTokens.{AreSiblings, heads_left};
 ghost use Rattle.std.specs.Iterator.{YieldsFirst, YieldsFirstBy, item_count};
 
 use crate::NodeId;
@@ -109,7 +109,7 @@ pub struct Siblings<'a> {
 
 impl<'a> Model for Siblings<'a> {
     ghost use Rattle.std.specs.Prelude.{List, ℕ};
-    ghost use Rattle.dt_read.specs.Reading.{heads_left, AreSiblings};
+    ghost use Rattle.dt_read.specs.TreeTokens.{heads_left, AreSiblings};
 
     ghost Value = { List (ℕ × List ℕ) };
 
@@ -119,7 +119,7 @@ impl<'a> Model for Siblings<'a> {
 }
 
 impl<'a> Siblings<'a> {
-    ghost use Rattle.dt_read.specs.Reading.{heads_left, AreSiblings};
+    ghost use Rattle.dt_read.specs.TreeTokens.{heads_left, AreSiblings};
 
     pub fn new(cursor: Cursor<'a>) -> Siblings<'a>
         requires { AreSiblings cursor }

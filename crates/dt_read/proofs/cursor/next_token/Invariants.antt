@@ -1,5 +1,5 @@
 use Rattle.std.proofs.Common.{◌≡◌, length}
-use Rattle.dt_read.specs.Reading.{AreTokens, marks_in}
+use Rattle.dt_read.specs.TreeTokens.{AreTokens, marks_in}
 use Rattle.dt_read.proofs.cursor.next_token.Given as goal
 
 abbrev pub invariant-loop-token : goal.invariant-loop-token

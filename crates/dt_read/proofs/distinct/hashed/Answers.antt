@@ -1,4 +1,4 @@
-use Rattle.std.proofs.Common.{◌≡◌, ℕ, ◌++◌, refl, ap, ◌∙◌}
+use Rattle.std.proofs.Common.{◌≡◌, ℕ, [], ◌∷◌, ◌++◌, refl, ap, ◌∙◌}
 use Rattle.std.specs.Hash as fed
 use Rattle.std.specs.Hash.DefaultHasher as sip
 use Rattle.std.specs.List.{fold}
@@ -16,14 +16,18 @@ number_is Child = refl
 number_is Property = refl
 number_is Phandle = refl
 
-abbrev feed : Key → ℕ → fed.HashWrites
-feed k n = fed.usize n ++ (fed.usize k.owner ++ fed.slice fed.u8 k.bytes.now)
+abbrev feed : ℕ → Key → ℕ → fed.HashWrites
+feed seed k n = fed.u64 seed ++ (fed.usize n ++ (fed.usize k.owner ++ k.bytes.now ∷ []))
 
 pub returns : goal.returns
 unfolding hash_of
 returns c =
     let k = c.args.key.now in
+    let tag = tag_of sort.the_type k.sort in
     c.finish.ensures
-    ∙ ap sip.finish c.hash.ensures
-    ∙ ap (λ s. sip.finish (fold sip.write s (feed k (tag_of sort.the_type k.sort)))) c.new-hasher.ensures
-    ∙ ap (λ n. sip.finish (fold sip.write sip.initial (feed k n))) (number_is k.sort)
+    ∙ ap sip.finish c.write.ensures
+    ∙ ap (λ s. sip.finish (sip.write s k.bytes.now)) c.write_usize.ensures
+    ∙ ap (λ s. sip.finish (fold sip.write s (fed.usize k.owner ++ k.bytes.now ∷ []))) c.hash.ensures
+    ∙ ap (λ s. sip.finish (fold sip.write s (fed.usize tag ++ (fed.usize k.owner ++ k.bytes.now ∷ [])))) c.write_u64.ensures
+    ∙ ap (λ s. sip.finish (fold sip.write s (feed c.args.seed k tag))) c.new-hasher.ensures
+    ∙ ap (λ n. sip.finish (fold sip.write sip.initial (feed c.args.seed k n))) (number_is k.sort)

@@ -13,9 +13,9 @@ use Rattle.dt_read.proofs.distinct.is_distinct_class.Goals.{else-seems_to_hold-v
 use Rattle.dt_read.proofs.distinct.is_distinct_class.Goals.{else-seems_to_hold-via-else-seems_to_hold}
 use Rattle.dt_read.proofs.distinct.is_distinct_class.Goals as goal
 
-module _ (classes class size : ℕ) (words : List ℕ) (all left rest : List Key) (before : ℕ) (k : Key)
-    (so_far : SoFar classes class size words all left before) (first : left ≡ k ∷ rest) where
-  skip : hash_of k % classes ≢ class → SoFar classes class size words all rest (before + 1)
+module _ (seed classes class size : ℕ) (words : List ℕ) (all left rest : List Key) (before : ℕ) (k : Key)
+    (so_far : SoFar seed classes class size words all left before) (first : left ≡ k ∷ rest) where
+  skip : hash_of seed k % classes ≢ class → SoFar seed classes class size words all rest (before + 1)
   skip other =
       let e = so_far.left_is ∙ first in let len = ap length first in let within = so_far.within in
       record {
@@ -26,14 +26,14 @@ module _ (classes class size : ℕ) (words : List ℕ) (all left rest : List Key
       }
 
   put_in : (after : List ℕ) → AllByRecursion (λ other. other ≢ k) (take before all) → length after ≡ length words →
-      holds after (hash_of k) ≡ true → ((h : ℕ) → holds words h ≡ true → holds after h ≡ true) → SoFar classes class size after all rest (before + 1)
+      holds after (hash_of seed k) ≡ true → ((h : ℕ) → holds words h ≡ true → holds after h ≡ true) → SoFar seed classes class size after all rest (before + 1)
   put_in after new same put kept =
       let e = so_far.left_is ∙ first in let len = ap length first in let within = so_far.within in
       record {
         size_is = same ∙ so_far.size_is;
         left_is = drop_next all before k rest e;
         within = omega arith;
-        new = new_more _ _ _ all before k (at_drop all before k rest e) new put (λ y. kept (hash_of y)) so_far.new;
+        new = new_more _ _ _ all before k (at_drop all before k rest e) new put (λ y. kept (hash_of seed y)) so_far.new;
       }
 
 pub returns-then-is_among-clause-equal : goal.returns-then-is_among-clause-equal
@@ -49,25 +49,25 @@ loop-key-preserved c =
     let key = said c.in-Some.key in
     let before = c.loop-key.before in
     let so_far = c.loop-key.invariant in
-    let hash : c.hashed-hash.result ≡ hash_of key = c.hashed-hash.ensures in
+    let hash : c.hashed-hash.result ≡ hash_of c.args.seed key = c.hashed-hash.ensures in
     elim c.if-hash-classes.branch [
       | then-hash-classes+else-seems_to_hold w ↦ (
-          let kind : hash_of key % c.args.classes ≡ c.args.class = ap (λ h. h % c.args.classes) (sym hash) ∙ w.if-hash-classes.true in
+          let kind : hash_of c.args.seed key % c.args.classes ≡ c.args.class = ap (λ h. h % c.args.classes) (sym hash) ∙ w.if-hash-classes.true in
           let new : AllByRecursion (λ other. other ≢ key) (take before all) = elim w.else-seems_to_hold.branch [
             | else-seems_to_hold-via-then-seems_to_hold+else-is_among w' ↦
                 not_in key (take before all)
                 (λ among. false≢true (w'.if-is_among.ensures.1 (subst (λ (l : List Key). IsIn key (take before l)) (sym w'.of.ensures.all) among)))
             | else-seems_to_hold-via-else-seems_to_hold w' ↦
-                new_if_not_held (λ k. hash_of k % c.args.classes ≡ c.args.class) (λ k. holds c.loop-key.words (hash_of k) ≡ true) all before key kind
+                new_if_not_held (λ k. hash_of c.args.seed k % c.args.classes ≡ c.args.class) (λ k. holds c.loop-key.words (hash_of c.args.seed k) ≡ true) all before key kind
                 (λ held. false≢true (w'.if-seems_to_hold.ensures ∙ ap (holds c.loop-key.words) hash ∙ held)) so_far.new
           ] in
-          subst (λ (words : List ℕ). SoFar c.args.classes c.args.class (length c.args.words.now) words all c.next.new.self (before + 1)) (sym w.words-is)
-          (put_in c.args.classes c.args.class (length c.args.words.now) c.loop-key.words all c.loop-key.keys c.next.new.self before key so_far c.in-Some.ensures.steps
+          subst (λ (words : List ℕ). SoFar c.args.seed c.args.classes c.args.class (length c.args.words.now) words all c.next.new.self (before + 1)) (sym w.words-is)
+          (put_in c.args.seed c.args.classes c.args.class (length c.args.words.now) c.loop-key.words all c.loop-key.keys c.next.new.self before key so_far c.in-Some.ensures.steps
           w.put.new.words new w.put.ensures.size (ap (holds w.put.new.words) (sym hash) ∙ w.put.ensures.put) w.put.ensures.kept)
           )
       | else-hash-classes w ↦
-          subst (λ (words : List ℕ). SoFar c.args.classes c.args.class (length c.args.words.now) words all c.next.new.self (before + 1)) (sym w.words-is)
-          (skip c.args.classes c.args.class (length c.args.words.now) c.loop-key.words all c.loop-key.keys c.next.new.self before key so_far c.in-Some.ensures.steps
+          subst (λ (words : List ℕ). SoFar c.args.seed c.args.classes c.args.class (length c.args.words.now) words all c.next.new.self (before + 1)) (sym w.words-is)
+          (skip c.args.seed c.args.classes c.args.class (length c.args.words.now) c.loop-key.words all c.loop-key.keys c.next.new.self before key so_far c.in-Some.ensures.steps
           (λ kind. w.if-hash-classes.false (ap (λ h. h % c.args.classes) hash ∙ kind)))
     ]
 

@@ -1,6 +1,6 @@
 use Rattle.std.proofs.Common.{◌∷◌, sym, ap, ◌∙◌, subst}
 use Rattle.dt_read.specs.View.{view_at}
-use Rattle.dt_read.specs.Reading.{AreSiblings, heads_left}
+use Rattle.dt_read.specs.TreeTokens.{AreSiblings, heads_left}
 use Rattle.dt_read.proofs.Walks.{next_sibling_behind, no_sibling_at}
 use Rattle.dt_read.proofs.walk.next_sibling.Goals as goal
 

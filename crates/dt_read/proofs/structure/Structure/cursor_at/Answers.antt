@@ -1,6 +1,6 @@
 use Rattle.std.proofs.Common.{◌-◌, sym, ap, ◌∙◌, subst}
 use Rattle.std.proofs.lemmas.List.{take_rest}
-use Rattle.dt_read.specs.Reading.{node_of, BeginsNode, marks_in}
+use Rattle.dt_read.specs.TreeTokens.{node_of, BeginsNode, marks_in}
 use Rattle.dt_read.proofs.Nodes.{place_of, is_some_node, if_some_node}
 use Rattle.dt_read.proofs.structure.Structure.cursor_at.Goals as goal
 

@@ -1,5 +1,5 @@
 use Rattle.std.proofs.Common.{◌≡◌, sym, ap, ◌∙◌, subst}
-use Rattle.dt_read.specs.Reading.{node_of, BeginsNode, AreSiblings, heads_of, heads_left}
+use Rattle.dt_read.specs.TreeTokens.{node_of, BeginsNode, AreSiblings, heads_of, heads_left}
 use Rattle.dt_read.proofs.Nodes.{is_some_node, if_some_node, at_node}
 use Rattle.dt_read.proofs.Walks.{siblings_of_parts, next_of_node}
 use Rattle.dt_read.proofs.structure.Structure.siblings.Goals as goal

@@ -1,7 +1,7 @@
 use Rattle.std.proofs.Common.{◌∷◌, ◌++◌, [], length, sym, ap, subst, ◌∙◌, arith}
 use Rattle.dt_read.specs.Marks.{last_mark, marks_of}
 use Rattle.dt_read.specs.Parsing.{tree_in}
-use Rattle.dt_read.specs.Reading.{AreTokens}
+use Rattle.dt_read.specs.TreeTokens.{AreTokens}
 use Rattle.dt_read.specs.Keys.{AreShallow}
 use Rattle.dt_read.proofs.Cursors.{few_marks}
 use Rattle.dt_read.proofs.Nodes.{marks_in_is}

@@ -1,7 +1,7 @@
 use Rattle.std.proofs.Common.{◌≡◌, ap, ◌∙◌}
 use Rattle.std.specs.Option.{option_copied}
 use Rattle.dt_model.specs.Tree.{value_of}
-use Rattle.dt_read.specs.Reading.{node_of}
+use Rattle.dt_read.specs.TreeTokens.{node_of}
 use Rattle.dt_read.proofs.Nodes.{is_some_node, if_some_node, at_node}
 use Rattle.dt_read.proofs.structure.Structure.value.Goals as goal
 

@@ -1,4 +1,4 @@
--- What is left to read at a place of the structure block, and what a node of a tree has.
+-- The tokens of a tree: what is left to read at a place of the structure block, and what a node has.
 use Rattle.dt_model.specs.Tree.{Property}
 use Rattle.dt_read.specs.Placed.{Nodes, no_nodes, node, forest_of}
 use Rattle.std.specs.List.{AllByRecursion}
