@@ -5,7 +5,8 @@ ghost use Rattle.dt_expr.specs.declared.step.Step.{Step};
 ghost use Rattle.dt_expr.specs.Expression.{Expression, steps, value, height};
 ghost use Rattle.dt_expr.specs.Numbers.{IsNumberBelow};
 
-/// Steps behind which one operand is left are those of an expression, and of one only.
+/// Steps behind which one operand is left are those of an expression, and of one only. So what `eval` says of each expression
+/// with these steps is said of one: it has one value or none, and an answer and a refusal exclude each other.
 pub fn one_expression()
     ensures is { (ss : List Step) → height 0 ss ≡ Some 1 → (e : Expression) × (steps e ≡ ss) }
     ensures only { (e f : Expression) → steps e ≡ steps f → e ≡ f }

@@ -29,3 +29,6 @@ pub mod FineParts
 pub mod OneFault
 pub mod PathTexts
 pub mod SameKinds
+pub mod Known
+pub mod Verdicts
+pub mod SampleFaults

@@ -433,14 +433,14 @@ one_shown (unplaced n q) (unplaced m p) = (refl, refl)
 
 -- ---- numbers
 
-not_both : {ws left rest : Words} {m : Made} → Descends Prim ws (stuck left) → Descends Prim ws (found m rest) → ⊥
+pub not_both : {ws left rest : Words} {m : Made} → Descends Prim ws (stuck left) → Descends Prim ws (found m rest) → ⊥
 not_both d e = let same = deterministic d e in cc
 
 -- a number that is cut off within its first 1,024 tokens isn't too long
 cut_or_unended : {ws left rest : Words} → Descends Prim ws (stuck left) → Descends Prim ws (stuck rest) → length ws ≤ length left + 1024 → length rest + 1024 < length ws → ⊥
 cut_or_unended {left = left} {rest = rest} d e h i = let same : left ≡ rest = ap left_of (deterministic d e) in omega (arith, h, i, ap length same)
 
-same_made : {ws left rest : Words} {m o : Made} → Descends Prim ws (found m left) → Descends Prim ws (found o rest) → m ≡ o
+pub same_made : {ws left rest : Words} {m o : Made} → Descends Prim ws (found m left) → Descends Prim ws (found o rest) → m ≡ o
 same_made {m = m} d e = ap (made_of m) (deterministic d e)
 
 long_or_short : {ws left rest : Words} {m o : Made} → Descends Prim ws (found m left) → Descends Prim ws (found o rest) → 1024 < size_in m → size_in o ≤ 1024 → ⊥

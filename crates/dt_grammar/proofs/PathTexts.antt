@@ -17,7 +17,7 @@ AllNamed p = AllByRecursion IsNodeName p
 
 -- ---- references to paths
 
-path_in : {bytes : List ℕ} {r : Reference} → IsReferenceWord (a_reference a_path bytes) r → (p : Path) × AllNamed p × (bytes ≡ braced (path_text p))
+pub path_in : {bytes : List ℕ} {r : Reference} → IsReferenceWord (a_reference a_path bytes) r → (p : Path) × AllNamed p × (bytes ≡ braced (path_text p))
 path_in (to_label l k b v) = cc
 path_in (to_path p k b v) = (p, v, b)
 
@@ -56,7 +56,7 @@ front_of bytes some e = with_last bytes (length bytes - 1) 58 (omega arith) e
 
 -- ---- references to labels
 
-label_in : {bytes : List ℕ} {r : Reference} → IsReferenceWord (a_reference a_label bytes) r → (bytes ≡ 38 ∷ drop 1 bytes) × IsLabel (drop 1 bytes)
+pub label_in : {bytes : List ℕ} {r : Reference} → IsReferenceWord (a_reference a_label bytes) r → (bytes ≡ 38 ∷ drop 1 bytes) × IsLabel (drop 1 bytes)
 label_in (to_label l k b v) = (b ∙ ap (λ (z : List ℕ). 38 ∷ drop 1 z) (sym b), subst IsLabel (sym (ap (drop 1) b)) v)
 label_in (to_path p k b v) = cc
 

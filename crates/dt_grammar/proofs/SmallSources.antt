@@ -17,26 +17,12 @@ use Rattle.dt_grammar.specs.Words.{Word, Words, to_label}
 use Rattle.dt_grammar.specs.Grammar.{no_labels, one_label, SpellsExpression, joined, integer, group, no_prefix, tightest, tighter, joins, no_condition, SpellsNumber, no_cells, cell_number, cell_reference, no_bits, SpellsItem, cells, last, assigned, SpellsProperties, no_properties, defined, deleted, SpellsChildren, no_children, opened, SpellsBody, root_block, node_deleted, last_statement, more_statements, no_reservations, base_header, Says, SpellsSource}
 use Rattle.dt_grammar.specs.Samples.{property_behind_child, empty_root, empty_root_says, unended_root, small_source, small_source_says}
 use Rattle.dt_grammar.specs.Relaxed.{word, a_mark, a_keyword}
+use Rattle.dt_grammar.specs.FaultSamples.{version, semicolon, slash, opening, closing, name}
 use Rattle.dt_grammar.specs.Wanted.{Whole}
 use Rattle.dt_grammar.specs.Descent.{stuck, refuses, gives, part_stuck, part_found, Descends}
 use Rattle.dt_grammar.proofs.Descent.{deterministic}
 use Rattle.dt_grammar.proofs.Headers.{complete_source, one_relaxed}
 use Rattle.dt_grammar.proofs.OneSource.{source_of}
-
-abbrev version : Word
-version = a_keyword keyword.Version (codes "/dts-v1/")
-
-abbrev semicolon : Word
-semicolon = a_mark mark.Semicolon (codes ";")
-
-abbrev slash : Word
-slash = a_mark mark.Slash (codes "/")
-
-abbrev opening : Word
-opening = a_mark mark.OpenBrace (codes "{")
-
-abbrev closing : Word
-closing = a_mark mark.CloseBrace (codes "}")
 
 -- a body with children alone
 body : (ws : Words) (cs : List Place) → SpellsChildren 1 ws cs → SpellsBody (opening ∷ (ws ++ closing ∷ semicolon ∷ [])) (cs ++ close ∷ [])
@@ -179,9 +165,6 @@ item_is : SpellsItem item_words parts
 item_is = cells [] cell_words (a_mark mark.Less (codes "<")) (a_mark mark.Greater (codes ">")) 32 w32 parts no_bits refl refl
     (cell_number in_parentheses (to_a ∷ []) 3 (number_of (by_label (codes "a")) ∷ []) three_is (inl (lit< tt))
     (cell_reference to_a [] (by_label (codes "a")) [] refl (to_label (codes "a") refl refl is_label) no_cells))
-
-abbrev name : List ℕ → Word
-name b = word kind.Name b
 
 abbrev property_words : Words
 property_words =

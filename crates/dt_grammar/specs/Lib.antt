@@ -7,6 +7,7 @@ pub mod Wanted
 pub mod Moves
 pub mod Descent
 pub mod Samples
+pub mod FaultSamples
 pub mod Strict
 pub mod Exactly
 pub mod Paths

@@ -21,6 +21,7 @@ ghost use Rattle.dt_grammar.specs.Wanted.{Made, Whole, Prim, made_source, made_e
 ghost use Rattle.dt_grammar.specs.Descent.{Descends, found, stuck};
 ghost use Rattle.dt_grammar.specs.Exactly.{IsChecked, NoneBegins};
 ghost use Rattle.dt_grammar.specs.Faults.{outside, Breaks};
+ghost use Rattle.dt_grammar.specs.FaultSamples.{FirstFaults};
 ghost use Rattle.dt_grammar.specs.Samples.{
   empty_root,
   empty_root_says,
@@ -95,4 +96,9 @@ pub fn small_sources()
     ensures unended { (s : Says) → ¬ SpellsSource unended_root s }
     ensures disordered { (s : Says) → ¬ SpellsSource property_behind_child s }
     ensures small { SpellsSource small_source small_source_says }
+{}
+
+/// Small sources with a fault of each kind, and the token at which it shows.
+pub fn first_faults()
+    ensures { FirstFaults }
 {}

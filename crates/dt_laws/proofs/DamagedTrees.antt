@@ -4,7 +4,7 @@ use Rattle.dt_model.specs.Tree.{Property, no_nodes}
 use Rattle.dt_model.specs.Format.{begin_node, end_node, prop, word, IsText, Spells}
 use Rattle.dt_model.specs.Samples.{words, blob_of}
 use Rattle.dt_model.specs.Checks.{duplicate, bad_phandle, IsSpelled, AreApart, AreNumbered, IsFirstFault, in_names, in_phandles}
-use Rattle.dt_laws.proofs.NameTests.{property_tests}
+use Rattle.dt_model.proofs.NameTests.{property_tests}
 use Rattle.dt_laws.proofs.Leads.{at}
 use Rattle.dt_laws.proofs.DamagedTokens.{root_spelled}
 use Rattle.dt_laws.proofs.DamagedNesting.{a_strings, a_flag, a_flag_spelled}

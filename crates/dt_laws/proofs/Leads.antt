@@ -8,7 +8,7 @@ use Rattle.dt_model.specs.Tree.{Property, Forest, no_nodes, branch}
 use Rattle.dt_model.specs.Valid.{AreNodes, node_count, IsNoDeeper}
 use Rattle.dt_model.specs.Format.{Token, begin_node, end_node, prop, nop, end_tree, SpellsTree, tokens_of_forest, tokens_of, without_nops}
 use Rattle.dt_model.specs.Checks.{Position, front, lead, lead_all, IsSpelled}
-use Rattle.dt_laws.proofs.NameTests.{node_name_tested, property_name_tested}
+use Rattle.dt_model.proofs.NameTests.{node_name_tested, property_name_tested}
 
 and_then_same : (f g : Position → Option Position) → ((p : Position) → f p ≡ g p) → (o : Option Position) → option_and_then f o ≡ option_and_then g o
 and_then_same f g h None = refl

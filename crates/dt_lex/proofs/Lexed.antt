@@ -15,7 +15,7 @@ use Rattle.dt_lex.specs.Rules.{In, rules}
 use Rattle.dt_lex.specs.Outcomes.{Outcome, outcome}
 use Rattle.dt_lex.specs.Lexing.{IsCut, HasNoCut, Lexed, FirstFlaw, with_tokens, ends_line, token, Lexes, done, no_rule, faulty, skipped, given, IsLexed, WhyNotLexed, no_memory, too_long, bad_token, bad_integer}
 use Rattle.dt_lex.specs.Pieces.{tokens_of, mode_after}
-use Rattle.dt_lex.specs.Spans.{AreSpans, Reports, fault_of}
+use Rattle.dt_lex.specs.Spans.{AreSpans, fault_of}
 use Rattle.dt_lex.specs.Spans as spans
 use Rattle.dt_names.specs.declared.fault.Fault.{Fault}
 use Rattle.dt_names.specs.declared.fault.FaultKind.TheVariants as fault

@@ -7,3 +7,4 @@ pub mod NumberLemmas
 pub mod LeaderLemmas
 pub mod Cuts
 pub mod Lexed
+pub mod OneOutcome

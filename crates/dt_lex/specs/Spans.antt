@@ -1,12 +1,12 @@
 -- The places of tokens, and what a fault says of a text's tokens.
-use Rattle.std.specs.Prelude.{◌≡◌, ◌⊎◌, ℕ, ◌<◌, ◌≤◌, List, [], ◌∷◌, Some, None, Err}
+use Rattle.std.specs.Prelude.{ℕ, ◌<◌, ◌≤◌, List, [], ◌∷◌, Some, None}
 use Rattle.dt_names.specs.declared.fault.Fault.{Fault}
 use Rattle.dt_names.specs.declared.fault.FaultKind.{FaultKind}
 use Rattle.dt_names.specs.declared.fault.FaultKind.TheVariants as fault
 use Rattle.dt_lex.specs.declared.token.Token.{Token}
 use Rattle.dt_lex.specs.declared.token.Flaw.{Flaw}
 use Rattle.dt_lex.specs.declared.token.Flaw.TheVariants.{BadToken, BadInteger}
-use Rattle.dt_lex.specs.Lexing.{FirstFlaw, Lexed}
+use Rattle.dt_lex.specs.Lexing.{FirstFlaw}
 
 -- each token begins at or behind the end of the one before it, has a byte or more, and ends inside the text
 abbrev pub AreSpans : (from to : ℕ) → List Token → Type 0
@@ -23,7 +23,3 @@ fault_of f = record { kind = kind_of f.flaw; at = Some f.at }
 
 abbrev pub no_memory : Fault
 no_memory = record { kind = fault.NoMemory; at = None }
-
--- what a fault says of a text's answer: memory was wanted, and it says nothing; or it tells of the first flaw
-abbrev pub Reports : Fault → Lexed → Type 0
-Reports e a = (e ≡ no_memory) ⊎ ((f : FirstFlaw) × (e ≡ fault_of f) × (a ≡ Err f))

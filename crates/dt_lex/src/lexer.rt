@@ -1,11 +1,11 @@
 //! A text, cut into tokens from its first byte to its last.
 
-ghost use Rattle.std.specs.Prelude.{◌≡◌, ◌<◌, ◌≤◌, ◌+◌, ◌^◌, ◌++◌, Ok, List, ℕ, IfOk, IfErr, OnOk, MatchResult, length};
+ghost use Rattle.std.specs.Prelude.{◌≡◌, ◌<◌, ◌≤◌, ◌+◌, ◌^◌, ◌++◌, Ok, IfOk, IfErr, OnOk, length};
 ghost use Rattle.dt_model.specs.Limits.{most_bytes};
-ghost use Rattle.dt_lex.specs.Lexing.{Lexed, IsLexed, WhyNotLexed};
+ghost use Rattle.dt_lex.specs.Lexing.{IsLexed, WhyNotLexed};
 ghost use Rattle.dt_lex.specs.Labels.{IsUnlabelled};
 ghost use Rattle.dt_lex.specs.Pieces.{IsPiece, mode_after, tokens_of};
-ghost use Rattle.dt_lex.specs.Spans.{AreSpans, Reports, fault_of, no_memory};
+ghost use Rattle.dt_lex.specs.Spans.{AreSpans, fault_of, no_memory};
 
 use crate::cut::cut;
 use crate::label::unlabelled;
@@ -93,11 +93,8 @@ pub fn tokens(alloc: Global, text: &[u8]) -> Result<Vec<Token>, Fault>
     // What is answered is the text's token list.
     ensures ok { IfOk result (λ v. (length text.now ≤ most_bytes) × IsLexed text.now (Ok v.items)) }
     ensures spans { IfOk result (λ v. AreSpans 0 (length text.now) v.items) }
-    // A fault is the text's length, or the text's first flaw, and then it has no token list.
+    // A fault is the text's length, or the text's first flaw; `one_outcome` says that then it has no token list, and no other fault.
     ensures err { IfErr result (λ e. WhyNotLexed text.now e) }
-    // Nothing else is answered, unless memory is wanted.
-    ensures only { (a : Lexed) → IsLexed text.now a → length text.now ≤ most_bytes →
-        MatchResult result (λ v. a ≡ Ok v.items) (λ e. Reports e a) }
 {
     if text.len() > MOST_BYTES {
         return Err(Fault::of(FaultKind::Limit));

@@ -20,7 +20,7 @@ mod rule;
 mod token;
 mod word;
 
-pub use laws::{one_answer, texts_are_read};
+pub use laws::{one_answer, one_outcome, texts_are_read};
 pub use letter::push_text;
 pub use lexer::tokens;
 pub use token::{Keyword, Mark, Token, TokenKind};

@@ -5,3 +5,4 @@ pub mod Parsed
 pub mod Pairs
 pub mod Blobs
 pub mod SampleBlobs
+pub mod NameTests

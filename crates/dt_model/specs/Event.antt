@@ -1,6 +1,6 @@
 -- What the text of a source does, one event after another (Devicetree Specification v0.4, chapter 6), and what stands
 -- after a list of events. No tree is merged here: each answer is read off the last of the events that bear on it.
-use Rattle.std.specs.Prelude.{ℕ, Bool, true, false, ◌||◌, ◌&&◌, List, [], ◌∷◌, length, ◌<◌, Option, None, Some, cond}
+use Rattle.std.specs.Prelude.{ℕ, Bool, true, false, ◌||◌, ◌&&◌, List, [], ◌∷◌, length, Option, None, Some, cond}
 use Rattle.std.specs.Option.{option_or}
 use Rattle.std.specs.List.{list_any}
 use Rattle.std.specs.Str.{bytes_eq}
@@ -136,22 +136,10 @@ module _ {V : Type 0} where
   abbrev pub age : List (Event V) → Stack → ℕ
   age es p = age_by (opens p) (takes p) es
 
-  -- of two nodes the first was opened first, after the last deletion that took it
-  abbrev pub comes_before : List (Event V) → Stack → Stack → Type 0
-  comes_before es p q = age es q < age es p
-
   -- from the property's first definition on that follows the last deletion that took it
   abbrev pub property_age : List (Event V) → Stack → Name → ℕ
   property_age es p n = age_by (defines p n) (drops p n) es
 
-  -- of two properties of a node the first was defined first
-  abbrev pub property_before : List (Event V) → Stack → Name → Name → Type 0
-  property_before es p m n = property_age es p n < property_age es p m
-
   -- from the label's first giving to the node on that follows the last deletion of it or of a node above it
   abbrev pub label_age : List (Event V) → Name → Stack → ℕ
   label_age es l p = age_by (gives l p) (takes p) es
-
-  -- of two labels of a node the first was given first
-  abbrev pub label_before : List (Event V) → Stack → Name → Name → Type 0
-  label_before es p k l = label_age es l p < label_age es k p

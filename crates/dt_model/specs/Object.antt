@@ -56,10 +56,6 @@ abbrev pub properties_of : Option Node → List Property
 properties_of None = []
 properties_of (Some n) = n.properties
 
-abbrev pub children_of : Option Node → Forest
-children_of None = no_nodes
-children_of (Some n) = n.children
-
 abbrev pub HasFixups : Reading → List (Name × Cell) → Type 0
 HasFixups t fixups = AreFixups (properties_of (node_at t (codes "__fixups__" ∷ []))) fixups
 

@@ -1,4 +1,4 @@
-use Rattle.dt_laws.proofs.NameTests.{node_tests, property_tests}
+use Rattle.dt_model.proofs.NameTests.{node_tests, property_tests}
 use Rattle.dt_laws.proofs.blobs.name_tests.Goals as goal
 
 pub returns : goal.returns

@@ -1,4 +1,4 @@
-use Rattle.std.proofs.Common.{◌≡◌, ℕ, ◌+◌, List, [], ◌++◌, length, true, Ok, Err, inr, refl, sym, ◌∙◌, ap, subst, arith, false-eqb, zero-add}
+use Rattle.std.proofs.Common.{◌≡◌, ℕ, ◌+◌, List, [], ◌++◌, length, true, Ok, Err, refl, sym, ◌∙◌, ap, subst, arith, false-eqb, zero-add}
 use Rattle.std.proofs.lemmas.List.{append-nil}
 use Rattle.std.proofs.lemmas.Result.{err_from_is_err_and}
 use Rattle.std.proofs.lemmas.Bool.{eqb-true}
@@ -6,7 +6,7 @@ use Rattle.dt_lex.specs.declared.token.Mode.TheVariants as mode
 use Rattle.dt_lex.specs.declared.token.Token.{Token}
 use Rattle.dt_lex.specs.Lexing.{Lexed, Lexes, FirstFlaw, IsLexed, WhyNotLexed, with_tokens}
 use Rattle.dt_lex.specs.Pieces.{tokens_of}
-use Rattle.dt_lex.proofs.Lexed.{unique, later, with_none, with_more, goes_on, fault_here, end_here, longer, out_of_memory, flaw_reported, are_spans}
+use Rattle.dt_lex.proofs.Lexed.{later, with_none, with_more, goes_on, fault_here, end_here, longer, out_of_memory, flaw_reported, are_spans}
 use Rattle.dt_lex.specs.Labels.{IsUnlabelled}
 use Rattle.dt_lex.proofs.LabelLemmas.{unlabelled_behind}
 use Rattle.dt_lex.proofs.lexer.tokens.Goals as goal
@@ -25,13 +25,6 @@ returns-in-Err-clause-err c =
     let flaw : FirstFlaw = record { flaw = c.in-Err.flaw; at = l.start } in
     let lexed = l.invariant.follows (Err flaw) (fault_here l.mode l.fresh l.start l.rest.now c.in-Err.flaw (λ e. omega (arith, ap length e, false-eqb _ 0 c.loop-rest-test.ensures)) c.in-Err.ensures.exact) in
     subst (WhyNotLexed c.args.text.now) (sym c.fault_at.ensures) (flaw_reported c.args.text.now flaw l.invariant.short lexed)
-
-pub returns-in-Err-clause-only : goal.returns-in-Err-clause-only
-returns-in-Err-clause-only c a d short =
-    let l = c.loop-rest in
-    let flaw : FirstFlaw = record { flaw = c.in-Err.flaw; at = l.start } in
-    let lexed = l.invariant.follows (Err flaw) (fault_here l.mode l.fresh l.start l.rest.now c.in-Err.flaw (λ e. omega (arith, ap length e, false-eqb _ 0 c.loop-rest-test.ensures)) c.in-Err.ensures.exact) in
-    inr (flaw, c.fault_at.ensures, unique d lexed)
 
 pub loop-rest-init : goal.loop-rest-init
 loop-rest-init c = record {
@@ -73,9 +66,3 @@ returns-clause-spans c =
     let s = c.args.text.now in
     let lexed = subst (λ (x : List Token). IsLexed s (Ok x)) (append-nil l.out.items) (kept.follows (Ok []) (end_here l.mode l.fresh l.start l.rest.now (eqb-true _ _ (sym c.loop-rest-test.ensures)))) in
     are_spans lexed (length s) (omega arith) l.out.items refl
-
-pub returns-clause-only : goal.returns-clause-only
-returns-clause-only c a d short =
-    let kept = c.loop-rest.invariant in
-    let l = c.loop-rest in
-    unique d (subst (λ (x : List Token). IsLexed c.args.text.now (Ok x)) (append-nil l.out.items) (kept.follows (Ok []) (end_here l.mode l.fresh l.start l.rest.now (eqb-true _ _ (sym c.loop-rest-test.ensures)))))

@@ -1,9 +1,8 @@
 -- The tests of names decide what names are.
-use Rattle.dt_laws.proofs.Tests.{not_true}
 use Rattle.std.proofs.Common.{◌≡◌, ℕ, Bool, true, false, not, ◌&&◌, ◌||◌, List, [], ◌∷◌, length, nat_eq, nat_lt, nat_le, get_or, refl, ap}
 use Rattle.std.specs.Prelude.{◌↔◌, IsTrue, count_by}
 use Rattle.std.specs.List.{AllByRecursion, list_all}
-use Rattle.std.proofs.lemmas.Bool.{lt-ltb, ltb-true, le-leb, leb-true, ne_eqb, eqb-false}
+use Rattle.std.proofs.lemmas.Bool.{lt-ltb, ltb-true, le-leb, leb-true, ne_eqb, eqb-false, not-true}
 use Rattle.std.proofs.lemmas.List.Elements.{All-from_recursion, recursion_from_All}
 use Rattle.dt_model.specs.Names.{Name, is_name_byte, IsNodeName, IsPropertyName, is_node_name, is_property_name}
 
@@ -61,7 +60,7 @@ tested_node_name name e =
       short = leb-true (length name) 255 h.1;
       allowed = All-from_recursion (λ b. IsTrue (in_node_name b)) name (each_passes in_node_name name h.2);
       one_at = leb-true (count_by (λ b. nat_eq b 64) name) 1 h.3;
-      not_first = eqb-false (get_or name 0 0) 64 (not_true (nat_eq (get_or name 0 0) 64) h.4);
+      not_first = eqb-false (get_or name 0 0) 64 (not-true (nat_eq (get_or name 0 0) 64) h.4);
     }
 
 tested_property_name : (name : Name) → is_property_name name ≡ true → IsPropertyName name
