@@ -1,4 +1,4 @@
-use Rattle.std.proofs.Common.{List, sym, subst}
+use Rattle.std.proofs.Common.{List, rules, sym, subst}
 use Rattle.std.proofs.lemmas.Bool.{false≢true}
 use Rattle.std.specs.List.{AllByRecursion}
 use Rattle.dt_model.specs.Valid.{IsPhandle}
@@ -6,12 +6,12 @@ use Rattle.dt_read.specs.Keys.{Key}
 use Rattle.dt_read.proofs.PhandleKeys.{right_keys}
 use Rattle.dt_read.proofs.phandle.are_phandles.Goals as goal
 
-pub returns-then-not-is_phandle : goal.returns-then-not-is_phandle
-returns-then-not-is_phandle c =
-    let right = right_keys c.args.structure.now in (
+pub returns-then-is_none : goal.returns-then-is_none
+returns-then-is_none c =
+    let right = right_keys c.args.structure.now in
+    let wrong : ¬ IsPhandle c.in-Some.key.bytes.now = λ p. search (rules, c.phandle_of.ensures.valid.1 p) in (
       λ t. absurd (false≢true t),
-      λ a. c.if-not-is_phandle.ensures.1
-          (subst (λ (keys : List Key). AllByRecursion (λ k. IsPhandle k.bytes) keys) c.in-Some.ensures.steps (c.loop-key.invariant.2.1 (right.1 a).each)).0,
+      λ a. absurd (wrong (subst (λ (keys : List Key). AllByRecursion (λ k. IsPhandle k.bytes) keys) c.in-Some.ensures.steps (c.loop-key.invariant.2.1 (right.1 a).each)).0),
     )
 
 pub returns : goal.returns
