@@ -3,11 +3,14 @@
 
     python3 bench/refused_memory.py [--most N] [--step N] crates/dtool/out/dtool crates/dt_cases/out/dt_cases
 
-`dtool compile` of a small source, and `dtool check` of its blob, have to end with status 1, fault 1 and nothing written, or with
-the whole answer. `dt_cases`, on a folder with the cases that take little memory, has to end with status 1 and no other
-answer than fault 1 in the place of the right one (90 where the sink is memory that grows), with status 2 where its own tables
-couldn't be read, or with all cases held. A C compiler makes the shim that refuses."""
+`dtool compile` of a small source, and `dtool check` of its blob, have to end with status 1, fault 1 and nothing written.
+`dt_cases`, on a folder with the cases that take little memory, has to end with status 1 and no other answer than fault 1 in
+the place of the right one (90 where the sink is memory that grows), or with status 2 where its own tables couldn't be read.
+The whole answer may come all the same only where the toolchain's library asked again, at once and for no more: `collect` asks
+for as much as its iterator hints at, and where that is refused for what it needs. A C compiler makes the shim that refuses."""
 import argparse
+import bisect
+import collections
 import os
 import re
 import subprocess
@@ -18,26 +21,56 @@ SHIM = r"""
 #define _GNU_SOURCE
 #include <dlfcn.h>
 #include <errno.h>
+#include <execinfo.h>
+#include <fcntl.h>
 #include <stdio.h>
 #include <stdlib.h>
 #include <unistd.h>
 static long count, refused = -1;
+static int is_own, tell = -1;
+static int to_write(const char *name) {
+    const char *file = getenv(name);
+    return file ? open(file, O_WRONLY | O_CREAT | O_TRUNC, 0600) : -1;
+}
 __attribute__((constructor)) static void start(void) {
+    void *frame;
+    backtrace(&frame, 1);
     const char *n = getenv("REFUSE_ALLOCATION");
     refused = n ? atol(n) : -1;
+    tell = to_write("TELL_REFUSED");
     count = 0;
 }
 __attribute__((destructor)) static void end(void) {
-    const char *file = getenv("COUNT_ALLOCATIONS");
-    if (file) { FILE *to = fopen(file, "w"); if (to) { fprintf(to, "%ld", count); fclose(to); } }
+    int to = to_write("COUNT_ALLOCATIONS");
+    if (to >= 0) { dprintf(to, "%ld", count); close(to); }
 }
-static int is_refused(void) { if (++count == refused) { errno = ENOMEM; return 1; } return 0; }
+/* The size that is asked for, and the program's function that asks, behind malloc and the runtime's call of it. */
+static void tell_asker(size_t size) {
+    void *frames[8] = {0};
+    Dl_info at, shim;
+    is_own = 1;
+    dladdr(&count, &shim);
+    int i = 0, all = backtrace(frames, 8);
+    while (i < all && dladdr(frames[i], &at) && at.dli_fbase == shim.dli_fbase) i++;
+    if (i + 1 < all && dladdr(frames[i + 1], &at))
+        dprintf(tell, "%zu %lx\n", size, (unsigned long)((char *)frames[i + 1] - (char *)at.dli_fbase));
+    is_own = 0;
+}
+static int is_refused(size_t size) {
+    if (is_own) return 0;
+    ++count;
+    if (tell >= 0 && (count == refused || count == refused + 1)) tell_asker(size);
+    if (count == refused) { errno = ENOMEM; return 1; }
+    return 0;
+}
 #define NEXT(name) (__typeof__(&name))dlsym(RTLD_NEXT, #name)
-void *malloc(size_t size) { return is_refused() ? NULL : (NEXT(malloc))(size); }
-void *realloc(void *p, size_t size) { return is_refused() ? NULL : (NEXT(realloc))(p, size); }
-void *aligned_alloc(size_t align, size_t size) { return is_refused() ? NULL : (NEXT(aligned_alloc))(align, size); }
+void *malloc(size_t size) { return is_refused(size) ? NULL : (NEXT(malloc))(size); }
+void *realloc(void *p, size_t size) { return is_refused(size) ? NULL : (NEXT(realloc))(p, size); }
+void *aligned_alloc(size_t align, size_t size) {
+    return is_refused(size) ? NULL : (NEXT(aligned_alloc))(align, size);
+}
 int posix_memalign(void **to, size_t align, size_t size) {
-    return is_refused() ? ENOMEM : (NEXT(posix_memalign))(to, align, size);
+    return is_refused(size) ? ENOMEM : (NEXT(posix_memalign))(to, align, size);
 }
 """
 SOURCE = b'/dts-v1/; / { a = <1>, "x"; n { b; }; m@1 { a = <2>; }; };'
@@ -56,38 +89,59 @@ def small_tables(data, folder):
             to.write("\n\n".join(kept) + "\n")
 
 
-def run(words, given, shim, refused=None, count=None):
-    env = {**os.environ, "LD_PRELOAD": shim}
-    env.update({"REFUSE_ALLOCATION": str(refused)} if refused else {})
-    env.update({"COUNT_ALLOCATIONS": count} if count else {})
+def run(words, given, shim, **told):
+    """Runs a program under the shim, which reads what is told in capitals."""
+    env = {**os.environ, "LD_PRELOAD": shim, **{name.upper(): str(value) for name, value in told.items()}}
     done = subprocess.run(words, input=given, capture_output=True, env=env)
     return done.returncode, done.stdout, done.stderr.decode()
 
 
-def is_tool_right(answer, whole):
-    return answer == whole or answer == (1, b"", NO_MEMORY)
+def is_told_by_tool(answer):
+    return answer == (1, b"", NO_MEMORY)
 
 
-def is_cases_right(answer, whole):
+def is_told_by_cases(answer):
     status, out, said = answer
-    if answer == whole or status == 2:
-        return True
     answers = re.findall(r": the answer is\n(.*?)\nand not\n", said, re.S)
-    return status == 1 and bool(answers) and all(it in ("fault 1 NoMemory", "fault 90 WriteFault") for it in answers)
+    return status == 2 or status == 1 and bool(answers) and all(it in ("fault 1 NoMemory", "fault 90 WriteFault") for it in answers)
 
 
-def sweep(title, words, given, shim, is_right, options):
+def function_at(program, offset):
+    """The name of the program's function at an offset, without what it is generic over."""
+    listed = subprocess.run(["nm", "-n", "--defined-only", program], capture_output=True, text=True, check=True).stdout
+    symbols = [line.split(" ", 2) for line in listed.splitlines()]
+    at = bisect.bisect_right([int(place, 16) for place, *_ in symbols], offset) - 1
+    return symbols[at][2].split("::<")[0] if at >= 0 else "?"
+
+
+def who_asked_again(words, given, shim, n):
+    """The toolchain's function that asked again, at once and for no more, where allocation n was refused to it; or None."""
+    with tempfile.NamedTemporaryFile("r") as asked:
+        run(words, given, shim, refuse_allocation=n, tell_refused=asked.name)
+        lines = [line.split() for line in asked.read().splitlines()]
+    (size, asker), (next_size, next_asker) = lines if len(lines) == 2 else [("0", "0"), ("1", "1")]
+    name = function_at(words[0], int(asker, 16))
+    is_again = name == function_at(words[0], int(next_asker, 16)) and int(next_size) <= int(size)
+    return name if is_again and name.startswith("std_alloc::") else None
+
+
+def sweep(title, words, given, shim, is_told, options):
     with tempfile.NamedTemporaryFile() as count:
-        whole = run(words, given, shim, count=count.name)
+        whole = run(words, given, shim, count_allocations=count.name)
         allocations = int(count.read() or 0)
-    wrong, told = [], 0
+    wrong, told, again = [], 0, collections.Counter()
     tried = range(1, min(allocations, options.most) + 1, options.step)
     for n in tried:
-        answer = run(words, given, shim, refused=n)
-        told += answer[0] != whole[0]
-        if not is_right(answer, whole):
+        answer = run(words, given, shim, refuse_allocation=n)
+        asker = who_asked_again(words, given, shim, n) if answer == whole else None
+        if asker:
+            again[asker] += 1
+        elif is_told(answer):
+            told += 1
+        else:
             wrong.append((n, answer))
-    print(f"{title}: {allocations} allocations, {len(tried)} refused in turn, {told} told, {len(wrong)} wrong")
+    untold = "".join(f"{count} asked for again by {asker}, " for asker, count in again.items())
+    print(f"{title}: {allocations} allocations, {len(tried)} refused in turn, {told} told, {untold}{len(wrong)} wrong")
     for n, answer in wrong[:5]:
         print(f"  allocation {n}: {answer}")
     return not wrong and whole[0] == 0 and allocations > 0
@@ -108,9 +162,9 @@ def main():
         small_tables(data, tables)
         blob = subprocess.run([options.dtool, "compile", "stdin"], input=SOURCE, capture_output=True, check=True).stdout
         right = [
-            sweep("compile", [options.dtool, "compile", "--hex", "stdin"], SOURCE, shim, is_tool_right, options),
-            sweep("check", [options.dtool, "check", "stdin"], blob, shim, is_tool_right, options),
-            sweep("cases", [options.dt_cases, tables], b"", shim, is_cases_right, options),
+            sweep("compile", [options.dtool, "compile", "--hex", "stdin"], SOURCE, shim, is_told_by_tool, options),
+            sweep("check", [options.dtool, "check", "stdin"], blob, shim, is_told_by_tool, options),
+            sweep("cases", [options.dt_cases, tables], b"", shim, is_told_by_cases, options),
         ]
     sys.exit(0 if all(right) else 1)
 

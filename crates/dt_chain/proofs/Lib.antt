@@ -6,3 +6,4 @@ pub mod Balanced
 pub mod Covering
 pub mod Reserving
 pub mod Whole
+pub mod Places

@@ -1,3 +1,4 @@
 pub mod JobLemmas
 pub mod Pieces
+pub mod Refusals
 pub mod WordLemmas

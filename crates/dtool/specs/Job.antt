@@ -1,5 +1,5 @@
 -- What a job writes of its inputs, and why it doesn't.
-use Rattle.std.specs.Prelude.{◌≡◌, ◌++◌, ◌∷◌, [], ℕ, List, Bool, Option, length, codes, decimal, if◌then◌else◌}
+use Rattle.std.specs.Prelude.{◌≡◌, ◌++◌, ◌∷◌, [], ℕ, List, Bool, Option, None, length, codes, decimal, if◌then◌else◌}
 use Rattle.std.specs.List.{sum_by}
 use Rattle.hex.specs.Hex.{encode_lower}
 use Rattle.dt_model.specs.Tree.{Reading, nodes_of}
@@ -58,10 +58,12 @@ abbrev pub TakesMemory : Job → Type 0
 TakesMemory Compile = Unit {0}
 TakesMemory Check = ⊥
 
--- why a job's output wasn't written
+-- Why a job's output wasn't written: memory was refused, to a job that takes some, and nothing was written; or the sink failed,
+-- and took a front of it; or the inputs are refused, and nothing was written. Only the last of these may have a place.
 abbrev pub WhyNotPerformed : FaultKind → Option ℕ → Job → Bool → List (List ℕ) → (old new : Option (List ℕ)) (had_failed has_failed : Bool) → Type 0
-WhyNotPerformed NoMemory at job hex inputs old new had_failed has_failed = TakesMemory job × IsUntouched old new had_failed has_failed
+WhyNotPerformed NoMemory at job hex inputs old new had_failed has_failed =
+    TakesMemory job × (at ≡ None) × IsUntouched old new had_failed has_failed
 WhyNotPerformed WriteFault at job hex inputs old new had_failed has_failed =
-    (bytes : List ℕ) × IsWritten job hex inputs bytes × IsCutShort bytes old new has_failed
+    (at ≡ None) × (bytes : List ℕ) × IsWritten job hex inputs bytes × IsCutShort bytes old new has_failed
 WhyNotPerformed kind at job hex inputs old new had_failed has_failed =
     WhyNotMade kind at job inputs × IsUntouched old new had_failed has_failed

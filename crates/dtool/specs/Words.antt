@@ -29,11 +29,13 @@ compile_command = with_rule (with_rule (new_app (codes "compile")) hex_flag) fil
 abbrev pub check_command : App
 check_command = with_rule (new_app (codes "check")) file_word
 
+-- `dtool` without its commands, of which it wants one
+abbrev pub bare : App
+bare = let new = new_app (codes "dtool") in record new { top = record new.top { subcommand_required = true } }
+
 -- `dtool`, with one of its commands
 abbrev pub dtool : App
-dtool =
-    let bare = new_app (codes "dtool") in
-    with_subcommand (with_subcommand (record bare { top = record bare.top { subcommand_required = true } }) compile_command.top) check_command.top
+dtool = with_subcommand (with_subcommand bare compile_command.top) check_command.top
 
 -- a job's command
 abbrev pub command_of : Job → Text

@@ -1,12 +1,13 @@
 //! What a blob holds, in a line.
 
-ghost use Rattle.std.specs.Prelude.{◌≡◌, None, codes, ◌++◌, ◌∷◌, [], List, ℕ, OnOk, IfErr};
+ghost use Rattle.std.specs.Prelude.{◌≡◌, None, false, codes, ◌++◌, ◌∷◌, [], List, ℕ, OnOk, IfErr};
 ghost use Rattle.std.specs.Io.KnownBytes.{Appends};
 ghost use Rattle.dt_names.specs.declared.fault.FaultKind.TheVariants.{WriteFault};
-ghost use Rattle.dtool.specs.Checking.{WhyNotChecked, line_of};
-ghost use Rattle.dtool.specs.Job.{IsCounted};
+ghost use Rattle.dtool.specs.Checking.{line_of};
+ghost use Rattle.dtool.specs.Job.{IsWritten, WhyNotPerformed};
 ghost use Rattle.dtool.specs.Report.{joined};
 ghost use Rattle.dtool.specs.Written.{IsCutShort};
+ghost use Rattle.dtool.specs.declared.job.Job.TheVariants.{Check};
 
 use crate::text::put_pieces;
 use dt_names::{Fault, Sink};
@@ -17,12 +18,13 @@ use itoa::Buffer;
 ///
 /// # Errors
 ///
-/// The first fault of the blob, where nothing is written; and `WriteFault`, where the sink took a front of the line.
+/// The first fault of the blob, where nothing is written; and `WriteFault`, without a place, where the sink took a front of
+/// the line.
 pub fn check<S: Sink>(bytes: &[u8], out: &mut S) -> Result<(), Fault>
-    ensures written { OnOk result ((line : List ℕ) × IsCounted bytes.now line
+    ensures written { OnOk result ((line : List ℕ) × IsWritten Check false (bytes.now ∷ []) line
         × Appends (S.contents out.old) (S.contents out.new) line) }
     ensures sound { OnOk result (S.has_failed out.new ≡ S.has_failed out.old) }
-    ensures refused { IfErr result (λ fault. WhyNotChecked fault.kind fault.at bytes.now
+    ensures refused { IfErr result (λ fault. WhyNotPerformed fault.kind fault.at Check false (bytes.now ∷ [])
         (S.contents out.old) (S.contents out.new) (S.has_failed out.old) (S.has_failed out.new)) }
 {
     let blob = Blob::check(bytes)?;

@@ -1,10 +1,10 @@
 //! A blob of a source, as bytes or as hexadecimal.
 
-ghost use Rattle.std.specs.Prelude.{◌≡◌, List, ℕ, OnOk, IfErr};
+ghost use Rattle.std.specs.Prelude.{◌≡◌, ◌∷◌, [], List, ℕ, OnOk, IfErr};
 ghost use Rattle.std.specs.Io.KnownBytes.{Appends};
-ghost use Rattle.dt_chain.specs.Compiled.{IsCompiled};
-ghost use Rattle.dtool.specs.Compiling.{WhyNotCompiledTo, WhyNotShown};
-ghost use Rattle.dtool.specs.Job.{printed};
+ghost use Rattle.dtool.specs.Compiling.{WhyNotShown};
+ghost use Rattle.dtool.specs.Job.{IsWritten, WhyNotPerformed, printed};
+ghost use Rattle.dtool.specs.declared.job.Job.TheVariants.{Compile};
 
 use dt_names::{Fault, Sink, put_all};
 use std::alloc::Global;
@@ -14,12 +14,12 @@ use std::alloc::Global;
 /// # Errors
 ///
 /// Those of `dt_chain::compile`, and want of memory for the hexadecimal, where nothing is written; and `WriteFault`, where
-/// the sink took a front of what was to be written.
+/// the sink took a front of what was to be written. Neither want of memory nor `WriteFault` has a place.
 pub fn compile<S: Sink>(alloc: Global, hex: bool, text: &[u8], out: &mut S) -> Result<(), Fault>
-    ensures written { OnOk result ((blob : List ℕ) × IsCompiled text.now blob
-        × Appends (S.contents out.old) (S.contents out.new) (printed hex blob)) }
+    ensures written { OnOk result ((bytes : List ℕ) × IsWritten Compile hex (text.now ∷ []) bytes
+        × Appends (S.contents out.old) (S.contents out.new) bytes) }
     ensures sound { OnOk result (S.has_failed out.new ≡ S.has_failed out.old) }
-    ensures refused { IfErr result (λ fault. WhyNotCompiledTo fault.kind fault.at hex text.now
+    ensures refused { IfErr result (λ fault. WhyNotPerformed fault.kind fault.at Compile hex (text.now ∷ [])
         (S.contents out.old) (S.contents out.new) (S.has_failed out.old) (S.has_failed out.new)) }
 {
     let blob = dt_chain::compile(alloc, text)?;
@@ -30,7 +30,7 @@ pub fn compile<S: Sink>(alloc: Global, hex: bool, text: &[u8], out: &mut S) -> R
 fn show<S: Sink>(alloc: Global, hex: bool, blob: &[u8], out: &mut S) -> Result<(), Fault>
     ensures written { OnOk result (Appends (S.contents out.old) (S.contents out.new) (printed hex blob.now)) }
     ensures sound { OnOk result (S.has_failed out.new ≡ S.has_failed out.old) }
-    ensures refused { IfErr result (λ fault. WhyNotShown fault.kind (printed hex blob.now)
+    ensures refused { IfErr result (λ fault. WhyNotShown fault.kind fault.at (printed hex blob.now)
         (S.contents out.old) (S.contents out.new) (S.has_failed out.old) (S.has_failed out.new)) }
 {
     if !hex {

@@ -23,7 +23,7 @@ pub enum Job {
 ///
 /// # Errors
 ///
-/// A refusal names the input, counted from 0. Want of memory for the hexadecimal and a sink that fails are of input 0.
+/// A refusal names the input, counted from 0. Want of memory and a sink that fails are of input 0, without a place.
 /// Nothing is written but at `WriteFault`, where the sink took a front of what was to be written.
 pub fn perform<S: Sink>(
     alloc: Global,

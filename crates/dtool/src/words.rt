@@ -1,9 +1,9 @@
 //! The words of the command line.
 
-ghost use Rattle.std.specs.Prelude.{◌≡◌, false, map, IfOk, IfErr, MatchOption};
+ghost use Rattle.std.specs.Prelude.{◌≡◌, false, List, map, IfOk, IfErr, MatchOption};
 ghost use Rattle.clap.specs.declared.builder.command.Command.{out-Command};
-ghost use Rattle.clap.specs.Words.{app_of, rule_of, subcommand_rows_of};
-ghost use Rattle.dtool.specs.Words.{IsLine, Names, NamesNone, Tells, TellsUnread, WhyNoLine, dtool, check_command, compile_command, file_word};
+ghost use Rattle.clap.specs.Words.{Text, app_of, rule_of, subcommand_of, subcommand_rows_of, with_subcommand};
+ghost use Rattle.dtool.specs.Words.{IsLine, Names, NamesNone, Tells, TellsUnread, WhyNoLine, bare, dtool, check_command, compile_command, file_word, hex_flag};
 ghost use Rattle.dtool.specs.declared.words.LineFault.TheVariants.{Memory};
 
 use crate::job::Job;
@@ -89,16 +89,32 @@ pub fn parse<'a, S: AsStr>(alloc: Global, words: &'a [S]) -> Result<Line<'a>, Li
     ensures refused { IfErr result (WhyNoLine (map S.text words.entry.now)) }
 {
     let mut command = tool(alloc)?;
+    asked(&mut command, words)
+}
+
+/// What the words ask of the tool's command.
+fn asked<'a, S: AsStr>(command: &mut Command<'a>, words: &'a [S]) -> Result<Line<'a>, LineFault>
+    requires { app_of command.old ≡ dtool }
+    ensures line { IfOk result (IsLine (map S.text words.entry.now)) }
+    ensures refused { IfErr result (WhyNoLine (map S.text words.entry.now)) }
+{
     let matches = command.try_get_matches_from_mut(words)?;
     match line_in(&matches) {
         Some(line) => Ok(line),
-        None => {
-            let error = command.error(
-                ErrorKind::MissingSubcommand,
-                "a command and a file are wanted",
-            )?;
-            Err(LineFault::Words(error))
-        }
+        None => Err(no_line(command)),
+    }
+}
+
+/// That a command or a file is missing, in clap's words.
+fn no_line(command: &mut Command<'_>) -> LineFault
+    ensures { (words : List Text) → NamesNone (subcommand_of dtool words) → WhyNoLine words result }
+{
+    match command.error(
+        ErrorKind::MissingSubcommand,
+        "a command and a file are wanted",
+    ) {
+        Ok(error) => LineFault::Words(error),
+        Err(_) => LineFault::Memory,
     }
 }
 
@@ -129,18 +145,25 @@ fn file<'a>(alloc: Global, help: &'a str) -> Arg<'a>
     Arg::new(alloc, "FILE").required(true).help(help)
 }
 
+/// The flag for hexadecimal.
+fn flag<'a>(alloc: Global) -> Arg<'a>
+    ensures rule { rule_of result ≡ hex_flag }
+    ensures own { result.global ≡ false }
+{
+    Arg::new(alloc, "hex")
+        .long("hex")
+        .action(ArgAction::SetTrue)
+        .help("Write the blob as lower-case hexadecimal and a line feed")
+}
+
 /// `compile [--hex] FILE`.
 fn compile<'a>(alloc: Global) -> Result<Command<'a>, AllocError>
     ensures shape { IfOk result (λ command. app_of command ≡ compile_command) }
     ensures own { IfOk result (λ command. (out-Command command).has_globals ≡ false) }
 {
-    let hex = Arg::new(alloc, "hex")
-        .long("hex")
-        .action(ArgAction::SetTrue)
-        .help("Write the blob as lower-case hexadecimal and a line feed");
     Command::new(alloc, "compile")
         .about("Makes a blob of a devicetree source")
-        .arg(hex)?
+        .arg(flag(alloc))?
         .arg(file(alloc, "The source; the word stdin is standard input"))
 }
 
@@ -154,32 +177,30 @@ fn check<'a>(alloc: Global) -> Result<Command<'a>, AllocError>
         .arg(file(alloc, "The blob; the word stdin is standard input"))
 }
 
-/// The commands that the tool has.
-fn tool<'a>(alloc: Global) -> Result<Command<'a>, AllocError>
-    ensures { IfOk result (λ command. app_of command ≡ dtool) }
-{
-    let compile = compile(alloc)?;
-    match check(alloc) {
-        Ok(check) => with_commands(alloc, compile, check),
-        Err(error) => Err(error),
-    }
-}
-
-/// The tool with these commands.
-fn with_commands<'a>(
-    alloc: Global,
-    compile: Command<'a>,
-    check: Command<'a>,
-) -> Result<Command<'a>, AllocError>
-    requires compile { app_of compile ≡ compile_command }
-    requires compile_own { (out-Command compile).has_globals ≡ false }
-    requires check { app_of check ≡ check_command }
-    requires check_own { (out-Command check).has_globals ≡ false }
-    ensures { IfOk result (λ command. app_of command ≡ dtool) }
+/// The tool without its commands.
+fn without_commands<'a>(alloc: Global) -> Command<'a>
+    ensures { app_of result ≡ bare }
 {
     Command::new(alloc, "dtool")
         .about("A tool for devicetrees")
         .subcommand_required(true)
-        .subcommand(compile)?
-        .subcommand(check)
+}
+
+/// The tool with its first command.
+fn with_compile<'a>(alloc: Global) -> Result<Command<'a>, AllocError>
+    ensures { IfOk result (λ command. app_of command ≡ with_subcommand bare compile_command.top) }
+{
+    let compile = compile(alloc)?;
+    without_commands(alloc).subcommand(compile)
+}
+
+/// The commands that the tool has.
+fn tool<'a>(alloc: Global) -> Result<Command<'a>, AllocError>
+    ensures { IfOk result (λ command. app_of command ≡ dtool) }
+{
+    let tool = with_compile(alloc)?;
+    match check(alloc) {
+        Ok(check) => tool.subcommand(check),
+        Err(error) => Err(error),
+    }
 }
