@@ -12,3 +12,10 @@ mod samples;
 mod sources;
 
 pub use blobs::{blob_has_no_fault, first_fault_is_one};
+pub use joining::joining_is_merging;
+pub use laws::{applied_is_valid, applying_is_merging, merged_is_a_meaning, sites_are_one};
+pub use lists::{in_turn_is_fold, least_numbers_are_one};
+pub use sources::{
+    fragment_is_new, label_is_one_nodes, order_is_one, overlay_source_is_an_overlay,
+    second_in_one_body, source_is_a_meaning,
+};

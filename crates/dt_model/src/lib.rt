@@ -4,3 +4,5 @@
 
 mod laws;
 mod rows;
+
+pub use laws::one_reading;
