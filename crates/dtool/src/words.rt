@@ -201,6 +201,10 @@ fn tool<'a>(alloc: Global) -> Result<Command<'a>, AllocError>
     let tool = with_compile(alloc)?;
     match check(alloc) {
         Ok(check) => tool.subcommand(check),
-        Err(error) => Err(error),
+        Err(error) => {
+            // Let go of by hand: what goes at an exit by itself is proved there field by field.
+            drop(tool);
+            Err(error)
+        }
     }
 }
