@@ -1,5 +1,5 @@
 -- Why a job's output isn't written.
-use Rattle.std.proofs.Common.{◌≡◌, ℕ, List, [], ◌∷◌, Bool, false, Option, None, Result, Ok, Err, IfErr, refl, sym, subst}
+use Rattle.std.proofs.Common.{◌≡◌, ℕ, List, [], ◌∷◌, Bool, false, Option, Result, Ok, Err, IfErr, refl, sym, subst}
 use Rattle.dt_model.specs.Checks as checks
 use Rattle.dt_model.specs.Checks.{BlobFault, IsFirstFault}
 use Rattle.dt_names.specs.declared.fault.Fault.{Fault}
@@ -9,8 +9,8 @@ use Rattle.dt_read.specs.Kinds.{kind_of}
 use Rattle.dt_chain.specs.Compiled.{IsCompiled, WhyNotCompiled, IsCompilerFault}
 use Rattle.dt_chain.proofs.Places.{memory_unplaced}
 use Rattle.dtool.specs.Compiling.{WhyNotShown}
-use Rattle.dtool.specs.Job.{IsCounted, WhyNotPerformed, printed}
-use Rattle.dtool.specs.Written.{IsUntouched, IsCutShort}
+use Rattle.dtool.specs.Job.{WhyNotPerformed, printed}
+use Rattle.dtool.specs.Written.{IsUntouched}
 use Rattle.dtool.specs.declared.job.Job.TheVariants.{Compile, Check}
 
 module _ (old new : Option (List ℕ)) (had_failed has_failed : Bool) where
@@ -44,15 +44,3 @@ module _ (old new : Option (List ℕ)) (had_failed has_failed : Bool) where
       WhyNotPerformed kind at Check false (blob ∷ []) old new had_failed has_failed
   no_blob f kind at blob is first same =
       subst (λ (k : FaultKind). WhyNotPerformed k at Check false (blob ∷ []) old new had_failed has_failed) (sym is) (of_fault f at blob first same)
-
-  pub line_cut : (kind : FaultKind) (at : Option ℕ) (blob line : List ℕ) → kind ≡ WriteFault → at ≡ None → IsCounted blob line → IsCutShort line old new has_failed →
-      WhyNotPerformed kind at Check false (blob ∷ []) old new had_failed has_failed
-  line_cut kind at blob line is nowhere counted cut =
-      subst (λ (k : FaultKind). WhyNotPerformed k at Check false (blob ∷ []) old new had_failed has_failed) (sym is) (nowhere, line, counted, cut)
-
-  -- no blob is written, so it is one whether it would be as hexadecimal
-  pub hex_aside : (kind : FaultKind) (at : Option ℕ) (hex : Bool) (blob : List ℕ) → WhyNotPerformed kind at Check false (blob ∷ []) old new had_failed has_failed →
-      WhyNotPerformed kind at Check hex (blob ∷ []) old new had_failed has_failed
-  hex_aside NoMemory at hex blob why = why
-  hex_aside WriteFault at hex blob why = why
-  hex_aside _ at hex blob why = why
