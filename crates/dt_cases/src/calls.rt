@@ -8,12 +8,13 @@ use std::alloc::Global;
 pub fn call(alloc: Global, call: &str, input: &[u8]) -> Result<Answer, Stop> {
     let (name, words) = call.split_once(' ').unwrap_or((call, ""));
     match name {
-        "node-name" | "property-name" | "label" | "path" | "path-text" | "push" => {
+        "node-name" | "property-name" | "label" | "node-path" | "path" | "path-text" | "push" => {
             names::call(alloc, name, words, input)
         }
         "be32" | "be64" | "text-at" | "put32" | "fit" => {
             numbers::call(alloc, name, words, input)
         }
+        "phandle" => numbers::phandle(alloc, input),
         "tokens" | "token-count" | "text" => tokens::call(alloc, name, input),
         "expression" => expressions::call(alloc, input),
         "parse" | "item-count" => grammar::call(alloc, name, input),

@@ -1,16 +1,18 @@
 //! Names, labels and paths.
 
 use crate::answer::{Answer, Stop, told};
-use dt_names::{Label, NodeName, Out, Path, PropName};
+use dt_names::{Label, NodeName, NodePath, Out, Path, PropName};
 use std::alloc::Global;
 
 /// `node-name`, `property-name` and `label` tell whether bytes are one; `path` tells how many names a path has, and each of
-/// them; `path-text` gives its text, and `push NAME` that of the path with a name more.
+/// them; `path-text` gives its text, and `push NAME` that of the path with a name more; `node-path` tells whether bytes are the
+/// text of a path of any length.
 pub fn call(alloc: Global, name: &str, words: &str, input: &[u8]) -> Result<Answer, Stop> {
     match name {
         "node-name" => is_itself(alloc, NodeName::new(input)?.as_bytes(), input),
         "property-name" => is_itself(alloc, PropName::new(input)?.as_bytes(), input),
         "label" => is_itself(alloc, Label::new(input)?.as_bytes(), input),
+        "node-path" => node_path(alloc, input),
         "path" => names_of(alloc, &Path::parse(alloc, input)?),
         "path-text" => text_of(alloc, &Path::parse(alloc, input)?),
         _ => pushed(alloc, Path::parse(alloc, input)?, words.as_bytes()),
@@ -19,6 +21,13 @@ pub fn call(alloc: Global, name: &str, words: &str, input: &[u8]) -> Result<Answ
 
 fn is_itself(alloc: Global, found: &[u8], input: &[u8]) -> Result<Answer, Stop> {
     told(alloc, if found == input { "itself" } else { "another" })
+}
+
+fn node_path(alloc: Global, input: &[u8]) -> Result<Answer, Stop> {
+    match NodePath::new(input) {
+        Some(path) => is_itself(alloc, path.text(), input),
+        None => told(alloc, "none"),
+    }
 }
 
 /// How many names a path has, and each in a line.

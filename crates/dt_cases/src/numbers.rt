@@ -3,6 +3,7 @@
 use crate::answer::{Answer, Stop, bytes, told};
 use dt_bytes::{be32, be64, put32, text_at};
 use dt_expr::fit;
+use dt_names::phandle_of;
 use std::alloc::Global;
 
 /// A number: decimal, hexadecimal behind `0x`, or behind `-` what is added to it to give 0, modulo 2^64.
@@ -42,6 +43,11 @@ pub fn call(alloc: Global, name: &str, words: &str, input: &[u8]) -> Result<Answ
         "put32" => put(alloc, input, first as usize, second),
         _ => fitted(alloc, first, second),
     }
+}
+
+/// The number that a value of the property `phandle` gives its node.
+pub fn phandle(alloc: Global, value: &[u8]) -> Result<Answer, Stop> {
+    found(alloc, phandle_of(value).map(u64::from))
 }
 
 fn found(alloc: Global, number: Option<u64>) -> Result<Answer, Stop> {
