@@ -30,10 +30,6 @@ pub record IsCompiled (text blob : List ℕ) : Type 0 where
   pub represents : Represents tree meaning number
   pub boot_cpu : tree.boot_cpu ≡ 0
 
--- nothing that the text says has a meaning
-abbrev pub MeansNothing : List ℕ → Type 0
-MeansNothing text = (m : Meaning) → TextMeans text m → ⊥
-
 -- a fault without a place
 abbrev pub told : FaultKind → Fault
 told kind = record { kind = kind; at = None }
