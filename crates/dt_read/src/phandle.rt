@@ -27,10 +27,12 @@ fn is_phandle(value: &[u8]) -> bool
 pub fn are_phandles(structure: &Structure, seed: u64) -> bool
     ensures { IsTrue result ↔ ArePhandles (phandles_in (marks_of structure.now ++ last_mark ∷ [])) }
 {
+    let mut count = 0usize;
     for key in Keys::of(structure, Wanted::Phandles) {
         if !is_phandle(key.bytes) {
             return false;
         }
+        count += 1;
     }
-    are_distinct(structure, Wanted::Phandles, seed)
+    are_distinct(structure, Wanted::Phandles, seed, count)
 }
