@@ -1,13 +1,13 @@
 -- The hashes of keys, and keys that differ from those before them.
-use Rattle.std.specs.Prelude.{◌≢◌, ℕ, List, [], ◌∷◌, ◌++◌, take, fold}
+use Rattle.std.specs.Prelude.{◌≢◌, ℕ, List, [], ◌∷◌, ◌++◌, take, fold, bit_xor}
 use Rattle.std.specs.List.{AllByRecursion}
 use Rattle.std.specs.Hash as fed
 use Rattle.std.specs.Hash.DefaultHasher as sip
 use Rattle.dt_read.specs.Keys.{Key, number_of}
 
--- SipHash of a seed and the key
+-- SipHash of the key, behind a seed
 unfoldable pub hash_of : ℕ → Key → ℕ
-hash_of seed k = sip.finish (fold sip.write sip.initial (fed.u64 seed ++ (fed.usize (number_of k.sort) ++ (fed.usize k.owner ++ k.bytes ∷ []))))
+hash_of seed k = sip.finish (fold sip.write sip.initial (fed.u64 (bit_xor seed k.owner) ++ (fed.usize (number_of k.sort) ++ k.bytes ∷ [])))
 
 -- the keys before that place differ from the key
 abbrev pub IsNewIn : List Key → ℕ → Key → Type 0

@@ -25,9 +25,8 @@ fn hashed(key: &Key, seed: u64) -> u64
     ensures { result ≡ hash_of seed (said key.now) }
 {
     let mut hasher = DefaultHasher::new();
-    hasher.write_u64(seed);
+    hasher.write_u64(seed ^ key.owner as u64);
     key.sort.hash(&mut hasher);
-    hasher.write_usize(key.owner);
     hasher.write(key.bytes);
     hasher.finish()
 }
@@ -86,11 +85,11 @@ fn is_distinct_class(
     true
 }
 
-/// Whether the keys of a tree differ. The seed decides only how long it takes.
-pub fn are_distinct(structure: &Structure, wanted: Wanted, seed: u64) -> bool
+/// Whether the keys of a tree differ. The seed, and how many keys there seem to be, decide only how long it takes.
+pub fn are_distinct(structure: &Structure, wanted: Wanted, seed: u64, count: usize) -> bool
     ensures { IsTrue result ↔ AreDistinct (keys_of wanted structure.now) }
 {
-    let classes = (Keys::of(structure, wanted).count() / KEYS_OF_A_CLASS + 1) as u64;
+    let classes = (count / KEYS_OF_A_CLASS + 1) as u64;
     let mut words = [0u64; WORDS];
     for class in 0..classes {
         if !is_distinct_class(structure, wanted, seed, class, classes, &mut words) {
@@ -105,5 +104,6 @@ pub fn has_distinct_names(structure: &Structure, seed: u64) -> bool
     requires { HasRisingPlaces structure.now }
     ensures { IsTrue result ↔ HasDistinctNames structure.now }
 {
-    are_distinct(structure, Wanted::Names, seed)
+    let count = Keys::of(structure, Wanted::Names).count();
+    are_distinct(structure, Wanted::Names, seed, count)
 }

@@ -13,10 +13,12 @@ use dt_names::phandle_of;
 pub fn are_phandles(structure: &Structure, seed: u64) -> bool
     ensures { IsTrue result ↔ ArePhandles (phandles_in (marks_of structure.now ++ last_mark ∷ [])) }
 {
+    let mut count = 0usize;
     for key in Keys::of(structure, Wanted::Phandles) {
         if phandle_of(key.bytes).is_none() {
             return false;
         }
+        count += 1;
     }
-    are_distinct(structure, Wanted::Phandles, seed)
+    are_distinct(structure, Wanted::Phandles, seed, count)
 }

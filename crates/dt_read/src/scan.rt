@@ -54,10 +54,10 @@ impl Place {
     }
 
     // Where the next token stands, if this one may stand here.
-    fn after(self, token: Token) -> Option<Place>
-        ensures { option_map position_of result ≡ lead (view token.entry) (position_of self) }
+    fn after(self, token: &Token) -> Option<Place>
+        ensures { option_map position_of result ≡ lead (view token.now) (position_of self) }
     {
-        match token {
+        match *token {
             Token::BeginNode(name) => {
                 if self.is_behind() || !self.may_be_called(name) || !self.has_room() {
                     return None;
@@ -97,9 +97,14 @@ fn step(strings: &[u8], place: Place, rest: &[u8]) -> Option<(Place, usize)>
     ensures { MatchOption result (IsStuck strings.now (position_of place) rest.now)
         (λ r. Leads strings.now (position_of place) rest.now (position_of r.0) r.1) }
 {
-    let (token, len) = token_at(strings, rest)?;
-    let next = place.after(token)?;
-    Some((next, len))
+    let found = token_at(strings, rest);
+    let Some((token, len)) = &found else {
+        return None;
+    };
+    match place.after(token) {
+        Some(next) => Some((next, *len)),
+        None => None,
+    }
 }
 
 /// The first token that is wrong: so many bytes behind the front of the structure block, and what is wrong with it.

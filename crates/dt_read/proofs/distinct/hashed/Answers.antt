@@ -1,4 +1,4 @@
-use Rattle.std.proofs.Common.{◌≡◌, ℕ, [], ◌∷◌, ◌++◌, refl, ap, ◌∙◌}
+use Rattle.std.proofs.Common.{◌≡◌, ℕ, [], ◌∷◌, ◌++◌, bit_xor, refl, ap, ◌∙◌}
 use Rattle.std.specs.Hash as fed
 use Rattle.std.specs.Hash.DefaultHasher as sip
 use Rattle.std.specs.List.{fold}
@@ -17,7 +17,7 @@ number_is Property = refl
 number_is Phandle = refl
 
 abbrev feed : ℕ → Key → ℕ → fed.HashWrites
-feed seed k n = fed.u64 seed ++ (fed.usize n ++ (fed.usize k.owner ++ k.bytes.now ∷ []))
+feed seed k n = fed.u64 (bit_xor seed k.owner) ++ (fed.usize n ++ k.bytes.now ∷ [])
 
 pub returns : goal.returns
 unfolding hash_of
@@ -26,8 +26,7 @@ returns c =
     let tag = tag_of sort.the_type k.sort in
     c.finish.ensures
     ∙ ap sip.finish c.write.ensures
-    ∙ ap (λ s. sip.finish (sip.write s k.bytes.now)) c.write_usize.ensures
-    ∙ ap (λ s. sip.finish (fold sip.write s (fed.usize k.owner ++ k.bytes.now ∷ []))) c.hash.ensures
-    ∙ ap (λ s. sip.finish (fold sip.write s (fed.usize tag ++ (fed.usize k.owner ++ k.bytes.now ∷ [])))) c.write_u64.ensures
+    ∙ ap (λ s. sip.finish (sip.write s k.bytes.now)) c.hash.ensures
+    ∙ ap (λ s. sip.finish (fold sip.write s (fed.usize tag ++ k.bytes.now ∷ []))) c.write_u64.ensures
     ∙ ap (λ s. sip.finish (fold sip.write s (feed c.args.seed k tag))) c.new-hasher.ensures
     ∙ ap (λ n. sip.finish (fold sip.write sip.initial (feed c.args.seed k n))) (number_is k.sort)
