@@ -82,11 +82,10 @@ impl<'a> Blob<'a> {
             Ok(structure) => structure,
             Err(bad) => return Err(placed(bad, blocks.at)),
         };
-        let seed = structure.seed();
-        if !has_distinct_names(&structure, seed) {
+        if !has_distinct_names(&structure) {
             return Err(Fault::of(FaultKind::Duplicate));
         }
-        if !are_phandles(&structure, seed) {
+        if !are_phandles(&structure) {
             return Err(Fault::of(FaultKind::BlobPhandle));
         }
         Ok(Blob {

@@ -28,4 +28,3 @@ pub use dt_names::NodeId;
 pub use laws::one_answer;
 pub use pairs::Reservations;
 pub use walk::{Children, Props};
-
