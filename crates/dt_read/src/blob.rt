@@ -82,10 +82,11 @@ impl<'a> Blob<'a> {
             Ok(structure) => structure,
             Err(bad) => return Err(placed(bad, blocks.at)),
         };
-        if !has_distinct_names(&structure) {
+        let seed = structure.seed();
+        if !has_distinct_names(&structure, seed) {
             return Err(Fault::of(FaultKind::Duplicate));
         }
-        if !are_phandles(&structure) {
+        if !are_phandles(&structure, seed) {
             return Err(Fault::of(FaultKind::BlobPhandle));
         }
         Ok(Blob {

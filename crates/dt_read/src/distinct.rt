@@ -21,17 +21,7 @@ const WORDS: usize = 16_384;
 // As many keys as the table tells apart with few errors.
 const KEYS_OF_A_CLASS: usize = 16_384;
 
-/// What is known of keys before they are compared.
-#[derive(Clone, Copy)]
-pub struct Survey {
-    /// How many there are.
-    pub count: usize,
-    /// A hash of them all. It decides only how long it takes to compare them.
-    pub seed: u64,
-}
-
-/// The hash of a key behind a seed.
-pub fn hashed(key: &Key, seed: u64) -> u64
+fn hashed(key: &Key, seed: u64) -> u64
     ensures { result ≡ hash_of seed (said key.now) }
 {
     let mut hasher = DefaultHasher::new();
@@ -95,31 +85,18 @@ fn is_distinct_class(
     true
 }
 
-/// How many keys a tree has, and a hash of them all: keys that are made for one seed make another.
-fn survey_of(structure: &Structure, wanted: Wanted) -> Survey
-    ensures { result.count ≡ length (keys_of wanted structure.now) }
-{
-    let mut count = 0usize;
-    let mut seed = 0u64;
-    for key in Keys::of(structure, wanted) {
-        seed = hashed(&key, seed);
-        count += 1;
-    }
-    Survey { count, seed }
-}
-
-/// Whether the keys of a tree differ.
-pub fn are_distinct(structure: &Structure, wanted: Wanted, keys: Survey) -> bool
-    requires { keys.count ≡ length (keys_of wanted structure.now) }
+/// Whether the keys of a tree, of which there are so many, differ. The seed decides only how long it takes.
+pub fn are_distinct(structure: &Structure, wanted: Wanted, seed: u64, count: usize) -> bool
+    requires { count ≡ length (keys_of wanted structure.now) }
     ensures { IsTrue result ↔ AreDistinct (keys_of wanted structure.now) }
 {
-    if keys.count < 2 {
+    if count < 2 {
         return true;
     }
-    let classes = (keys.count / KEYS_OF_A_CLASS + 1) as u64;
+    let classes = (count / KEYS_OF_A_CLASS + 1) as u64;
     let mut words = [0u64; WORDS];
     for class in 0..classes {
-        if !is_distinct_class(structure, wanted, keys.seed, class, classes, &mut words) {
+        if !is_distinct_class(structure, wanted, seed, class, classes, &mut words) {
             return false;
         }
     }
@@ -127,10 +104,10 @@ pub fn are_distinct(structure: &Structure, wanted: Wanted, keys: Survey) -> bool
 }
 
 /// Whether the names differ in each node.
-pub fn has_distinct_names(structure: &Structure) -> bool
+pub fn has_distinct_names(structure: &Structure, seed: u64) -> bool
     requires { HasRisingPlaces structure.now }
     ensures { IsTrue result ↔ HasDistinctNames structure.now }
 {
-    let keys = survey_of(structure, Wanted::Names);
-    are_distinct(structure, Wanted::Names, keys)
+    let count = Keys::of(structure, Wanted::Names).count();
+    are_distinct(structure, Wanted::Names, seed, count)
 }

@@ -4,23 +4,21 @@ ghost use Rattle.std.specs.Prelude.{◌↔◌, ◌++◌, ◌∷◌, [], IsTrue};
 ghost use Rattle.dt_read.specs.Marks.{last_mark, marks_of};
 ghost use Rattle.dt_read.specs.Phandle.{phandles_in, ArePhandles};
 
-use crate::distinct::{Survey, are_distinct, hashed};
+use crate::distinct::are_distinct;
 use crate::keys::{Keys, Wanted};
 use crate::structure::Structure;
 use dt_names::phandle_of;
 
 /// Whether the phandles of a tree are right.
-pub fn are_phandles(structure: &Structure) -> bool
+pub fn are_phandles(structure: &Structure, seed: u64) -> bool
     ensures { IsTrue result ↔ ArePhandles (phandles_in (marks_of structure.now ++ last_mark ∷ [])) }
 {
     let mut count = 0usize;
-    let mut seed = 0u64;
     for key in Keys::of(structure, Wanted::Phandles) {
         if phandle_of(key.bytes).is_none() {
             return false;
         }
-        seed = hashed(&key, seed);
         count += 1;
     }
-    are_distinct(structure, Wanted::Phandles, Survey { count, seed })
+    are_distinct(structure, Wanted::Phandles, seed, count)
 }

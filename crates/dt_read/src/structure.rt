@@ -7,6 +7,7 @@ use crate::cursor::{Cursor, skip_properties};
 use crate::scan::{BadToken, first_bad_token};
 use crate::token::Token;
 use crate::walk::{Props, Siblings, value_in};
+use std::hash::{DefaultHasher, Hasher};
 use std::marker::Model;
 
 /// A structure block that spells a tree. It is seen as that tree.
@@ -71,6 +72,14 @@ impl<'a> Structure<'a> {
         ensures few { length result < 2 ^ 32 }
     {
         Cursor::new(self.strings, self.at, self.block)
+    }
+
+    /// A hash of all bytes that names come from. Whoever makes names for one seed changes it by them.
+    pub fn seed(&self) -> u64 {
+        let mut hasher = DefaultHasher::new();
+        hasher.write(self.block);
+        hasher.write(self.strings);
+        hasher.finish()
     }
 
     /// The root.

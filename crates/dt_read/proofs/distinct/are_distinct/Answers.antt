@@ -11,9 +11,9 @@ few_distinct [] l = tt
 few_distinct (a ∷ []) l = (tt, tt)
 few_distinct (a ∷ b ∷ keys) l = absurd (omega (arith, l))
 
-pub returns-then-keys-lt2 : goal.returns-then-keys-lt2
-returns-then-keys-lt2 c =
-    let few : length (keys_of c.args.wanted c.args.structure.now) < 2 = omega (arith, c.requires, c.if-keys-lt2.true) in
+pub returns-then-count-lt2 : goal.returns-then-count-lt2
+returns-then-count-lt2 c =
+    let few : length (keys_of c.args.wanted c.args.structure.now) < 2 = omega (arith, c.requires, c.if-count-lt2.true) in
     (λ _. few_distinct _ few, λ d. refl)
 
 pub returns : goal.returns

@@ -10,4 +10,4 @@ pub record SoFar (all : List Key) (seed classes class : ℕ) (words : List ℕ) 
   pub new : (i : ℕ) (k : Key) → slice_get all i ≡ Some k → hash_of seed k % classes < class → IsNewIn all i k
 
 abbrev pub invariant-loop-class : goal.invariant-loop-class
-invariant-loop-class l = SoFar (keys_of l.wanted l.structure) l.keys.seed l.classes l.class l.words
+invariant-loop-class l = SoFar (keys_of l.wanted l.structure) l.seed l.classes l.class l.words
