@@ -85,14 +85,10 @@ fn is_distinct_class(
     true
 }
 
-/// Whether the keys of a tree, of which there are so many, differ. The seed decides only how long it takes.
+/// Whether the keys of a tree differ. The seed, and how many keys there seem to be, decide only how long it takes.
 pub fn are_distinct(structure: &Structure, wanted: Wanted, seed: u64, count: usize) -> bool
-    requires { count ≡ length (keys_of wanted structure.now) }
     ensures { IsTrue result ↔ AreDistinct (keys_of wanted structure.now) }
 {
-    if count < 2 {
-        return true;
-    }
     let classes = (count / KEYS_OF_A_CLASS + 1) as u64;
     let mut words = [0u64; WORDS];
     for class in 0..classes {

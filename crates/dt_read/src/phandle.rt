@@ -20,5 +20,8 @@ pub fn are_phandles(structure: &Structure, seed: u64) -> bool
         }
         count += 1;
     }
+    if count < 2 {
+        return true;
+    }
     are_distinct(structure, Wanted::Phandles, seed, count)
 }
