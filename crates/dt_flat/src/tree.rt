@@ -1,12 +1,11 @@
 //! Ordered trees with byte values.
 
 ghost use Rattle.std.specs.Prelude.{◌≡◌, ◌<◌, ◌++◌, ◌∷◌, [], ℕ, None, length, All, IsOk, OnOk, OnErr, IfOk, IfErr, option_map, codes};
-ghost use Rattle.dt_model.specs.Limits.{most_names, most_nodes};
 ghost use Rattle.dt_model.specs.Tree.{value_of};
 ghost use Rattle.dt_model.specs.Valid.{IsValid, IsWithinLimits};
 ghost use Rattle.dt_flat.specs.Numbers.{holder, given};
-ghost use Rattle.dt_flat.specs.Refusals.{WhyNoNode, WhyNotReserved, WhyNotSet, MaySet};
-ghost use Rattle.dt_flat.specs.Arena.{Arena, IsRooted, root_alone, children, named_children, child_of, with_child, with_property, properties, name_of, depth_of, phandle_at, reading};
+ghost use Rattle.dt_flat.specs.Refusals.{WhyNoNode, WhyNotReserved, WhyNotSet, MayAdd, MaySet};
+ghost use Rattle.dt_flat.specs.Arena.{Arena, IsRooted, root_alone, children, with_child, with_property, properties, name_of, phandle_at, reading};
 
 use crate::NodeId;
 use crate::children::Children;
@@ -112,8 +111,7 @@ impl FlatTree {
         requires { parent < length self.old.slots }
         ensures ok { IfOk result (λ node. (node ≡ length self.old.slots)
             × (self.new ≡ record self.old { slots = with_child self.old.slots parent name.now })) }
-        ensures fresh { IsOk result → child_of (named_children self.old.slots parent) name.now ≡ None }
-        ensures room { IsOk result → (length self.old.slots < most_nodes) × (depth_of self.old.slots parent < most_names) }
+        ensures may { IsOk result → MayAdd self.old.slots parent name.now }
         ensures err { OnErr result (self.new ≡ self.old) }
         ensures refused { IfErr result
             (λ fault. WhyNoNode fault.kind self.old.slots parent name.now × (fault.at ≡ None)) }

@@ -1,13 +1,14 @@
 -- Names that are names, and places that are places, by tests.
 use Rattle.std.proofs.Common.{◌≡◌, ℕ, ◌<◌, ◌≤◌, ◌==◌, Bool, true, false, not, ◌&&◌, ◌||◌, List, length, codes, arith, IsTrue}
-use Rattle.std.specs.Prelude.{nat_le, nat_lt, nat_eq, slice_index, count_by}
+use Rattle.std.specs.Prelude.{nat_le, nat_lt, slice_index}
 use Rattle.std.specs.List.{AllByRecursion, list_all}
 use Rattle.std.specs.Str.{bytes_eq}
 use Rattle.std.proofs.lemmas.Bool.Decides.{nat_tests}
 use Rattle.std.proofs.lemmas.List.Elements.{All-from_recursion}
-use Rattle.dt_model.specs.Names.{Name, is_letter, is_digit, is_name_byte, IsPropertyName, IsNodeName, IsLabel, is_property_name, is_node_name}
+use Rattle.dt_model.specs.Names.{Name, is_letter, is_digit, IsPropertyName, IsNodeName, IsLabel, is_property_name, is_node_name}
 use Rattle.dt_model.specs.Path.{Path}
 use Rattle.dt_model.specs.Source.{Reference, by_label, by_path, IsReference, Part, one, number_of, text_of, IsPart, Place, root, block, delete_node, child, label, property, delete_property, delete_child, close, IsPlace}
+use Rattle.dt_model.proofs.NameTests.{node_tests, property_tests}
 use Rattle.dt_laws.proofs.Tests.{and_left, and_right, not_true, bytes_eq_differ}
 use Rattle.dt_laws.proofs.CheckedWords.{each_by}
 
@@ -17,37 +18,11 @@ below m n h = grind (arith, nat_tests)
 pub at_most : (m n : ℕ) → nat_le m n ≡ true → m ≤ n
 at_most m n h = grind (arith, nat_tests)
 
-pub other_number : (m n : ℕ) → nat_eq m n ≡ false → m ≡ n → ⊥
-other_number m n h k = grind (arith, nat_tests)
-
 pub property_name : (x : Name) → is_property_name x ≡ true → IsPropertyName x
-property_name x h =
-    let front = and_left (nat_lt 0 (length x) && nat_le (length x) 255) (list_all is_name_byte x) h in
-    record {
-      not_empty = below 0 (length x) (and_left (nat_lt 0 (length x)) (nat_le (length x) 255) front);
-      short = at_most (length x) 255 (and_right (nat_lt 0 (length x)) (nat_le (length x) 255) front);
-      allowed = All-from_recursion (λ b. IsTrue (is_name_byte b)) x
-          (each_by is_name_byte (λ b. IsTrue (is_name_byte b)) (λ b k. k) x (and_right (nat_lt 0 (length x) && nat_le (length x) 255) (list_all is_name_byte x) h));
-    }
+property_name x = (property_tests x).0
 
 pub node_name : (x : Name) → is_node_name x ≡ true → IsNodeName x
-node_name x h =
-    let e : Bool = nat_lt 0 (length x) in
-    let s : Bool = nat_le (length x) 255 in
-    let a : Bool = list_all (λ b. is_name_byte b || (b == 64)) x in
-    let o : Bool = nat_le (count_by (λ b. b == 64) x) 1 in
-    let f : Bool = not (slice_index x 0 == 64) in
-    let four = and_left (e && s && a && o) f h in
-    let three = and_left (e && s && a) o four in
-    let two = and_left (e && s) a three in
-    record {
-      not_empty = below 0 (length x) (and_left e s two);
-      short = at_most (length x) 255 (and_right e s two);
-      allowed = All-from_recursion (λ b. IsTrue (is_name_byte b || (b == 64))) x
-          (each_by (λ b. is_name_byte b || (b == 64)) (λ b. IsTrue (is_name_byte b || (b == 64))) (λ b k. k) x (and_right (e && s) a three));
-      one_at = at_most (count_by (λ b. b == 64) x) 1 (and_right (e && s && a) o four);
-      not_first = other_number (slice_index x 0) 64 (not_true (slice_index x 0 == 64) (and_right (e && s && a && o) f h));
-    }
+node_name x = (node_tests x).0
 
 abbrev pub is_label : Name → Bool
 is_label x =

@@ -17,5 +17,6 @@ pub use path::{NodePath, Path};
 pub use phandle::phandle_of;
 pub use stream::{Feed, In, Out, Sink, put_all};
 
-/// A node, by the number that the tree or the blob that it is of has for it.
+/// A node by its number: in a tree that is built, nodes are numbered in the order in which they were made; in a blob,
+/// a node's number is the place of its BEGIN_NODE, in bytes from the front of the blob.
 pub type NodeId = usize;

@@ -15,7 +15,7 @@ use Rattle.dt_read.specs.Placed.{Nodes, no_nodes, node, forest_of}
 use Rattle.dt_read.specs.Marks.{Mark, begin_mark, end_mark, prop_mark, nop_mark, last_mark, token_of, Root, marks_of_nodes, marks_of, without_nop_marks}
 use Rattle.dt_read.specs.TreeTokens.{AreNamed}
 use Rattle.dt_read.proofs.Tokens.{chosen}
-use Rattle.dt_read.proofs.NameTests.{node_tests, property_tests}
+use Rattle.dt_model.proofs.NameTests.{node_tests, property_tests}
 
 pub positive : (n : ℕ) → eqb n 0 ≡ false → 0 < n
 positive zero e = absurd cc

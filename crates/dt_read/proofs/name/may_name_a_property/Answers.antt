@@ -1,5 +1,6 @@
 use Rattle.std.proofs.Common.{◌∙◌}
-use Rattle.dt_read.proofs.NameTests.{same_test, property_tests}
+use Rattle.dt_model.proofs.NameTests.{property_tests}
+use Rattle.dt_read.proofs.NameTests.{same_test}
 use Rattle.dt_read.proofs.name.may_name_a_property.Goals as goal
 
 pub returns : goal.returns

@@ -24,7 +24,7 @@ returns-in_ok-push-in-Ok-clause-meaning c = λ s h.
     subst (λ (n : List ℕ). (c.in-Some.parent ≢ 0) ⊎ (is_bookkeeping_name n ≡ false)) c.as_bytes.ensures.value c.if-is_reserved.ensures.free in
     let numbers = c.in_ok-push-in-Ok.ensures ∙ ap (λ (k : ℕ). c.args.self.now.stack.items ++ k ∷ []) c.in-Ok.ensures.ok.0 in
     child_goes a c.add_node.new.self c.args.self.now.stack.items c.push.new.stack.items c.in-Some.parent c.args.name.now s c.validity.ensures.rooted c.in-Some.ensures.0 c.in-Some.ensures.1 free
-    (c.in-Ok.ensures.fresh refl) (c.in-Ok.ensures.room refl).1 c.in-Ok.ensures.ok.1 numbers h
+    (c.in-Ok.ensures.may refl).fresh (c.in-Ok.ensures.may refl).shallow c.in-Ok.ensures.ok.1 numbers h
 
 pub returns-in-Err-clause-meaning : goal.returns-in-Err-clause-meaning
 returns-in-Err-clause-meaning c = λ s h.
