@@ -1,19 +1,18 @@
--- The children and the properties of a node stand in order: what tests that compute decide.
-use Rattle.std.proofs.Common.{◌≡◌, ℕ, Bool, true, false, ◌&&◌, ◌||◌, List, [], ◌∷◌, inl, inr, refl, subst, reverse, arith, ◌<◌}
-use Rattle.std.proofs.lemmas.List.{reverse-reverse}
+-- The children, the properties and the labels of a node stand in order: what tests that compute decide.
+use Rattle.std.proofs.Common.{◌≡◌, ℕ, Bool, true, false, ◌&&◌, ◌||◌, List, [], ◌∷◌, inl, inr, refl, arith, ◌<◌}
 use Rattle.std.specs.Prelude.{nat_lt, is_some}
 use Rattle.std.specs.List.{AllByRecursion, list_all, list_any}
 use Rattle.std.specs.Str.{bytes_eq}
 use Rattle.std.proofs.lemmas.Bool.Decides.{nat_tests}
 use Rattle.dt_model.specs.Names.{Name}
-use Rattle.dt_model.specs.Path.{Path, path_eq}
+use Rattle.dt_model.specs.Path.{path_eq}
 use Rattle.dt_model.specs.Lists.{IsIn, FallBy, AreInOrder}
-use Rattle.dt_model.specs.Event.{Stack, Event, opening, giving, definition, undefinition, deletion, stands, value_at, age, property_age, opens, takes, defines, drops}
+use Rattle.dt_model.specs.Event.{Stack, Event, opening, giving, definition, undefinition, deletion, stands, value_at, names, age, property_age, label_age, opens, takes, gives, defines, drops}
 use Rattle.dt_model.specs.Source.{Events, Part}
 use Rattle.dt_laws.proofs.Tests.{and_left, and_right, all_at, each_from, bytes_eq_true, path_eq_refl}
 use Rattle.dt_laws.proofs.Cases.{some_there}
 use Rattle.dt_laws.proofs.CheckedWords.{implies, implied}
-use Rattle.dt_laws.proofs.Lasts.{stands_by, value_by, last_each}
+use Rattle.dt_laws.proofs.Lasts.{stands_by, names_by, value_by, last_each}
 
 -- ---- what has a name among some
 
@@ -34,14 +33,6 @@ opens_among q xs (definition p n v) = true
 opens_among q xs (undefinition p n) = true
 opens_among q xs (deletion p) = true
 
--- the node that the event opens is among these
-abbrev pub node_among : List Path → Event (List Part) → Bool
-node_among ps (opening q) = list_any (path_eq (reverse q)) ps
-node_among ps (giving l q) = true
-node_among ps (definition q n v) = true
-node_among ps (undefinition q n) = true
-node_among ps (deletion q) = true
-
 -- a property of the node that the event defines is among these
 abbrev pub defines_among : Stack → List Name → Event (List Part) → Bool
 defines_among q xs (opening p) = true
@@ -49,6 +40,14 @@ defines_among q xs (giving l p) = true
 defines_among q xs (definition p n v) = implies (path_eq p q) (list_any (bytes_eq n) xs)
 defines_among q xs (undefinition p n) = true
 defines_among q xs (deletion p) = true
+
+-- a label that the event gives to the node is among these
+abbrev pub gives_among : Stack → List Name → Event (List Part) → Bool
+gives_among q ls (opening p) = true
+gives_among q ls (giving l p) = implies (path_eq p q) (list_any (bytes_eq l) ls)
+gives_among q ls (definition p n v) = true
+gives_among q ls (undefinition p n) = true
+gives_among q ls (deletion p) = true
 
 -- ---- the order
 
@@ -66,7 +65,7 @@ all_below age x (y ∷ ys) h = (
   all_below age x ys (and_right (nat_lt (age y) (age x)) (list_all (λ y. nat_lt (age y) (age x)) ys) h),
 )
 
-falls_from : (age : Name → ℕ) (xs : List Name) → falls age xs ≡ true → FallBy age xs
+pub falls_from : (age : Name → ℕ) (xs : List Name) → falls age xs ≡ true → FallBy age xs
 falls_from age [] h = tt
 falls_from age (x ∷ xs) h =
     let first : Bool = list_all (λ y. nat_lt (age y) (age x)) xs in
@@ -100,9 +99,13 @@ properties_in_order es q xs listed there sorted = record {
   sorted = falls_from (λ x. property_age es q x) xs sorted;
 }
 
--- a node that stands is among those that are opened
-pub stands_among : (es : Events) (ps : List Path) (p : Path) → list_all (node_among ps) es ≡ true → stands es (reverse p) ≡ true → list_any (path_eq p) ps ≡ true
-stands_among es ps p listed h =
-    let here : node_among ps (opening (reverse p)) ≡ true =
-    last_each (λ e. node_among ps e ≡ true) (λ e. opens (reverse p) e || takes (reverse p) e) es (opening (reverse p)) (passes (node_among ps) es listed) (stands_by es (reverse p) h) in
-    subst (λ (q : Path). list_any (path_eq q) ps ≡ true) (reverse-reverse p) here
+pub labels_in_order : (es : Events) (q : Stack) (ls : List Name) → list_all (gives_among q ls) es ≡ true → list_all (λ l. names es l q) ls ≡ true
+    → falls (λ l. label_age es l q) ls ≡ true → AreInOrder (λ l. label_age es l q) (λ l. names es l q) ls
+labels_in_order es q ls listed there sorted = record {
+  sound = passes (λ l. names es l q) ls there;
+  complete = λ l h.
+      let here : gives_among q ls (giving l q) ≡ true =
+      last_each (λ e. gives_among q ls e ≡ true) (λ e. gives l q e || takes q e) es (giving l q) (passes (gives_among q ls) es listed) (names_by es l q h) in
+      among_in l ls (implied (path_eq q q) (list_any (bytes_eq l) ls) here (path_eq_refl q));
+  sorted = falls_from (λ l. label_age es l q) ls sorted;
+}

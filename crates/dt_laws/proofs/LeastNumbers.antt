@@ -38,7 +38,7 @@ numbers_are_there taken (p ∷ paths) =
 
 -- ---- and no other
 
-one_least : (taken : List ℕ) (n k : ℕ) → IsLeastFree taken n → IsLeastFree taken k → n ≡ k
+pub one_least : (taken : List ℕ) (n k : ℕ) → IsLeastFree taken n → IsLeastFree taken k → n ≡ k
 one_least taken n k h h' = elim (cases_order n k) [
   | inl same ↦ same
   | inr (inl less) ↦ absurd (true≢false (sym (h'.least n h.low less) ∙ h.free))

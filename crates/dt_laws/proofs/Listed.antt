@@ -32,7 +32,7 @@ other_sibling (branch name properties children siblings) x y c d e = step (λ k.
     step more true k = bytes_eq_other x y (λ same. d.0 (sym (bytes_eq_true x name k) ∙ same))
     step more false k = more (rw k at e)
 
-found_some : (fs : Forest) (x : Name) (p : Path) (c : Node) → found fs x p ≡ Some c → (s : Node) × (sibling fs x ≡ Some s) × (node_below s p ≡ Some c)
+pub found_some : (fs : Forest) (x : Name) (p : Path) (c : Node) → found fs x p ≡ Some c → (s : Node) × (sibling fs x ≡ Some s) × (node_below s p ≡ Some c)
 found_some fs x p c e = step (sibling fs x) refl
   where
     step : (y : Option Node) → sibling fs x ≡ y → (s : Node) × (sibling fs x ≡ Some s) × (node_below s p ≡ Some c)

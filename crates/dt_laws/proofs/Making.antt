@@ -35,7 +35,7 @@ pub outside_ok : (bs : List Body) (answer : Result SoFar Refusal) (t : SoFar) �
 outside_ok [] answer t h = (refl, h)
 outside_ok (b ∷ bs) answer t h = cc
 
-inside_ok : (bodies : List Body) (answer : Body → List Body → Result SoFar Refusal) (t : SoFar) → inside bodies answer ≡ Ok t
+pub inside_ok : (bodies : List Body) (answer : Body → List Body → Result SoFar Refusal) (t : SoFar) → inside bodies answer ≡ Ok t
     → (b : Body) × (bs : List Body) × (bodies ≡ b ∷ bs) × (answer b bs ≡ Ok t)
 inside_ok [] answer t h = cc
 inside_ok (b ∷ bs) answer t h = (b, bs, refl, h)

@@ -27,7 +27,7 @@ use Rattle.dt_laws.proofs.Placed.{lands_at}
 use Rattle.dt_laws.proofs.Results.{distinct, brought, source_brought, keeps, symbols_are, nodes_are, values_are, phandles_are}
 use Rattle.dt_laws.proofs.Symbols.{reservations-with_symbols, boot_cpu-with_symbols}
 
-same_value : {R : Type 0} (f g : R → ℕ) (items : List (Item R)) → EachReference (λ r. f r ≡ g r) items → value_bytes f items ≡ value_bytes g items
+pub same_value : {R : Type 0} (f g : R → ℕ) (items : List (Item R)) → EachReference (λ r. f r ≡ g r) items → value_bytes f items ≡ value_bytes g items
 same_value f g [] same = refl
 same_value f g (byte b ∷ items) same = ap (λ bs. b ∷ bs) (same_value f g items same)
 same_value f g (reference r ∷ items) same = ap (λ n. cell n ++ value_bytes f items) same.0 ∙ ap (λ bs. cell (g r) ++ bs) (same_value f g items same.1)

@@ -1,16 +1,17 @@
 -- What is true after all places of a source.
-use Rattle.std.proofs.Common.{◌≡◌, true, false, List, [], ◌∷◌, ◌⊎◌, inl, inr, Some, None, Result, Ok, Err, refl, sym, ap, subst, ◌∙◌}
+use Rattle.std.proofs.Common.{◌≡◌, ℕ, ◌<◌, length, arith, true, false, List, [], ◌∷◌, ◌⊎◌, inl, inr, Some, None, Result, Ok, Err, refl, sym, ap, subst, ◌∙◌}
 use Rattle.std.specs.List.{AllByRecursion}
 use Rattle.dt_model.specs.Names.{Name}
 use Rattle.dt_model.specs.Event.{Stack, names}
 use Rattle.dt_model.specs.Source.{by_label, by_path, Place, root, block, delete_node, child, label, property, delete_property, delete_child, close, Mode, Refusal, SoFar, nothing, enter, and_if_read, read, read_all}
+use Rattle.dt_laws.specs.NamedTrees.{RootStands}
 use Rattle.dt_laws.proofs.Cases.{all_from}
 use Rattle.dt_laws.proofs.Sound.{sound-start}
 use Rattle.dt_laws.proofs.Making.{Makes, makes}
 use Rattle.dt_laws.proofs.Holding.{Rules, Obeys, Holds, holds-read}
 
 -- nothing but a block of the root stands first
-first_is : (mode : Mode) (place : Place) (t : SoFar) → Makes mode nothing place t → t ≡ enter nothing [] []
+pub first_is : (mode : Mode) (place : Place) (t : SoFar) → Makes mode nothing place t → t ≡ enter nothing [] []
 first_is mode root t m = m.1
 first_is mode (block (by_label l)) t m = let z : None ≡ Some m.1.0 = m.1.1 in cc
 first_is mode (block (by_path p)) t m = let z : None ≡ Some m.1.0 = m.1.1 in cc
@@ -27,7 +28,7 @@ pub if_read_ok : (o : Result SoFar Refusal) (next : SoFar → Result SoFar Refus
 if_read_ok (Ok s) next t h = (s, refl, h)
 if_read_ok (Err e) next t h = cc
 
-holds-first : (r : Rules) → r.node [] → Holds r (enter nothing [] [])
+pub holds-first : (r : Rules) → r.node [] → Holds r (enter nothing [] [])
 holds-first r follows = record {
   sound = sound-start;
   here = λ b bs e. refl;
@@ -51,10 +52,10 @@ holds-source r mode t (place ∷ places) top o e =
 
 -- ---- a label names one node
 
-abbrev no_rules : Rules
+abbrev pub no_rules : Rules
 no_rules = record { node = λ p. Unit {0}; label = λ l. Unit {0}; value = λ n v. Unit {0} }
 
-any_obeys : (mode : Mode) (place : Place) → Obeys no_rules mode place
+pub any_obeys : (mode : Mode) (place : Place) → Obeys no_rules mode place
 any_obeys mode root = tt
 any_obeys mode (block b) = tt
 any_obeys mode (delete_node b) = tt
@@ -70,4 +71,11 @@ one_node mode places s e l p q h k =
     elim (holds-source no_rules mode s places tt (all_from (Obeys no_rules mode) (any_obeys mode) places) e) [
       | inl none ↦ let z : false ≡ true = ap (λ (t : SoFar). names t.events l p) (sym none.1) ∙ h in cc
       | inr holds ↦ holds.sound.one l p q h k
+    ]
+
+pub root_stands : RootStands
+root_stands mode places s some e =
+    elim (holds-source no_rules mode s places tt (all_from (Obeys no_rules mode) (any_obeys mode) places) e) [
+      | inl none ↦ let l : length places ≡ 0 = ap length none.0 in absurd (omega arith)
+      | inr holds ↦ holds.sound.rooted
     ]

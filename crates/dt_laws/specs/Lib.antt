@@ -4,6 +4,9 @@ pub mod Applying
 pub mod Merging
 pub mod Again
 pub mod Sources
+pub mod NamedTrees
+pub mod NamedSample
+pub mod CompiledTrees
 pub mod Bodies
 pub mod SampleSources
 pub mod Fragments

@@ -6,9 +6,10 @@ use Rattle.dt_model.specs.Object.{Cell, HasFixups}
 use Rattle.dt_model.specs.Overlay.{Fragment, Overlay}
 use Rattle.dt_model.specs.OverlaySource.{OverlayMeans}
 use Rattle.dt_model.specs.Meaning.{cell, Meaning}
-use Rattle.dt_model.specs.Source.{by_path, Place, block, child, label, property, close, base, SourceMeans}
-use Rattle.dt_model.specs.Tree.{Reading, no_nodes, branch}
-use Rattle.dt_model.specs.Rows.{fragment, content_of, set, tree, symbols, symbol_of, phandle_of, meaning, overlay, controller, controller_source, one_node, one_node_source, referring, referring_source, two_cells, two_cells_source, two_cells_fragments, three_values, three_values_source, three_values_fragments, inner_target, inner_source, inner_fragments, label_taken, label_taken_source, second_phandle, written_phandle, gap_of_numbers}
+use Rattle.dt_model.specs.Source.{by_path, Place, root, block, child, label, property, close, base, SourceMeans}
+use Rattle.dt_model.specs.Instance.{symbol, with_symbols}
+use Rattle.dt_model.specs.Tree.{Property, Reading, no_nodes, branch}
+use Rattle.dt_model.specs.Rows.{number, fragment, content_of, set, tree, phandle_of, meaning, overlay, controller, controller_source, one_node, one_node_source, referring, referring_source, two_cells, two_cells_source, two_cells_fragments, three_values, three_values_source, three_values_fragments, inner_target, inner_source, inner_fragments, label_taken, label_taken_source, second_phandle, written_phandle, gap_of_numbers}
 use Rattle.dt_model.specs.Numbers.{number_in, AreNewNumbers}
 use Rattle.dt_laws.specs.Applying.{AreOf}
 
@@ -133,11 +134,17 @@ second_phandle_new = (content_of 0 ++ codes "ic" ∷ [], 2) ∷ []
 -- ---- bases with written numbers
 
 -- / { l: a { }; b { phandle = <1>; p = &l, <&{/b}>; }; };
-abbrev pub with_written_phandle : Reading
-with_written_phandle = tree []
+abbrev pub instance_written_phandle : Reading
+instance_written_phandle = tree []
     (branch (codes "a") (set (codes "phandle") (cell 2) ∷ []) no_nodes
     (branch (codes "b") (set (codes "phandle") (cell 1) ∷ set (codes "p") (0x2f ∷ 0x61 ∷ 0 ∷ 0 ∷ 0 ∷ 0 ∷ 1 ∷ []) ∷ []) no_nodes
-    (symbols (symbol_of (codes "l") (codes "a" ∷ []) ∷ []))))
+    no_nodes))
+
+abbrev pub written_phandle_symbols : List Property
+written_phandle_symbols = symbol (codes "a" ∷ []) (codes "l") ∷ []
+
+abbrev pub with_written_phandle : Reading
+with_written_phandle = with_symbols written_phandle_symbols instance_written_phandle
 
 abbrev pub written_phandle_numbers : List (Path × ℕ)
 written_phandle_numbers = (codes "a" ∷ [], 2) ∷ (codes "b" ∷ [], 1) ∷ []
@@ -146,16 +153,39 @@ abbrev pub written_phandle_base : Base
 written_phandle_base = record { places = written_phandle; tree = with_written_phandle; numbers = written_phandle_numbers }
 
 -- / { p = <&b &{/c}>; l: a { phandle = <2>; }; b: b { }; c { x: d { }; }; };
-abbrev pub with_gap_of_numbers : Reading
-with_gap_of_numbers = tree (set (codes "p") (cell 1 ++ cell 3) ∷ [])
+abbrev pub instance_gap_of_numbers : Reading
+instance_gap_of_numbers = tree (set (codes "p") (cell 1 ++ cell 3) ∷ [])
     (branch (codes "a") (set (codes "phandle") (cell 2) ∷ []) no_nodes
     (branch (codes "b") (set (codes "phandle") (cell 1) ∷ []) no_nodes
     (branch (codes "c") (set (codes "phandle") (cell 3) ∷ [])
-    (branch (codes "d") (set (codes "phandle") (cell 4) ∷ []) no_nodes no_nodes)
-    (symbols (symbol_of (codes "l") (codes "a" ∷ []) ∷ symbol_of (codes "b") (codes "b" ∷ []) ∷ symbol_of (codes "x") (codes "c" ∷ codes "d" ∷ []) ∷ [])))))
+    (branch (codes "d") (set (codes "phandle") (cell 4) ∷ []) no_nodes no_nodes) no_nodes)))
+
+abbrev pub gap_of_numbers_symbols : List Property
+gap_of_numbers_symbols = symbol (codes "a" ∷ []) (codes "l") ∷ symbol (codes "b" ∷ []) (codes "b") ∷ symbol (codes "c" ∷ codes "d" ∷ []) (codes "x") ∷ []
+
+abbrev pub with_gap_of_numbers : Reading
+with_gap_of_numbers = with_symbols gap_of_numbers_symbols instance_gap_of_numbers
 
 abbrev pub gap_of_numbers_numbers : List (Path × ℕ)
 gap_of_numbers_numbers = (codes "a" ∷ [], 2) ∷ (codes "b" ∷ [], 1) ∷ (codes "c" ∷ [], 3) ∷ (codes "c" ∷ codes "d" ∷ [], 4) ∷ []
 
 abbrev pub gap_of_numbers_base : Base
 gap_of_numbers_base = record { places = gap_of_numbers; tree = with_gap_of_numbers; numbers = gap_of_numbers_numbers }
+
+-- ---- sources that are refused after their last place
+
+-- / { a { phandle = <0>; }; p = <&nope>; };
+abbrev pub unresolved_and_bad : List Place
+unresolved_and_bad =
+    root ∷ child (codes "a") ∷ property (codes "phandle") (number 0) ∷ close ∷ property (codes "p") (phandle_of (codes "nope")) ∷ close ∷ []
+
+-- / { a { phandle = <1>; }; b { phandle = <1>; }; c { phandle = <0>; }; };
+abbrev pub bad_and_duplicate : List Place
+bad_and_duplicate =
+    root ∷ child (codes "a") ∷ property (codes "phandle") (number 1) ∷ close ∷ child (codes "b") ∷ property (codes "phandle") (number 1) ∷ close
+    ∷ child (codes "c") ∷ property (codes "phandle") (number 0) ∷ close ∷ close ∷ []
+
+-- / { a { phandle = <1>; }; b { phandle = <1>; }; };
+abbrev pub duplicate_numbers : List Place
+duplicate_numbers =
+    root ∷ child (codes "a") ∷ property (codes "phandle") (number 1) ∷ close ∷ child (codes "b") ∷ property (codes "phandle") (number 1) ∷ close ∷ close ∷ []

@@ -4,17 +4,27 @@
 #![tactic(auto)]
 
 mod blobs;
+mod compiled;
 mod joining;
 mod laws;
 mod lists;
+mod named;
 mod premises;
 mod samples;
 mod sources;
 
 pub use blobs::{blob_has_no_fault, first_fault_is_one};
+pub use compiled::{
+    compiled_base_represents, compiled_is_not_refused, compiled_tree_is_one,
+    compiled_tree_is_valid, refusal_is_one,
+};
 pub use joining::joining_is_merging;
 pub use laws::{applied_is_valid, applying_is_merging, merged_is_a_meaning, sites_are_one};
 pub use lists::{in_turn_is_fold, least_numbers_are_one};
+pub use named::{
+    instance_is_meant, instance_is_valid, least_is_low, list_is_of_its_tree, many_stand,
+    meant_is_named, named_is_not_refused, nodes_are_shallow, root_stands, tree_is_meant,
+};
 pub use sources::{
     fragment_is_new, label_is_one_nodes, order_is_one, overlay_source_is_an_overlay,
     second_in_one_body, source_is_a_meaning,

@@ -1,8 +1,16 @@
 //! Sources, trees and objects that meet what the other laws ask for.
 
 ghost use Rattle.std.specs.Prelude.{List, [], ◌∷◌, codes};
+ghost use Rattle.dt_model.specs.Instance.{IsTreeOf};
 ghost use Rattle.dt_model.specs.Ordered.{IsInOrder};
-ghost use Rattle.dt_model.specs.Source.{SourceMeans, base};
+ghost use Rattle.dt_model.specs.Source.{
+  SourceMeans,
+  base,
+  unresolved,
+  bad_phandle,
+  duplicate_phandle,
+};
+ghost use Rattle.dt_model.specs.Refused.{IsRefusedFor, at_end};
 ghost use Rattle.dt_model.specs.Merged.{Site, Applies};
 ghost use Rattle.dt_model.specs.Represents.{Represents};
 ghost use Rattle.dt_model.specs.Rows.{
@@ -32,10 +40,14 @@ ghost use Rattle.dt_laws.specs.Premises.{
   label_taken_new,
   second_phandle_object,
   second_phandle_new,
+  instance_written_phandle,
   with_written_phandle,
   written_phandle_numbers,
   with_gap_of_numbers,
   gap_of_numbers_numbers,
+  unresolved_and_bad,
+  bad_and_duplicate,
+  duplicate_numbers,
 };
 
 /// A target by a path, a reference to a node of the overlay and one by a label of the base.
@@ -86,7 +98,22 @@ pub fn gap_of_numbers_is_represented()
     ensures represented { Represents with_gap_of_numbers (meaning gap_of_numbers) (numbering gap_of_numbers_numbers) }
 {}
 
-/// A tree whose nodes and properties stand in the order of its text, with the labels' node behind them.
+/// A tree whose nodes and properties stand in the order of its text; its labels' node stands behind them.
 pub fn written_phandle_is_in_order()
-    ensures { IsInOrder (events written_phandle) (meaning written_phandle) (codes "__symbols__" ∷ []) with_written_phandle }
+    ensures { IsInOrder (events written_phandle) (meaning written_phandle) instance_written_phandle }
+{}
+
+/// The trees that the two bases with written numbers are compiled to.
+pub fn written_numbers_are_compiled()
+    ensures one { IsTreeOf base [] written_phandle with_written_phandle }
+    ensures gap { IsTreeOf base [] gap_of_numbers with_gap_of_numbers }
+{}
+
+/// Of what is wrong after the last place, a reference that names no node is told first, then a phandle that writes no number.
+pub fn late_refusals_are_told_in_turn()
+    ensures unresolved { IsRefusedFor base unresolved_and_bad (at_end unresolved) }
+    ensures not_bad { IsRefusedFor base unresolved_and_bad (at_end bad_phandle) → ⊥ }
+    ensures bad { IsRefusedFor base bad_and_duplicate (at_end bad_phandle) }
+    ensures not_duplicate { IsRefusedFor base bad_and_duplicate (at_end duplicate_phandle) → ⊥ }
+    ensures duplicate { IsRefusedFor base duplicate_numbers (at_end duplicate_phandle) }
 {}

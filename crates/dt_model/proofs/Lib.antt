@@ -6,3 +6,4 @@ pub mod Pairs
 pub mod Blobs
 pub mod SampleBlobs
 pub mod NameTests
+pub mod Nested

@@ -11,6 +11,7 @@ pub mod Samples
 pub mod Represents
 pub mod Event
 pub mod Source
+pub mod Nested
 pub mod Lists
 pub mod Overlay
 pub mod Merged
@@ -18,7 +19,12 @@ pub mod Object
 pub mod Numbers
 pub mod Changes
 pub mod Applied
+pub mod Named
 pub mod Ordered
+pub mod Numbering
+pub mod NamedOf
+pub mod Instance
+pub mod Refused
 pub mod OverlaySource
 pub mod Checks
 pub mod Joined

@@ -1,12 +1,10 @@
 -- The numbers that an application gives to the nodes that an object brings.
-use Rattle.std.specs.Prelude.{◌≡◌, ℕ, ◌≤◌, ◌<◌, Bool, true, false, ◌&&◌, List, [], ◌∷◌, ◌++◌, map, Option, Some, None, is_some, is_none, unwrap_or, if◌then◌else◌, nat_eq, codes}
-use Rattle.std.specs.List.{list_any, filter, flat_map}
-use Rattle.std.specs.Option.{option_to_list}
+use Rattle.std.specs.Prelude.{◌≡◌, ℕ, ◌≤◌, ◌<◌, Bool, true, false, ◌&&◌, List, [], ◌∷◌, ◌++◌, map, Option, Some, None, is_some, unwrap_or, if◌then◌else◌, nat_eq, codes}
+use Rattle.std.specs.List.{list_any, filter}
 use Rattle.std.specs.Int.{w32, from_be_bytes}
 use Rattle.dt_model.specs.Names.{Name}
 use Rattle.dt_model.specs.Path.{Path, path_eq, below}
 use Rattle.dt_model.specs.Lists.{last_of}
-use Rattle.dt_model.specs.Meaning.{Meaning}
 use Rattle.dt_model.specs.Overlay.{content}
 use Rattle.dt_model.specs.Merged.{Site, sources}
 use Rattle.dt_model.specs.Object.{fragment_names}
@@ -60,18 +58,3 @@ number_after sites number new q = unwrap_or (last_of new (sources sites q)) (num
 -- the nodes of a tree, in preorder
 abbrev pub paths_of : Reading → List Path
 paths_of t = map (λ (n : Placed). n.path) (nodes_of t)
-
--- the numbers that are written in them
-abbrev pub written_numbers : Meaning → Reading → List ℕ
-written_numbers m t = flat_map (λ p. option_to_list (m.number p)) (paths_of t)
-
--- the keyed nodes in which none is
-abbrev pub unwritten_paths : Meaning → Reading → List Path
-unwritten_paths m t = filter (λ p. m.keyed p && is_none (m.number p)) (paths_of t)
-
--- The keyed nodes of the meaning have, in the tree's preorder, the least numbers that no node has; written ones stay.
-pub record HasLeastNumbers (t : Reading) (m : Meaning) (number : Path → ℕ) : Type 0 where
-  pub numbers : List (Path × ℕ)
-  pub least : AreNumbers (written_numbers m t) (unwritten_paths m t) numbers
-  pub given : (p : Path) (n : ℕ) → number_in numbers p ≡ Some n → number p ≡ n
-  pub written : (p : Path) (n : ℕ) → m.number p ≡ Some n → number p ≡ n

@@ -1,31 +1,43 @@
--- The order of a tree's nodes and properties: that of the text which opened and defined them (Devicetree Specification
--- v0.4, 6.3 and 6.4).
-use Rattle.std.specs.Prelude.{◌≡◌, true, List, [], ◌∷◌, ◌++◌, Some, map, reverse, is_some, not, ◌&&◌, if◌then◌else◌, codes}
+-- The order of a tree's nodes, properties and labels: that of the text which opened, defined and gave them (Devicetree
+-- Specification v0.4, 6.3 and 6.4), each counted from the first time after the last deletion that took it.
+use Rattle.std.specs.Prelude.{◌≡◌, ℕ, List, [], ◌∷◌, ◌++◌, Some, map, reverse, is_some, not, ◌&&◌, if◌then◌else◌, codes}
 use Rattle.dt_model.specs.Names.{Name}
 use Rattle.dt_model.specs.Path.{Path}
-use Rattle.dt_model.specs.Event.{stands, value_at, age, property_age}
+use Rattle.dt_model.specs.Event.{stands, value_at, names, age, property_age, label_age}
 use Rattle.dt_model.specs.Lists.{AreInOrder}
 use Rattle.dt_model.specs.Meaning.{Meaning}
 use Rattle.dt_model.specs.Source.{Events}
-use Rattle.dt_model.specs.Tree.{Property, Reading, Node, node_at}
-use Rattle.dt_model.specs.Valid.{names}
+use Rattle.dt_model.specs.Tree as tree
+use Rattle.dt_model.specs.Tree.{Property, Reading}
+use Rattle.dt_model.specs.Valid as valid
+use Rattle.dt_model.specs.Named as named
+use Rattle.dt_model.specs.Named.{NamedProperty, NamedNode, Named}
+
+-- the names are those of the children that stand below the path, in the order in which they were opened
+abbrev pub AreChildrenInOrder : Events → Path → List Name → Type 0
+AreChildrenInOrder es p xs = AreInOrder (λ x. age es (x ∷ reverse p)) (λ x. stands es (x ∷ reverse p)) xs
+
+-- the names are those of the properties that stand in the path's node, in the order in which they were defined
+abbrev pub ArePropertiesInOrder : Events → Path → List Name → Type 0
+ArePropertiesInOrder es p xs = AreInOrder (property_age es (reverse p)) (λ x. is_some (value_at es (reverse p) x)) xs
+
+-- the labels are those that name the path's node, in the order in which they were given
+abbrev pub AreLabelsInOrder : Events → Path → List Name → Type 0
+AreLabelsInOrder es p ls = AreInOrder (λ l. label_age es l (reverse p)) (λ l. names es l (reverse p)) ls
 
 -- the property `phandle` of a keyed node in which no number is written
 abbrev pub unwritten : Meaning → Path → List Name
 unwritten m p = if m.keyed p && not (is_some (m.number p)) then codes "phandle" ∷ [] else []
 
--- behind the root's children stand these, which no text opens
-abbrev pub added_to : List Name → Path → List Name
-added_to added [] = added
-added_to added (x ∷ p) = []
+-- At each node the children and the properties stand in the order of the text; a number that isn't written stands last.
+pub record IsInOrder (es : Events) (m : Meaning) (t : Reading) : Type 0 where
+  pub children : (p : Path) (n : tree.Node) → tree.node_at t p ≡ Some n → AreChildrenInOrder es p (valid.names n.children)
+  pub properties : (p : Path) (n : tree.Node) → tree.node_at t p ≡ Some n →
+      (defined : List Name) × (map (λ (x : Property). x.name) n.properties ≡ defined ++ unwritten m p) × ArePropertiesInOrder es p defined
 
--- At each node that stands after the events, the children stand in the order in which they were opened first, and the
--- properties in the order in which they were defined first, after the last deletion that took them. A number that isn't
--- written stands last, and so do the nodes that are added to the root.
-pub record IsInOrder (es : Events) (m : Meaning) (added : List Name) (t : Reading) : Type 0 where
-  pub children : (p : Path) (n : Node) → stands es (reverse p) ≡ true → node_at t p ≡ Some n →
-      (opened : List Name) × (names n.children ≡ opened ++ added_to added p)
-      × AreInOrder (λ x. age es (x ∷ reverse p)) (λ x. stands es (x ∷ reverse p)) opened
-  pub properties : (p : Path) (n : Node) → stands es (reverse p) ≡ true → node_at t p ≡ Some n →
-      (written : List Name) × (map (λ (x : Property). x.name) n.properties ≡ written ++ unwritten m p)
-      × AreInOrder (λ x. property_age es (reverse p) x) (λ x. is_some (value_at es (reverse p) x)) written
+-- the same of a tree whose nodes have no numbers yet
+pub record IsNamedInOrder (es : Events) (t : Named ℕ) : Type 0 where
+  pub children : (p : Path) (n : NamedNode ℕ) → named.node_at t p ≡ Some n → AreChildrenInOrder es p (named.names n.children)
+  pub properties : (p : Path) (n : NamedNode ℕ) → named.node_at t p ≡ Some n →
+      ArePropertiesInOrder es p (map (λ (x : NamedProperty ℕ). x.name) n.content.properties)
+  pub labels : (p : Path) (n : NamedNode ℕ) → named.node_at t p ≡ Some n → AreLabelsInOrder es p n.content.labels

@@ -111,6 +111,10 @@ label_again =
 abbrev pub label_twice : List Place
 label_twice = root ∷ child (codes "a") ∷ label (codes "l") ∷ close ∷ close ∷ root ∷ child (codes "b") ∷ label (codes "l") ∷ close ∷ close ∷ []
 
+-- / { }; l: &{/} { };
+abbrev pub root_label : List Place
+root_label = root ∷ close ∷ block (by_path []) ∷ label (codes "l") ∷ close ∷ []
+
 -- / { a; /delete-property/ a; };
 abbrev pub deleted_property : List Place
 deleted_property = root ∷ property (codes "a") [] ∷ delete_property (codes "a") ∷ close ∷ []

@@ -5,4 +5,4 @@
 mod laws;
 mod rows;
 
-pub use laws::one_reading;
+pub use laws::{nested_places, one_reading};

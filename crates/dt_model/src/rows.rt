@@ -19,7 +19,8 @@ ghost use Rattle.std.specs.Prelude.{
 ghost use Rattle.dt_model.specs.Meaning.{Meaning, byte, reference, cell, instance_value};
 ghost use Rattle.dt_model.specs.Overlay.{Overlay, inside, outside};
 ghost use Rattle.dt_model.specs.Event.{age, label_age, property_age, stands};
-ghost use Rattle.dt_model.specs.Numbers.{AreNewNumbers, AreNumbers, unwritten_paths, written_numbers, numbers_of, new_paths};
+ghost use Rattle.dt_model.specs.Numbers.{AreNewNumbers, AreNumbers, numbers_of, new_paths, paths_of};
+ghost use Rattle.dt_model.specs.Numbering.{IsNumbering, asked_by};
 ghost use Rattle.dt_model.specs.Merged.{AreSites, Site, merged};
 ghost use Rattle.dt_model.specs.Object.{Cell, local_cells, fragment_names, words_of};
 ghost use Rattle.dt_model.specs.Applied.{applied};
@@ -36,14 +37,22 @@ ghost use Rattle.dt_model.specs.Source.{
   all_bound,
   number_of,
   by_label,
+  base,
+  raw,
+  nothing,
+  read_all,
+  meaning_of,
 };
+ghost use Rattle.dt_model.specs.Refused.{IsRefusedFor, at_place};
 ghost use Rattle.dt_model.specs.OverlaySource.{overlay_delete, overlay_phandle, overlay_path};
 ghost use Rattle.dt_model.specs.Rows.{
   gap_tree,
   two_labels,
   levels,
   events,
+  events_of,
   refusal,
+  refusal_of,
   meaning,
   overlay,
   overlay_refusal,
@@ -55,6 +64,7 @@ ghost use Rattle.dt_model.specs.Rows.{
   gap_of_numbers,
   label_again,
   label_twice,
+  root_label,
   deleted_property,
   property_twice,
   deleted_root,
@@ -155,8 +165,8 @@ pub fn referred_nodes_are_keyed()
 
 /// The keyed nodes get, in preorder, the least numbers that are not written; other nodes get none.
 pub fn numbers_of_a_source()
-    ensures { AreNumbers (written_numbers (meaning gap_of_numbers) gap_tree) (unwritten_paths (meaning gap_of_numbers) gap_tree)
-        ((codes "b" ∷ [], 1) ∷ (codes "c" ∷ [], 3) ∷ (codes "c" ∷ codes "d" ∷ [], 4) ∷ []) }
+    ensures { IsNumbering (asked_by (meaning gap_of_numbers) (paths_of gap_tree))
+        (None ∷ Some 2 ∷ Some 1 ∷ Some 3 ∷ Some 4 ∷ None ∷ []) }
 {}
 
 /// A label can be given to another node once the node that it named is deleted, and not before.
@@ -164,6 +174,20 @@ pub fn label_moves_after_a_deletion()
     ensures moved { (meaning label_again).label (codes "l") ≡ Some (codes "b" ∷ []) }
     ensures read { refusal label_again ≡ None }
     ensures twice { refusal label_twice ≡ Some duplicate_label }
+{}
+
+/// A label of a block that opens the root names the root.
+pub fn label_of_the_root()
+    ensures read { refusal root_label ≡ None }
+    ensures label { (meaning root_label).label (codes "l") ≡ Some [] }
+    ensures keyed { (meaning root_label).keyed [] ≡ true }
+{}
+
+/// A raw source may have the bookkeeping nodes, and a base may not.
+pub fn bookkeeping_nodes_of_a_raw_source()
+    ensures read { refusal_of (read_all raw nothing reserved) ≡ None }
+    ensures node { (meaning_of [] (events_of (read_all raw nothing reserved))).stands (codes "__symbols__" ∷ []) ≡ true }
+    ensures refused { IsRefusedFor base reserved (at_place reserved_name) }
 {}
 
 /// What is refused, and what has no effect.

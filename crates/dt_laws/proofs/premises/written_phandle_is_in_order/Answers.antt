@@ -1,5 +1,10 @@
-use Rattle.dt_laws.proofs.SampleOrder.{in_order}
+use Rattle.std.proofs.Common.{refl}
+use Rattle.dt_model.specs.Event.{age_by}
+use Rattle.dt_model.specs.Rows.{events, meaning, written_phandle}
+use Rattle.dt_laws.specs.Premises.{instance_written_phandle}
+use Rattle.dt_laws.proofs.CheckedOrders.{ordered}
 use Rattle.dt_laws.proofs.premises.written_phandle_is_in_order.Goals as goal
 
 pub returns : goal.returns
-returns c = in_order
+unfolding age_by
+returns c = ordered (events written_phandle) (meaning written_phandle) instance_written_phandle refl

@@ -1,0 +1,99 @@
+-- A named tree beside the events of the places that mean it.
+use Rattle.std.proofs.Common.{◌≡◌, ℕ, ◌<◌, true, List, [], ◌∷◌, ◌++◌, length, reverse, codes, is_some, refl, sym, ap, ◌∙◌, inl, inr, Option, Some, None, arith}
+use Rattle.std.specs.List.{AllByRecursion}
+use Rattle.std.specs.Option.{option_map, option_map_or, option_and_then}
+use Rattle.dt_model.specs.Names.{Name}
+use Rattle.dt_model.specs.Path.{Path}
+use Rattle.dt_model.specs.Meaning.{Item}
+use Rattle.dt_model.specs.Event.{stands, value_at, age}
+use Rattle.dt_model.specs.Source.{Part, Place, IsPlace, Mode, Events, all_bound, written, written_number}
+use Rattle.dt_model.specs.Valid.{AreDistinct}
+use Rattle.dt_model.specs.Named.{NamedForest, no_nodes, branch, Named, NamedNode, root_of, node_at, value_of, number_of, written_in, names, paths_of}
+use Rattle.dt_model.specs.NamedOf.{IsNamedOf, meant, path_among}
+use Rattle.dt_laws.proofs.Cases.{map_some, then_some, some_there, all_map}
+use Rattle.dt_laws.proofs.Orders.{falls_distinct}
+use Rattle.dt_laws.proofs.Bound.{named_rules, named_obeys}
+use Rattle.dt_laws.proofs.Holding.{Holds, Obeys}
+use Rattle.dt_laws.proofs.ReadAll.{holds-source}
+use Rattle.dt_laws.proofs.NamedListed.{AreApart, IsApart, IsSibling, sibling_found, child_at}
+use Rattle.dt_laws.proofs.NamedValues.{number_written}
+
+-- ---- siblings
+
+-- siblings differ everywhere where they differ at each node
+apart_below : (t : Named ℕ) → ((p : Path) (c : NamedNode ℕ) → node_at t p ≡ Some c → AreDistinct (names c.children))
+    → (path : Path) (f : NamedForest ℕ) → ((x : Name) (c : NamedNode ℕ) → IsSibling x c f → node_at t (path ++ x ∷ []) ≡ Some c) → AreApart f
+apart_below t distinct path no_nodes at = tt
+apart_below t distinct path (branch name content children siblings) at =
+    let n : NamedNode ℕ = record { content = content; children = children } in
+    let here = at name n (inl (refl, refl)) in
+    let d = distinct (path ++ name ∷ []) n here in (
+      d,
+      apart_below t distinct (path ++ name ∷ []) children (λ x c i. child_at (root_of t) c n (path ++ name ∷ []) x here (sibling_found children x c d i)),
+      apart_below t distinct path siblings (λ x c i. at x c (inr i)),
+    )
+
+pub is_apart : (t : Named ℕ) → ((p : Path) (c : NamedNode ℕ) → node_at t p ≡ Some c → AreDistinct (names c.children)) → IsApart t
+is_apart t distinct =
+    let d = distinct [] (root_of t) refl in
+    (d, apart_below t distinct [] t.children (λ x c i. child_at (root_of t) c (root_of t) [] x refl (sibling_found t.children x c d i)))
+
+module _ (mode : Mode) (reservations : List (ℕ × ℕ)) (places : List Place) (t : Named ℕ) (n : IsNamedOf mode reservations places t) where
+  abbrev pub events : Events
+  events = n.means.so_far.events
+
+  pub apart : IsApart t
+  apart = is_apart t (λ p c e. let o = n.order.children p c e in falls_distinct (λ x. age events (x ∷ reverse p)) (names c.children) o.sorted)
+
+  -- what is true after all places
+  pub holds : 0 < length places → AllByRecursion IsPlace places → Holds named_rules n.means.so_far
+  holds some valid =
+      elim (holds-source named_rules mode n.means.so_far places tt (all_map IsPlace (Obeys named_rules mode) (named_obeys mode) places valid) n.means.all_read) [
+        | inl none ↦ let l : length places ≡ 0 = ap length none.0 in absurd (omega arith)
+        | inr h ↦ h
+      ]
+
+  -- ---- nodes
+
+  pub node_stands : (p : Path) (c : NamedNode ℕ) → node_at t p ≡ Some c → stands events (reverse p) ≡ true
+  node_stands p c e = sym (n.nodes p) ∙ ap is_some e
+
+  pub stands_node : (p : Path) → stands events (reverse p) ≡ true → (c : NamedNode ℕ) × (node_at t p ≡ Some c)
+  stands_node p h = some_there (node_at t p) (n.nodes p ∙ h)
+
+  -- ---- values
+
+  pub value_same : (p : Path) (c : NamedNode ℕ) (x : Name) → node_at t p ≡ Some c
+      → option_map (meant t) (value_of c.content.properties x) ≡ option_and_then (all_bound events) (value_at events (reverse p) x)
+  value_same p c x e =
+      ap (λ (o : Option (NamedNode ℕ)). option_map (meant t) (value_of (option_map_or (λ n. n.content) o (record { labels = []; properties = [] })).properties x)) (sym e) ∙ n.values p x
+
+  -- the parts of a value that the tree has
+  pub value_parts : (p : Path) (c : NamedNode ℕ) (x : Name) (v : List (Item ℕ)) → node_at t p ≡ Some c → value_of c.content.properties x ≡ Some v
+      → (parts : List Part) × (value_at events (reverse p) x ≡ Some parts) × (all_bound events parts ≡ Some (meant t v))
+  value_parts p c x v e k = then_some (all_bound events) (value_at events (reverse p) x) (meant t v) (sym (value_same p c x e) ∙ ap (option_map (meant t)) k)
+
+  -- the value that the tree has of some parts
+  pub parts_value : (p : Path) (c : NamedNode ℕ) (x : Name) (parts : List Part) → node_at t p ≡ Some c → value_at events (reverse p) x ≡ Some parts
+      → (v : List (Item ℕ)) × (value_of c.content.properties x ≡ Some v) × (all_bound events parts ≡ Some (meant t v))
+  parts_value p c x parts e k =
+      let bound = some_there (all_bound events parts) (n.means.resolved.bound_to (reverse p) x parts k) in
+      let w = map_some (meant t) (value_of c.content.properties x) bound.0 (value_same p c x e ∙ ap (option_and_then (all_bound events)) k ∙ bound.1) in
+      (w.0, w.1, bound.1 ∙ ap Some (sym w.2))
+
+  -- a property `phandle` writes the number that its parts write
+  pub phandle_number : (p : Path) (c : NamedNode ℕ) (v : List (Item ℕ)) → node_at t p ≡ Some c → value_of c.content.properties (codes "phandle") ≡ Some v
+      → (k : ℕ) × (number_of v ≡ Some k) × (written_number events (reverse p) ≡ Some k)
+  phandle_number p c v e h =
+      let w = value_parts p c (codes "phandle") v e h in
+      let k = some_there (written w.0) (n.means.resolved.numbered (reverse p) w.0 w.1) in
+      (k.0, number_written events w.0 (path_among (paths_of t)) v k.0 k.1 w.2, ap (option_and_then written) w.1 ∙ k.1)
+
+  pub written_same : (p : Path) (c : NamedNode ℕ) → node_at t p ≡ Some c → written_in c.content ≡ written_number events (reverse p)
+  written_same p c e = step (value_of c.content.properties (codes "phandle")) refl (value_at events (reverse p) (codes "phandle")) refl
+    where
+      step : (o : Option (List (Item ℕ))) → value_of c.content.properties (codes "phandle") ≡ o → (y : Option (List Part)) → value_at events (reverse p) (codes "phandle") ≡ y
+          → written_in c.content ≡ written_number events (reverse p)
+      step (Some v) k y h = let w = phandle_number p c v e k in ap (option_and_then number_of) k ∙ w.1 ∙ sym w.2
+      step None k None h = ap (option_and_then number_of) k ∙ sym (ap (option_and_then written) h)
+      step None k (Some parts) h = let w = parts_value p c (codes "phandle") parts e h in absurd (let z : None ≡ Some w.0 = sym k ∙ w.1 in cc)
