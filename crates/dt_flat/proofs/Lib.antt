@@ -11,3 +11,4 @@ pub mod Rooting
 pub mod Soundness
 pub mod PlantedNodes
 pub mod Plantable
+pub mod ManyProperties

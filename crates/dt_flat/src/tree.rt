@@ -5,7 +5,7 @@ ghost use Rattle.dt_model.specs.Tree.{value_of};
 ghost use Rattle.dt_model.specs.Valid.{IsValid, IsWithinLimits};
 ghost use Rattle.dt_flat.specs.Numbers.{holder, given};
 ghost use Rattle.dt_flat.specs.Refusals.{WhyNoNode, WhyNotReserved, WhyNotSet, MayAdd, MaySet};
-ghost use Rattle.dt_flat.specs.Arena.{Arena, IsRooted, root_alone, children, with_child, with_property, properties, name_of, phandle_at, reading};
+ghost use Rattle.dt_flat.specs.Arena.{Arena, IsRooted, root_alone, children, with_child, with_property, properties, name_of, node_from, phandle_at, reading};
 
 use crate::NodeId;
 use crate::children::Children;
@@ -13,7 +13,7 @@ use crate::phandles::{Phandles, free_number, give};
 use crate::places::Places;
 use crate::properties::Props;
 use dt_names::limits::{MOST_NAMES, MOST_NODES};
-use dt_names::{Fault, FaultKind, NodeName, PropName};
+use dt_names::{Fault, FaultKind, NodeName, Path, PropName};
 use std::alloc::{AllocError, Global};
 use std::marker::Model;
 
@@ -220,6 +220,17 @@ impl FlatTree {
         ensures { result.now ≡ name_of self.now.slots node }
     {
         self.places.get(node).name.as_slice()
+    }
+
+    /// The node of a path, None where there is none. Takes no memory.
+    pub fn node(&self, path: &Path) -> Option<NodeId>
+        ensures { result ≡ node_from self.now.slots 0 path.now }
+    {
+        let mut node = self.root();
+        for name in path.names() {
+            node = self.places.get(node).children.find(name)?;
+        }
+        Some(node)
     }
 
     /// The value of a property of a node, None where it has no property of that name.

@@ -1,7 +1,7 @@
 -- The number and the name of each kind of fault, which a caller may show or compare; and what is true of the refusals of a call.
 use Rattle.std.specs.Prelude.{◌≡◌, ◌≢◌, ℕ, List, codes}
 use Rattle.dt_names.specs.declared.fault.FaultKind.{FaultKind}
-use Rattle.dt_names.specs.declared.fault.FaultKind.TheVariants.{NoMemory, Limit, BadVersionTag, BadToken, Syntax, BadInteger, DivideByZero, OutOfRange, BadReferenceWidth, PropertyAfterNode, DuplicateProperty, DuplicateNode, BadPhandle, ReservedName, ShortHeader, BadMagic, BadTotal, BadVersion, Misaligned, BlockOutside, NoReservationEnd, BadTag, StructureCut, BadName, BadNameOffset, BadNesting, LateProperty, Duplicate, BadEnd, BlobPhandle, WriteFault, ReadFault}
+use Rattle.dt_names.specs.declared.fault.FaultKind.TheVariants.{NoMemory, Limit, BadVersionTag, BadToken, Syntax, BadInteger, DivideByZero, OutOfRange, BadReferenceWidth, PropertyAfterNode, DuplicateProperty, DuplicateNode, DuplicateLabel, NoSuchTarget, UnresolvedReference, BadPhandle, DuplicatePhandle, ReservedName, ShortHeader, BadMagic, BadTotal, BadVersion, Misaligned, BlockOutside, NoReservationEnd, BadTag, StructureCut, BadName, BadNameOffset, BadNesting, LateProperty, Duplicate, BadEnd, BlobPhandle, WriteFault, ReadFault}
 
 -- the number of a kind
 abbrev pub fault_number : FaultKind → ℕ
@@ -17,7 +17,11 @@ fault_number BadReferenceWidth = 16
 fault_number PropertyAfterNode = 17
 fault_number DuplicateProperty = 20
 fault_number DuplicateNode = 21
+fault_number DuplicateLabel = 22
+fault_number NoSuchTarget = 23
+fault_number UnresolvedReference = 24
 fault_number BadPhandle = 25
+fault_number DuplicatePhandle = 26
 fault_number ReservedName = 27
 fault_number ShortHeader = 40
 fault_number BadMagic = 41
@@ -52,7 +56,11 @@ fault_name BadReferenceWidth = codes "BadReferenceWidth"
 fault_name PropertyAfterNode = codes "PropertyAfterNode"
 fault_name DuplicateProperty = codes "DuplicateProperty"
 fault_name DuplicateNode = codes "DuplicateNode"
+fault_name DuplicateLabel = codes "DuplicateLabel"
+fault_name NoSuchTarget = codes "NoSuchTarget"
+fault_name UnresolvedReference = codes "UnresolvedReference"
 fault_name BadPhandle = codes "BadPhandle"
+fault_name DuplicatePhandle = codes "DuplicatePhandle"
 fault_name ReservedName = codes "ReservedName"
 fault_name ShortHeader = codes "ShortHeader"
 fault_name BadMagic = codes "BadMagic"

@@ -33,8 +33,16 @@ pub enum FaultKind {
     DuplicateProperty,
     /// A child that its node has already.
     DuplicateNode,
-    /// A `phandle` that isn't one number of the allowed range, or that another node has.
+    /// A label that names another node already.
+    DuplicateLabel,
+    /// A reference of a block or of a deletion that names no node, or of a deletion that names the root.
+    NoSuchTarget,
+    /// A reference in a value that names no node.
+    UnresolvedReference,
+    /// A `phandle` that isn't one number of the allowed range.
     BadPhandle,
+    /// A `phandle` that another node has.
+    DuplicatePhandle,
     /// A name that the tool keeps for its own nodes.
     ReservedName,
     /// A blob of fewer bytes than a header has.
@@ -93,7 +101,11 @@ impl FaultKind {
             FaultKind::PropertyAfterNode => 17,
             FaultKind::DuplicateProperty => 20,
             FaultKind::DuplicateNode => 21,
+            FaultKind::DuplicateLabel => 22,
+            FaultKind::NoSuchTarget => 23,
+            FaultKind::UnresolvedReference => 24,
             FaultKind::BadPhandle => 25,
+            FaultKind::DuplicatePhandle => 26,
             FaultKind::ReservedName => 27,
             FaultKind::ShortHeader => 40,
             FaultKind::BadMagic => 41,
@@ -133,7 +145,11 @@ impl FaultKind {
             FaultKind::PropertyAfterNode => "PropertyAfterNode",
             FaultKind::DuplicateProperty => "DuplicateProperty",
             FaultKind::DuplicateNode => "DuplicateNode",
+            FaultKind::DuplicateLabel => "DuplicateLabel",
+            FaultKind::NoSuchTarget => "NoSuchTarget",
+            FaultKind::UnresolvedReference => "UnresolvedReference",
             FaultKind::BadPhandle => "BadPhandle",
+            FaultKind::DuplicatePhandle => "DuplicatePhandle",
             FaultKind::ReservedName => "ReservedName",
             FaultKind::ShortHeader => "ShortHeader",
             FaultKind::BadMagic => "BadMagic",

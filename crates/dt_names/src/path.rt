@@ -1,6 +1,7 @@
 //! Paths of nodes (Devicetree Specification v0.4, 2.2.3).
 
 ghost use Rattle.std.specs.Prelude.{◌≡◌, ℕ, ◌<◌, ◌≤◌, ◌++◌, ◌∷◌, [], length, take, false, true, None, OnOk, OnErr, IsOk, IfOk, IfErr, IfSome, MatchOption, slice_get};
+ghost use Rattle.std.specs.Iterator.{YieldsFirstRef, item_count};
 ghost use Rattle.std.specs.List.{AllByRecursion};
 ghost use Rattle.std.specs.Option.{option_copied};
 ghost use Rattle.std.specs.Io.KnownBytes.{Appends};
@@ -54,6 +55,21 @@ impl<'a> Model for NodePath<'a> {
     ghost view = { λ p. path_in p.text.now };
 
     ghost invariant = { λ p. IsPathOf p.text.now (path_in p.text.now) };
+}
+
+/// The names of a path, from that of the root's child down. They are seen as those that are left.
+#[derive(Drop)]
+pub struct PathNames<'a> {
+    rest: Option<&'a [u8]>,
+}
+
+impl<'a> Model for PathNames<'a> {
+    ghost use Rattle.std.specs.Prelude.{List, ℕ};
+    ghost use Rattle.dt_names.specs.Paths.{parts_left};
+
+    ghost Value = { List (List ℕ) };
+
+    ghost view = { λ n. parts_left n.rest };
 }
 
 // The bytes before the first `/`, and those behind it, where there is one.
@@ -122,6 +138,36 @@ impl<'a> NodePath<'a> {
         ensures names { AllByRecursion IsNodeName self.now }
     {
         self.text
+    }
+
+    /// The names, from that of the root's child down. Takes no memory.
+    pub fn names(&self) -> PathNames<'a>
+        ensures { result ≡ self.now }
+    {
+        if self.text == b"/".as_slice() {
+            return PathNames { rest: None };
+        }
+        let (_, rest) = cut(self.text);
+        PathNames { rest }
+    }
+}
+
+impl<'a> Iterator for PathNames<'a> {
+    type Item = &'a [u8];
+
+    ghost next_gives = { YieldsFirstRef (λ n. n) };
+
+    ghost remaining = { item_count (λ n. n) };
+
+    fn next(&mut self) -> Option<&'a [u8]> {
+        match self.rest {
+            None => None,
+            Some(names) => {
+                let (name, rest) = cut(names);
+                self.rest = rest;
+                Some(name)
+            }
+        }
     }
 }
 
@@ -202,6 +248,14 @@ impl Path {
             rest = behind;
         }
         None
+    }
+
+    /// The names, from that of the root's child down. Takes no memory.
+    pub fn names(&self) -> PathNames<'_>
+        ensures { result ≡ self.now }
+    {
+        let (_, rest) = cut(&self.text);
+        PathNames { rest }
     }
 
     // The text of the path.

@@ -1,7 +1,6 @@
-use Rattle.std.proofs.Common.{rules, ◌≡◌, ◌≢◌, ℕ, ◌<◌, ◌≤◌, List, Option, Some, None, IsSome, length, inl, inr, refl, sym, arith}
+use Rattle.std.proofs.Common.{rules, ◌≡◌, ℕ, List, Option, Some, None, IsSome, inl, inr, refl, arith}
 use Rattle.dt_model.specs.Names.{Name}
 use Rattle.dt_names.specs.Fault.{IsExclusive, IsOneRefusal}
-use Rattle.dt_names.specs.declared.fault.FaultKind.{FaultKind}
 use Rattle.dt_names.specs.declared.fault.FaultKind.TheVariants.{NoMemory, Limit, OutOfRange, Duplicate, BlobPhandle}
 use Rattle.dt_flat.specs.Arena.{Slot}
 use Rattle.dt_flat.specs.Refusals.{MayAdd, MaySet, WhyNoNode, WhyNotReserved, WhyNotSet}

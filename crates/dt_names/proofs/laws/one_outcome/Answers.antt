@@ -1,8 +1,7 @@
-use Rattle.std.proofs.Common.{◌≡◌, ◌≢◌, ℕ, ◌<◌, ◌≤◌, List, length, refl, sym, ap, ◌∙◌, arith}
+use Rattle.std.proofs.Common.{◌≡◌, ℕ, ◌<◌, ◌≤◌, List, length, refl, sym, ap, ◌∙◌, arith}
 use Rattle.dt_model.specs.Path.{Path}
 use Rattle.dt_names.specs.Fault.{IsExclusive, IsOneRefusal}
 use Rattle.dt_names.specs.Paths.{IsPathOf, WhyNoPath, WhyNotPushed}
-use Rattle.dt_names.specs.declared.fault.FaultKind.{FaultKind}
 use Rattle.dt_names.specs.declared.fault.FaultKind.TheVariants.{NoMemory, Limit, BadName}
 use Rattle.dt_names.proofs.PathTexts.{same_path}
 use Rattle.dt_names.proofs.laws.one_outcome.Goals as goal

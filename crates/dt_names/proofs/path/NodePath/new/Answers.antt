@@ -1,7 +1,5 @@
-use Rattle.std.proofs.Common.{rules, ◌≡◌, ◌≢◌, ℕ, ◌<◌, length, codes, refl, sym, ap, subst, arith}
-use Rattle.dt_model.specs.Path.{Path}
-use Rattle.dt_names.specs.Paths.{IsPathOf, path_in}
-use Rattle.dt_names.proofs.PathTexts.{path_some, names_of_path, root_path, other_path}
+use Rattle.std.proofs.Common.{rules, ◌≡◌, ◌≢◌, ◌<◌, length, codes, ap, arith}
+use Rattle.dt_names.proofs.PathTexts.{path_some, names_of_path, other_path}
 use Rattle.dt_names.proofs.path.NodePath.new.Goals as goal
 
 pub returns-then-is_empty : goal.returns-then-is_empty
