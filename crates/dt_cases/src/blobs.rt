@@ -4,20 +4,21 @@ use crate::answer::{Answer, Stop, bytes, push_line};
 use crate::input::bytes_of;
 use crate::numbers::index;
 use crate::reading::{lines_of, push_property};
-use dt_chain::compile;
+use dt_chain::{compile, compile_raw};
 use dt_flat::FlatTree;
 use dt_names::Fault;
 use dt_read::Blob;
 use dt_write::write_blob;
 use std::alloc::{AllocError, Global};
 
-/// `compile` gives a source's blob; `check` tells what a blob holds, in a line, `read` its tree and `root` its root; `rewrite`
+/// `compile` gives a source's blob, `compile-raw` that of a raw source; `check` tells what a blob holds, in a line, `read` its tree and `root` its root; `rewrite`
 /// gives the blob of its tree. Of any bytes, `size` tells how many they are, `first N` gives the first ones, and
 /// `change AT HEX` gives them with others at a place. `structure HEX` gives a blob with the bytes as its structure block, and with
 /// these ones as its strings block.
 pub fn call(alloc: Global, name: &str, words: &str, input: &[u8]) -> Result<Answer, Stop> {
     match name {
         "compile" => bytes_of_blob(compile(alloc, input)),
+        "compile-raw" => bytes_of_blob(compile_raw(alloc, input)),
         "check" => checked(alloc, input),
         "read" => read(alloc, input),
         "root" => root_of(alloc, input),

@@ -1,6 +1,5 @@
-pub mod Building
-pub mod Covered
-pub mod Built
 pub mod Means
 pub mod Compiled
+pub mod Steps
+pub mod Laws
 pub mod Input

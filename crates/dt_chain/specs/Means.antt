@@ -1,13 +1,22 @@
--- What a text means.
+-- What a text means, and the tree that it is compiled to.
 use Rattle.std.specs.Prelude.{◌≡◌, ℕ, false, List}
+use Rattle.dt_model.specs.Instance.{IsTreeOf}
 use Rattle.dt_model.specs.Meaning.{Meaning}
-use Rattle.dt_model.specs.Source.{base, SourceMeans}
-use Rattle.dt_parse.specs.Grammar.{Says}
+use Rattle.dt_model.specs.Source.{Mode, SourceMeans}
+use Rattle.dt_model.specs.Tree.{Reading}
+use Rattle.dt_grammar.specs.Grammar.{Says}
 use Rattle.dt_parse.specs.Reading.{IsParsed}
 
--- the text is a base source, and its places mean this
-pub record TextMeans (text : List ℕ) (m : Meaning) : Type 0 where
+-- the text is a source that is no overlay's, and its places mean this
+pub record TextMeans (mode : Mode) (text : List ℕ) (m : Meaning) : Type 0 where
   pub says : Says
   pub parsed : IsParsed text says
   pub plain : says.plugin ≡ false
-  pub means : SourceMeans base says.reservations says.places m
+  pub means : SourceMeans mode says.reservations says.places m
+
+-- the same, and they are compiled to this tree
+pub record TextHasTree (mode : Mode) (text : List ℕ) (t : Reading) : Type 0 where
+  pub says : Says
+  pub parsed : IsParsed text says
+  pub plain : says.plugin ≡ false
+  pub tree : IsTreeOf mode says.reservations says.places t

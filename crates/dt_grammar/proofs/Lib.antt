@@ -32,3 +32,6 @@ pub mod SameKinds
 pub mod Known
 pub mod Verdicts
 pub mod SampleFaults
+pub mod NestedPlaces
+pub mod TextBytes
+pub mod ValidPlaces

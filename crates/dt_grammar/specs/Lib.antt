@@ -1,5 +1,6 @@
 pub mod Faults
 pub mod Words
+pub mod WordBytes
 pub mod Grammar
 pub mod Unchecked
 pub mod Relaxed

@@ -1,11 +1,15 @@
 //! What is true of the grammar.
 
-ghost use Rattle.std.specs.Prelude.{◌≡◌, ◌↔◌, ◌-◌, ◌++◌, ℕ, List, [], length};
+ghost use Rattle.std.specs.Prelude.{◌≡◌, ◌↔◌, ◌-◌, ◌<◌, ◌++◌, ℕ, List, [], length};
+ghost use Rattle.std.specs.List.{AllByRecursion};
 ghost use Rattle.dt_names.specs.declared.fault.FaultKind.{FaultKind};
 ghost use Rattle.dt_names.specs.declared.fault.FaultKind.TheVariants.{Syntax};
-ghost use Rattle.dt_model.specs.Source.{Reference, Part};
+ghost use Rattle.dt_model.specs.Source.{Reference, Part, IsPlace};
+ghost use Rattle.dt_model.specs.Nested.{AreNested};
+ghost use Rattle.dt_model.specs.Valid.{IsReservation};
 ghost use Rattle.dt_expr.specs.Expression.{Expression};
 ghost use Rattle.dt_grammar.specs.Words.{Word, Words, IsReferenceWord};
+ghost use Rattle.dt_grammar.specs.WordBytes.{HaveBytes};
 ghost use Rattle.dt_grammar.specs.Grammar.{
   Class,
   primary,
@@ -88,6 +92,19 @@ pub fn source_has_no_fault()
 /// The fault of a text's tokens and its place are one.
 pub fn one_fault()
     ensures { (ws left rest : Words) (k j : FaultKind) → Breaks outside Whole ws k left → Breaks outside Whole ws j rest → (k ≡ j) × (left ≡ rest) }
+{}
+
+/// The places of a source are well nested, and there is one at least; its reservations are ones.
+pub fn source_is_nested()
+    ensures nested { (ws : Words) (s : Says) → SpellsSource ws s → AreNested 0 s.places }
+    ensures some { (ws : Words) (s : Says) → SpellsSource ws s → 0 < length s.places }
+    ensures reservations { (ws : Words) (s : Says) → SpellsSource ws s → AllByRecursion IsReservation s.reservations }
+{}
+
+/// The names at the places of a source are names, and its bytes are bytes, where its words are ones that a text may have: of
+/// other words the grammar takes any number as a byte.
+pub fn source_has_places()
+    ensures { (ws : Words) (s : Says) → HaveBytes ws → SpellsSource ws s → AllByRecursion IsPlace s.places }
 {}
 
 /// Small sources say what they should, and one that ends too early, or has a property behind a child, says nothing.

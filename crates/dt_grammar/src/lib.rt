@@ -7,5 +7,6 @@ mod laws;
 
 pub use laws::{
     descent_is_exact, one_expression, one_fault, one_number, one_reference, one_relaxed,
-    one_source, one_value, source_has_no_fault, source_is_checked, syntax_is_where_none_goes_on,
+    one_source, one_value, source_has_no_fault, source_has_places, source_is_checked,
+    source_is_nested, syntax_is_where_none_goes_on,
 };

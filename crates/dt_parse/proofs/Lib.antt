@@ -18,3 +18,4 @@ pub mod ReadValues
 pub mod ReadReserves
 pub mod Beginnings
 pub mod Following
+pub mod LexedBytes

@@ -12,6 +12,6 @@ mod statement;
 mod stop;
 mod value;
 
-pub use laws::one_outcome;
+pub use laws::{one_outcome, parsed_has_places};
 pub use parser::parse;
 pub use source::{Form, Item, Piece, Reference, Reservation, Source, Value};

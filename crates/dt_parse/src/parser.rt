@@ -8,6 +8,7 @@ ghost use Rattle.dt_lex.specs.declared.token.TokenKind.TheVariants as kind;
 ghost use Rattle.dt_lex.specs.declared.token.Keyword.TheVariants as keyword;
 ghost use Rattle.dt_expr.specs.Fits.{IsWidth};
 ghost use Rattle.dt_grammar.specs.Words.{Words};
+ghost use Rattle.dt_grammar.specs.WordBytes.{HaveBytes};
 ghost use Rattle.dt_grammar.specs.Unchecked.{RawPlace, RawReserve, RawSource, reserve_of, all_but_last, says_of};
 ghost use Rattle.dt_grammar.specs.Strict.{AreLabelTexts, IsReserve};
 ghost use Rattle.dt_grammar.specs.Wanted.{Made, kind_at, made_places, made_behind, made_source, Whole, MoreHeaders, NextVersion, Top, AfterTopLabels, StatementThen};
@@ -131,6 +132,7 @@ fn reservations<'a>(
 
 /// Reads a source, to the end of the text.
 fn source<'a>(alloc: Global, cursor: &mut Cursor<'a, '_>) -> Result<Source<'a>, Stop>
+    requires { HaveBytes cursor.old }
     ensures ok { IfOk result (λ s. (r : RawSource) × IsRead outside Whole cursor.old (made_source r) [] × (s ≡ says_of r)) }
     ensures err { IfErr result (λ stop. IsBroken outside Whole cursor.old stop) }
 {

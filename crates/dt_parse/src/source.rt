@@ -1,13 +1,19 @@
 //! What the grammar makes of a text: sources, as items in the order of their text.
 
-ghost use Rattle.std.specs.Prelude.{◌≡◌, ◌≢◌, ℕ, List, MatchOption, drop, map};
+ghost use Rattle.std.specs.Prelude.{◌≡◌, ◌≢◌, ◌<◌, ℕ, List, MatchOption, drop, length, map};
+ghost use Rattle.std.specs.List.{AllByRecursion};
+ghost use Rattle.dt_model.specs.Valid.{IsReservation};
+ghost use Rattle.dt_model.specs.Source.{IsPlace};
+ghost use Rattle.dt_model.specs.Nested.{AreNested};
 ghost use Rattle.dt_grammar.specs.Grammar.{SpellsSource};
 ghost use Rattle.dt_grammar.specs.Words.{Words};
 ghost use Rattle.dt_grammar.specs.Unchecked.{a_path, path_of_names, ended_names};
 ghost use Rattle.dt_grammar.specs.Strict.{IsReferenceText};
 ghost use Rattle.dt_grammar.specs.Paths.{braced};
 ghost use Rattle.dt_parse.specs.Said.{reservation_said, place_said, said};
+ghost use Rattle.dt_parse.specs.Spelled.{IsSpelled};
 
+use dt_grammar::{source_has_places, source_is_nested};
 use dt_names::{Label, NodeName, NodePath, PropName};
 use std::marker::Model;
 
@@ -102,15 +108,15 @@ pub struct Source<'a> {
 }
 
 impl<'a> Model for Source<'a> {
-    ghost use Rattle.dt_grammar.specs.Words.{Words};
-    ghost use Rattle.dt_grammar.specs.Grammar.{Says, SpellsSource};
+    ghost use Rattle.dt_grammar.specs.Grammar.{Says};
     ghost use Rattle.dt_parse.specs.Said.{said};
+    ghost use Rattle.dt_parse.specs.Spelled.{IsSpelled};
 
     ghost Value = { Says };
 
     ghost view = { λ s. said s.plugin s.reservations.items s.items.items };
 
-    ghost invariant = { λ s. (ws : Words) × SpellsSource ws (said s.plugin s.reservations.items s.items.items) };
+    ghost invariant = { λ s. IsSpelled (said s.plugin s.reservations.items s.items.items) };
 }
 
 impl<'a> Source<'a> {
@@ -120,7 +126,7 @@ impl<'a> Source<'a> {
         reservations: Vec<Reservation>,
         items: Vec<Item<'a>>,
     ) -> Source<'a>
-        requires { (ws : Words) × SpellsSource ws (said plugin reservations.items items.items) }
+        requires { IsSpelled (said plugin reservations.items items.items) }
         ensures { result ≡ said plugin reservations.items items.entry.items }
     {
         Source {
@@ -130,12 +136,19 @@ impl<'a> Source<'a> {
         }
     }
 
-    /// What is true of each source: some tokens spell it. Does nothing.
+    /// What is true of each source: some tokens spell it; what its places name are names, and their bytes are bytes; they are
+    /// well nested, and there is one at least; its reservations are ones. Does nothing.
     pub fn spelled(&self)
-        ensures { (ws : Words) × SpellsSource ws self.now }
+        ensures spelled { (ws : Words) × SpellsSource ws self.now }
+        ensures places { AllByRecursion IsPlace self.now.places }
+        ensures nested { AreNested 0 self.now.places }
+        ensures reservations { AllByRecursion IsReservation self.now.reservations }
+        ensures some { 0 < length self.now.places }
     {
         // The invariant says it, and it is known where a field is named.
         let _ = &self.items;
+        source_is_nested();
+        source_has_places();
     }
 
     /// Whether it is an overlay's: `/plugin/;` stands behind `/dts-v1/;`.

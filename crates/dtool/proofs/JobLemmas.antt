@@ -2,10 +2,11 @@
 use Rattle.std.proofs.Common.{◌≡◌, ℕ, List, [], ◌∷◌, map, length, get_or, arith, Bor}
 use Rattle.dtool.specs.Job.{IsAsked}
 use Rattle.dtool.specs.declared.job.Job.{Job}
-use Rattle.dtool.specs.declared.job.Job.TheVariants.{Compile, Check}
+use Rattle.dtool.specs.declared.job.Job.TheVariants.{Compile, CompileRaw, Check}
 
 one : (job : Job) (count : ℕ) → IsAsked job count → count ≡ 1
 one Compile count asked = asked
+one CompileRaw count asked = asked
 one Check count asked = asked
 
 among : (inputs : List (Bor (List ℕ))) (d : Bor (List ℕ)) (P : List (List ℕ) → Type 0) → length inputs ≡ 1 → P ((get_or inputs 0 d).now ∷ []) → P (map (λ input. input.now) inputs)

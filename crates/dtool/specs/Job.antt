@@ -2,6 +2,7 @@
 use Rattle.std.specs.Prelude.{◌≡◌, ◌++◌, ◌∷◌, [], ℕ, List, Bool, Option, None, length, codes, decimal, if◌then◌else◌}
 use Rattle.std.specs.List.{sum_by}
 use Rattle.hex.specs.Hex.{encode_lower}
+use Rattle.dt_model.specs.Source.{Mode, base, raw}
 use Rattle.dt_model.specs.Tree.{Reading, nodes_of}
 use Rattle.dt_model.specs.Format.{Reads, IsWithin}
 use Rattle.dt_model.specs.Checks.{BlobFault, IsFirstFault}
@@ -11,11 +12,12 @@ use Rattle.dt_read.specs.Kinds.{kind_of}
 use Rattle.dt_chain.specs.Compiled.{IsCompiled, WhyNotCompiled, IsCompilerFault}
 use Rattle.dtool.specs.Written.{IsUntouched, IsCutShort}
 use Rattle.dtool.specs.declared.job.Job.{Job}
-use Rattle.dtool.specs.declared.job.Job.TheVariants.{Compile, Check}
+use Rattle.dtool.specs.declared.job.Job.TheVariants.{Compile, CompileRaw, Check}
 
 -- a job takes so many inputs
 abbrev pub IsAsked : Job → ℕ → Type 0
 IsAsked Compile count = count ≡ 1
+IsAsked CompileRaw count = count ≡ 1
 IsAsked Check count = count ≡ 1
 
 -- how a blob is written: as it is, or as hexadecimal and a line feed
@@ -35,10 +37,16 @@ pub record IsCounted (blob bytes : List ℕ) : Type 0 where
   pub within : IsWithin blob tree
   pub line : bytes ≡ counts_line tree
 
+-- the blob that a source is compiled to
+abbrev pub IsBlobOf : Mode → Bool → List ℕ → List ℕ → Type 0
+IsBlobOf mode hex text bytes = (blob : List ℕ) × IsCompiled mode text blob × (bytes ≡ printed hex blob)
+
 -- what the job writes of the inputs
 abbrev pub IsWritten : Job → Bool → List (List ℕ) → List ℕ → Type 0
-IsWritten Compile hex (text ∷ []) bytes = (blob : List ℕ) × IsCompiled text blob × (bytes ≡ printed hex blob)
+IsWritten Compile hex (text ∷ []) bytes = IsBlobOf base hex text bytes
 IsWritten Compile hex _ bytes = ⊥
+IsWritten CompileRaw hex (text ∷ []) bytes = IsBlobOf raw hex text bytes
+IsWritten CompileRaw hex _ bytes = ⊥
 IsWritten Check hex (blob ∷ []) bytes = IsCounted blob bytes
 IsWritten Check hex _ bytes = ⊥
 
@@ -46,16 +54,23 @@ IsWritten Check hex _ bytes = ⊥
 abbrev pub WhyNoBlob : FaultKind → Option ℕ → List ℕ → Type 0
 WhyNoBlob kind at bytes = (f : BlobFault) × (kind ≡ kind_of f) × IsFirstFault bytes f at
 
+-- why a source isn't compiled
+abbrev pub WhyNoBlobOf : Mode → FaultKind → Option ℕ → List ℕ → Type 0
+WhyNoBlobOf mode kind at text = WhyNotCompiled mode text (record { kind = kind; at = at }) × IsCompilerFault kind
+
 -- why the inputs are refused
 abbrev pub WhyNotMade : FaultKind → Option ℕ → Job → List (List ℕ) → Type 0
-WhyNotMade kind at Compile (text ∷ []) = WhyNotCompiled text (record { kind = kind; at = at }) × IsCompilerFault kind
+WhyNotMade kind at Compile (text ∷ []) = WhyNoBlobOf base kind at text
 WhyNotMade kind at Compile _ = ⊥
+WhyNotMade kind at CompileRaw (text ∷ []) = WhyNoBlobOf raw kind at text
+WhyNotMade kind at CompileRaw _ = ⊥
 WhyNotMade kind at Check (blob ∷ []) = WhyNoBlob kind at blob
 WhyNotMade kind at Check _ = ⊥
 
 -- the job takes memory
 abbrev pub TakesMemory : Job → Type 0
 TakesMemory Compile = Unit {0}
+TakesMemory CompileRaw = Unit {0}
 TakesMemory Check = ⊥
 
 -- Why a job's output wasn't written: memory was refused, to a job that takes some, and nothing was written; or the sink failed,

@@ -8,7 +8,7 @@ use Rattle.clap.specs.declared.builder.action.ArgAction.TheVariants.{SetTrue}
 use Rattle.clap.specs.declared.error.kind.ErrorKind.TheVariants.{MissingSubcommand, OutOfMemory}
 use Rattle.clap.specs.declared.error.Error.{Error}
 use Rattle.dtool.specs.declared.job.Job.{Job}
-use Rattle.dtool.specs.declared.job.Job.TheVariants.{Compile, Check}
+use Rattle.dtool.specs.declared.job.Job.TheVariants.{Compile, CompileRaw, Check}
 use Rattle.dtool.specs.declared.words.Line.{Line}
 use Rattle.dtool.specs.declared.words.LineFault.{LineFault}
 use Rattle.dtool.specs.declared.words.LineFault.TheVariants.{Memory, Unread, Words}
@@ -17,13 +17,17 @@ use Rattle.dtool.specs.declared.words.LineFault.TheVariants.{Memory, Unread, Wor
 abbrev pub hex_flag : Rule
 hex_flag = record (new_rule (codes "hex")) { long = Some (codes "hex"); action = Some SetTrue }
 
+-- `--raw`
+abbrev pub raw_flag : Rule
+raw_flag = record (new_rule (codes "raw")) { long = Some (codes "raw"); action = Some SetTrue }
+
 -- `FILE`, which must be there
 abbrev pub file_word : Rule
 file_word = record (new_rule (codes "FILE")) { required = true }
 
--- `compile [--hex] FILE`
+-- `compile [--hex] [--raw] FILE`
 abbrev pub compile_command : App
-compile_command = with_rule (with_rule (new_app (codes "compile")) hex_flag) file_word
+compile_command = with_rule (with_rule (with_rule (new_app (codes "compile")) hex_flag) raw_flag) file_word
 
 -- `check FILE`
 abbrev pub check_command : App
@@ -40,20 +44,26 @@ dtool = with_subcommand (with_subcommand bare compile_command.top) check_command
 -- a job's command
 abbrev pub command_of : Job → Text
 command_of Compile = codes "compile"
+command_of CompileRaw = codes "compile"
 command_of Check = codes "check"
 
--- the flag `--hex` is there or not, as the line says; a job that writes no blob has none
-abbrev pub IsHex : Job → List Row → Bool → Type 0
-IsHex Compile rows hex =
-    (one_of (codes "hex") rows ≡ Some (codes "true") → hex ≡ true) × (one_of (codes "hex") rows ≡ Some (codes "false") → hex ≡ false)
-IsHex Check rows hex = hex ≡ false
+-- a flag is there or not, as this says
+pub record IsFlag (flag : Text) (rows : List Row) (is : Bool) : Type 0 where
+  pub there : one_of flag rows ≡ Some (codes "true") → is ≡ true
+  pub not_there : one_of flag rows ≡ Some (codes "false") → is ≡ false
 
--- a command that was found is the job's, with the file, and with the flag or without
+-- the flags are there or not, as the job and its line say; a job that writes no blob has none
+abbrev pub HasFlags : Job → List Row → Bool → Type 0
+HasFlags Compile rows hex = IsFlag (codes "hex") rows hex × IsFlag (codes "raw") rows false
+HasFlags CompileRaw rows hex = IsFlag (codes "hex") rows hex × IsFlag (codes "raw") rows true
+HasFlags Check rows hex = hex ≡ false
+
+-- a command that was found is the job's, with the file, and with its flags
 pub record Names (found : Option (Text × List Row)) (line : Line) : Type 0 where
   pub rows : List Row
   pub command : found ≡ Some (command_of line.job, rows)
   pub file : first_of (codes "FILE") rows ≡ Some line.file.now
-  pub hex : IsHex line.job rows line.hex
+  pub flags : HasFlags line.job rows line.hex
 
 -- it is no job's, or has no file
 abbrev pub NamesNone : Option (Text × List Row) → Type 0

@@ -4,7 +4,7 @@ ghost use Rattle.std.specs.Prelude.{◌≡◌, ◌∷◌, [], List, ℕ, OnOk, I
 ghost use Rattle.std.specs.Io.KnownBytes.{Appends};
 ghost use Rattle.dtool.specs.Compiling.{WhyNotShown};
 ghost use Rattle.dtool.specs.Job.{IsWritten, WhyNotPerformed, printed};
-ghost use Rattle.dtool.specs.declared.job.Job.TheVariants.{Compile};
+ghost use Rattle.dtool.specs.declared.job.Job.TheVariants.{Compile, CompileRaw};
 
 use dt_names::{Fault, Sink, put_all};
 use std::alloc::Global;
@@ -23,6 +23,22 @@ pub fn compile<S: Sink>(alloc: Global, hex: bool, text: &[u8], out: &mut S) -> R
         (S.contents out.old) (S.contents out.new) (S.has_failed out.old) (S.has_failed out.new)) }
 {
     let blob = dt_chain::compile(alloc, text)?;
+    show(alloc, hex, blob.as_slice(), out)
+}
+
+/// The same of a source as it stands: bookkeeping nodes may be written, and nothing is added.
+///
+/// # Errors
+///
+/// Those of `dt_chain::compile_raw`, want of memory for the hexadecimal, and `WriteFault`, as in `compile`.
+pub fn compile_raw<S: Sink>(alloc: Global, hex: bool, text: &[u8], out: &mut S) -> Result<(), Fault>
+    ensures written { OnOk result ((bytes : List ℕ) × IsWritten CompileRaw hex (text.now ∷ []) bytes
+        × Appends (S.contents out.old) (S.contents out.new) bytes) }
+    ensures sound { OnOk result (S.has_failed out.new ≡ S.has_failed out.old) }
+    ensures refused { IfErr result (λ fault. WhyNotPerformed fault.kind fault.at CompileRaw hex (text.now ∷ [])
+        (S.contents out.old) (S.contents out.new) (S.has_failed out.old) (S.has_failed out.new)) }
+{
+    let blob = dt_chain::compile_raw(alloc, text)?;
     show(alloc, hex, blob.as_slice(), out)
 }
 

@@ -5,7 +5,7 @@ ghost use Rattle.std.specs.Io.KnownBytes.{Appends};
 ghost use Rattle.dtool.specs.Job.{IsAsked, IsWritten, WhyNotPerformed};
 
 use crate::checking::check;
-use crate::compiling::compile;
+use crate::compiling::{compile, compile_raw};
 use dt_names::{Fault, Sink};
 use std::alloc::Global;
 
@@ -14,6 +14,8 @@ use std::alloc::Global;
 pub enum Job {
     /// A blob of one devicetree source.
     Compile,
+    /// The same of a source as it stands: bookkeeping nodes may be written, and nothing is added.
+    CompileRaw,
     /// A line that tells how many nodes, properties and reservations a blob has.
     Check,
 }
@@ -55,6 +57,7 @@ fn run<S: Sink>(alloc: Global, job: Job, hex: bool, input: &[u8], out: &mut S) -
 {
     match job {
         Job::Compile => compile(alloc, hex, input, out),
+        Job::CompileRaw => compile_raw(alloc, hex, input, out),
         Job::Check => check(input, out),
     }
 }

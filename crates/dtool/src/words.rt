@@ -1,9 +1,9 @@
 //! The words of the command line.
 
-ghost use Rattle.std.specs.Prelude.{◌≡◌, false, List, map, IfOk, IfErr, MatchOption};
+ghost use Rattle.std.specs.Prelude.{◌≡◌, false, Bool, List, codes, map, IfOk, IfErr, MatchOption};
 ghost use Rattle.clap.specs.declared.builder.command.Command.{out-Command};
-ghost use Rattle.clap.specs.Words.{Text, app_of, rule_of, subcommand_of, subcommand_rows_of, with_subcommand};
-ghost use Rattle.dtool.specs.Words.{IsLine, Names, NamesNone, Tells, TellsUnread, WhyNoLine, bare, dtool, check_command, compile_command, file_word, hex_flag};
+ghost use Rattle.clap.specs.Words.{Row, Text, app_of, rule_of, subcommand_of, subcommand_rows_of, with_subcommand};
+ghost use Rattle.dtool.specs.Words.{IsLine, Names, NamesNone, Tells, TellsUnread, WhyNoLine, bare, dtool, check_command, compile_command, command_of, file_word, hex_flag, raw_flag, HasFlags, IsFlag};
 ghost use Rattle.dtool.specs.declared.words.LineFault.TheVariants.{Memory};
 
 use crate::job::Job;
@@ -124,7 +124,7 @@ fn line_in<'a>(matches: &ArgMatches<'a>) -> Option<Line<'a>>
 {
     match matches.subcommand() {
         Some(("compile", found)) => Some(Line {
-            job: Job::Compile,
+            job: compiling(found.get_flag("raw")),
             hex: found.get_flag("hex"),
             file: found.get_str("FILE")?,
         }),
@@ -137,6 +137,14 @@ fn line_in<'a>(matches: &ArgMatches<'a>) -> Option<Line<'a>>
     }
 }
 
+/// The job of a source: the flag `--raw` is there or not.
+fn compiling(raw: bool) -> Job
+    ensures { (rows : List Row) (hex : Bool) → IsFlag (codes "hex") rows hex → IsFlag (codes "raw") rows raw →
+        (command_of result ≡ codes "compile") × HasFlags result rows hex }
+{
+    if raw { Job::CompileRaw } else { Job::Compile }
+}
+
 /// The word for an input's file.
 fn file<'a>(alloc: Global, help: &'a str) -> Arg<'a>
     ensures rule { rule_of result ≡ file_word }
@@ -146,7 +154,7 @@ fn file<'a>(alloc: Global, help: &'a str) -> Arg<'a>
 }
 
 /// The flag for hexadecimal.
-fn flag<'a>(alloc: Global) -> Arg<'a>
+fn hex<'a>(alloc: Global) -> Arg<'a>
     ensures rule { rule_of result ≡ hex_flag }
     ensures own { result.global ≡ false }
 {
@@ -156,14 +164,26 @@ fn flag<'a>(alloc: Global) -> Arg<'a>
         .help("Write the blob as lower-case hexadecimal and a line feed")
 }
 
-/// `compile [--hex] FILE`.
+/// The flag for a source that is taken as it stands.
+fn raw<'a>(alloc: Global) -> Arg<'a>
+    ensures rule { rule_of result ≡ raw_flag }
+    ensures own { result.global ≡ false }
+{
+    Arg::new(alloc, "raw")
+        .long("raw")
+        .action(ArgAction::SetTrue)
+        .help("Take the source as it stands: bookkeeping nodes may be written, and none is added")
+}
+
+/// `compile [--hex] [--raw] FILE`.
 fn compile<'a>(alloc: Global) -> Result<Command<'a>, AllocError>
     ensures shape { IfOk result (λ command. app_of command ≡ compile_command) }
     ensures own { IfOk result (λ command. (out-Command command).has_globals ≡ false) }
 {
     Command::new(alloc, "compile")
         .about("Makes a blob of a devicetree source")
-        .arg(flag(alloc))?
+        .arg(hex(alloc))?
+        .arg(raw(alloc))?
         .arg(file(alloc, "The source; the word stdin is standard input"))
 }
 

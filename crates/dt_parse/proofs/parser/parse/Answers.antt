@@ -1,4 +1,4 @@
-use Rattle.std.proofs.Common.{subst, sym, ap, ◌∙◌, rules, ◌≡◌, ◌-◌, [], List, drop, length}
+use Rattle.std.proofs.Common.{subst, sym, ap, arith, ◌∙◌, rules, ◌≡◌, ◌-◌, [], List, drop, length}
 use Rattle.std.specs.List.{AllByRecursion}
 use Rattle.dt_names.specs.declared.fault.FaultKind.TheVariants.{NoMemory}
 use Rattle.dt_grammar.specs.Words.{Words, words_of}
@@ -11,6 +11,8 @@ use Rattle.dt_lex.specs.declared.token.Token.{Token}
 use Rattle.dt_lex.specs.Lexing.{WhyNotLexed}
 use Rattle.dt_grammar.specs.Grammar.{SpellsSource}
 use Rattle.std.proofs.lemmas.Result.{err_from_is_err_and}
+use Rattle.dt_grammar.specs.WordBytes.{HaveBytes}
+use Rattle.dt_parse.proofs.LexedBytes.{lexed_have_bytes}
 use Rattle.dt_parse.proofs.Parsing.{all_inside, source_spelled, why_untagged, why_broken, source_kind}
 
 pub returns-in_err-tokens-clause-err : goal.returns-in_err-tokens-clause-err
@@ -26,6 +28,11 @@ returns-then-not-is_tagged-clause-err c =
     let ws = c.new-cursor.ensures ∙ ap (words_of c.args.text.now) c.as_slice.ensures.value in
     why_untagged c.args.text.now c.in_ok-tokens.tokens.items c.at.result c.in_ok-tokens.ensures.ok.0 c.in_ok-tokens.ensures.ok.1
     (λ t. search (rules, c.is_tagged.ensures.1 (subst IsTagged (sym ws) t), c.if-not-is_tagged.true)) c.at.ensures.kind c.at.ensures.at
+
+pub source-requires : goal.source-requires
+source-requires c =
+    let ws = c.new-cursor.ensures ∙ ap (words_of c.args.text.now) c.as_slice.ensures.value in
+    subst HaveBytes (sym ws) (lexed_have_bytes c.args.text.now c.in_ok-tokens.tokens.items (λ i. omega (arith, c.type_inv.text i)) c.in_ok-tokens.ensures.ok.1)
 
 pub returns-in-Ok-clause-ok : goal.returns-in-Ok-clause-ok
 returns-in-Ok-clause-ok c =

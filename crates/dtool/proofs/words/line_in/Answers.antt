@@ -1,6 +1,7 @@
 use Rattle.std.proofs.Common.{rules, ◌≡◌, ◌∙◌, refl, sym, ap, codes, Some}
-use Rattle.clap.specs.Words.{found_of, rows_of, subcommand_rows_of}
+use Rattle.clap.specs.Words.{Text, found_of, rows_of, subcommand_rows_of}
 use Rattle.clap.proofs.WalkLemmas.{first_value-rows, one_text-rows}
+use Rattle.dtool.specs.Words.{IsFlag}
 use Rattle.dtool.proofs.WordLemmas.{entry_is, no_file}
 use Rattle.dtool.proofs.words.line_in.Goals as goal
 
@@ -21,14 +22,20 @@ returns-in_ok-get_str-in-Some-compile-default c =
     let rows = rows_of (found_of arm.found.now) in
     let found : subcommand_rows_of c.args.matches.now ≡ Some (codes "compile", rows) =
     entry_is _ _ _ _ _ (ap Some (sym name) ∙ arm.ensures.name) arm.ensures.rows in
+    let hex : IsFlag (codes "hex") rows c.get_flag-in-Some-compile-default.result = record {
+      there = λ e. c.get_flag-in-Some-compile-default.ensures.value (one_text-rows (found_of arm.found.now) (codes "hex") ∙ e);
+      not_there = λ e. c.get_flag-in-Some-compile-default.ensures.other (one_text-rows (found_of arm.found.now) (codes "hex") ∙ e);
+    } in
+    let raw : IsFlag (codes "raw") rows c.get_flag.result = record {
+      there = λ e. c.get_flag.ensures.value (one_text-rows (found_of arm.found.now) (codes "raw") ∙ e);
+      not_there = λ e. c.get_flag.ensures.other (one_text-rows (found_of arm.found.now) (codes "raw") ∙ e);
+    } in
+    let job = c.compiling.ensures rows c.get_flag-in-Some-compile-default.result hex raw in
     record {
       rows = rows;
-      command = found;
+      command = found ∙ ap (λ (x : Text). Some (x, rows)) (sym job.0);
       file = sym (first_value-rows (found_of arm.found.now) (codes "FILE")) ∙ sym c.in_ok-get_str-in-Some-compile-default.ensures;
-      hex = (
-        λ e. c.get_flag.ensures.value (one_text-rows (found_of arm.found.now) (codes "hex") ∙ e),
-        λ e. c.get_flag.ensures.other (one_text-rows (found_of arm.found.now) (codes "hex") ∙ e),
-      );
+      flags = job.1;
     }
 
 pub returns-in_err-get_str-in-Some-check-default : goal.returns-in_err-get_str-in-Some-check-default
@@ -52,5 +59,5 @@ returns-in_ok-get_str-in-Some-check-default c =
       rows = rows;
       command = found;
       file = sym (first_value-rows (found_of arm.found.now) (codes "FILE")) ∙ sym c.in_ok-get_str-in-Some-check-default.ensures;
-      hex = refl;
+      flags = refl;
     }

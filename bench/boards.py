@@ -1,0 +1,165 @@
+#!/usr/bin/env python3
+"""Compiles every source below a folder with dtool and with dtc, compares what the blobs say, and tells the ratios of time
+and of memory.
+
+    python3 bench/boards.py crates/dtool/out/dtool FOLDER [RUNS]
+
+A folder of real boards is made of a Linux source tree, each board behind the C preprocessor:
+
+    apt-get install linux-source && tar -xf /usr/src/linux-source-*.tar.xz
+    python3 bench/boards.py make linux-source-* FOLDER
+
+Two blobs say the same where the nodes, the order of siblings and the values are the same, a number of a node standing for
+that node wherever either compiler put it, and where properties are the same in any order. Overlays (`/plugin/`) are counted
+and left out. dtc has to be installed."""
+import os
+import struct
+import subprocess
+import sys
+import tempfile
+import time
+from collections import Counter
+from concurrent.futures import ThreadPoolExecutor
+
+
+def make(linux, folder):
+    """Writes each board of a Linux source tree, behind the C preprocessor, into a folder."""
+    boards = []
+    for base, _, names in os.walk(os.path.join(linux, "arch")):
+        if "/boot/dts" in base:
+            boards += [os.path.join(base, name) for name in names if name.endswith((".dts", ".dtso"))]
+
+    def one(path):
+        out = os.path.join(folder, os.path.relpath(path, os.path.join(linux, "arch")).replace("/boot/dts", ""))
+        os.makedirs(os.path.dirname(out), exist_ok=True)
+        prefixes = os.path.join(linux, "scripts/dtc/include-prefixes")
+        command = ["gcc", "-E", "-nostdinc", "-I", prefixes, "-undef", "-D__DTS__", "-x", "assembler-with-cpp", path, "-o", out]
+        done = subprocess.run(command, stderr=subprocess.DEVNULL)
+        if done.returncode and os.path.exists(out):
+            os.remove(out)
+        return done.returncode == 0
+
+    with ThreadPoolExecutor() as pool:
+        print(f"{sum(pool.map(one, sorted(boards)))} of {len(boards)} boards written")
+
+
+def run(command, seconds=60):
+    """The bytes that a command writes, its status, the last line that it tells, its wall time, and its peak memory in MiB."""
+    with tempfile.TemporaryFile() as out, tempfile.TemporaryFile() as told:
+        start = time.perf_counter()
+        process = subprocess.Popen(command, stdout=out, stderr=told)
+        _, status, usage = os.wait4(process.pid, 0)
+        took = time.perf_counter() - start
+        process.returncode = os.waitstatus_to_exitcode(status)
+        out.seek(0)
+        told.seek(0)
+        lines = told.read().decode(errors="replace").strip().splitlines()
+        return out.read(), process.returncode, lines[-1] if lines else "", took, usage.ru_maxrss / 1024
+
+
+class Tree:
+    """What a blob says: paths in preorder, and for each its properties."""
+
+    def __init__(self, blob):
+        word = lambda at: struct.unpack_from(">I", blob, at)[0]
+        structure, strings, reserved = word(8), word(12), word(16)
+        self.reservations, self.nodes, stack, at = [], [], [], structure
+        while blob[reserved:reserved + 16] != bytes(16):
+            self.reservations.append(blob[reserved:reserved + 16])
+            reserved += 16
+        while True:
+            token, at = word(at), at + 4
+            if token == 1:
+                end = blob.index(0, at)
+                stack.append(blob[at:end])
+                self.nodes.append((b"/".join(stack), {}))
+                open_node = self.nodes[-1][1]
+                at = (end + 4) & ~3
+            elif token == 2:
+                stack.pop()
+            elif token == 3:
+                size, name = word(at), strings + word(at + 4)
+                open_node[blob[name:blob.index(0, name)]] = blob[at + 8:at + 8 + size]
+                at = (at + 8 + size + 3) & ~3
+            elif token == 9:
+                break
+        self.numbers = {}
+        for path, properties in self.nodes:
+            if len(properties.get(b"phandle", b"")) == 4:
+                self.numbers[properties[b"phandle"]] = path
+
+
+def same_value(a, b, ours, theirs):
+    """Whether two values are the same, a number of a node in the one standing for the same node's in the other."""
+    if a == b:
+        return True
+    if len(a) != len(b):
+        return False
+    at = 0
+    while at < len(a):
+        if a[at:at + 4] == b[at:at + 4]:
+            at += 4
+        elif a[at:at + 4] in ours.numbers and ours.numbers[a[at:at + 4]] == theirs.numbers.get(b[at:at + 4]):
+            at += 4
+        elif a[at] == b[at]:
+            at += 1
+        else:
+            return False
+    return True
+
+
+def difference(ours, theirs):
+    """The first thing in which two trees differ, None where there is none."""
+    if ours.reservations != theirs.reservations:
+        return "reservations"
+    if [path for path, _ in ours.nodes] != [path for path, _ in theirs.nodes]:
+        a, b = set(path for path, _ in ours.nodes), set(path for path, _ in theirs.nodes)
+        return f"nodes {sorted(a ^ b)[:3]}" if a != b else "the order of siblings"
+    for (path, a), (_, b) in zip(ours.nodes, theirs.nodes):
+        for name in sorted(a.keys() | b.keys()):
+            if name in a and name in b and (name == b"phandle" or same_value(a[name], b[name], ours, theirs)):
+                continue
+            return f"{path.decode()} {name.decode()}"
+    return None
+
+
+def compare(tool, path, runs):
+    """What came of one source: a word for it, and the ratios of time and memory where both compiled it."""
+    ours = min((run([tool, "compile", path]) for _ in range(runs)), key=lambda r: r[3])
+    theirs = min((run(["dtc", "-q", "-@", "-I", "dts", "-O", "dtb", path]) for _ in range(runs)), key=lambda r: r[3])
+    if ours[1] or theirs[1]:
+        return ("dtool refuses" if ours[1] else "compiles") + (", dtc refuses" if theirs[1] else ", dtc compiles"), ours[2], None
+    found = difference(Tree(ours[0]), Tree(theirs[0]))
+    return ("the same" if found is None else "other"), found, (ours[3] / theirs[3], ours[4] / theirs[4], path)
+
+
+def main():
+    if sys.argv[1] == "make":
+        return make(*sys.argv[2:4])
+    tool, folder, runs = sys.argv[1], sys.argv[2], int(sys.argv[3]) if len(sys.argv) > 3 else 3
+    words, faults, ratios = Counter(), Counter(), []
+    for base, _, names in sorted(os.walk(folder)):
+        for path in sorted(os.path.join(base, name) for name in names if name.endswith((".dts", ".dtso"))):
+            with open(path, "rb") as source:
+                if b"/plugin/" in source.read():
+                    words["overlays, left out"] += 1
+                    continue
+            word, told, ratio = compare(tool, path, runs)
+            words[word] += 1
+            if word != "the same":
+                faults[(word, told.split("fault ")[-1].split(" at ")[0] if word.startswith("dtool") else "")] += 1
+                print(f"{word}: {os.path.relpath(path, folder)}: {told}")
+            if ratio:
+                ratios.append(ratio)
+    for (word, fault), count in faults.most_common():
+        print(f"{count:6} {word} {fault}")
+    for word, count in words.most_common():
+        print(f"{count:6} {word}")
+    for which, name in enumerate(("time", "peak memory")):
+        parts = sorted((r[which], r[2]) for r in ratios)
+        if parts:
+            print(f"{name} beside dtc's: median {parts[len(parts) // 2][0]:.2f}, worst {parts[-1][0]:.2f} ({os.path.relpath(parts[-1][1], folder)})")
+
+
+if __name__ == "__main__":
+    main()

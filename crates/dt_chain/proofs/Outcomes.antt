@@ -1,0 +1,243 @@
+-- A text is compiled to one blob, or is refused for one reason.
+use Rattle.std.proofs.Common.{◌≡◌, ◌≢◌, ℕ, ◌+◌, ◌<◌, ◌≤◌, ◌⊎◌, inl, inr, List, ◌∷◌, [], length, refl, sym, ap, subst, ◌∙◌, true, true≢false, codes, arith}
+use Rattle.std.specs.List.{AllByRecursion}
+use Rattle.dt_names.specs.declared.fault.Fault.{Fault}
+use Rattle.dt_names.specs.declared.fault.FaultKind.{FaultKind}
+use Rattle.dt_names.specs.declared.fault.FaultKind.TheVariants.{NoMemory, Limit, BadVersionTag}
+use Rattle.dt_model.specs.Limits.{most_nodes, most_bytes}
+use Rattle.dt_model.specs.Source.{Mode, base, raw, SourceMeans}
+use Rattle.dt_model.specs.Tree.{Reading}
+use Rattle.dt_model.specs.Valid.{IsValid, IsWithinLimits, node_count}
+use Rattle.dt_model.specs.Instance.{IsTreeOf, IsInstanceOf, with_symbols, added}
+use Rattle.dt_model.specs.Refused.{too_many, IsRefusedFor}
+use Rattle.dt_laws.specs.CompiledTrees.{OneTree, TreeIsValid, BaseTreeRepresents, RefusalIsOne, MeantIsNotRefused, FewAreNotRefused}
+use Rattle.dt_grammar.specs.Grammar.{Says}
+use Rattle.dt_parse.specs.Reading.{IsParsed, WhyNotParsed}
+use Rattle.dt_source.specs.Refusals.{WhyNotNamed, IsFaultOf, fault_of, place_of}
+use Rattle.dt_write.specs.Written.{written}
+use Rattle.dt_chain.specs.Means.{TextHasTree}
+use Rattle.dt_chain.specs.Compiled.{IsCompiled, WhyNotCompiled, told, no_memory, unparsed, unnamed, many, big}
+use Rattle.dt_chain.specs.Laws.{OneMeaning, OneBlob, CompiledIsNotRefused, OneRefusal, BaseRepresents, RawIsInstance}
+use Rattle.dt_chain.proofs.Stages.{one_more}
+
+-- a text says one thing
+abbrev pub SaidOnce : Type 0
+SaidOnce = (text : List ℕ) (s t : Says) → IsParsed text s → IsParsed text t → s ≡ t
+
+-- and has no fault then
+abbrev pub SaidOnly : Type 0
+SaidOnly = (text : List ℕ) (s : Says) (e : Fault) → IsParsed text s → WhyNotParsed text e → e.kind ≡ NoMemory
+
+-- or it has one fault
+abbrev pub FaultOnce : Type 0
+FaultOnce = (text : List ℕ) (e f : Fault) → WhyNotParsed text e → WhyNotParsed text f → ¬ e.kind ≡ NoMemory → ¬ f.kind ≡ NoMemory → e ≡ f
+
+-- ---- one meaning, one tree
+
+pub meaning_once : SaidOnce → OneMeaning
+meaning_once once mode text m n h k =
+    let said : h.says ≡ k.says = once text h.says k.says h.parsed k.parsed in
+    let means = subst (λ (s : Says). SourceMeans mode s.reservations s.places m) said h.means in
+    means.means ∙ same_events k.says means k.means ∙ sym k.means.means
+  where
+    same_events : (s : Says) (a : SourceMeans mode s.reservations s.places m) (b : SourceMeans mode s.reservations s.places n)
+        → Rattle.dt_model.specs.Source.meaning_of s.reservations a.so_far.events ≡ Rattle.dt_model.specs.Source.meaning_of s.reservations b.so_far.events
+    same_events s a b =
+        let e : Rattle.std.specs.Prelude.Ok a.so_far ≡ Rattle.std.specs.Prelude.Ok b.so_far = sym a.all_read ∙ b.all_read in
+        let same : a.so_far ≡ b.so_far = cc in
+        ap (λ (x : Rattle.dt_model.specs.Source.SoFar). Rattle.dt_model.specs.Source.meaning_of s.reservations x.events) same
+
+pub tree_once : SaidOnce → OneTree → (mode : Mode) (text : List ℕ) (t u : Reading) → TextHasTree mode text t → TextHasTree mode text u → t ≡ u
+tree_once once one mode text t u h k =
+    let said : h.says ≡ k.says = once text h.says k.says h.parsed k.parsed in
+    one mode k.says.reservations k.says.places t u (subst (λ (s : Says). IsTreeOf mode s.reservations s.places t) said h.tree) k.tree
+
+pub blob_once : SaidOnce → OneTree → OneBlob
+blob_once once one mode text blob other h k = h.is ∙ ap written (tree_once once one mode text h.tree k.tree h.of_text k.of_text) ∙ sym k.is
+
+-- ---- why a source has no tree
+
+-- memory is wanted; or it is an overlay's; or its places are refused
+abbrev Sorted : Mode → Says → FaultKind → Type 0
+Sorted mode s kind = (kind ≡ NoMemory) ⊎ ((kind ≡ BadVersionTag) × (s.plugin ≡ true)) ⊎ IsFaultOf mode s kind
+
+sorted : (mode : Mode) (s : Says) (kind : FaultKind) → WhyNotNamed mode kind s → Sorted mode s kind
+sorted mode s NoMemory why = inl refl
+sorted mode s BadVersionTag why = inr (inl (refl, why))
+sorted mode s _ why = inr (inr why)
+
+-- a tree's places mean something
+meant : (mode : Mode) (s : Says) (t : Reading) (h : IsTreeOf mode s.reservations s.places t) → SourceMeans mode s.reservations s.places h.instance.meaning
+meant mode s t h = h.instance.means
+
+limit_told : (kind : FaultKind) → kind ≡ Limit → record { kind = kind; at = place_of kind } ≡ told Limit
+limit_told kind e = ap (λ (k : FaultKind). let f : Fault = record { kind = k; at = place_of k } in f) e
+
+-- a text that has a tree is refused for nothing but the number of its nodes
+only_many : SaidOnce → MeantIsNotRefused → (mode : Mode) (text : List ℕ) (t : Reading) (s : Says) (kind : FaultKind) → TextHasTree mode text t → IsParsed text s
+    → kind ≢ NoMemory → WhyNotNamed mode kind s → (kind ≡ Limit) × IsRefusedFor mode s.places too_many
+only_many once not mode text t s kind h parsed wanted why = elim (sorted mode s kind why) [
+  | inl e ↦ absurd (wanted e)
+  | inr (inl e) ↦ absurd (true≢false (sym e.1 ∙ ap (λ (x : Says). x.plugin) said ∙ h.plain))
+  | inr (inr f) ↦
+      let r = not mode s.reservations s.places tree.instance.meaning f.refusal tree.instance.means f.refused in
+      (f.told ∙ ap fault_of r, subst (IsRefusedFor mode s.places) r f.refused)
+]
+  where
+    said : s ≡ h.says
+    said = once text s h.says parsed h.parsed
+
+    tree : IsTreeOf mode s.reservations s.places t
+    tree = subst (λ (x : Says). IsTreeOf mode x.reservations x.places t) (sym said) h.tree
+
+-- ---- the tree has no fewer nodes than its instance
+
+more_nodes : (mode : Mode) (symbols : List Rattle.dt_model.specs.Tree.Property) (t : Reading) → node_count t.children ≤ node_count (added mode symbols t).children
+more_nodes raw symbols t = omega arith
+more_nodes base [] t = omega arith
+more_nodes base (s ∷ symbols) t = let e = one_more t.children (codes "__symbols__") (s ∷ symbols) in omega (arith, e)
+
+few_nodes : (mode : Mode) (rs : List (ℕ × ℕ)) (ps : List Rattle.dt_model.specs.Source.Place) (t : Reading) (h : IsTreeOf mode rs ps t) → IsWithinLimits t → 1 + node_count h.bare.children ≤ most_nodes
+few_nodes mode rs ps t h w =
+    let few : 1 + node_count (added mode h.symbols h.bare).children ≤ most_nodes = subst (λ (u : Reading). 1 + node_count u.children ≤ most_nodes) h.is w.count in
+    let more = more_nodes mode h.symbols h.bare in
+    omega (arith, few, more)
+
+-- ---- answered, or refused
+
+pub compiled_not_refused : SaidOnce → SaidOnly → OneTree → MeantIsNotRefused → FewAreNotRefused → CompiledIsNotRefused
+compiled_not_refused once only one not few mode text blob _ h no_memory = refl
+compiled_not_refused once only one not few mode text blob _ h (unparsed e why) = only text h.of_text.says e h.of_text.parsed why
+compiled_not_refused once only one not few mode text blob _ h (unnamed s kind parsed why) = step (sorted mode s kind why)
+  where
+    said : h.of_text.says ≡ s
+    said = once text h.of_text.says s h.of_text.parsed parsed
+
+    tree : IsTreeOf mode s.reservations s.places h.tree
+    tree = subst (λ (x : Says). IsTreeOf mode x.reservations x.places h.tree) said h.of_text.tree
+
+    step : Sorted mode s kind → kind ≡ NoMemory
+    step (inl e) = e
+    step (inr (inl e)) = absurd (true≢false (sym e.1 ∙ ap (λ (x : Says). x.plugin) (sym said) ∙ h.of_text.plain))
+    step (inr (inr f)) =
+        let r = not mode s.reservations s.places tree.instance.meaning f.refusal tree.instance.means f.refused in
+        absurd (few mode s.reservations s.places tree.bare tree.instance (few_nodes mode s.reservations s.places h.tree tree h.within) (subst (IsRefusedFor mode s.places) r f.refused))
+compiled_not_refused once only one not few mode text blob _ h (many t k more) =
+    let same : t ≡ h.tree = tree_once once one mode text t h.tree k h.of_text in
+    let less : 1 + node_count h.tree.children ≤ most_nodes = h.within.count in
+    let more' : most_nodes < 1 + node_count h.tree.children = subst (λ (u : Reading). most_nodes < 1 + node_count u.children) same more in
+    absurd (omega (arith, less, more'))
+compiled_not_refused once only one not few mode text blob _ h (big t k more) =
+    let same : t ≡ h.tree = tree_once once one mode text t h.tree k h.of_text in
+    let less : length (written h.tree) ≤ most_bytes = subst (λ (b : List ℕ). length b ≤ most_bytes) h.is h.size in
+    let more' : most_bytes < length (written h.tree) = subst (λ (u : Reading). most_bytes < length (written u)) same more in
+    absurd (omega (arith, less, more'))
+
+-- ---- one refusal
+
+-- two refusals of a source
+named_once : RefusalIsOne → (mode : Mode) (s : Says) (k j : FaultKind) → WhyNotNamed mode k s → WhyNotNamed mode j s → k ≢ NoMemory → j ≢ NoMemory → k ≡ j
+named_once one mode s k j why also wanted wanted' = elim (sorted mode s k why) [
+  | inl e ↦ absurd (wanted e)
+  | inr (inl e) ↦
+      elim (sorted mode s j also) [
+        | inl i ↦ absurd (wanted' i)
+        | inr (inl i) ↦ e.0 ∙ sym i.0
+        | inr (inr g) ↦ absurd (true≢false (sym e.1 ∙ g.plain))
+      ]
+  | inr (inr f) ↦
+      elim (sorted mode s j also) [
+        | inl i ↦ absurd (wanted' i)
+        | inr (inl i) ↦ absurd (true≢false (sym i.1 ∙ f.plain))
+        | inr (inr g) ↦ f.told ∙ ap fault_of (one mode s.places f.refusal g.refusal f.refused g.refused) ∙ sym g.told
+      ]
+]
+
+-- a source's fault
+abbrev of_kind : FaultKind → Fault
+of_kind k = record { kind = k; at = place_of k }
+
+module _ (once : SaidOnce) (only : SaidOnly) (fault : FaultOnce) (one : RefusalIsOne) (not : MeantIsNotRefused) where
+  -- a text that has a tree is refused only as too large
+  with_tree : (mode : Mode) (text : List ℕ) (t : Reading) (f : Fault) → TextHasTree mode text t → f.kind ≢ NoMemory → WhyNotCompiled mode text f → told Limit ≡ f
+  with_tree mode text t _ h wanted no_memory = absurd (wanted refl)
+  with_tree mode text t _ h wanted (unparsed f why) = absurd (wanted (only text h.says f h.parsed why))
+  with_tree mode text t _ h wanted (unnamed s kind parsed why) = sym (limit_told kind (only_many once not mode text t s kind h parsed wanted why).0)
+  with_tree mode text t _ h wanted (many u k more) = refl
+  with_tree mode text t _ h wanted (big u k more) = refl
+
+  -- a source is refused as one
+  with_source : (mode : Mode) (text : List ℕ) (s : Says) (k : FaultKind) (f : Fault) → IsParsed text s → WhyNotNamed mode k s → k ≢ NoMemory → f.kind ≢ NoMemory → WhyNotCompiled mode text f → of_kind k ≡ f
+  with_source mode text s k _ parsed why wanted wanted' no_memory = absurd (wanted' refl)
+  with_source mode text s k _ parsed why wanted wanted' (unparsed f also) = absurd (wanted' (only text s f parsed also))
+  with_source mode text s k _ parsed why wanted wanted' (unnamed r j same also) =
+      let said : r ≡ s = once text r s same parsed in
+      ap of_kind (named_once one mode s k j why (subst (WhyNotNamed mode j) said also) wanted wanted')
+  with_source mode text s k _ parsed why wanted wanted' (many u h more) = limit_told k (only_many once not mode text u s k h parsed wanted why).0
+  with_source mode text s k _ parsed why wanted wanted' (big u h more) = limit_told k (only_many once not mode text u s k h parsed wanted why).0
+
+  pub refused_once : OneRefusal
+  refused_once mode text _ f no_memory also wanted wanted' = absurd (wanted refl)
+  refused_once mode text _ f (unparsed e why) also wanted wanted' = step f also wanted'
+    where
+      step : (f : Fault) → WhyNotCompiled mode text f → f.kind ≢ NoMemory → e ≡ f
+      step _ no_memory w = absurd (w refl)
+      step _ (unparsed g other) w = fault text e g why other wanted w
+      step _ (unnamed s kind parsed other) w = absurd (wanted (only text s e parsed why))
+      step _ (many u h more) w = absurd (wanted (only text h.says e h.parsed why))
+      step _ (big u h more) w = absurd (wanted (only text h.says e h.parsed why))
+  refused_once mode text _ f (unnamed s kind parsed why) also wanted wanted' = with_source mode text s kind f parsed why wanted wanted' also
+  refused_once mode text _ f (many t h more) also wanted wanted' = with_tree mode text t f h wanted' also
+  refused_once mode text _ f (big t h more) also wanted wanted' = with_tree mode text t f h wanted' also
+
+-- ---- what the blob is
+
+-- the places of a text of bytes are places, and some
+abbrev pub PlacesAre : Type 0
+PlacesAre = (text : List ℕ) (s : Says) → AllByRecursion (λ b. b < 256) text → IsParsed text s → AllByRecursion Rattle.dt_model.specs.Source.IsPlace s.places
+
+abbrev pub SomeAre : Type 0
+SomeAre = (text : List ℕ) (s : Says) → IsParsed text s → 0 < length s.places
+
+-- the blob of a valid tree is read as it
+abbrev pub WrittenReads : Type 0
+WrittenReads = (t : Reading) → IsValid t → length (written t) ≤ most_bytes → Rattle.dt_model.specs.Format.Reads (written t) t
+
+read_as : PlacesAre → SomeAre → TreeIsValid → WrittenReads → (mode : Mode) (text blob : List ℕ) → AllByRecursion (λ b. b < 256) text → (h : IsCompiled mode text blob)
+    → Rattle.dt_model.specs.Format.Reads blob h.tree
+read_as places some valid reads mode text blob bytes h =
+    let s = h.of_text.says in
+    let ok = valid mode s.reservations s.places h.tree (some text s h.of_text.parsed) (places text s bytes h.of_text.parsed) h.of_text.tree in
+    subst (λ (b : List ℕ). Rattle.dt_model.specs.Format.Reads b h.tree) (sym h.is) (reads h.tree ok (subst (λ (b : List ℕ). length b ≤ most_bytes) h.is h.size))
+
+no_boot_cpu : (symbols : List Rattle.dt_model.specs.Tree.Property) (t : Reading) → (with_symbols symbols t).boot_cpu ≡ t.boot_cpu
+no_boot_cpu [] t = refl
+no_boot_cpu (s ∷ symbols) t = refl
+
+pub base_represents : PlacesAre → SomeAre → TreeIsValid → WrittenReads → BaseTreeRepresents → BaseRepresents
+base_represents places some valid reads represents text blob bytes h =
+    let s = h.of_text.says in
+    let r = represents s.reservations s.places h.tree (places text s bytes h.of_text.parsed) h.of_text.tree in
+    record {
+      meaning = r.0;
+      means = record { says = s; parsed = h.of_text.parsed; plain = h.of_text.plain; means = r.2 };
+      tree = h.tree;
+      reads = read_as places some valid reads base text blob bytes h;
+      number = r.1;
+      represents = r.3;
+      boot_cpu = ap (λ (u : Reading). u.boot_cpu) h.of_text.tree.is ∙ no_boot_cpu h.of_text.tree.symbols h.of_text.tree.bare ∙ h.of_text.tree.instance.boot_cpu;
+    }
+
+pub raw_is_instance : PlacesAre → SomeAre → TreeIsValid → WrittenReads → RawIsInstance
+raw_is_instance places some valid reads text blob bytes h =
+    let i = h.of_text.tree.instance in
+    let same = h.of_text.tree.is in
+    record {
+      meaning = i.meaning;
+      means = record { says = h.of_text.says; parsed = h.of_text.parsed; plain = h.of_text.plain; means = i.means };
+      tree = h.tree;
+      reads = read_as places some valid reads raw text blob bytes h;
+      number = i.number;
+      instance = subst (λ (u : Reading). Rattle.dt_model.specs.Instance.IsInstance u i.meaning i.number) (sym same) i.instance;
+      boot_cpu = ap (λ (u : Reading). u.boot_cpu) same ∙ i.boot_cpu;
+    }

@@ -1,0 +1,212 @@
+-- The steps of the compiler, one behind the other.
+use Rattle.std.proofs.Common.{◌≡◌, ℕ, suc, ◌+◌, ◌<◌, ◌≤◌, List, ◌∷◌, [], Option, None, Some, length, length-append, refl, sym, ap, subst, ◌∙◌, Bool, true, false, true≢false, codes, arith}
+use Rattle.std.specs.Prelude.{is_some, option_map, Result, Ok, Err, IsOk, IfOk, IfErr}
+use Rattle.std.specs.Str.{bytes_eq}
+use Rattle.dt_names.specs.declared.fault.Fault.{Fault}
+use Rattle.dt_names.specs.declared.fault.FaultKind.{FaultKind}
+use Rattle.dt_names.specs.declared.fault.FaultKind.TheVariants.{NoMemory, Limit, BadVersionTag, BadToken, BadInteger, BadName, PropertyAfterNode, BadReferenceWidth, DivideByZero, OutOfRange, Syntax}
+use Rattle.dt_model.specs.Limits.{most_nodes}
+use Rattle.dt_model.specs.Names.{Name}
+use Rattle.dt_model.specs.Tree as tree
+use Rattle.dt_model.specs.Tree.{Property, Forest, Reading}
+use Rattle.dt_model.specs.Valid as valid
+use Rattle.dt_model.specs.Source.{Mode, base, raw, duplicate_property, duplicate_node, duplicate_label, no_such_target, reserved_name, too_deep, misplaced, unresolved, bad_phandle, duplicate_phandle}
+use Rattle.dt_model.specs.Refused.{SourceRefusal, at_place, at_end, too_many as too_many_nodes}
+use Rattle.dt_model.specs.Named as named
+use Rattle.dt_model.specs.Named.{Named, NamedForest, NamedNode, no_nodes, branch, sibling, node_at, list_of, listed, node_count}
+use Rattle.dt_model.specs.NamedOf.{IsNamed}
+use Rattle.dt_model.specs.Instance.{numbered_forest, instance_of, symbols_of, with_symbols, added, followed_by}
+use Rattle.dt_laws.specs.Sources.{SourceIsPlain}
+use Rattle.dt_laws.specs.NamedTrees.{TreeIsMeant}
+use Rattle.dt_grammar.specs.Grammar.{Says}
+use Rattle.dt_parse.specs.Reading.{IsParsed, IsSourceFault}
+use Rattle.dt_parse.proofs.Parsing.{source_kind}
+use Rattle.dt_source.specs.Refusals.{WhyNotNamed, fault_of, place_of}
+use Rattle.dt_flat.specs.Arena.{Arena, Slot, named_children, child_of, reading}
+use Rattle.dt_flat.proofs.ByPath.{has, sibling_below}
+use Rattle.dt_marks.specs.Refusals.{WhyNoSymbols}
+use Rattle.dt_write.specs.Written.{written}
+use Rattle.dt_write.specs.Refusals.{WhyNoBlob}
+use Rattle.dt_chain.specs.Means.{TextHasTree}
+use Rattle.dt_chain.specs.Compiled.{WhyNotCompiled, IsCompilerFault, told, no_memory, unparsed, unnamed, many, big}
+use Rattle.dt_chain.specs.Steps.{TextHasNamed, IsNumbered, HasRoom, WhyNotLabelled}
+
+-- a fault is told by its kind and its place
+fault_is : (fault : Fault) (at : Option ℕ) → fault.at ≡ at → record { kind = fault.kind; at = at } ≡ fault
+fault_is fault at e = sym (ap (λ (x : Option ℕ). let f : Fault = record { kind = fault.kind; at = x } in f) e)
+
+pub not_named : (mode : Mode) (text : List ℕ) (s : Says) (fault : Fault) → IsParsed text s → WhyNotNamed mode fault.kind s × (fault.at ≡ place_of fault.kind)
+    → WhyNotCompiled mode text fault
+not_named mode text s fault parsed why = subst (WhyNotCompiled mode text) (fault_is fault (place_of fault.kind) why.1) (unnamed s fault.kind parsed why.0)
+
+-- ---- room for the labels
+
+no_sibling : (numbers : List (Option ℕ)) (k : ℕ) (f : NamedForest ℕ) (x : Name) → sibling f x ≡ None → tree.sibling (numbered_forest numbers k f) x ≡ None
+no_sibling numbers k no_nodes x e = refl
+no_sibling numbers k (branch name content children siblings) x e = step (no_sibling numbers (suc k + node_count children) siblings x) (bytes_eq x name) refl
+  where
+    step : (sibling siblings x ≡ None → tree.sibling (numbered_forest numbers (suc k + node_count children) siblings) x ≡ None)
+        → (b : Bool) → bytes_eq x name ≡ b → tree.sibling (numbered_forest numbers k (branch name content children siblings)) x ≡ None
+    step more true h = absurd (let z : Some (record { content = content; children = children }) ≡ None = rw h at e in cc)
+    step more false h = rw h (more (rw h at e))
+
+none_mapped : {X Y : Type 0} (f : X → Y) (o : Option X) → option_map f o ≡ None → o ≡ None
+none_mapped f None e = refl
+none_mapped f (Some x) e = absurd (let z : Some (f x) ≡ None = e in cc)
+
+pub room : (t : Named ℕ) (a : Arena) → HasRoom t → IsNumbered raw t (reading a) → child_of (named_children a.slots 0) (codes "__symbols__") ≡ None
+room t a h n =
+    let none = subst (λ (u : Reading). tree.sibling u.children (codes "__symbols__") ≡ None) (sym n.is) (no_sibling n.numbers 1 t.children (codes "__symbols__") h.free) in
+    none_mapped (has a.slots) (child_of (named_children a.slots 0) (codes "__symbols__")) (sym (sibling_below a.slots 0 (codes "__symbols__")) ∙ none)
+
+not_there : (n : NamedNode ℕ) (x : Name) → is_some (named.node_below n (x ∷ [])) ≡ false → sibling n.children x ≡ None
+not_there n x e = step (sibling n.children x) refl
+  where
+    step : (o : Option (NamedNode ℕ)) → sibling n.children x ≡ o → sibling n.children x ≡ None
+    step None h = h
+    step (Some c) h = absurd (true≢false (rw h at e))
+
+-- a base has no child in which its labels are kept
+pub base_has_room : SourceIsPlain → (text : List ℕ) (t : Named ℕ) → TextHasNamed base text t → HasRoom t
+base_has_room plain text t h = record { free = not_there (named.root_of t) (codes "__symbols__") (step (is_some (node_at t (codes "__symbols__" ∷ []))) refl) }
+  where
+    step : (b : Bool) → is_some (node_at t (codes "__symbols__" ∷ [])) ≡ b → is_some (node_at t (codes "__symbols__" ∷ [])) ≡ false
+    step false e = e
+    step true e =
+        let p = plain h.says.reservations h.says.places h.named.meaning h.named.means in
+        let stands : h.named.meaning.stands (codes "__symbols__" ∷ []) ≡ true =
+        ap (λ (m : Rattle.dt_model.specs.Meaning.Meaning). m.stands (codes "__symbols__" ∷ [])) h.named.means.means ∙ sym (h.named.nodes (codes "__symbols__" ∷ [])) ∙ e in
+        absurd (true≢false (p.plain (codes "__symbols__" ∷ []) stands))
+
+-- ---- the whole tree
+
+pub tree_of_text : TreeIsMeant → (mode : Mode) (text : List ℕ) (t : Named ℕ) (r : Reading) → TextHasNamed mode text t → IsNamed t → IsNumbered mode t r → TextHasTree mode text r
+tree_of_text meant mode text t r h ok n = record {
+  says = h.says;
+  parsed = h.parsed;
+  plain = h.plain;
+  tree = subst (Rattle.dt_model.specs.Instance.IsTreeOf mode h.says.reservations h.says.places) (sym n.is)
+      (meant mode h.says.reservations h.says.places t n.numbers h.some h.places h.reservations h.named ok n.numbering);
+}
+
+-- ---- too many nodes
+
+pub forest_count : (numbers : List (Option ℕ)) (k : ℕ) (f : NamedForest ℕ) → valid.node_count (numbered_forest numbers k f) ≡ node_count f
+forest_count numbers k no_nodes = refl
+forest_count numbers k (branch name content children siblings) =
+    let inner = forest_count numbers (suc k) children in
+    let outer = forest_count numbers (suc k + node_count children) siblings in
+    omega (arith, inner, outer)
+
+list_count : (number parent : ℕ) (f : NamedForest ℕ) → length (listed number parent f) ≡ node_count f
+list_count number parent no_nodes = refl
+list_count number parent (branch name content children siblings) =
+    let inner = list_count (suc number) number children in
+    let outer = list_count (suc number + node_count children) parent siblings in
+    omega (arith, inner, outer, length-append (listed (suc number) number children) (listed (suc number + node_count children) parent siblings))
+
+-- a node more
+pub one_more : (f : Forest) (x : Name) (ps : List Property) → valid.node_count (followed_by f (tree.branch x ps tree.no_nodes tree.no_nodes)) ≡ valid.node_count f + 1
+one_more tree.no_nodes x ps = refl
+one_more (tree.branch name properties children siblings) x ps = let e = one_more siblings x ps in omega (arith, e)
+
+many_with : (symbols : List Property) (t : Reading) → 0 < length symbols → valid.node_count (with_symbols symbols t).children ≡ valid.node_count t.children + 1
+many_with [] t h = absurd (omega arith)
+many_with (s ∷ symbols) t h = one_more t.children (codes "__symbols__") (s ∷ symbols)
+
+too_many : (t : Named ℕ) (numbers : List (Option ℕ)) (count : ℕ) → count ≡ length (list_of t) → 0 < length (symbols_of t) → most_nodes ≤ count
+    → most_nodes < 1 + valid.node_count (with_symbols (symbols_of t) (instance_of numbers t)).children
+too_many t numbers count e some h =
+    let a = many_with (symbols_of t) (instance_of numbers t) some in
+    let b = forest_count numbers 1 t.children in
+    let c = list_count 1 0 t.children in
+    omega (arith, e, a, b, c)
+
+pub no_labels : (t : Named ℕ) (r : Reading) (slots : List Slot) (kind : FaultKind) → IsNumbered raw t r → length slots ≡ length (list_of t) → WhyNoSymbols kind slots (symbols_of t) → WhyNotLabelled kind t
+no_labels t r slots NoMemory n e why = tt
+no_labels t r slots Limit n e why = (why.0, subst (λ (k : ℕ). most_nodes ≤ k) e why.1, n.numbers, n.numbering)
+no_labels t r slots _ n e why = absurd why
+
+unlabelled : TreeIsMeant → (text : List ℕ) (t : Named ℕ) (kind : FaultKind) → TextHasNamed base text t → IsNamed t → WhyNotLabelled kind t → WhyNotCompiled base text (told kind)
+unlabelled meant text t NoMemory h ok why = no_memory
+unlabelled meant text t Limit h ok why =
+    many (with_symbols (symbols_of t) (instance_of why.2 t))
+    (tree_of_text meant base text t _ h ok (record { numbers = why.2; numbering = why.3; is = refl })) (too_many t why.2 (length (list_of t)) refl why.0 why.1)
+unlabelled meant text t _ h ok why = absurd why
+
+pub not_labelled : TreeIsMeant → (text : List ℕ) (t : Named ℕ) (fault : Fault) → TextHasNamed base text t → IsNamed t → WhyNotLabelled fault.kind t × (fault.at ≡ None) → WhyNotCompiled base text fault
+not_labelled meant text t fault h ok why = subst (WhyNotCompiled base text) (fault_is fault None why.1) (unlabelled meant text t fault.kind h ok why.0)
+
+pub not_numbered : (mode : Mode) (text : List ℕ) (fault : Fault) → (fault.kind ≡ NoMemory) × (fault.at ≡ None) → WhyNotCompiled mode text fault
+not_numbered mode text fault why =
+    subst (WhyNotCompiled mode text) (ap told (sym why.0) ∙ fault_is fault None why.1) no_memory
+
+-- ---- the blob
+
+unwritten : (mode : Mode) (text : List ℕ) (r : Reading) (kind : FaultKind) → TextHasTree mode text r → WhyNoBlob kind (length (written r)) → WhyNotCompiled mode text (told kind)
+unwritten mode text r NoMemory h why = no_memory
+unwritten mode text r Limit h why = big r h why
+unwritten mode text r _ h why = absurd why
+
+pub not_written : (mode : Mode) (text : List ℕ) (r : Reading) (fault : Fault) → TextHasTree mode text r → WhyNoBlob fault.kind (length (written r)) × (fault.at ≡ None)
+    → WhyNotCompiled mode text fault
+not_written mode text r fault h why = subst (WhyNotCompiled mode text) (fault_is fault None why.1) (unwritten mode text r fault.kind h why.0)
+
+-- ---- results
+
+pub if_ok : {A E : Type 0} (P Q : A → Type 0) → ((a : A) → P a → Q a) → (r : Result A E) → IfOk r P → IfOk r Q
+if_ok P Q f (Ok a) p = f a p
+if_ok P Q f (Err e) p = tt
+
+pub if_err : {A E : Type 0} (P Q : E → Type 0) → ((e : E) → P e → Q e) → (r : Result A E) → IfErr r P → IfErr r Q
+if_err P Q f (Ok a) p = tt
+if_err P Q f (Err e) p = f e p
+
+pub if_ok_both : {A E : Type 0} (P Q R : A → Type 0) → ((a : A) → P a → Q a → R a) → (r : Result A E) → IfOk r P → IfOk r Q → IfOk r R
+if_ok_both P Q R f (Ok a) p q = f a p q
+if_ok_both P Q R f (Err e) p q = tt
+
+pub if_ok_also : {A E : Type 0} (B : Type 0) (P Q : A → Type 0) → (B → (a : A) → P a → Q a) → (r : Result A E) → (IsOk r → B) → IfOk r P → IfOk r Q
+if_ok_also B P Q f (Ok a) b p = f (b refl) a p
+if_ok_also B P Q f (Err e) b p = tt
+
+-- ---- the kinds of the compiler's faults
+
+refusal_kind : (r : SourceRefusal) → IsCompilerFault (fault_of r)
+refusal_kind (at_place duplicate_property) = tt
+refusal_kind (at_place duplicate_node) = tt
+refusal_kind (at_place duplicate_label) = tt
+refusal_kind (at_place no_such_target) = tt
+refusal_kind (at_place reserved_name) = tt
+refusal_kind (at_place too_deep) = tt
+refusal_kind (at_place misplaced) = tt
+refusal_kind (at_end unresolved) = tt
+refusal_kind (at_end bad_phandle) = tt
+refusal_kind (at_end duplicate_phandle) = tt
+refusal_kind too_many_nodes = tt
+
+named_kind : (mode : Mode) (s : Says) (kind : FaultKind) → WhyNotNamed mode kind s → IsCompilerFault kind
+named_kind mode s NoMemory why = tt
+named_kind mode s BadVersionTag why = tt
+named_kind mode s _ why = subst IsCompilerFault (sym why.told) (refusal_kind why.refusal)
+
+of_source : (k : FaultKind) → IsSourceFault k → IsCompilerFault k
+of_source NoMemory h = tt
+of_source Limit h = tt
+of_source BadVersionTag h = tt
+of_source BadToken h = tt
+of_source BadInteger h = tt
+of_source BadName h = tt
+of_source PropertyAfterNode h = tt
+of_source BadReferenceWidth h = tt
+of_source DivideByZero h = tt
+of_source OutOfRange h = tt
+of_source Syntax h = tt
+of_source _ h = absurd h
+
+pub compiler_kind : (mode : Mode) (text : List ℕ) (e : Fault) → WhyNotCompiled mode text e → IsCompilerFault e.kind
+compiler_kind mode text _ no_memory = tt
+compiler_kind mode text _ (unparsed e why) = of_source e.kind (source_kind text e why)
+compiler_kind mode text _ (unnamed s kind parsed why) = named_kind mode s kind why
+compiler_kind mode text _ (many t h more) = tt
+compiler_kind mode text _ (big t h more) = tt

@@ -1,0 +1,5 @@
+pub mod PathTexts
+pub mod Labels
+pub mod SymbolTrees
+pub mod Setting
+pub mod Refused

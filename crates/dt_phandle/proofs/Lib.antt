@@ -1,0 +1,5 @@
+pub mod Asking
+pub mod Least
+pub mod Contents
+pub mod Cells
+pub mod Growing

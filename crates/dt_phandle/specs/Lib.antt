@@ -1,0 +1,3 @@
+pub mod Asking
+pub mod Least
+pub mod Growth

@@ -1,0 +1,28 @@
+use Rattle.std.proofs.Common.{◌<◌, length, map, arith}
+use Rattle.std.proofs.lemmas.List.{length-map}
+use Rattle.std.proofs.lemmas.Result.{err_from_is_err_and}
+use Rattle.dt_parse.specs.Said.{place_said}
+use Rattle.dt_source.specs.Building.{AreNodesOf}
+use Rattle.dt_source.specs.Nodes.{AreListed, IsUnlisted}
+use Rattle.dt_source.specs.Refusals.{mode_said, WhyNotRead}
+use Rattle.dt_source.specs.Said.{node_said}
+use Rattle.dt_source.proofs.BuiltTrees.{grown_refused, late_refused, either}
+use Rattle.dt_source.proofs.building.nodes_of.Goals as goal
+
+pub returns-in_err-growing : goal.returns-in_err-growing
+returns-in_err-growing c =
+    let e = err_from_is_err_and c.from_residual.result c.from_residual.ensures.1 in
+    rw (e.1, e.2) (grown_refused (mode_said c.args.mode) (map place_said c.args.items.now) c.in_err-growing.field-0.0 c.in_err-growing.ensures)
+
+pub returns : goal.returns
+returns c =
+    let mode = mode_said c.args.mode in
+    let places = map place_said c.args.items.now in
+    let g = c.in_ok-growing.growing in
+    let grown = c.in_ok-growing.ensures.0 in
+    let some : 0 < length places = omega (arith, c.requires, length-map c.args.items.now place_said) in
+    let root = c.root_stands.ensures mode places grown.0 some grown.1 in
+    either (λ nodes. AreListed g (map node_said nodes.items)) (IsUnlisted g) (λ nodes. AreNodesOf mode places (map node_said nodes.items)) (WhyNotRead mode places)
+    (λ nodes are. record { so_far = grown.0; all_read = grown.1; after = are grown.0.events grown.2 root })
+    (λ fault why. late_refused mode places grown.0 fault grown.1 why.0 (why.1 grown.0.events grown.2 root))
+    c.named_nodes.result c.named_nodes.ensures

@@ -1,0 +1,14 @@
+pub mod Said
+pub mod Grown
+pub mod Growing
+pub mod Table
+pub mod Shape
+pub mod Refusals
+pub mod Reading
+pub mod Owned
+pub mod Listing
+pub mod Contents
+pub mod Resolving
+pub mod Phandles
+pub mod Nodes
+pub mod Building

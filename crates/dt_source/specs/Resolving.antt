@@ -1,0 +1,91 @@
+-- What reading the references of values gives, and why one isn't read.
+use Rattle.std.specs.Prelude.{◌≡◌, ℕ, List, [], ◌∷◌, ◌++◌, map, length, Option, None, Some, IsSome, slice_get}
+use Rattle.dt_model.specs.Lists.{IsIn}
+use Rattle.dt_model.specs.Meaning.{Item}
+use Rattle.dt_model.specs.Event.{Stack}
+use Rattle.dt_model.specs.Source.{Part, Events, all_bound}
+use Rattle.dt_names.specs.declared.fault.Fault.{Fault}
+use Rattle.dt_names.specs.declared.fault.FaultKind.{FaultKind}
+use Rattle.dt_names.specs.declared.fault.FaultKind.TheVariants as fault
+use Rattle.dt_parse.specs.Said.{value_said}
+use Rattle.dt_source.specs.declared.growing.Property.{Property}
+use Rattle.dt_source.specs.declared.growing.Growing.{Growing}
+use Rattle.dt_source.specs.Grown.{IsGrown}
+use Rattle.dt_model.specs.Named.{NamedProperty, Content, Listed}
+use Rattle.dt_source.specs.declared.contents.Belongings.{Belongings}
+use Rattle.dt_source.specs.declared.listing.Row.{Row}
+use Rattle.dt_source.specs.Owned.{group_of, AreOwned}
+use Rattle.dt_source.specs.Listing.{name_of, listed_row}
+use Rattle.dt_source.specs.Contents.{property_owner, label_owner, AreNamedBy, property_at, content_of}
+
+-- the growing tree is that of the events
+abbrev pub IsOf : Growing → Events → Type 0
+IsOf g es = IsGrown g.nodes.items g.properties.items g.givings.items es
+
+-- P holds of all events that the tree is of, and of the numbers that its nodes have in the list
+abbrev pub EachNaming : Growing → List (Option ℕ) → (Events → (Stack → ℕ) → Type 0) → Type 0
+EachNaming g numbers P = (es : Events) (number : Stack → ℕ) (limit : ℕ) → IsOf g es → AreNamedBy g.nodes.items numbers limit number → P es number
+
+-- something was added to a value
+abbrev pub IsAdded : List (Item ℕ) → Option (List (Item ℕ)) → List (Item ℕ) → Type 0
+IsAdded old added new = (items : List (Item ℕ)) × (added ≡ Some items) × (new ≡ old ++ items)
+
+-- why parts aren't read
+abbrev pub WhyUnread : Events → List Part → FaultKind → Type 0
+WhyUnread es parts fault.NoMemory = Unit {0}
+WhyUnread es parts fault.UnresolvedReference = all_bound es parts ≡ None
+WhyUnread es parts kind = ⊥
+
+-- parts aren't read for this
+abbrev pub IsUnread : Growing → List Part → Fault → Type 0
+IsUnread g parts e = (e.at ≡ None) × ((es : Events) → IsOf g es → WhyUnread es parts e.kind)
+
+-- P holds of all events that the tree is of
+abbrev pub EachEvents : Growing → (Events → Type 0) → Type 0
+EachEvents g P = (es : Events) → IsOf g es → P es
+
+-- the references of the properties at some places name nodes
+abbrev pub AreRead : Events → List Property → List ℕ → Type 0
+AreRead es properties places = (i : ℕ) (q : Property) → IsIn i places → slice_get properties i ≡ Some q → IsSome (all_bound es (value_said q.value.now))
+
+-- why the properties at some places aren't read
+abbrev pub WhyUnreadAmong : Events → List Property → List ℕ → FaultKind → Type 0
+WhyUnreadAmong es properties places fault.NoMemory = Unit {0}
+WhyUnreadAmong es properties places fault.UnresolvedReference =
+    (i : ℕ) × (q : Property) × IsIn i places × (slice_get properties i ≡ Some q) × (all_bound es (value_said q.value.now) ≡ None)
+WhyUnreadAmong es properties places kind = ⊥
+
+abbrev pub IsUnreadAmong : Growing → List ℕ → Fault → Type 0
+IsUnreadAmong g places e = (e.at ≡ None) × EachEvents g (λ es. WhyUnreadAmong es g.properties.items places e.kind)
+
+-- the property of a place is this one, and its references name nodes
+abbrev pub IsPropertyRead : Events → (Stack → ℕ) → List Property → ℕ → NamedProperty ℕ → Type 0
+IsPropertyRead es number properties i p = (p ≡ property_at es number properties i) × AreRead es properties (i ∷ [])
+
+-- the properties of some places are these
+abbrev pub ArePropertiesRead : Events → (Stack → ℕ) → List Property → List ℕ → List (NamedProperty ℕ) → Type 0
+ArePropertiesRead es number properties places ps = (ps ≡ map (property_at es number properties) places) × AreRead es properties places
+
+-- the places are those of the nodes' properties and labels
+pub record Belong (g : Growing) (b : Belongings) : Type 0 where
+  pub properties : AreOwned (map property_owner g.properties.items) (length g.nodes.items) (group_of b.properties.places.items)
+  pub labels : AreOwned (map label_owner g.givings.items) (length g.nodes.items) (group_of b.labels.places.items)
+
+-- what a node has by what belongs to each
+abbrev pub content_by : Events → (Stack → ℕ) → Growing → Belongings → ℕ → Content ℕ
+content_by es number g b = content_of es number g.properties.items g.givings.items (group_of b.properties.places.items) (group_of b.labels.places.items)
+
+-- the node of a row is this one, and its references name nodes
+abbrev pub IsRowRead : Events → (Stack → ℕ) → Growing → Belongings → Row → Listed ℕ → Type 0
+IsRowRead es number g b r n =
+    (n ≡ listed_row (name_of g.nodes.items) (content_by es number g b) r) × AreRead es g.properties.items (group_of b.properties.places.items r.node)
+
+-- the nodes of some rows are these, and their references name nodes
+abbrev pub AreRowsRead : Events → (Stack → ℕ) → Growing → Belongings → List Row → List (Listed ℕ) → Type 0
+AreRowsRead es number g b rows ns =
+    (ns ≡ map (listed_row (name_of g.nodes.items) (content_by es number g b)) rows)
+    × ((r : Row) → IsIn r rows → AreRead es g.properties.items (group_of b.properties.places.items r.node))
+
+-- why the node of a row isn't read
+abbrev pub IsUnreadRow : Growing → Belongings → List Row → Fault → Type 0
+IsUnreadRow g b rows e = (r : Row) × IsIn r rows × IsUnreadAmong g (group_of b.properties.places.items r.node) e

@@ -1,0 +1,35 @@
+-- What the nodes of a named tree say.
+use Rattle.std.specs.Prelude.{◌≡◌, ℕ, List, [], ◌∷◌, ◌++◌, map}
+use Rattle.dt_model.specs.Meaning.{Item, byte, reference}
+use Rattle.dt_model.specs.Named as model
+use Rattle.dt_model.specs.Named.{Listed, NamedList, list_of, tree_of}
+use Rattle.dt_model.specs.NamedOf.{IsNamed}
+use Rattle.dt_source.specs.declared.named.NamedPiece.{NamedPiece}
+use Rattle.dt_source.specs.declared.named.NamedValue.{NamedValue}
+use Rattle.dt_source.specs.declared.named.NamedProperty.{NamedProperty}
+use Rattle.dt_source.specs.declared.named.NamedNode.{NamedNode}
+
+abbrev pub pieces_said : List NamedPiece → List (Item ℕ)
+pieces_said [] = []
+pieces_said (p ∷ ps) = map byte p.before.items ++ reference p.node ∷ pieces_said ps
+
+abbrev pub value_said : NamedValue → List (Item ℕ)
+value_said v = pieces_said v.pieces.items ++ map byte v.bytes.items
+
+abbrev pub property_said : NamedProperty → model.NamedProperty ℕ
+property_said p = record { name = p.name.now; value = value_said p.value }
+
+abbrev pub node_said : NamedNode → Listed ℕ
+node_said n = record {
+  parent = n.parent;
+  name = n.name.now;
+  content = record { labels = map (λ l. l.now) n.labels.items; properties = map property_said n.properties.items };
+}
+
+abbrev pub list_said : List (ℕ × ℕ) → List NamedNode → NamedList ℕ
+list_said reservations nodes = record { reservations = reservations; nodes = map node_said nodes }
+
+-- the nodes stand in preorder, and their tree is one that a source may mean
+pub record IsTree (l : NamedList ℕ) : Type 0 where
+  pub preorder : list_of (tree_of l) ≡ l.nodes
+  pub named : IsNamed (tree_of l)

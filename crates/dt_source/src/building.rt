@@ -1,0 +1,92 @@
+//! The tree that a source means.
+
+ghost use Rattle.std.specs.Prelude.{◌≡◌, ◌<◌, false, None, map, length, IsOk, IfOk, IfErr, MatchResult};
+ghost use Rattle.dt_model.specs.Limits.{most_nodes};
+ghost use Rattle.dt_model.specs.Named.{tree_of};
+ghost use Rattle.dt_model.specs.NamedOf.{IsNamedOf};
+ghost use Rattle.dt_names.specs.declared.fault.FaultKind.TheVariants.{Limit};
+ghost use Rattle.dt_parse.specs.Said.{place_said, reservation_said};
+ghost use Rattle.dt_source.specs.Building.{AreNodesOf, MayBeWhole};
+ghost use Rattle.dt_source.specs.Refusals.{mode_said, WhyNotNamed, WhyNotRead, place_of};
+ghost use Rattle.dt_source.specs.Said.{list_said, node_said};
+
+use crate::named::{NamedNode, NamedTree};
+use crate::nodes::named_nodes;
+use crate::reading::{Mode, grow};
+use dt_laws::{list_is_of_its_tree, many_stand, meant_is_named, root_stands};
+use dt_model::nested_places;
+use dt_names::limits::MOST_NODES;
+use dt_names::{Fault, FaultKind};
+use dt_parse::{Item, Reservation, Source};
+use std::alloc::{AllocError, Global};
+
+// The nodes of a source's items.
+fn nodes_of<'a>(alloc: Global, mode: Mode, items: &[Item<'a>]) -> Result<Vec<NamedNode<'a>>, Fault>
+    requires { 0 < length items.now }
+    ensures { MatchResult result
+        (λ nodes. AreNodesOf (mode_said mode) (map place_said items.now) (map node_said nodes.items))
+        (WhyNotRead (mode_said mode) (map place_said items.now)) }
+{
+    root_stands();
+    let growing = grow(alloc, mode, items)?;
+    named_nodes(alloc, &growing)
+}
+
+// The reservations as pairs.
+fn pairs(alloc: Global, reservations: &[Reservation]) -> Result<Vec<(u64, u64)>, AllocError>
+    ensures { IfOk result (λ pairs. pairs.items ≡ map reservation_said reservations.now) }
+{
+    let mut pairs = Vec::with_capacity(alloc, reservations.len())?;
+    for reservation in reservations {
+        pairs.push((reservation.address, reservation.size))?;
+    }
+    Ok(pairs)
+}
+
+// The tree of the nodes, where they aren't too many.
+fn whole<'a>(
+    reservations: Vec<(u64, u64)>,
+    nodes: Vec<NamedNode<'a>>,
+) -> Result<NamedTree<'a>, Fault>
+    requires { MayBeWhole (list_said reservations.items nodes.items) }
+    ensures { MatchResult result
+        (λ tree. tree ≡ list_said reservations.items nodes.entry.items)
+        (λ fault. (fault.kind ≡ Limit) × (fault.at ≡ None) × (most_nodes < length nodes.entry.items)) }
+{
+    if MOST_NODES < nodes.len() {
+        return Err(Fault::of(FaultKind::Limit));
+    }
+    Ok(NamedTree::of(reservations, nodes))
+}
+
+/// The tree that a source means (Devicetree Specification v0.4, chapter 6): its bodies merged in the order of the text, its
+/// deletions done, its references read by what stands at the end. Children, properties and labels stand in the order in
+/// which they were first opened, defined and given, after the last deletion that took them.
+///
+/// # Errors
+///
+/// In this order: an overlay's source: `BadVersionTag`, at 0; then, without a place, the first place of the text that is
+/// refused: `ReservedName` (in a base), `DuplicateNode`, `DuplicateProperty`, `DuplicateLabel`, `NoSuchTarget`, or `Limit`
+/// (a path of more than 64 names); then what is wrong at the end: `UnresolvedReference`, `BadPhandle`, `DuplicatePhandle`;
+/// then `Limit`: more than 65,536 nodes that stand. `NoMemory` may be met at any time.
+pub fn build_base<'a>(
+    alloc: Global,
+    source: &Source<'a>,
+    mode: Mode,
+) -> Result<NamedTree<'a>, Fault>
+    ensures base { IsOk result → source.now.plugin ≡ false }
+    ensures tree { IfOk result (λ t. IsNamedOf (mode_said mode) source.now.reservations source.now.places (tree_of t)) }
+    ensures refused { IfErr result (λ fault. WhyNotNamed (mode_said mode) fault.kind source.now × (fault.at ≡ place_of fault.kind)) }
+{
+    if source.is_overlay() {
+        return Err(Fault::at(FaultKind::BadVersionTag, 0));
+    }
+    source.spelled();
+    nested_places();
+    list_is_of_its_tree();
+    meant_is_named();
+    many_stand();
+    let reservations = pairs(alloc, source.reservations())?;
+    let nodes = nodes_of(alloc, mode, source.items())?;
+    whole(reservations, nodes)
+}

@@ -1,0 +1,245 @@
+//! What the nodes of a named tree have: names, labels and properties.
+
+ghost use Rattle.std.specs.Prelude.{◌≡◌, ℕ, ◌<◌, ◌∷◌, [], length, map, IfOk, MatchResult};
+ghost use Rattle.dt_model.specs.Lists.{IsIn};
+ghost use Rattle.dt_source.specs.Said.{property_said, node_said};
+ghost use Rattle.dt_source.specs.Growing.{IsSound};
+ghost use Rattle.dt_source.specs.Owned.{group_of, AreOwned};
+ghost use Rattle.dt_source.specs.Listing.{name_of, AreNumbers};
+ghost use Rattle.dt_source.specs.Contents.{property_owner, label_owner, AreAbove, label_at};
+ghost use Rattle.dt_source.specs.Resolving.{EachNaming, IsUnreadAmong, IsPropertyRead, ArePropertiesRead, IsRowRead, AreRowsRead, IsUnreadRow, Belong};
+
+use crate::groups::Groups;
+use crate::growing::{Giving, Growing, Node, Property};
+use crate::listing::{Row, numbers};
+use crate::named::{NamedNode, NamedProperty};
+use crate::values::named_value;
+use dt_names::Fault;
+use std::alloc::{AllocError, Global};
+
+/// What belongs to the nodes of a tree under construction: the places of their properties and of their labels, and their numbers.
+#[derive(Drop)]
+pub(crate) struct Belongings {
+    pub properties: Groups,
+    pub labels: Groups,
+    pub numbers: Vec<Option<usize>>,
+}
+
+/// The node to which each property belongs; none for those that were deleted.
+fn property_owners(
+    alloc: Global,
+    properties: &[Property<'_, '_>],
+) -> Result<Vec<Option<usize>>, AllocError>
+    ensures { IfOk result (λ v. v.items ≡ map property_owner properties.now) }
+{
+    let mut owners = Vec::new(alloc);
+    for property in properties {
+        let owner = if property.stands {
+            Some(property.node)
+        } else {
+            None
+        };
+        owners.push(owner)?;
+    }
+    Ok(owners)
+}
+
+/// The node to which each label belongs.
+fn label_owners(alloc: Global, givings: &[Giving<'_>]) -> Result<Vec<Option<usize>>, AllocError>
+    ensures { IfOk result (λ v. v.items ≡ map label_owner givings.now) }
+{
+    let mut owners = Vec::new(alloc);
+    for giving in givings {
+        owners.push(Some(giving.node))?;
+    }
+    Ok(owners)
+}
+
+/// The properties of each of so many nodes.
+fn properties_by_node(
+    alloc: Global,
+    properties: &[Property<'_, '_>],
+    count: usize,
+) -> Result<Groups, AllocError>
+    ensures { IfOk result (λ groups. AreOwned (map property_owner properties.now) count (group_of groups.places.items)) }
+{
+    let owners = property_owners(alloc, properties)?;
+    Groups::new(alloc, &owners, count)
+}
+
+/// The labels of each of so many nodes.
+fn labels_by_node(alloc: Global, givings: &[Giving<'_>], count: usize) -> Result<Groups, AllocError>
+    ensures { IfOk result (λ groups. AreOwned (map label_owner givings.now) count (group_of groups.places.items)) }
+{
+    let owners = label_owners(alloc, givings)?;
+    Groups::new(alloc, &owners, count)
+}
+
+impl Belongings {
+    /// What belongs to the nodes of a tree under construction, where these are its rows.
+    pub fn new(
+        alloc: Global,
+        growing: &Growing<'_, '_>,
+        rows: &[Row],
+    ) -> Result<Belongings, AllocError>
+        ensures belong { IfOk result (λ b. Belong growing.now b) }
+        ensures numbers { IfOk result (λ b. AreNumbers rows.now (length growing.now.nodes.items) b.numbers.items) }
+    {
+        let count = growing.nodes.len();
+        Ok(Belongings {
+            properties: properties_by_node(alloc, &growing.properties, count)?,
+            labels: labels_by_node(alloc, &growing.givings, count)?,
+            numbers: numbers(alloc, rows, count)?,
+        })
+    }
+}
+
+/// The name of a node; the root has none.
+fn name_at<'a>(nodes: &[Node<'a>], node: usize) -> &'a [u8]
+    ensures { result.now ≡ name_of nodes.now node }
+{
+    if node == 0 {
+        return b"";
+    }
+    match nodes.get(node) {
+        Some(node) => node.name,
+        None => b"",
+    }
+}
+
+/// The label at a place.
+fn label_there<'a>(givings: &[Giving<'a>], place: usize) -> &'a [u8]
+    requires { place < length givings.now }
+    ensures { result.now ≡ label_at givings.now place }
+{
+    givings[place].label
+}
+
+/// The labels at some places.
+fn labels_at<'a>(
+    alloc: Global,
+    givings: &[Giving<'a>],
+    places: &[usize],
+) -> Result<Vec<&'a [u8]>, AllocError>
+    requires { (i : ℕ) → IsIn i places.now → i < length givings.now }
+    ensures { IfOk result (λ labels. map (λ l. l.now) labels.items ≡ map (label_at givings.now) places.now) }
+{
+    let mut labels = Vec::new(alloc);
+    for place in places {
+        labels.push(label_there(givings, *place))?;
+    }
+    Ok(labels)
+}
+
+/// The property at a place, with its references read.
+fn property_there<'a>(
+    alloc: Global,
+    growing: &Growing<'_, 'a>,
+    numbers: &[Option<usize>],
+    place: usize,
+) -> Result<NamedProperty<'a>, Fault>
+    requires sound { IsSound growing.now }
+    requires above { AreAbove growing.now.nodes.items }
+    requires inside { place < length growing.now.properties.items }
+    ensures { MatchResult result
+        (λ property. EachNaming growing.now numbers.now (λ es number. IsPropertyRead es number growing.now.properties.items place (property_said property)))
+        (λ fault. IsUnreadAmong growing.now (place ∷ []) fault) }
+{
+    let property = &growing.properties[place];
+    let value = named_value(alloc, growing, numbers, property.value)?;
+    Ok(NamedProperty {
+        name: property.name,
+        value,
+    })
+}
+
+/// Adds the properties at some places to none.
+fn add_properties<'a>(
+    alloc: Global,
+    growing: &Growing<'_, 'a>,
+    numbers: &[Option<usize>],
+    places: &[usize],
+    properties: &mut Vec<NamedProperty<'a>>,
+) -> Result<(), Fault>
+    requires sound { IsSound growing.now }
+    requires above { AreAbove growing.now.nodes.items }
+    requires inside { (i : ℕ) → IsIn i places.now → i < length growing.now.properties.items }
+    requires empty { properties.old.items ≡ [] }
+    ensures { MatchResult result
+        (λ _. EachNaming growing.now numbers.now (λ es number. ArePropertiesRead es number growing.now.properties.items places.now (map property_said properties.new.items)))
+        (λ fault. IsUnreadAmong growing.now places.now fault) }
+{
+    for place in places {
+        let property = property_there(alloc, growing, numbers, *place)?;
+        properties.push(property)?;
+    }
+    Ok(())
+}
+
+/// The properties at some places, with their references read. `UnresolvedReference` where one names no node.
+fn properties_at<'a>(
+    alloc: Global,
+    growing: &Growing<'_, 'a>,
+    numbers: &[Option<usize>],
+    places: &[usize],
+) -> Result<Vec<NamedProperty<'a>>, Fault>
+    requires sound { IsSound growing.now }
+    requires above { AreAbove growing.now.nodes.items }
+    requires inside { (i : ℕ) → IsIn i places.now → i < length growing.now.properties.items }
+    ensures { MatchResult result
+        (λ properties. EachNaming growing.now numbers.now (λ es number.
+        ArePropertiesRead es number growing.now.properties.items places.now (map property_said properties.items)))
+        (λ fault. IsUnreadAmong growing.now places.now fault) }
+{
+    let mut properties = Vec::new(alloc);
+    add_properties(alloc, growing, numbers, places, &mut properties)?;
+    Ok(properties)
+}
+
+/// The node of a row.
+fn named_node<'a>(
+    alloc: Global,
+    growing: &Growing<'_, 'a>,
+    belongings: &Belongings,
+    row: Row,
+) -> Result<NamedNode<'a>, Fault>
+    requires sound { IsSound growing.now }
+    requires above { AreAbove growing.now.nodes.items }
+    requires belong { Belong growing.now belongings.now }
+    ensures { MatchResult result
+        (λ node. EachNaming growing.now belongings.now.numbers.items (λ es number. IsRowRead es number growing.now belongings.now row (node_said node)))
+        (λ fault. IsUnreadAmong growing.now (group_of belongings.now.properties.places.items row.node) fault) }
+{
+    let labels = labels_at(alloc, &growing.givings, belongings.labels.of(row.node))?;
+    let places = belongings.properties.of(row.node);
+    let properties = properties_at(alloc, growing, &belongings.numbers, places)?;
+    Ok(NamedNode {
+        parent: row.parent,
+        name: name_at(&growing.nodes, row.node),
+        labels,
+        properties,
+    })
+}
+
+/// Adds the nodes of the rows to none.
+pub(crate) fn add_nodes<'a>(
+    alloc: Global,
+    growing: &Growing<'_, 'a>,
+    belongings: &Belongings,
+    rows: &[Row],
+    nodes: &mut Vec<NamedNode<'a>>,
+) -> Result<(), Fault>
+    requires sound { IsSound growing.now }
+    requires above { AreAbove growing.now.nodes.items }
+    requires belong { Belong growing.now belongings.now }
+    requires empty { nodes.old.items ≡ [] }
+    ensures { MatchResult result
+        (λ _. EachNaming growing.now belongings.now.numbers.items (λ es number. AreRowsRead es number growing.now belongings.now rows.now (map node_said nodes.new.items)))
+        (λ fault. IsUnreadRow growing.now belongings.now rows.now fault) }
+{
+    for row in rows {
+        let node = named_node(alloc, growing, belongings, *row)?;
+        nodes.push(node)?;
+    }
+    Ok(())
+}

@@ -1,0 +1,20 @@
+//! What a source of a devicetree means, as one tree: its bodies merged, its deletions done, its references read
+//! (Devicetree Specification v0.4, chapter 6).
+#![tactic(auto)]
+
+mod building;
+mod contents;
+mod groups;
+mod growing;
+mod listing;
+mod named;
+mod nodes;
+mod phandles;
+mod reading;
+mod referring;
+mod table;
+mod values;
+
+pub use building::build_base;
+pub use named::{NamedNode, NamedPiece, NamedProperty, NamedTree, NamedValue};
+pub use reading::Mode;

@@ -1,0 +1,55 @@
+//! The nodes of the named tree that a tree under construction stands for.
+
+ghost use Rattle.std.specs.Prelude.{◌≡◌, [], map, MatchResult};
+ghost use Rattle.dt_source.specs.Said.{node_said};
+ghost use Rattle.dt_source.specs.Growing.{IsSound};
+ghost use Rattle.dt_source.specs.Contents.{AreAbove};
+ghost use Rattle.dt_source.specs.Resolving.{Belong};
+ghost use Rattle.dt_source.specs.Nodes.{AreFilled, IsUnfilled, AreListed, IsUnlisted};
+
+use crate::contents::{Belongings, add_nodes};
+use crate::growing::Growing;
+use crate::listing::{Row, rows};
+use crate::named::NamedNode;
+use crate::phandles::check_phandles;
+use dt_names::Fault;
+use std::alloc::{AllocError, Global};
+
+/// Adds the nodes of the rows to none, and looks at the numbers that are written in them.
+fn fill<'a>(
+    alloc: Global,
+    growing: &Growing<'_, 'a>,
+    belongings: &Belongings,
+    rows: &[Row],
+    nodes: &mut Vec<NamedNode<'a>>,
+) -> Result<(), Fault>
+    requires sound { IsSound growing.now }
+    requires above { AreAbove growing.now.nodes.items }
+    requires belong { Belong growing.now belongings.now }
+    requires empty { nodes.old.items ≡ [] }
+    ensures { MatchResult result
+        (λ _. AreFilled growing.now belongings.now rows.now (map node_said nodes.new.items))
+        (λ fault. IsUnfilled growing.now belongings.now rows.now fault) }
+{
+    add_nodes(alloc, growing, belongings, rows, nodes)?;
+    check_phandles(alloc, &growing.properties, &belongings.numbers)
+}
+
+/// The nodes that stand in preorder, each with what it has. `UnresolvedReference` where a reference names no node; else
+/// `BadPhandle` where a `phandle` writes no number; else `DuplicatePhandle` where two nodes write one number.
+pub(crate) fn named_nodes<'a>(
+    alloc: Global,
+    growing: &Growing<'_, 'a>,
+) -> Result<Vec<NamedNode<'a>>, Fault>
+    requires sound { IsSound growing.now }
+    requires above { AreAbove growing.now.nodes.items }
+    ensures { MatchResult result
+        (λ nodes. AreListed growing.now (map node_said nodes.items))
+        (λ fault. IsUnlisted growing.now fault) }
+{
+    let rows = rows(alloc, &growing.nodes)?;
+    let belongings = Belongings::new(alloc, growing, &rows)?;
+    let mut nodes = Vec::new(alloc);
+    fill(alloc, growing, &belongings, &rows, &mut nodes)?;
+    Ok(nodes)
+}
