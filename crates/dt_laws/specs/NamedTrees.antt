@@ -8,7 +8,7 @@ use Rattle.dt_model.specs.Source.{Place, IsPlace, Mode, SoFar, nothing, read_all
 use Rattle.dt_model.specs.Valid.{AreDistinct, IsReservation, IsValid, IsWithinLimits, phandle_values, phandles}
 use Rattle.dt_model.specs.Numbers.{IsLeastFree}
 use Rattle.dt_model.specs.Numbering.{IsNumbering}
-use Rattle.dt_model.specs.Named.{Named, list_of, tree_of, node_count}
+use Rattle.dt_model.specs.Named.{NodeReference, Named, list_of, tree_of, node_count}
 use Rattle.dt_model.specs.NamedOf.{IsNamed, IsNamedOf, asked_in}
 use Rattle.dt_model.specs.Instance.{instance_of, symbols_of, added, IsInstanceOf, IsTreeOf}
 use Rattle.dt_model.specs.Refused.{StandMany, SourceRefusal, IsRefusedFor}
@@ -24,35 +24,35 @@ RootStands = (mode : Mode) (places : List Place) (s : SoFar) → 0 < length plac
 
 -- the list of a tree is of that tree
 abbrev pub ListIsOfItsTree : Type 0
-ListIsOfItsTree = (t : Named ℕ) → tree_of (record { reservations = t.reservations; nodes = list_of t }) ≡ t
+ListIsOfItsTree = (t : Named NodeReference) → tree_of (record { reservations = t.reservations; nodes = list_of t }) ≡ t
 
 -- a tree that places mean is one that a source may mean, where it isn't too large
 abbrev pub MeantIsNamed : Type 0
-MeantIsNamed = (mode : Mode) (reservations : List (ℕ × ℕ)) (places : List Place) (t : Named ℕ)
+MeantIsNamed = (mode : Mode) (reservations : List (ℕ × ℕ)) (places : List Place) (t : Named NodeReference)
     → 0 < length places → AllByRecursion IsPlace places → AllByRecursion IsReservation reservations
     → 1 + node_count t.children ≤ most_nodes → IsNamedOf mode reservations places t → IsNamed t
 
 -- where it is too large, too many nodes stand
 abbrev pub ManyStand : Type 0
-ManyStand = (mode : Mode) (reservations : List (ℕ × ℕ)) (places : List Place) (t : Named ℕ)
+ManyStand = (mode : Mode) (reservations : List (ℕ × ℕ)) (places : List Place) (t : Named NodeReference)
     → most_nodes < 1 + node_count t.children → (n : IsNamedOf mode reservations places t) → StandMany most_nodes n.means.so_far.events
 
 -- a blob may hold the instance of a named tree, within the limits, and no two of its phandles have one number
 abbrev pub InstanceIsValid : Type 0
-InstanceIsValid = (t : Named ℕ) (numbers : List (Option ℕ)) → IsNamed t → IsNumbering (asked_in t) numbers
+InstanceIsValid = (t : Named NodeReference) (numbers : List (Option ℕ)) → IsNamed t → IsNumbering (asked_in t) numbers
     → IsValid (instance_of numbers t) × IsWithinLimits (instance_of numbers t)
     × AreDistinct (map (from_be_bytes w32) (phandle_values (instance_of numbers t).properties ++ phandles (instance_of numbers t).children))
 
 -- the instance of the named tree that places mean is the instance of their meaning
 abbrev pub InstanceIsMeant : Type 0
-InstanceIsMeant = (mode : Mode) (reservations : List (ℕ × ℕ)) (places : List Place) (t : Named ℕ) (numbers : List (Option ℕ))
+InstanceIsMeant = (mode : Mode) (reservations : List (ℕ × ℕ)) (places : List Place) (t : Named NodeReference) (numbers : List (Option ℕ))
     → 0 < length places → AllByRecursion IsPlace places → AllByRecursion IsReservation reservations
     → IsNamedOf mode reservations places t → IsNamed t → IsNumbering (asked_in t) numbers
     → IsInstanceOf mode reservations places (instance_of numbers t)
 
 -- with its labels it is the tree that they are compiled to
 abbrev pub TreeIsMeant : Type 0
-TreeIsMeant = (mode : Mode) (reservations : List (ℕ × ℕ)) (places : List Place) (t : Named ℕ) (numbers : List (Option ℕ))
+TreeIsMeant = (mode : Mode) (reservations : List (ℕ × ℕ)) (places : List Place) (t : Named NodeReference) (numbers : List (Option ℕ))
     → 0 < length places → AllByRecursion IsPlace places → AllByRecursion IsReservation reservations
     → IsNamedOf mode reservations places t → IsNamed t → IsNumbering (asked_in t) numbers
     → IsTreeOf mode reservations places (added mode (symbols_of t) (instance_of numbers t))
@@ -63,5 +63,5 @@ LeastIsLow = (taken : List ℕ) (n : ℕ) → IsLeastFree taken n → n ≤ leng
 
 -- a source that means a named tree is refused for nothing but the number of its nodes, and not for that where they are few
 abbrev pub NamedIsNotRefused : Type 0
-NamedIsNotRefused = (mode : Mode) (reservations : List (ℕ × ℕ)) (places : List Place) (t : Named ℕ) (r : SourceRefusal)
+NamedIsNotRefused = (mode : Mode) (reservations : List (ℕ × ℕ)) (places : List Place) (t : Named NodeReference) (r : SourceRefusal)
     → IsNamedOf mode reservations places t → 1 + node_count t.children ≤ most_nodes → IsRefusedFor mode places r → ⊥

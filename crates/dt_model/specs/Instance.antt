@@ -5,12 +5,13 @@ use Rattle.dt_model.specs.Path.{Path, path_value}
 use Rattle.dt_model.specs.Meaning.{Meaning, cell, value_bytes, IsNaming, instance_value}
 use Rattle.dt_model.specs.Numbering.{HasLeastNumbers}
 use Rattle.dt_model.specs.Numbers.{paths_of}
+use Rattle.dt_model.specs.Overlay.{object_number}
 use Rattle.dt_model.specs.Ordered.{IsInOrder, AreLabelsInOrder}
 use Rattle.dt_model.specs.Source.{Events, Place, Mode, base, raw, SourceMeans}
 use Rattle.dt_model.specs.Tree.{Property, Forest, no_nodes, branch, Reading, stands_in, value_in}
 use Rattle.dt_model.specs.Valid.{IsValid}
 use Rattle.dt_model.specs.Named as named
-use Rattle.dt_model.specs.Named.{NamedProperty, Content, NamedForest, Named, NamedPlaced, value_of, node_count, nodes_of}
+use Rattle.dt_model.specs.Named.{NodeReference, NamedProperty, Content, NamedForest, Named, NamedPlaced, value_of, node_count, nodes_of}
 
 -- ---- of a named tree
 
@@ -20,29 +21,33 @@ number_at [] k = None
 number_at (number ∷ numbers) zero = number
 number_at (number ∷ numbers) (suc k) = number_at numbers k
 
--- a property, where each reference is its node's number as a cell
-abbrev pub numbered : List (Option ℕ) → NamedProperty ℕ → Property
-numbered numbers p = record { name = p.name; value = value_bytes (λ k. unwrap_or (number_at numbers k) 0) p.value }
+-- the number that stands for a reference: its node's, or all ones where the node is of some other tree
+abbrev pub number_for : List (Option ℕ) → NodeReference → ℕ
+number_for numbers r = object_number (λ k. unwrap_or (number_at numbers k) 0) r
+
+-- a property, where each reference is a number as a cell
+abbrev pub numbered : List (Option ℕ) → NamedProperty NodeReference → Property
+numbered numbers p = record { name = p.name; value = value_bytes (number_for numbers) p.value }
 
 -- the property `phandle` of a node in which none is written, if it has a number
-abbrev pub phandle_of : Content ℕ → Option ℕ → List Property
+abbrev pub phandle_of : Content NodeReference → Option ℕ → List Property
 phandle_of c None = []
 phandle_of c (Some n) =
     if is_some (value_of c.properties (codes "phandle")) then [] else record { name = codes "phandle"; value = cell n } ∷ []
 
 -- the properties of node k: a number that isn't written stands last
-abbrev pub numbered_properties : List (Option ℕ) → ℕ → Content ℕ → List Property
+abbrev pub numbered_properties : List (Option ℕ) → ℕ → Content NodeReference → List Property
 numbered_properties numbers k c = map (numbered numbers) c.properties ++ phandle_of c (number_at numbers k)
 
 -- siblings in preorder, where the first of them has number k
-abbrev pub numbered_forest : List (Option ℕ) → ℕ → NamedForest ℕ → Forest
+abbrev pub numbered_forest : List (Option ℕ) → ℕ → NamedForest NodeReference → Forest
 numbered_forest numbers k named.no_nodes = no_nodes
 numbered_forest numbers k (named.branch name content children siblings) =
     branch name (numbered_properties numbers k content) (numbered_forest numbers (suc k) children)
     (numbered_forest numbers (suc k + node_count children) siblings)
 
 -- the tree under these numbers of its nodes, with boot CPU 0
-abbrev pub instance_of : List (Option ℕ) → Named ℕ → Reading
+abbrev pub instance_of : List (Option ℕ) → Named NodeReference → Reading
 instance_of numbers t = record {
   boot_cpu = 0;
   reservations = t.reservations;
@@ -73,10 +78,10 @@ AreSymbols es (p ∷ ps) symbols =
     × AreLabelsInOrder es p labels × AreSymbols es ps others
 
 -- the same of a named tree
-abbrev pub symbols_of : Named ℕ → List Property
+abbrev pub symbols_of : Named NodeReference → List Property
 symbols_of t = symbols_among (nodes_of t)
   where
-    symbols_among : List (NamedPlaced ℕ) → List Property
+    symbols_among : List (NamedPlaced NodeReference) → List Property
     symbols_among [] = []
     symbols_among (n ∷ ns) = map (symbol n.path) n.content.labels ++ symbols_among ns
 

@@ -24,8 +24,10 @@ pub mod Ordered
 pub mod Numbering
 pub mod NamedOf
 pub mod Instance
-pub mod Refused
 pub mod OverlaySource
+pub mod Refused
+pub mod NamedOverlay
+pub mod Fixups
 pub mod Checks
 pub mod Joined
 pub mod Rows

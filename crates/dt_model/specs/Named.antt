@@ -6,7 +6,13 @@ use Rattle.std.specs.Str.{bytes_eq}
 use Rattle.dt_model.specs.Names.{Name}
 use Rattle.dt_model.specs.Path.{Path}
 use Rattle.dt_model.specs.Meaning.{Item, byte}
+use Rattle.dt_model.specs.Overlay.{ReferenceBy}
 use Rattle.dt_model.specs.Source.{in_range}
+
+-- A reference of such a tree: to a node, by its place in preorder (a node, then its children in order), or by a label that the
+-- source doesn't give. Only an overlay has the second kind.
+abbrev pub NodeReference : Type 0
+NodeReference = ReferenceBy ℕ
 
 -- a property: its name, and its value
 pub record NamedProperty (R : Type 0) : Type 0 where

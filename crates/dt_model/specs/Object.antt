@@ -8,7 +8,7 @@ use Rattle.dt_model.specs.Names.{Name, IsNodeName, IsPropertyName}
 use Rattle.dt_model.specs.Path.{Path, path_text, path_value, is_bookkeeping, is_bookkeeping_name}
 use Rattle.dt_model.specs.Lists.{IsIn}
 use Rattle.dt_model.specs.Meaning.{Item, byte, reference, cell, value_bytes}
-use Rattle.dt_model.specs.Overlay.{OverlayReference, inside, outside, Overlay, Fragment}
+use Rattle.dt_model.specs.Overlay.{OverlayReference, inside, outside, object_number, Overlay, Fragment}
 use Rattle.dt_model.specs.Tree.{Property, Forest, no_nodes, branch, Reading, Node, Placed, preorder, sibling, node_at, stands_in, value_in}
 use Rattle.dt_model.specs.Valid.{AreDistinct}
 
@@ -92,11 +92,6 @@ fragment_names (branch name properties children siblings) =
 
 -- ---- the object
 
--- the numbers by which an object holds its references
-abbrev pub object_number : (Path → ℕ) → OverlayReference → ℕ
-object_number number (inside p) = number p
-object_number number (outside l) = 0xffffffff
-
 -- the bytes of a node's property in an object
 abbrev pub object_value : Overlay → (Path → ℕ) → Path → Name → Option (List ℕ)
 object_value o number p name =
@@ -113,9 +108,8 @@ pub record Encodes (t : Reading) (o : Overlay) (number : Path → ℕ) : Type 0 
   pub nodes : (p : Path) → is_bookkeeping p ≡ false → stands_in t p ≡ o.stands p
   pub values : (p : Path) (name : Name) → is_bookkeeping p ≡ false → value_in t p name ≡ object_value o number p name
   pub fragments : fragment_names t.children ≡ map (λ (f : Fragment). f.name) o.fragments
-  -- `__symbols__` has the labels, each with its node's path, and nothing else
+  -- the properties of `__symbols__` are the labels, each with its node's path
   pub symbols : (l : Name) → value_in t (codes "__symbols__" ∷ []) l ≡ option_map path_value (o.label l)
-  pub no_nodes_of_symbols : (x : Name) (p : Path) → stands_in t (codes "__symbols__" ∷ x ∷ p) ≡ false
   -- `__fixups__` has a property for each label that the overlay doesn't give and a reference is by, lists each such
   -- reference's cell once, and has nothing else
   pub fixups : List (Name × Cell)
@@ -125,9 +119,9 @@ pub record Encodes (t : Reading) (o : Overlay) (number : Path → ℕ) : Type 0 
   pub fixups_used : (l : Name) → IsSome (value_in t (codes "__fixups__" ∷ []) l) → (c : Cell) × IsIn (l, c) fixups
   pub no_nodes_of_fixups : (x : Name) (p : Path) → stands_in t (codes "__fixups__" ∷ x ∷ p) ≡ false
   -- `__local_fixups__` lists the cell of each reference to a node of the overlay once, and has only nodes and properties
-  -- that the overlay has, and nothing else
+  -- that the tree has, and nothing else
   pub locals_once : AreDistinct (local_cells t)
   pub locals_exact : (c : Cell) → IsIn c (local_cells t) ↔ ((p : Path) × IsCellOf o c (inside p))
   pub locals_words : (p : Path) (name : Name) (v : List ℕ) → value_in t (codes "__local_fixups__" ∷ p) name ≡ Some v → length v % 4 ≡ 0
-  pub locals_nodes : (p : Path) → stands_in t (codes "__local_fixups__" ∷ p) ≡ true → o.stands p ≡ true
-  pub locals_values : (p : Path) (name : Name) → IsSome (value_in t (codes "__local_fixups__" ∷ p) name) → IsSome (o.value p name)
+  pub locals_nodes : (p : Path) → stands_in t (codes "__local_fixups__" ∷ p) ≡ true → stands_in t p ≡ true
+  pub locals_values : (p : Path) (name : Name) → IsSome (value_in t (codes "__local_fixups__" ∷ p) name) → IsSome (value_in t p name)

@@ -1,6 +1,6 @@
 -- The order of a tree's nodes, properties and labels: that of the text which opened, defined and gave them (Devicetree
 -- Specification v0.4, 6.3 and 6.4), each counted from the first time after the last deletion that took it.
-use Rattle.std.specs.Prelude.{◌≡◌, ℕ, List, [], ◌∷◌, ◌++◌, Some, map, reverse, is_some, not, ◌&&◌, if◌then◌else◌, codes}
+use Rattle.std.specs.Prelude.{◌≡◌, List, [], ◌∷◌, ◌++◌, Some, map, reverse, is_some, not, ◌&&◌, if◌then◌else◌, codes}
 use Rattle.dt_model.specs.Names.{Name}
 use Rattle.dt_model.specs.Path.{Path}
 use Rattle.dt_model.specs.Event.{stands, value_at, names, age, property_age, label_age}
@@ -11,7 +11,7 @@ use Rattle.dt_model.specs.Tree as tree
 use Rattle.dt_model.specs.Tree.{Property, Reading}
 use Rattle.dt_model.specs.Valid as valid
 use Rattle.dt_model.specs.Named as named
-use Rattle.dt_model.specs.Named.{NamedProperty, NamedNode, Named}
+use Rattle.dt_model.specs.Named.{NodeReference, NamedProperty, NamedNode, Named}
 
 -- the names are those of the children that stand below the path, in the order in which they were opened
 abbrev pub AreChildrenInOrder : Events → Path → List Name → Type 0
@@ -36,8 +36,8 @@ pub record IsInOrder (es : Events) (m : Meaning) (t : Reading) : Type 0 where
       (defined : List Name) × (map (λ (x : Property). x.name) n.properties ≡ defined ++ unwritten m p) × ArePropertiesInOrder es p defined
 
 -- the same of a tree whose nodes have no numbers yet
-pub record IsNamedInOrder (es : Events) (t : Named ℕ) : Type 0 where
-  pub children : (p : Path) (n : NamedNode ℕ) → named.node_at t p ≡ Some n → AreChildrenInOrder es p (named.names n.children)
-  pub properties : (p : Path) (n : NamedNode ℕ) → named.node_at t p ≡ Some n →
-      ArePropertiesInOrder es p (map (λ (x : NamedProperty ℕ). x.name) n.content.properties)
-  pub labels : (p : Path) (n : NamedNode ℕ) → named.node_at t p ≡ Some n → AreLabelsInOrder es p n.content.labels
+pub record IsNamedInOrder (es : Events) (t : Named NodeReference) : Type 0 where
+  pub children : (p : Path) (n : NamedNode NodeReference) → named.node_at t p ≡ Some n → AreChildrenInOrder es p (named.names n.children)
+  pub properties : (p : Path) (n : NamedNode NodeReference) → named.node_at t p ≡ Some n →
+      ArePropertiesInOrder es p (map (λ (x : NamedProperty NodeReference). x.name) n.content.properties)
+  pub labels : (p : Path) (n : NamedNode NodeReference) → named.node_at t p ≡ Some n → AreLabelsInOrder es p n.content.labels

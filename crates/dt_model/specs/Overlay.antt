@@ -1,5 +1,5 @@
 -- What an overlay means by itself: a tree whose fragments name the nodes of some other tree (dtc's notes on overlay objects).
-use Rattle.std.specs.Prelude.{◌≡◌, ◌↔◌, Bool, true, false, List, [], ◌∷◌, ◌++◌, Option, Some, None, IsSome, map, codes}
+use Rattle.std.specs.Prelude.{◌≡◌, ◌↔◌, ℕ, Bool, true, false, List, [], ◌∷◌, ◌++◌, Option, Some, None, IsSome, map, codes}
 use Rattle.std.specs.List.{AllByRecursion}
 use Rattle.std.specs.Str.{bytes_eq}
 use Rattle.dt_model.specs.Names.{Name, IsNodeName, IsPropertyName, IsLabel}
@@ -8,10 +8,25 @@ use Rattle.dt_model.specs.Meaning.{Item, byte, reference, EachReference, AreByte
 use Rattle.dt_model.specs.Lists.{IsIn}
 use Rattle.dt_model.specs.Valid.{AreDistinct}
 
--- a reference of an overlay: to one of its own nodes, or by a label that it doesn't give
-pub data OverlayReference : Type 0 where
-  inside : Path → OverlayReference
-  outside : Name → OverlayReference
+-- a reference of an overlay: to one of its own nodes, which an N tells, or by a label that it doesn't give
+pub data ReferenceBy (N : Type 0) : Type 0 where
+  inside : N → ReferenceBy N
+  outside : Name → ReferenceBy N
+
+-- by the node's path
+abbrev pub OverlayReference : Type 0
+OverlayReference = ReferenceBy Path
+
+module _ {N M : Type 0} where
+  -- the same reference, its node told in another way
+  abbrev pub reference_renamed : (N → M) → ReferenceBy N → ReferenceBy M
+  reference_renamed f (inside n) = inside (f n)
+  reference_renamed f (outside l) = outside l
+
+-- the numbers by which an object holds its references: all ones where the node is of some other tree
+abbrev pub object_number : {N : Type 0} → (N → ℕ) → ReferenceBy N → ℕ
+object_number number (inside n) = number n
+object_number number (outside l) = 0xffffffff
 
 -- what a fragment names as its target
 pub data Target : Type 0 where

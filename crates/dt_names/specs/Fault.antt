@@ -1,7 +1,7 @@
 -- The number and the name of each kind of fault, which a caller may show or compare; and what is true of the refusals of a call.
 use Rattle.std.specs.Prelude.{◌≡◌, ◌≢◌, ℕ, List, codes}
 use Rattle.dt_names.specs.declared.fault.FaultKind.{FaultKind}
-use Rattle.dt_names.specs.declared.fault.FaultKind.TheVariants.{NoMemory, Limit, BadVersionTag, BadToken, Syntax, BadInteger, DivideByZero, OutOfRange, BadReferenceWidth, PropertyAfterNode, DuplicateProperty, DuplicateNode, DuplicateLabel, NoSuchTarget, UnresolvedReference, BadPhandle, DuplicatePhandle, ReservedName, ShortHeader, BadMagic, BadTotal, BadVersion, Misaligned, BlockOutside, NoReservationEnd, BadTag, StructureCut, BadName, BadNameOffset, BadNesting, LateProperty, Duplicate, BadEnd, BlobPhandle, WriteFault, ReadFault}
+use Rattle.dt_names.specs.declared.fault.FaultKind.TheVariants.{NoMemory, Limit, BadVersionTag, BadToken, Syntax, BadInteger, DivideByZero, OutOfRange, BadReferenceWidth, PropertyAfterNode, DuplicateProperty, DuplicateNode, DuplicateLabel, NoSuchTarget, UnresolvedReference, BadPhandle, DuplicatePhandle, ReservedName, OverlayDelete, OverlayPhandle, OverlayPathReference, OverlayReserve, OutsideContent, BadFragment, ShortHeader, BadMagic, BadTotal, BadVersion, Misaligned, BlockOutside, NoReservationEnd, BadTag, StructureCut, BadName, BadNameOffset, BadNesting, LateProperty, Duplicate, BadEnd, BlobPhandle, WriteFault, ReadFault}
 
 -- the number of a kind
 abbrev pub fault_number : FaultKind → ℕ
@@ -23,6 +23,12 @@ fault_number UnresolvedReference = 24
 fault_number BadPhandle = 25
 fault_number DuplicatePhandle = 26
 fault_number ReservedName = 27
+fault_number OverlayDelete = 28
+fault_number OverlayPhandle = 29
+fault_number OverlayPathReference = 30
+fault_number OverlayReserve = 31
+fault_number OutsideContent = 32
+fault_number BadFragment = 33
 fault_number ShortHeader = 40
 fault_number BadMagic = 41
 fault_number BadTotal = 42
@@ -62,6 +68,12 @@ fault_name UnresolvedReference = codes "UnresolvedReference"
 fault_name BadPhandle = codes "BadPhandle"
 fault_name DuplicatePhandle = codes "DuplicatePhandle"
 fault_name ReservedName = codes "ReservedName"
+fault_name OverlayDelete = codes "OverlayDelete"
+fault_name OverlayPhandle = codes "OverlayPhandle"
+fault_name OverlayPathReference = codes "OverlayPathReference"
+fault_name OverlayReserve = codes "OverlayReserve"
+fault_name OutsideContent = codes "OutsideContent"
+fault_name BadFragment = codes "BadFragment"
 fault_name ShortHeader = codes "ShortHeader"
 fault_name BadMagic = codes "BadMagic"
 fault_name BadTotal = codes "BadTotal"

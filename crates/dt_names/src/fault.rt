@@ -45,6 +45,18 @@ pub enum FaultKind {
     DuplicatePhandle,
     /// A name that the tool keeps for its own nodes.
     ReservedName,
+    /// A deletion in an overlay's source: an object has no form for it.
+    OverlayDelete,
+    /// A property `phandle` in an overlay's source.
+    OverlayPhandle,
+    /// A reference of an overlay's source outside a cell list, or by a path.
+    OverlayPathReference,
+    /// A memory reservation in an overlay's source.
+    OverlayReserve,
+    /// A reference in what a fragment brings, or a fragment's target, to a node that no fragment brings.
+    OutsideContent,
+    /// A fragment that holds no target.
+    BadFragment,
     /// A blob of fewer bytes than a header has.
     ShortHeader,
     /// A blob that doesn't begin with the magic number.
@@ -107,6 +119,12 @@ impl FaultKind {
             FaultKind::BadPhandle => 25,
             FaultKind::DuplicatePhandle => 26,
             FaultKind::ReservedName => 27,
+            FaultKind::OverlayDelete => 28,
+            FaultKind::OverlayPhandle => 29,
+            FaultKind::OverlayPathReference => 30,
+            FaultKind::OverlayReserve => 31,
+            FaultKind::OutsideContent => 32,
+            FaultKind::BadFragment => 33,
             FaultKind::ShortHeader => 40,
             FaultKind::BadMagic => 41,
             FaultKind::BadTotal => 42,
@@ -151,6 +169,12 @@ impl FaultKind {
             FaultKind::BadPhandle => "BadPhandle",
             FaultKind::DuplicatePhandle => "DuplicatePhandle",
             FaultKind::ReservedName => "ReservedName",
+            FaultKind::OverlayDelete => "OverlayDelete",
+            FaultKind::OverlayPhandle => "OverlayPhandle",
+            FaultKind::OverlayPathReference => "OverlayPathReference",
+            FaultKind::OverlayReserve => "OverlayReserve",
+            FaultKind::OutsideContent => "OutsideContent",
+            FaultKind::BadFragment => "BadFragment",
             FaultKind::ShortHeader => "ShortHeader",
             FaultKind::BadMagic => "BadMagic",
             FaultKind::BadTotal => "BadTotal",

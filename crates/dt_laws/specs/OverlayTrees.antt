@@ -1,0 +1,75 @@
+-- What is true of what overlays' sources mean, of the trees that they are compiled to, and of their refusals.
+use Rattle.std.specs.Prelude.{◌≡◌, ℕ, ◌+◌, ◌<◌, ◌≤◌, true, List, [], length, None, Ok}
+use Rattle.std.specs.List.{AllByRecursion}
+use Rattle.dt_model.specs.Limits.{most_names, most_nodes}
+use Rattle.dt_model.specs.Path.{Path}
+use Rattle.dt_model.specs.Event.{Stack, stands}
+use Rattle.dt_model.specs.Source.{Place, IsPlace}
+use Rattle.dt_model.specs.Overlay.{Overlay}
+use Rattle.dt_model.specs.OverlaySource.{OverlaySoFar, root_children, overlay_start, read_overlays, OverlayMeans}
+use Rattle.dt_model.specs.Object.{Encodes}
+use Rattle.dt_model.specs.Tree.{Reading}
+use Rattle.dt_model.specs.Valid.{IsValid, node_count}
+use Rattle.dt_model.specs.Named as named
+use Rattle.dt_model.specs.Named.{NodeReference, Named}
+use Rattle.dt_model.specs.NamedOf.{IsNamed}
+use Rattle.dt_model.specs.NamedOverlay.{NamedFragment, IsNamedOverlayOf}
+use Rattle.dt_model.specs.Fixups.{IsObjectOf}
+use Rattle.dt_model.specs.Refused.{StandMany, OverlaySourceRefusal, too_many, IsOverlayRefusedFor}
+
+-- the places of an overlay's source mean one overlay
+abbrev pub OneOverlay : Type 0
+OneOverlay = (places : List Place) (o q : Overlay) → OverlayMeans places o → OverlayMeans places q → o ≡ q
+
+-- no node with more than 64 names in its path stands
+abbrev pub OverlayNodesAreShallow : Type 0
+OverlayNodesAreShallow = (places : List Place) (s : OverlaySoFar) → read_overlays (root_children None places) overlay_start places ≡ Ok s
+    → (p : Stack) → stands s.source.events p ≡ true → length p ≤ most_names
+
+-- the root stands
+abbrev pub OverlayRootStands : Type 0
+OverlayRootStands = (places : List Place) (s : OverlaySoFar) → read_overlays (root_children None places) overlay_start places ≡ Ok s
+    → stands s.source.events [] ≡ true
+
+-- they are refused for one reason
+abbrev pub OverlayRefusalIsOne : Type 0
+OverlayRefusalIsOne = (places : List Place) (r q : OverlaySourceRefusal) → IsOverlayRefusedFor places r → IsOverlayRefusedFor places q → r ≡ q
+
+-- and for nothing but the number of their nodes where they mean something
+abbrev pub OverlayIsNotRefused : Type 0
+OverlayIsNotRefused = (places : List Place) (o : Overlay) (r : OverlaySourceRefusal) → OverlayMeans places o → IsOverlayRefusedFor places r → r ≡ too_many
+
+-- a named tree that they mean is one that a source may mean, where it isn't too large
+abbrev pub OverlayIsNamed : Type 0
+OverlayIsNamed = (places : List Place) (t : Named NodeReference) (fragments : List NamedFragment)
+    → AllByRecursion IsPlace places → 1 + named.node_count t.children ≤ most_nodes → IsNamedOverlayOf places t fragments → IsNamed t
+
+-- where it is too large, too many nodes stand
+abbrev pub OverlayManyStand : Type 0
+OverlayManyStand = (places : List Place) (t : Named NodeReference) (fragments : List NamedFragment)
+    → most_nodes < 1 + named.node_count t.children → (n : IsNamedOverlayOf places t fragments) → StandMany most_nodes n.means.so_far.source.events
+
+-- and where it isn't, they aren't refused
+abbrev pub NamedOverlayIsNotRefused : Type 0
+NamedOverlayIsNotRefused = (places : List Place) (t : Named NodeReference) (fragments : List NamedFragment) (r : OverlaySourceRefusal)
+    → IsNamedOverlayOf places t fragments → 1 + named.node_count t.children ≤ most_nodes → IsOverlayRefusedFor places r → ⊥
+
+-- they are compiled to one tree
+abbrev pub OneObject : Type 0
+OneObject = (places : List Place) (t u : Reading) → IsObjectOf places t → IsObjectOf places u → t ≡ u
+
+-- with no more nodes than a blob may have they aren't refused,
+abbrev pub ObjectIsNotRefused : Type 0
+ObjectIsNotRefused = (places : List Place) (t : Reading) (r : OverlaySourceRefusal)
+    → IsObjectOf places t → 1 + node_count t.children ≤ most_nodes → IsOverlayRefusedFor places r → ⊥
+
+-- a blob may hold the tree,
+abbrev pub ObjectIsValid : Type 0
+ObjectIsValid = (places : List Place) (t : Reading)
+    → AllByRecursion IsPlace places → IsObjectOf places t → 1 + node_count t.children ≤ most_nodes → IsValid t
+
+-- and it is an object of what they mean
+abbrev pub ObjectEncodes : Type 0
+ObjectEncodes = (places : List Place) (t : Reading)
+    → AllByRecursion IsPlace places → IsObjectOf places t → 1 + node_count t.children ≤ most_nodes
+    → (o : Overlay) × (number : Path → ℕ) × OverlayMeans places o × Encodes t o number
