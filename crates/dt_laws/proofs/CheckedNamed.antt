@@ -57,20 +57,20 @@ are_labels es q ls = list_all (gives_among q ls) es && (list_all (λ l. names es
 three : (a b c : Bool) → a && (b && c) ≡ true → (a ≡ true) × (b ≡ true) × (c ≡ true)
 three a b c h = (and_left a (b && c) h, and_left b c (and_right a (b && c) h), and_right b c (and_right a (b && c) h))
 
-abbrev is_in_order : Events → Path → NamedNode ℕ → Bool
+abbrev is_in_order : Events → Path → NamedNode NodeReference → Bool
 is_in_order es p n = are_children es (reverse p) (named.names n.children) && (are_properties es (reverse p) (property_names n.content.properties) && are_labels es (reverse p) n.content.labels)
 
 -- ---- the tests
 
 -- the node is at one of these paths, and its properties have these names
-abbrev is_placed : List Path → List Name → NamedPlaced ℕ → Bool
-is_placed qs ns n = has path_eq qs n.path && list_all (λ (x : NamedProperty ℕ). has bytes_eq ns x.name) n.content.properties
+abbrev is_placed : List Path → List Name → NamedPlaced NodeReference → Bool
+is_placed qs ns n = has path_eq qs n.path && list_all (λ (x : NamedProperty NodeReference). has bytes_eq ns x.name) n.content.properties
 
-abbrev SameValue : Events → Named ℕ → Path → Name → Type 0
+abbrev SameValue : Events → Named NodeReference → Path → Name → Type 0
 SameValue es t p x = option_map (meant t) (value_of (content_in t p).properties x) ≡ option_and_then (all_bound es) (value_at es (reverse p) x)
 
 -- what was read of the places, and the tests
-pub record IsCheckedNamed (places : List Place) (s : SoFar) (qs : List Path) (ns : List Name) (t : Named ℕ) : Type 0 where
+pub record IsCheckedNamed (places : List Place) (s : SoFar) (qs : List Path) (ns : List Name) (t : Named NodeReference) : Type 0 where
   pub all_read : read_all base nothing places ≡ Ok s
   pub closed : s.bodies ≡ []
   pub is_read : IsRead places s.events qs ns
@@ -81,7 +81,7 @@ pub record IsCheckedNamed (places : List Place) (s : SoFar) (qs : List Path) (ns
   pub referred : AllByRecursion (RefersBelow (1 + node_count t.children)) (contents_of t)
   pub ordered : list_all (λ p. option_map_or (is_in_order s.events p) (node_at t p) true) qs ≡ true
 
-module _ (places : List Place) (s : SoFar) (qs : List Path) (ns : List Name) (t : Named ℕ) (h : IsCheckedNamed places s qs ns t) where
+module _ (places : List Place) (s : SoFar) (qs : List Path) (ns : List Name) (t : Named NodeReference) (h : IsCheckedNamed places s qs ns t) where
   resolved : IsResolved s.events
   resolved =
       let m = read_means places s.events qs ns h.is_read in
@@ -92,10 +92,10 @@ module _ (places : List Place) (s : SoFar) (qs : List Path) (ns : List Name) (t 
   abbrev means : SourceMeans base [] places (meaning_of [] s.events)
   means = record { so_far = s; all_read = h.all_read; closed = h.closed; resolved = resolved; means = refl }
 
-  node_within : (p : Path) (c : NamedNode ℕ) → node_at t p ≡ Some c → IsIn p qs
+  node_within : (p : Path) (c : NamedNode NodeReference) → node_at t p ≡ Some c → IsIn p qs
   node_within p c e =
-      let n : NamedPlaced ℕ = record { path = p; content = c.content } in
-      has_in path_eq same_paths qs p (and_left (has path_eq qs p) (list_all (λ (x : NamedProperty ℕ). has bytes_eq ns x.name) c.content.properties) (all_at (is_placed qs ns) (nodes_of t) n h.placed (at_listed t p c e)))
+      let n : NamedPlaced NodeReference = record { path = p; content = c.content } in
+      has_in path_eq same_paths qs p (and_left (has path_eq qs p) (list_all (λ (x : NamedProperty NodeReference). has bytes_eq ns x.name) c.content.properties) (all_at (is_placed qs ns) (nodes_of t) n h.placed (at_listed t p c e)))
 
   same_nodes : (p : Path) → is_some (node_at t p) ≡ stands s.events (reverse p)
   same_nodes p =
@@ -109,16 +109,16 @@ module _ (places : List Place) (s : SoFar) (qs : List Path) (ns : List Name) (t 
   same_option X None (Some y) f g h = h (g y refl)
   same_option X (Some x) b f g h = h (f x refl)
 
-  property_within : (p : Path) (x : Name) (v : List (Item ℕ)) → value_of (content_in t p).properties x ≡ Some v → IsIn p qs × IsIn x ns
+  property_within : (p : Path) (x : Name) (v : List (Item NodeReference)) → value_of (content_in t p).properties x ≡ Some v → IsIn p qs × IsIn x ns
   property_within p x v k = step (node_at t p) refl k
     where
-      step : (o : Option (NamedNode ℕ)) → node_at t p ≡ o → value_of (option_map_or (λ n. n.content) o (record { labels = []; properties = [] })).properties x ≡ Some v → IsIn p qs × IsIn x ns
+      step : (o : Option (NamedNode NodeReference)) → node_at t p ≡ o → value_of (option_map_or (λ n. n.content) o (record { labels = []; properties = [] })).properties x ≡ Some v → IsIn p qs × IsIn x ns
       step None e z = absurd (let no : None ≡ Some v = z in cc)
       step (Some c) e z =
-          let n : NamedPlaced ℕ = record { path = p; content = c.content } in
-          let all = and_right (has path_eq qs p) (list_all (λ (x : NamedProperty ℕ). has bytes_eq ns x.name) c.content.properties) (all_at (is_placed qs ns) (nodes_of t) n h.placed (at_listed t p c e)) in (
+          let n : NamedPlaced NodeReference = record { path = p; content = c.content } in
+          let all = and_right (has path_eq qs p) (list_all (λ (x : NamedProperty NodeReference). has bytes_eq ns x.name) c.content.properties) (all_at (is_placed qs ns) (nodes_of t) n h.placed (at_listed t p c e)) in (
             node_within p c e,
-            has_in bytes_eq same_names ns x (all_at (λ (x : NamedProperty ℕ). has bytes_eq ns x.name) c.content.properties (record { name = x; value = v }) all (value_listed c.content.properties x v z)),
+            has_in bytes_eq same_names ns x (all_at (λ (x : NamedProperty NodeReference). has bytes_eq ns x.name) c.content.properties (record { name = x; value = v }) all (value_listed c.content.properties x v z)),
           )
 
   same_values : (p : Path) (x : Name) → SameValue s.events t p x
@@ -133,11 +133,11 @@ module _ (places : List Place) (s : SoFar) (qs : List Path) (ns : List Name) (t 
 
   -- ---- the order
 
-  node_in_order : (p : Path) (c : NamedNode ℕ) → node_at t p ≡ Some c → is_in_order s.events p c ≡ true
+  node_in_order : (p : Path) (c : NamedNode NodeReference) → node_at t p ≡ Some c → is_in_order s.events p c ≡ true
   node_in_order p c e =
       ap (λ o. option_map_or (is_in_order s.events p) o true) (sym e) ∙ all_at (λ p. option_map_or (is_in_order s.events p) (node_at t p) true) qs p h.ordered (node_within p c e)
 
-  each_ordered : (p : Path) (c : NamedNode ℕ) → node_at t p ≡ Some c
+  each_ordered : (p : Path) (c : NamedNode NodeReference) → node_at t p ≡ Some c
       → (are_children s.events (reverse p) (named.names c.children) ≡ true) × (are_properties s.events (reverse p) (property_names c.content.properties) ≡ true)
       × (are_labels s.events (reverse p) c.content.labels ≡ true)
   each_ordered p c e =

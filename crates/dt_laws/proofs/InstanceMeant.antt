@@ -51,14 +51,14 @@ number_if before None true None h k = absurd h
 number_if before None true (Some n) h k = refl
 
 -- a value whose references are renamed
-value_renamed : (numbers : List (Option ℕ)) (f : ℕ → Path) (number : Path → ℕ) (v : List (Item ℕ)) → EachReference (λ k. number (f k) ≡ unwrap_or (number_at numbers k) 0) v
+value_renamed : (numbers : List (Option ℕ)) (f : ℕ → Path) (number : Path → ℕ) (v : List (Item NodeReference)) → EachReference (λ k. number (f k) ≡ unwrap_or (number_at numbers k) 0) v
     → value_bytes number (map (item_renamed f) v) ≡ numbered_value numbers v
 value_renamed numbers f number [] h = refl
 value_renamed numbers f number (byte b ∷ v) h = ap (λ bs. b ∷ bs) (value_renamed numbers f number v h)
 value_renamed numbers f number (reference k ∷ v) h =
     ap (λ y. cell y ++ value_bytes number (map (item_renamed f) v)) h.0 ∙ ap (λ bs. cell (unwrap_or (number_at numbers k) 0) ++ bs) (value_renamed numbers f number v h.1)
 
-each_mapped : (P Q : ℕ → Type 0) → ((k : ℕ) → P k → Q k) → (v : List (Item ℕ)) → EachReference P v → EachReference Q v
+each_mapped : (P Q : ℕ → Type 0) → ((k : ℕ) → P k → Q k) → (v : List (Item NodeReference)) → EachReference P v → EachReference Q v
 each_mapped P Q f [] h = tt
 each_mapped P Q f (byte b ∷ v) h = each_mapped P Q f v h
 each_mapped P Q f (reference k ∷ v) h = (f k h.0, each_mapped P Q f v h.1)
@@ -66,17 +66,17 @@ each_mapped P Q f (reference k ∷ v) h = (f k h.0, each_mapped P Q f v h.1)
 -- ---- lists of what is asked
 
 -- what is asked of the nodes' paths is what is asked of the nodes
-asked_same : (m : Meaning) (all : List (Content ℕ)) (k : ℕ) (ns : List (NamedPlaced ℕ))
-    → ((j i : ℕ) (n : NamedPlaced ℕ) → i ≡ k + j → HasAt j n ns → ◌≡◌ {A = Asked} (record { written = m.number n.path; keyed = m.keyed n.path }) (asked all i n.content))
-    → asked_by m (map (λ (n : NamedPlaced ℕ). n.path) ns) ≡ asked_from all k (map (λ (n : NamedPlaced ℕ). n.content) ns)
+asked_same : (m : Meaning) (all : List (Content NodeReference)) (k : ℕ) (ns : List (NamedPlaced NodeReference))
+    → ((j i : ℕ) (n : NamedPlaced NodeReference) → i ≡ k + j → HasAt j n ns → ◌≡◌ {A = Asked} (record { written = m.number n.path; keyed = m.keyed n.path }) (asked all i n.content))
+    → asked_by m (map (λ (n : NamedPlaced NodeReference). n.path) ns) ≡ asked_from all k (map (λ (n : NamedPlaced NodeReference). n.content) ns)
 asked_same m all k [] same = refl
 asked_same m all k (n ∷ ns) same =
-    ap (λ a. a ∷ asked_by m (map (λ (n : NamedPlaced ℕ). n.path) ns)) (same 0 k n (omega arith) refl)
+    ap (λ a. a ∷ asked_by m (map (λ (n : NamedPlaced NodeReference). n.path) ns)) (same 0 k n (omega arith) refl)
     ∙ ap (λ xs. asked all k n.content ∷ xs) (asked_same m all (suc k) ns (λ j i x e h. same (suc j) i x (omega arith) h))
 
 -- a list whose elements are those of other places
-listed_same : (f : Path → Option ℕ) (ns : List (NamedPlaced ℕ)) (numbers : List (Option ℕ)) → length numbers ≡ length ns
-    → ((j : ℕ) (n : NamedPlaced ℕ) → HasAt j n ns → f n.path ≡ number_at numbers j) → map f (map (λ (n : NamedPlaced ℕ). n.path) ns) ≡ numbers
+listed_same : (f : Path → Option ℕ) (ns : List (NamedPlaced NodeReference)) (numbers : List (Option ℕ)) → length numbers ≡ length ns
+    → ((j : ℕ) (n : NamedPlaced NodeReference) → HasAt j n ns → f n.path ≡ number_at numbers j) → map f (map (λ (n : NamedPlaced NodeReference). n.path) ns) ≡ numbers
 listed_same f [] [] e same = refl
 listed_same f [] (o ∷ numbers) e same = absurd (omega arith)
 listed_same f (n ∷ ns) [] e same = absurd (omega arith)
@@ -85,7 +85,7 @@ listed_same f (n ∷ ns) (o ∷ numbers) e same =
     let rest = listed_same f ns numbers (omega arith) (λ j x h. same (suc j) x h) in
     λ i. first i ∷ rest i
 
-module _ (mode : Mode) (reservations : List (ℕ × ℕ)) (places : List Place) (t : Named ℕ) (numbers : List (Option ℕ)) (some : 0 < length places)
+module _ (mode : Mode) (reservations : List (ℕ × ℕ)) (places : List Place) (t : Named NodeReference) (numbers : List (Option ℕ)) (some : 0 < length places)
     (valid_places : AllByRecursion IsPlace places) (reserved : AllByRecursion IsReservation reservations) (n : IsNamedOf mode reservations places t) (is_named : IsNamed t)
     (given : IsNumbering (asked_in t) numbers) where
   abbrev pub es : Events
@@ -112,10 +112,10 @@ module _ (mode : Mode) (reservations : List (ℕ × ℕ)) (places : List Place) 
   number_here : (k : ℕ) (p : Path) → HasAt k p (paths_of t) → number p ≡ unwrap_or (number_at numbers k) 0
   number_here k p h = ap (λ j. unwrap_or (number_at numbers j) 0) (place_is k p (paths_of t) (paths_distinct t (named_apart t is_named)) h)
 
-  path_of : (k : ℕ) (x : NamedPlaced ℕ) → HasAt k x (nodes_of t) → HasAt k x.path (paths_of t)
-  path_of k x h = at_map (λ (x : NamedPlaced ℕ). x.path) k x (nodes_of t) h
+  path_of : (k : ℕ) (x : NamedPlaced NodeReference) → HasAt k x (nodes_of t) → HasAt k x.path (paths_of t)
+  path_of k x h = at_map (λ (x : NamedPlaced NodeReference). x.path) k x (nodes_of t) h
 
-  asked_here : (k : ℕ) (x : NamedPlaced ℕ) → HasAt k x (nodes_of t) → ◌≡◌ {A = Asked} (record { written = m.number x.path; keyed = m.keyed x.path }) (asked (contents_of t) k x.content)
+  asked_here : (k : ℕ) (x : NamedPlaced NodeReference) → HasAt k x (nodes_of t) → ◌≡◌ {A = Asked} (record { written = m.number x.path; keyed = m.keyed x.path }) (asked (contents_of t) k x.content)
   asked_here k x h =
       let a = listed_at t x (named_apart t is_named) (at_in k x (nodes_of t) h) in
       let w : m.number x.path ≡ written_in x.content = sym (written_same mode reservations places t n x.path a.node a.is) ∙ ap written_in a.same in
@@ -123,7 +123,7 @@ module _ (mode : Mode) (reservations : List (ℕ × ℕ)) (places : List Place) 
       sym (keyed_same mode reservations places t n (holds mode reservations places t n some valid_places) k x.path a.node (path_of k x h) a.is) ∙ ap (λ c. (asked (contents_of t) k c).keyed) a.same in
       λ i. record { written = w i; keyed = keyed i }
 
-  numbered_here : (k : ℕ) (x : NamedPlaced ℕ) → HasAt k x (nodes_of t) → (if m.keyed x.path then Some (number x.path) else None) ≡ number_at numbers k
+  numbered_here : (k : ℕ) (x : NamedPlaced NodeReference) → HasAt k x (nodes_of t) → (if m.keyed x.path then Some (number x.path) else None) ≡ number_at numbers k
   numbered_here k x h =
       let is = number_is t is_named numbers given k x h in
       ap (λ y. if m.keyed x.path then Some y else None) (number_here k x.path (path_of k x h))
@@ -134,7 +134,7 @@ module _ (mode : Mode) (reservations : List (ℕ × ℕ)) (places : List Place) 
   -- a keyed node's place
   record IsKeyedAt (p : Path) : Type 0 where
     index : ℕ
-    node : NamedPlaced ℕ
+    node : NamedPlaced NodeReference
     at : HasAt index node (nodes_of t)
     path : node.path ≡ p
     has : number_at numbers index ≡ Some (number p)
@@ -142,7 +142,7 @@ module _ (mode : Mode) (reservations : List (ℕ × ℕ)) (places : List Place) 
   keyed_at : (p : Path) → m.keyed p ≡ true → IsKeyedAt p
   keyed_at p keyed =
       let c = stands_node mode reservations places t n p (is_meaning.keyed_stand p keyed) in
-      let x : NamedPlaced ℕ = record { path = p; content = (c.0).content } in
+      let x : NamedPlaced NodeReference = record { path = p; content = (c.0).content } in
       let k = in_at x (nodes_of t) (at_listed t p c.0 c.1) in
       record {
         index = k.0;
@@ -160,7 +160,7 @@ module _ (mode : Mode) (reservations : List (ℕ × ℕ)) (places : List Place) 
         let a = keyed_at p k in
         let b = keyed_at q l in
         let same = one_place numbers a.index b.index (number q) (distinct_numbers t is_named numbers given) (a.has ∙ ap (λ (y : ℕ). Some y) e) b.has in
-        sym a.path ∙ ap (λ (x : NamedPlaced ℕ). x.path) (same_at b.index a.node b.node (nodes_of t) (subst (λ j. HasAt j a.node (nodes_of t)) same a.at) b.at) ∙ b.path;
+        sym a.path ∙ ap (λ (x : NamedPlaced NodeReference). x.path) (same_at b.index a.node b.node (nodes_of t) (subst (λ j. HasAt j a.node (nodes_of t)) same a.at) b.at) ∙ b.path;
     written = λ p y e.
         let a = keyed_at p (is_meaning.numbered p y e).0 in
         let w : written_in a.node.content ≡ Some y = sym (ap (λ (z : Asked). z.written) (asked_here a.index a.node a.at)) ∙ ap m.number a.path ∙ e in
@@ -170,7 +170,7 @@ module _ (mode : Mode) (reservations : List (ℕ × ℕ)) (places : List Place) 
 
   -- ---- nodes
 
-  node_placed : (p : Path) (c : NamedNode ℕ) → node_at t p ≡ Some c → (k : ℕ) × HasAt k (record { path = p; content = c.content }) (nodes_of t)
+  node_placed : (p : Path) (c : NamedNode NodeReference) → node_at t p ≡ Some c → (k : ℕ) × HasAt k (record { path = p; content = c.content }) (nodes_of t)
   node_placed p c e = in_at (record { path = p; content = c.content }) (nodes_of t) (at_listed t p c e)
 
   stands_same : (p : Path) → stands_in instance p ≡ is_some (node_at t p)
@@ -184,17 +184,17 @@ module _ (mode : Mode) (reservations : List (ℕ × ℕ)) (places : List Place) 
 
   -- ---- values
 
-  value_here : (k : ℕ) (x : NamedPlaced ℕ) (name : Name) → HasAt k x (nodes_of t) → value_in instance x.path name ≡ value_of (numbered_properties numbers k x.content) name
+  value_here : (k : ℕ) (x : NamedPlaced NodeReference) (name : Name) → HasAt k x (nodes_of t) → value_in instance x.path name ≡ value_of (numbered_properties numbers k x.content) name
   value_here k x name h = listed.listed_value instance (instance_node numbers k x) name (valid t numbers is_named given) (node_in numbers t k x h)
 
-  each_number : (v : List (Item ℕ)) → EachReference (λ k. k < 1 + node_count t.children) v → EachReference (λ k. number (path_among (paths_of t) k) ≡ unwrap_or (number_at numbers k) 0) v
+  each_number : (v : List (Item NodeReference)) → EachReference (λ k. k < 1 + node_count t.children) v → EachReference (λ k. number (path_among (paths_of t) k) ≡ unwrap_or (number_at numbers k) 0) v
   each_number v h =
       let a = length-nodes t in
-      let b = length-map (nodes_of t) (λ (x : NamedPlaced ℕ). x.path) in
+      let b = length-map (nodes_of t) (λ (x : NamedPlaced NodeReference). x.path) in
       each_mapped (λ k. k < 1 + node_count t.children) (λ k. number (path_among (paths_of t) k) ≡ unwrap_or (number_at numbers k) 0)
       (λ k below. number_here k (path_among (paths_of t) k) (at_path k (paths_of t) (omega (arith, below, a, b)))) v h
 
-  phandle_same : (k : ℕ) (x : NamedPlaced ℕ) → HasAt k x (nodes_of t)
+  phandle_same : (k : ℕ) (x : NamedPlaced NodeReference) → HasAt k x (nodes_of t)
       → value_of (numbered_properties numbers k x.content) (codes "phandle") ≡ (if m.keyed x.path then Some (cell (number x.path)) else None)
   phandle_same k x h =
       phandle_value numbers k x.content (1 + node_count t.children) (content_is t is_named x (at_in k x (nodes_of t) h)) (λ y e. written_is t is_named numbers given k x y h e)
@@ -204,12 +204,12 @@ module _ (mode : Mode) (reservations : List (ℕ × ℕ)) (places : List Place) 
       through true = refl
       through false = refl
 
-  renamed_same : (v : Option (List (Item ℕ))) → ((w : List (Item ℕ)) → v ≡ Some w → EachReference (λ k. number (path_among (paths_of t) k) ≡ unwrap_or (number_at numbers k) 0) w)
+  renamed_same : (v : Option (List (Item NodeReference))) → ((w : List (Item NodeReference)) → v ≡ Some w → EachReference (λ k. number (path_among (paths_of t) k) ≡ unwrap_or (number_at numbers k) 0) w)
       → option_map (numbered_value numbers) v ≡ option_map (value_bytes number) (option_map (meant t) v)
   renamed_same None each = refl
   renamed_same (Some w) each = ap (λ (z : List ℕ). Some z) (sym (value_renamed numbers (path_among (paths_of t)) number w (each w refl)))
 
-  other_same : (k : ℕ) (x : NamedPlaced ℕ) (name : Name) → HasAt k x (nodes_of t) → bytes_eq name (codes "phandle") ≡ false
+  other_same : (k : ℕ) (x : NamedPlaced NodeReference) (name : Name) → HasAt k x (nodes_of t) → bytes_eq name (codes "phandle") ≡ false
       → value_of (numbered_properties numbers k x.content) name ≡ option_map (value_bytes number) (option_and_then (all_bound es) (value_at es (reverse x.path) name))
   other_same k x name h other =
       let i = at_in k x (nodes_of t) h in
@@ -218,12 +218,12 @@ module _ (mode : Mode) (reservations : List (ℕ × ℕ)) (places : List Place) 
       ∙ renamed_same (named.value_of x.content.properties name)
       (λ w e.
       each_number w
-      (each_in (λ (p : NamedProperty ℕ). EachReference (λ k. k < 1 + node_count t.children) p.value) x.content.properties (record { name = name; value = w })
+      (each_in (λ (p : NamedProperty NodeReference). EachReference (λ k. k < 1 + node_count t.children) p.value) x.content.properties (record { name = name; value = w })
       (content_is t is_named x i).referred (value_listed x.content.properties name w e)))
-      ∙ ap (λ (c : Content ℕ). option_map (value_bytes number) (option_map (meant t) (named.value_of c.properties name))) (sym a.same)
+      ∙ ap (λ (c : Content NodeReference). option_map (value_bytes number) (option_map (meant t) (named.value_of c.properties name))) (sym a.same)
       ∙ ap (option_map (value_bytes number)) (value_same mode reservations places t n x.path a.node name a.is)
 
-  values_here : (k : ℕ) (x : NamedPlaced ℕ) (name : Name) → HasAt k x (nodes_of t) → value_in instance x.path name ≡ instance_value m number x.path name
+  values_here : (k : ℕ) (x : NamedPlaced NodeReference) (name : Name) → HasAt k x (nodes_of t) → value_in instance x.path name ≡ instance_value m number x.path name
   values_here k x name h = value_here k x name h ∙ step (bytes_eq name (codes "phandle")) refl
     where
       step : (b : Bool) → bytes_eq name (codes "phandle") ≡ b → value_of (numbered_properties numbers k x.content) name ≡ instance_value m number x.path name
@@ -250,7 +250,7 @@ module _ (mode : Mode) (reservations : List (ℕ × ℕ)) (places : List Place) 
       none_in None h e = ap (option_and_then (λ (c : Node). value_of c.properties name)) h
       none_in (Some c) h e = let w = node_same numbers t p c h in absurd (let z : None ≡ Some w.0 = sym e ∙ w.1 in cc)
 
-      step : (o : Option (NamedNode ℕ)) → node_at t p ≡ o → value_in instance p name ≡ instance_value m number p name
+      step : (o : Option (NamedNode NodeReference)) → node_at t p ≡ o → value_in instance p name ≡ instance_value m number p name
       step None e = none_in (tree.node_at instance p) refl e ∙ sym (none_there p name e)
       step (Some c) e = let k = node_placed p c e in values_here k.0 (record { path = p; content = c.content }) name k.1
 
@@ -277,7 +277,7 @@ module _ (mode : Mode) (reservations : List (ℕ × ℕ)) (places : List Place) 
   -- ---- the order
 
   -- a number that isn't written stands last
-  phandle_last : (k : ℕ) (x : NamedPlaced ℕ) → HasAt k x (nodes_of t) → phandle_names numbers k x.content ≡ unwritten m x.path
+  phandle_last : (k : ℕ) (x : NamedPlaced NodeReference) → HasAt k x (nodes_of t) → phandle_names numbers k x.content ≡ unwritten m x.path
   phandle_last k x h =
       let ok = content_is t is_named x (at_in k x (nodes_of t) h) in
       let written : is_some (m.number x.path) ≡ is_some (written_in x.content) = ap (λ (a : Asked). is_some a.written) (asked_here k x h) in
@@ -307,7 +307,7 @@ module _ (mode : Mode) (reservations : List (ℕ × ℕ)) (places : List Place) 
           property_names x.content.properties,
           names,
           subst (λ q. ArePropertiesInOrder es q (property_names x.content.properties)) (sym at)
-              (subst (λ (d : Content ℕ). ArePropertiesInOrder es x.path (property_names d.properties)) a.same (n.order.properties x.path a.node a.is)),
+              (subst (λ (d : Content NodeReference). ArePropertiesInOrder es x.path (property_names d.properties)) a.same (n.order.properties x.path a.node a.is)),
         );
   }
 

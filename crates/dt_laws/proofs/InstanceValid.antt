@@ -37,19 +37,19 @@ one_cell : (o : Option ℕ) → AreDistinct (map (from_be_bytes w32) (option_to_
 one_cell None = tt
 one_cell (Some y) = (tt, tt)
 
-module _ (t : Named ℕ) (numbers : List (Option ℕ)) (named : IsNamed t) (given : IsNumbering (asked_in t) numbers) where
+module _ (t : Named NodeReference) (numbers : List (Option ℕ)) (named : IsNamed t) (given : IsNumbering (asked_in t) numbers) where
   abbrev instance : Reading
   instance = instance_of numbers t
 
   -- the phandle of a node is its number
-  phandle_is : (k : ℕ) (n : NamedPlaced ℕ) → HasAt k n (nodes_of t) → phandle_list (instance_node numbers k n) ≡ option_to_list (option_map cell (number_at numbers k))
+  phandle_is : (k : ℕ) (n : NamedPlaced NodeReference) → HasAt k n (nodes_of t) → phandle_list (instance_node numbers k n) ≡ option_to_list (option_map cell (number_at numbers k))
   phandle_is k n h =
       are_phandles numbers k n.content (1 + node_count t.children) (content_is t named n (at_in k n (nodes_of t) h)) (λ y e. written_is t named numbers given k n y h e)
 
   -- a phandle among those of all nodes
   record HasPhandle (m : Placed) (v : List ℕ) : Type 0 where
     place : ℕ
-    node : NamedPlaced ℕ
+    node : NamedPlaced NodeReference
     at : HasAt place node (nodes_of t)
     path : m.path ≡ node.path
     number : ℕ
@@ -72,7 +72,7 @@ module _ (t : Named ℕ) (numbers : List (Option ℕ)) (named : IsNamed t) (give
       subst IsPhandle (sym h.value) (cell_phandle h.number r.0 r.1))
 
   -- a number that is a node's phandle
-  number_back : (m : Placed) (y : ℕ) → IsIn m (tree.nodes_of instance) → IsIn y (map (from_be_bytes w32) (phandle_list m)) → (k : ℕ) × (n : NamedPlaced ℕ) × HasAt k n (nodes_of t) × (m.path ≡ n.path) × (number_at numbers k ≡ Some y)
+  number_back : (m : Placed) (y : ℕ) → IsIn m (tree.nodes_of instance) → IsIn y (map (from_be_bytes w32) (phandle_list m)) → (k : ℕ) × (n : NamedPlaced NodeReference) × HasAt k n (nodes_of t) × (m.path ≡ n.path) × (number_at numbers k ≡ Some y)
   number_back m y i j =
       let w = in_map_from (from_be_bytes w32) (phandle_list m) y j in
       let h = has_phandle m w.0 i w.1 in
@@ -91,7 +91,7 @@ module _ (t : Named ℕ) (numbers : List (Option ℕ)) (named : IsNamed t) (give
       let b = number_back m' y i' j' in
       let same : a.0 ≡ b.0 = one_place numbers a.0 b.0 y (distinct_numbers t named numbers given) a.4 b.4 in
       let node : a.1 ≡ b.1 = same_at b.0 a.1 b.1 (nodes_of t) (subst (λ k. HasAt k a.1 (nodes_of t)) same a.2) b.2 in
-      a.3 ∙ ap (λ (n : NamedPlaced ℕ). n.path) node ∙ sym b.3))
+      a.3 ∙ ap (λ (n : NamedPlaced NodeReference). n.path) node ∙ sym b.3))
 
   pub valid : IsValid instance
   valid = record {

@@ -71,15 +71,15 @@ refers_bound es (x ∷ xs) items q e h =
           | inr later ↦ in_right (reference (reverse q)) front rest (more later)
         ]
 
-refers_to-is : (k : ℕ) (x : Item ℕ) → refers_to k x ≡ true → x ≡ reference k
+refers_to-is : (k : ℕ) (x : Item NodeReference) → refers_to k x ≡ true → x ≡ reference k
 refers_to-is k (byte b) h = cc
 refers_to-is k (reference j) h = ap (λ (i : ℕ). reference i) ((Decides-eqb j k).0 h)
 
-renamed_reference : (f : ℕ → Path) (x : Item ℕ) (p : Path) → reference p ≡ item_renamed f x → (j : ℕ) × (x ≡ reference j) × (f j ≡ p)
+renamed_reference : (f : ℕ → Path) (x : Item NodeReference) (p : Path) → reference p ≡ item_renamed f x → (j : ℕ) × (x ≡ reference j) × (f j ≡ p)
 renamed_reference f (byte b) p e = cc
 renamed_reference f (reference j) p e = (j, refl, cc)
 
-each_below : (nodes : ℕ) (items : List (Item ℕ)) (j : ℕ) → EachReference (λ k. k < nodes) items → IsIn (reference j) items → j < nodes
+each_below : (nodes : ℕ) (items : List (Item NodeReference)) (j : ℕ) → EachReference (λ k. k < nodes) items → IsIn (reference j) items → j < nodes
 each_below nodes [] j h i = absurd i
 each_below nodes (byte b ∷ items) j h (inl e) = cc
 each_below nodes (byte b ∷ items) j h (inr i) = each_below nodes items j h i
@@ -93,7 +93,7 @@ has_some (y ∷ ys) x i = positive (length ys)
     positive : (n : ℕ) → nat_lt 0 (suc n) ≡ true
     positive n = grind (arith, nat_tests)
 
-module _ (mode : Mode) (reservations : List (ℕ × ℕ)) (places : List Place) (t : Named ℕ) (n : IsNamedOf mode reservations places t) (h : Holds named_rules n.means.so_far) where
+module _ (mode : Mode) (reservations : List (ℕ × ℕ)) (places : List Place) (t : Named NodeReference) (n : IsNamedOf mode reservations places t) (h : Holds named_rules n.means.so_far) where
   abbrev es : Events
   es = events mode reservations places t n
 
@@ -110,7 +110,7 @@ module _ (mode : Mode) (reservations : List (ℕ × ℕ)) (places : List Place) 
   there_label q (undefinition r m) k = cc
   there_label q (deletion r) k = cc
 
-  labelled_same : (p : Path) (c : NamedNode ℕ) → node_at t p ≡ Some c → nat_lt 0 (length c.content.labels) ≡ list_any (labels_there es (reverse p)) es
+  labelled_same : (p : Path) (c : NamedNode NodeReference) → node_at t p ≡ Some c → nat_lt 0 (length c.content.labels) ≡ list_any (labels_there es (reverse p)) es
   labelled_same p c e =
       let order = n.order.labels p c e in
       same_tests (nat_lt 0 (length c.content.labels)) (list_any (labels_there es (reverse p)) es) (label_there (reverse p) c.content.labels order.sound)
@@ -125,12 +125,12 @@ module _ (mode : Mode) (reservations : List (ℕ × ℕ)) (places : List Place) 
   reference_there : (k : ℕ) (p : Path) → HasAt k p (paths_of t) → list_any (has_reference_to k) (contents_of t) ≡ true → list_any (refers_there es (reverse p)) es ≡ true
   reference_there k p at some =
       let c = any_from (has_reference_to k) (contents_of t) some in
-      let x = any_from (λ (x : NamedProperty ℕ). list_any (refers_to k) x.value) (c.0).properties c.2 in
+      let x = any_from (λ (x : NamedProperty NodeReference). list_any (refers_to k) x.value) (c.0).properties c.2 in
       let item = any_from (refers_to k) (x.0).value x.2 in
-      let node = in_map_from (λ (x : NamedPlaced ℕ). x.content) (nodes_of t) c.0 c.1 in
+      let node = in_map_from (λ (x : NamedPlaced NodeReference). x.content) (nodes_of t) c.0 c.1 in
       let a = listed_at t node.0 (apart mode reservations places t n) node.1 in
       let same : c.0 ≡ a.node.content = node.2 ∙ sym a.same in
-      let i : IsIn x.0 a.node.content.properties = subst (λ (z : Content ℕ). IsIn x.0 z.properties) same x.1 in
+      let i : IsIn x.0 a.node.content.properties = subst (λ (z : Content NodeReference). IsIn x.0 z.properties) same x.1 in
       let order = n.order.properties node.0.path a.node a.is in
       let d = falls_distinct _ (property_names a.node.content.properties) order.sorted in
       let w = value_parts mode reservations places t n node.0.path a.node (x.0).name (x.0).value a.is (listed_value a.node.content.properties x.0 d i) in
@@ -151,15 +151,15 @@ module _ (mode : Mode) (reservations : List (ℕ × ℕ)) (places : List Place) 
       let j = renamed_reference (path_among (paths_of t)) item.0 p item.2 in
       let i : IsIn (reference j.0) v.0 = subst (λ z. IsIn z v.0) j.1 item.1 in
       let listed = value_listed (c.0).content.properties m v.0 v.1 in
-      let there : IsIn (c.0).content (contents_of t) = in_map (λ (x : NamedPlaced ℕ). x.content) (nodes_of t) (record { path = reverse q; content = (c.0).content }) (at_listed t (reverse q) c.0 c.1) in
+      let there : IsIn (c.0).content (contents_of t) = in_map (λ (x : NamedPlaced NodeReference). x.content) (nodes_of t) (record { path = reverse q; content = (c.0).content }) (at_listed t (reverse q) c.0 c.1) in
       let referred = each_in (RefersBelow (1 + node_count t.children)) (contents_of t) (c.0).content n.referred there in
-      let below = each_below (1 + node_count t.children) v.0 j.0 (each_in (λ (x : NamedProperty ℕ). EachReference (λ k. k < 1 + node_count t.children) x.value) (c.0).content.properties _ referred listed) i in
+      let below = each_below (1 + node_count t.children) v.0 j.0 (each_in (λ (x : NamedProperty NodeReference). EachReference (λ k. k < 1 + node_count t.children) x.value) (c.0).content.properties _ referred listed) i in
       let a = length-nodes t in
-      let b = length-map (nodes_of t) (λ (x : NamedPlaced ℕ). x.path) in
+      let b = length-map (nodes_of t) (λ (x : NamedPlaced NodeReference). x.path) in
       let placed : HasAt j.0 p (paths_of t) = subst (λ z. HasAt j.0 z (paths_of t)) j.2 (at_path j.0 (paths_of t) (omega (arith, below, a, b))) in
       let same : j.0 ≡ k = one_at j.0 k p (paths_of t) (paths_distinct t (apart mode reservations places t n)) placed at in
       any_here (has_reference_to k) (contents_of t) (c.0).content there
-      (any_here (λ (x : NamedProperty ℕ). list_any (refers_to k) x.value) (c.0).content.properties (record { name = m; value = v.0 }) listed
+      (any_here (λ (x : NamedProperty NodeReference). list_any (refers_to k) x.value) (c.0).content.properties (record { name = m; value = v.0 }) listed
       (any_here (refers_to k) v.0 (reference j.0) i ((Decides-eqb j.0 k).1 same)))
 
   there_reference : (k : ℕ) (p : Path) → HasAt k p (paths_of t) → (e : Event (List Part)) → refers_there es (reverse p) e ≡ true → list_any (has_reference_to k) (contents_of t) ≡ true
@@ -176,7 +176,7 @@ module _ (mode : Mode) (reservations : List (ℕ × ℕ)) (places : List Place) 
 
   -- ---- all three
 
-  pub keyed_same : (k : ℕ) (p : Path) (c : NamedNode ℕ) → HasAt k p (paths_of t) → node_at t p ≡ Some c
+  pub keyed_same : (k : ℕ) (p : Path) (c : NamedNode NodeReference) → HasAt k p (paths_of t) → node_at t p ≡ Some c
       → (asked (contents_of t) k c.content).keyed
       ≡ (is_some (written_number es (reverse p)) || list_any (labels_there es (reverse p)) es || list_any (refers_there es (reverse p)) es)
   keyed_same k p c at e =

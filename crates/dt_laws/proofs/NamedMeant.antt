@@ -36,56 +36,56 @@ one_distinct : (o : Option ℕ) → AreDistinct (option_to_list o)
 one_distinct None = tt
 one_distinct (Some x) = (tt, tt)
 
-module _ (mode : Mode) (reservations : List (ℕ × ℕ)) (places : List Place) (t : Named ℕ) (n : IsNamedOf mode reservations places t) where
+module _ (mode : Mode) (reservations : List (ℕ × ℕ)) (places : List Place) (t : Named NodeReference) (n : IsNamedOf mode reservations places t) where
   abbrev es : Events
   es = events mode reservations places t n
 
   module _ (h : Holds named_rules n.means.so_far) where
     -- ---- what a node has
 
-    value_bytes_ok : (p : Path) (c : NamedNode ℕ) → node_at t p ≡ Some c → AreDistinct (property_names c.content.properties)
-        → (x : NamedProperty ℕ) → IsIn x c.content.properties → AreBytes x.value
+    value_bytes_ok : (p : Path) (c : NamedNode NodeReference) → node_at t p ≡ Some c → AreDistinct (property_names c.content.properties)
+        → (x : NamedProperty NodeReference) → IsIn x c.content.properties → AreBytes x.value
     value_bytes_ok p c e d x i =
         let w = value_parts mode reservations places t n p c x.name x.value e (listed_value c.content.properties x d i) in
         let follows = value_follows named_rules es (reverse p) x.name w.0 h.each w.1 in
         bytes_renamed (path_among (paths_of t)) x.value
         (all_bound_bytes es (λ r q k. node_follows named_rules es q h.each (referent_stands es h.sound r q k)) w.0 (meant t x.value) follows.1 w.2)
 
-    content_ok : (p : Path) (c : NamedNode ℕ) → node_at t p ≡ Some c → IsContent (1 + node_count t.children) c.content
+    content_ok : (p : Path) (c : NamedNode NodeReference) → node_at t p ≡ Some c → IsContent (1 + node_count t.children) c.content
     content_ok p c e =
         let labels = n.order.labels p c e in
         let properties = n.order.properties p c e in
         let d : AreDistinct (property_names c.content.properties) = falls_distinct (property_age es (reverse p)) (property_names c.content.properties) properties.sorted in
         record {
           labels = all_map (λ l. names es l (reverse p) ≡ true) IsLabel (λ l k. label_follows named_rules es l (reverse p) h.each k) c.content.labels labels.sound;
-          named = all_of_map (λ (x : NamedProperty ℕ). x.name) IsPropertyName c.content.properties
+          named = all_of_map (λ (x : NamedProperty NodeReference). x.name) IsPropertyName c.content.properties
               (all_map (λ x. is_some (value_at es (reverse p) x) ≡ true) IsPropertyName
               (λ x k. let v = some_there (value_at es (reverse p) x) k in (value_follows named_rules es (reverse p) x v.0 h.each v.1).0)
               (property_names c.content.properties) properties.sound);
           distinct = d;
-          bytes = each_from (λ (x : NamedProperty ℕ). AreBytes x.value) c.content.properties (value_bytes_ok p c e d);
+          bytes = each_from (λ (x : NamedProperty NodeReference). AreBytes x.value) c.content.properties (value_bytes_ok p c e d);
           referred = each_in (RefersBelow (1 + node_count t.children)) (contents_of t) c.content n.referred
-              (in_map (λ (x : NamedPlaced ℕ). x.content) (nodes_of t) (record { path = p; content = c.content }) (at_listed t p c e));
+              (in_map (λ (x : NamedPlaced NodeReference). x.content) (nodes_of t) (record { path = p; content = c.content }) (at_listed t p c e));
           numbered = λ v k. let w = phandle_number mode reservations places t n p c v e k in ap is_some w.1;
         }
 
     -- ---- all nodes
 
-    name_ok : (p : Path) (x : Name) (c : NamedNode ℕ) → node_at t (p ++ x ∷ []) ≡ Some c → IsNodeName x
+    name_ok : (p : Path) (x : Name) (c : NamedNode NodeReference) → node_at t (p ++ x ∷ []) ≡ Some c → IsNodeName x
     name_ok p x c e = last_named p x (path_named (p ++ x ∷ []) (node_follows named_rules es (reverse (p ++ x ∷ [])) h.each (node_stands mode reservations places t n (p ++ x ∷ []) c e)))
 
-    depth_ok : (p : Path) (x : Name) (c : NamedNode ℕ) → node_at t (p ++ x ∷ []) ≡ Some c → suc (length p) ≤ most_names
+    depth_ok : (p : Path) (x : Name) (c : NamedNode NodeReference) → node_at t (p ++ x ∷ []) ≡ Some c → suc (length p) ≤ most_names
     depth_ok p x c e =
         let low = nodes_are_shallow mode places n.means.so_far n.means.all_read (reverse (p ++ x ∷ [])) (node_stands mode reservations places t n (p ++ x ∷ []) c e) in
         let a = length-reverse (p ++ x ∷ []) in
         let b = length-append p (x ∷ []) in
         omega (arith, low, a, b)
 
-    nodes_ok : (path : Path) (depth : ℕ) (f : NamedForest ℕ) → depth ≡ suc (length path) → ((x : Name) (c : NamedNode ℕ) → IsSibling x c f → node_at t (path ++ x ∷ []) ≡ Some c)
+    nodes_ok : (path : Path) (depth : ℕ) (f : NamedForest NodeReference) → depth ≡ suc (length path) → ((x : Name) (c : NamedNode NodeReference) → IsSibling x c f → node_at t (path ++ x ∷ []) ≡ Some c)
         → AreNamedNodes (1 + node_count t.children) depth f
     nodes_ok path depth no_nodes same at = tt
     nodes_ok path depth (branch name content children siblings) same at =
-        let c : NamedNode ℕ = record { content = content; children = children } in
+        let c : NamedNode NodeReference = record { content = content; children = children } in
         let here = at name c (inl (refl, refl)) in
         let low = depth_ok path name c here in
         let order = n.order.children (path ++ name ∷ []) c here in
@@ -103,19 +103,19 @@ module _ (mode : Mode) (reservations : List (ℕ × ℕ)) (places : List Place) 
     -- ---- labels and numbers
 
     -- what each node of a list has, where what it has is a node's own
-    own_of : {Y : Type 0} (f : Content ℕ → List Y) → ((p : Path) (c : NamedNode ℕ) → node_at t p ≡ Some c → AreDistinct (f c.content))
-        → ((p q : Path) (c d : NamedNode ℕ) (y : Y) → node_at t p ≡ Some c → node_at t q ≡ Some d → IsIn y (f c.content) → IsIn y (f d.content) → p ≡ q)
+    own_of : {Y : Type 0} (f : Content NodeReference → List Y) → ((p : Path) (c : NamedNode NodeReference) → node_at t p ≡ Some c → AreDistinct (f c.content))
+        → ((p q : Path) (c d : NamedNode NodeReference) (y : Y) → node_at t p ≡ Some c → node_at t q ≡ Some d → IsIn y (f c.content) → IsIn y (f d.content) → p ≡ q)
         → AreDistinct (flat_map f (contents_of t))
     own_of f each own =
-        subst AreDistinct (sym (flat_of_map f (λ (x : NamedPlaced ℕ). x.content) (nodes_of t)))
-        (distinct_flat (λ (x : NamedPlaced ℕ). x.path) (λ x. f x.content) (nodes_of t) (paths_distinct t (apart mode reservations places t n))
+        subst AreDistinct (sym (flat_of_map f (λ (x : NamedPlaced NodeReference). x.content) (nodes_of t)))
+        (distinct_flat (λ (x : NamedPlaced NodeReference). x.path) (λ x. f x.content) (nodes_of t) (paths_distinct t (apart mode reservations places t n))
         (λ x i. let a = listed_at t x (apart mode reservations places t n) i in subst (λ c. AreDistinct (f c)) a.same (each x.path a.node a.is))
         (λ x z y i j k l.
         let a = listed_at t x (apart mode reservations places t n) i in
         let b = listed_at t z (apart mode reservations places t n) j in
         own x.path z.path a.node b.node y a.is b.is (subst (λ c. IsIn y (f c)) (sym a.same) k) (subst (λ c. IsIn y (f c)) (sym b.same) l)))
 
-    labels_ok : AreDistinct (flat_map (λ (c : Content ℕ). c.labels) (contents_of t))
+    labels_ok : AreDistinct (flat_map (λ (c : Content NodeReference). c.labels) (contents_of t))
     labels_ok =
         own_of (λ c. c.labels)
         (λ p c e. let o = n.order.labels p c e in falls_distinct (λ l. label_age es l (reverse p)) c.content.labels o.sorted)
@@ -124,7 +124,7 @@ module _ (mode : Mode) (reservations : List (ℕ × ℕ)) (places : List Place) 
         let b = each_in (λ l. names es l (reverse q) ≡ true) d.content.labels l (n.order.labels q d k).sound j in
         no_twice p q (h.sound.one l (reverse p) (reverse q) a b))
 
-    numbers_ok : AreDistinct (flat_map (λ (c : Content ℕ). option_to_list (written_in c)) (contents_of t))
+    numbers_ok : AreDistinct (flat_map (λ (c : Content NodeReference). option_to_list (written_in c)) (contents_of t))
     numbers_ok =
         own_of (λ c. option_to_list (written_in c)) (λ p c e. one_distinct (written_in c.content))
         (λ p q c d y e k i j.
@@ -150,13 +150,13 @@ pub many_stand : ManyStand
 many_stand mode reservations places t many n =
     let d = apart mode reservations places t n in
     let l = length-nodes t in
-    let m = length-map (nodes_of t) (λ (x : NamedPlaced ℕ). x.path) in
+    let m = length-map (nodes_of t) (λ (x : NamedPlaced NodeReference). x.path) in
     record {
       paths = paths_of t;
       distinct = paths_distinct t d;
       standing = each_from (λ p. stands (events mode reservations places t n) (reverse p) ≡ true) (paths_of t)
           (λ p i.
-          let w = in_map_from (λ (x : NamedPlaced ℕ). x.path) (nodes_of t) p i in
+          let w = in_map_from (λ (x : NamedPlaced NodeReference). x.path) (nodes_of t) p i in
           let a = listed_at t w.0 d w.1 in
           node_stands mode reservations places t n p a.node (ap (node_at t) w.2 ∙ a.is));
       many = omega (arith, many, l, m);

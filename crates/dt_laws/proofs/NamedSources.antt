@@ -21,11 +21,11 @@ use Rattle.dt_laws.proofs.NamedValues.{number_written}
 -- ---- siblings
 
 -- siblings differ everywhere where they differ at each node
-apart_below : (t : Named ℕ) → ((p : Path) (c : NamedNode ℕ) → node_at t p ≡ Some c → AreDistinct (names c.children))
-    → (path : Path) (f : NamedForest ℕ) → ((x : Name) (c : NamedNode ℕ) → IsSibling x c f → node_at t (path ++ x ∷ []) ≡ Some c) → AreApart f
+apart_below : (t : Named NodeReference) → ((p : Path) (c : NamedNode NodeReference) → node_at t p ≡ Some c → AreDistinct (names c.children))
+    → (path : Path) (f : NamedForest NodeReference) → ((x : Name) (c : NamedNode NodeReference) → IsSibling x c f → node_at t (path ++ x ∷ []) ≡ Some c) → AreApart f
 apart_below t distinct path no_nodes at = tt
 apart_below t distinct path (branch name content children siblings) at =
-    let n : NamedNode ℕ = record { content = content; children = children } in
+    let n : NamedNode NodeReference = record { content = content; children = children } in
     let here = at name n (inl (refl, refl)) in
     let d = distinct (path ++ name ∷ []) n here in (
       d,
@@ -33,12 +33,12 @@ apart_below t distinct path (branch name content children siblings) at =
       apart_below t distinct path siblings (λ x c i. at x c (inr i)),
     )
 
-pub is_apart : (t : Named ℕ) → ((p : Path) (c : NamedNode ℕ) → node_at t p ≡ Some c → AreDistinct (names c.children)) → IsApart t
+pub is_apart : (t : Named NodeReference) → ((p : Path) (c : NamedNode NodeReference) → node_at t p ≡ Some c → AreDistinct (names c.children)) → IsApart t
 is_apart t distinct =
     let d = distinct [] (root_of t) refl in
     (d, apart_below t distinct [] t.children (λ x c i. child_at (root_of t) c (root_of t) [] x refl (sibling_found t.children x c d i)))
 
-module _ (mode : Mode) (reservations : List (ℕ × ℕ)) (places : List Place) (t : Named ℕ) (n : IsNamedOf mode reservations places t) where
+module _ (mode : Mode) (reservations : List (ℕ × ℕ)) (places : List Place) (t : Named NodeReference) (n : IsNamedOf mode reservations places t) where
   abbrev pub events : Events
   events = n.means.so_far.events
 
@@ -55,44 +55,44 @@ module _ (mode : Mode) (reservations : List (ℕ × ℕ)) (places : List Place) 
 
   -- ---- nodes
 
-  pub node_stands : (p : Path) (c : NamedNode ℕ) → node_at t p ≡ Some c → stands events (reverse p) ≡ true
+  pub node_stands : (p : Path) (c : NamedNode NodeReference) → node_at t p ≡ Some c → stands events (reverse p) ≡ true
   node_stands p c e = sym (n.nodes p) ∙ ap is_some e
 
-  pub stands_node : (p : Path) → stands events (reverse p) ≡ true → (c : NamedNode ℕ) × (node_at t p ≡ Some c)
+  pub stands_node : (p : Path) → stands events (reverse p) ≡ true → (c : NamedNode NodeReference) × (node_at t p ≡ Some c)
   stands_node p h = some_there (node_at t p) (n.nodes p ∙ h)
 
   -- ---- values
 
-  pub value_same : (p : Path) (c : NamedNode ℕ) (x : Name) → node_at t p ≡ Some c
+  pub value_same : (p : Path) (c : NamedNode NodeReference) (x : Name) → node_at t p ≡ Some c
       → option_map (meant t) (value_of c.content.properties x) ≡ option_and_then (all_bound events) (value_at events (reverse p) x)
   value_same p c x e =
-      ap (λ (o : Option (NamedNode ℕ)). option_map (meant t) (value_of (option_map_or (λ n. n.content) o (record { labels = []; properties = [] })).properties x)) (sym e) ∙ n.values p x
+      ap (λ (o : Option (NamedNode NodeReference)). option_map (meant t) (value_of (option_map_or (λ n. n.content) o (record { labels = []; properties = [] })).properties x)) (sym e) ∙ n.values p x
 
   -- the parts of a value that the tree has
-  pub value_parts : (p : Path) (c : NamedNode ℕ) (x : Name) (v : List (Item ℕ)) → node_at t p ≡ Some c → value_of c.content.properties x ≡ Some v
+  pub value_parts : (p : Path) (c : NamedNode NodeReference) (x : Name) (v : List (Item NodeReference)) → node_at t p ≡ Some c → value_of c.content.properties x ≡ Some v
       → (parts : List Part) × (value_at events (reverse p) x ≡ Some parts) × (all_bound events parts ≡ Some (meant t v))
   value_parts p c x v e k = then_some (all_bound events) (value_at events (reverse p) x) (meant t v) (sym (value_same p c x e) ∙ ap (option_map (meant t)) k)
 
   -- the value that the tree has of some parts
-  pub parts_value : (p : Path) (c : NamedNode ℕ) (x : Name) (parts : List Part) → node_at t p ≡ Some c → value_at events (reverse p) x ≡ Some parts
-      → (v : List (Item ℕ)) × (value_of c.content.properties x ≡ Some v) × (all_bound events parts ≡ Some (meant t v))
+  pub parts_value : (p : Path) (c : NamedNode NodeReference) (x : Name) (parts : List Part) → node_at t p ≡ Some c → value_at events (reverse p) x ≡ Some parts
+      → (v : List (Item NodeReference)) × (value_of c.content.properties x ≡ Some v) × (all_bound events parts ≡ Some (meant t v))
   parts_value p c x parts e k =
       let bound = some_there (all_bound events parts) (n.means.resolved.bound_to (reverse p) x parts k) in
       let w = map_some (meant t) (value_of c.content.properties x) bound.0 (value_same p c x e ∙ ap (option_and_then (all_bound events)) k ∙ bound.1) in
       (w.0, w.1, bound.1 ∙ ap Some (sym w.2))
 
   -- a property `phandle` writes the number that its parts write
-  pub phandle_number : (p : Path) (c : NamedNode ℕ) (v : List (Item ℕ)) → node_at t p ≡ Some c → value_of c.content.properties (codes "phandle") ≡ Some v
+  pub phandle_number : (p : Path) (c : NamedNode NodeReference) (v : List (Item NodeReference)) → node_at t p ≡ Some c → value_of c.content.properties (codes "phandle") ≡ Some v
       → (k : ℕ) × (number_of v ≡ Some k) × (written_number events (reverse p) ≡ Some k)
   phandle_number p c v e h =
       let w = value_parts p c (codes "phandle") v e h in
       let k = some_there (written w.0) (n.means.resolved.numbered (reverse p) w.0 w.1) in
       (k.0, number_written events w.0 (path_among (paths_of t)) v k.0 k.1 w.2, ap (option_and_then written) w.1 ∙ k.1)
 
-  pub written_same : (p : Path) (c : NamedNode ℕ) → node_at t p ≡ Some c → written_in c.content ≡ written_number events (reverse p)
+  pub written_same : (p : Path) (c : NamedNode NodeReference) → node_at t p ≡ Some c → written_in c.content ≡ written_number events (reverse p)
   written_same p c e = step (value_of c.content.properties (codes "phandle")) refl (value_at events (reverse p) (codes "phandle")) refl
     where
-      step : (o : Option (List (Item ℕ))) → value_of c.content.properties (codes "phandle") ≡ o → (y : Option (List Part)) → value_at events (reverse p) (codes "phandle") ≡ y
+      step : (o : Option (List (Item NodeReference))) → value_of c.content.properties (codes "phandle") ≡ o → (y : Option (List Part)) → value_at events (reverse p) (codes "phandle") ≡ y
           → written_in c.content ≡ written_number events (reverse p)
       step (Some v) k y h = let w = phandle_number p c v e k in ap (option_and_then number_of) k ∙ w.1 ∙ sym w.2
       step None k None h = ap (option_and_then number_of) k ∙ sym (ap (option_and_then written) h)

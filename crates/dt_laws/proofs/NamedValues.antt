@@ -61,7 +61,7 @@ bytes_renamed f (reference r ∷ v) h = bytes_renamed f v h
 -- ---- the number that a value writes
 
 -- a value of a source that writes a number writes it also when it is read
-pub number_written : (es : Events) (parts : List Part) (f : ℕ → Path) (v : List (Item ℕ)) (k : ℕ) → written parts ≡ Some k → all_bound es parts ≡ Some (map (item_renamed f) v) → number_of v ≡ Some k
+pub number_written : (es : Events) (parts : List Part) (f : ℕ → Path) (v : List (Item NodeReference)) (k : ℕ) → written parts ≡ Some k → all_bound es parts ≡ Some (map (item_renamed f) v) → number_of v ≡ Some k
 number_written es (one a ∷ one b ∷ one c ∷ one d ∷ []) f v k w e =
     let same : map byte (a ∷ b ∷ c ∷ d ∷ []) ≡ map (item_renamed f) v = cc in
     ap number_of (sym (renamed_bytes f (a ∷ b ∷ c ∷ d ∷ []) v same)) ∙ w

@@ -26,16 +26,16 @@ use Rattle.dt_laws.proofs.Flat.{map_append}
 use Rattle.dt_laws.proofs.NamedValues.{property_names, value_listed, listed_value}
 
 -- the bytes of a value under the nodes' numbers
-abbrev pub numbered_value : List (Option ℕ) → List (Item ℕ) → List ℕ
+abbrev pub numbered_value : List (Option ℕ) → List (Item NodeReference) → List ℕ
 numbered_value numbers v = value_bytes (λ k. unwrap_or (number_at numbers k) 0) v
 
 -- ---- the number that a value writes
 
-four_bytes : (v : List (Item ℕ)) (n : ℕ) → number_of v ≡ Some n → (a b c d : ℕ) × (v ≡ byte a ∷ byte b ∷ byte c ∷ byte d ∷ [])
+four_bytes : (v : List (Item NodeReference)) (n : ℕ) → number_of v ≡ Some n → (a b c d : ℕ) × (v ≡ byte a ∷ byte b ∷ byte c ∷ byte d ∷ [])
 four_bytes (byte a ∷ byte b ∷ byte c ∷ byte d ∷ []) n h = (a, b, c, d, refl)
 four_bytes _ n h = absurd (let z : None ≡ Some n = h in cc)
 
-pub number_range : (v : List (Item ℕ)) (n : ℕ) → number_of v ≡ Some n → (1 ≤ n) × (n ≤ 0xfffffffe)
+pub number_range : (v : List (Item NodeReference)) (n : ℕ) → number_of v ≡ Some n → (1 ≤ n) × (n ≤ 0xfffffffe)
 number_range v n h =
     let w = four_bytes v n h in
     written_range (one w.0 ∷ one w.1 ∷ one w.2 ∷ one w.3 ∷ []) n (ap number_of (sym w.4) ∙ h)
@@ -55,7 +55,7 @@ in_range-same true m n h = cc
 in_range-same false m n h = cc
 
 -- a value that writes a number is its cell, whatever the nodes' numbers are
-pub written_cell : (numbers : List (Option ℕ)) (v : List (Item ℕ)) (n : ℕ) → AreBytes v → number_of v ≡ Some n → numbered_value numbers v ≡ cell n
+pub written_cell : (numbers : List (Option ℕ)) (v : List (Item NodeReference)) (n : ℕ) → AreBytes v → number_of v ≡ Some n → numbered_value numbers v ≡ cell n
 written_cell numbers v n ok h =
     let w = four_bytes v n h in
     let a = w.0 in
@@ -76,7 +76,7 @@ value_either (p ∷ xs) ys x = step (bytes_eq x p.name) (value_either xs ys x)
     step true more = refl
     step false more = more
 
-value_numbered : (numbers : List (Option ℕ)) (ps : List (NamedProperty ℕ)) (x : Name) → value_of (map (numbered numbers) ps) x ≡ option_map (numbered_value numbers) (named.value_of ps x)
+value_numbered : (numbers : List (Option ℕ)) (ps : List (NamedProperty NodeReference)) (x : Name) → value_of (map (numbered numbers) ps) x ≡ option_map (numbered_value numbers) (named.value_of ps x)
 value_numbered numbers [] x = refl
 value_numbered numbers (p ∷ ps) x = step (bytes_eq x p.name) (value_numbered numbers ps x)
   where
@@ -92,7 +92,7 @@ or_none (Some x) = refl
 
 -- ---- of a node
 
-module _ (numbers : List (Option ℕ)) (k : ℕ) (c : Content ℕ) where
+module _ (numbers : List (Option ℕ)) (k : ℕ) (c : Content NodeReference) where
   -- the value of a property other than the phandle
   no_phandle : (number : Option ℕ) (b : Bool) (x : Name) → is_some (named.value_of c.properties (codes "phandle")) ≡ b → bytes_eq x (codes "phandle") ≡ false → value_of (phandle_of c number) x ≡ None
   no_phandle None b x e h = refl
@@ -118,7 +118,7 @@ module _ (numbers : List (Option ℕ)) (k : ℕ) (c : Content ℕ) where
       ∙ ap (λ o. option_or o (value_of (phandle_of c (number_at numbers k)) (codes "phandle"))) (value_numbered numbers c.properties (codes "phandle"))
       ∙ step (named.value_of c.properties (codes "phandle")) refl
     where
-      step : (o : Option (List (Item ℕ))) → named.value_of c.properties (codes "phandle") ≡ o
+      step : (o : Option (List (Item NodeReference))) → named.value_of c.properties (codes "phandle") ≡ o
           → option_or (option_map (numbered_value numbers) (named.value_of c.properties (codes "phandle"))) (value_of (phandle_of c (number_at numbers k)) (codes "phandle"))
           ≡ option_map cell (number_at numbers k)
       step None e =
@@ -127,7 +127,7 @@ module _ (numbers : List (Option ℕ)) (k : ℕ) (c : Content ℕ) where
       step (Some v) e =
           let n = some_there (number_of v) (ok.numbered v e) in
           let i = value_listed c.properties (codes "phandle") v e in
-          let bytes = each_in (λ (p : NamedProperty ℕ). AreBytes p.value) c.properties (record { name = codes "phandle"; value = v }) ok.bytes i in
+          let bytes = each_in (λ (p : NamedProperty NodeReference). AreBytes p.value) c.properties (record { name = codes "phandle"; value = v }) ok.bytes i in
           ap (λ o. option_or (option_map (numbered_value numbers) o) (value_of (phandle_of c (number_at numbers k)) (codes "phandle"))) e
           ∙ ap (λ (v : List ℕ). Some v) (written_cell numbers v n.0 bytes n.1)
           ∙ ap (option_map cell) (sym (is n.0 (ap (option_and_then number_of) e ∙ n.1)))
@@ -137,7 +137,7 @@ module _ (numbers : List (Option ℕ)) (k : ℕ) (c : Content ℕ) where
   pub phandle_names : List Name
   phandle_names = map (λ (p : Property). p.name) (phandle_of c (number_at numbers k))
 
-  same_names : (ps : List (NamedProperty ℕ)) → map (λ (p : Property). p.name) (map (numbered numbers) ps) ≡ property_names ps
+  same_names : (ps : List (NamedProperty NodeReference)) → map (λ (p : Property). p.name) (map (numbered numbers) ps) ≡ property_names ps
   same_names [] = refl
   same_names (p ∷ ps) = ap (λ z. p.name ∷ z) (same_names ps)
 
@@ -171,11 +171,11 @@ module _ (numbers : List (Option ℕ)) (k : ℕ) (c : Content ℕ) where
   pub phandle_written : (nodes : ℕ) → IsContent nodes c → is_some (named.value_of c.properties (codes "phandle")) ≡ is_some (written_in c)
   phandle_written nodes ok = step (named.value_of c.properties (codes "phandle")) refl
     where
-      step : (o : Option (List (Item ℕ))) → named.value_of c.properties (codes "phandle") ≡ o → is_some (named.value_of c.properties (codes "phandle")) ≡ is_some (written_in c)
+      step : (o : Option (List (Item NodeReference))) → named.value_of c.properties (codes "phandle") ≡ o → is_some (named.value_of c.properties (codes "phandle")) ≡ is_some (written_in c)
       step None e = rw e refl
       step (Some v) e = ap is_some e ∙ sym (ok.numbered v e) ∙ ap (λ o. is_some (option_and_then number_of o)) (sym e)
 
-  numbered_named : (ps : List (NamedProperty ℕ)) → AllByRecursion (λ (p : NamedProperty ℕ). IsPropertyName p.name) ps
+  numbered_named : (ps : List (NamedProperty NodeReference)) → AllByRecursion (λ (p : NamedProperty NodeReference). IsPropertyName p.name) ps
       → AllByRecursion (λ (p : Property). IsPropertyName p.name) (map (numbered numbers) ps)
   numbered_named [] h = tt
   numbered_named (p ∷ ps) h = (h.0, numbered_named ps h.1)
@@ -197,7 +197,7 @@ module _ (numbers : List (Option ℕ)) (k : ℕ) (c : Content ℕ) where
         (λ x i j.
         let w = in_map_from (λ (p : Property). p.name) (phandle_of c (number_at numbers k)) x j in
         let p = phandle_new (number_at numbers k) (is_some (named.value_of c.properties (codes "phandle"))) w.0 refl w.1 in
-        let y = in_map_from (λ (p : NamedProperty ℕ). p.name) c.properties x i in
+        let y = in_map_from (λ (p : NamedProperty NodeReference). p.name) c.properties x i in
         let v = listed_value c.properties y.0 ok.distinct y.1 in
         true≢false (ap is_some (sym v) ∙ ap (λ z. is_some (named.value_of c.properties z)) (sym y.2 ∙ w.2 ∙ p.0) ∙ p.1)));
   }

@@ -14,16 +14,16 @@ use Rattle.dt_laws.proofs.NamedSources.{events}
 use Rattle.dt_laws.proofs.NumberedTrees.{paths_numbered}
 
 -- the labels of these nodes with their paths
-abbrev symbols_among : List (NamedPlaced ℕ) → List Property
+abbrev symbols_among : List (NamedPlaced NodeReference) → List Property
 symbols_among [] = []
 symbols_among (n ∷ ns) = map (symbol n.path) n.content.labels ++ symbols_among ns
 
-symbols_are : (es : Events) (ns : List (NamedPlaced ℕ)) → ((n : NamedPlaced ℕ) → IsIn n ns → AreLabelsInOrder es n.path n.content.labels)
-    → AreSymbols es (map (λ (n : NamedPlaced ℕ). n.path) ns) (symbols_among ns)
+symbols_are : (es : Events) (ns : List (NamedPlaced NodeReference)) → ((n : NamedPlaced NodeReference) → IsIn n ns → AreLabelsInOrder es n.path n.content.labels)
+    → AreSymbols es (map (λ (n : NamedPlaced NodeReference). n.path) ns) (symbols_among ns)
 symbols_are es [] order = refl
 symbols_are es (n ∷ ns) order = (n.content.labels, symbols_among ns, refl, order n (inl refl), symbols_are es ns (λ x i. order x (inr i)))
 
-symbols_same : (t : Named ℕ) → symbols_among (nodes_of t) ≡ symbols_of t
+symbols_same : (t : Named NodeReference) → symbols_among (nodes_of t) ≡ symbols_of t
 symbols_same t = refl
 
 pub tree_is_meant : TreeIsMeant
@@ -37,6 +37,6 @@ tree_is_meant mode reservations places t numbers some valid_places reserved n is
           (subst (AreSymbols es (paths_of t)) (symbols_same t) (symbols_are es (nodes_of t)
           (λ x i.
           let a = listed_at t x (named_apart t is_named) i in
-          subst (λ (c : Content ℕ). AreLabelsInOrder es x.path c.labels) a.same (n.order.labels x.path a.node a.is))));
+          subst (λ (c : Content NodeReference). AreLabelsInOrder es x.path c.labels) a.same (n.order.labels x.path a.node a.is))));
       is = refl;
     }

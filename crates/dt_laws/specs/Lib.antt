@@ -7,6 +7,7 @@ pub mod Sources
 pub mod NamedTrees
 pub mod NamedSample
 pub mod CompiledTrees
+pub mod OverlayTrees
 pub mod Bodies
 pub mod SampleSources
 pub mod Fragments

@@ -1,35 +1,43 @@
 -- What the nodes of a named tree say.
 use Rattle.std.specs.Prelude.{◌≡◌, ℕ, List, [], ◌∷◌, ◌++◌, map}
+use Rattle.std_alloc.specs.Cow.{cow_slice_items}
 use Rattle.dt_model.specs.Meaning.{Item, byte, reference}
 use Rattle.dt_model.specs.Named as model
-use Rattle.dt_model.specs.Named.{Listed, NamedList, list_of, tree_of}
+use Rattle.dt_model.specs.Overlay.{inside, outside}
+use Rattle.dt_model.specs.Named.{NodeReference, Listed, NamedList, list_of, tree_of}
 use Rattle.dt_model.specs.NamedOf.{IsNamed}
+use Rattle.dt_source.specs.declared.named.NamedReference.{NamedReference}
+use Rattle.dt_source.specs.declared.named.NamedReference.TheVariants.{Node, Label}
 use Rattle.dt_source.specs.declared.named.NamedPiece.{NamedPiece}
 use Rattle.dt_source.specs.declared.named.NamedValue.{NamedValue}
 use Rattle.dt_source.specs.declared.named.NamedProperty.{NamedProperty}
 use Rattle.dt_source.specs.declared.named.NamedNode.{NamedNode}
 
-abbrev pub pieces_said : List NamedPiece → List (Item ℕ)
-pieces_said [] = []
-pieces_said (p ∷ ps) = map byte p.before.items ++ reference p.node ∷ pieces_said ps
+abbrev pub reference_said : NamedReference → NodeReference
+reference_said (Node k) = inside k
+reference_said (Label l) = outside l.now
 
-abbrev pub value_said : NamedValue → List (Item ℕ)
+abbrev pub pieces_said : List NamedPiece → List (Item NodeReference)
+pieces_said [] = []
+pieces_said (p ∷ ps) = map byte p.before.items ++ reference (reference_said p.reference) ∷ pieces_said ps
+
+abbrev pub value_said : NamedValue → List (Item NodeReference)
 value_said v = pieces_said v.pieces.items ++ map byte v.bytes.items
 
-abbrev pub property_said : NamedProperty → model.NamedProperty ℕ
+abbrev pub property_said : NamedProperty → model.NamedProperty NodeReference
 property_said p = record { name = p.name.now; value = value_said p.value }
 
-abbrev pub node_said : NamedNode → Listed ℕ
+abbrev pub node_said : NamedNode → Listed NodeReference
 node_said n = record {
   parent = n.parent;
-  name = n.name.now;
+  name = cow_slice_items n.name;
   content = record { labels = map (λ l. l.now) n.labels.items; properties = map property_said n.properties.items };
 }
 
-abbrev pub list_said : List (ℕ × ℕ) → List NamedNode → NamedList ℕ
+abbrev pub list_said : List (ℕ × ℕ) → List NamedNode → NamedList NodeReference
 list_said reservations nodes = record { reservations = reservations; nodes = map node_said nodes }
 
 -- the nodes stand in preorder, and their tree is one that a source may mean
-pub record IsTree (l : NamedList ℕ) : Type 0 where
+pub record IsTree (l : NamedList NodeReference) : Type 0 where
   pub preorder : list_of (tree_of l) ≡ l.nodes
   pub named : IsNamed (tree_of l)

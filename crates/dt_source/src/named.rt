@@ -6,19 +6,29 @@ ghost use Rattle.dt_model.specs.NamedOf.{IsNamed};
 ghost use Rattle.dt_source.specs.Said.{IsTree, list_said, node_said};
 
 use dt_names::NodeId;
+use std::borrow::CowSlice;
 use std::marker::Model;
 
-/// Bytes of a value, and the node to which the cell behind them refers.
+/// A reference of a value.
+#[derive(Clone, Copy)]
+pub enum NamedReference<'a> {
+    /// To a node of the tree, by its place in preorder.
+    Node(NodeId),
+    /// By a label that the source doesn't give: to a node of some other tree. Only an overlay has such references.
+    Label(&'a [u8]),
+}
+
+/// Bytes of a value, and the reference that the cell behind them stands for.
 #[derive(Drop)]
-pub struct NamedPiece {
+pub struct NamedPiece<'a> {
     pub before: Vec<u8>,
-    pub node: NodeId,
+    pub reference: NamedReference<'a>,
 }
 
 /// The value of a property: pieces that end with a reference each, and the bytes behind the last one.
 #[derive(Drop)]
-pub struct NamedValue {
-    pub pieces: Vec<NamedPiece>,
+pub struct NamedValue<'a> {
+    pub pieces: Vec<NamedPiece<'a>>,
     pub bytes: Vec<u8>,
 }
 
@@ -26,15 +36,15 @@ pub struct NamedValue {
 #[derive(Drop)]
 pub struct NamedProperty<'a> {
     pub name: &'a [u8],
-    pub value: NamedValue,
+    pub value: NamedValue<'a>,
 }
 
 /// A node by the number of its parent, with its name, its labels and its properties in order. The root stands as its own
-/// parent, and has no name.
+/// parent, and has no name. Names are borrowed from the source's text, but for those that are made for new fragments.
 #[derive(Drop)]
 pub struct NamedNode<'a> {
     pub parent: NodeId,
-    pub name: &'a [u8],
+    pub name: CowSlice<'a, u8>,
     pub labels: Vec<&'a [u8]>,
     pub properties: Vec<NamedProperty<'a>>,
 }
@@ -50,11 +60,10 @@ pub struct NamedTree<'a> {
 }
 
 impl<'a> Model for NamedTree<'a> {
-    ghost use Rattle.std.specs.Prelude.{ℕ};
-    ghost use Rattle.dt_model.specs.Named.{NamedList};
+    ghost use Rattle.dt_model.specs.Named.{NodeReference, NamedList};
     ghost use Rattle.dt_source.specs.Said.{list_said, IsTree};
 
-    ghost Value = { NamedList ℕ };
+    ghost Value = { NamedList NodeReference };
 
     ghost view = { λ t. list_said t.reservations.items t.nodes.items };
 
