@@ -1,17 +1,17 @@
 -- The sample's object is one of its overlay, and what applying it gives.
 use Rattle.std.proofs.Common.{◌≡◌, ℕ, ◌%◌, Bool, true, false, ◌&&◌, List, [], ◌∷◌, ◌++◌, codes, length, refl, sym, ap, subst, ◌∙◌, inl, inr, Option, Some, None, true≢false, arith}
-use Rattle.std.specs.Prelude.{is_some, IsSome, option_map, option_and_then, nat_eq, if◌then◌else◌}
+use Rattle.std.specs.Prelude.{not, is_some, IsSome, option_map, option_and_then, nat_eq, if◌then◌else◌}
 use Rattle.std.specs.List.{list_any}
 use Rattle.std.specs.Str.{bytes_eq}
 use Rattle.dt_model.specs.Names.{Name}
 use Rattle.dt_model.specs.Path.{Path, path_eq, path_value, is_bookkeeping}
 use Rattle.dt_model.specs.Lists.{IsIn}
 use Rattle.dt_model.specs.Meaning.{Item, reference, cell, value_bytes}
-use Rattle.dt_model.specs.Overlay.{OverlayReference, inside, outside}
-use Rattle.dt_model.specs.Object.{Cell, references_from, IsCellOf, HasFixups, local_cells, object_number, object_value, Encodes}
+use Rattle.dt_model.specs.Overlay.{object_number, OverlayReference, inside, outside}
+use Rattle.dt_model.specs.Object.{Cell, references_from, IsCellOf, HasFixups, local_cells, object_value, Encodes}
 use Rattle.dt_model.specs.Tree.{no_nodes, branch, Reading, Node, Placed, value_of, nodes_of, stands_in, value_in}
 use Rattle.dt_laws.specs.AppliedSample.{led, sample_object, sample_overlay, sample_fixups, SampleIsApplied}
-use Rattle.dt_laws.proofs.Tests.{each_in, bytes_eq_true, bytes_eq_differ, path_eq_true}
+use Rattle.dt_laws.proofs.Tests.{and_left, each_in, bytes_eq_true, bytes_eq_differ, path_eq_true}
 use Rattle.dt_laws.proofs.Listed.{stands_listed, value_listed}
 use Rattle.dt_laws.proofs.AppliedBase.{plain_nodes, plain_is, by_node, not_there, base_valid, sample_is_meaning, sample_is_plain, sample_represented, few_in_base}
 use Rattle.dt_laws.proofs.AppliedOverlay.{f_name, led_name, x_name, object_valid, few_in_object, Value, of_target, of_x, value_cases, sample_is_overlay}
@@ -163,12 +163,12 @@ local_value p name v h =
         step true e = let z : Some (0 ∷ 0 ∷ 0 ∷ 0 ∷ []) ≡ Some v = rw e at h in (refl, bytes_eq_true name (codes "x") e, cc)
         step false e = absurd (let z : None ≡ Some v = rw e at h in cc)
 
-local_some : (p : Path) (name : Name) → IsSome (value_in locals p name) → IsSome (sample_overlay.value p name)
+local_some : (p : Path) (name : Name) → IsSome (value_in locals p name) → IsSome (value_in sample_object p name)
 local_some p name h = step (value_in locals p name) refl
   where
-    step : (y : Option (List ℕ)) → value_in locals p name ≡ y → IsSome (sample_overlay.value p name)
+    step : (y : Option (List ℕ)) → value_in locals p name ≡ y → IsSome (value_in sample_object p name)
     step None e = absurd (true≢false (sym h ∙ ap is_some e))
-    step (Some v) e = let w = local_value p name v e in ap (λ q. is_some (sample_overlay.value q name)) w.0 ∙ ap (λ n. is_some (sample_overlay.value led n)) w.1
+    step (Some v) e = let w = local_value p name v e in ap (λ q. is_some (value_in sample_object q name)) w.0 ∙ ap (λ n. is_some (value_in sample_object led n)) w.1
 
 pub sample_encoded : Encodes sample_object sample_overlay (λ p. 1)
 sample_encoded = record {
@@ -179,7 +179,6 @@ sample_encoded = record {
   values = values_are;
   fragments = refl;
   symbols = λ l. symbol l (bytes_eq l (codes "l"));
-  no_nodes_of_symbols = λ x p. refl;
   fixups = sample_fixups;
   fixups_listed = listed_fixups;
   fixups_once = ((λ e. (let z : 4 ≡ 0 = ap (λ (y : Name × Cell). y.1.offset) e in omega arith), tt), (tt, tt));
@@ -189,7 +188,7 @@ sample_encoded = record {
   locals_once = (tt, tt);
   locals_exact = λ c. (cell_own c, λ h. own_cell c.path c.property c.offset (inside h.0) h.0 (cell_ref c (inside h.0) h.1) refl);
   locals_words = λ p name v h. ap (λ (z : List ℕ). length z % 4) (local_value p name v h).2;
-  locals_nodes = local_stands;
+  locals_nodes = λ p h. and_left (stands_in sample_object p) (not (is_bookkeeping p)) (local_stands p h);
   locals_values = local_some;
 }
   where

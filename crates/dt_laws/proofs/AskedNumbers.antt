@@ -6,7 +6,7 @@ use Rattle.dt_model.specs.Path.{Path}
 use Rattle.dt_model.specs.Lists.{IsIn}
 use Rattle.dt_model.specs.Valid.{AreDistinct}
 use Rattle.dt_model.specs.Numbering.{IsNumberFor, written_numbers, IsNumbering}
-use Rattle.dt_model.specs.Named.{Content, NamedForest, no_nodes, branch, Named, NamedPlaced, value_of, number_of, written_in, node_count, preorder, nodes_of}
+use Rattle.dt_model.specs.Named.{NodeReference, Content, NamedForest, no_nodes, branch, Named, NamedPlaced, value_of, number_of, written_in, node_count, preorder, nodes_of}
 use Rattle.dt_model.specs.NamedOf.{IsNamed, IsContent, AreNamedNodes, asked, asked_from, contents_of, asked_in}
 use Rattle.dt_model.specs.Instance.{number_at}
 use Rattle.dt_laws.proofs.Cases.{then_some}

@@ -1,5 +1,5 @@
 -- A named tree that a base's places mean, by tests at finitely many paths and names.
-use Rattle.std.proofs.Common.{◌≡◌, ℕ, ◌+◌, Bool, true, ◌&&◌, ◌||◌, List, [], ◌∷◌, Option, Some, None, is_some, Result, Ok, reverse, refl, sym, ap, subst, ◌∙◌}
+use Rattle.std.proofs.Common.{◌≡◌, ◌+◌, Bool, true, ◌&&◌, ◌||◌, List, [], ◌∷◌, map, Option, Some, None, is_some, Result, Ok, reverse, refl, sym, ap, subst, ◌∙◌}
 use Rattle.std.specs.List.{AllByRecursion, list_all}
 use Rattle.std.specs.Option.{option_map, option_map_or, option_and_then}
 use Rattle.std.specs.Str.{bytes_eq}
@@ -10,8 +10,10 @@ use Rattle.dt_model.specs.Meaning.{Item}
 use Rattle.dt_model.specs.Event.{Stack, Event, opening, giving, definition, undefinition, deletion, gives, takes, stands, value_at, names, age, property_age, label_age}
 use Rattle.dt_model.specs.Source.{Part, Place, base, Events, SoFar, nothing, read_all, all_bound, meaning_of, IsResolved, SourceMeans}
 use Rattle.dt_model.specs.Named as named
-use Rattle.dt_model.specs.Named.{NamedProperty, Content, Named, NamedNode, NamedPlaced, node_at, content_in, value_of, node_count, nodes_of}
-use Rattle.dt_model.specs.NamedOf.{IsNamedOf, RefersBelow, contents_of, meant}
+use Rattle.dt_model.specs.Named.{NodeReference, NamedProperty, Content, Named, NamedNode, NamedPlaced, node_at, content_in, value_of, node_count, nodes_of}
+use Rattle.dt_model.specs.Meaning.{item_renamed}
+use Rattle.dt_model.specs.Overlay.{inside}
+use Rattle.dt_model.specs.NamedOf.{bound_values, IsNamedOf, RefersBelow, contents_of, meant}
 use Rattle.dt_model.specs.Ordered.{IsNamedInOrder}
 use Rattle.dt_laws.proofs.Tests.{and_left, and_right, all_at, each_in}
 use Rattle.dt_laws.proofs.Cases.{map_some, then_some, some_there}
@@ -67,7 +69,7 @@ abbrev is_placed : List Path → List Name → NamedPlaced NodeReference → Boo
 is_placed qs ns n = has path_eq qs n.path && list_all (λ (x : NamedProperty NodeReference). has bytes_eq ns x.name) n.content.properties
 
 abbrev SameValue : Events → Named NodeReference → Path → Name → Type 0
-SameValue es t p x = option_map (meant t) (value_of (content_in t p).properties x) ≡ option_and_then (all_bound es) (value_at es (reverse p) x)
+SameValue es t p x = option_map (meant t) (value_of (content_in t p).properties x) ≡ bound_values es p x
 
 -- what was read of the places, and the tests
 pub record IsCheckedNamed (places : List Place) (s : SoFar) (qs : List Path) (ns : List Name) (t : Named NodeReference) : Type 0 where
@@ -123,10 +125,11 @@ module _ (places : List Place) (s : SoFar) (qs : List Path) (ns : List Name) (t 
 
   same_values : (p : Path) (x : Name) → SameValue s.events t p x
   same_values p x =
-      same_option (IsIn p qs × IsIn x ns) (option_map (meant t) (value_of (content_in t p).properties x)) (option_and_then (all_bound s.events) (value_at s.events (reverse p) x))
+      same_option (IsIn p qs × IsIn x ns) (option_map (meant t) (value_of (content_in t p).properties x)) (bound_values s.events p x)
       (λ v k. let w = map_some (meant t) (value_of (content_in t p).properties x) v k in property_within p x w.0 w.1)
       (λ v k.
-      let w = then_some (all_bound s.events) (value_at s.events (reverse p) x) v k in
+      let b = map_some (map (item_renamed inside)) (option_and_then (all_bound s.events) (value_at s.events (reverse p) x)) v k in
+      let w = then_some (all_bound s.events) (value_at s.events (reverse p) x) b.0 b.1 in
       let c = value_covered qs ns s.events h.is_read.covered (reverse p) x w.0 w.1 in
       (turned_back p qs c.0, c.1))
       (λ i. each_in (SameValue s.events t p) ns x (each_in (λ p. AllByRecursion (SameValue s.events t p) ns) qs p h.values i.0) i.1)
@@ -165,8 +168,5 @@ module _ (places : List Place) (s : SoFar) (qs : List Path) (ns : List Name) (t 
     meaning = meaning_of [] s.events;
     means = means;
     same_reservations = h.reservations;
-    nodes = same_nodes;
-    values = same_values;
-    referred = h.referred;
-    order = in_order;
+    tree = record { nodes = same_nodes; values = same_values; referred = h.referred; order = in_order };
   }

@@ -8,9 +8,9 @@ use Rattle.dt_model.specs.Names.{Name}
 use Rattle.dt_model.specs.Path.{Path}
 use Rattle.dt_model.specs.Lists.{IsIn}
 use Rattle.dt_model.specs.Meaning.{Item}
-use Rattle.dt_model.specs.Overlay.{OverlayReference, inside, outside, Fragment, Overlay}
+use Rattle.dt_model.specs.Overlay.{object_number, OverlayReference, inside, outside, Fragment, Overlay}
 use Rattle.dt_model.specs.Tree.{Property, Reading, Node, Placed, value_of, node_at, nodes_of, stands_in, value_in}
-use Rattle.dt_model.specs.Object.{Cell, references_from, IsCellOf, properties_of, local_cells, fragment_names, object_number, Encodes}
+use Rattle.dt_model.specs.Object.{Cell, references_from, IsCellOf, properties_of, local_cells, fragment_names, Encodes}
 use Rattle.dt_laws.proofs.Tests.{and_left, and_right, all_at, any_from, bytes_eq_true}
 use Rattle.dt_laws.proofs.Cases.{some_there}
 use Rattle.dt_laws.proofs.Listed.{stands_listed, value_listed}
@@ -63,12 +63,12 @@ is_marked fixups locals p n (k, outside l) = has fixup_eq fixups (l, record { pa
 
 -- ---- the node `__local_fixups__`
 
-abbrev is_whole : Overlay → Path → Property → Bool
-is_whole o p x = nat_eq (length x.value % 4) 0 && is_some (o.value p x.name)
+abbrev is_whole : Reading → Path → Property → Bool
+is_whole t p x = nat_eq (length x.value % 4) 0 && is_some (value_in t p x.name)
 
-abbrev local_fits : Overlay → Path → List Property → Bool
-local_fits o [] ps = true
-local_fits o (x ∷ p) ps = implies (bytes_eq x (codes "__local_fixups__")) (o.stands p && list_all (is_whole o p) ps)
+abbrev local_fits : Reading → Path → List Property → Bool
+local_fits t [] ps = true
+local_fits t (x ∷ p) ps = implies (bytes_eq x (codes "__local_fixups__")) (stands_in t p && list_all (is_whole t p) ps)
 
 -- ---- the tests
 
@@ -78,7 +78,6 @@ is_used fixups x = list_any (λ (f : Name × Cell). bytes_eq x.name f.0) fixups
 pub record IsEncoded (qs : List Path) (ns : List Name) (t : Reading) (o : Overlay) (number : Path → ℕ) (groups : Groups) : Type 0 where
   pub held : IsHeld qs ns t (of_overlay o) number (object_number number)
   pub fragments : fragment_names t.children ≡ map (λ (f : Fragment). f.name) o.fragments
-  pub no_nodes_of_symbols : (x : Name) (p : Path) → stands_in t (codes "__symbols__" ∷ x ∷ p) ≡ false
   pub fixups_text : properties_of (node_at t (codes "__fixups__" ∷ [])) ≡ fixup_properties groups
   pub fixups_named : have_texts groups ≡ true
   pub fixups_once : are_distinct fixup_eq (fixups_of groups) ≡ true
@@ -87,7 +86,7 @@ pub record IsEncoded (qs : List Path) (ns : List Name) (t : Reading) (o : Overla
   pub no_nodes_of_fixups : (x : Name) (p : Path) → stands_in t (codes "__fixups__" ∷ x ∷ p) ≡ false
   pub locals_once : are_distinct cell_eq (local_cells t) ≡ true
   pub locals_inside : list_all (has_cell o is_inside) (local_cells t) ≡ true
-  pub locals_fit : list_all (λ (n : Placed). local_fits o n.path n.properties) (nodes_of t) ≡ true
+  pub locals_fit : list_all (λ (n : Placed). local_fits t n.path n.properties) (nodes_of t) ≡ true
   pub marked : references_pass qs ns o.value (is_marked (fixups_of groups) (local_cells t)) ≡ true
 
 module _ (qs : List Path) (ns : List Name) (t : Reading) (o : Overlay) (number : Path → ℕ) (groups : Groups) (within : IsWithin qs ns (of_overlay o)) (h : IsEncoded qs ns t o number groups) where
@@ -118,14 +117,14 @@ module _ (qs : List Path) (ns : List Name) (t : Reading) (o : Overlay) (number :
       let same : l ≡ f.0.0 = x.2 ∙ bytes_eq_true x.0.name f.0.0 f.2 in
       (f.0.1, in_same (l, f.0.1) f.0 (fixups_of groups) (λ i. (same i, f.0.1)) f.1)
 
-  fits_at : (p : Path) (n : Placed) → IsIn n (nodes_of t) → n.path ≡ codes "__local_fixups__" ∷ p → (o.stands p && list_all (is_whole o p) n.properties) ≡ true
-  fits_at p n i e = subst (λ q. local_fits o q n.properties ≡ true) e (all_at (λ (n : Placed). local_fits o n.path n.properties) (nodes_of t) n h.locals_fit i)
+  fits_at : (p : Path) (n : Placed) → IsIn n (nodes_of t) → n.path ≡ codes "__local_fixups__" ∷ p → (stands_in t p && list_all (is_whole t p) n.properties) ≡ true
+  fits_at p n i e = subst (λ q. local_fits t q n.properties ≡ true) e (all_at (λ (n : Placed). local_fits t n.path n.properties) (nodes_of t) n h.locals_fit i)
 
-  local_value : (p : Path) (name : Name) (v : List ℕ) → value_in t (codes "__local_fixups__" ∷ p) name ≡ Some v → (x : Property) × (name ≡ x.name) × (x.value ≡ v) × (is_whole o p x ≡ true)
+  local_value : (p : Path) (name : Name) (v : List ℕ) → value_in t (codes "__local_fixups__" ∷ p) name ≡ Some v → (x : Property) × (name ≡ x.name) × (x.value ≡ v) × (is_whole t p x ≡ true)
   local_value p name v k =
       let w = value_listed t (codes "__local_fixups__" ∷ p) name v k in
       let x = property_of w.0.properties name v w.3 in
-      (x.0, x.2, x.3, all_at (is_whole o p) w.0.properties x.0 (and_right (o.stands p) (list_all (is_whole o p) w.0.properties) (fits_at p w.0 w.1 w.2)) x.1)
+      (x.0, x.2, x.3, all_at (is_whole t p) w.0.properties x.0 (and_right (stands_in t p) (list_all (is_whole t p) w.0.properties) (fits_at p w.0 w.1 w.2)) x.1)
 
   pub is_encoded : Encodes t o number
   is_encoded = record {
@@ -136,7 +135,6 @@ module _ (qs : List Path) (ns : List Name) (t : Reading) (o : Overlay) (number :
     values = same_values qs ns t (of_overlay o) number (object_number number) within h.held;
     fragments = h.fragments;
     symbols = same_symbols qs ns t (of_overlay o) number (object_number number) within h.held;
-    no_nodes_of_symbols = h.no_nodes_of_symbols;
     fixups = fixups_of groups;
     fixups_listed = has_fixups t groups h.fixups_text h.fixups_named;
     fixups_once = distinct_by fixup_eq same_fixups (fixups_of groups) h.fixups_once;
@@ -147,10 +145,10 @@ module _ (qs : List Path) (ns : List Name) (t : Reading) (o : Overlay) (number :
     locals_exact = λ c. (inside_there c, λ k. has_in cell_eq same_cells (local_cells t) c (mark c (inside k.0) k.1));
     locals_words = λ p name v k.
         let x = local_value p name v k in
-        ap (λ v. length v % 4) (sym x.2) ∙ number_same (length x.0.value % 4) 0 (and_left (nat_eq (length x.0.value % 4) 0) (is_some (o.value p x.0.name)) x.3);
-    locals_nodes = λ p k. let w = stands_listed t (codes "__local_fixups__" ∷ p) k in and_left (o.stands p) (list_all (is_whole o p) w.0.properties) (fits_at p w.0 w.1 w.2);
+        ap (λ v. length v % 4) (sym x.2) ∙ number_same (length x.0.value % 4) 0 (and_left (nat_eq (length x.0.value % 4) 0) (is_some (value_in t p x.0.name)) x.3);
+    locals_nodes = λ p k. let w = stands_listed t (codes "__local_fixups__" ∷ p) k in and_left (stands_in t p) (list_all (is_whole t p) w.0.properties) (fits_at p w.0 w.1 w.2);
     locals_values = λ p name k.
         let v = some_there (value_in t (codes "__local_fixups__" ∷ p) name) k in
         let x = local_value p name v.0 v.1 in
-        ap (λ n. is_some (o.value p n)) x.1 ∙ and_right (nat_eq (length x.0.value % 4) 0) (is_some (o.value p x.0.name)) x.3;
+        ap (λ n. is_some (value_in t p n)) x.1 ∙ and_right (nat_eq (length x.0.value % 4) 0) (is_some (value_in t p x.0.name)) x.3;
   }

@@ -5,8 +5,8 @@ use Rattle.std.specs.Str.{bytes_eq}
 use Rattle.dt_model.specs.Names.{Name}
 use Rattle.dt_model.specs.Path.{Path, path_value, is_bookkeeping}
 use Rattle.dt_model.specs.Meaning.{Item, cell, value_bytes, Meaning, IsMeaning, IsPlain}
-use Rattle.dt_model.specs.Overlay.{OverlayReference, Overlay, IsOverlay}
-use Rattle.dt_model.specs.Object.{object_number, Encodes}
+use Rattle.dt_model.specs.Overlay.{object_number, OverlayReference, Overlay, IsOverlay}
+use Rattle.dt_model.specs.Object.{Encodes}
 use Rattle.dt_model.specs.Represents.{Represents}
 use Rattle.dt_model.specs.Tree.{Reading, nodes_of, value_in}
 use Rattle.dt_model.specs.Valid.{IsValid}

@@ -16,9 +16,10 @@ use Rattle.dt_model.specs.Valid.{IsReservation}
 use Rattle.dt_model.specs.Numbering.{Asked, IsNumberFor, IsNumbering, asked_by, numbers_by, HasLeastNumbers}
 use Rattle.dt_model.specs.Ordered.{AreChildrenInOrder, ArePropertiesInOrder, unwritten, IsInOrder}
 use Rattle.dt_model.specs.Named as named
-use Rattle.dt_model.specs.Named.{Content, Named, NamedNode, NamedPlaced, NamedProperty, node_at, node_count, nodes_of, paths_of, number_of, written_in}
-use Rattle.dt_model.specs.NamedOf.{IsNamedOf, IsNamed, path_among, meant, has_reference_to, asked, asked_from, contents_of, asked_in}
-use Rattle.dt_model.specs.Instance.{number_at, numbered_properties, instance_of, IsInstance, IsInstanceOf}
+use Rattle.dt_model.specs.Named.{NodeReference, Content, Named, NamedNode, NamedPlaced, NamedProperty, node_at, node_count, nodes_of, paths_of, number_of, written_in}
+use Rattle.dt_model.specs.Overlay.{inside, outside, object_number, reference_renamed}
+use Rattle.dt_model.specs.NamedOf.{IsBelow, bound_values, IsNamedOf, IsNamed, path_among, meant, has_reference_to, asked, asked_from, contents_of, asked_in}
+use Rattle.dt_model.specs.Instance.{number_for, number_at, numbered_properties, instance_of, IsInstance, IsInstanceOf}
 use Rattle.dt_laws.specs.NamedTrees.{InstanceIsMeant}
 use Rattle.dt_laws.proofs.Cases.{some_there}
 use Rattle.dt_laws.proofs.Tests.{bytes_eq_true, each_in}
@@ -51,14 +52,27 @@ number_if before None true None h k = absurd h
 number_if before None true (Some n) h k = refl
 
 -- a value whose references are renamed
-value_renamed : (numbers : List (Option ℕ)) (f : ℕ → Path) (number : Path → ℕ) (v : List (Item NodeReference)) → EachReference (λ k. number (f k) ≡ unwrap_or (number_at numbers k) 0) v
-    → value_bytes number (map (item_renamed f) v) ≡ numbered_value numbers v
+abbrev IsNumberedBy : (numbers : List (Option ℕ)) (f : ℕ → Path) (number : Path → ℕ) → NodeReference → Type 0
+IsNumberedBy numbers f number r = object_number number (reference_renamed f r) ≡ number_for numbers r
+
+value_renamed : (numbers : List (Option ℕ)) (f : ℕ → Path) (number : Path → ℕ) (v : List (Item NodeReference)) → EachReference (IsNumberedBy numbers f number) v
+    → value_bytes (object_number number) (map (item_renamed (reference_renamed f)) v) ≡ numbered_value numbers v
 value_renamed numbers f number [] h = refl
 value_renamed numbers f number (byte b ∷ v) h = ap (λ bs. b ∷ bs) (value_renamed numbers f number v h)
-value_renamed numbers f number (reference k ∷ v) h =
-    ap (λ y. cell y ++ value_bytes number (map (item_renamed f) v)) h.0 ∙ ap (λ bs. cell (unwrap_or (number_at numbers k) 0) ++ bs) (value_renamed numbers f number v h.1)
+value_renamed numbers f number (reference r ∷ v) h =
+    ap (λ y. cell y ++ value_bytes (object_number number) (map (item_renamed (reference_renamed f)) v)) h.0 ∙ ap (λ bs. cell (number_for numbers r) ++ bs) (value_renamed numbers f number v h.1)
 
-each_mapped : (P Q : ℕ → Type 0) → ((k : ℕ) → P k → Q k) → (v : List (Item NodeReference)) → EachReference P v → EachReference Q v
+-- a base's value has no other references
+value_inside : (number : Path → ℕ) (items : List (Item Path)) → value_bytes (object_number number) (map (item_renamed inside) items) ≡ value_bytes number items
+value_inside number [] = refl
+value_inside number (byte b ∷ items) = ap (λ bs. b ∷ bs) (value_inside number items)
+value_inside number (reference p ∷ items) = ap (λ bs. cell (number p) ++ bs) (value_inside number items)
+
+all_inside : (number : Path → ℕ) (o : Option (List (Item Path))) → option_map (value_bytes (object_number number)) (option_map (map (item_renamed inside)) o) ≡ option_map (value_bytes number) o
+all_inside number None = refl
+all_inside number (Some items) = ap (λ (bs : List ℕ). Some bs) (value_inside number items)
+
+each_mapped : (P Q : NodeReference → Type 0) → ((k : NodeReference) → P k → Q k) → (v : List (Item NodeReference)) → EachReference P v → EachReference Q v
 each_mapped P Q f [] h = tt
 each_mapped P Q f (byte b ∷ v) h = each_mapped P Q f v h
 each_mapped P Q f (reference k ∷ v) h = (f k h.0, each_mapped P Q f v h.1)
@@ -141,7 +155,7 @@ module _ (mode : Mode) (reservations : List (ℕ × ℕ)) (places : List Place) 
 
   keyed_at : (p : Path) → m.keyed p ≡ true → IsKeyedAt p
   keyed_at p keyed =
-      let c = stands_node mode reservations places t n p (is_meaning.keyed_stand p keyed) in
+      let c = stands_node es (bound_values es) t n.tree p (is_meaning.keyed_stand p keyed) in
       let x : NamedPlaced NodeReference = record { path = p; content = (c.0).content } in
       let k = in_at x (nodes_of t) (at_listed t p c.0 c.1) in
       record {
@@ -187,12 +201,18 @@ module _ (mode : Mode) (reservations : List (ℕ × ℕ)) (places : List Place) 
   value_here : (k : ℕ) (x : NamedPlaced NodeReference) (name : Name) → HasAt k x (nodes_of t) → value_in instance x.path name ≡ value_of (numbered_properties numbers k x.content) name
   value_here k x name h = listed.listed_value instance (instance_node numbers k x) name (valid t numbers is_named given) (node_in numbers t k x h)
 
-  each_number : (v : List (Item NodeReference)) → EachReference (λ k. k < 1 + node_count t.children) v → EachReference (λ k. number (path_among (paths_of t) k) ≡ unwrap_or (number_at numbers k) 0) v
-  each_number v h =
+  abbrev AreNumbered : List (Item NodeReference) → Type 0
+  AreNumbered v = EachReference (IsNumberedBy numbers (path_among (paths_of t)) number) v
+
+  one_number : (r : NodeReference) → IsBelow (1 + node_count t.children) r → IsNumberedBy numbers (path_among (paths_of t)) number r
+  one_number (inside k) below =
       let a = length-nodes t in
       let b = length-map (nodes_of t) (λ (x : NamedPlaced NodeReference). x.path) in
-      each_mapped (λ k. k < 1 + node_count t.children) (λ k. number (path_among (paths_of t) k) ≡ unwrap_or (number_at numbers k) 0)
-      (λ k below. number_here k (path_among (paths_of t) k) (at_path k (paths_of t) (omega (arith, below, a, b)))) v h
+      number_here k (path_among (paths_of t) k) (at_path k (paths_of t) (omega (arith, below, a, b)))
+  one_number (outside l) below = refl
+
+  each_number : (v : List (Item NodeReference)) → EachReference (IsBelow (1 + node_count t.children)) v → AreNumbered v
+  each_number v h = each_mapped (IsBelow (1 + node_count t.children)) (IsNumberedBy numbers (path_among (paths_of t)) number) one_number v h
 
   phandle_same : (k : ℕ) (x : NamedPlaced NodeReference) → HasAt k x (nodes_of t)
       → value_of (numbered_properties numbers k x.content) (codes "phandle") ≡ (if m.keyed x.path then Some (cell (number x.path)) else None)
@@ -204,8 +224,8 @@ module _ (mode : Mode) (reservations : List (ℕ × ℕ)) (places : List Place) 
       through true = refl
       through false = refl
 
-  renamed_same : (v : Option (List (Item NodeReference))) → ((w : List (Item NodeReference)) → v ≡ Some w → EachReference (λ k. number (path_among (paths_of t) k) ≡ unwrap_or (number_at numbers k) 0) w)
-      → option_map (numbered_value numbers) v ≡ option_map (value_bytes number) (option_map (meant t) v)
+  renamed_same : (v : Option (List (Item NodeReference))) → ((w : List (Item NodeReference)) → v ≡ Some w → AreNumbered w)
+      → option_map (numbered_value numbers) v ≡ option_map (value_bytes (object_number number)) (option_map (meant t) v)
   renamed_same None each = refl
   renamed_same (Some w) each = ap (λ (z : List ℕ). Some z) (sym (value_renamed numbers (path_among (paths_of t)) number w (each w refl)))
 
@@ -218,10 +238,11 @@ module _ (mode : Mode) (reservations : List (ℕ × ℕ)) (places : List Place) 
       ∙ renamed_same (named.value_of x.content.properties name)
       (λ w e.
       each_number w
-      (each_in (λ (p : NamedProperty NodeReference). EachReference (λ k. k < 1 + node_count t.children) p.value) x.content.properties (record { name = name; value = w })
+      (each_in (λ (p : NamedProperty NodeReference). EachReference (IsBelow (1 + node_count t.children)) p.value) x.content.properties (record { name = name; value = w })
       (content_is t is_named x i).referred (value_listed x.content.properties name w e)))
-      ∙ ap (λ (c : Content NodeReference). option_map (value_bytes number) (option_map (meant t) (named.value_of c.properties name))) (sym a.same)
-      ∙ ap (option_map (value_bytes number)) (value_same mode reservations places t n x.path a.node name a.is)
+      ∙ ap (λ (c : Content NodeReference). option_map (value_bytes (object_number number)) (option_map (meant t) (named.value_of c.properties name))) (sym a.same)
+      ∙ ap (option_map (value_bytes (object_number number))) (value_same es (bound_values es) t n.tree x.path a.node name a.is)
+      ∙ all_inside number (option_and_then (all_bound es) (value_at es (reverse x.path) name))
 
   values_here : (k : ℕ) (x : NamedPlaced NodeReference) (name : Name) → HasAt k x (nodes_of t) → value_in instance x.path name ≡ instance_value m number x.path name
   values_here k x name h = value_here k x name h ∙ step (bytes_eq name (codes "phandle")) refl
@@ -235,7 +256,7 @@ module _ (mode : Mode) (reservations : List (ℕ × ℕ)) (places : List Place) 
   none_there p name e = step (bytes_eq name (codes "phandle")) refl (m.keyed p) refl (m.value p name) refl
     where
       not_there : m.stands p ≡ true → ⊥
-      not_there h = let c = stands_node mode reservations places t n p h in let z : None ≡ Some c.0 = sym e ∙ c.1 in cc
+      not_there h = let c = stands_node es (bound_values es) t n.tree p h in let z : None ≡ Some c.0 = sym e ∙ c.1 in cc
 
       step : (b : Bool) → bytes_eq name (codes "phandle") ≡ b → (k : Bool) → m.keyed p ≡ k → (v : Option (List (Item Path))) → m.value p name ≡ v → instance_value m number p name ≡ None
       step true h true k v w = absurd (not_there (is_meaning.keyed_stand p k))
@@ -258,7 +279,7 @@ module _ (mode : Mode) (reservations : List (ℕ × ℕ)) (places : List Place) 
   is_instance = record {
     naming = naming;
     reservations = n.same_reservations;
-    nodes = λ p. stands_same p ∙ n.nodes p;
+    nodes = λ p. stands_same p ∙ n.tree.nodes p;
     values = values_same;
   }
 
@@ -293,7 +314,7 @@ module _ (mode : Mode) (reservations : List (ℕ × ℕ)) (places : List Place) 
   in_order = record {
     children = λ p c e.
         let w = node_same numbers t p c e in
-        subst (AreChildrenInOrder es p) (sym w.2) (n.order.children p w.0 w.1);
+        subst (AreChildrenInOrder es p) (sym w.2) (n.tree.order.children p w.0 w.1);
     properties = λ p c e.
         let w = node_from numbers t (record { path = p; properties = c.properties }) (listed.at_listed instance p c e) in
         let k = w.0 in
@@ -307,7 +328,7 @@ module _ (mode : Mode) (reservations : List (ℕ × ℕ)) (places : List Place) 
           property_names x.content.properties,
           names,
           subst (λ q. ArePropertiesInOrder es q (property_names x.content.properties)) (sym at)
-              (subst (λ (d : Content NodeReference). ArePropertiesInOrder es x.path (property_names d.properties)) a.same (n.order.properties x.path a.node a.is)),
+              (subst (λ (d : Content NodeReference). ArePropertiesInOrder es x.path (property_names d.properties)) a.same (n.tree.order.properties x.path a.node a.is)),
         );
   }
 

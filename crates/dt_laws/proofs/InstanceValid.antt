@@ -9,7 +9,7 @@ use Rattle.dt_model.specs.Tree as tree
 use Rattle.dt_model.specs.Tree.{Reading, Placed}
 use Rattle.dt_model.specs.Valid.{AreDistinct, IsPhandle, IsValid}
 use Rattle.dt_model.specs.Numbering.{IsNumbering}
-use Rattle.dt_model.specs.Named.{Named, NamedPlaced, node_count, nodes_of}
+use Rattle.dt_model.specs.Named.{NodeReference, Named, NamedPlaced, node_count, nodes_of}
 use Rattle.dt_model.specs.NamedOf.{IsNamed, asked_in}
 use Rattle.dt_model.specs.Instance.{number_at, instance_of}
 use Rattle.dt_laws.specs.NamedTrees.{InstanceIsValid}

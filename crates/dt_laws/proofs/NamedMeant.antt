@@ -11,8 +11,9 @@ use Rattle.dt_model.specs.Event.{stands, value_at, names, property_age, label_ag
 use Rattle.dt_model.specs.Source.{Place, Mode, Events}
 use Rattle.dt_model.specs.Valid.{AreDistinct, IsReservation}
 use Rattle.dt_model.specs.Named as named
-use Rattle.dt_model.specs.Named.{NamedForest, no_nodes, branch, Named, NamedNode, NamedPlaced, NamedProperty, Content, root_of, node_at, value_of, number_of, written_in, node_count, nodes_of, paths_of}
-use Rattle.dt_model.specs.NamedOf.{IsNamedOf, IsContent, AreNamedNodes, RefersBelow, meant, path_among, contents_of}
+use Rattle.dt_model.specs.Named.{NodeReference, NamedForest, no_nodes, branch, Named, NamedNode, NamedPlaced, NamedProperty, Content, root_of, node_at, value_of, number_of, written_in, node_count, nodes_of, paths_of}
+use Rattle.dt_model.specs.Overlay.{inside, reference_renamed}
+use Rattle.dt_model.specs.NamedOf.{bound_values, IsNamedOf, IsContent, AreNamedNodes, RefersBelow, path_among, contents_of}
 use Rattle.dt_laws.specs.NamedTrees.{MeantIsNamed, ManyStand}
 use Rattle.dt_laws.proofs.Cases.{all_map, some_there}
 use Rattle.dt_laws.proofs.Tests.{each_in, each_from, in_map, in_map_from}
@@ -25,7 +26,7 @@ use Rattle.dt_laws.proofs.Flat.{flat_of_map, distinct_flat}
 use Rattle.dt_laws.proofs.Meanings.{no_twice}
 use Rattle.dt_laws.proofs.NamedListed.{IsSibling, sibling_found, child_at, listed_at, at_listed, length-nodes}
 use Rattle.dt_laws.proofs.NamedPaths.{paths_distinct}
-use Rattle.dt_laws.proofs.NamedValues.{all_of_map, property_names, listed_value, bytes_renamed}
+use Rattle.dt_laws.proofs.NamedValues.{all_of_map, property_names, listed_value, bytes_renamed, renamed_too}
 use Rattle.dt_laws.proofs.NamedSources.{events, apart, holds, node_stands, value_parts, phandle_number, written_same}
 
 last_named : (p : Path) (x : Name) → AllByRecursion IsNodeName (p ++ x ∷ []) → IsNodeName x
@@ -48,13 +49,13 @@ module _ (mode : Mode) (reservations : List (ℕ × ℕ)) (places : List Place) 
     value_bytes_ok p c e d x i =
         let w = value_parts mode reservations places t n p c x.name x.value e (listed_value c.content.properties x d i) in
         let follows = value_follows named_rules es (reverse p) x.name w.0 h.each w.1 in
-        bytes_renamed (path_among (paths_of t)) x.value
-        (all_bound_bytes es (λ r q k. node_follows named_rules es q h.each (referent_stands es h.sound r q k)) w.0 (meant t x.value) follows.1 w.2)
+        let plain = all_bound_bytes es (λ r q k. node_follows named_rules es q h.each (referent_stands es h.sound r q k)) w.0 w.2.items follows.1 w.2.bound in
+        bytes_renamed (reference_renamed (path_among (paths_of t))) x.value (subst AreBytes w.2.same (renamed_too inside w.2.items plain))
 
     content_ok : (p : Path) (c : NamedNode NodeReference) → node_at t p ≡ Some c → IsContent (1 + node_count t.children) c.content
     content_ok p c e =
-        let labels = n.order.labels p c e in
-        let properties = n.order.properties p c e in
+        let labels = n.tree.order.labels p c e in
+        let properties = n.tree.order.properties p c e in
         let d : AreDistinct (property_names c.content.properties) = falls_distinct (property_age es (reverse p)) (property_names c.content.properties) properties.sorted in
         record {
           labels = all_map (λ l. names es l (reverse p) ≡ true) IsLabel (λ l k. label_follows named_rules es l (reverse p) h.each k) c.content.labels labels.sound;
@@ -64,7 +65,7 @@ module _ (mode : Mode) (reservations : List (ℕ × ℕ)) (places : List Place) 
               (property_names c.content.properties) properties.sound);
           distinct = d;
           bytes = each_from (λ (x : NamedProperty NodeReference). AreBytes x.value) c.content.properties (value_bytes_ok p c e d);
-          referred = each_in (RefersBelow (1 + node_count t.children)) (contents_of t) c.content n.referred
+          referred = each_in (RefersBelow (1 + node_count t.children)) (contents_of t) c.content n.tree.referred
               (in_map (λ (x : NamedPlaced NodeReference). x.content) (nodes_of t) (record { path = p; content = c.content }) (at_listed t p c e));
           numbered = λ v k. let w = phandle_number mode reservations places t n p c v e k in ap is_some w.1;
         }
@@ -72,11 +73,11 @@ module _ (mode : Mode) (reservations : List (ℕ × ℕ)) (places : List Place) 
     -- ---- all nodes
 
     name_ok : (p : Path) (x : Name) (c : NamedNode NodeReference) → node_at t (p ++ x ∷ []) ≡ Some c → IsNodeName x
-    name_ok p x c e = last_named p x (path_named (p ++ x ∷ []) (node_follows named_rules es (reverse (p ++ x ∷ [])) h.each (node_stands mode reservations places t n (p ++ x ∷ []) c e)))
+    name_ok p x c e = last_named p x (path_named (p ++ x ∷ []) (node_follows named_rules es (reverse (p ++ x ∷ [])) h.each (node_stands es (bound_values es) t n.tree (p ++ x ∷ []) c e)))
 
     depth_ok : (p : Path) (x : Name) (c : NamedNode NodeReference) → node_at t (p ++ x ∷ []) ≡ Some c → suc (length p) ≤ most_names
     depth_ok p x c e =
-        let low = nodes_are_shallow mode places n.means.so_far n.means.all_read (reverse (p ++ x ∷ [])) (node_stands mode reservations places t n (p ++ x ∷ []) c e) in
+        let low = nodes_are_shallow mode places n.means.so_far n.means.all_read (reverse (p ++ x ∷ [])) (node_stands es (bound_values es) t n.tree (p ++ x ∷ []) c e) in
         let a = length-reverse (p ++ x ∷ []) in
         let b = length-append p (x ∷ []) in
         omega (arith, low, a, b)
@@ -88,7 +89,7 @@ module _ (mode : Mode) (reservations : List (ℕ × ℕ)) (places : List Place) 
         let c : NamedNode NodeReference = record { content = content; children = children } in
         let here = at name c (inl (refl, refl)) in
         let low = depth_ok path name c here in
-        let order = n.order.children (path ++ name ∷ []) c here in
+        let order = n.tree.order.children (path ++ name ∷ []) c here in
         let d = falls_distinct _ (named.names children) order.sorted in
         let l = length-append path (name ∷ []) in (
           name_ok path name c here,
@@ -108,20 +109,20 @@ module _ (mode : Mode) (reservations : List (ℕ × ℕ)) (places : List Place) 
         → AreDistinct (flat_map f (contents_of t))
     own_of f each own =
         subst AreDistinct (sym (flat_of_map f (λ (x : NamedPlaced NodeReference). x.content) (nodes_of t)))
-        (distinct_flat (λ (x : NamedPlaced NodeReference). x.path) (λ x. f x.content) (nodes_of t) (paths_distinct t (apart mode reservations places t n))
-        (λ x i. let a = listed_at t x (apart mode reservations places t n) i in subst (λ c. AreDistinct (f c)) a.same (each x.path a.node a.is))
+        (distinct_flat (λ (x : NamedPlaced NodeReference). x.path) (λ x. f x.content) (nodes_of t) (paths_distinct t (apart es (bound_values es) t n.tree))
+        (λ x i. let a = listed_at t x (apart es (bound_values es) t n.tree) i in subst (λ c. AreDistinct (f c)) a.same (each x.path a.node a.is))
         (λ x z y i j k l.
-        let a = listed_at t x (apart mode reservations places t n) i in
-        let b = listed_at t z (apart mode reservations places t n) j in
+        let a = listed_at t x (apart es (bound_values es) t n.tree) i in
+        let b = listed_at t z (apart es (bound_values es) t n.tree) j in
         own x.path z.path a.node b.node y a.is b.is (subst (λ c. IsIn y (f c)) (sym a.same) k) (subst (λ c. IsIn y (f c)) (sym b.same) l)))
 
     labels_ok : AreDistinct (flat_map (λ (c : Content NodeReference). c.labels) (contents_of t))
     labels_ok =
         own_of (λ c. c.labels)
-        (λ p c e. let o = n.order.labels p c e in falls_distinct (λ l. label_age es l (reverse p)) c.content.labels o.sorted)
+        (λ p c e. let o = n.tree.order.labels p c e in falls_distinct (λ l. label_age es l (reverse p)) c.content.labels o.sorted)
         (λ p q c d l e k i j.
-        let a = each_in (λ l. names es l (reverse p) ≡ true) c.content.labels l (n.order.labels p c e).sound i in
-        let b = each_in (λ l. names es l (reverse q) ≡ true) d.content.labels l (n.order.labels q d k).sound j in
+        let a = each_in (λ l. names es l (reverse p) ≡ true) c.content.labels l (n.tree.order.labels p c e).sound i in
+        let b = each_in (λ l. names es l (reverse q) ≡ true) d.content.labels l (n.tree.order.labels q d k).sound j in
         no_twice p q (h.sound.one l (reverse p) (reverse q) a b))
 
     numbers_ok : AreDistinct (flat_map (λ (c : Content NodeReference). option_to_list (written_in c)) (contents_of t))
@@ -135,7 +136,7 @@ module _ (mode : Mode) (reservations : List (ℕ × ℕ)) (places : List Place) 
 pub meant_is_named : MeantIsNamed
 meant_is_named mode reservations places t some valid reserved few n =
     let h = holds mode reservations places t n some valid in
-    let d = (apart mode reservations places t n).0 in
+    let d = (apart (events mode reservations places t n) (bound_values (events mode reservations places t n)) t n.tree).0 in
     record {
       reservations = subst (AllByRecursion IsReservation) (sym n.same_reservations) reserved;
       root = content_ok mode reservations places t n h [] (root_of t) refl;
@@ -148,7 +149,8 @@ meant_is_named mode reservations places t some valid reserved few n =
 
 pub many_stand : ManyStand
 many_stand mode reservations places t many n =
-    let d = apart mode reservations places t n in
+    let es = events mode reservations places t n in
+    let d = apart es (bound_values es) t n.tree in
     let l = length-nodes t in
     let m = length-map (nodes_of t) (λ (x : NamedPlaced NodeReference). x.path) in
     record {
@@ -158,6 +160,6 @@ many_stand mode reservations places t many n =
           (λ p i.
           let w = in_map_from (λ (x : NamedPlaced NodeReference). x.path) (nodes_of t) p i in
           let a = listed_at t w.0 d w.1 in
-          node_stands mode reservations places t n p a.node (ap (node_at t) w.2 ∙ a.is));
+          node_stands es (bound_values es) t n.tree p a.node (ap (node_at t) w.2 ∙ a.is));
       many = omega (arith, many, l, m);
     }

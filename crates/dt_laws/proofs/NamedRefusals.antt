@@ -1,5 +1,5 @@
 -- A source that means a named tree with few nodes isn't refused.
-use Rattle.std.proofs.Common.{◌≡◌, ℕ, suc, ◌+◌, ◌≤◌, ◌<◌, true, List, length, reverse, refl, sym, ap, subst, ◌∙◌, Option, Some, None, true≢false, arith}
+use Rattle.std.proofs.Common.{◌≡◌, ℕ, ◌+◌, ◌≤◌, ◌<◌, true, List, length, reverse, refl, sym, subst, ◌∙◌, Option, Some, None, true≢false, arith}
 use Rattle.std.specs.Prelude.{is_some}
 use Rattle.std.proofs.lemmas.List.{length-map}
 use Rattle.dt_model.specs.Limits.{most_nodes}
@@ -7,10 +7,9 @@ use Rattle.dt_model.specs.Path.{Path}
 use Rattle.dt_model.specs.Lists.{IsIn}
 use Rattle.dt_model.specs.Event.{stands}
 use Rattle.dt_model.specs.Source.{Place, Mode, SoFar}
-use Rattle.dt_model.specs.Named.{Named, NamedNode, NamedPlaced, node_at, node_count, nodes_of, paths_of}
+use Rattle.dt_model.specs.Named.{NodeReference, Named, NamedNode, NamedPlaced, node_at, node_count, nodes_of, paths_of}
 use Rattle.dt_model.specs.NamedOf.{IsNamedOf}
-use Rattle.dt_model.specs.Refused.{StandMany, SourceRefusal, too_many, IsRefusedFor}
-use Rattle.dt_laws.specs.CompiledTrees.{MeantIsNotRefused}
+use Rattle.dt_model.specs.Refused.{StandMany, too_many, IsRefusedFor}
 use Rattle.dt_laws.specs.NamedTrees.{NamedIsNotRefused}
 use Rattle.dt_laws.proofs.Tests.{each_in, in_map}
 use Rattle.dt_laws.proofs.NamedListed.{at_listed, length-nodes}
@@ -30,7 +29,7 @@ few mode reservations places t n small h =
     let end : h.0 ≡ n.means.so_far = one_end h.0 n.means.so_far h.1 n.means.all_read in
     let many : StandMany most_nodes n.means.so_far.events = subst (λ (s : SoFar). StandMany most_nodes s.events) end h.3 in
     let le = no_more many.paths (paths_of t) many.distinct
-    (λ p i. listed t p (n.nodes p ∙ each_in (λ p. stands n.means.so_far.events (reverse p) ≡ true) many.paths p many.standing i)) in
+    (λ p i. listed t p (n.tree.nodes p ∙ each_in (λ p. stands n.means.so_far.events (reverse p) ≡ true) many.paths p many.standing i)) in
     let e : length (paths_of t) ≡ 1 + node_count t.children = length-map (nodes_of t) (λ (n : NamedPlaced NodeReference). n.path) ∙ length-nodes t in
     let more : most_nodes < length many.paths = many.many in
     absurd (omega (arith, le, e, more, small))

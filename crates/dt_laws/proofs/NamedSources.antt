@@ -1,15 +1,16 @@
 -- A named tree beside the events of the places that mean it.
-use Rattle.std.proofs.Common.{◌≡◌, ℕ, ◌<◌, true, List, [], ◌∷◌, ◌++◌, length, reverse, codes, is_some, refl, sym, ap, ◌∙◌, inl, inr, Option, Some, None, arith}
+use Rattle.std.proofs.Common.{◌≡◌, ℕ, ◌<◌, true, List, [], ◌∷◌, ◌++◌, length, map, reverse, codes, is_some, refl, sym, ap, ◌∙◌, inl, inr, Option, Some, None, arith}
 use Rattle.std.specs.List.{AllByRecursion}
 use Rattle.std.specs.Option.{option_map, option_map_or, option_and_then}
 use Rattle.dt_model.specs.Names.{Name}
 use Rattle.dt_model.specs.Path.{Path}
-use Rattle.dt_model.specs.Meaning.{Item}
+use Rattle.dt_model.specs.Meaning.{Item, item_renamed}
 use Rattle.dt_model.specs.Event.{stands, value_at, age}
 use Rattle.dt_model.specs.Source.{Part, Place, IsPlace, Mode, Events, all_bound, written, written_number}
 use Rattle.dt_model.specs.Valid.{AreDistinct}
-use Rattle.dt_model.specs.Named.{NamedForest, no_nodes, branch, Named, NamedNode, root_of, node_at, value_of, number_of, written_in, names, paths_of}
-use Rattle.dt_model.specs.NamedOf.{IsNamedOf, meant, path_among}
+use Rattle.dt_model.specs.Named.{NodeReference, NamedForest, no_nodes, branch, Named, NamedNode, root_of, node_at, value_of, number_of, written_in, names, paths_of}
+use Rattle.dt_model.specs.NamedOf.{IsNamedBy, IsNamedOf, bound_values, meant, path_among}
+use Rattle.dt_model.specs.Overlay.{OverlayReference, inside, reference_renamed}
 use Rattle.dt_laws.proofs.Cases.{map_some, then_some, some_there, all_map}
 use Rattle.dt_laws.proofs.Orders.{falls_distinct}
 use Rattle.dt_laws.proofs.Bound.{named_rules, named_obeys}
@@ -38,12 +39,34 @@ is_apart t distinct =
     let d = distinct [] (root_of t) refl in
     (d, apart_below t distinct [] t.children (λ x c i. child_at (root_of t) c (root_of t) [] x refl (sibling_found t.children x c d i)))
 
+module _ (es : Events) (value : Path → Name → Option (List (Item OverlayReference))) (t : Named NodeReference) (n : IsNamedBy es value t) where
+  pub apart : IsApart t
+  apart = is_apart t (λ p c e. let o = n.order.children p c e in falls_distinct (λ x. age es (x ∷ reverse p)) (names c.children) o.sorted)
+
+  -- ---- nodes
+
+  pub node_stands : (p : Path) (c : NamedNode NodeReference) → node_at t p ≡ Some c → stands es (reverse p) ≡ true
+  node_stands p c e = sym (n.nodes p) ∙ ap is_some e
+
+  pub stands_node : (p : Path) → stands es (reverse p) ≡ true → (c : NamedNode NodeReference) × (node_at t p ≡ Some c)
+  stands_node p h = some_there (node_at t p) (n.nodes p ∙ h)
+
+  -- ---- values
+
+  pub value_same : (p : Path) (c : NamedNode NodeReference) (x : Name) → node_at t p ≡ Some c
+      → option_map (meant t) (value_of c.content.properties x) ≡ value p x
+  value_same p c x e =
+      ap (λ (o : Option (NamedNode NodeReference)). option_map (meant t) (value_of (option_map_or (λ n. n.content) o (record { labels = []; properties = [] })).properties x)) (sym e) ∙ n.values p x
+
+-- the parts of a base's value that the tree has
+pub record AreParts (es : Events) (t : Named NodeReference) (parts : List Part) (v : List (Item NodeReference)) : Type 0 where
+  pub items : List (Item Path)
+  pub bound : all_bound es parts ≡ Some items
+  pub same : map (item_renamed inside) items ≡ meant t v
+
 module _ (mode : Mode) (reservations : List (ℕ × ℕ)) (places : List Place) (t : Named NodeReference) (n : IsNamedOf mode reservations places t) where
   abbrev pub events : Events
   events = n.means.so_far.events
-
-  pub apart : IsApart t
-  apart = is_apart t (λ p c e. let o = n.order.children p c e in falls_distinct (λ x. age events (x ∷ reverse p)) (names c.children) o.sorted)
 
   -- what is true after all places
   pub holds : 0 < length places → AllByRecursion IsPlace places → Holds named_rules n.means.so_far
@@ -53,33 +76,23 @@ module _ (mode : Mode) (reservations : List (ℕ × ℕ)) (places : List Place) 
         | inr h ↦ h
       ]
 
-  -- ---- nodes
-
-  pub node_stands : (p : Path) (c : NamedNode NodeReference) → node_at t p ≡ Some c → stands events (reverse p) ≡ true
-  node_stands p c e = sym (n.nodes p) ∙ ap is_some e
-
-  pub stands_node : (p : Path) → stands events (reverse p) ≡ true → (c : NamedNode NodeReference) × (node_at t p ≡ Some c)
-  stands_node p h = some_there (node_at t p) (n.nodes p ∙ h)
-
-  -- ---- values
-
-  pub value_same : (p : Path) (c : NamedNode NodeReference) (x : Name) → node_at t p ≡ Some c
-      → option_map (meant t) (value_of c.content.properties x) ≡ option_and_then (all_bound events) (value_at events (reverse p) x)
-  value_same p c x e =
-      ap (λ (o : Option (NamedNode NodeReference)). option_map (meant t) (value_of (option_map_or (λ n. n.content) o (record { labels = []; properties = [] })).properties x)) (sym e) ∙ n.values p x
-
   -- the parts of a value that the tree has
   pub value_parts : (p : Path) (c : NamedNode NodeReference) (x : Name) (v : List (Item NodeReference)) → node_at t p ≡ Some c → value_of c.content.properties x ≡ Some v
-      → (parts : List Part) × (value_at events (reverse p) x ≡ Some parts) × (all_bound events parts ≡ Some (meant t v))
-  value_parts p c x v e k = then_some (all_bound events) (value_at events (reverse p) x) (meant t v) (sym (value_same p c x e) ∙ ap (option_map (meant t)) k)
+      → (parts : List Part) × (value_at events (reverse p) x ≡ Some parts) × AreParts events t parts v
+  value_parts p c x v e k =
+      let all = map_some (map (item_renamed inside)) (option_and_then (all_bound events) (value_at events (reverse p) x)) (meant t v)
+      (sym (value_same events (bound_values events) t n.tree p c x e) ∙ ap (option_map (meant t)) k) in
+      let w = then_some (all_bound events) (value_at events (reverse p) x) all.0 all.1 in
+      (w.0, w.1, record { items = all.0; bound = w.2; same = all.2 })
 
   -- the value that the tree has of some parts
   pub parts_value : (p : Path) (c : NamedNode NodeReference) (x : Name) (parts : List Part) → node_at t p ≡ Some c → value_at events (reverse p) x ≡ Some parts
-      → (v : List (Item NodeReference)) × (value_of c.content.properties x ≡ Some v) × (all_bound events parts ≡ Some (meant t v))
+      → (v : List (Item NodeReference)) × (value_of c.content.properties x ≡ Some v) × AreParts events t parts v
   parts_value p c x parts e k =
       let bound = some_there (all_bound events parts) (n.means.resolved.bound_to (reverse p) x parts k) in
-      let w = map_some (meant t) (value_of c.content.properties x) bound.0 (value_same p c x e ∙ ap (option_and_then (all_bound events)) k ∙ bound.1) in
-      (w.0, w.1, bound.1 ∙ ap Some (sym w.2))
+      let w = map_some (meant t) (value_of c.content.properties x) (map (item_renamed inside) bound.0)
+      (value_same events (bound_values events) t n.tree p c x e ∙ ap (λ o. option_map (map (item_renamed inside)) (option_and_then (all_bound events) o)) k ∙ ap (option_map (map (item_renamed inside))) bound.1) in
+      (w.0, w.1, record { items = bound.0; bound = bound.1; same = sym w.2 })
 
   -- a property `phandle` writes the number that its parts write
   pub phandle_number : (p : Path) (c : NamedNode NodeReference) (v : List (Item NodeReference)) → node_at t p ≡ Some c → value_of c.content.properties (codes "phandle") ≡ Some v
@@ -87,7 +100,7 @@ module _ (mode : Mode) (reservations : List (ℕ × ℕ)) (places : List Place) 
   phandle_number p c v e h =
       let w = value_parts p c (codes "phandle") v e h in
       let k = some_there (written w.0) (n.means.resolved.numbered (reverse p) w.0 w.1) in
-      (k.0, number_written events w.0 (path_among (paths_of t)) v k.0 k.1 w.2, ap (option_and_then written) w.1 ∙ k.1)
+      (k.0, number_written events w.0 (reference_renamed (path_among (paths_of t))) w.2.items v k.0 k.1 w.2.bound w.2.same, ap (option_and_then written) w.1 ∙ k.1)
 
   pub written_same : (p : Path) (c : NamedNode NodeReference) → node_at t p ≡ Some c → written_in c.content ≡ written_number events (reverse p)
   written_same p c e = step (value_of c.content.properties (codes "phandle")) refl (value_at events (reverse p) (codes "phandle")) refl

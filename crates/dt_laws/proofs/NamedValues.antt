@@ -6,9 +6,10 @@ use Rattle.dt_model.specs.Names.{Name}
 use Rattle.dt_model.specs.Path.{Path}
 use Rattle.dt_model.specs.Lists.{IsIn}
 use Rattle.dt_model.specs.Meaning.{Item, byte, reference, item_renamed, AreBytes}
+use Rattle.dt_model.specs.Overlay.{OverlayReference, inside}
 use Rattle.dt_model.specs.Source.{Part, one, Events, all_bound, written}
 use Rattle.dt_model.specs.Valid.{AreDistinct}
-use Rattle.dt_model.specs.Named.{NamedProperty, value_of, number_of}
+use Rattle.dt_model.specs.Named.{NodeReference, NamedProperty, value_of, number_of}
 use Rattle.dt_laws.proofs.Tests.{bytes_eq_refl, bytes_eq_true, bytes_eq_other, each_in, in_map}
 
 pub all_of_map : {X Y : Type 0} (f : X → Y) (P : Y → Type 0) (xs : List X) → AllByRecursion P (map f xs) → AllByRecursion (λ x. P (f x)) xs
@@ -58,11 +59,18 @@ bytes_renamed f [] h = tt
 bytes_renamed f (byte b ∷ v) h = (h.0, bytes_renamed f v h.1)
 bytes_renamed f (reference r ∷ v) h = bytes_renamed f v h
 
+pub renamed_too : {R S : Type 0} (f : R → S) (v : List (Item R)) → AreBytes v → AreBytes (map (item_renamed f) v)
+renamed_too f [] h = tt
+renamed_too f (byte b ∷ v) h = (h.0, renamed_too f v h.1)
+renamed_too f (reference r ∷ v) h = renamed_too f v h
+
 -- ---- the number that a value writes
 
 -- a value of a source that writes a number writes it also when it is read
-pub number_written : (es : Events) (parts : List Part) (f : ℕ → Path) (v : List (Item NodeReference)) (k : ℕ) → written parts ≡ Some k → all_bound es parts ≡ Some (map (item_renamed f) v) → number_of v ≡ Some k
-number_written es (one a ∷ one b ∷ one c ∷ one d ∷ []) f v k w e =
-    let same : map byte (a ∷ b ∷ c ∷ d ∷ []) ≡ map (item_renamed f) v = cc in
-    ap number_of (sym (renamed_bytes f (a ∷ b ∷ c ∷ d ∷ []) v same)) ∙ w
-number_written es _ f v k w e = cc
+pub number_written : (es : Events) (parts : List Part) (f : NodeReference → OverlayReference) (items : List (Item Path)) (v : List (Item NodeReference)) (k : ℕ)
+    → written parts ≡ Some k → all_bound es parts ≡ Some items → map (item_renamed inside) items ≡ map (item_renamed f) v → number_of v ≡ Some k
+number_written es (one a ∷ one b ∷ one c ∷ one d ∷ []) f items v k w e same =
+    let plain : map byte (a ∷ b ∷ c ∷ d ∷ []) ≡ items = cc in
+    let renamed : map byte (a ∷ b ∷ c ∷ d ∷ []) ≡ map (item_renamed f) v = ap (map (item_renamed inside)) plain ∙ same in
+    ap number_of (sym (renamed_bytes f (a ∷ b ∷ c ∷ d ∷ []) v renamed)) ∙ w
+number_written es _ f items v k w e same = cc

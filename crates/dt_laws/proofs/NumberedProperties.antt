@@ -1,6 +1,6 @@
 -- The properties of a node of an instance: their names, their values, and the node's phandle.
 use Rattle.std.proofs.Common.{◌≡◌, ℕ, zero, suc, ◌<◌, ◌≤◌, Bool, true, false, not, ◌&&◌, List, [], ◌∷◌, ◌++◌, map, get_or, codes, is_some, refl, sym, ap, subst, ◌∙◌, inl, inr, Option, Some, None, option_to_list, true≢false, arith}
-use Rattle.std.specs.Prelude.{unwrap_or, if◌then◌else◌}
+use Rattle.std.specs.Prelude.{if◌then◌else◌}
 use Rattle.std.specs.List.{AllByRecursion}
 use Rattle.std.specs.Option.{option_map, option_and_then, option_or}
 use Rattle.std.specs.Int.{w32, from_be_bytes}
@@ -13,9 +13,9 @@ use Rattle.dt_model.specs.Source.{one}
 use Rattle.dt_model.specs.Tree.{Property, value_of}
 use Rattle.dt_model.specs.Valid.{AreDistinct, AreProperties, IsPhandle, phandle_values}
 use Rattle.dt_model.specs.Named as named
-use Rattle.dt_model.specs.Named.{NamedProperty, Content, number_of, written_in}
+use Rattle.dt_model.specs.Named.{NodeReference, NamedProperty, Content, number_of, written_in}
 use Rattle.dt_model.specs.NamedOf.{IsContent}
-use Rattle.dt_model.specs.Instance.{number_at, numbered, phandle_of, numbered_properties}
+use Rattle.dt_model.specs.Instance.{number_at, number_for, numbered, phandle_of, numbered_properties}
 use Rattle.dt_laws.proofs.Tests.{each_in, each_from, each_append, in_map_from}
 use Rattle.dt_laws.proofs.Cases.{some_there}
 use Rattle.dt_laws.proofs.Distinct.{distinct_append}
@@ -27,7 +27,7 @@ use Rattle.dt_laws.proofs.NamedValues.{property_names, value_listed, listed_valu
 
 -- the bytes of a value under the nodes' numbers
 abbrev pub numbered_value : List (Option ℕ) → List (Item NodeReference) → List ℕ
-numbered_value numbers v = value_bytes (λ k. unwrap_or (number_at numbers k) 0) v
+numbered_value numbers v = value_bytes (number_for numbers) v
 
 -- ---- the number that a value writes
 
@@ -47,7 +47,7 @@ four_small a b c d (suc (suc zero)) ha hb hc hd = hc
 four_small a b c d (suc (suc (suc zero))) ha hb hc hd = hd
 four_small a b c d (suc (suc (suc (suc i)))) ha hb hc hd = omega arith
 
-four_are : (a b c d : ℕ) → AreBytes {R = ℕ} (byte a ∷ byte b ∷ byte c ∷ byte d ∷ []) → cell (from_be_bytes w32 (a ∷ b ∷ c ∷ d ∷ [])) ≡ a ∷ b ∷ c ∷ d ∷ []
+four_are : (a b c d : ℕ) → AreBytes {R = NodeReference} (byte a ∷ byte b ∷ byte c ∷ byte d ∷ []) → cell (from_be_bytes w32 (a ∷ b ∷ c ∷ d ∷ [])) ≡ a ∷ b ∷ c ∷ d ∷ []
 four_are a b c d h = be_bytes_4 (a ∷ b ∷ c ∷ d ∷ []) (from_be_bytes w32 (a ∷ b ∷ c ∷ d ∷ [])) refl (λ i. four_small a b c d i h.0 h.1.0 h.1.1.0 h.1.1.1.0) refl
 
 in_range-same : (b : Bool) (m n : ℕ) → ◌≡◌ {A = Option ℕ} (if b then Some m else None) (Some n) → m ≡ n

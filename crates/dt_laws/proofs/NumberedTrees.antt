@@ -11,7 +11,7 @@ use Rattle.dt_model.specs.Tree as tree
 use Rattle.dt_model.specs.Tree.{Placed, Node}
 use Rattle.dt_model.specs.Valid as valid
 use Rattle.dt_model.specs.Valid.{AreDistinct, AreNodes, IsNoDeeper}
-use Rattle.dt_model.specs.Named.{NamedForest, no_nodes, branch, Named, NamedNode, NamedPlaced, sibling, node_below, root_of, node_at, names, node_count, preorder, nodes_of, paths_of}
+use Rattle.dt_model.specs.Named.{NodeReference, NamedForest, no_nodes, branch, Named, NamedNode, NamedPlaced, sibling, node_below, root_of, node_at, names, node_count, preorder, nodes_of, paths_of}
 use Rattle.dt_model.specs.NamedOf.{AreNamedNodes}
 use Rattle.dt_model.specs.Instance.{numbered_properties, numbered_forest, instance_of}
 use Rattle.dt_laws.proofs.Places.{HasAt}

@@ -8,9 +8,9 @@ use Rattle.dt_model.specs.Names.{Name}
 use Rattle.dt_model.specs.Path.{Path, path_value, is_bookkeeping}
 use Rattle.dt_model.specs.Lists.{IsIn, last_of}
 use Rattle.dt_model.specs.Meaning.{Item, cell, value_bytes, Meaning}
-use Rattle.dt_model.specs.Overlay.{OverlayReference, Overlay, IsBrought}
+use Rattle.dt_model.specs.Overlay.{object_number, OverlayReference, Overlay, IsBrought}
 use Rattle.dt_model.specs.Merged.{Site, landing, sources, IsDefined}
-use Rattle.dt_model.specs.Object.{Cell, HasFixups, object_number, properties_of}
+use Rattle.dt_model.specs.Object.{Cell, HasFixups, properties_of}
 use Rattle.dt_model.specs.Joined.{IsJoined}
 use Rattle.dt_model.specs.Numbers.{number_in}
 use Rattle.dt_model.specs.Tree.{Property, Reading, Node, value_of, root_of, node_at, nodes_of, stands_in, value_in}

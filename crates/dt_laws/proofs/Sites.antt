@@ -7,9 +7,9 @@ use Rattle.dt_model.specs.Names.{Name, IsNodeName}
 use Rattle.dt_model.specs.Path.{Path, path_value, is_bookkeeping}
 use Rattle.dt_model.specs.Lists.{IsIn}
 use Rattle.dt_model.specs.Meaning.{byte, cell, value_bytes, Meaning}
-use Rattle.dt_model.specs.Overlay.{OverlayReference, inside, outside, Target, at_reference, at_path, Fragment, Overlay, HoldsTarget}
+use Rattle.dt_model.specs.Overlay.{object_number, OverlayReference, inside, outside, Target, at_reference, at_path, Fragment, Overlay, HoldsTarget}
 use Rattle.dt_model.specs.Merged.{Site, landing, sources, Names, IsGiven}
-use Rattle.dt_model.specs.Object.{Cell, HasFixups, object_number}
+use Rattle.dt_model.specs.Object.{Cell, HasFixups}
 use Rattle.dt_model.specs.Numbers.{AreNewNumbers, numbers_of, new_paths, number_in}
 use Rattle.dt_model.specs.Tree.{Reading, nodes_of, stands_in, value_in}
 use Rattle.dt_model.specs.Applied.{number_at, node_numbered, node_named, writes, written, landed_with, landed_named, target_node}

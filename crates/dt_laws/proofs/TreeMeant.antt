@@ -1,10 +1,10 @@
 -- The instance of the named tree that places mean, with its labels, is the tree that they are compiled to.
-use Rattle.std.proofs.Common.{◌≡◌, ℕ, List, [], ◌∷◌, ◌++◌, map, refl, sym, subst, inl, inr}
+use Rattle.std.proofs.Common.{◌≡◌, List, [], ◌∷◌, ◌++◌, map, refl, sym, subst, inl, inr}
 use Rattle.dt_model.specs.Lists.{IsIn}
 use Rattle.dt_model.specs.Source.{Events}
 use Rattle.dt_model.specs.Tree.{Property}
 use Rattle.dt_model.specs.Ordered.{AreLabelsInOrder}
-use Rattle.dt_model.specs.Named.{Content, Named, NamedPlaced, nodes_of, paths_of}
+use Rattle.dt_model.specs.Named.{NodeReference, Content, Named, NamedPlaced, nodes_of, paths_of}
 use Rattle.dt_model.specs.Instance.{symbol, AreSymbols, symbols_of, instance_of}
 use Rattle.dt_laws.specs.NamedTrees.{TreeIsMeant}
 use Rattle.dt_laws.proofs.AskedNumbers.{named_apart}
@@ -37,6 +37,6 @@ tree_is_meant mode reservations places t numbers some valid_places reserved n is
           (subst (AreSymbols es (paths_of t)) (symbols_same t) (symbols_are es (nodes_of t)
           (λ x i.
           let a = listed_at t x (named_apart t is_named) i in
-          subst (λ (c : Content NodeReference). AreLabelsInOrder es x.path c.labels) a.same (n.order.labels x.path a.node a.is))));
+          subst (λ (c : Content NodeReference). AreLabelsInOrder es x.path c.labels) a.same (n.tree.order.labels x.path a.node a.is))));
       is = refl;
     }

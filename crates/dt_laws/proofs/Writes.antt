@@ -7,8 +7,8 @@ use Rattle.dt_model.specs.Names.{Name}
 use Rattle.dt_model.specs.Path.{Path, path_eq, is_bookkeeping}
 use Rattle.dt_model.specs.Lists.{IsIn}
 use Rattle.dt_model.specs.Meaning.{Item, byte, reference, cell, value_bytes, EachReference, Meaning, IsMeaning, IsPlain}
-use Rattle.dt_model.specs.Overlay.{OverlayReference, inside, outside, at_reference, Fragment, Overlay, IsOverlay, HoldsTarget}
-use Rattle.dt_model.specs.Object.{Cell, references_from, IsCellOf, local_cells, object_number, Encodes}
+use Rattle.dt_model.specs.Overlay.{object_number, OverlayReference, inside, outside, at_reference, Fragment, Overlay, IsOverlay, HoldsTarget}
+use Rattle.dt_model.specs.Object.{Cell, references_from, IsCellOf, local_cells, Encodes}
 use Rattle.dt_model.specs.Represents.{Represents}
 use Rattle.dt_model.specs.Numbers.{number_in}
 use Rattle.dt_model.specs.Tree.{Reading, nodes_of, value_in}
