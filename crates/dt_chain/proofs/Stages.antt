@@ -13,7 +13,7 @@ use Rattle.dt_model.specs.Valid as valid
 use Rattle.dt_model.specs.Source.{Mode, base, raw, duplicate_property, duplicate_node, duplicate_label, no_such_target, reserved_name, too_deep, misplaced, unresolved, bad_phandle, duplicate_phandle}
 use Rattle.dt_model.specs.Refused.{SourceRefusal, at_place, at_end, too_many as too_many_nodes}
 use Rattle.dt_model.specs.Named as named
-use Rattle.dt_model.specs.Named.{Named, NamedForest, NamedNode, no_nodes, branch, sibling, node_at, list_of, listed, node_count}
+use Rattle.dt_model.specs.Named.{NodeReference, Named, NamedForest, NamedNode, no_nodes, branch, sibling, node_at, list_of, listed, node_count}
 use Rattle.dt_model.specs.NamedOf.{IsNamed}
 use Rattle.dt_model.specs.Instance.{numbered_forest, instance_of, symbols_of, with_symbols, added, followed_by}
 use Rattle.dt_laws.specs.Sources.{SourceIsPlain}
@@ -41,7 +41,7 @@ not_named mode text s fault parsed why = subst (WhyNotCompiled mode text) (fault
 
 -- ---- room for the labels
 
-no_sibling : (numbers : List (Option ℕ)) (k : ℕ) (f : NamedForest ℕ) (x : Name) → sibling f x ≡ None → tree.sibling (numbered_forest numbers k f) x ≡ None
+no_sibling : (numbers : List (Option ℕ)) (k : ℕ) (f : NamedForest NodeReference) (x : Name) → sibling f x ≡ None → tree.sibling (numbered_forest numbers k f) x ≡ None
 no_sibling numbers k no_nodes x e = refl
 no_sibling numbers k (branch name content children siblings) x e = step (no_sibling numbers (suc k + node_count children) siblings x) (bytes_eq x name) refl
   where
@@ -54,20 +54,20 @@ none_mapped : {X Y : Type 0} (f : X → Y) (o : Option X) → option_map f o ≡
 none_mapped f None e = refl
 none_mapped f (Some x) e = absurd (let z : Some (f x) ≡ None = e in cc)
 
-pub room : (t : Named ℕ) (a : Arena) → HasRoom t → IsNumbered raw t (reading a) → child_of (named_children a.slots 0) (codes "__symbols__") ≡ None
+pub room : (t : Named NodeReference) (a : Arena) → HasRoom t → IsNumbered raw t (reading a) → child_of (named_children a.slots 0) (codes "__symbols__") ≡ None
 room t a h n =
     let none = subst (λ (u : Reading). tree.sibling u.children (codes "__symbols__") ≡ None) (sym n.is) (no_sibling n.numbers 1 t.children (codes "__symbols__") h.free) in
     none_mapped (has a.slots) (child_of (named_children a.slots 0) (codes "__symbols__")) (sym (sibling_below a.slots 0 (codes "__symbols__")) ∙ none)
 
-not_there : (n : NamedNode ℕ) (x : Name) → is_some (named.node_below n (x ∷ [])) ≡ false → sibling n.children x ≡ None
+not_there : (n : NamedNode NodeReference) (x : Name) → is_some (named.node_below n (x ∷ [])) ≡ false → sibling n.children x ≡ None
 not_there n x e = step (sibling n.children x) refl
   where
-    step : (o : Option (NamedNode ℕ)) → sibling n.children x ≡ o → sibling n.children x ≡ None
+    step : (o : Option (NamedNode NodeReference)) → sibling n.children x ≡ o → sibling n.children x ≡ None
     step None h = h
     step (Some c) h = absurd (true≢false (rw h at e))
 
 -- a base has no child in which its labels are kept
-pub base_has_room : SourceIsPlain → (text : List ℕ) (t : Named ℕ) → TextHasNamed base text t → HasRoom t
+pub base_has_room : SourceIsPlain → (text : List ℕ) (t : Named NodeReference) → TextHasNamed base text t → HasRoom t
 base_has_room plain text t h = record { free = not_there (named.root_of t) (codes "__symbols__") (step (is_some (node_at t (codes "__symbols__" ∷ []))) refl) }
   where
     step : (b : Bool) → is_some (node_at t (codes "__symbols__" ∷ [])) ≡ b → is_some (node_at t (codes "__symbols__" ∷ [])) ≡ false
@@ -75,12 +75,12 @@ base_has_room plain text t h = record { free = not_there (named.root_of t) (code
     step true e =
         let p = plain h.says.reservations h.says.places h.named.meaning h.named.means in
         let stands : h.named.meaning.stands (codes "__symbols__" ∷ []) ≡ true =
-        ap (λ (m : Rattle.dt_model.specs.Meaning.Meaning). m.stands (codes "__symbols__" ∷ [])) h.named.means.means ∙ sym (h.named.nodes (codes "__symbols__" ∷ [])) ∙ e in
+        ap (λ (m : Rattle.dt_model.specs.Meaning.Meaning). m.stands (codes "__symbols__" ∷ [])) h.named.means.means ∙ sym (h.named.tree.nodes (codes "__symbols__" ∷ [])) ∙ e in
         absurd (true≢false (p.plain (codes "__symbols__" ∷ []) stands))
 
 -- ---- the whole tree
 
-pub tree_of_text : TreeIsMeant → (mode : Mode) (text : List ℕ) (t : Named ℕ) (r : Reading) → TextHasNamed mode text t → IsNamed t → IsNumbered mode t r → TextHasTree mode text r
+pub tree_of_text : TreeIsMeant → (mode : Mode) (text : List ℕ) (t : Named NodeReference) (r : Reading) → TextHasNamed mode text t → IsNamed t → IsNumbered mode t r → TextHasTree mode text r
 tree_of_text meant mode text t r h ok n = record {
   says = h.says;
   parsed = h.parsed;
@@ -91,14 +91,14 @@ tree_of_text meant mode text t r h ok n = record {
 
 -- ---- too many nodes
 
-pub forest_count : (numbers : List (Option ℕ)) (k : ℕ) (f : NamedForest ℕ) → valid.node_count (numbered_forest numbers k f) ≡ node_count f
+pub forest_count : (numbers : List (Option ℕ)) (k : ℕ) (f : NamedForest NodeReference) → valid.node_count (numbered_forest numbers k f) ≡ node_count f
 forest_count numbers k no_nodes = refl
 forest_count numbers k (branch name content children siblings) =
     let inner = forest_count numbers (suc k) children in
     let outer = forest_count numbers (suc k + node_count children) siblings in
     omega (arith, inner, outer)
 
-list_count : (number parent : ℕ) (f : NamedForest ℕ) → length (listed number parent f) ≡ node_count f
+list_count : (number parent : ℕ) (f : NamedForest NodeReference) → length (listed number parent f) ≡ node_count f
 list_count number parent no_nodes = refl
 list_count number parent (branch name content children siblings) =
     let inner = list_count (suc number) number children in
@@ -114,7 +114,7 @@ many_with : (symbols : List Property) (t : Reading) → 0 < length symbols → v
 many_with [] t h = absurd (omega arith)
 many_with (s ∷ symbols) t h = one_more t.children (codes "__symbols__") (s ∷ symbols)
 
-too_many : (t : Named ℕ) (numbers : List (Option ℕ)) (count : ℕ) → count ≡ length (list_of t) → 0 < length (symbols_of t) → most_nodes ≤ count
+too_many : (t : Named NodeReference) (numbers : List (Option ℕ)) (count : ℕ) → count ≡ length (list_of t) → 0 < length (symbols_of t) → most_nodes ≤ count
     → most_nodes < 1 + valid.node_count (with_symbols (symbols_of t) (instance_of numbers t)).children
 too_many t numbers count e some h =
     let a = many_with (symbols_of t) (instance_of numbers t) some in
@@ -122,19 +122,19 @@ too_many t numbers count e some h =
     let c = list_count 1 0 t.children in
     omega (arith, e, a, b, c)
 
-pub no_labels : (t : Named ℕ) (r : Reading) (slots : List Slot) (kind : FaultKind) → IsNumbered raw t r → length slots ≡ length (list_of t) → WhyNoSymbols kind slots (symbols_of t) → WhyNotLabelled kind t
+pub no_labels : (t : Named NodeReference) (r : Reading) (slots : List Slot) (kind : FaultKind) → IsNumbered raw t r → length slots ≡ length (list_of t) → WhyNoSymbols kind slots (symbols_of t) → WhyNotLabelled kind t
 no_labels t r slots NoMemory n e why = tt
 no_labels t r slots Limit n e why = (why.0, subst (λ (k : ℕ). most_nodes ≤ k) e why.1, n.numbers, n.numbering)
 no_labels t r slots _ n e why = absurd why
 
-unlabelled : TreeIsMeant → (text : List ℕ) (t : Named ℕ) (kind : FaultKind) → TextHasNamed base text t → IsNamed t → WhyNotLabelled kind t → WhyNotCompiled base text (told kind)
+unlabelled : TreeIsMeant → (text : List ℕ) (t : Named NodeReference) (kind : FaultKind) → TextHasNamed base text t → IsNamed t → WhyNotLabelled kind t → WhyNotCompiled base text (told kind)
 unlabelled meant text t NoMemory h ok why = no_memory
 unlabelled meant text t Limit h ok why =
     many (with_symbols (symbols_of t) (instance_of why.2 t))
     (tree_of_text meant base text t _ h ok (record { numbers = why.2; numbering = why.3; is = refl })) (too_many t why.2 (length (list_of t)) refl why.0 why.1)
 unlabelled meant text t _ h ok why = absurd why
 
-pub not_labelled : TreeIsMeant → (text : List ℕ) (t : Named ℕ) (fault : Fault) → TextHasNamed base text t → IsNamed t → WhyNotLabelled fault.kind t × (fault.at ≡ None) → WhyNotCompiled base text fault
+pub not_labelled : TreeIsMeant → (text : List ℕ) (t : Named NodeReference) (fault : Fault) → TextHasNamed base text t → IsNamed t → WhyNotLabelled fault.kind t × (fault.at ≡ None) → WhyNotCompiled base text fault
 not_labelled meant text t fault h ok why = subst (WhyNotCompiled base text) (fault_is fault None why.1) (unlabelled meant text t fault.kind h ok why.0)
 
 pub not_numbered : (mode : Mode) (text : List ℕ) (fault : Fault) → (fault.kind ≡ NoMemory) × (fault.at ≡ None) → WhyNotCompiled mode text fault

@@ -4,10 +4,11 @@ use Rattle.std.specs.Prelude.{nat_lt}
 use Rattle.std.specs.List.{flat_map, list_any}
 use Rattle.std.proofs.lemmas.Bool.{ltb-true, ltb-false, or_cases, or_parts}
 use Rattle.std.proofs.lemmas.List.{append-nil, map-append, length-append, nil_from_length}
+use Rattle.std.specs.Cow.{cow_slice_items}
 use Rattle.dt_model.specs.Names.{Name}
 use Rattle.dt_model.specs.Path.{Path}
 use Rattle.dt_model.specs.Instance.{symbol, symbols_of}
-use Rattle.dt_model.specs.Named.{Content, NamedForest, no_nodes, branch, Named, NamedPlaced, Listed, node_count, nodes_of, listed, list_of}
+use Rattle.dt_model.specs.Named.{NodeReference, Content, NamedForest, no_nodes, branch, Named, NamedPlaced, Listed, node_count, nodes_of, listed, list_of}
 use Rattle.dt_model.specs.NamedOf.{contents_of, AreNamedNodes, IsNamed}
 use Rattle.dt_model.specs.Tree.{Property}
 use Rattle.dt_model.specs.Valid.{AreDistinct}
@@ -18,7 +19,7 @@ use Rattle.dt_marks.proofs.PathTexts.{symbols_among, symbols_same}
 
 -- ---- they may follow
 
-follow_forest : (n d : ℕ) (f : NamedForest ℕ) (rest : List (Listed ℕ)) (k p : ℕ) → p < k → AreNamedNodes n d f → MayFollow (k + node_count f) rest
+follow_forest : (n d : ℕ) (f : NamedForest NodeReference) (rest : List (Listed NodeReference)) (k p : ℕ) → p < k → AreNamedNodes n d f → MayFollow (k + node_count f) rest
     → MayFollow k (listed k p f ++ rest)
 follow_forest n d no_nodes rest k p lt h later = let e : k + 0 ≡ k = omega arith in subst (λ (m : ℕ). MayFollow m rest) e later
 follow_forest n d (branch name content children siblings) rest k p lt h later =
@@ -30,7 +31,7 @@ follow_forest n d (branch name content children siblings) rest k p lt h later =
     let inside = follow_forest n (suc d) children (outer ++ rest) (suc k) k (omega arith) h.4 beside in
     (lt, h.1.labels, subst (MayFollow (suc k)) (sym (append_assoc inner outer rest)) inside)
 
-pub are_all : (t : Named ℕ) → IsNamed t → AreAll (list_of t)
+pub are_all : (t : Named NodeReference) → IsNamed t → AreAll (list_of t)
 are_all t named =
     let n = 1 + node_count t.children in
     (named.root.labels, subst (MayFollow 1) (append-nil (listed 1 0 t.children)) (follow_forest n 1 t.children [] 1 0 (omega arith) named.nodes tt))
@@ -44,16 +45,16 @@ names_labelled : (path : Path) (labels : List Name) → map name_of (map (symbol
 names_labelled path [] = refl
 names_labelled path (l ∷ ls) = ap (λ (xs : List Name). l ∷ xs) (names_labelled path ls)
 
-names_among : (ns : List (NamedPlaced ℕ)) → map name_of (symbols_among ns) ≡ flat_map (λ (c : Content ℕ). c.labels) (map (λ (n : NamedPlaced ℕ). n.content) ns)
+names_among : (ns : List (NamedPlaced NodeReference)) → map name_of (symbols_among ns) ≡ flat_map (λ (c : Content NodeReference). c.labels) (map (λ (n : NamedPlaced NodeReference). n.content) ns)
 names_among [] = refl
 names_among (n ∷ ns) =
     map-append name_of (map (symbol n.path) n.content.labels) (symbols_among ns)
     ∙ (λ i. names_labelled n.path n.content.labels i ++ names_among ns i)
 
-names_all : (t : Named ℕ) → map name_of (symbols_of t) ≡ flat_map (λ (c : Content ℕ). c.labels) (contents_of t)
+names_all : (t : Named NodeReference) → map name_of (symbols_of t) ≡ flat_map (λ (c : Content NodeReference). c.labels) (contents_of t)
 names_all t = ap (map name_of) (sym (symbols_same t)) ∙ names_among (nodes_of t)
 
-pub differ : (t : Named ℕ) → IsNamed t → AreDistinct (map (λ (x : Property). x.name) (symbols_of t))
+pub differ : (t : Named NodeReference) → IsNamed t → AreDistinct (map (λ (x : Property). x.name) (symbols_of t))
 differ t named = subst (AreDistinct {X = Name}) (sym (names_all t)) named.labels
 
 -- ---- whether there are some
@@ -65,7 +66,7 @@ none_behind : (value lengths : List ℕ) (nodes : List NamedNode) → list_any h
 none_behind value lengths [] h = refl
 none_behind value lengths (n ∷ ns) h =
     let both = or_parts (has_labels n) (list_any has_labels ns) h in
-    let text = text_behind value lengths n.parent n.name.now in
+    let text = text_behind value lengths n.parent (cow_slice_items n.name) in
     let own : length n.labels.items ≡ 0 = omega (arith, ltb-false 0 (length n.labels.items) both.0) in
     ap (λ (ls : List (Bor Name)). map (labelled (text ++ 0 ∷ [])) (map (λ l. l.now) ls) ++ symbols_behind (text ++ 0 ∷ []) (lengths ++ length text ∷ []) (map node_said ns)) (nil_from_length n.labels.items own)
     ∙ none_behind (text ++ 0 ∷ []) (lengths ++ length text ∷ []) ns both.1
@@ -85,7 +86,7 @@ length-labelled path (l ∷ ls) = ap suc (length-labelled path ls)
 some_behind : (value lengths : List ℕ) (nodes : List NamedNode) → list_any has_labels nodes ≡ true → 0 < length (symbols_behind value lengths (map node_said nodes))
 some_behind value lengths [] h = cc
 some_behind value lengths (n ∷ ns) h =
-    let text = text_behind value lengths n.parent n.name.now in
+    let text = text_behind value lengths n.parent (cow_slice_items n.name) in
     let here = text ++ 0 ∷ [] in
     let ends = lengths ++ length text ∷ [] in
     let own = map (labelled here) (map (λ (l : Bor Name). l.now) n.labels.items) in

@@ -4,7 +4,7 @@ use Rattle.std.proofs.lemmas.List.{append-nil, length-append, length_push, take_
 use Rattle.dt_model.specs.Names.{Name}
 use Rattle.dt_model.specs.Path.{Path, path_text}
 use Rattle.dt_model.specs.Instance.{symbol, symbols_of}
-use Rattle.dt_model.specs.Named.{NamedForest, no_nodes, branch, Named, NamedPlaced, Listed, node_count, preorder, nodes_of, listed, list_of}
+use Rattle.dt_model.specs.Named.{NodeReference, NamedForest, no_nodes, branch, Named, NamedPlaced, Listed, node_count, preorder, nodes_of, listed, list_of}
 use Rattle.dt_model.specs.Tree.{Property}
 use Rattle.dt_marks.specs.Paths.{text_behind, labelled, symbols_behind, all_symbols}
 
@@ -29,25 +29,25 @@ text_last (y ∷ p) x = text_slashed y (p ++ x ∷ [])
 
 -- ---- the labels of some nodes
 
-abbrev pub symbols_among : List (NamedPlaced ℕ) → List Property
+abbrev pub symbols_among : List (NamedPlaced NodeReference) → List Property
 symbols_among [] = []
 symbols_among (n ∷ ns) = map (symbol n.path) n.content.labels ++ symbols_among ns
 
-among-append : (xs ys : List (NamedPlaced ℕ)) → symbols_among (xs ++ ys) ≡ symbols_among xs ++ symbols_among ys
+among-append : (xs ys : List (NamedPlaced NodeReference)) → symbols_among (xs ++ ys) ≡ symbols_among xs ++ symbols_among ys
 among-append [] ys = refl
 among-append (x ∷ xs) ys =
     ap (λ (ps : List Property). map (symbol x.path) x.content.labels ++ ps) (among-append xs ys)
     ∙ sym (append_assoc (map (symbol x.path) x.content.labels) (symbols_among xs) (symbols_among ys))
 
 -- Behind the nodes below a node of this path that were met, these labels were found, and the text of the path is still kept.
-record Walked (rest : List (Listed ℕ)) (whole own : List Property) (count : ℕ) (lengths : List ℕ) (path : Path) : Type 0 where
+record Walked (rest : List (Listed NodeReference)) (whole own : List Property) (count : ℕ) (lengths : List ℕ) (path : Path) : Type 0 where
   value : List ℕ
   more : List ℕ
   counted : length (lengths ++ more) ≡ count
   kept : take (length (slashed path)) value ≡ slashed path
   is : whole ≡ own ++ symbols_behind value (lengths ++ more) rest
 
-walk_forest : (f : NamedForest ℕ) (rest : List (Listed ℕ)) (value lengths : List ℕ) (k p : ℕ) (path : Path)
+walk_forest : (f : NamedForest NodeReference) (rest : List (Listed NodeReference)) (value lengths : List ℕ) (k p : ℕ) (path : Path)
     → length lengths ≡ k → p < k → get_or lengths p 0 ≡ length (slashed path) → take (length (slashed path)) value ≡ slashed path
     → Walked rest (symbols_behind value lengths (listed k p f ++ rest)) (symbols_among (preorder path f)) (k + node_count f) lengths path
 walk_forest no_nodes rest value lengths k p path counted lt at kept = record {
@@ -90,7 +90,7 @@ walk_forest (branch name content children siblings) rest value lengths k p path 
       counted = ap length (sym regroup) ∙ v.counted ∙ (let e : j + node_count siblings ≡ k + (1 + node_count children + node_count siblings) = omega arith in e);
       kept = v.kept;
       is = ap (λ (t : List ℕ). map (labelled (t ++ 0 ∷ [])) labels ++ symbols_behind (t ++ 0 ∷ []) (lengths ++ length t ∷ []) ((inner ++ outer) ++ rest)) is_text
-          ∙ ap (λ (ns : List (Listed ℕ)). map (labelled here) labels ++ symbols_behind here ends ns) (append_assoc inner outer rest)
+          ∙ ap (λ (ns : List (Listed NodeReference)). map (labelled here) labels ++ symbols_behind here ends ns) (append_assoc inner outer rest)
           ∙ ap (λ (ps : List Property). map (labelled here) labels ++ ps) (u.is ∙ ap (λ (ps : List Property). among_inner ++ ps) v.is)
           ∙ grouped (map (labelled here) labels) among_inner among_outer last
           ∙ (λ i. (own_labels i ++ sym (among-append (preorder own children) (preorder path siblings)) i) ++ last)
@@ -103,14 +103,14 @@ walk_forest (branch name content children siblings) rest value lengths k p path 
     grouped : (a b c d : List Property) → a ++ (b ++ (c ++ d)) ≡ (a ++ (b ++ c)) ++ d
     grouped a b c d = ap (λ (ps : List Property). a ++ ps) (sym (append_assoc b c d)) ∙ sym (append_assoc a (b ++ c) d)
 
-pub symbols_same : (t : Named ℕ) → symbols_among (nodes_of t) ≡ symbols_of t
+pub symbols_same : (t : Named NodeReference) → symbols_among (nodes_of t) ≡ symbols_of t
 symbols_same t = refl
 
 -- the labels that are found along the list of a tree
-pub symbols_are : (t : Named ℕ) → all_symbols (list_of t) ≡ symbols_of t
+pub symbols_are : (t : Named NodeReference) → all_symbols (list_of t) ≡ symbols_of t
 symbols_are t =
     let w = walk_forest t.children [] [] (0 ∷ []) 1 0 [] refl (omega arith) refl refl in
     let first = map (symbol []) t.content.labels in
-    ap (λ (ns : List (Listed ℕ)). first ++ symbols_behind [] (0 ∷ []) ns) (sym (append-nil (listed 1 0 t.children)))
+    ap (λ (ns : List (Listed NodeReference)). first ++ symbols_behind [] (0 ∷ []) ns) (sym (append-nil (listed 1 0 t.children)))
     ∙ ap (λ (ps : List Property). first ++ ps) (w.is ∙ append-nil (symbols_among (preorder [] t.children)))
     ∙ symbols_same t

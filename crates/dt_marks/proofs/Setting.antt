@@ -5,6 +5,7 @@ use Rattle.std.specs.List.{AllByRecursion}
 use Rattle.std.proofs.lemmas.Bool.{or_cases, or_right}
 use Rattle.std.proofs.lemmas.List.{drop_more, length_push}
 use Rattle.std.proofs.lemmas.List.Elements.{All-weaker}
+use Rattle.std.specs.Cow.{cow_slice_items}
 use Rattle.dt_model.specs.Names.{Name, IsLabel, IsPropertyName, is_letter, is_digit, is_name_byte}
 use Rattle.dt_model.specs.Tree.{Property}
 use Rattle.dt_flat.specs.Arena.{Arena, Slot, with_property}
@@ -69,12 +70,14 @@ pub next_node : (nodes : List NamedNode) (i : ℕ) (n : NamedNode) → i < lengt
 next_node nodes i n lt is = drop_more nodes i n lt ∙ ap (λ (m : NamedNode). m ∷ drop (i + 1) nodes) (sym is)
 
 -- the labels of a node, and those of the nodes that follow
-pub node_turn : (left rest : List NamedNode) (n : NamedNode) (value lengths here after path : List ℕ) (labels : List (Bor Name)) → left ≡ n ∷ rest
-    → here ≡ text_behind value lengths n.parent n.name.now ++ 0 ∷ [] → after ≡ lengths ++ length (text_behind value lengths n.parent n.name.now) ∷ []
+pub node_turn : (left rest : List NamedNode) (n : NamedNode) (name : Name) (value lengths here after path : List ℕ) (labels : List (Bor Name)) → left ≡ n ∷ rest
+    → name ≡ cow_slice_items n.name → here ≡ text_behind value lengths n.parent name ++ 0 ∷ [] → after ≡ lengths ++ length (text_behind value lengths n.parent name) ∷ []
     → path ≡ here → labels ≡ n.labels.items
     → symbols_behind value lengths (map node_said left) ≡ map (labelled path) (map (λ b. b.now) labels) ++ symbols_behind here after (map node_said rest)
-node_turn left rest n value lengths here after path labels first valued counted is are =
+node_turn left rest n name value lengths here after path labels first named valued counted is are =
+    let text : Name → List ℕ = text_behind value lengths n.parent in
     ap (λ (ns : List NamedNode). symbols_behind value lengths (map node_said ns)) first
+    ∙ ap (λ (x : Name). map (labelled (text x ++ 0 ∷ [])) (map (λ (b : Bor Name). b.now) n.labels.items) ++ symbols_behind (text x ++ 0 ∷ []) (lengths ++ length (text x) ∷ []) (map node_said rest)) (sym named)
     ∙ (λ i. map (labelled (sym (is ∙ valued) i)) (map (λ (b : Bor Name). b.now) (sym are i)) ++ symbols_behind (sym valued i) (sym counted i) (map node_said rest))
 
 pub follow_turn : (left rest : List NamedNode) (n : NamedNode) (lengths after : List ℕ) (size : ℕ) → left ≡ n ∷ rest → after ≡ lengths ++ size ∷ []

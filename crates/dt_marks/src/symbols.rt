@@ -61,7 +61,7 @@ fn add_others(
     ensures refused { IfErr result (λ fault. (fault.kind ≡ NoMemory) × (fault.at ≡ None)) }
 {
     for node in nodes {
-        path.enter(node.parent, node.name)?;
+        path.enter(node.parent, node.name.as_slice())?;
         add_labels(tree, symbols, &node.labels, &path.value)?;
     }
     Ok(())

@@ -1,5 +1,5 @@
 -- Which numbers are written, and which nodes are keyed, as they are found.
-use Rattle.std.proofs.Common.{◌≡◌, ℕ, zero, suc, ◌+◌, ◌<◌, ◌≤◌, ◌↔◌, Bool, true, false, ◌||◌, cond, List, [], ◌∷◌, ◌++◌, length, map, take, drop, get_or, set, Option, Some, None, IsSome, IfSome, refl, sym, ap, ◌∙◌, arith, subst, append_assoc}
+use Rattle.std.proofs.Common.{◌≡◌, ℕ, zero, suc, ◌+◌, ◌<◌, ◌≤◌, ◌↔◌, Bool, true, false, ◌||◌, cond, List, [], ◌∷◌, ◌++◌, length, map, take, drop, get_or, set, Option, Some, None, IsSome, IfSome, refl, sym, ap, ◌∙◌, arith, append_assoc}
 use Rattle.std.specs.Prelude.{nat_eq, nat_le, ◌&&◌}
 use Rattle.std.specs.Int.{w32, from_be_bytes}
 use Rattle.std.specs.Str.{bytes_eq}
@@ -8,23 +8,24 @@ use Rattle.std.proofs.Math.Bool.{or_assoc}
 use Rattle.std.proofs.lemmas.Bool.{or_right, ne_eqb, eq-eqb, leb-true, le-leb}
 use Rattle.std.proofs.lemmas.List.{append-nil, drop_all, drop_more, nil_from_length, take_at}
 use Rattle.dt_model.specs.Meaning.{Item, byte, reference, EachReference}
-use Rattle.dt_model.specs.Named.{Content, number_of, value_of}
+use Rattle.dt_model.specs.Overlay.{inside, outside}
+use Rattle.dt_model.specs.Named.{NodeReference, Content, number_of, value_of}
 use Rattle.dt_model.specs.NamedOf.{asked, asked_from}
 use Rattle.dt_model.specs.Numbering as model
 use Rattle.dt_model.specs.Source.{in_range}
 use Rattle.dt_model.specs.Valid.{IsPhandle}
-use Rattle.dt_source.specs.Said.{pieces_said, value_said, property_said}
+use Rattle.dt_source.specs.Said.{reference_said, pieces_said, value_said, property_said}
 use Rattle.dt_source.specs.declared.named.NamedNode.{NamedNode}
 use Rattle.dt_source.specs.declared.named.NamedPiece.{NamedPiece}
 use Rattle.dt_source.specs.declared.named.NamedProperty.{NamedProperty}
 use Rattle.dt_source.specs.declared.named.NamedValue.{NamedValue}
 use Rattle.dt_phandle.specs.declared.asked.Asked.{Asked}
-use Rattle.dt_phandle.specs.Asking.{asked_said, content_said, own, keyed_too, is_in_value, is_in_nodes}
+use Rattle.dt_phandle.specs.Asking.{asked_said, content_said, own, keyed_too, is_to, is_in_value, is_in_nodes}
 
 -- ---- the number that a value writes
 
 -- a value with a reference writes none
-no_number : (before : List ℕ) (k : ℕ) (rest : List (Item ℕ)) → number_of (map byte before ++ reference k ∷ rest) ≡ None
+no_number : (before : List ℕ) (k : NodeReference) (rest : List (Item NodeReference)) → number_of (map byte before ++ reference k ∷ rest) ≡ None
 no_number [] k rest = refl
 no_number (a ∷ []) k rest = refl
 no_number (a ∷ b ∷ []) k rest = refl
@@ -35,8 +36,8 @@ no_number (a ∷ b ∷ c ∷ d ∷ e ∷ before) k rest = refl
 pub no_number_behind : (pieces : List NamedPiece) (bytes : List ℕ) → 0 < length pieces → number_of (pieces_said pieces ++ map byte bytes) ≡ None
 no_number_behind [] bytes some = absurd (omega arith)
 no_number_behind (p ∷ ps) bytes some =
-    ap number_of (append_assoc (map byte p.before.items) (reference p.node ∷ pieces_said ps) (map byte bytes))
-    ∙ no_number p.before.items p.node (pieces_said ps ++ map byte bytes)
+    ap number_of (append_assoc (map byte p.before.items) (reference (reference_said p.reference) ∷ pieces_said ps) (map byte bytes))
+    ∙ no_number p.before.items (reference_said p.reference) (pieces_said ps ++ map byte bytes)
 
 in_range_is : (n : ℕ) → 1 ≤ n → n ≤ 0xfffffffe → in_range n ≡ Some n
 in_range_is n low high = λ i. cond (le-leb 1 n low i && le-leb n 0xfffffffe high i) (Some n) None
@@ -49,7 +50,7 @@ out_of_range n not = by (nat_le 1 n) (nat_le n 0xfffffffe) refl refl
     by true false e d = refl
     by true true e d = absurd (not (leb-true 1 n e) (leb-true n 0xfffffffe d))
 
-written_number : (bytes : List ℕ) → IsPhandle bytes → number_of {R = ℕ} (map byte bytes) ≡ Some (from_be_bytes w32 bytes)
+written_number : (bytes : List ℕ) → IsPhandle bytes → number_of {R = NodeReference} (map byte bytes) ≡ Some (from_be_bytes w32 bytes)
 written_number [] h = absurd (omega (arith, h.four))
 written_number (a ∷ []) h = absurd (omega (arith, h.four))
 written_number (a ∷ b ∷ []) h = absurd (omega (arith, h.four))
@@ -57,7 +58,7 @@ written_number (a ∷ b ∷ c ∷ []) h = absurd (omega (arith, h.four))
 written_number (a ∷ b ∷ c ∷ d ∷ []) h = in_range_is (from_be_bytes w32 (a ∷ b ∷ c ∷ d ∷ [])) h.low h.high
 written_number (a ∷ b ∷ c ∷ d ∷ e ∷ bytes) h = absurd (omega (arith, h.four))
 
-unwritten_number : (bytes : List ℕ) → (IsPhandle bytes → ⊥) → number_of {R = ℕ} (map byte bytes) ≡ None
+unwritten_number : (bytes : List ℕ) → (IsPhandle bytes → ⊥) → number_of {R = NodeReference} (map byte bytes) ≡ None
 unwritten_number [] not = refl
 unwritten_number (a ∷ []) not = refl
 unwritten_number (a ∷ b ∷ []) not = refl
@@ -66,7 +67,7 @@ unwritten_number (a ∷ b ∷ c ∷ d ∷ []) not = out_of_range (from_be_bytes 
 unwritten_number (a ∷ b ∷ c ∷ d ∷ e ∷ bytes) not = refl
 
 -- what is found in bytes alone is what they write
-pub number_found : (bytes : List ℕ) (r : Option ℕ) → IsSome r ↔ IsPhandle bytes → IfSome r (λ n. n ≡ from_be_bytes w32 bytes) → r ≡ number_of {R = ℕ} (map byte bytes)
+pub number_found : (bytes : List ℕ) (r : Option ℕ) → IsSome r ↔ IsPhandle bytes → IfSome r (λ n. n ≡ from_be_bytes w32 bytes) → r ≡ number_of {R = NodeReference} (map byte bytes)
 number_found bytes None is same = sym (unwritten_number bytes (λ h. cc (is.1 h)))
 number_found bytes (Some n) is same = ap (λ (m : ℕ). Some m) same ∙ sym (written_number bytes (is.0 refl))
 
@@ -75,7 +76,7 @@ pub number_alone : (v : NamedValue) (bytes : List ℕ) (r : Option ℕ) → leng
     → IsSome r ↔ IsPhandle bytes → IfSome r (λ n. n ≡ from_be_bytes w32 bytes) → r ≡ number_of (value_said v)
 number_alone v bytes r none are is same =
     number_found bytes r is same
-    ∙ ap (λ (bs : List ℕ). number_of {R = ℕ} (map byte bs)) are
+    ∙ ap (λ (bs : List ℕ). number_of {R = NodeReference} (map byte bs)) are
     ∙ ap (λ (ps : List NamedPiece). number_of (pieces_said ps ++ map byte v.bytes.items)) (sym (nil_from_length v.pieces.items none))
 
 -- ---- the property of a name
@@ -99,7 +100,7 @@ value_first ps rest p x name b are named is =
 
 -- ---- which nodes a value refers to
 
-pub in_value_behind : (before : List ℕ) (n : ℕ) (rest : List (Item ℕ)) (k : ℕ) → is_in_value (map byte before ++ reference n ∷ rest) k ≡ nat_eq n k || is_in_value rest k
+pub in_value_behind : (before : List ℕ) (n : NodeReference) (rest : List (Item NodeReference)) (k : ℕ) → is_in_value (map byte before ++ reference n ∷ rest) k ≡ is_to n k || is_in_value rest k
 in_value_behind [] n rest k = refl
 in_value_behind (b ∷ before) n rest k = in_value_behind before n rest k
 
@@ -107,7 +108,7 @@ pub in_bytes : (bytes : List ℕ) (k : ℕ) → is_in_value (map byte bytes) k �
 in_bytes [] k = refl
 in_bytes (b ∷ bytes) k = in_bytes bytes k
 
-pub each_behind : (P : ℕ → Type 0) (before : List ℕ) (n : ℕ) (rest : List (Item ℕ)) → EachReference P (map byte before ++ reference n ∷ rest) → P n × EachReference P rest
+pub each_behind : (P : NodeReference → Type 0) (before : List ℕ) (n : NodeReference) (rest : List (Item NodeReference)) → EachReference P (map byte before ++ reference n ∷ rest) → P n × EachReference P rest
 each_behind P [] n rest h = h
 each_behind P (b ∷ before) n rest h = each_behind P before n rest h
 
@@ -117,10 +118,10 @@ next_item {X = X} xs i x lt is = drop_more xs i x lt ∙ ap (λ (y : X). y ∷ d
 
 -- what is left of a value whose next piece this is
 pub piece_next : (items : List NamedPiece) (bytes : List ℕ) (i : ℕ) (p : NamedPiece) → drop i items ≡ p ∷ drop (i + 1) items
-    → pieces_said (drop i items) ++ map byte bytes ≡ map byte p.before.items ++ reference p.node ∷ (pieces_said (drop (i + 1) items) ++ map byte bytes)
+    → pieces_said (drop i items) ++ map byte bytes ≡ map byte p.before.items ++ reference (reference_said p.reference) ∷ (pieces_said (drop (i + 1) items) ++ map byte bytes)
 piece_next items bytes i p next =
     ap (λ (ps : List NamedPiece). pieces_said ps ++ map byte bytes) next
-    ∙ append_assoc (map byte p.before.items) (reference p.node ∷ pieces_said (drop (i + 1) items)) (map byte bytes)
+    ∙ append_assoc (map byte p.before.items) (reference (reference_said p.reference) ∷ pieces_said (drop (i + 1) items)) (map byte bytes)
 
 -- ---- which nodes are keyed
 
@@ -153,22 +154,14 @@ keyed_one (x ∷ xs) zero k m d at lt =
 keyed_one (x ∷ xs) (suc j) k m d at lt =
     λ i. record { written = x.written; keyed = sym (or_false x.keyed (nat_eq m k) (ne_eqb m k (λ e. omega arith))) i } ∷ keyed_one xs j (suc k) m d (omega arith) (omega arith) i
 
--- one piece of a value: what is left behind it keys what the value did
-pub value_turn : (v w : List (Item ℕ)) (before : List ℕ) (n : ℕ) (now : List Asked) (d : Asked) (size : ℕ) (whole : List model.Asked)
-    → v ≡ map byte before ++ reference n ∷ w → length now ≡ size → EachReference (λ k. k < size) v → keyed_too (is_in_value v) 0 (map asked_said now) ≡ whole
-    → (n < length now) × EachReference (λ k. k < size) w
-    × (keyed_too (is_in_value w) 0 (map asked_said (set now n (record { written = (get_or now n d).written; keyed = true }))) ≡ whole)
-value_turn v w before n now d size whole is long referred same =
-    let P : ℕ → Type 0 = λ k. k < size in
-    let parts = each_behind P before n w (subst (EachReference P) is referred) in
-    let lt : n < length now = omega arith in (
-      lt,
-      parts.1,
-      ap (keyed_too (is_in_value w) 0) (keyed_one now n 0 n d (omega arith) lt)
-          ∙ keyed_both (nat_eq n) (is_in_value w) 0 (map asked_said now)
-          ∙ keyed_same (λ k. nat_eq n k || is_in_value w k) (is_in_value v) 0 (map asked_said now) (λ k. sym (in_value_behind before n w k) ∙ ap (λ (u : List (Item ℕ)). is_in_value u k) (sym is))
-          ∙ same,
-    )
+-- the node of a reference is keyed
+pub keyed_to : (now new : List Asked) (n : ℕ) (d : Asked) → n < length now → new ≡ set now n (record { written = (get_or now n d).written; keyed = true })
+    → map asked_said new ≡ keyed_too (is_to (inside n)) 0 (map asked_said now)
+keyed_to now new n d lt is = ap (map asked_said) is ∙ keyed_one now n 0 n d (omega arith) lt
+
+-- a label keys none
+pub keyed_outside : (l : List ℕ) (now : List Asked) → map asked_said now ≡ keyed_too (is_to (outside l)) 0 (map asked_said now)
+keyed_outside l now = sym (keyed_none (is_to (outside l)) 0 (map asked_said now) (λ n le. refl))
 
 -- what nothing is left of keys no more
 pub value_over : (bytes : List ℕ) (items : List NamedPiece) (i : ℕ) (now : List model.Asked) (whole : List model.Asked) → length items ≤ i
@@ -186,7 +179,7 @@ several_turn f g all before now whole split is same =
     ap (keyed_too g 0) is ∙ keyed_both f g 0 (map asked_said before) ∙ sym (keyed_same all (λ k. f k || g k) 0 (map asked_said before) split) ∙ same
 
 -- what nodes ask for is what each asks for, references to it aside, where those are keyed too to which nodes refer
-pub asked_by_all : (all : List (Content ℕ)) (k : ℕ) (cs : List (Content ℕ)) → keyed_too (is_in_nodes all) k (map own cs) ≡ asked_from all k cs
+pub asked_by_all : (all : List (Content NodeReference)) (k : ℕ) (cs : List (Content NodeReference)) → keyed_too (is_in_nodes all) k (map own cs) ≡ asked_from all k cs
 asked_by_all all k [] = refl
 asked_by_all all k (c ∷ cs) = ap (λ (xs : List model.Asked). asked all k c ∷ xs) (asked_by_all all (suc k) cs)
 

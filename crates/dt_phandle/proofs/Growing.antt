@@ -3,7 +3,7 @@ use Rattle.std.proofs.Common.{◌≡◌, ℕ, suc, ◌+◌, ◌<◌, Option, Lis
 use Rattle.std.proofs.lemmas.List.{append-nil}
 use Rattle.dt_model.specs.Names.{Name}
 use Rattle.dt_model.specs.Instance.{numbered_properties, numbered_forest, instance_of}
-use Rattle.dt_model.specs.Named.{Content, NamedForest, no_nodes, branch, Named, Listed, NamedList, node_count, listed, list_of, tree_of}
+use Rattle.dt_model.specs.Named.{NodeReference, Content, NamedForest, no_nodes, branch, Named, Listed, NamedList, node_count, listed, list_of, tree_of}
 use Rattle.dt_model.specs.Tree.{Property}
 use Rattle.dt_model.specs.Valid.{AreNodes, IsValid}
 use Rattle.dt_flat.specs.Arena.{Arena, Slot, root_alone, with_child, with_property, reading}
@@ -39,7 +39,7 @@ may_parts slots p (x ∷ xs) ys h =
 -- ---- what the nodes make
 
 module _ (numbers : List (Option ℕ)) where
-  length-planted : (f : NamedForest ℕ) (k : ℕ) (slots : List Slot) (p : ℕ) → length (planted slots p (numbered_forest numbers k f)) ≡ length slots + node_count f
+  length-planted : (f : NamedForest NodeReference) (k : ℕ) (slots : List Slot) (p : ℕ) → length (planted slots p (numbered_forest numbers k f)) ≡ length slots + node_count f
   length-planted no_nodes k slots p = omega arith
   length-planted (branch name content children siblings) k slots p =
       let own = with_properties (with_child slots p name) (length slots) (numbered_properties numbers k content) in
@@ -50,18 +50,18 @@ module _ (numbers : List (Option ℕ)) where
       omega (arith, length-with_child slots p name)
 
   -- the branch that comes next, where its node has number k
-  abbrev own_of : List Slot → ℕ → ℕ → Name → Content ℕ → List Slot
+  abbrev own_of : List Slot → ℕ → ℕ → Name → Content NodeReference → List Slot
   own_of slots p k name content = with_properties (with_child slots p name) k (numbered_properties numbers k content)
 
-  length-own : (slots : List Slot) (p k : ℕ) (name : Name) (content : Content ℕ) → length (own_of slots p k name content) ≡ suc (length slots)
+  length-own : (slots : List Slot) (p k : ℕ) (name : Name) (content : Content NodeReference) → length (own_of slots p k name content) ≡ suc (length slots)
   length-own slots p k name content =
       let own = length-with_properties (with_child slots p name) k (numbered_properties numbers k content) in
       omega (arith, length-with_child slots p name)
 
-  regrouped : (inner outer rest : List (Listed ℕ)) → (inner ++ outer) ++ rest ≡ inner ++ (outer ++ rest)
+  regrouped : (inner outer rest : List (Listed NodeReference)) → (inner ++ outer) ++ rest ≡ inner ++ (outer ++ rest)
   regrouped inner outer rest = append_assoc inner outer rest
 
-  grown_forest : (f : NamedForest ℕ) (rest : List (Listed ℕ)) (slots : List Slot) (k p : ℕ) → length slots ≡ k
+  grown_forest : (f : NamedForest NodeReference) (rest : List (Listed NodeReference)) (slots : List Slot) (k p : ℕ) → length slots ≡ k
       → grown numbers slots (listed k p f ++ rest) ≡ grown numbers (planted slots p (numbered_forest numbers k f)) rest
   grown_forest no_nodes rest slots k p e = refl
   grown_forest (branch name content children siblings) rest slots k p e =
@@ -79,7 +79,7 @@ module _ (numbers : List (Option ℕ)) where
       ∙ ap (λ (n : ℕ). grown numbers (planted (planted (with_properties (with_child slots p name) n (numbered_properties numbers k content)) n
       (numbered_forest numbers (suc k) children)) p (numbered_forest numbers j siblings)) rest) (sym e)
 
-  grown_tree : (t : Named ℕ) → grown_all numbers (root_alone 0).slots (list_of t) ≡ planted_tree (numbered_properties numbers 0 t.content) (numbered_forest numbers 1 t.children)
+  grown_tree : (t : Named NodeReference) → grown_all numbers (root_alone 0).slots (list_of t) ≡ planted_tree (numbered_properties numbers 0 t.content) (numbered_forest numbers 1 t.children)
   grown_tree t =
       let root = with_properties (root_alone 0).slots 0 (numbered_properties numbers 0 t.content) in
       ap (grown numbers root) (sym (append-nil (listed 1 0 t.children)))
@@ -87,7 +87,7 @@ module _ (numbers : List (Option ℕ)) where
 
   -- ---- nothing is in their way
 
-  may_forest : (f : NamedForest ℕ) (rest : List (Listed ℕ)) (slots : List Slot) (k p : ℕ) → length slots ≡ k → p < k → AreNodes (numbered_forest numbers k f)
+  may_forest : (f : NamedForest NodeReference) (rest : List (Listed NodeReference)) (slots : List Slot) (k p : ℕ) → length slots ≡ k → p < k → AreNodes (numbered_forest numbers k f)
       → MayPlant slots p (numbered_forest numbers k f) → MayGrow numbers (planted slots p (numbered_forest numbers k f)) rest
       → MayGrow numbers slots (listed k p f ++ rest)
   may_forest no_nodes rest slots k p e lt nodes may later = later
@@ -110,7 +110,7 @@ module _ (numbers : List (Option ℕ)) where
       let beside = may_forest siblings rest under j p more (omega arith) nodes.4 may_beside after in
       let inside = may_forest children (outer ++ rest) own (suc k) k size (omega arith) nodes.2 may_under beside in
       let further : MayGrow numbers own ((inner ++ outer) ++ rest) = subst (MayGrow numbers own) (sym (append_assoc inner outer rest)) inside in
-      let node : Listed ℕ = record { parent = p; name = name; content = content } in
+      let node : Listed NodeReference = record { parent = p; name = name; content = content } in
       let first : MayHave (with_child slots p name) k properties =
       record { there = omega (arith, length-with_child slots p name); named = nodes.1.named; may = subst (λ (n : ℕ). MaySetAll (with_child slots p name) n properties) e may.1 } in
       let come : MayCome numbers slots node = record {
@@ -121,7 +121,7 @@ module _ (numbers : List (Option ℕ)) where
       } in
       (come, subst (λ (n : ℕ). MayGrow numbers (own_of slots p n name content) ((inner ++ outer) ++ rest)) (sym e) further)
 
-  may_tree : (t : Named ℕ) → IsValid (instance_of numbers t) → MayMake (numbered_properties numbers 0 t.content) (numbered_forest numbers 1 t.children)
+  may_tree : (t : Named NodeReference) → IsValid (instance_of numbers t) → MayMake (numbered_properties numbers 0 t.content) (numbered_forest numbers 1 t.children)
       → MayGrowAll numbers (root_alone 0).slots (list_of t)
   may_tree t valid may =
       let properties = numbered_properties numbers 0 t.content in
@@ -134,7 +134,7 @@ module _ (numbers : List (Option ℕ)) where
 
   -- ---- the tree that is made
 
-  pub may_follow : (l : NamedList ℕ) (nodes : List NamedNode) (rs : List (ℕ × ℕ)) (begun reserved : Arena) → list_of (tree_of l) ≡ l.nodes → map node_said nodes ≡ l.nodes
+  pub may_follow : (l : NamedList NodeReference) (nodes : List NamedNode) (rs : List (ℕ × ℕ)) (begun reserved : Arena) → list_of (tree_of l) ≡ l.nodes → map node_said nodes ≡ l.nodes
       → begun ≡ root_alone 0 → reserved ≡ record begun { reservations = begun.reservations ++ rs } → IsValid (instance_of numbers (tree_of l))
       → MayMake (numbered_properties numbers 0 (tree_of l).content) (numbered_forest numbers 1 (tree_of l).children)
       → MayGrowAll numbers reserved.slots (map node_said nodes)
@@ -144,7 +144,7 @@ module _ (numbers : List (Option ℕ)) where
       subst (λ (slots : List Slot). MayGrowAll numbers slots (map node_said nodes)) same
       (subst (MayGrowAll numbers (root_alone 0).slots) all (may_tree (tree_of l) valid may))
 
-  pub made : (l : NamedList ℕ) (nodes : List NamedNode) (rs : List (ℕ × ℕ)) (begun reserved whole : Arena) → list_of (tree_of l) ≡ l.nodes → map node_said nodes ≡ l.nodes
+  pub made : (l : NamedList NodeReference) (nodes : List NamedNode) (rs : List (ℕ × ℕ)) (begun reserved whole : Arena) → list_of (tree_of l) ≡ l.nodes → map node_said nodes ≡ l.nodes
       → begun ≡ root_alone 0 → rs ≡ l.reservations → reserved ≡ record begun { reservations = begun.reservations ++ rs }
       → whole ≡ record reserved { slots = grown_all numbers reserved.slots (map node_said nodes) }
       → reading (arena_of (instance_of numbers (tree_of l))) ≡ instance_of numbers (tree_of l)
@@ -166,7 +166,7 @@ filled_count : (slots : List Slot) (p : ℕ) (xs : List Property) → length (wi
 filled_count slots p [] = refl
 filled_count slots p (x ∷ xs) = filled_count (with_property slots p x.name x.value) p xs ∙ length-with_property slots p x.name x.value
 
-grown_count : (numbers : List (Option ℕ)) (slots : List Slot) (ns : List (Listed ℕ)) → length (grown numbers slots ns) ≡ length slots + length ns
+grown_count : (numbers : List (Option ℕ)) (slots : List Slot) (ns : List (Listed NodeReference)) → length (grown numbers slots ns) ≡ length slots + length ns
 grown_count numbers slots [] = omega arith
 grown_count numbers slots (n ∷ ns) =
     let child = with_child slots n.parent n.name in
@@ -176,7 +176,7 @@ grown_count numbers slots (n ∷ ns) =
     omega (arith, more, filled, one)
 
 -- a tree has as many nodes as its list
-pub as_many : (numbers : List (Option ℕ)) (l : NamedList ℕ) (nodes : List NamedNode) (tree reserved whole : Arena) → list_of (tree_of l) ≡ l.nodes → map node_said nodes ≡ l.nodes
+pub as_many : (numbers : List (Option ℕ)) (l : NamedList NodeReference) (nodes : List NamedNode) (tree reserved whole : Arena) → list_of (tree_of l) ≡ l.nodes → map node_said nodes ≡ l.nodes
     → tree ≡ root_alone 0 → reserved.slots ≡ tree.slots → whole ≡ record reserved { slots = grown_all numbers reserved.slots (map node_said nodes) } → length whole.slots ≡ length l.nodes
 as_many numbers l nodes tree reserved whole preorder are alone same is =
     let slots : reserved.slots ≡ (root_alone 0).slots = same ∙ ap (λ (a : Arena). a.slots) alone in

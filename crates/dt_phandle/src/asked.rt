@@ -1,16 +1,16 @@
 //! What the nodes of a named tree ask for: the numbers that are written in them, and whether they need one.
 
-ghost use Rattle.std.specs.Prelude.{◌≡◌, ◌<◌, ℕ, List, length, map, codes, option_map, IfOk};
+ghost use Rattle.std.specs.Prelude.{◌≡◌, List, length, map, codes, option_map, IfOk};
 ghost use Rattle.std.specs.List.{AllByRecursion};
 ghost use Rattle.dt_model.specs.Meaning.{EachReference};
 ghost use Rattle.dt_model.specs.Named.{value_of};
 ghost use Rattle.dt_model.specs.Named.{number_of as written_number};
-ghost use Rattle.dt_model.specs.NamedOf.{RefersBelow, asked_from};
-ghost use Rattle.dt_source.specs.Said.{value_said, property_said, node_said};
-ghost use Rattle.dt_phandle.specs.Asking.{asked_said, content_said, own, keyed_too, is_in_value, is_in_properties, is_in_nodes};
+ghost use Rattle.dt_model.specs.NamedOf.{IsBelow, RefersBelow, asked_from};
+ghost use Rattle.dt_source.specs.Said.{reference_said, value_said, property_said, node_said};
+ghost use Rattle.dt_phandle.specs.Asking.{asked_said, content_said, own, keyed_too, is_to, is_in_value, is_in_properties, is_in_nodes};
 
 use dt_names::phandle_of;
-use dt_source::{NamedNode, NamedProperty, NamedValue};
+use dt_source::{NamedNode, NamedProperty, NamedReference, NamedValue};
 use std::alloc::{AllocError, Global};
 
 /// What a node asks for.
@@ -23,7 +23,7 @@ pub struct Asked {
 }
 
 // The number that a value writes.
-fn number_of(value: &NamedValue) -> Option<u32>
+fn number_of(value: &NamedValue<'_>) -> Option<u32>
     ensures { result ≡ written_number (value_said value.now) }
 {
     if !value.pieces.is_empty() {
@@ -33,7 +33,7 @@ fn number_of(value: &NamedValue) -> Option<u32>
 }
 
 /// The value of the property `phandle`.
-pub fn phandle_in<'a>(properties: &'a [NamedProperty<'_>]) -> Option<&'a NamedValue>
+pub fn phandle_in<'a, 'b>(properties: &'a [NamedProperty<'b>]) -> Option<&'a NamedValue<'b>>
     ensures { option_map (λ value. value_said value.now) result ≡ value_of (map property_said properties.now) (codes "phandle") }
 {
     for property in properties {
@@ -58,19 +58,29 @@ fn asked_by(node: &NamedNode<'_>) -> Asked
     }
 }
 
+// The node of a reference is keyed.
+fn key(asked: &mut [Asked], reference: &NamedReference<'_>)
+    requires { IsBelow (length asked.old) (reference_said reference.now) }
+    ensures { map asked_said asked.new ≡ keyed_too (is_to (reference_said reference.now)) 0 (map asked_said asked.old) }
+{
+    if let NamedReference::Node(node) = reference {
+        asked[*node].keyed = true;
+    }
+}
+
 // The nodes to which a value refers are keyed.
-fn key_value(asked: &mut [Asked], value: &NamedValue)
-    requires { EachReference (λ k. k < length asked.old) (value_said value.now) }
+fn key_value(asked: &mut [Asked], value: &NamedValue<'_>)
+    requires { EachReference (IsBelow (length asked.old)) (value_said value.now) }
     ensures { map asked_said asked.new ≡ keyed_too (is_in_value (value_said value.now)) 0 (map asked_said asked.old) }
 {
     for piece in &value.pieces {
-        asked[piece.node].keyed = true;
+        key(asked, &piece.reference);
     }
 }
 
 // The nodes to which properties refer are keyed.
 fn key_properties(asked: &mut [Asked], properties: &[NamedProperty<'_>])
-    requires { AllByRecursion (λ p. EachReference (λ k. k < length asked.old) p.value) (map property_said properties.now) }
+    requires { AllByRecursion (λ p. EachReference (IsBelow (length asked.old)) p.value) (map property_said properties.now) }
     ensures { map asked_said asked.new ≡ keyed_too (is_in_properties (map property_said properties.now)) 0 (map asked_said asked.old) }
 {
     for property in properties {

@@ -1,15 +1,15 @@
 //! A named tree as one whose nodes have their numbers.
 
-ghost use Rattle.std.specs.Prelude.{◌≡◌, ◌++◌, length, map, None, OnOk, IfOk, IfErr, unwrap_or};
+ghost use Rattle.std.specs.Prelude.{◌≡◌, ◌++◌, length, map, None, OnOk, IfOk, IfErr};
 ghost use Rattle.std.specs.List.{AllByRecursion};
-ghost use Rattle.dt_model.specs.Instance.{number_at, numbered, numbered_properties, phandle_of, instance_of};
+ghost use Rattle.dt_model.specs.Instance.{number_at, number_for, numbered, numbered_properties, phandle_of, instance_of};
 ghost use Rattle.dt_model.specs.Meaning.{value_bytes};
 ghost use Rattle.dt_model.specs.Named.{tree_of};
 ghost use Rattle.dt_model.specs.NamedOf.{asked_in};
 ghost use Rattle.dt_model.specs.Numbering.{IsNumbering};
 ghost use Rattle.dt_model.specs.Valid.{IsReservation};
 ghost use Rattle.dt_names.specs.declared.fault.FaultKind.TheVariants.{NoMemory};
-ghost use Rattle.dt_source.specs.Said.{value_said, property_said, node_said};
+ghost use Rattle.dt_source.specs.Said.{reference_said, value_said, property_said, node_said};
 ghost use Rattle.dt_flat.specs.Arena.{reading, root_alone};
 ghost use Rattle.dt_flat.specs.Planted.{with_properties};
 ghost use Rattle.dt_phandle.specs.Asking.{content_said};
@@ -20,21 +20,31 @@ use crate::numbering::Numbering;
 use dt_flat::{FlatTree, may_be_planted, planted_reads};
 use dt_laws::instance_is_valid;
 use dt_names::{Fault, NodeId, NodeName, PropName};
-use dt_source::{NamedNode, NamedProperty, NamedTree, NamedValue};
+use dt_source::{NamedNode, NamedProperty, NamedReference, NamedTree, NamedValue};
 use std::alloc::{AllocError, Global};
+
+// The number that stands for a reference: its node's, or all ones where the node is of some other tree.
+fn number_for(reference: &NamedReference<'_>, numbering: &Numbering) -> u32
+    ensures { result ≡ number_for numbering.now (reference_said reference.now) }
+{
+    match reference {
+        NamedReference::Node(node) => numbering.of(*node).unwrap_or(0),
+        NamedReference::Label(_) => u32::MAX,
+    }
+}
 
 // The bytes of a value, in which a reference is its node's number as a cell.
 fn write_value(
     bytes: &mut Vec<u8>,
-    value: &NamedValue,
+    value: &NamedValue<'_>,
     numbering: &Numbering,
 ) -> Result<(), AllocError>
-    ensures { OnOk result (bytes.new.items ≡ value_bytes (λ k. unwrap_or (number_at numbering.now k) 0) (value_said value.now)) }
+    ensures { OnOk result (bytes.new.items ≡ value_bytes (number_for numbering.now) (value_said value.now)) }
 {
     bytes.clear();
     for piece in &value.pieces {
         bytes.extend_from_slice(&piece.before)?;
-        let number = numbering.of(piece.node).unwrap_or(0);
+        let number = number_for(&piece.reference, numbering);
         bytes.extend_from_slice(&number.to_be_bytes())?;
     }
     bytes.extend_from_slice(&value.bytes)?;
@@ -112,7 +122,7 @@ fn add(
     ensures tree { OnOk result (tree.new ≡ record tree.old { slots = with_node numbering.now tree.old.slots (node_said node.now) }) }
     ensures refused { IfErr result (λ fault. (fault.kind ≡ NoMemory) × (fault.at ≡ None)) }
 {
-    let name = NodeName::new(node.name)?;
+    let name = NodeName::new(node.name.as_slice())?;
     let id = tree.add_node(node.parent, &name)?;
     fill_node(tree, bytes, id, node, numbering)
 }

@@ -7,7 +7,7 @@ use Rattle.dt_names.specs.declared.fault.FaultKind.{FaultKind}
 use Rattle.dt_names.specs.declared.fault.FaultKind.TheVariants.{NoMemory, Limit, UnresolvedReference, BadPhandle, DuplicatePhandle}
 use Rattle.dt_model.specs.Limits.{most_nodes}
 use Rattle.dt_model.specs.Nested.{AreNested}
-use Rattle.dt_model.specs.Named.{NamedForest, no_nodes, branch, Named, Listed, NamedList, node_count, list_of, listed, tree_of}
+use Rattle.dt_model.specs.Named.{NodeReference, NamedForest, no_nodes, branch, Named, Listed, NamedList, node_count, list_of, listed, tree_of}
 use Rattle.dt_model.specs.NamedOf.{IsNamed, IsNamedOf}
 use Rattle.dt_model.specs.Source.{Place, IsPlace, Mode, SoFar, nothing, read_all, meaning_of, duplicate_property, duplicate_node, duplicate_label, no_such_target, reserved_name, too_deep, misplaced, unresolved, bad_phandle, duplicate_phandle}
 use Rattle.dt_model.specs.Refused.{SourceRefusal, at_place, at_end, too_many, IsRefusedFor}
@@ -20,14 +20,14 @@ use Rattle.dt_source.specs.Refusals.{IsFaultOf, WhyNotNamed, WhyNotRead, WhyNotG
 
 -- ---- how many nodes there are
 
-list_count : (number parent : ℕ) (f : NamedForest ℕ) → length (listed number parent f) ≡ node_count f
+list_count : (number parent : ℕ) (f : NamedForest NodeReference) → length (listed number parent f) ≡ node_count f
 list_count number parent no_nodes = refl
 list_count number parent (branch name content children siblings) =
     let inner = list_count (suc number) number children in
     let outer = list_count (suc number + node_count children) parent siblings in
     omega (arith, inner, outer, length-append (listed (suc number) number children) (listed (suc number + node_count children) parent siblings))
 
-count_is : (t : Named ℕ) → length (list_of t) ≡ 1 + node_count t.children
+count_is : (t : Named NodeReference) → length (list_of t) ≡ 1 + node_count t.children
 count_is t = let c = list_count 1 0 t.children in omega (arith, c)
 
 -- ---- the tree
@@ -36,34 +36,30 @@ count_is t = let c = list_count 1 0 t.children in omega (arith, c)
 abbrev pub Closes : Type 0
 Closes = (mode : Mode) (places : List Place) (s : SoFar) → AreNested 0 places → read_all mode nothing places ≡ Ok s → s.bodies ≡ []
 
-module _ (mode : Mode) (s : Says) (ns : List (Listed ℕ)) (h : AreNodesOf mode s.places ns) where
-  abbrev built : Named ℕ
-  built = h.after.tree s.reservations
+module _ (mode : Mode) (s : Says) (ns : List (Listed NodeReference)) (h : AreNodesOf mode s.places ns) where
+  abbrev built : Named NodeReference
+  built = h.after.nodes.tree s.reservations
 
-  abbrev of_list : NamedList ℕ
+  abbrev of_list : NamedList NodeReference
   of_list = record { reservations = s.reservations; nodes = ns }
 
   tree_is : ListIsOfItsTree → tree_of of_list ≡ built
   tree_is own =
       let same : of_list ≡ record { reservations = built.reservations; nodes = list_of built } =
-      λ i. record { reservations = sym (h.after.reservations s.reservations) i; nodes = h.after.list s.reservations i } in
+      λ i. record { reservations = sym (h.after.nodes.reservations s.reservations) i; nodes = h.after.nodes.list s.reservations i } in
       ap tree_of same ∙ own built
 
   named_of : AreNested 0 s.places → Closes → IsNamedOf mode s.reservations s.places built
   named_of nested closes =
-      let after = h.after.after s.reservations in
       record {
         meaning = meaning_of s.reservations h.so_far.events;
         means = record { so_far = h.so_far; all_read = h.all_read; closed = closes mode s.places h.so_far nested h.all_read; resolved = h.after.resolved; means = refl };
-        same_reservations = h.after.reservations s.reservations;
-        nodes = after.nodes;
-        values = after.values;
-        referred = after.referred;
-        order = after.order;
+        same_reservations = h.after.nodes.reservations s.reservations;
+        tree = h.after.nodes.named s.reservations;
       }
 
   count : length ns ≡ 1 + node_count built.children
-  count = ap length (h.after.list s.reservations) ∙ count_is built
+  count = ap length (h.after.nodes.list s.reservations) ∙ count_is built
 
   pub tree_means : ListIsOfItsTree → AreNested 0 s.places → Closes → IsNamedOf mode s.reservations s.places (tree_of of_list)
   tree_means own nested closes = subst (IsNamedOf mode s.reservations s.places) (sym (tree_is own)) (named_of nested closes)
@@ -73,7 +69,7 @@ module _ (mode : Mode) (s : Says) (ns : List (Listed ℕ)) (h : AreNodesOf mode 
       let small : 1 + node_count built.children ≤ most_nodes = omega (arith, count, few) in
       let ok = meant mode s.reservations s.places built some places reservations small (named_of nested closes) in
       record {
-        preorder = ap list_of (tree_is own) ∙ sym (h.after.list s.reservations);
+        preorder = ap list_of (tree_is own) ∙ sym (h.after.nodes.list s.reservations);
         named = subst IsNamed (sym (tree_is own)) ok;
       }
 

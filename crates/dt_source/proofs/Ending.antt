@@ -1,14 +1,19 @@
 -- The nodes that were listed are those of the events; and why none were.
 use Rattle.std.proofs.Common.{◌≡◌, ◌≢◌, ℕ, zero, suc, ◌<◌, Bool, true, false, not, ◌&&◌, cond, List, [], ◌∷◌, map, length, reverse, Option, None, Some, IsSome, is_some, option_map, slice_get, codes, refl, sym, ap, subst, ◌∙◌, inl, inr, arith}
+use Rattle.std.specs.List.{AllByRecursion}
 use Rattle.std.specs.Option.{option_and_then}
 use Rattle.std.specs.Str.{bytes_eq}
 use Rattle.std.proofs.lemmas.Option.{slice_get-map}
 use Rattle.dt_model.specs.Limits.{most_names}
 use Rattle.dt_model.specs.Names.{Name}
 use Rattle.dt_model.specs.Event.{Stack, stands, value_at}
-use Rattle.dt_model.specs.Source.{Part, Events, all_bound, written, written_number, IsResolved, HasUnresolved, HasBadPhandle, HasDuplicatePhandle}
+use Rattle.dt_model.specs.Path.{Path}
+use Rattle.dt_model.specs.Meaning.{Item, item_renamed}
+use Rattle.dt_model.specs.Overlay.{inside, OverlayReference}
+use Rattle.dt_model.specs.NamedOf.{bound_values}
+use Rattle.dt_model.specs.Source.{Part, one, number_of, text_of, Events, all_bound, written, written_number, IsResolved, HasUnresolved, HasBadPhandle, HasDuplicatePhandle}
 use Rattle.dt_model.specs.Lists.{IsIn}
-use Rattle.dt_model.specs.Named.{Content, Listed, Named, nodes_of}
+use Rattle.dt_model.specs.Named.{NodeReference, Content, Listed, Named, nodes_of}
 use Rattle.dt_laws.proofs.Tests.{and_left, and_right, and_both, bytes_eq_true, bytes_eq_refl, in_map}
 use Rattle.dt_laws.proofs.Cases.{map_some, then_some, some_there}
 use Rattle.dt_names.specs.declared.fault.Fault.{Fault}
@@ -23,13 +28,16 @@ use Rattle.dt_source.specs.declared.listing.Row.{Row}
 use Rattle.dt_source.specs.Grown.{Leads, HasValue}
 use Rattle.dt_source.specs.Owned.{group_of}
 use Rattle.dt_source.specs.Listing.{name_of, AreRows, AreNumbers, tree_with, listed_row}
-use Rattle.dt_source.specs.Contents.{property_owner, AreNamedBy, AreResolved}
-use Rattle.dt_source.specs.Resolving.{IsOf, AreRead, AreRowsRead, content_by, WhyUnreadAmong, Belong}
+use Rattle.dt_source.specs.declared.referring.Unnamed.{Unnamed}
+use Rattle.dt_source.specs.declared.referring.Unnamed.TheVariants.{Refused}
+use Rattle.dt_source.specs.Contents.{property_owner, AreNamedBy, IsLabelledPart, AreLabelled, all_read, read_values, AreResolved}
+use Rattle.dt_source.specs.Resolving.{IsOf, EachNaming, AreRead, AreRowsRead, content_by, WhyUnreadAmong, Belong}
 use Rattle.dt_source.specs.Phandles.{is_numbered, is_phandle, number_written, AreWritten, AreOwn, HasUnwritten, HasTwice, WhyUnnumbered}
-use Rattle.dt_source.specs.Nodes.{AreFilled, IsUnfilled, AreNodesAfter, WhyNotAfter}
+use Rattle.dt_source.specs.Nodes.{AreFilled, IsUnfilled, AreNodesBy, AreNodesAfter, WhyNotAfter}
 use Rattle.dt_source.proofs.ChildrenLed.{AreChildren, are_children, leads_once, leads_root, leads_within}
 use Rattle.dt_source.proofs.Walking.{walk, rows-nodes}
 use Rattle.dt_source.proofs.Placing.{Pairwise, IsPlacedAt, forest-placed}
+use Rattle.dt_source.proofs.Binding.{map_keeps, parts_bound}
 use Rattle.dt_source.proofs.Filling.{owner_stands}
 use Rattle.dt_source.proofs.Meant.{number_by, named_by, list_is, named_after}
 
@@ -73,6 +81,37 @@ cond_some : {X : Type 0} (b : Bool) (o : Option X) (x : X) → cond b o None ≡
 cond_some true o x h = (refl, h)
 cond_some false o x h = cc
 
+-- ---- a base's values
+
+bound_some : (es : Events) (v : List Part) → is_some (all_bound es v) ≡ is_some (all_read Refused es v)
+bound_some es v = sym (map_keeps (map (item_renamed inside)) (all_bound es v)) ∙ ap is_some (parts_bound es v)
+
+unbound : (es : Events) (v : List Part) → all_read Refused es v ≡ None → all_bound es v ≡ None
+unbound es v none = some_or_none (all_bound es v) (bound_some es v ∙ ap is_some none)
+
+bound_read : (es : Events) (p : Path) (x : Name) → read_values Refused es p x ≡ bound_values es p x
+bound_read es p x = step (value_at es (reverse p) x)
+  where
+    step : (o : Option (List Part)) → option_and_then (all_read Refused es) o ≡ option_map (map (item_renamed inside)) (option_and_then (all_bound es) o)
+    step None = refl
+    step (Some v) = sym (parts_bound es v)
+
+none_kept : (v : List Part) → AllByRecursion (IsLabelledPart Refused) v
+none_kept [] = tt
+none_kept (one b ∷ v) = (tt, none_kept v)
+none_kept (number_of r ∷ v) = (λ l e. cc, none_kept v)
+none_kept (text_of r ∷ v) = (tt, none_kept v)
+
+-- nodes of values that are the same
+nodes_same : (es : Events) (value other : Path → Name → Option (List (Item OverlayReference))) (ns : List (Listed NodeReference)) → ((p : Path) (x : Name) → value p x ≡ other p x) →
+    AreNodesBy es value ns → AreNodesBy es other ns
+nodes_same es value other ns same h = record {
+  tree = h.tree;
+  reservations = h.reservations;
+  list = h.list;
+  named = λ rs. let named = h.named rs in record { nodes = named.nodes; values = λ p x. named.values p x ∙ same p x; referred = named.referred; order = named.order };
+}
+
 module _ (g : Growing) (b : Belongings) (rows : List Row) (are : AreRows g.nodes.items rows) (belong : Belong g b)
     (numbered : AreNumbers rows (length g.nodes.items) b.numbers.items) (es : Events) (grown : IsOf g es) (root : stands es [] ≡ true) where
   abbrev nodes : List Node
@@ -106,7 +145,7 @@ module _ (g : Growing) (b : Belongings) (rows : List Row) (are : AreRows g.nodes
   -- the names that lead to the node of a row
   led_to : (r : Row) → IsIn r rows → (p : Stack) × Leads g.nodes.items p r.node
   led_to r among =
-      let none : ℕ → Content ℕ = λ k. record { labels = []; properties = [] } in
+      let none : ℕ → Content NodeReference = λ k. record { labels = []; properties = [] } in
       let at_row = IsPlacedAt nodes are.children children_are none in
       let all : Pairwise at_row (nodes_of (tree_with [] (name_of nodes) none are.children)) (0 ∷ walk are.children most_names 0) =
       ((rooted, refl), forest-placed nodes are.children children_are none most_names 0 [] rooted) in
@@ -162,16 +201,18 @@ module _ (g : Growing) (b : Belongings) (rows : List Row) (are : AreRows g.nodes
 
   -- ---- what is read is resolved
 
-  pub resolved : ((r : Row) → IsIn r rows → AreRead es g.properties.items (group_of b.properties.places.items r.node)) → AreResolved g.nodes.items g.properties.items es
-  resolved read i q p there stood h =
+  pub resolved : (unnamed : Unnamed) → ((r : Row) → IsIn r rows → AreRead unnamed es g.properties.items (group_of b.properties.places.items r.node)) →
+      AreResolved unnamed g.nodes.items g.properties.items es
+  resolved unnamed read i q p there stood h =
       let row = row_of p q.node h in
       read row.0 row.1 i q (subst (λ (k : ℕ). IsIn i (group_of b.properties.places.items k)) (sym row.2) (place_of p i q there stood h)) there
 
-  no_unresolved : AreResolved g.nodes.items g.properties.items es → HasUnresolved es → ⊥
+  no_unresolved : AreResolved Refused g.nodes.items g.properties.items es → HasUnresolved es → ⊥
   no_unresolved all h =
       let value = grown.values_are h.0 h.1 h.2 h.3 in
       let w = value.1 in
-      let some : is_some (all_bound es (value_said w.property.value.now)) ≡ true = all value.0 w.property h.0 w.there w.stands w.node in
+      let some : is_some (all_bound es (value_said w.property.value.now)) ≡ true =
+      bound_some es (value_said w.property.value.now) ∙ all value.0 w.property h.0 w.there w.stands w.node in
       not_none (all_bound es h.2) (ap (λ (v : List Part). is_some (all_bound es v)) (sym w.value) ∙ some) h.4
 
   number_there : AreWritten b.numbers.items g.properties.items → (p : Stack) (v : List Part) → value_at es p (codes "phandle") ≡ Some v → is_some (written v) ≡ true
@@ -195,12 +236,12 @@ module _ (g : Growing) (b : Belongings) (rows : List Row) (are : AreRows g.nodes
         w.node,
       )
 
-  pub is_resolved : AreResolved g.nodes.items g.properties.items es → AreWritten b.numbers.items g.properties.items → AreOwn b.numbers.items g.properties.items → IsResolved es
+  pub is_resolved : AreResolved Refused g.nodes.items g.properties.items es → AreWritten b.numbers.items g.properties.items → AreOwn b.numbers.items g.properties.items → IsResolved es
   is_resolved all written_all own = record {
     bound_to = λ p x v e.
         let value = grown.values_are p x v e in
         let w = value.1 in
-        subst (λ (u : List Part). IsSome (all_bound es u)) w.value (all value.0 w.property p w.there w.stands w.node);
+        subst (λ (u : List Part). IsSome (all_bound es u)) w.value (bound_some es (value_said w.property.value.now) ∙ all value.0 w.property p w.there w.stands w.node);
     numbered = λ p v e. number_there written_all p v e;
     own = λ p q n e f.
         let first = written_here p n e in
@@ -215,13 +256,13 @@ module _ (g : Growing) (b : Belongings) (rows : List Row) (are : AreRows g.nodes
   -- ---- refusals
 
   -- a reference that isn't read
-  pub unread_refused : (r : Row) → IsIn r rows → (kind : FaultKind) → WhyUnreadAmong es g.properties.items (group_of b.properties.places.items r.node) kind → WhyNotAfter es kind
+  pub unread_refused : (r : Row) → IsIn r rows → (kind : FaultKind) → WhyUnreadAmong Refused es g.properties.items (group_of b.properties.places.items r.node) kind → WhyNotAfter es kind
   unread_refused r among fault.NoMemory h = tt
   unread_refused r among fault.UnresolvedReference h =
       let led = led_to r among in
       let q = h.1 in
       let value = value_in led.0 r.node h.0 q led.1 h.2 h.3 in
-      (led.0, q.name.now, value_said q.value.now, grown.values_stand led.0 q.name.now (value_said q.value.now) h.0 value, h.4)
+      (led.0, q.name.now, value_said q.value.now, grown.values_stand led.0 q.name.now (value_said q.value.now) h.0 value, unbound es (value_said q.value.now) h.4)
   unread_refused r among kind h = absurd h
 
   -- a `phandle` that writes none
@@ -263,7 +304,7 @@ module _ (g : Growing) (b : Belongings) (rows : List Row) (are : AreRows g.nodes
           let one : i ≡ j = grown.one_value p (codes "phandle") v w i j a at in
           omega arith
 
-  pub unnumbered_refused : AreResolved g.nodes.items g.properties.items es → (kind : FaultKind) → WhyUnnumbered b.numbers.items g.properties.items kind → WhyNotAfter es kind
+  pub unnumbered_refused : AreResolved Refused g.nodes.items g.properties.items es → (kind : FaultKind) → WhyUnnumbered b.numbers.items g.properties.items kind → WhyNotAfter es kind
   unnumbered_refused all fault.NoMemory h = tt
   unnumbered_refused all fault.BadPhandle h = (no_unresolved all, bad_there h)
   unnumbered_refused all fault.DuplicatePhandle h = (no_unresolved all, no_bad h.0, twice_there h.1)
@@ -271,30 +312,35 @@ module _ (g : Growing) (b : Belongings) (rows : List Row) (are : AreRows g.nodes
 
   -- ---- the tree
 
-  abbrev tree : List (ℕ × ℕ) → Named ℕ
-  tree reservations = tree_with reservations (name_of g.nodes.items) (content_by es number g b) are.children
+  abbrev tree : Unnamed → List (ℕ × ℕ) → Named NodeReference
+  tree unnamed reservations = tree_with reservations (name_of g.nodes.items) (content_by unnamed es number g b) are.children
 
-  pub listed_after : (ns : List (Listed ℕ)) → AreFilled g b rows ns → AreNodesAfter es ns
-  listed_after ns filled = record {
-    resolved = is_resolved all filled.written filled.own;
-    tree = tree;
+  pub listed_by : (unnamed : Unnamed) → AreLabelled unnamed es → (ns : List (Listed NodeReference)) → EachNaming g b.numbers.items (λ es number. AreRowsRead unnamed es number g b rows ns) →
+      AreNodesBy es (read_values unnamed es) ns
+  listed_by unnamed labelled ns each = record {
+    tree = tree unnamed;
     reservations = λ rs. refl;
-    list = λ rs. read.0 ∙ (ap (map (listed_row (name_of nodes) (content_by es number g b))) are.are
-        ∙ list_is nodes properties g.givings.items es grown rooted are.children children_are (group_of b.properties.places.items) (group_of b.labels.places.items) belong.properties belong.labels number rs);
-    after = λ rs. named_after nodes properties g.givings.items es grown rooted are.children children_are (group_of b.properties.places.items) (group_of b.labels.places.items)
-        belong.properties belong.labels number rs numbers (subst (λ (rs' : List Row). AreNumbers rs' (length nodes) numbers) are.are numbered)
-        (subst (λ (rs' : List Row). AreNamedBy nodes numbers (length rs') number) are.are named) all;
+    list = λ rs. read.0 ∙ (ap (map (listed_row (name_of nodes) (content_by unnamed es number g b))) are.are
+        ∙ list_is nodes properties g.givings.items es grown rooted are.children children_are (group_of b.properties.places.items) (group_of b.labels.places.items)
+        belong.properties belong.labels unnamed number rs);
+    named = λ rs. named_after nodes properties g.givings.items es grown rooted are.children children_are (group_of b.properties.places.items) (group_of b.labels.places.items)
+        belong.properties belong.labels unnamed number rs numbers (subst (λ (rs' : List Row). AreNumbers rs' (length nodes) numbers) are.are numbered)
+        (subst (λ (rs' : List Row). AreNamedBy nodes numbers (length rs') number) are.are named) (resolved unnamed read.1) labelled;
   }
     where
-      read : AreRowsRead es (number_by (name_of g.nodes.items) are.children b.numbers.items) g b rows ns
-      read = filled.read es number (length rows) grown named
+      read : AreRowsRead unnamed es (number_by (name_of g.nodes.items) are.children b.numbers.items) g b rows ns
+      read = each es number (length rows) grown named
 
-      all : AreResolved g.nodes.items g.properties.items es
-      all = resolved (filled.read es number (length rows) grown named).1
+  pub listed_after : (ns : List (Listed NodeReference)) → AreFilled g b rows ns → AreNodesAfter es ns
+  listed_after ns filled =
+      let read = filled.read es number (length rows) grown named in record {
+        resolved = is_resolved (resolved Refused read.1) filled.written filled.own;
+        nodes = nodes_same es (read_values Refused es) (bound_values es) ns (bound_read es) (listed_by Refused (λ p x v there. none_kept v) ns filled.read);
+      }
 
   pub unlisted_after : (e : Fault) → IsUnfilled g b rows e → WhyNotAfter es e.kind
   unlisted_after e (inl h) = unread_refused h.0 h.1 e.kind (h.2.1 es grown)
-  unlisted_after e (inr h) = unnumbered_refused (resolved (h.0 es number (length rows) grown named)) e.kind h.1.1
+  unlisted_after e (inr h) = unnumbered_refused (resolved Refused (h.0 es number (length rows) grown named)) e.kind h.1.1
 
 -- no place is told
 pub unplaced : (g : Growing) (b : Belongings) (rows : List Row) (e : Fault) → IsUnfilled g b rows e → e.at ≡ None

@@ -10,10 +10,11 @@ use Rattle.dt_model.specs.Names.{Name}
 use Rattle.dt_model.specs.Path.{Path}
 use Rattle.dt_model.specs.Meaning.{Item}
 use Rattle.dt_model.specs.Event.{Stack, value_at}
-use Rattle.dt_model.specs.Source.{Reference, Part, Events, referent, all_bound}
+use Rattle.dt_model.specs.Overlay.{OverlayReference}
+use Rattle.dt_model.specs.Source.{Reference, Part, Events, referent}
 use Rattle.dt_model.specs.Lists.{IsIn}
-use Rattle.dt_model.specs.Named.{Content, NamedProperty, Named, NamedNode, NamedPlaced, Listed, node_at, content_in, value_of, node_count, nodes_of, paths_of, list_of}
-use Rattle.dt_model.specs.NamedOf.{path_among, meant, RefersBelow}
+use Rattle.dt_model.specs.Named.{NodeReference, Content, NamedProperty, Named, NamedNode, NamedPlaced, Listed, node_at, content_in, value_of, node_count, nodes_of, paths_of, list_of}
+use Rattle.dt_model.specs.NamedOf.{path_among, meant, IsBelow, RefersBelow, IsNamedBy}
 use Rattle.dt_model.specs.Ordered.{ArePropertiesInOrder, AreLabelsInOrder}
 use Rattle.dt_laws.proofs.Tests.{bytes_eq_true, bytes_eq_differ, in_map_from}
 use Rattle.dt_source.specs.declared.growing.Node.{Node}
@@ -23,7 +24,8 @@ use Rattle.dt_source.specs.declared.listing.Row.{Row}
 use Rattle.dt_source.specs.Grown.{Leads, IsGrown}
 use Rattle.dt_source.specs.Owned.{AreOwned}
 use Rattle.dt_source.specs.Listing.{name_of, rows_of, AreNumbers, tree_with, listed_row}
-use Rattle.dt_source.specs.Contents.{property_owner, label_owner, AreNamedBy, content_of, AreResolved, IsNamedAfter}
+use Rattle.dt_source.specs.declared.referring.Unnamed.{Unnamed}
+use Rattle.dt_source.specs.Contents.{property_owner, label_owner, AreNamedBy, AreLabelled, all_read, read_values, content_of, AreResolved}
 use Rattle.dt_source.proofs.ChildrenLed.{AreChildren, leads_once, leads_child, child_led, leads_within}
 use Rattle.dt_source.proofs.Walking.{walk, rows-nodes, rows-count, forest-count, forest-listed}
 use Rattle.dt_source.proofs.Placing.{Pairwise, IsPlacedAt, forest-placed, all_walked}
@@ -45,9 +47,9 @@ each_pair R f P [] ys h each = tt
 each_pair R f P (x ∷ xs) [] h each = absurd h
 each_pair R f P (x ∷ xs) (y ∷ ys) h each = (each x y h.0, each_pair R f P xs ys h.1 each)
 
-path_there : (ns : List (NamedPlaced ℕ)) (j : ℕ) (n : NamedPlaced ℕ) → slice_get ns j ≡ Some n → path_among (map (λ (m : NamedPlaced ℕ). m.path) ns) j ≡ n.path
+path_there : (ns : List (NamedPlaced NodeReference)) (j : ℕ) (n : NamedPlaced NodeReference) → slice_get ns j ≡ Some n → path_among (map (λ (m : NamedPlaced NodeReference). m.path) ns) j ≡ n.path
 path_there [] j n h = cc
-path_there (m ∷ ns) zero n h = let same : m ≡ n = cc in ap (λ (l : NamedPlaced ℕ). l.path) same
+path_there (m ∷ ns) zero n h = let same : m ≡ n = cc in ap (λ (l : NamedPlaced NodeReference). l.path) same
 path_there (m ∷ ns) (suc j) n h = path_there ns j n h
 
 in_at : {X : Type 0} (xs : List X) (x : X) → IsIn x xs → (j : ℕ) × (slice_get xs j ≡ Some x)
@@ -100,7 +102,7 @@ module _ (nodes : List Node) (children : ℕ → List ℕ) (are : AreChildren no
     number_there p k h =
         let few : length p ≤ most_names = shallow p k h in
         let whole : length p + (most_names - length p) ≡ most_names = omega arith in
-        let none : ℕ → Content ℕ = λ j. record { labels = []; properties = [] } in
+        let none : ℕ → Content NodeReference = λ j. record { labels = []; properties = [] } in
         let walked = (all_walked nodes children are none one most_names p k (most_names - length p) h whole).0 in
         let row = in_map_from (λ (r : Row). r.node) rows k (subst (IsIn k) (sym all) walked) in
         let place = in_at rows row.0 row.1 in
@@ -125,11 +127,11 @@ module _ (nodes : List Node) (children : ℕ → List ℕ) (are : AreChildren no
 module _ (nodes : List Node) (properties : List Property) (givings : List Giving) (es : Events) (grown : IsGrown nodes properties givings es) (rooted : Leads nodes [] 0)
     (children : ℕ → List ℕ) (are : AreChildren nodes children) (property_places label_places : ℕ → List ℕ)
     (own_properties : AreOwned (map property_owner properties) (length nodes) property_places) (own_labels : AreOwned (map label_owner givings) (length nodes) label_places)
-    (number : Stack → ℕ) (reservations : List (ℕ × ℕ)) where
-  abbrev content : ℕ → Content ℕ
-  content = content_of es number properties givings property_places label_places
+    (unnamed : Unnamed) (number : Stack → ℕ) (reservations : List (ℕ × ℕ)) where
+  abbrev content : ℕ → Content NodeReference
+  content = content_of unnamed es number properties givings property_places label_places
 
-  abbrev tree : Named ℕ
+  abbrev tree : Named NodeReference
   tree = tree_with reservations (name_of nodes) content children
 
   root : Row
@@ -150,7 +152,7 @@ module _ (nodes : List Node) (properties : List Property) (givings : List Giving
 
   -- the rows are its list
   pub list_is : map (listed_row (name_of nodes) content) rows ≡ list_of tree
-  list_is = ap (λ (xs : List (Listed ℕ)). listed_row (name_of nodes) content (record { node = 0; parent = 0 }) ∷ xs) (sym (forest-listed (name_of nodes) content children most_names 0 0))
+  list_is = ap (λ (xs : List (Listed NodeReference)). listed_row (name_of nodes) content (record { node = 0; parent = 0 }) ∷ xs) (sym (forest-listed (name_of nodes) content children most_names 0 0))
 
   pub placed : Pairwise (IsPlacedAt nodes children are content) (nodes_of tree) (0 ∷ walk children most_names 0)
   placed = ((rooted, refl), forest-placed nodes children are content most_names 0 [] rooted)
@@ -166,58 +168,58 @@ module _ (nodes : List Node) (properties : List Property) (givings : List Giving
         let same : reverse pair.0.path ≡ p = leads_once nodes (reverse pair.0.path) p k pair.2.0 h in
         path_there (nodes_of tree) (number p) pair.0 pair.1 ∙ (sym (reverse-reverse pair.0.path) ∙ ap (λ (q : Stack). reverse q) same)
 
-    module _ (resolved : AreResolved nodes properties es) where
+    module _ (resolved : AreResolved unnamed nodes properties es) (labelled : AreLabelled unnamed es) where
       path_of_referent : (r : Reference) (p : Stack) → referent es r ≡ Some p → path_among (paths_of tree) (number p) ≡ reverse p
       path_of_referent r p h = let k = referent_stands nodes properties givings es grown r p h in path_is p k.0 k.1
 
-      values : (p : Path) (x : Name) → option_map (meant tree) (value_of (content_in tree p).properties x) ≡ option_and_then (all_bound es) (value_at es (reverse p) x)
+      values : (p : Path) (x : Name) → option_map (meant tree) (value_of (content_in tree p).properties x) ≡ option_and_then (all_read unnamed es) (value_at es (reverse p) x)
       values p x = step (node_at tree p) refl
         where
-          shown : Option (NamedNode ℕ) → Option (List (Item Path))
-          shown o = option_map (meant tree) (value_of (option_map_or (λ (n : NamedNode ℕ). n.content) o (record { labels = []; properties = [] })).properties x)
+          shown : Option (NamedNode NodeReference) → Option (List (Item OverlayReference))
+          shown o = option_map (meant tree) (value_of (option_map_or (λ (n : NamedNode NodeReference). n.content) o (record { labels = []; properties = [] })).properties x)
 
-          none : node_at tree p ≡ None → (b : Option (List Part)) → value_at es (reverse p) x ≡ b → None ≡ option_and_then (all_bound es) b
+          none : node_at tree p ≡ None → (b : Option (List Part)) → value_at es (reverse p) x ≡ b → None ≡ option_and_then (all_read unnamed es) b
           none e None f = refl
           none e (Some v) f =
               let value = grown.values_are (reverse p) x v f in
               let there = led_at nodes properties givings es grown children are content reservations rooted p value.1.property.node value.1.node in
               let no : None ≡ Some there.0 = sym e ∙ there.1 in cc
 
-          step : (o : Option (NamedNode ℕ)) → node_at tree p ≡ o → shown (node_at tree p) ≡ option_and_then (all_bound es) (value_at es (reverse p) x)
+          step : (o : Option (NamedNode NodeReference)) → node_at tree p ≡ o → shown (node_at tree p) ≡ option_and_then (all_read unnamed es) (value_at es (reverse p) x)
           step None e = ap shown e ∙ none e (value_at es (reverse p) x) refl
           step (Some n) e =
               let found = found_at nodes properties givings es grown children are content reservations rooted p n e in
-              let held : n.content ≡ content found.0 = ap (λ (m : NamedNode ℕ). m.content) found.3 in
-              ap shown e ∙ (ap (λ (c : Content ℕ). option_map (meant tree) (value_of c.properties x)) held
-              ∙ values_stand nodes properties givings es grown property_places label_places own_properties own_labels number resolved (path_among (paths_of tree)) path_of_referent
+              let held : n.content ≡ content found.0 = ap (λ (m : NamedNode NodeReference). m.content) found.3 in
+              ap shown e ∙ (ap (λ (c : Content NodeReference). option_map (meant tree) (value_of c.properties x)) held
+              ∙ values_stand nodes properties givings es grown property_places label_places own_properties own_labels unnamed number resolved (path_among (paths_of tree)) path_of_referent
               (reverse p) found.0 x found.2)
 
-      refers_below : (n : NamedPlaced ℕ) (k : ℕ) → IsPlacedAt nodes children are content n k → RefersBelow (1 + node_count tree.children) n.content
+      refers_below : (n : NamedPlaced NodeReference) (k : ℕ) → IsPlacedAt nodes children are content n k → RefersBelow (1 + node_count tree.children) n.content
       refers_below n k at =
           subst (RefersBelow (1 + node_count tree.children)) (sym at.1)
-          (values_refer nodes properties givings es grown property_places label_places own_properties own_labels number resolved (path_among (paths_of tree)) path_of_referent
-          (λ (j : ℕ). j < 1 + node_count tree.children)
+          (values_refer nodes properties givings es grown property_places label_places own_properties own_labels unnamed number resolved (path_among (paths_of tree)) path_of_referent labelled
+          (IsBelow (1 + node_count tree.children))
           (λ r p h. let w = referent_stands nodes properties givings es grown r p h in
-          subst (λ (m : ℕ). number p < m) (sym count_is) (named.below p w.0 w.1)) (reverse n.path) k at.0)
+          subst (λ (m : ℕ). number p < m) (sym count_is) (named.below p w.0 w.1)) (λ l label. label) (reverse n.path) k at.0)
 
       -- what a node that a path leads to has
-      content_here : (Q : Path → Content ℕ → Type 0) → ((p : Path) (k : ℕ) → Leads nodes (reverse p) k → Q p (content k)) →
-          (p : Path) (n : NamedNode ℕ) → node_at tree p ≡ Some n → Q p n.content
+      content_here : (Q : Path → Content NodeReference → Type 0) → ((p : Path) (k : ℕ) → Leads nodes (reverse p) k → Q p (content k)) →
+          (p : Path) (n : NamedNode NodeReference) → node_at tree p ≡ Some n → Q p n.content
       content_here Q each p n e =
           let found = found_at nodes properties givings es grown children are content reservations rooted p n e in
-          subst (Q p) (sym (ap (λ (m : NamedNode ℕ). m.content) found.3)) (each p found.0 found.2)
+          subst (Q p) (sym (ap (λ (m : NamedNode NodeReference). m.content) found.3)) (each p found.0 found.2)
 
-      pub named_after : IsNamedAfter es tree
+      pub named_after : IsNamedBy es (read_values unnamed es) tree
       named_after = record {
         nodes = nodes_stand nodes properties givings es grown children are content reservations rooted;
         values = values;
-        referred = each_pair (IsPlacedAt nodes children are content) (λ (n : NamedPlaced ℕ). n.content) (RefersBelow (1 + node_count tree.children)) (nodes_of tree)
+        referred = each_pair (IsPlacedAt nodes children are content) (λ (n : NamedPlaced NodeReference). n.content) (RefersBelow (1 + node_count tree.children)) (nodes_of tree)
             (0 ∷ walk children most_names 0) placed refers_below;
         order = record {
           children = children_in_order nodes properties givings es grown children are content reservations rooted;
-          properties = content_here (λ p c. ArePropertiesInOrder es p (map (λ (x : NamedProperty ℕ). x.name) c.properties))
-              (properties_in_order nodes properties givings es grown property_places label_places own_properties own_labels number);
+          properties = content_here (λ p c. ArePropertiesInOrder es p (map (λ (x : NamedProperty NodeReference). x.name) c.properties))
+              (properties_in_order nodes properties givings es grown property_places label_places own_properties own_labels unnamed number);
           labels = content_here (λ p c. AreLabelsInOrder es p c.labels)
-              (labels_in_order nodes properties givings es grown property_places label_places own_properties own_labels number);
+              (labels_in_order nodes properties givings es grown property_places label_places own_properties own_labels unnamed number);
         };
       }

@@ -7,7 +7,7 @@ use Rattle.dt_model.specs.Names.{Name}
 use Rattle.dt_model.specs.Path.{Path}
 use Rattle.dt_model.specs.Event.{Stack}
 use Rattle.dt_model.specs.Lists.{IsIn}
-use Rattle.dt_model.specs.Named.{Content, NamedForest, NamedNode, NamedPlaced, preorder, sibling, node_below}
+use Rattle.dt_model.specs.Named.{NodeReference, Content, NamedForest, NamedNode, NamedPlaced, preorder, sibling, node_below}
 use Rattle.dt_laws.proofs.Tests.{bytes_eq_true, bytes_eq_differ}
 use Rattle.dt_laws.proofs.Cases.{then_some}
 use Rattle.dt_source.specs.declared.growing.Node.{Node}
@@ -33,15 +33,15 @@ pairs_append R (x ∷ xs) us (y ∷ ys) vs h k = (h.0, pairs_append R xs us ys v
 turned : (p : Path) (x : Name) (q : Stack) → reverse (x ∷ p) ++ q ≡ reverse p ++ (x ∷ q)
 turned p x q = ap (λ (r : Stack). r ++ q) (reverse-append (x ∷ []) p) ∙ append_assoc (reverse p) (x ∷ []) q
 
-module _ (nodes : List Node) (children : ℕ → List ℕ) (are : AreChildren nodes children) (content : ℕ → Content ℕ) where
+module _ (nodes : List Node) (children : ℕ → List ℕ) (are : AreChildren nodes children) (content : ℕ → Content NodeReference) where
   name : ℕ → Name
   name = name_of nodes
 
   -- the names of the path lead to the node, which has this content
-  abbrev pub IsPlacedAt : NamedPlaced ℕ → ℕ → Type 0
+  abbrev pub IsPlacedAt : NamedPlaced NodeReference → ℕ → Type 0
   IsPlacedAt n k = Leads nodes (reverse n.path) k × (n.content ≡ content k)
 
-  trees-placed : (below : ℕ → NamedForest ℕ) (walked : ℕ → List ℕ) →
+  trees-placed : (below : ℕ → NamedForest NodeReference) (walked : ℕ → List ℕ) →
       ((k : ℕ) (path : Path) → Leads nodes (reverse path) k → Pairwise IsPlacedAt (preorder path (below k)) (walked k)) →
       (ks : List ℕ) (k : ℕ) (path : Path) → Leads nodes (reverse path) k → ((c : ℕ) → IsIn c ks → IsChild nodes k c) →
       Pairwise IsPlacedAt (preorder path (trees_of (name_of nodes) content below ks)) (walk_each walked ks)
@@ -83,16 +83,16 @@ module _ (nodes : List Node) (children : ℕ → List ℕ) (are : AreChildren no
   -- ---- look-ups
 
   -- node k with what stands below it
-  abbrev pub grown_node : ℕ → ℕ → NamedNode ℕ
+  abbrev pub grown_node : ℕ → ℕ → NamedNode NodeReference
   grown_node depth k = record { content = content k; children = forest_below (name_of nodes) content children depth k }
 
   -- what the look-up of a sibling finds
-  sibling_found : (below : ℕ → NamedForest ℕ) (ks : List ℕ) (x : Name) (n : NamedNode ℕ) → sibling (trees_of (name_of nodes) content below ks) x ≡ Some n →
+  sibling_found : (below : ℕ → NamedForest NodeReference) (ks : List ℕ) (x : Name) (n : NamedNode NodeReference) → sibling (trees_of (name_of nodes) content below ks) x ≡ Some n →
       (c : ℕ) × IsIn c ks × (name_of nodes c ≡ x) × (n ≡ record { content = content c; children = below c })
   sibling_found below [] x n h = cc
   sibling_found below (c ∷ ks) x n h = step (λ g. sibling_found below ks x n g) (bytes_eq x (name_of nodes c)) refl h
     where
-      here : NamedNode ℕ
+      here : NamedNode NodeReference
       here = record { content = content c; children = below c }
 
       Found : List ℕ → Type 0
@@ -104,12 +104,12 @@ module _ (nodes : List Node) (children : ℕ → List ℕ) (are : AreChildren no
       step more false e g = let found = more g in (found.0, inr found.1, found.2, found.3)
 
   -- where it finds nothing no sibling has the name
-  sibling_missed : (below : ℕ → NamedForest ℕ) (ks : List ℕ) (x : Name) → sibling (trees_of (name_of nodes) content below ks) x ≡ None →
+  sibling_missed : (below : ℕ → NamedForest NodeReference) (ks : List ℕ) (x : Name) → sibling (trees_of (name_of nodes) content below ks) x ≡ None →
       (c : ℕ) → IsIn c ks → name_of nodes c ≡ x → ⊥
   sibling_missed below [] x h c i e = absurd i
   sibling_missed below (k ∷ ks) x h c i e = step (λ g. sibling_missed below ks x g c) (bytes_eq x (name_of nodes k)) refl h i
     where
-      here : NamedNode ℕ
+      here : NamedNode NodeReference
       here = record { content = content k; children = below k }
 
       step : (sibling (trees_of (name_of nodes) content below ks) x ≡ None → IsIn c ks → name_of nodes c ≡ x → ⊥) → (b : Bool) → bytes_eq x (name_of nodes k) ≡ b →
@@ -119,18 +119,18 @@ module _ (nodes : List Node) (children : ℕ → List ℕ) (are : AreChildren no
       step more false d g (inr later) = more g later e
 
   -- what a path leads to is a node with its depth
-  pub found_below : (p : Path) (depth k : ℕ) (q : Stack) (n : NamedNode ℕ) → Leads nodes q k → node_below (grown_node depth k) p ≡ Some n →
+  pub found_below : (p : Path) (depth k : ℕ) (q : Stack) (n : NamedNode NodeReference) → Leads nodes q k → node_below (grown_node depth k) p ≡ Some n →
       (j left : ℕ) × Leads nodes (reverse p ++ q) j × (n ≡ grown_node left j) × (left + length (reverse p ++ q) ≡ depth + length q)
   unfolding forest_below
   found_below [] depth k q n h e = (k, depth, h, cc, refl)
   found_below (x ∷ p) zero k q n h e = cc
   found_below (x ∷ p) (suc depth) k q n h e =
-      let f : NamedNode ℕ → Option (NamedNode ℕ) = λ c. node_below c p in
+      let f : NamedNode NodeReference → Option (NamedNode NodeReference) = λ c. node_below c p in
       let first = then_some f (sibling (forest_below (name_of nodes) content children (suc depth) k) x) n e in
       let found = sibling_found (forest_below (name_of nodes) content children depth) (children k) x first.0 first.1 in
       let c = found.0 in
       let led : Leads nodes (x ∷ q) c = subst (λ (y : Name). Leads nodes (y ∷ q) c) found.2 (leads_child nodes q k c h (are.sound k c found.1)) in
-      let rest = found_below p depth c (x ∷ q) n led (subst (λ (m : NamedNode ℕ). node_below m p ≡ Some n) found.3 first.2) in
+      let rest = found_below p depth c (x ∷ q) n led (subst (λ (m : NamedNode NodeReference). node_below m p ≡ Some n) found.3 first.2) in
       let back : reverse p ++ (x ∷ q) ≡ reverse (x ∷ p) ++ q = sym (turned p x q) in
       let same : length (reverse p ++ (x ∷ q)) ≡ length (reverse (x ∷ p) ++ q) = ap (λ (r : Stack). length r) back in
       let below : rest.1 + length (reverse p ++ (x ∷ q)) ≡ depth + suc (length q) = rest.4 in
@@ -139,7 +139,7 @@ module _ (nodes : List Node) (children : ℕ → List ℕ) (are : AreChildren no
 
   -- where names lead to a node, the path does
   pub led_below : ((p : Stack) (i j : ℕ) → Leads nodes p i → Leads nodes p j → i ≡ j) → (p : Path) (depth k : ℕ) (q : Stack) (j : ℕ) → Leads nodes q k → Leads nodes (reverse p ++ q) j →
-      length p ≤ depth → (n : NamedNode ℕ) × (node_below (grown_node depth k) p ≡ Some n)
+      length p ≤ depth → (n : NamedNode NodeReference) × (node_below (grown_node depth k) p ≡ Some n)
   unfolding forest_below
   led_below one [] depth k q j h g few = (grown_node depth k, refl)
   led_below one (x ∷ p) zero k q j h g few = absurd (omega arith)
@@ -150,18 +150,18 @@ module _ (nodes : List Node) (children : ℕ → List ℕ) (are : AreChildren no
       let among = are.complete k above.0 (leads_within nodes q k h) child.0 in
       step on above.0 among child.1 (sibling (forest_below (name_of nodes) content children (suc depth) k) x) refl (λ c l. led_below one p depth c (x ∷ q) j l on (omega arith))
     where
-      here : Option (NamedNode ℕ)
+      here : Option (NamedNode NodeReference)
       here = sibling (forest_below (name_of nodes) content children (suc depth) k) x
 
-      Found : Option (NamedNode ℕ) → Type 0
-      Found o = (n : NamedNode ℕ) × (option_and_then (λ c. node_below c p) o ≡ Some n)
+      Found : Option (NamedNode NodeReference) → Type 0
+      Found o = (n : NamedNode NodeReference) × (option_and_then (λ c. node_below c p) o ≡ Some n)
 
-      step : Leads nodes (reverse p ++ (x ∷ q)) j → (c : ℕ) → IsIn c (children k) → name_of nodes c ≡ x → (o : Option (NamedNode ℕ)) → here ≡ o →
-          ((d : ℕ) → Leads nodes (x ∷ q) d → (n : NamedNode ℕ) × (node_below (grown_node depth d) p ≡ Some n)) → Found here
+      step : Leads nodes (reverse p ++ (x ∷ q)) j → (c : ℕ) → IsIn c (children k) → name_of nodes c ≡ x → (o : Option (NamedNode NodeReference)) → here ≡ o →
+          ((d : ℕ) → Leads nodes (x ∷ q) d → (n : NamedNode NodeReference) × (node_below (grown_node depth d) p ≡ Some n)) → Found here
       step on c among named None e more = absurd (sibling_missed (forest_below (name_of nodes) content children depth) (children k) x e c among named)
       step on c among named (Some m) e more =
           let found = sibling_found (forest_below (name_of nodes) content children depth) (children k) x m e in
           let d = found.0 in
           let led : Leads nodes (x ∷ q) d = subst (λ (y : Name). Leads nodes (y ∷ q) d) found.2 (leads_child nodes q k d h (are.sound k d found.1)) in
           let rest = more d led in
-          subst Found (sym e) (rest.0, ap (λ (a : NamedNode ℕ). node_below a p) found.3 ∙ rest.1)
+          subst Found (sym e) (rest.0, ap (λ (a : NamedNode NodeReference). node_below a p) found.3 ∙ rest.1)

@@ -8,7 +8,7 @@ use Rattle.dt_model.specs.Path.{Path}
 use Rattle.dt_model.specs.Event.{Stack, stands, age}
 use Rattle.dt_model.specs.Source.{Events}
 use Rattle.dt_model.specs.Lists.{IsIn, FallBy}
-use Rattle.dt_model.specs.Named.{Content, Named, NamedForest, NamedNode, node_at, names}
+use Rattle.dt_model.specs.Named.{NodeReference, Content, Named, NamedForest, NamedNode, node_at, names}
 use Rattle.dt_model.specs.Ordered.{AreChildrenInOrder}
 use Rattle.dt_laws.proofs.Tests.{each_from, in_map, in_map_from}
 use Rattle.dt_source.specs.declared.growing.Node.{Node}
@@ -30,18 +30,18 @@ falls_by {X} age thing (i ∷ is) younger rising = (behind is (λ j h. inr h) ri
     behind [] among above = tt
     behind (j ∷ js) among above = (younger i j (inl refl) (among j (inl refl)) above.0, behind js (λ k h. among k (inr h)) above.1)
 
-names_of_trees : (name : ℕ → Name) (content : ℕ → Content ℕ) (below : ℕ → NamedForest ℕ) (ks : List ℕ) → names (trees_of name content below ks) ≡ map name ks
+names_of_trees : (name : ℕ → Name) (content : ℕ → Content NodeReference) (below : ℕ → NamedForest NodeReference) (ks : List ℕ) → names (trees_of name content below ks) ≡ map name ks
 names_of_trees name content below [] = refl
 names_of_trees name content below (k ∷ ks) = ap (λ (xs : List Name). name k ∷ xs) (names_of_trees name content below ks)
 
 module _ (nodes : List Node) (properties : List Property) (givings : List Giving) (es : Events) (grown : IsGrown nodes properties givings es)
-    (children : ℕ → List ℕ) (are : AreChildren nodes children) (content : ℕ → Content ℕ) where
+    (children : ℕ → List ℕ) (are : AreChildren nodes children) (content : ℕ → Content NodeReference) where
   -- the tree
-  abbrev pub tree : List (ℕ × ℕ) → Named ℕ
+  abbrev pub tree : List (ℕ × ℕ) → Named NodeReference
   tree reservations = tree_with reservations (name_of nodes) content children
 
   -- what a path leads to is a node that stands
-  pub found_at : (reservations : List (ℕ × ℕ)) (rooted : Leads nodes [] 0) (p : Path) (n : NamedNode ℕ) → node_at (tree reservations) p ≡ Some n →
+  pub found_at : (reservations : List (ℕ × ℕ)) (rooted : Leads nodes [] 0) (p : Path) (n : NamedNode NodeReference) → node_at (tree reservations) p ≡ Some n →
       (j left : ℕ) × Leads nodes (reverse p) j × (n ≡ grown_node nodes children are content left j) × (left + length p ≡ most_names)
   found_at reservations rooted p n e =
       let found = found_below nodes children are content p most_names 0 [] n rooted e in
@@ -51,7 +51,7 @@ module _ (nodes : List Node) (properties : List Property) (givings : List Giving
       (found.0, found.1, subst (λ (r : Stack). Leads nodes r found.0) end found.2, found.3, omega arith)
 
   pub led_at : (reservations : List (ℕ × ℕ)) (rooted : Leads nodes [] 0) (p : Path) (j : ℕ) → Leads nodes (reverse p) j →
-      (n : NamedNode ℕ) × (node_at (tree reservations) p ≡ Some n)
+      (n : NamedNode NodeReference) × (node_at (tree reservations) p ≡ Some n)
   led_at reservations rooted p j h =
       let end : reverse p ≡ reverse p ++ [] = sym (append-nil (reverse p)) in
       let few : length (reverse p) ≤ most_names = grown.shallow (reverse p) j h in
@@ -62,7 +62,7 @@ module _ (nodes : List Node) (properties : List Property) (givings : List Giving
   pub nodes_stand : (reservations : List (ℕ × ℕ)) (rooted : Leads nodes [] 0) (p : Path) → is_some (node_at (tree reservations) p) ≡ stands es (reverse p)
   nodes_stand reservations rooted p = step (node_at (tree reservations) p) refl (stands es (reverse p)) refl
     where
-      step : (o : Option (NamedNode ℕ)) → node_at (tree reservations) p ≡ o → (b : Bool) → stands es (reverse p) ≡ b → is_some o ≡ b
+      step : (o : Option (NamedNode NodeReference)) → node_at (tree reservations) p ≡ o → (b : Bool) → stands es (reverse p) ≡ b → is_some o ≡ b
       step None e true s =
           let led = grown.nodes_are (reverse p) s in
           let found = led_at reservations rooted p led.0 led.1 in
@@ -87,14 +87,14 @@ module _ (nodes : List Node) (properties : List Property) (givings : List Giving
           let more : suc (length q) ≤ most_names = deep in absurd (omega arith)
   names_here (suc left) j q h e = names_of_trees (name_of nodes) content (forest_below (name_of nodes) content children left) (children j)
 
-  pub children_in_order : (reservations : List (ℕ × ℕ)) (rooted : Leads nodes [] 0) (p : Path) (n : NamedNode ℕ) → node_at (tree reservations) p ≡ Some n → AreChildrenInOrder es p (names n.children)
+  pub children_in_order : (reservations : List (ℕ × ℕ)) (rooted : Leads nodes [] 0) (p : Path) (n : NamedNode NodeReference) → node_at (tree reservations) p ≡ Some n → AreChildrenInOrder es p (names n.children)
   children_in_order reservations rooted p n e =
       let found = found_at reservations rooted p n e in
       let j = found.0 in
       let size : found.1 + length p ≡ most_names = found.4 in
       let same : length (reverse p) ≡ length p = length-reverse p in
       let full : found.1 + length (reverse p) ≡ most_names = omega arith in
-      let here : names n.children ≡ map (name_of nodes) (children j) = ap (λ (m : NamedNode ℕ). names m.children) found.3 ∙ names_here found.1 j (reverse p) found.2 full in
+      let here : names n.children ≡ map (name_of nodes) (children j) = ap (λ (m : NamedNode NodeReference). names m.children) found.3 ∙ names_here found.1 j (reverse p) found.2 full in
       subst (AreChildrenInOrder es p) (sym here) (in_order j found.2)
     where
       in_order : (j : ℕ) → Leads nodes (reverse p) j → AreChildrenInOrder es p (map (name_of nodes) (children j))

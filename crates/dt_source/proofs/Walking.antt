@@ -3,7 +3,7 @@ use Rattle.std.proofs.Common.{◌≡◌, ℕ, zero, suc, ◌+◌, List, [], ◌�
 use Rattle.std.proofs.lemmas.List.{map-append, length-append, length-map}
 use Rattle.dt_model.specs.Names.{Name}
 use Rattle.dt_model.specs.Lists.{IsIn}
-use Rattle.dt_model.specs.Named.{Content, NamedForest, Listed, node_count, listed}
+use Rattle.dt_model.specs.Named.{NodeReference, Content, NamedForest, Listed, node_count, listed}
 use Rattle.dt_laws.proofs.Tests.{in_left, in_right}
 use Rattle.dt_source.specs.declared.listing.Row.{Row}
 use Rattle.dt_source.specs.Listing.{rows_each, rows_below, trees_of, forest_below, listed_row}
@@ -48,8 +48,8 @@ in_each below (l ∷ ks) k (inr h) =
 
 -- ---- the forest
 
-module _ (name : ℕ → Name) (content : ℕ → Content ℕ) where
-  trees-count : (below : ℕ → NamedForest ℕ) (walked : ℕ → List ℕ) → ((k : ℕ) → node_count (below k) ≡ length (walked k)) →
+module _ (name : ℕ → Name) (content : ℕ → Content NodeReference) where
+  trees-count : (below : ℕ → NamedForest NodeReference) (walked : ℕ → List ℕ) → ((k : ℕ) → node_count (below k) ≡ length (walked k)) →
       (ks : List ℕ) → node_count (trees_of name content below ks) ≡ length (walk_each walked ks)
   trees-count below walked same [] = refl
   trees-count below walked same (k ∷ ks) =
@@ -64,21 +64,21 @@ module _ (name : ℕ → Name) (content : ℕ → Content ℕ) where
   forest-count children zero k = refl
   forest-count children (suc depth) k = trees-count (forest_below name content children depth) (walk children depth) (forest-count children depth) (children k)
 
-  trees-listed : (below : ℕ → NamedForest ℕ) (rows : ℕ → ℕ → List Row) → ((k n : ℕ) → node_count (below k) ≡ length (rows k n)) →
+  trees-listed : (below : ℕ → NamedForest NodeReference) (rows : ℕ → ℕ → List Row) → ((k n : ℕ) → node_count (below k) ≡ length (rows k n)) →
       ((k n : ℕ) → listed (suc n) n (below k) ≡ map (listed_row name content) (rows k n)) →
       (ks : List ℕ) (number parent : ℕ) → listed number parent (trees_of name content below ks) ≡ map (listed_row name content) (rows_each rows number parent ks)
   trees-listed below rows count same [] number parent = refl
   trees-listed below rows count same (k ∷ ks) number parent =
-      let row : Row → Listed ℕ = listed_row name content in
+      let row : Row → Listed NodeReference = listed_row name content in
       let rest : ℕ → List Row = λ n. rows_each rows (suc number + n) parent ks in
       let behind = trees-listed below rows count same ks (suc number + node_count (below k)) parent in
-      let first : Listed ℕ = record { parent = parent; name = name k; content = content k } in
-      let others : ℕ → List (Listed ℕ) = λ n. listed (suc number + n) parent (trees_of name content below ks) in
+      let first : Listed NodeReference = record { parent = parent; name = name k; content = content k } in
+      let others : ℕ → List (Listed NodeReference) = λ n. listed (suc number + n) parent (trees_of name content below ks) in
       let inner : listed (suc number) number (below k) ++ others (node_count (below k)) ≡ map row (rows k number) ++ map row (rest (node_count (below k))) =
-      ap (λ (xs : List (Listed ℕ)). xs ++ others (node_count (below k))) (same k number) ∙ ap (λ (xs : List (Listed ℕ)). map row (rows k number) ++ xs) behind in
+      ap (λ (xs : List (Listed NodeReference)). xs ++ others (node_count (below k))) (same k number) ∙ ap (λ (xs : List (Listed NodeReference)). map row (rows k number) ++ xs) behind in
       let counted : map row (rows k number) ++ map row (rest (node_count (below k))) ≡ map row (rows k number ++ rest (length (rows k number))) =
       ap (λ (n : ℕ). map row (rows k number) ++ map row (rest n)) (count k number) ∙ sym (map-append row (rows k number) (rest (length (rows k number)))) in
-      ap (λ (xs : List (Listed ℕ)). first ∷ xs) (inner ∙ counted)
+      ap (λ (xs : List (Listed NodeReference)). first ∷ xs) (inner ∙ counted)
 
   -- its list is that of the rows
   pub forest-listed : (children : ℕ → List ℕ) (depth k number : ℕ) →

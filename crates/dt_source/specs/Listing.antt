@@ -3,7 +3,7 @@ use Rattle.std.specs.Prelude.{◌≡◌, ℕ, zero, suc, ◌+◌, ◌<◌, List,
 use Rattle.std.specs.Option.{option_map_or}
 use Rattle.dt_model.specs.Limits.{most_names}
 use Rattle.dt_model.specs.Names.{Name}
-use Rattle.dt_model.specs.Named.{Content, NamedForest, no_nodes, branch, Named, Listed}
+use Rattle.dt_model.specs.Named.{NodeReference, Content, NamedForest, no_nodes, branch, Named, Listed}
 use Rattle.dt_source.specs.declared.growing.Node.{Node}
 use Rattle.dt_source.specs.declared.listing.Row.{Row}
 use Rattle.dt_source.specs.Owned.{AreOwned}
@@ -56,17 +56,17 @@ pub record AreNumbers (rows : List Row) (count : ℕ) (numbers : List (Option �
 -- ---- the named tree
 
 -- some siblings with what stands below them
-abbrev pub trees_of : (ℕ → Name) → (ℕ → Content ℕ) → (ℕ → NamedForest ℕ) → List ℕ → NamedForest ℕ
+abbrev pub trees_of : (ℕ → Name) → (ℕ → Content NodeReference) → (ℕ → NamedForest NodeReference) → List ℕ → NamedForest NodeReference
 trees_of name content below [] = no_nodes
 trees_of name content below (k ∷ ks) = branch (name k) (content k) (below k) (trees_of name content below ks)
 
 -- what stands below node k, as deep as the depth
-unfoldable pub forest_below : (ℕ → Name) → (ℕ → Content ℕ) → (children : ℕ → List ℕ) → (depth k : ℕ) → NamedForest ℕ
+unfoldable pub forest_below : (ℕ → Name) → (ℕ → Content NodeReference) → (children : ℕ → List ℕ) → (depth k : ℕ) → NamedForest NodeReference
 forest_below name content children zero k = no_nodes
 forest_below name content children (suc depth) k = trees_of name content (forest_below name content children depth) (children k)
 
 -- the tree of nodes with these names, this content and these children
-abbrev pub tree_with : List (ℕ × ℕ) → (ℕ → Name) → (ℕ → Content ℕ) → (children : ℕ → List ℕ) → Named ℕ
+abbrev pub tree_with : List (ℕ × ℕ) → (ℕ → Name) → (ℕ → Content NodeReference) → (children : ℕ → List ℕ) → Named NodeReference
 tree_with reservations name content children = record {
   reservations = reservations;
   content = content 0;
@@ -74,5 +74,5 @@ tree_with reservations name content children = record {
 }
 
 -- a row with the name and the content of its node
-abbrev pub listed_row : (ℕ → Name) → (ℕ → Content ℕ) → Row → Listed ℕ
+abbrev pub listed_row : (ℕ → Name) → (ℕ → Content NodeReference) → Row → Listed NodeReference
 listed_row name content r = record { parent = r.parent; name = name r.node; content = content r.node }

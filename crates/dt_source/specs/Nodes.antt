@@ -1,9 +1,14 @@
 -- What listing the nodes of a tree under construction gives, and why they aren't listed.
-use Rattle.std.specs.Prelude.{◌≡◌, ℕ, true, List, [], None, ◌⊎◌}
+use Rattle.std.specs.Prelude.{◌≡◌, ℕ, true, List, [], Option, None, ◌⊎◌}
 use Rattle.dt_model.specs.Event.{stands}
 use Rattle.dt_model.specs.Lists.{IsIn}
 use Rattle.dt_model.specs.Source.{Events, IsResolved, unresolved, bad_phandle, duplicate_phandle, IsLateRefusal}
-use Rattle.dt_model.specs.Named.{Listed, Named, list_of}
+use Rattle.dt_model.specs.Names.{Name}
+use Rattle.dt_model.specs.Path.{Path}
+use Rattle.dt_model.specs.Meaning.{Item}
+use Rattle.dt_model.specs.Overlay.{OverlayReference}
+use Rattle.dt_model.specs.Named.{NodeReference, Listed, Named, list_of}
+use Rattle.dt_model.specs.NamedOf.{IsNamedBy, bound_values}
 use Rattle.dt_names.specs.declared.fault.Fault.{Fault}
 use Rattle.dt_names.specs.declared.fault.FaultKind.{FaultKind}
 use Rattle.dt_names.specs.declared.fault.FaultKind.TheVariants as fault
@@ -11,33 +16,37 @@ use Rattle.dt_source.specs.declared.growing.Growing.{Growing}
 use Rattle.dt_source.specs.declared.contents.Belongings.{Belongings}
 use Rattle.dt_source.specs.declared.listing.Row.{Row}
 use Rattle.dt_source.specs.Owned.{group_of}
-use Rattle.dt_source.specs.Contents.{IsNamedAfter}
+use Rattle.dt_source.specs.declared.referring.Unnamed.TheVariants.{Refused}
 use Rattle.dt_source.specs.Resolving.{EachEvents, EachNaming, AreRead, AreRowsRead, IsUnreadRow}
 use Rattle.dt_source.specs.Phandles.{AreWritten, AreOwn, WhyNotNumbered}
 
 -- ---- with their rows
 
 -- the nodes of the rows are these, and the numbers that are written in them are as they have to be
-pub record AreFilled (g : Growing) (b : Belongings) (rows : List Row) (ns : List (Listed ℕ)) : Type 0 where
-  pub read : EachNaming g b.numbers.items (λ es number. AreRowsRead es number g b rows ns)
+pub record AreFilled (g : Growing) (b : Belongings) (rows : List Row) (ns : List (Listed NodeReference)) : Type 0 where
+  pub read : EachNaming g b.numbers.items (λ es number. AreRowsRead Refused es number g b rows ns)
   pub written : AreWritten b.numbers.items g.properties.items
   pub own : AreOwn b.numbers.items g.properties.items
 
 -- a reference isn't read, or all are, and a number isn't as it has to be
 abbrev pub IsUnfilled : Growing → Belongings → List Row → Fault → Type 0
-IsUnfilled g b rows e = IsUnreadRow g b rows e
-    ⊎ (EachNaming g b.numbers.items (λ es number. (r : Row) → IsIn r rows → AreRead es g.properties.items (group_of b.properties.places.items r.node))
+IsUnfilled g b rows e = IsUnreadRow Refused g b rows e
+    ⊎ (EachNaming g b.numbers.items (λ es number. (r : Row) → IsIn r rows → AreRead Refused es g.properties.items (group_of b.properties.places.items r.node))
     × WhyNotNumbered b.numbers.items g.properties.items e)
 
 -- ---- by the events
 
--- the nodes are those of a tree that has what stands after the events
-pub record AreNodesAfter (es : Events) (ns : List (Listed ℕ)) : Type 0 where
-  pub resolved : IsResolved es
-  pub tree : List (ℕ × ℕ) → Named ℕ
+-- the nodes are those of a tree that has what stands after the events, with these values
+pub record AreNodesBy (es : Events) (value : Path → Name → Option (List (Item OverlayReference))) (ns : List (Listed NodeReference)) : Type 0 where
+  pub tree : List (ℕ × ℕ) → Named NodeReference
   pub reservations : (rs : List (ℕ × ℕ)) → (tree rs).reservations ≡ rs
   pub list : (rs : List (ℕ × ℕ)) → ns ≡ list_of (tree rs)
-  pub after : (rs : List (ℕ × ℕ)) → IsNamedAfter es (tree rs)
+  pub named : (rs : List (ℕ × ℕ)) → IsNamedBy es value (tree rs)
+
+-- so are those of a base
+pub record AreNodesAfter (es : Events) (ns : List (Listed NodeReference)) : Type 0 where
+  pub resolved : IsResolved es
+  pub nodes : AreNodesBy es (bound_values es) ns
 
 -- why the nodes that stand after the events aren't those of a tree
 abbrev pub WhyNotAfter : Events → FaultKind → Type 0
@@ -48,7 +57,7 @@ WhyNotAfter es fault.DuplicatePhandle = IsLateRefusal es duplicate_phandle
 WhyNotAfter es kind = ⊥
 
 -- the nodes are those of the tree, where it has a root
-abbrev pub AreListed : Growing → List (Listed ℕ) → Type 0
+abbrev pub AreListed : Growing → List (Listed NodeReference) → Type 0
 AreListed g ns = EachEvents g (λ es. stands es [] ≡ true → AreNodesAfter es ns)
 
 abbrev pub IsUnlisted : Growing → Fault → Type 0

@@ -3,7 +3,7 @@ use Rattle.std.specs.Prelude.{◌≡◌, ℕ, List, [], ◌∷◌, ◌++◌, map
 use Rattle.dt_model.specs.Lists.{IsIn}
 use Rattle.dt_model.specs.Meaning.{Item}
 use Rattle.dt_model.specs.Event.{Stack}
-use Rattle.dt_model.specs.Source.{Part, Events, all_bound}
+use Rattle.dt_model.specs.Source.{Part, Events}
 use Rattle.dt_names.specs.declared.fault.Fault.{Fault}
 use Rattle.dt_names.specs.declared.fault.FaultKind.{FaultKind}
 use Rattle.dt_names.specs.declared.fault.FaultKind.TheVariants as fault
@@ -11,12 +11,13 @@ use Rattle.dt_parse.specs.Said.{value_said}
 use Rattle.dt_source.specs.declared.growing.Property.{Property}
 use Rattle.dt_source.specs.declared.growing.Growing.{Growing}
 use Rattle.dt_source.specs.Grown.{IsGrown}
-use Rattle.dt_model.specs.Named.{NamedProperty, Content, Listed}
+use Rattle.dt_model.specs.Named.{NodeReference, NamedProperty, Content, Listed}
 use Rattle.dt_source.specs.declared.contents.Belongings.{Belongings}
 use Rattle.dt_source.specs.declared.listing.Row.{Row}
 use Rattle.dt_source.specs.Owned.{group_of, AreOwned}
 use Rattle.dt_source.specs.Listing.{name_of, listed_row}
-use Rattle.dt_source.specs.Contents.{property_owner, label_owner, AreNamedBy, property_at, content_of}
+use Rattle.dt_source.specs.declared.referring.Unnamed.{Unnamed}
+use Rattle.dt_source.specs.Contents.{property_owner, label_owner, AreNamedBy, all_read, property_at, content_of}
 
 -- the growing tree is that of the events
 abbrev pub IsOf : Growing → Events → Type 0
@@ -27,44 +28,44 @@ abbrev pub EachNaming : Growing → List (Option ℕ) → (Events → (Stack →
 EachNaming g numbers P = (es : Events) (number : Stack → ℕ) (limit : ℕ) → IsOf g es → AreNamedBy g.nodes.items numbers limit number → P es number
 
 -- something was added to a value
-abbrev pub IsAdded : List (Item ℕ) → Option (List (Item ℕ)) → List (Item ℕ) → Type 0
-IsAdded old added new = (items : List (Item ℕ)) × (added ≡ Some items) × (new ≡ old ++ items)
+abbrev pub IsAdded : List (Item NodeReference) → Option (List (Item NodeReference)) → List (Item NodeReference) → Type 0
+IsAdded old added new = (items : List (Item NodeReference)) × (added ≡ Some items) × (new ≡ old ++ items)
 
 -- why parts aren't read
-abbrev pub WhyUnread : Events → List Part → FaultKind → Type 0
-WhyUnread es parts fault.NoMemory = Unit {0}
-WhyUnread es parts fault.UnresolvedReference = all_bound es parts ≡ None
-WhyUnread es parts kind = ⊥
+abbrev pub WhyUnread : Unnamed → Events → List Part → FaultKind → Type 0
+WhyUnread unnamed es parts fault.NoMemory = Unit {0}
+WhyUnread unnamed es parts fault.UnresolvedReference = all_read unnamed es parts ≡ None
+WhyUnread unnamed es parts kind = ⊥
 
 -- parts aren't read for this
-abbrev pub IsUnread : Growing → List Part → Fault → Type 0
-IsUnread g parts e = (e.at ≡ None) × ((es : Events) → IsOf g es → WhyUnread es parts e.kind)
+abbrev pub IsUnread : Unnamed → Growing → List Part → Fault → Type 0
+IsUnread unnamed g parts e = (e.at ≡ None) × ((es : Events) → IsOf g es → WhyUnread unnamed es parts e.kind)
 
 -- P holds of all events that the tree is of
 abbrev pub EachEvents : Growing → (Events → Type 0) → Type 0
 EachEvents g P = (es : Events) → IsOf g es → P es
 
--- the references of the properties at some places name nodes
-abbrev pub AreRead : Events → List Property → List ℕ → Type 0
-AreRead es properties places = (i : ℕ) (q : Property) → IsIn i places → slice_get properties i ≡ Some q → IsSome (all_bound es (value_said q.value.now))
+-- the references of the properties at some places are read
+abbrev pub AreRead : Unnamed → Events → List Property → List ℕ → Type 0
+AreRead unnamed es properties places = (i : ℕ) (q : Property) → IsIn i places → slice_get properties i ≡ Some q → IsSome (all_read unnamed es (value_said q.value.now))
 
 -- why the properties at some places aren't read
-abbrev pub WhyUnreadAmong : Events → List Property → List ℕ → FaultKind → Type 0
-WhyUnreadAmong es properties places fault.NoMemory = Unit {0}
-WhyUnreadAmong es properties places fault.UnresolvedReference =
-    (i : ℕ) × (q : Property) × IsIn i places × (slice_get properties i ≡ Some q) × (all_bound es (value_said q.value.now) ≡ None)
-WhyUnreadAmong es properties places kind = ⊥
+abbrev pub WhyUnreadAmong : Unnamed → Events → List Property → List ℕ → FaultKind → Type 0
+WhyUnreadAmong unnamed es properties places fault.NoMemory = Unit {0}
+WhyUnreadAmong unnamed es properties places fault.UnresolvedReference =
+    (i : ℕ) × (q : Property) × IsIn i places × (slice_get properties i ≡ Some q) × (all_read unnamed es (value_said q.value.now) ≡ None)
+WhyUnreadAmong unnamed es properties places kind = ⊥
 
-abbrev pub IsUnreadAmong : Growing → List ℕ → Fault → Type 0
-IsUnreadAmong g places e = (e.at ≡ None) × EachEvents g (λ es. WhyUnreadAmong es g.properties.items places e.kind)
+abbrev pub IsUnreadAmong : Unnamed → Growing → List ℕ → Fault → Type 0
+IsUnreadAmong unnamed g places e = (e.at ≡ None) × EachEvents g (λ es. WhyUnreadAmong unnamed es g.properties.items places e.kind)
 
--- the property of a place is this one, and its references name nodes
-abbrev pub IsPropertyRead : Events → (Stack → ℕ) → List Property → ℕ → NamedProperty ℕ → Type 0
-IsPropertyRead es number properties i p = (p ≡ property_at es number properties i) × AreRead es properties (i ∷ [])
+-- the property of a place is this one, and its references are read
+abbrev pub IsPropertyRead : Unnamed → Events → (Stack → ℕ) → List Property → ℕ → NamedProperty NodeReference → Type 0
+IsPropertyRead unnamed es number properties i p = (p ≡ property_at unnamed es number properties i) × AreRead unnamed es properties (i ∷ [])
 
 -- the properties of some places are these
-abbrev pub ArePropertiesRead : Events → (Stack → ℕ) → List Property → List ℕ → List (NamedProperty ℕ) → Type 0
-ArePropertiesRead es number properties places ps = (ps ≡ map (property_at es number properties) places) × AreRead es properties places
+abbrev pub ArePropertiesRead : Unnamed → Events → (Stack → ℕ) → List Property → List ℕ → List (NamedProperty NodeReference) → Type 0
+ArePropertiesRead unnamed es number properties places ps = (ps ≡ map (property_at unnamed es number properties) places) × AreRead unnamed es properties places
 
 -- the places are those of the nodes' properties and labels
 pub record Belong (g : Growing) (b : Belongings) : Type 0 where
@@ -72,20 +73,20 @@ pub record Belong (g : Growing) (b : Belongings) : Type 0 where
   pub labels : AreOwned (map label_owner g.givings.items) (length g.nodes.items) (group_of b.labels.places.items)
 
 -- what a node has by what belongs to each
-abbrev pub content_by : Events → (Stack → ℕ) → Growing → Belongings → ℕ → Content ℕ
-content_by es number g b = content_of es number g.properties.items g.givings.items (group_of b.properties.places.items) (group_of b.labels.places.items)
+abbrev pub content_by : Unnamed → Events → (Stack → ℕ) → Growing → Belongings → ℕ → Content NodeReference
+content_by unnamed es number g b = content_of unnamed es number g.properties.items g.givings.items (group_of b.properties.places.items) (group_of b.labels.places.items)
 
--- the node of a row is this one, and its references name nodes
-abbrev pub IsRowRead : Events → (Stack → ℕ) → Growing → Belongings → Row → Listed ℕ → Type 0
-IsRowRead es number g b r n =
-    (n ≡ listed_row (name_of g.nodes.items) (content_by es number g b) r) × AreRead es g.properties.items (group_of b.properties.places.items r.node)
+-- the node of a row is this one, and its references are read
+abbrev pub IsRowRead : Unnamed → Events → (Stack → ℕ) → Growing → Belongings → Row → Listed NodeReference → Type 0
+IsRowRead unnamed es number g b r n =
+    (n ≡ listed_row (name_of g.nodes.items) (content_by unnamed es number g b) r) × AreRead unnamed es g.properties.items (group_of b.properties.places.items r.node)
 
--- the nodes of some rows are these, and their references name nodes
-abbrev pub AreRowsRead : Events → (Stack → ℕ) → Growing → Belongings → List Row → List (Listed ℕ) → Type 0
-AreRowsRead es number g b rows ns =
-    (ns ≡ map (listed_row (name_of g.nodes.items) (content_by es number g b)) rows)
-    × ((r : Row) → IsIn r rows → AreRead es g.properties.items (group_of b.properties.places.items r.node))
+-- the nodes of some rows are these, and their references are read
+abbrev pub AreRowsRead : Unnamed → Events → (Stack → ℕ) → Growing → Belongings → List Row → List (Listed NodeReference) → Type 0
+AreRowsRead unnamed es number g b rows ns =
+    (ns ≡ map (listed_row (name_of g.nodes.items) (content_by unnamed es number g b)) rows)
+    × ((r : Row) → IsIn r rows → AreRead unnamed es g.properties.items (group_of b.properties.places.items r.node))
 
 -- why the node of a row isn't read
-abbrev pub IsUnreadRow : Growing → Belongings → List Row → Fault → Type 0
-IsUnreadRow g b rows e = (r : Row) × IsIn r rows × IsUnreadAmong g (group_of b.properties.places.items r.node) e
+abbrev pub IsUnreadRow : Unnamed → Growing → Belongings → List Row → Fault → Type 0
+IsUnreadRow unnamed g b rows e = (r : Row) × IsIn r rows × IsUnreadAmong unnamed g (group_of b.properties.places.items r.node) e

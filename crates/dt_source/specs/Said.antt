@@ -1,6 +1,6 @@
 -- What the nodes of a named tree say.
 use Rattle.std.specs.Prelude.{◌≡◌, ℕ, List, [], ◌∷◌, ◌++◌, map}
-use Rattle.std_alloc.specs.Cow.{cow_slice_items}
+use Rattle.std.specs.Cow.{cow_slice_items}
 use Rattle.dt_model.specs.Meaning.{Item, byte, reference}
 use Rattle.dt_model.specs.Named as model
 use Rattle.dt_model.specs.Overlay.{inside, outside}

@@ -13,9 +13,11 @@ use crate::groups::Groups;
 use crate::growing::{Giving, Growing, Node, Property};
 use crate::listing::{Row, numbers};
 use crate::named::{NamedNode, NamedProperty};
+use crate::referring::Unnamed;
 use crate::values::named_value;
 use dt_names::Fault;
 use std::alloc::{AllocError, Global};
+use std::borrow::CowSlice;
 
 /// What belongs to the nodes of a tree under construction: the places of their properties and of their labels, and their numbers.
 #[derive(Drop)]
@@ -136,17 +138,18 @@ fn property_there<'a>(
     alloc: Global,
     growing: &Growing<'_, 'a>,
     numbers: &[Option<usize>],
+    unnamed: Unnamed,
     place: usize,
 ) -> Result<NamedProperty<'a>, Fault>
     requires sound { IsSound growing.now }
     requires above { AreAbove growing.now.nodes.items }
     requires inside { place < length growing.now.properties.items }
     ensures { MatchResult result
-        (λ property. EachNaming growing.now numbers.now (λ es number. IsPropertyRead es number growing.now.properties.items place (property_said property)))
-        (λ fault. IsUnreadAmong growing.now (place ∷ []) fault) }
+        (λ property. EachNaming growing.now numbers.now (λ es number. IsPropertyRead unnamed es number growing.now.properties.items place (property_said property)))
+        (λ fault. IsUnreadAmong unnamed growing.now (place ∷ []) fault) }
 {
     let property = &growing.properties[place];
-    let value = named_value(alloc, growing, numbers, property.value)?;
+    let value = named_value(alloc, growing, numbers, unnamed, property.value)?;
     Ok(NamedProperty {
         name: property.name,
         value,
@@ -158,6 +161,7 @@ fn add_properties<'a>(
     alloc: Global,
     growing: &Growing<'_, 'a>,
     numbers: &[Option<usize>],
+    unnamed: Unnamed,
     places: &[usize],
     properties: &mut Vec<NamedProperty<'a>>,
 ) -> Result<(), Fault>
@@ -166,11 +170,11 @@ fn add_properties<'a>(
     requires inside { (i : ℕ) → IsIn i places.now → i < length growing.now.properties.items }
     requires empty { properties.old.items ≡ [] }
     ensures { MatchResult result
-        (λ _. EachNaming growing.now numbers.now (λ es number. ArePropertiesRead es number growing.now.properties.items places.now (map property_said properties.new.items)))
-        (λ fault. IsUnreadAmong growing.now places.now fault) }
+        (λ _. EachNaming growing.now numbers.now (λ es number. ArePropertiesRead unnamed es number growing.now.properties.items places.now (map property_said properties.new.items)))
+        (λ fault. IsUnreadAmong unnamed growing.now places.now fault) }
 {
     for place in places {
-        let property = property_there(alloc, growing, numbers, *place)?;
+        let property = property_there(alloc, growing, numbers, unnamed, *place)?;
         properties.push(property)?;
     }
     Ok(())
@@ -181,6 +185,7 @@ fn properties_at<'a>(
     alloc: Global,
     growing: &Growing<'_, 'a>,
     numbers: &[Option<usize>],
+    unnamed: Unnamed,
     places: &[usize],
 ) -> Result<Vec<NamedProperty<'a>>, Fault>
     requires sound { IsSound growing.now }
@@ -188,11 +193,11 @@ fn properties_at<'a>(
     requires inside { (i : ℕ) → IsIn i places.now → i < length growing.now.properties.items }
     ensures { MatchResult result
         (λ properties. EachNaming growing.now numbers.now (λ es number.
-        ArePropertiesRead es number growing.now.properties.items places.now (map property_said properties.items)))
-        (λ fault. IsUnreadAmong growing.now places.now fault) }
+        ArePropertiesRead unnamed es number growing.now.properties.items places.now (map property_said properties.items)))
+        (λ fault. IsUnreadAmong unnamed growing.now places.now fault) }
 {
     let mut properties = Vec::new(alloc);
-    add_properties(alloc, growing, numbers, places, &mut properties)?;
+    add_properties(alloc, growing, numbers, unnamed, places, &mut properties)?;
     Ok(properties)
 }
 
@@ -201,21 +206,22 @@ fn named_node<'a>(
     alloc: Global,
     growing: &Growing<'_, 'a>,
     belongings: &Belongings,
+    unnamed: Unnamed,
     row: Row,
 ) -> Result<NamedNode<'a>, Fault>
     requires sound { IsSound growing.now }
     requires above { AreAbove growing.now.nodes.items }
     requires belong { Belong growing.now belongings.now }
     ensures { MatchResult result
-        (λ node. EachNaming growing.now belongings.now.numbers.items (λ es number. IsRowRead es number growing.now belongings.now row (node_said node)))
-        (λ fault. IsUnreadAmong growing.now (group_of belongings.now.properties.places.items row.node) fault) }
+        (λ node. EachNaming growing.now belongings.now.numbers.items (λ es number. IsRowRead unnamed es number growing.now belongings.now row (node_said node)))
+        (λ fault. IsUnreadAmong unnamed growing.now (group_of belongings.now.properties.places.items row.node) fault) }
 {
     let labels = labels_at(alloc, &growing.givings, belongings.labels.of(row.node))?;
     let places = belongings.properties.of(row.node);
-    let properties = properties_at(alloc, growing, &belongings.numbers, places)?;
+    let properties = properties_at(alloc, growing, &belongings.numbers, unnamed, places)?;
     Ok(NamedNode {
         parent: row.parent,
-        name: name_at(&growing.nodes, row.node),
+        name: CowSlice::Borrowed(name_at(&growing.nodes, row.node)),
         labels,
         properties,
     })
@@ -226,6 +232,7 @@ pub(crate) fn add_nodes<'a>(
     alloc: Global,
     growing: &Growing<'_, 'a>,
     belongings: &Belongings,
+    unnamed: Unnamed,
     rows: &[Row],
     nodes: &mut Vec<NamedNode<'a>>,
 ) -> Result<(), Fault>
@@ -234,11 +241,11 @@ pub(crate) fn add_nodes<'a>(
     requires belong { Belong growing.now belongings.now }
     requires empty { nodes.old.items ≡ [] }
     ensures { MatchResult result
-        (λ _. EachNaming growing.now belongings.now.numbers.items (λ es number. AreRowsRead es number growing.now belongings.now rows.now (map node_said nodes.new.items)))
-        (λ fault. IsUnreadRow growing.now belongings.now rows.now fault) }
+        (λ _. EachNaming growing.now belongings.now.numbers.items (λ es number. AreRowsRead unnamed es number growing.now belongings.now rows.now (map node_said nodes.new.items)))
+        (λ fault. IsUnreadRow unnamed growing.now belongings.now rows.now fault) }
 {
     for row in rows {
-        let node = named_node(alloc, growing, belongings, *row)?;
+        let node = named_node(alloc, growing, belongings, unnamed, *row)?;
         nodes.push(node)?;
     }
     Ok(())

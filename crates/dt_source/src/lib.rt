@@ -16,5 +16,5 @@ mod table;
 mod values;
 
 pub use building::build_base;
-pub use named::{NamedNode, NamedPiece, NamedProperty, NamedTree, NamedValue};
+pub use named::{NamedNode, NamedPiece, NamedProperty, NamedReference, NamedTree, NamedValue};
 pub use reading::Mode;

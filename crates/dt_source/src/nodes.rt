@@ -12,6 +12,7 @@ use crate::growing::Growing;
 use crate::listing::{Row, rows};
 use crate::named::NamedNode;
 use crate::phandles::check_phandles;
+use crate::referring::Unnamed;
 use dt_names::Fault;
 use std::alloc::{AllocError, Global};
 
@@ -31,7 +32,7 @@ fn fill<'a>(
         (λ _. AreFilled growing.now belongings.now rows.now (map node_said nodes.new.items))
         (λ fault. IsUnfilled growing.now belongings.now rows.now fault) }
 {
-    add_nodes(alloc, growing, belongings, rows, nodes)?;
+    add_nodes(alloc, growing, belongings, Unnamed::Refused, rows, nodes)?;
     check_phandles(alloc, &growing.properties, &belongings.numbers)
 }
 

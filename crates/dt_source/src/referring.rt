@@ -12,6 +12,15 @@ use crate::growing::Growing;
 use dt_names::NodePath;
 use dt_parse::Reference;
 
+/// How a cell's reference by a label that names no node is read.
+#[derive(Clone, Copy)]
+pub(crate) enum Unnamed {
+    /// It isn't: a base refuses it.
+    Refused,
+    /// As the label, which some other tree may give: an overlay keeps it.
+    Kept,
+}
+
 impl<'s, 'a> Growing<'s, 'a> {
     /// How many names the path of a node has; none where the node is gone.
     pub fn depth(&self, node: usize) -> Option<usize>

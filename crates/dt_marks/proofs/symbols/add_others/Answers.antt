@@ -17,8 +17,8 @@ loop-node-preserved c =
     let path = c.deref-in-loop-node.result.now in
     let labels = c.deref.result.now in
     let own = map (labelled path) (map (λ (b : Bor Name). b.now) labels) in
-    let text = text_behind old.value.items old.lengths.items n.parent n.name.now in
-    let parts = node_turn (drop i nodes) rest n old.value.items old.lengths.items new.value.items new.lengths.items path labels next
+    let text = text_behind old.value.items old.lengths.items n.parent c.as_slice.result.now in
+    let parts = node_turn (drop i nodes) rest n c.as_slice.result.now old.value.items old.lengths.items new.value.items new.lengths.items path labels next c.as_slice.ensures.value
     c.in_ok-enter.ensures.value c.in_ok-enter.ensures.lengths c.deref-in-loop-node.ensures.value c.deref.ensures.value in
     record {
       there = still_there c.loop-node.tree c.add_labels.new.tree c.args.symbols own c.loop-node.invariant.there c.in_ok-add_labels.ensures.tree;

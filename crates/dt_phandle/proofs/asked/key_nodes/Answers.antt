@@ -1,8 +1,8 @@
-use Rattle.std.proofs.Common.{ℕ, ◌+◌, ◌<◌, ◌≤◌, List, length, map, drop, sym, ap, ◌∙◌, subst, arith}
+use Rattle.std.proofs.Common.{ℕ, ◌+◌, ◌≤◌, List, length, map, drop, sym, ap, ◌∙◌, subst, arith}
 use Rattle.std.specs.List.{AllByRecursion}
 use Rattle.std.proofs.lemmas.List.{drop_all}
 use Rattle.dt_model.specs.Meaning.{EachReference}
-use Rattle.dt_model.specs.NamedOf.{RefersBelow}
+use Rattle.dt_model.specs.NamedOf.{IsBelow, RefersBelow}
 use Rattle.dt_source.specs.Said.{property_said}
 use Rattle.dt_source.specs.declared.named.NamedProperty.{NamedProperty}
 use Rattle.dt_source.specs.declared.named.NamedNode.{NamedNode}
@@ -17,7 +17,7 @@ key_properties-requires c =
     let P = λ (ps : List NamedNode). AllByRecursion (RefersBelow (length c.args.asked.now)) (map content_said ps) in
     let each = subst P next c.loop-node.invariant.referred in
     let here = subst (λ (n : ℕ). RefersBelow n (content_said c.node-item.result)) (sym c.loop-node.auto.asked) each.0 in
-    subst (λ (ps : List NamedProperty). AllByRecursion (λ p. EachReference (λ k. k < length c.loop-node.asked) p.value) (map property_said ps)) (sym c.deref.ensures.value) here
+    subst (λ (ps : List NamedProperty). AllByRecursion (λ p. EachReference (IsBelow (length c.loop-node.asked)) p.value) (map property_said ps)) (sym c.deref.ensures.value) here
 
 pub loop-node-preserved : goal.loop-node-preserved
 loop-node-preserved c =

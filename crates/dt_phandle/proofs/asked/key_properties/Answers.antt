@@ -1,6 +1,7 @@
-use Rattle.std.proofs.Common.{ℕ, ◌+◌, ◌<◌, ◌≤◌, List, length, map, drop, sym, ap, ◌∙◌, subst, arith}
+use Rattle.std.proofs.Common.{ℕ, ◌+◌, ◌≤◌, List, length, map, drop, sym, ap, ◌∙◌, subst, arith}
 use Rattle.std.specs.List.{AllByRecursion}
 use Rattle.std.proofs.lemmas.List.{drop_all}
+use Rattle.dt_model.specs.NamedOf.{IsBelow}
 use Rattle.dt_model.specs.Meaning.{EachReference}
 use Rattle.dt_source.specs.Said.{property_said, value_said}
 use Rattle.dt_source.specs.declared.named.NamedProperty.{NamedProperty}
@@ -12,15 +13,15 @@ pub key_value-requires : goal.key_value-requires
 key_value-requires c =
     let i = c.loop-property.property-index in
     let next = next_item c.args.properties.now i c.property-item.result (omega arith) c.property-item.is in
-    let P = λ (ps : List NamedProperty). AllByRecursion (λ p. EachReference (λ k. k < length c.args.asked.now) p.value) (map property_said ps) in
+    let P = λ (ps : List NamedProperty). AllByRecursion (λ p. EachReference (IsBelow (length c.args.asked.now)) p.value) (map property_said ps) in
     let each = subst P next c.loop-property.invariant.referred in
-    subst (λ (n : ℕ). EachReference (λ k. k < n) (value_said c.property-item.result.value)) (sym c.loop-property.auto.asked) each.0
+    subst (λ (n : ℕ). EachReference (IsBelow n) (value_said c.property-item.result.value)) (sym c.loop-property.auto.asked) each.0
 
 pub loop-property-preserved : goal.loop-property-preserved
 loop-property-preserved c =
     let i = c.loop-property.property-index in
     let next = next_item c.args.properties.now i c.property-item.result (omega arith) c.property-item.is in
-    let P = λ (ps : List NamedProperty). AllByRecursion (λ p. EachReference (λ k. k < length c.args.asked.now) p.value) (map property_said ps) in
+    let P = λ (ps : List NamedProperty). AllByRecursion (λ p. EachReference (IsBelow (length c.args.asked.now)) p.value) (map property_said ps) in
     let each = subst P next c.loop-property.invariant.referred in
     let rest = map property_said (drop (i + 1) c.args.properties.now) in
     record {

@@ -1,7 +1,8 @@
-use Rattle.std.proofs.Common.{◌≡◌, ℕ, ◌+◌, ◌<◌, ◌≤◌, List, Option, ◌++◌, length, map, drop, get_or, unwrap_or, arith, ap, ◌∙◌}
-use Rattle.dt_model.specs.Instance.{number_at}
+use Rattle.std.proofs.Common.{◌≡◌, ℕ, ◌+◌, ◌<◌, ◌≤◌, List, ◌++◌, length, map, drop, get_or, arith, ap, ◌∙◌}
+use Rattle.dt_model.specs.Instance.{number_for}
 use Rattle.dt_model.specs.Meaning.{byte, cell, value_bytes}
-use Rattle.dt_source.specs.Said.{pieces_said, value_said}
+use Rattle.dt_model.specs.Named.{NodeReference}
+use Rattle.dt_source.specs.Said.{reference_said, pieces_said, value_said}
 use Rattle.dt_source.specs.declared.named.NamedPiece.{NamedPiece}
 use Rattle.dt_phandle.proofs.Asking.{next_item, piece_next}
 use Rattle.dt_phandle.proofs.Cells.{piece_written, last_written}
@@ -11,17 +12,17 @@ pub loop-piece-preserved : goal.loop-piece-preserved
 loop-piece-preserved c =
     let items = c.args.value.now.pieces.items in
     let bytes = c.args.value.now.bytes.items in
-    let number : ℕ → ℕ = λ k. unwrap_or (number_at c.args.numbering.now k) 0 in
+    let number : NodeReference → ℕ = number_for c.args.numbering.now in
     let i = c.loop-piece.piece-index in
     let p = c.piece-item.result in
     let lt : i < length items = omega (arith, ap length c.deref-piece-items.ensures.value) in
     let next = next_item items i p lt (c.piece-item.is ∙ ap (λ (xs : List NamedPiece). get_or xs i p) c.deref-piece-items.ensures.value) in
     let before = c.loop-piece.bytes.items in
     let middle = c.in_ok-extend_from_slice.ensures.items ∙ ap (λ (bs : List ℕ). before ++ bs) c.deref.ensures.value in
-    let own : c.unwrap_or-number.result ≡ number p.node = c.unwrap_or-number.ensures ∙ ap (λ (o : Option ℕ). unwrap_or o 0) c.of.ensures in
-    let written : c.to_be_bytes.result ≡ cell (number p.node) = c.to_be_bytes.ensures ∙ ap cell own in
+    let r = reference_said p.reference in
+    let written : c.to_be_bytes.result ≡ cell (number r) = c.to_be_bytes.ensures ∙ ap cell c.number_for-number.ensures in
     let last = c.in_ok-extend_from_slice-2.ensures.items ∙ ap (λ (bs : List ℕ). c.extend_from_slice.new.self.items ++ bs) written in
-    piece_written number (pieces_said (drop i items) ++ map byte bytes) (pieces_said (drop (i + 1) items) ++ map byte bytes) p.before.items p.node
+    piece_written number (pieces_said (drop i items) ++ map byte bytes) (pieces_said (drop (i + 1) items) ++ map byte bytes) p.before.items r
     before c.extend_from_slice.new.self.items c.extend_from_slice-in-loop-piece.new.self.items (piece_next items bytes i p next) middle last
     ∙ c.loop-piece.invariant
 
@@ -29,7 +30,7 @@ pub returns : goal.returns
 returns c =
     let items = c.args.value.now.pieces.items in
     let bytes = c.args.value.now.bytes.items in
-    let number : ℕ → ℕ = λ k. unwrap_or (number_at c.args.numbering.now k) 0 in
+    let number : NodeReference → ℕ = number_for c.args.numbering.now in
     let past : length items ≤ c.loop-piece.piece-index = omega (arith, ap length c.deref-piece-items.ensures.value) in
     last_written number items bytes c.loop-piece.piece-index c.loop-piece.bytes.items c.extend_from_slice-2.new.self.items (value_bytes number (value_said c.args.value.now))
     past (c.in_ok-extend_from_slice-3.ensures.items ∙ ap (λ (bs : List ℕ). c.loop-piece.bytes.items ++ bs) c.deref-2.ensures.value) c.loop-piece.invariant

@@ -1,11 +1,11 @@
 -- The bytes so far, and those of what is left, are the value's.
-use Rattle.std.proofs.Common.{◌≡◌, ◌++◌, map, drop, unwrap_or}
-use Rattle.dt_model.specs.Instance.{number_at}
+use Rattle.std.proofs.Common.{◌≡◌, ◌++◌, map, drop}
+use Rattle.dt_model.specs.Instance.{number_for}
 use Rattle.dt_model.specs.Meaning.{byte, value_bytes}
 use Rattle.dt_source.specs.Said.{pieces_said, value_said}
 use Rattle.dt_phandle.proofs.numbered.write_value.Given as goal
 
 abbrev pub invariant-loop-piece : goal.invariant-loop-piece
 invariant-loop-piece l =
-    l.bytes.items ++ value_bytes (λ k. unwrap_or (number_at l.numbering k) 0) (pieces_said (drop l.piece-index l.value.pieces.items) ++ map byte l.value.bytes.items)
-    ≡ value_bytes (λ k. unwrap_or (number_at l.numbering k) 0) (value_said l.value)
+    l.bytes.items ++ value_bytes (number_for l.numbering) (pieces_said (drop l.piece-index l.value.pieces.items) ++ map byte l.value.bytes.items)
+    ≡ value_bytes (number_for l.numbering) (value_said l.value)

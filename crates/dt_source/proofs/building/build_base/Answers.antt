@@ -3,7 +3,7 @@ use Rattle.std.proofs.lemmas.List.{length-map}
 use Rattle.dt_names.specs.declared.fault.Fault.{Fault}
 use Rattle.dt_names.specs.declared.fault.FaultKind.TheVariants.{Limit}
 use Rattle.dt_model.specs.Limits.{most_nodes}
-use Rattle.dt_model.specs.Named.{NamedList, tree_of}
+use Rattle.dt_model.specs.Named.{NodeReference, NamedList, tree_of}
 use Rattle.dt_model.specs.NamedOf.{IsNamedOf}
 use Rattle.dt_model.specs.Source.{Place}
 use Rattle.dt_source.specs.Building.{AreNodesOf, MayBeWhole}
@@ -29,7 +29,7 @@ returns-clause-tree c =
     let ns = map node_said c.in_ok-nodes.nodes.items in
     let h = subst (λ (ps : List Place). AreNodesOf mode ps ns) c.items.ensures c.in_ok-nodes.ensures in
     let means = tree_means mode s ns h c.list_is_of_its_tree.ensures c.spelled.ensures.nested c.nested_places.ensures.closed in
-    of_result (λ (t : NamedList ℕ). IsNamedOf mode s.reservations s.places (tree_of t)) c.whole.result _ _ c.whole.ensures
+    of_result (λ (t : NamedList NodeReference). IsNamedOf mode s.reservations s.places (tree_of t)) c.whole.result _ _ c.whole.ensures
     (subst (λ (rs : List (ℕ × ℕ)). IsNamedOf mode s.reservations s.places (tree_of (record { reservations = rs; nodes = ns }))) (sym (c.in_ok-reservations.ensures ∙ c.reservations.ensures)) means)
 
 pub returns-clause-refused : goal.returns-clause-refused

@@ -8,7 +8,7 @@ use Rattle.dt_source.proofs.contents.add_nodes.Goals as goal
 pub returns-in_err-node : goal.returns-in_err-node
 returns-in_err-node c =
     let e = err_from_is_err_and c.from_residual.result c.from_residual.ensures.1 in
-    rw (e.1, e.2) (unread_row c.args.growing.now c.args.belongings.now c.args.rows.now c.loop-row.row-index (record { node = 0; parent = 0 }) c.in_err-node.field-0.0 c.loop-row-test.true c.in_err-node.ensures)
+    rw (e.1, e.2) (unread_row c.args.unnamed c.args.growing.now c.args.belongings.now c.args.rows.now c.loop-row.row-index (record { node = 0; parent = 0 }) c.in_err-node.field-0.0 c.loop-row-test.true c.in_err-node.ensures)
 
 pub returns-in_err-push : goal.returns-in_err-push
 returns-in_err-push c =
@@ -18,9 +18,9 @@ returns-in_err-push c =
     let rows = c.args.rows.now in
     let k = c.loop-row.row-index in
     let d : Row = record { node = 0; parent = 0 } in
-    rw e.1 (unread_row g b rows k d e.0 c.loop-row-test.true (unread_for_memory g (group_of b.properties.places.items (get_or rows k d).node) e.0 e.2.0 e.2.1))
+    rw e.1 (unread_row c.args.unnamed g b rows k d e.0 c.loop-row-test.true (unread_for_memory c.args.unnamed g (group_of b.properties.places.items (get_or rows k d).node) e.0 e.2.0 e.2.1))
 
 pub loop-row-preserved : goal.loop-row-preserved
 loop-row-preserved c =
-    rows_more c.args.growing.now c.args.belongings.now c.args.rows.now c.loop-row.row-index (record { node = 0; parent = 0 }) c.loop-row.nodes.items c.push.new.self.items c.in_ok-node.node
+    rows_more c.args.unnamed c.args.growing.now c.args.belongings.now c.args.rows.now c.loop-row.row-index (record { node = 0; parent = 0 }) c.loop-row.nodes.items c.push.new.self.items c.in_ok-node.node
     c.loop-row-test.true c.in_ok-push.ensures.items c.loop-row.invariant c.in_ok-node.ensures

@@ -6,4 +6,4 @@ use Rattle.dt_source.proofs.contents.add_nodes.Given as goal
 abbrev pub invariant-loop-row : goal.invariant-loop-row
 invariant-loop-row l =
     EachNaming l.growing l.belongings.numbers.items (λ es number.
-    AreRowsRead es number l.growing l.belongings (take l.row-index l.rows) (map node_said l.nodes.items))
+    AreRowsRead l.unnamed es number l.growing l.belongings (take l.row-index l.rows) (map node_said l.nodes.items))

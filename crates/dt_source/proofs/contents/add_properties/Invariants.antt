@@ -6,4 +6,4 @@ use Rattle.dt_source.proofs.contents.add_properties.Given as goal
 abbrev pub invariant-loop-place : goal.invariant-loop-place
 invariant-loop-place l =
     EachNaming l.growing l.numbers (λ es number.
-    ArePropertiesRead es number l.growing.properties.items (take l.place-index l.places) (map property_said l.properties.items))
+    ArePropertiesRead l.unnamed es number l.growing.properties.items (take l.place-index l.places) (map property_said l.properties.items))

@@ -12,7 +12,7 @@ returns-in_err-value c =
     let there : slice_get properties c.args.place ≡ Some q =
     slice_get-get_or properties c.args.place q c.requires.inside ∙ ap (λ (p : Property). Some p) (sym c.index-property.ensures) in
     let e = err_from_is_err_and c.from_residual.result c.from_residual.ensures.1 in
-    rw (e.1, e.2) (unread_property c.args.growing.now c.args.place q c.in_err-value.field-0.0 there c.in_err-value.ensures)
+    rw (e.1, e.2) (unread_property c.args.unnamed c.args.growing.now c.args.place q c.in_err-value.field-0.0 there c.in_err-value.ensures)
 
 pub returns : goal.returns
 returns c =
@@ -20,4 +20,4 @@ returns c =
     let q = c.index-property.result.now in
     let there : slice_get properties c.args.place ≡ Some q =
     slice_get-get_or properties c.args.place q c.requires.inside ∙ ap (λ (p : Property). Some p) (sym c.index-property.ensures) in
-    property_read c.args.growing.now c.args.numbers.now c.args.place q c.in_ok-value.value there c.in_ok-value.ensures
+    property_read c.args.unnamed c.args.growing.now c.args.numbers.now c.args.place q c.in_ok-value.value there c.in_ok-value.ensures

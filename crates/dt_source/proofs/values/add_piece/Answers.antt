@@ -13,5 +13,5 @@ returns c =
     let mid : value_said c.add_bytes.new.value ≡ old ++ map byte p.before.items =
     c.in_ok-add_bytes.ensures ∙ ap (λ (bs : List ℕ). old ++ map byte bs) c.deref.ensures.value in
     result_map c.add_reference.result _ _ _ _
-    (λ _ h. piece_added c.args.growing.now c.args.numbers.now p x old (value_said c.add_bytes.new.value) (value_said c.add_reference.new.value) refl mid h)
-    (λ e h. unread_piece c.args.growing.now p.before.items x e h) c.add_reference.ensures
+    (λ _ h. piece_added c.args.unnamed c.args.growing.now c.args.numbers.now p x old (value_said c.add_bytes.new.value) (value_said c.add_reference.new.value) refl mid h)
+    (λ e h. unread_piece c.args.unnamed c.args.growing.now p.before.items x e h) c.add_reference.ensures

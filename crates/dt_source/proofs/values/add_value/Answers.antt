@@ -20,9 +20,9 @@ returns-in_err-add_piece c =
     let size : length c.deref-piece-items.result.now ≡ length ps = ap (λ (qs : List Piece). length qs) items in
     let near : i < length ps = omega arith in
     let e = err_from_is_err_and c.from_residual.result c.from_residual.ensures.1 in
-    let why : IsUnread c.args.growing.now (piece_parts (get_or ps i p)) c.in_err-add_piece.field-0.0 =
-    subst (λ (q : Piece). IsUnread c.args.growing.now (piece_parts q) c.in_err-add_piece.field-0.0) at c.in_err-add_piece.ensures in
-    rw (e.1, e.2) (unread_value c.args.growing.now v i p c.in_err-add_piece.field-0.0 near why)
+    let why : IsUnread c.args.unnamed c.args.growing.now (piece_parts (get_or ps i p)) c.in_err-add_piece.field-0.0 =
+    subst (λ (q : Piece). IsUnread c.args.unnamed c.args.growing.now (piece_parts q) c.in_err-add_piece.field-0.0) at c.in_err-add_piece.ensures in
+    rw (e.1, e.2) (unread_value c.args.unnamed c.args.growing.now v i p c.in_err-add_piece.field-0.0 near why)
 
 pub loop-piece-preserved : goal.loop-piece-preserved
 loop-piece-preserved c =
@@ -32,9 +32,9 @@ loop-piece-preserved c =
     let g = c.args.growing.now in
     let old = value_said c.loop-piece.value in
     let new = value_said c.add_piece.new.value in
-    let added : EachNaming g c.args.numbers.now (λ es number. IsAdded old (named_parts es number (piece_parts (get_or ps i p))) new) =
-    subst (λ (q : Piece). EachNaming g c.args.numbers.now (λ es number. IsAdded old (named_parts es number (piece_parts q)) new)) c.piece-item.is c.in_ok-add_piece.ensures in
-    pieces_more g c.args.numbers.now ps i p old new c.loop-piece-test.true c.loop-piece.invariant added
+    let added : EachNaming g c.args.numbers.now (λ es number. IsAdded old (named_parts c.args.unnamed es number (piece_parts (get_or ps i p))) new) =
+    subst (λ (q : Piece). EachNaming g c.args.numbers.now (λ es number. IsAdded old (named_parts c.args.unnamed es number (piece_parts q)) new)) c.piece-item.is c.in_ok-add_piece.ensures in
+    pieces_more c.args.unnamed g c.args.numbers.now ps i p old new c.loop-piece-test.true c.loop-piece.invariant added
 
 pub returns : goal.returns
 returns c =
@@ -45,5 +45,5 @@ returns c =
     let all : length v.pieces.items ≤ i = omega arith in
     let old = value_said c.loop-piece.value in
     let bytes : value_said c.add_bytes.new.value ≡ old ++ map byte v.bytes.items = c.in_ok-add_bytes.ensures ∙ ap (λ (bs : List ℕ). old ++ map byte bs) c.deref.ensures.value in
-    let before = subst (λ (qs : List Piece). EachNaming c.args.growing.now c.args.numbers.now (λ es number. named_parts es number (pieces_parts (take i qs)) ≡ Some old)) items c.loop-piece.invariant in
-    value_read c.args.growing.now c.args.numbers.now v i old (value_said c.add_bytes.new.value) all before bytes
+    let before = subst (λ (qs : List Piece). EachNaming c.args.growing.now c.args.numbers.now (λ es number. named_parts c.args.unnamed es number (pieces_parts (take i qs)) ≡ Some old)) items c.loop-piece.invariant in
+    value_read c.args.unnamed c.args.growing.now c.args.numbers.now v i old (value_said c.add_bytes.new.value) all before bytes

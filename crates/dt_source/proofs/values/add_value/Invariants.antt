@@ -7,4 +7,4 @@ use Rattle.dt_source.proofs.values.add_value.Given as goal
 
 abbrev pub invariant-loop-piece : goal.invariant-loop-piece
 invariant-loop-piece l =
-    EachNaming l.growing l.numbers (λ es number. named_parts es number (pieces_parts (take l.piece-index l.piece-items)) ≡ Some (value_said l.value))
+    EachNaming l.growing l.numbers (λ es number. named_parts l.unnamed es number (pieces_parts (take l.piece-index l.piece-items)) ≡ Some (value_said l.value))
