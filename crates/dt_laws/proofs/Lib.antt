@@ -124,3 +124,7 @@ pub mod CompiledTrees
 pub mod CheckedRefusals
 pub mod CheckedOrders
 pub mod CheckedCompiled
+mod OneOverlay
+mod OverlayDepths
+mod OverlayNested
+mod OverlayRefusals
