@@ -128,3 +128,6 @@ mod OneOverlay
 mod OverlayDepths
 mod OverlayNested
 mod OverlayRefusals
+mod NamedOverlays
+mod SameNamed
+mod OneObject

@@ -27,7 +27,8 @@ pub use named::{
     meant_is_named, named_is_not_refused, nodes_are_shallow, root_stands, tree_is_meant,
 };
 pub use overlay_sources::{
-    overlay_is_one, overlay_is_placed, overlay_nodes_are_shallow, overlay_refusal_is_one,
+    named_overlay_is_not_refused, object_is_one, overlay_is_named, overlay_is_one,
+    overlay_is_placed, overlay_nodes_are_shallow, overlay_refusal_is_one,
 };
 pub use sources::{
     fragment_is_new, label_is_one_nodes, order_is_one, overlay_source_is_an_overlay,

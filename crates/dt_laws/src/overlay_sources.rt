@@ -8,6 +8,10 @@ ghost use Rattle.dt_laws.specs.OverlayTrees.{
   OverlayRootStands,
   OverlayRefusalIsOne,
   OverlayIsNotRefused,
+  OverlayIsNamed,
+  OverlayManyStand,
+  NamedOverlayIsNotRefused,
+  OneObject,
 };
 
 /// The places of an overlay's source mean one overlay.
@@ -32,4 +36,21 @@ pub fn overlay_refusal_is_one()
 pub fn overlay_is_placed()
     ensures placed { OverlayIsPlaced }
     ensures closed { OverlayIsClosed }
+{}
+
+/// A named tree that the places of an overlay's source mean is one that a source may mean, where it isn't too large; where
+/// it is, too many nodes stand.
+pub fn overlay_is_named()
+    ensures named { OverlayIsNamed }
+    ensures many { OverlayManyStand }
+{}
+
+/// An overlay's source that means a named tree whose nodes aren't too many isn't refused.
+pub fn named_overlay_is_not_refused()
+    ensures { NamedOverlayIsNotRefused }
+{}
+
+/// An overlay's source is compiled to one tree.
+pub fn object_is_one()
+    ensures { OneObject }
 {}
