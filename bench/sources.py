@@ -10,6 +10,8 @@ import sys
 import tempfile
 import time
 
+from peaks import peak
+
 RUNS = 3
 WIDTH = 255  # how many children a node has, where the nodes themselves aren't the point
 
@@ -94,17 +96,15 @@ def seconds(command):
     best = None
     for _ in range(RUNS):
         start = time.perf_counter()
-        process = subprocess.Popen(["timeout", "10"] + command, stdout=subprocess.DEVNULL, stderr=subprocess.DEVNULL)
-        _, status, usage = os.wait4(process.pid, 0)
-        took = time.perf_counter() - start
-        process.returncode = os.waitstatus_to_exitcode(status)
-        if process.returncode == 124:
+        try:
+            done = subprocess.run(command, stdout=subprocess.DEVNULL, stderr=subprocess.DEVNULL, timeout=10)
+        except subprocess.TimeoutExpired:
             return "over 10 s"
-        if process.returncode:
+        took = time.perf_counter() - start
+        if done.returncode:
             return "refuses"
-        if best is None or took < best[0]:
-            best = took, usage.ru_maxrss / 1024
-    return f"{best[0]:7.3f} s {best[1]:4.0f} MiB"
+        best = min(best or took, took)
+    return f"{best:7.3f} s {peak(command):4.0f} MiB"
 
 
 def main():
