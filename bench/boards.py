@@ -10,9 +10,11 @@ A folder of real boards is made of a Linux source tree, each board behind the C 
     python3 bench/boards.py make linux-source-* FOLDER
 
 Two blobs say the same where the nodes, the order of siblings and the values are the same, a number of a node standing for
-that node wherever either compiler put it, and where properties are the same in any order. Overlays (`/plugin/`) are counted
-and left out. dtc has to be installed."""
+that node wherever either compiler put it, and where properties are the same in any order. Two knowing differences aside: a
+node that is deleted and comes again stands last here, and dtc drops a property `name` that is its node's name. An object's
+lists of cells may be in any order. dtc has to be installed."""
 import os
+import re
 import struct
 import subprocess
 import sys
@@ -20,6 +22,8 @@ import tempfile
 import time
 from collections import Counter
 from concurrent.futures import ThreadPoolExecutor
+
+from peaks import peak
 
 
 def make(linux, folder):
@@ -44,17 +48,15 @@ def make(linux, folder):
 
 
 def run(command, seconds=60):
-    """The bytes that a command writes, its status, the last line that it tells, its wall time, and its peak memory in MiB."""
+    """The bytes that a command writes, its status, the last line that it tells, and its wall time."""
     with tempfile.TemporaryFile() as out, tempfile.TemporaryFile() as told:
         start = time.perf_counter()
-        process = subprocess.Popen(command, stdout=out, stderr=told)
-        _, status, usage = os.wait4(process.pid, 0)
+        done = subprocess.run(command, stdout=out, stderr=told, timeout=seconds)
         took = time.perf_counter() - start
-        process.returncode = os.waitstatus_to_exitcode(status)
         out.seek(0)
         told.seek(0)
         lines = told.read().decode(errors="replace").strip().splitlines()
-        return out.read(), process.returncode, lines[-1] if lines else "", took, usage.ru_maxrss / 1024
+        return out.read(), done.returncode, lines[-1] if lines else "", took
 
 
 class Tree:
@@ -108,16 +110,40 @@ def same_value(a, b, ours, theirs):
     return True
 
 
-def difference(ours, theirs):
-    """The first thing in which two trees differ, None where there is none."""
+def moved_names(source):
+    """The names of the nodes that a source deletes: one that comes again stands last here, and in its old place in dtc."""
+    names = set()
+    for by_label, name in re.findall(rb"/delete-node/\s+(&?)([^;\s]+)\s*;", source):
+        names.update(re.findall(rb"\b" + re.escape(name) + rb":\s*(?:\w+:\s*)*([\w,.+@#?*-]+)\s*\{", source) if by_label else [name])
+    return names
+
+
+def are_same_cells(path, a, b):
+    """Whether an object's lists of cells say the same, in any order."""
+    if path.startswith(b"/__fixups__"):
+        return sorted(a.split(b"\0")) == sorted(b.split(b"\0"))
+    cells = lambda value: sorted(value[at:at + 4] for at in range(0, len(value), 4))
+    return path.startswith(b"/__local_fixups__") and cells(a) == cells(b)
+
+
+def difference(ours, theirs, moved):
+    """The first thing in which two trees differ, aside from the place of nodes with these names; None where there is none."""
     if ours.reservations != theirs.reservations:
         return "reservations"
-    if [path for path, _ in ours.nodes] != [path for path, _ in theirs.nodes]:
-        a, b = set(path for path, _ in ours.nodes), set(path for path, _ in theirs.nodes)
-        return f"nodes {sorted(a ^ b)[:3]}" if a != b else "the order of siblings"
-    for (path, a), (_, b) in zip(ours.nodes, theirs.nodes):
+    a, b = ([path for path, _ in tree.nodes if not moved.intersection(path.split(b"/"))] for tree in (ours, theirs))
+    mine, others = dict(ours.nodes), dict(theirs.nodes)
+    if mine.keys() != others.keys():
+        return f"nodes {sorted(mine.keys() ^ others.keys())[:3]}"
+    if a != b:
+        return "the order of siblings"
+    for path in mine:
+        a, b = mine[path], others[path]
         for name in sorted(a.keys() | b.keys()):
+            if name == b"name" and name not in b and a[name] == path.split(b"/")[-1].split(b"@")[0] + b"\0":
+                continue
             if name in a and name in b and (name == b"phandle" or same_value(a[name], b[name], ours, theirs)):
+                continue
+            if name in a and name in b and are_same_cells(path, a[name], b[name]):
                 continue
             return f"{path.decode()} {name.decode()}"
     return None
@@ -125,12 +151,14 @@ def difference(ours, theirs):
 
 def compare(tool, path, runs):
     """What came of one source: a word for it, and the ratios of time and memory where both compiled it."""
-    ours = min((run([tool, "compile", path]) for _ in range(runs)), key=lambda r: r[3])
-    theirs = min((run(["dtc", "-q", "-@", "-I", "dts", "-O", "dtb", path]) for _ in range(runs)), key=lambda r: r[3])
+    commands = [tool, "compile", path], ["dtc", "-q", "-@", "-I", "dts", "-O", "dtb", path]
+    ours, theirs = (min((run(command) for _ in range(runs)), key=lambda r: r[3]) for command in commands)
     if ours[1] or theirs[1]:
         return ("dtool refuses" if ours[1] else "compiles") + (", dtc refuses" if theirs[1] else ", dtc compiles"), ours[2], None
-    found = difference(Tree(ours[0]), Tree(theirs[0]))
-    return ("the same" if found is None else "other"), found, (ours[3] / theirs[3], ours[4] / theirs[4], path)
+    with open(path, "rb") as source:
+        found = difference(Tree(ours[0]), Tree(theirs[0]), moved_names(source.read()))
+    ratio = ours[3] / theirs[3], peak(commands[0]) / peak(commands[1]), path
+    return "the same" if found is None else "other", found, ratio
 
 
 def main():
@@ -140,10 +168,6 @@ def main():
     words, faults, ratios = Counter(), Counter(), []
     for base, _, names in sorted(os.walk(folder)):
         for path in sorted(os.path.join(base, name) for name in names if name.endswith((".dts", ".dtso"))):
-            with open(path, "rb") as source:
-                if b"/plugin/" in source.read():
-                    words["overlays, left out"] += 1
-                    continue
             word, told, ratio = compare(tool, path, runs)
             words[word] += 1
             if word != "the same":

@@ -10,6 +10,8 @@ import sys
 import tempfile
 import time
 
+from peaks import peak
+
 BUSES, DEVICES, RUNS = 255, 200, 7
 
 
@@ -26,19 +28,16 @@ def source():
 
 
 def best(command, out):
-    """The shortest wall time of some runs, in seconds, and the most memory that one of them took, in MiB."""
-    times, peaks = [], []
+    """The shortest wall time of some runs, in seconds, and the most memory that one takes, in MiB."""
+    times = []
     for _ in range(RUNS):
         with open(out, "wb") as to:
             start = time.perf_counter()
-            process = subprocess.Popen(command, stdout=to)
-            _, status, usage = os.wait4(process.pid, 0)
+            done = subprocess.run(command, stdout=to)
             times.append(time.perf_counter() - start)
-            process.returncode = os.waitstatus_to_exitcode(status)
-        if process.returncode:
-            sys.exit(f"{command[0]} ended with status {process.returncode}")
-        peaks.append(usage.ru_maxrss / 1024)
-    return min(times), max(peaks)
+        if done.returncode:
+            sys.exit(f"{command[0]} ended with status {done.returncode}")
+    return min(times), peak(command)
 
 
 def main():

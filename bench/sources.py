@@ -10,6 +10,8 @@ import sys
 import tempfile
 import time
 
+from peaks import peak
+
 RUNS = 3
 WIDTH = 255  # how many children a node has, where the nodes themselves aren't the point
 
@@ -85,8 +87,32 @@ def written_numbers(count):
     return "/ {\n" + tree(count, lambda i: f"n{i} {{ phandle = <{i + 1}>; }}; ") + "};\n"
 
 
-KINDS = [nodes, siblings, labels, labels_of_one_node, references_by_label, references_by_path, references_as_texts, reopened_nodes, blocks,
-         deletions, deleted_and_back, properties, properties_of_one_node, redefined_properties, written_numbers]
+# ---- overlays
+
+def fragments(count):
+    return "".join(f"&l{i} {{ p; }};\n" for i in range(count // 2))
+
+
+def fragments_by_path(count):
+    return "".join(f"&{{/n{i}}} {{ p; }};\n" for i in range(count // 2))
+
+
+def outside_references(count):
+    return "&l { p = <" + " ".join(f"&l{i}" for i in range(count)) + ">; };\n"
+
+
+def references_by_one_label(count):
+    return "&l { p = <" + "&x " * count + ">; };\n"
+
+
+def inside_references(count):
+    nodes = tree(count, lambda i: f"n{i}: n{i} {{ p = <&n{i}>; }}; ")
+    return "&l {\n" + nodes + "};\n"
+
+
+SOURCES = [nodes, siblings, labels, labels_of_one_node, references_by_label, references_by_path, references_as_texts, reopened_nodes, blocks,
+           deletions, deleted_and_back, properties, properties_of_one_node, redefined_properties, written_numbers]
+OVERLAYS = [fragments, fragments_by_path, labels_of_one_node, outside_references, references_by_one_label, inside_references, properties_of_one_node]
 
 
 def seconds(command):
@@ -94,17 +120,15 @@ def seconds(command):
     best = None
     for _ in range(RUNS):
         start = time.perf_counter()
-        process = subprocess.Popen(["timeout", "10"] + command, stdout=subprocess.DEVNULL, stderr=subprocess.DEVNULL)
-        _, status, usage = os.wait4(process.pid, 0)
-        took = time.perf_counter() - start
-        process.returncode = os.waitstatus_to_exitcode(status)
-        if process.returncode == 124:
+        try:
+            done = subprocess.run(command, stdout=subprocess.DEVNULL, stderr=subprocess.DEVNULL, timeout=10)
+        except subprocess.TimeoutExpired:
             return "over 10 s"
-        if process.returncode:
+        took = time.perf_counter() - start
+        if done.returncode:
             return "refuses"
-        if best is None or took < best[0]:
-            best = took, usage.ru_maxrss / 1024
-    return f"{best[0]:7.3f} s {best[1]:4.0f} MiB"
+        best = min(best or took, took)
+    return f"{best:7.3f} s {peak(command):4.0f} MiB"
 
 
 def main():
@@ -114,14 +138,15 @@ def main():
     print(f"{'':24}{'dtool, ' + str(many):20}{'dtool, ' + str(few):20}{'dtc, ' + str(few):20}")
     with tempfile.TemporaryDirectory() as folder:
         path = os.path.join(folder, "source.dts")
-        for kind in KINDS:
-            words = []
-            for count, command in ((many, [tool, "compile", path]), (few, [tool, "compile", path]),
-                                   (few, ["dtc", "-q", "-@", "-I", "dts", "-O", "dtb", path])):
-                with open(path, "w") as to:
-                    to.write("/dts-v1/;\n" + kind(min(count, 64500) if kind is not deleted_and_back else count))
-                words.append(seconds(command))
-            print(f"{kind.__name__.replace('_', ' '):24}" + "".join(f"{word:20}" for word in words), flush=True)
+        for begin, kinds in ("/dts-v1/;\n", SOURCES), ("/dts-v1/;\n/plugin/;\n", OVERLAYS):
+            for kind in kinds:
+                words = []
+                for count, command in ((many, [tool, "compile", path]), (few, [tool, "compile", path]),
+                                       (few, ["dtc", "-q", "-@", "-I", "dts", "-O", "dtb", path])):
+                    with open(path, "w") as to:
+                        to.write(begin + kind(count if kind is deleted_and_back else min(count, 64500 if kinds is SOURCES else 60000)))
+                    words.append(seconds(command))
+                print(f"{kind.__name__.replace('_', ' '):24}" + "".join(f"{word:20}" for word in words), flush=True)
 
 
 if __name__ == "__main__":
