@@ -32,7 +32,7 @@ fn property_owners(
 ) -> Result<Vec<Option<usize>>, AllocError>
     ensures { IfOk result (λ v. v.items ≡ map property_owner properties.now) }
 {
-    let mut owners = Vec::new(alloc);
+    let mut owners = Vec::with_capacity(alloc, properties.len())?;
     for property in properties {
         let owner = if property.stands {
             Some(property.node)
@@ -48,7 +48,7 @@ fn property_owners(
 fn label_owners(alloc: Global, givings: &[Giving<'_>]) -> Result<Vec<Option<usize>>, AllocError>
     ensures { IfOk result (λ v. v.items ≡ map label_owner givings.now) }
 {
-    let mut owners = Vec::new(alloc);
+    let mut owners = Vec::with_capacity(alloc, givings.len())?;
     for giving in givings {
         owners.push(Some(giving.node))?;
     }
@@ -61,7 +61,7 @@ fn properties_by_node(
     properties: &[Property<'_, '_>],
     count: usize,
 ) -> Result<Groups, AllocError>
-    ensures { IfOk result (λ groups. AreOwned (map property_owner properties.now) count (group_of groups.places.items)) }
+    ensures { IfOk result (λ groups. AreOwned (map property_owner properties.now) count (group_of groups)) }
 {
     let owners = property_owners(alloc, properties)?;
     Groups::new(alloc, &owners, count)
@@ -69,7 +69,7 @@ fn properties_by_node(
 
 /// The labels of each of so many nodes.
 fn labels_by_node(alloc: Global, givings: &[Giving<'_>], count: usize) -> Result<Groups, AllocError>
-    ensures { IfOk result (λ groups. AreOwned (map label_owner givings.now) count (group_of groups.places.items)) }
+    ensures { IfOk result (λ groups. AreOwned (map label_owner givings.now) count (group_of groups)) }
 {
     let owners = label_owners(alloc, givings)?;
     Groups::new(alloc, &owners, count)
@@ -124,7 +124,7 @@ fn labels_at<'a>(
     requires { (i : ℕ) → IsIn i places.now → i < length givings.now }
     ensures { IfOk result (λ labels. map (λ l. l.now) labels.items ≡ map (label_at givings.now) places.now) }
 {
-    let mut labels = Vec::new(alloc);
+    let mut labels = Vec::with_capacity(alloc, places.len())?;
     for place in places {
         labels.push(label_there(givings, *place))?;
     }
@@ -191,7 +191,7 @@ fn properties_at<'a>(
         ArePropertiesRead es number growing.now.properties.items places.now (map property_said properties.items)))
         (λ fault. IsUnreadAmong growing.now places.now fault) }
 {
-    let mut properties = Vec::new(alloc);
+    let mut properties = Vec::with_capacity(alloc, places.len())?;
     add_properties(alloc, growing, numbers, places, &mut properties)?;
     Ok(properties)
 }
@@ -208,7 +208,7 @@ fn named_node<'a>(
     requires belong { Belong growing.now belongings.now }
     ensures { MatchResult result
         (λ node. EachNaming growing.now belongings.now.numbers.items (λ es number. IsRowRead es number growing.now belongings.now row (node_said node)))
-        (λ fault. IsUnreadAmong growing.now (group_of belongings.now.properties.places.items row.node) fault) }
+        (λ fault. IsUnreadAmong growing.now (group_of belongings.now.properties row.node) fault) }
 {
     let labels = labels_at(alloc, &growing.givings, belongings.labels.of(row.node))?;
     let places = belongings.properties.of(row.node);

@@ -49,7 +49,7 @@ pub(crate) fn named_nodes<'a>(
 {
     let rows = rows(alloc, &growing.nodes)?;
     let belongings = Belongings::new(alloc, growing, &rows)?;
-    let mut nodes = Vec::new(alloc);
+    let mut nodes = Vec::with_capacity(alloc, rows.len())?;
     fill(alloc, growing, &belongings, &rows, &mut nodes)?;
     Ok(nodes)
 }

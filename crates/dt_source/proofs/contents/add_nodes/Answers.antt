@@ -18,7 +18,7 @@ returns-in_err-push c =
     let rows = c.args.rows.now in
     let k = c.loop-row.row-index in
     let d : Row = record { node = 0; parent = 0 } in
-    rw e.1 (unread_row g b rows k d e.0 c.loop-row-test.true (unread_for_memory g (group_of b.properties.places.items (get_or rows k d).node) e.0 e.2.0 e.2.1))
+    rw e.1 (unread_row g b rows k d e.0 c.loop-row-test.true (unread_for_memory g (group_of b.properties (get_or rows k d).node) e.0 e.2.0 e.2.1))
 
 pub loop-row-preserved : goal.loop-row-preserved
 loop-row-preserved c =
