@@ -35,3 +35,4 @@ pub mod Wholes
 pub mod Targets
 pub mod Ending
 pub mod BuiltTrees
+pub mod Outcomes
