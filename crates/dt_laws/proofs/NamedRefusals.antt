@@ -1,5 +1,5 @@
 -- A source that means a named tree with few nodes isn't refused.
-use Rattle.std.proofs.Common.{◌≡◌, ℕ, suc, ◌+◌, ◌≤◌, ◌<◌, true, List, length, reverse, refl, sym, ap, subst, ◌∙◌, Option, Some, None, true≢false, arith}
+use Rattle.std.proofs.Common.{◌≡◌, ℕ, ◌+◌, ◌≤◌, ◌<◌, true, List, length, reverse, refl, sym, subst, ◌∙◌, Option, Some, None, true≢false, arith}
 use Rattle.std.specs.Prelude.{is_some}
 use Rattle.std.proofs.lemmas.List.{length-map}
 use Rattle.dt_model.specs.Limits.{most_nodes}
@@ -9,8 +9,7 @@ use Rattle.dt_model.specs.Event.{stands}
 use Rattle.dt_model.specs.Source.{Place, Mode, SoFar}
 use Rattle.dt_model.specs.Named.{Named, NamedNode, NamedPlaced, node_at, node_count, nodes_of, paths_of}
 use Rattle.dt_model.specs.NamedOf.{IsNamedOf}
-use Rattle.dt_model.specs.Refused.{StandMany, SourceRefusal, too_many, IsRefusedFor}
-use Rattle.dt_laws.specs.CompiledTrees.{MeantIsNotRefused}
+use Rattle.dt_model.specs.Refused.{StandMany, too_many, IsRefusedFor}
 use Rattle.dt_laws.specs.NamedTrees.{NamedIsNotRefused}
 use Rattle.dt_laws.proofs.Tests.{each_in, in_map}
 use Rattle.dt_laws.proofs.NamedListed.{at_listed, length-nodes}

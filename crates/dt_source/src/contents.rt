@@ -6,7 +6,7 @@ ghost use Rattle.dt_source.specs.Said.{property_said, node_said};
 ghost use Rattle.dt_source.specs.Growing.{IsSound};
 ghost use Rattle.dt_source.specs.Owned.{group_of, AreOwned};
 ghost use Rattle.dt_source.specs.Listing.{name_of, AreNumbers};
-ghost use Rattle.dt_source.specs.Contents.{property_owner, label_owner, AreAbove, label_at};
+ghost use Rattle.dt_source.specs.Contents.{property_owner, label_owner, label_at};
 ghost use Rattle.dt_source.specs.Resolving.{EachNaming, IsUnreadAmong, IsPropertyRead, ArePropertiesRead, IsRowRead, AreRowsRead, IsUnreadRow, Belong};
 
 use crate::groups::Groups;
@@ -139,7 +139,6 @@ fn property_there<'a>(
     place: usize,
 ) -> Result<NamedProperty<'a>, Fault>
     requires sound { IsSound growing.now }
-    requires above { AreAbove growing.now.nodes.items }
     requires inside { place < length growing.now.properties.items }
     ensures { MatchResult result
         (λ property. EachNaming growing.now numbers.now (λ es number. IsPropertyRead es number growing.now.properties.items place (property_said property)))
@@ -162,7 +161,6 @@ fn add_properties<'a>(
     properties: &mut Vec<NamedProperty<'a>>,
 ) -> Result<(), Fault>
     requires sound { IsSound growing.now }
-    requires above { AreAbove growing.now.nodes.items }
     requires inside { (i : ℕ) → IsIn i places.now → i < length growing.now.properties.items }
     requires empty { properties.old.items ≡ [] }
     ensures { MatchResult result
@@ -184,7 +182,6 @@ fn properties_at<'a>(
     places: &[usize],
 ) -> Result<Vec<NamedProperty<'a>>, Fault>
     requires sound { IsSound growing.now }
-    requires above { AreAbove growing.now.nodes.items }
     requires inside { (i : ℕ) → IsIn i places.now → i < length growing.now.properties.items }
     ensures { MatchResult result
         (λ properties. EachNaming growing.now numbers.now (λ es number.
@@ -204,7 +201,6 @@ fn named_node<'a>(
     row: Row,
 ) -> Result<NamedNode<'a>, Fault>
     requires sound { IsSound growing.now }
-    requires above { AreAbove growing.now.nodes.items }
     requires belong { Belong growing.now belongings.now }
     ensures { MatchResult result
         (λ node. EachNaming growing.now belongings.now.numbers.items (λ es number. IsRowRead es number growing.now belongings.now row (node_said node)))
@@ -230,7 +226,6 @@ pub(crate) fn add_nodes<'a>(
     nodes: &mut Vec<NamedNode<'a>>,
 ) -> Result<(), Fault>
     requires sound { IsSound growing.now }
-    requires above { AreAbove growing.now.nodes.items }
     requires belong { Belong growing.now belongings.now }
     requires empty { nodes.old.items ≡ [] }
     ensures { MatchResult result

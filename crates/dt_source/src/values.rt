@@ -7,9 +7,9 @@ ghost use Rattle.dt_model.specs.Event.{Stack};
 ghost use Rattle.dt_parse.specs.Said.{reference_of, referring, piece_parts};
 ghost use Rattle.dt_parse.specs.Said as source_said;
 ghost use Rattle.dt_source.specs.Said.{value_said};
-ghost use Rattle.dt_source.specs.Grown.{Leads};
+ghost use Rattle.dt_source.specs.Grown.{AreAbove, Leads};
 ghost use Rattle.dt_source.specs.Growing.{IsSound};
-ghost use Rattle.dt_source.specs.Contents.{names_text, AreAbove, named_part, named_parts};
+ghost use Rattle.dt_source.specs.Contents.{names_text, named_part, named_parts};
 ghost use Rattle.dt_source.specs.Resolving.{EachNaming, IsAdded, IsUnread};
 
 use crate::growing::{Growing, Node};
@@ -107,8 +107,7 @@ fn add_reference(
     piece: &Piece<'_>,
     value: &mut NamedValue,
 ) -> Result<(), Fault>
-    requires sound { IsSound growing.now }
-    requires above { AreAbove growing.now.nodes.items }
+    requires { IsSound growing.now }
     ensures { MatchResult result
         (λ _. EachNaming growing.now numbers.now (λ es number.
         IsAdded (value_said value.old) (named_part es number (referring piece.now.form (reference_of piece.now.reference))) (value_said value.new)))
@@ -132,8 +131,7 @@ fn add_piece(
     piece: &Piece<'_>,
     value: &mut NamedValue,
 ) -> Result<(), Fault>
-    requires sound { IsSound growing.now }
-    requires above { AreAbove growing.now.nodes.items }
+    requires { IsSound growing.now }
     ensures { MatchResult result
         (λ _. EachNaming growing.now numbers.now (λ es number.
         IsAdded (value_said value.old) (named_parts es number (piece_parts piece.now)) (value_said value.new)))
@@ -152,7 +150,6 @@ fn add_value(
     value: &mut NamedValue,
 ) -> Result<(), Fault>
     requires sound { IsSound growing.now }
-    requires above { AreAbove growing.now.nodes.items }
     requires empty { value_said value.old ≡ [] }
     ensures { MatchResult result
         (λ _. EachNaming growing.now numbers.now (λ es number.
@@ -174,8 +171,7 @@ pub(crate) fn named_value(
     numbers: &[Option<usize>],
     source: &Value<'_>,
 ) -> Result<NamedValue, Fault>
-    requires sound { IsSound growing.now }
-    requires above { AreAbove growing.now.nodes.items }
+    requires { IsSound growing.now }
     ensures { MatchResult result
         (λ value. EachNaming growing.now numbers.now (λ es number.
         named_parts es number (source_said.value_said source.now) ≡ Some (value_said value)))
