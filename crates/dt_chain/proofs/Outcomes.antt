@@ -1,19 +1,21 @@
 -- A text is compiled to one blob, or is refused for one reason.
-use Rattle.std.proofs.Common.{◌≡◌, ◌≢◌, ℕ, ◌+◌, ◌<◌, ◌≤◌, ◌⊎◌, inl, inr, List, ◌∷◌, [], length, refl, sym, ap, subst, ◌∙◌, true, true≢false, codes, arith}
+use Rattle.std.proofs.Common.{◌≡◌, ◌≢◌, ℕ, ◌+◌, ◌<◌, ◌≤◌, inl, inr, List, ◌∷◌, [], length, refl, sym, ap, subst, ◌∙◌, true≢false, codes, arith}
 use Rattle.std.specs.List.{AllByRecursion}
+use Rattle.dt_names.specs.Fault.{IsOneRefusal}
 use Rattle.dt_names.specs.declared.fault.Fault.{Fault}
 use Rattle.dt_names.specs.declared.fault.FaultKind.{FaultKind}
-use Rattle.dt_names.specs.declared.fault.FaultKind.TheVariants.{NoMemory, Limit, BadVersionTag}
+use Rattle.dt_names.specs.declared.fault.FaultKind.TheVariants.{NoMemory, Limit}
 use Rattle.dt_model.specs.Limits.{most_nodes, most_bytes}
 use Rattle.dt_model.specs.Source.{Mode, base, raw, SourceMeans}
 use Rattle.dt_model.specs.Tree.{Reading}
 use Rattle.dt_model.specs.Valid.{IsValid, IsWithinLimits, node_count}
 use Rattle.dt_model.specs.Instance.{IsTreeOf, IsInstanceOf, with_symbols, added}
 use Rattle.dt_model.specs.Refused.{too_many, IsRefusedFor}
-use Rattle.dt_laws.specs.CompiledTrees.{OneTree, TreeIsValid, BaseTreeRepresents, RefusalIsOne, MeantIsNotRefused, FewAreNotRefused}
+use Rattle.dt_laws.specs.CompiledTrees.{OneTree, TreeIsValid, BaseTreeRepresents, MeantIsNotRefused, FewAreNotRefused}
 use Rattle.dt_grammar.specs.Grammar.{Says}
 use Rattle.dt_parse.specs.Reading.{IsParsed, WhyNotParsed}
-use Rattle.dt_source.specs.Refusals.{WhyNotNamed, IsFaultOf, fault_of, place_of}
+use Rattle.dt_source.specs.Refusals.{WhyNotNamed, fault_of, place_of}
+use Rattle.dt_source.proofs.Outcomes.{Sorted, sorted}
 use Rattle.dt_write.specs.Written.{written}
 use Rattle.dt_chain.specs.Means.{TextHasTree}
 use Rattle.dt_chain.specs.Compiled.{IsCompiled, WhyNotCompiled, told, no_memory, unparsed, unnamed, many, big}
@@ -56,15 +58,6 @@ pub blob_once : SaidOnce → OneTree → OneBlob
 blob_once once one mode text blob other h k = h.is ∙ ap written (tree_once once one mode text h.tree k.tree h.of_text k.of_text) ∙ sym k.is
 
 -- ---- why a source has no tree
-
--- memory is wanted; or it is an overlay's; or its places are refused
-abbrev Sorted : Mode → Says → FaultKind → Type 0
-Sorted mode s kind = (kind ≡ NoMemory) ⊎ ((kind ≡ BadVersionTag) × (s.plugin ≡ true)) ⊎ IsFaultOf mode s kind
-
-sorted : (mode : Mode) (s : Says) (kind : FaultKind) → WhyNotNamed mode kind s → Sorted mode s kind
-sorted mode s NoMemory why = inl refl
-sorted mode s BadVersionTag why = inr (inl (refl, why))
-sorted mode s _ why = inr (inr why)
 
 -- a tree's places mean something
 meant : (mode : Mode) (s : Says) (t : Reading) (h : IsTreeOf mode s.reservations s.places t) → SourceMeans mode s.reservations s.places h.instance.meaning
@@ -135,29 +128,15 @@ compiled_not_refused once only one not few mode text blob _ h (big t k more) =
 
 -- ---- one refusal
 
--- two refusals of a source
-named_once : RefusalIsOne → (mode : Mode) (s : Says) (k j : FaultKind) → WhyNotNamed mode k s → WhyNotNamed mode j s → k ≢ NoMemory → j ≢ NoMemory → k ≡ j
-named_once one mode s k j why also wanted wanted' = elim (sorted mode s k why) [
-  | inl e ↦ absurd (wanted e)
-  | inr (inl e) ↦
-      elim (sorted mode s j also) [
-        | inl i ↦ absurd (wanted' i)
-        | inr (inl i) ↦ e.0 ∙ sym i.0
-        | inr (inr g) ↦ absurd (true≢false (sym e.1 ∙ g.plain))
-      ]
-  | inr (inr f) ↦
-      elim (sorted mode s j also) [
-        | inl i ↦ absurd (wanted' i)
-        | inr (inl i) ↦ absurd (true≢false (sym i.1 ∙ f.plain))
-        | inr (inr g) ↦ f.told ∙ ap fault_of (one mode s.places f.refusal g.refusal f.refused g.refused) ∙ sym g.told
-      ]
-]
+-- a source is refused for one reason
+abbrev pub NamedOnce : Type 0
+NamedOnce = (mode : Mode) (s : Says) → IsOneRefusal (λ kind. WhyNotNamed mode kind s)
 
 -- a source's fault
 abbrev of_kind : FaultKind → Fault
 of_kind k = record { kind = k; at = place_of k }
 
-module _ (once : SaidOnce) (only : SaidOnly) (fault : FaultOnce) (one : RefusalIsOne) (not : MeantIsNotRefused) where
+module _ (once : SaidOnce) (only : SaidOnly) (fault : FaultOnce) (one : NamedOnce) (not : MeantIsNotRefused) where
   -- a text that has a tree is refused only as too large
   with_tree : (mode : Mode) (text : List ℕ) (t : Reading) (f : Fault) → TextHasTree mode text t → f.kind ≢ NoMemory → WhyNotCompiled mode text f → told Limit ≡ f
   with_tree mode text t _ h wanted no_memory = absurd (wanted refl)
@@ -172,7 +151,7 @@ module _ (once : SaidOnce) (only : SaidOnly) (fault : FaultOnce) (one : RefusalI
   with_source mode text s k _ parsed why wanted wanted' (unparsed f also) = absurd (wanted' (only text s f parsed also))
   with_source mode text s k _ parsed why wanted wanted' (unnamed r j same also) =
       let said : r ≡ s = once text r s same parsed in
-      ap of_kind (named_once one mode s k j why (subst (WhyNotNamed mode j) said also) wanted wanted')
+      ap of_kind (one mode s k j wanted wanted' why (subst (WhyNotNamed mode j) said also))
   with_source mode text s k _ parsed why wanted wanted' (many u h more) = limit_told k (only_many once not mode text u s k h parsed wanted why).0
   with_source mode text s k _ parsed why wanted wanted' (big u h more) = limit_told k (only_many once not mode text u s k h parsed wanted why).0
 

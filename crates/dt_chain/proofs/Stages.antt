@@ -1,6 +1,6 @@
 -- The steps of the compiler, one behind the other.
 use Rattle.std.proofs.Common.{◌≡◌, ℕ, suc, ◌+◌, ◌<◌, ◌≤◌, List, ◌∷◌, [], Option, None, Some, length, length-append, refl, sym, ap, subst, ◌∙◌, Bool, true, false, true≢false, codes, arith}
-use Rattle.std.specs.Prelude.{is_some, option_map, Result, Ok, Err, IsOk, IfOk, IfErr}
+use Rattle.std.specs.Prelude.{is_some, option_map, Result, Ok, Err, IfOk, IfErr}
 use Rattle.std.specs.Str.{bytes_eq}
 use Rattle.dt_names.specs.declared.fault.Fault.{Fault}
 use Rattle.dt_names.specs.declared.fault.FaultKind.{FaultKind}
@@ -14,7 +14,6 @@ use Rattle.dt_model.specs.Source.{Mode, base, raw, duplicate_property, duplicate
 use Rattle.dt_model.specs.Refused.{SourceRefusal, at_place, at_end, too_many as too_many_nodes}
 use Rattle.dt_model.specs.Named as named
 use Rattle.dt_model.specs.Named.{NodeReference, Named, NamedForest, NamedNode, no_nodes, branch, sibling, node_at, list_of, listed, node_count}
-use Rattle.dt_model.specs.NamedOf.{IsNamed}
 use Rattle.dt_model.specs.Instance.{numbered_forest, instance_of, symbols_of, with_symbols, added, followed_by}
 use Rattle.dt_laws.specs.Sources.{SourceIsPlain}
 use Rattle.dt_laws.specs.NamedTrees.{TreeIsMeant}
@@ -73,20 +72,20 @@ base_has_room plain text t h = record { free = not_there (named.root_of t) (code
     step : (b : Bool) → is_some (node_at t (codes "__symbols__" ∷ [])) ≡ b → is_some (node_at t (codes "__symbols__" ∷ [])) ≡ false
     step false e = e
     step true e =
-        let p = plain h.says.reservations h.says.places h.named.meaning h.named.means in
-        let stands : h.named.meaning.stands (codes "__symbols__" ∷ []) ≡ true =
-        ap (λ (m : Rattle.dt_model.specs.Meaning.Meaning). m.stands (codes "__symbols__" ∷ [])) h.named.means.means ∙ sym (h.named.tree.nodes (codes "__symbols__" ∷ [])) ∙ e in
+        let p = plain h.says.reservations h.says.places h.tree.means.meaning h.tree.means.means in
+        let stands : h.tree.means.meaning.stands (codes "__symbols__" ∷ []) ≡ true =
+        ap (λ (m : Rattle.dt_model.specs.Meaning.Meaning). m.stands (codes "__symbols__" ∷ [])) h.tree.means.means.means ∙ sym (h.tree.means.tree.nodes (codes "__symbols__" ∷ [])) ∙ e in
         absurd (true≢false (p.plain (codes "__symbols__" ∷ []) stands))
 
 -- ---- the whole tree
 
-pub tree_of_text : TreeIsMeant → (mode : Mode) (text : List ℕ) (t : Named NodeReference) (r : Reading) → TextHasNamed mode text t → IsNamed t → IsNumbered mode t r → TextHasTree mode text r
-tree_of_text meant mode text t r h ok n = record {
+pub tree_of_text : TreeIsMeant → (mode : Mode) (text : List ℕ) (t : Named NodeReference) (r : Reading) → TextHasNamed mode text t → IsNumbered mode t r → TextHasTree mode text r
+tree_of_text meant mode text t r h n = record {
   says = h.says;
   parsed = h.parsed;
-  plain = h.plain;
+  plain = h.tree.plain;
   tree = subst (Rattle.dt_model.specs.Instance.IsTreeOf mode h.says.reservations h.says.places) (sym n.is)
-      (meant mode h.says.reservations h.says.places t n.numbers h.some h.places h.reservations h.named ok n.numbering);
+      (meant mode h.says.reservations h.says.places t n.numbers h.some h.places h.reservations h.tree.means h.tree.named n.numbering);
 }
 
 -- ---- too many nodes
@@ -127,15 +126,15 @@ no_labels t r slots NoMemory n e why = tt
 no_labels t r slots Limit n e why = (why.0, subst (λ (k : ℕ). most_nodes ≤ k) e why.1, n.numbers, n.numbering)
 no_labels t r slots _ n e why = absurd why
 
-unlabelled : TreeIsMeant → (text : List ℕ) (t : Named NodeReference) (kind : FaultKind) → TextHasNamed base text t → IsNamed t → WhyNotLabelled kind t → WhyNotCompiled base text (told kind)
-unlabelled meant text t NoMemory h ok why = no_memory
-unlabelled meant text t Limit h ok why =
+unlabelled : TreeIsMeant → (text : List ℕ) (t : Named NodeReference) (kind : FaultKind) → TextHasNamed base text t → WhyNotLabelled kind t → WhyNotCompiled base text (told kind)
+unlabelled meant text t NoMemory h why = no_memory
+unlabelled meant text t Limit h why =
     many (with_symbols (symbols_of t) (instance_of why.2 t))
-    (tree_of_text meant base text t _ h ok (record { numbers = why.2; numbering = why.3; is = refl })) (too_many t why.2 (length (list_of t)) refl why.0 why.1)
-unlabelled meant text t _ h ok why = absurd why
+    (tree_of_text meant base text t _ h (record { numbers = why.2; numbering = why.3; is = refl })) (too_many t why.2 (length (list_of t)) refl why.0 why.1)
+unlabelled meant text t _ h why = absurd why
 
-pub not_labelled : TreeIsMeant → (text : List ℕ) (t : Named NodeReference) (fault : Fault) → TextHasNamed base text t → IsNamed t → WhyNotLabelled fault.kind t × (fault.at ≡ None) → WhyNotCompiled base text fault
-not_labelled meant text t fault h ok why = subst (WhyNotCompiled base text) (fault_is fault None why.1) (unlabelled meant text t fault.kind h ok why.0)
+pub not_labelled : TreeIsMeant → (text : List ℕ) (t : Named NodeReference) (fault : Fault) → TextHasNamed base text t → WhyNotLabelled fault.kind t × (fault.at ≡ None) → WhyNotCompiled base text fault
+not_labelled meant text t fault h why = subst (WhyNotCompiled base text) (fault_is fault None why.1) (unlabelled meant text t fault.kind h why.0)
 
 pub not_numbered : (mode : Mode) (text : List ℕ) (fault : Fault) → (fault.kind ≡ NoMemory) × (fault.at ≡ None) → WhyNotCompiled mode text fault
 not_numbered mode text fault why =
@@ -165,10 +164,6 @@ if_err P Q f (Err e) p = f e p
 pub if_ok_both : {A E : Type 0} (P Q R : A → Type 0) → ((a : A) → P a → Q a → R a) → (r : Result A E) → IfOk r P → IfOk r Q → IfOk r R
 if_ok_both P Q R f (Ok a) p q = f a p q
 if_ok_both P Q R f (Err e) p q = tt
-
-pub if_ok_also : {A E : Type 0} (B : Type 0) (P Q : A → Type 0) → (B → (a : A) → P a → Q a) → (r : Result A E) → (IsOk r → B) → IfOk r P → IfOk r Q
-if_ok_also B P Q f (Ok a) b p = f (b refl) a p
-if_ok_also B P Q f (Err e) b p = tt
 
 -- ---- the kinds of the compiler's faults
 

@@ -1,10 +1,10 @@
 -- What the compiler's steps give.
-use Rattle.std.specs.Prelude.{◌≡◌, ℕ, ◌<◌, ◌≤◌, false, List, Option, None, length, codes}
+use Rattle.std.specs.Prelude.{◌≡◌, ℕ, ◌<◌, ◌≤◌, List, Option, None, length, codes}
 use Rattle.std.specs.List.{AllByRecursion}
 use Rattle.dt_model.specs.Instance.{instance_of, symbols_of, added}
 use Rattle.dt_model.specs.Limits.{most_nodes}
 use Rattle.dt_model.specs.Named.{NodeReference, Named, sibling, list_of}
-use Rattle.dt_model.specs.NamedOf.{IsNamedOf, asked_in}
+use Rattle.dt_model.specs.NamedOf.{asked_in}
 use Rattle.dt_model.specs.Numbering.{IsNumbering}
 use Rattle.dt_model.specs.Source.{Mode, IsPlace}
 use Rattle.dt_model.specs.Tree.{Reading}
@@ -13,16 +13,16 @@ use Rattle.dt_names.specs.declared.fault.FaultKind.{FaultKind}
 use Rattle.dt_names.specs.declared.fault.FaultKind.TheVariants.{NoMemory, Limit}
 use Rattle.dt_grammar.specs.Grammar.{Says}
 use Rattle.dt_parse.specs.Reading.{IsParsed}
+use Rattle.dt_source.specs.Building.{HasTree}
 
--- the text is a source that is no overlay's, and its places, which are places, mean this tree
+-- the text is a source that has this tree, and its places are places
 pub record TextHasNamed (mode : Mode) (text : List ℕ) (t : Named NodeReference) : Type 0 where
   pub says : Says
   pub parsed : IsParsed text says
-  pub plain : says.plugin ≡ false
+  pub tree : HasTree mode says t
   pub places : AllByRecursion IsPlace says.places
   pub some : 0 < length says.places
   pub reservations : AllByRecursion IsReservation says.reservations
-  pub named : IsNamedOf mode says.reservations says.places t
 
 -- the reading is the tree under some numbering, with what is added to it
 pub record IsNumbered (mode : Mode) (t : Named NodeReference) (r : Reading) : Type 0 where

@@ -96,7 +96,6 @@ fn base_tree(alloc: Global, text: &[u8]) -> Result<FlatTree, Fault>
     tree_is_meant();
     source_is_a_meaning();
     let named = named_tree(alloc, text, Mode::Base)?;
-    named.validity();
     labelled(alloc, &named)
 }
 
@@ -106,6 +105,5 @@ fn raw_tree(alloc: Global, text: &[u8]) -> Result<FlatTree, Fault>
 {
     tree_is_meant();
     let named = named_tree(alloc, text, Mode::Raw)?;
-    named.validity();
     numbered(alloc, &named)
 }

@@ -3,8 +3,7 @@
 ghost use Rattle.dt_chain.specs.Laws.{OneMeaning, OneBlob, CompiledIsNotRefused, OneRefusal, BaseRepresents, RawIsInstance};
 
 use dt_laws::{
-    compiled_base_represents, compiled_is_not_refused, compiled_tree_is_one,
-    compiled_tree_is_valid, refusal_is_one,
+    compiled_base_represents, compiled_is_not_refused, compiled_tree_is_one, compiled_tree_is_valid,
 };
 
 /// A text means one thing.
@@ -23,7 +22,7 @@ pub fn one_outcome()
     dt_parse::one_outcome();
     compiled_tree_is_one();
     compiled_is_not_refused();
-    refusal_is_one();
+    dt_source::one_outcome();
 }
 
 /// The blob that a base's text is compiled to is read as a tree that represents what the text means, and a raw source's as

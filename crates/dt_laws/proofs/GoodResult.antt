@@ -11,7 +11,7 @@ use Rattle.dt_model.specs.Object.{Cell, properties_of}
 use Rattle.dt_model.specs.Tree.{Property, Reading, Node, root_of, node_at, nodes_of}
 use Rattle.dt_model.specs.Valid.{IsValid, AreProperties}
 use Rattle.dt_model.specs.Changes.{merged_node, changed_at}
-use Rattle.dt_model.specs.Applied.{Write, writes, brought, with_fragments, node_named, landed_symbol, landed_symbols, with_symbols, applied_at}
+use Rattle.dt_model.specs.Applied.{Write, writes, brought, with_fragments, node_named, landed_symbol, landed_symbols, with_symbols_merged, applied_at}
 use Rattle.dt_laws.proofs.KeptNames.{IsGoodNode, merged_node_good, changed_good, written_good, good_below}
 use Rattle.dt_laws.proofs.Symbols.{symbols_node, landed_distinct}
 
@@ -55,13 +55,13 @@ symbols_good ps h = record {
   children = record { nodes = (symbols_named, h, tt, tt, tt); distinct = (tt, tt) };
 }
 
-with_symbols_good : (ps : List Property) (t : Reading) → AreProperties ps → IsGoodNode (root_of t) → IsGoodNode (root_of (with_symbols ps t))
-with_symbols_good [] t h k = k
-with_symbols_good (p ∷ ps) t h k = merged_node_good (root_of t) (symbols_node (p ∷ ps)) k (symbols_good (p ∷ ps) h)
+with_symbols_merged_good : (ps : List Property) (t : Reading) → AreProperties ps → IsGoodNode (root_of t) → IsGoodNode (root_of (with_symbols_merged ps t))
+with_symbols_merged_good [] t h k = k
+with_symbols_merged_good (p ∷ ps) t h k = merged_node_good (root_of t) (symbols_node (p ∷ ps)) k (symbols_good (p ∷ ps) h)
 
 pub result_good : (base object : Reading) (fixups : List (Name × Cell)) (numbers : List (Path × ℕ)) (sites : List Site) → IsValid base → IsValid object → IsGoodNode (root_of (applied_at base object fixups numbers sites))
 result_good base object fixups numbers sites valid_base valid =
-    with_symbols_good (landed_symbols object sites listed) (with_fragments base object (writes base object fixups numbers) numbers sites)
+    with_symbols_merged_good (landed_symbols object sites listed) (with_fragments base object (writes base object fixups numbers) numbers sites)
     (record { named = landed_named object sites listed are.named; distinct = landed_distinct object sites listed are.distinct })
     (fragments_good object valid (writes base object fixups numbers) numbers sites base (good_root base valid_base))
   where

@@ -25,7 +25,7 @@ use Rattle.dt_laws.proofs.Inside.{IsInside, final_number, each_more, each_both, 
 use Rattle.dt_laws.proofs.Naming.{Follows, naming_after, naming_extends, follows}
 use Rattle.dt_laws.proofs.Placed.{lands_at}
 use Rattle.dt_laws.proofs.Results.{distinct, brought, source_brought, keeps, symbols_are, nodes_are, values_are, phandles_are}
-use Rattle.dt_laws.proofs.Symbols.{reservations-with_symbols, boot_cpu-with_symbols}
+use Rattle.dt_laws.proofs.Symbols.{reservations-with_symbols_merged, boot_cpu-with_symbols_merged}
 
 pub same_value : {R : Type 0} (f g : R → ℕ) (items : List (Item R)) → EachReference (λ r. f r ≡ g r) items → value_bytes f items ≡ value_bytes g items
 same_value f g [] same = refl
@@ -140,7 +140,7 @@ module _ (base object : Reading) (m : Meaning) (o : Overlay) (number local : Pat
   represents_after = record {
     naming = naming;
     reservations =
-        reservations-with_symbols (landed_symbols object sites (properties_of (node_at object (codes "__symbols__" ∷ [])))) (with_fragments base object (writes base object fixups numbers) numbers sites)
+        reservations-with_symbols_merged (landed_symbols object sites (properties_of (node_at object (codes "__symbols__" ∷ [])))) (with_fragments base object (writes base object fixups numbers) numbers sites)
         ∙ reservations_stay object (writes base object fixups numbers) numbers are.valid_object sites base ∙ are.represented.reservations;
     nodes = nodes_are base object m o number local fixups numbers are has sites defined joined;
     values = values_after;
@@ -152,7 +152,7 @@ module _ (base object : Reading) (m : Meaning) (o : Overlay) (number local : Pat
     represents = represents_after;
     extends = naming_extends m o sites number (number_in numbers) are.meaning are.represented.naming (distinct base object m o number local fixups numbers are has sites defined joined) joined inside_of;
     boot_cpu =
-        boot_cpu-with_symbols (landed_symbols object sites (properties_of (node_at object (codes "__symbols__" ∷ [])))) (with_fragments base object (writes base object fixups numbers) numbers sites)
+        boot_cpu-with_symbols_merged (landed_symbols object sites (properties_of (node_at object (codes "__symbols__" ∷ [])))) (with_fragments base object (writes base object fixups numbers) numbers sites)
         ∙ boot_cpu_stays object (writes base object fixups numbers) numbers are.valid_object sites base;
     bookkeeping = keeps base object m o number local fixups numbers are has sites defined joined;
   }

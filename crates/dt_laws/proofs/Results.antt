@@ -27,7 +27,7 @@ use Rattle.dt_laws.proofs.Given.{base_value, base_phandle, object_phandle, objec
 use Rattle.dt_laws.proofs.Facts.{exact, given_each}
 use Rattle.dt_laws.proofs.Placed.{site_names, same_fragments, brought_at}
 use Rattle.dt_laws.proofs.Writes.{value_written}
-use Rattle.dt_laws.proofs.Symbols.{value_of-landed, landed_distinct, value-with_symbols, stands-with_symbols, symbols-with_symbols}
+use Rattle.dt_laws.proofs.Symbols.{value_of-landed, landed_distinct, value-with_symbols_merged, stands-with_symbols_merged, symbols-with_symbols_merged}
 use Rattle.dt_laws.proofs.Turns.{there}
 
 module _ (base object : Reading) (m : Meaning) (o : Overlay) (number local : Path → ℕ) (fixups : List (Name × Cell)) (numbers : List (Path × ℕ))
@@ -86,12 +86,12 @@ module _ (base object : Reading) (m : Meaning) (o : Overlay) (number local : Pat
 
   value_at : (q : Path) (name : Name) → q ≢ codes "__symbols__" ∷ [] → value_in (applied_at base object fixups numbers sites) q name ≡ option_or (last_of (from name) (sources sites q)) (value_in base q name)
   value_at q name ne =
-      value-with_symbols (landed_symbols object sites listed) merged_tree landed_apart q name ne
+      value-with_symbols_merged (landed_symbols object sites listed) merged_tree landed_apart q name ne
       ∙ value-with_fragments object (writes base object fixups numbers) numbers are.valid_object sites base q name are_there
 
   stands_at : (q : Path) → q ≢ codes "__symbols__" ∷ [] → stands_in (applied_at base object fixups numbers sites) q ≡ list_any (stands_in object) (sources sites q) || stands_in base q
   stands_at q ne =
-      stands-with_symbols (landed_symbols object sites listed) merged_tree landed_apart q ne
+      stands-with_symbols_merged (landed_symbols object sites listed) merged_tree landed_apart q ne
       ∙ stands-with_fragments object (writes base object fixups numbers) numbers are.valid_object sites base q are_there
 
   plain_other : (q : Path) → is_bookkeeping q ≡ false → q ≢ codes "__symbols__" ∷ []
@@ -124,7 +124,7 @@ module _ (base object : Reading) (m : Meaning) (o : Overlay) (number local : Pat
 
   pub symbols_are : (l : Name) → value_in (applied_at base object fixups numbers sites) (codes "__symbols__" ∷ []) l ≡ option_or (option_map path_value (option_and_then (landing sites) (o.label l))) (option_map path_value (m.label l))
   symbols_are l =
-      symbols-with_symbols (landed_symbols object sites listed) merged_tree landed_apart l
+      symbols-with_symbols_merged (landed_symbols object sites listed) merged_tree landed_apart l
       ∙ ap (λ y. option_or y (value_in merged_tree (codes "__symbols__" ∷ []) l)) (value_of-landed object sites listed l listed_distinct
       ∙ ap (λ y. option_map path_value (option_and_then (landing sites) (option_and_then (node_named (nodes_of object)) y))) (listed_value l)
       ∙ ap (λ y. option_map path_value (option_and_then (landing sites) y)) (label_is object o local are.encoded are.overlay are.valid_object l))

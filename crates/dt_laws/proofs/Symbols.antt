@@ -9,7 +9,7 @@ use Rattle.dt_model.specs.Path.{Path, path_value}
 use Rattle.dt_model.specs.Merged.{Site, landing}
 use Rattle.dt_model.specs.Tree.{Property, no_nodes, branch, Reading, value_of, Node, node_below, nodes_of, stands_in, value_in}
 use Rattle.dt_model.specs.Valid.{AreDistinct}
-use Rattle.dt_model.specs.Applied.{node_named, landed_symbol, landed_symbols, with_symbols}
+use Rattle.dt_model.specs.Applied.{node_named, landed_symbol, landed_symbols, with_symbols_merged}
 use Rattle.dt_laws.proofs.Tests.{bytes_eq_true}
 use Rattle.dt_laws.proofs.Merging.{IsApart, no_value, value_below}
 use Rattle.dt_laws.proofs.Changing.{value-changed, stands-changed}
@@ -66,36 +66,36 @@ other_below ps x p ne = step p (bytes_eq x (codes "__symbols__")) refl ne
     step (y ∷ r) true e other = rw e refl
 
 module _ (ps : List Property) (t : Reading) (d : AreDistinct (map (λ (p : Property). p.name) ps)) where
-  pub value-with_symbols : (q : Path) (name : Name) → q ≢ codes "__symbols__" ∷ [] → value_in (with_symbols ps t) q name ≡ value_in t q name
-  value-with_symbols q name ne = step ps d
+  pub value-with_symbols_merged : (q : Path) (name : Name) → q ≢ codes "__symbols__" ∷ [] → value_in (with_symbols_merged ps t) q name ≡ value_in t q name
+  value-with_symbols_merged q name ne = step ps d
     where
       none : (ps : List Property) (q : Path) → q ≢ codes "__symbols__" ∷ [] → value_below (symbols_node ps) q name ≡ None
       none ps [] other = refl
       none ps (x ∷ p) other = ap (option_and_then (λ (c : Node). value_of c.properties name)) (other_below ps x p other)
 
-      step : (ps : List Property) → AreDistinct (map (λ (p : Property). p.name) ps) → value_in (with_symbols ps t) q name ≡ value_in t q name
+      step : (ps : List Property) → AreDistinct (map (λ (p : Property). p.name) ps) → value_in (with_symbols_merged ps t) q name ≡ value_in t q name
       step [] d = refl
       step (p ∷ ps) d = value-changed t [] (symbols_node (p ∷ ps)) (symbols_apart (p ∷ ps) d) refl q name ∙ ap (λ z. option_or z (value_in t q name)) (none (p ∷ ps) q ne)
 
-  pub stands-with_symbols : (q : Path) → q ≢ codes "__symbols__" ∷ [] → stands_in (with_symbols ps t) q ≡ stands_in t q
-  stands-with_symbols q ne = step ps d q ne
+  pub stands-with_symbols_merged : (q : Path) → q ≢ codes "__symbols__" ∷ [] → stands_in (with_symbols_merged ps t) q ≡ stands_in t q
+  stands-with_symbols_merged q ne = step ps d q ne
     where
-      step : (ps : List Property) → AreDistinct (map (λ (p : Property). p.name) ps) → (q : Path) → q ≢ codes "__symbols__" ∷ [] → stands_in (with_symbols ps t) q ≡ stands_in t q
+      step : (ps : List Property) → AreDistinct (map (λ (p : Property). p.name) ps) → (q : Path) → q ≢ codes "__symbols__" ∷ [] → stands_in (with_symbols_merged ps t) q ≡ stands_in t q
       step [] d q ne = refl
       step (p ∷ ps) d [] ne = refl
       step (p ∷ ps) d (x ∷ q) ne = stands-changed t [] (symbols_node (p ∷ ps)) (symbols_apart (p ∷ ps) d) refl (x ∷ q) ∙ ap (λ z. is_some z || stands_in t (x ∷ q)) (other_below (p ∷ ps) x q ne)
 
-  pub symbols-with_symbols : (l : Name) → value_in (with_symbols ps t) (codes "__symbols__" ∷ []) l ≡ option_or (value_of ps l) (value_in t (codes "__symbols__" ∷ []) l)
-  symbols-with_symbols l = step ps d
+  pub symbols-with_symbols_merged : (l : Name) → value_in (with_symbols_merged ps t) (codes "__symbols__" ∷ []) l ≡ option_or (value_of ps l) (value_in t (codes "__symbols__" ∷ []) l)
+  symbols-with_symbols_merged l = step ps d
     where
-      step : (ps : List Property) → AreDistinct (map (λ (p : Property). p.name) ps) → value_in (with_symbols ps t) (codes "__symbols__" ∷ []) l ≡ option_or (value_of ps l) (value_in t (codes "__symbols__" ∷ []) l)
+      step : (ps : List Property) → AreDistinct (map (λ (p : Property). p.name) ps) → value_in (with_symbols_merged ps t) (codes "__symbols__" ∷ []) l ≡ option_or (value_of ps l) (value_in t (codes "__symbols__" ∷ []) l)
       step [] d = refl
       step (p ∷ ps) d = value-changed t [] (symbols_node (p ∷ ps)) (symbols_apart (p ∷ ps) d) refl (codes "__symbols__" ∷ []) l
 
-pub reservations-with_symbols : (ps : List Property) (t : Reading) → (with_symbols ps t).reservations ≡ t.reservations
-reservations-with_symbols [] t = refl
-reservations-with_symbols (p ∷ ps) t = refl
+pub reservations-with_symbols_merged : (ps : List Property) (t : Reading) → (with_symbols_merged ps t).reservations ≡ t.reservations
+reservations-with_symbols_merged [] t = refl
+reservations-with_symbols_merged (p ∷ ps) t = refl
 
-pub boot_cpu-with_symbols : (ps : List Property) (t : Reading) → (with_symbols ps t).boot_cpu ≡ t.boot_cpu
-boot_cpu-with_symbols [] t = refl
-boot_cpu-with_symbols (p ∷ ps) t = refl
+pub boot_cpu-with_symbols_merged : (ps : List Property) (t : Reading) → (with_symbols_merged ps t).boot_cpu ≡ t.boot_cpu
+boot_cpu-with_symbols_merged [] t = refl
+boot_cpu-with_symbols_merged (p ∷ ps) t = refl

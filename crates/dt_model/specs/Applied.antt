@@ -185,16 +185,16 @@ landed_symbols object sites (p ∷ ps) =
     landed_symbol p.name (option_and_then (landing sites) (node_named (nodes_of object) p.value)) (landed_symbols object sites ps)
 
 -- properties set in `__symbols__`, which is added where there is any
-abbrev pub with_symbols : List Property → Reading → Reading
-with_symbols [] t = t
-with_symbols (p ∷ ps) t =
+abbrev pub with_symbols_merged : List Property → Reading → Reading
+with_symbols_merged [] t = t
+with_symbols_merged (p ∷ ps) t =
     changed_at (λ n. merged_node n (record { properties = []; children = branch (codes "__symbols__") (p ∷ ps) no_nodes no_nodes })) [] t
 
 -- The base with the object applied, which lists these cells that wait for labels and whose nodes get these numbers, its
 -- fragments at these sites.
 abbrev pub applied_at : Reading → Reading → List (Name × Cell) → List (Path × ℕ) → List Site → Reading
 applied_at base object fixups numbers sites =
-    with_symbols (landed_symbols object sites (properties_of (node_at object (codes "__symbols__" ∷ []))))
+    with_symbols_merged (landed_symbols object sites (properties_of (node_at object (codes "__symbols__" ∷ []))))
     (with_fragments base object (writes base object fixups numbers) numbers sites)
 
 abbrev pub if_allowed : Reading → Reading → List (Name × Cell) → List (Path × ℕ) → List Site → Option Reading

@@ -131,9 +131,9 @@ pub too_many_named : (mode : Mode) (s : Says) (fault : Fault) → s.plugin ≡ f
     → WhyNotNamed mode fault.kind s × (fault.at ≡ place_of fault.kind)
 too_many_named mode s fault plain kind at h = not_read mode s fault plain (at, inr (too_many, h, kind))
 
-pub of_result : {A E : Type 0} (P : A → Type 0) (r : Result A E) (a : A) (Q : E → Type 0) → MatchResult r (λ x. x ≡ a) Q → P a → IfOk r P
-of_result P (Ok x) a Q e p = subst P (sym e) p
-of_result P (Err e) a Q q p = tt
+pub answered_result : {A E : Type 0} (P R : A → Type 0) (Q : E → Type 0) → ((a : A) → P a → R a) → (r : Result A E) → MatchResult r P Q → IfOk r R
+answered_result P R Q f (Ok a) p = f a p
+answered_result P R Q f (Err e) q = tt
 
 pub refused_result : {A E : Type 0} (P : A → Type 0) (Q R : E → Type 0) → ((e : E) → Q e → R e) → (r : Result A E) → MatchResult r P Q → IfErr r R
 refused_result P Q R f (Ok x) p = tt

@@ -115,19 +115,19 @@ properties_more unnamed g numbers places k d old new p near e before one es numb
 
 -- ---- a node
 
-pub property_within : (g : Growing) (b : Belongings) (k i : ℕ) → Belong g b → IsIn i (group_of b.properties.places.items k) → i < length g.properties.items
+pub property_within : (g : Growing) (b : Belongings) (k i : ℕ) → Belong g b → IsIn i (group_of b.properties k) → i < length g.properties.items
 property_within g b k i belong among =
     let there = slice_get_within (map property_owner g.properties.items) i (Some k) (belong.properties.sound k i among) in
     let size = length-map g.properties.items property_owner in omega arith
 
-pub label_within : (g : Growing) (b : Belongings) (k i : ℕ) → Belong g b → IsIn i (group_of b.labels.places.items k) → i < length g.givings.items
+pub label_within : (g : Growing) (b : Belongings) (k i : ℕ) → Belong g b → IsIn i (group_of b.labels k) → i < length g.givings.items
 label_within g b k i belong among =
     let there = slice_get_within (map label_owner g.givings.items) i (Some k) (belong.labels.sound k i among) in
     let size = length-map g.givings.items label_owner in omega arith
 
 -- a node whose labels and properties are read
-pub node_read : (unnamed : Unnamed) (g : Growing) (b : Belongings) (r : Row) (n : NamedNode) (places : List ℕ) → places ≡ group_of b.properties.places.items r.node → n.parent ≡ r.parent →
-    cow_slice_items n.name ≡ name_of g.nodes.items r.node → map (λ l. l.now) n.labels.items ≡ map (label_at g.givings.items) (group_of b.labels.places.items r.node) →
+pub node_read : (unnamed : Unnamed) (g : Growing) (b : Belongings) (r : Row) (n : NamedNode) (places : List ℕ) → places ≡ group_of b.properties r.node → n.parent ≡ r.parent →
+    cow_slice_items n.name ≡ name_of g.nodes.items r.node → map (λ l. l.now) n.labels.items ≡ map (label_at g.givings.items) (group_of b.labels r.node) →
     EachNaming g b.numbers.items (λ es number. ArePropertiesRead unnamed es number g.properties.items places (map property_said n.properties.items)) →
     EachNaming g b.numbers.items (λ es number. IsRowRead unnamed es number g b r (node_said n))
 node_read unnamed g b r n places at parent name labels properties es number limit of by =
@@ -152,15 +152,15 @@ rows_more unnamed g b rows k d old new n near e before one es number limit of by
       λ r among. step es first.1 last.1 r (in_more rows k r d near among),
     )
   where
-    step : (es : Events) → ((r : Row) → IsIn r (take k rows) → AreRead unnamed es g.properties.items (group_of b.properties.places.items r.node)) →
-        AreRead unnamed es g.properties.items (group_of b.properties.places.items (get_or rows k d).node) →
-        (r : Row) → IsIn r (take k rows) ⊎ (r ≡ get_or rows k d) → AreRead unnamed es g.properties.items (group_of b.properties.places.items r.node)
+    step : (es : Events) → ((r : Row) → IsIn r (take k rows) → AreRead unnamed es g.properties.items (group_of b.properties r.node)) →
+        AreRead unnamed es g.properties.items (group_of b.properties (get_or rows k d).node) →
+        (r : Row) → IsIn r (take k rows) ⊎ (r ≡ get_or rows k d) → AreRead unnamed es g.properties.items (group_of b.properties r.node)
     step es first last r (inl among) = first r among
-    step es first last r (inr same) = subst (λ (q : Row). AreRead unnamed es g.properties.items (group_of b.properties.places.items q.node)) (sym same) last
+    step es first last r (inr same) = subst (λ (q : Row). AreRead unnamed es g.properties.items (group_of b.properties q.node)) (sym same) last
 
 -- a row that isn't read
 pub unread_row : (unnamed : Unnamed) (g : Growing) (b : Belongings) (rows : List Row) (k : ℕ) (d : Row) (e : Fault) → k < length rows →
-    IsUnreadAmong unnamed g (group_of b.properties.places.items (get_or rows k d).node) e → IsUnreadRow unnamed g b rows e
+    IsUnreadAmong unnamed g (group_of b.properties (get_or rows k d).node) e → IsUnreadRow unnamed g b rows e
 unread_row unnamed g b rows k d e near h = (get_or rows k d, in_read rows k d near, h)
 
 -- where memory is refused

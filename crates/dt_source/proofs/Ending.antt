@@ -154,7 +154,7 @@ module _ (g : Growing) (b : Belongings) (rows : List Row) (are : AreRows g.nodes
       (reverse pair.0.path, pair.1.0)
 
   -- a property in a place that belongs to a node that stands
-  value_in : (p : Stack) (k i : ℕ) (q : Property) → Leads g.nodes.items p k → IsIn i (group_of b.properties.places.items k) → slice_get g.properties.items i ≡ Some q →
+  value_in : (p : Stack) (k i : ℕ) (q : Property) → Leads g.nodes.items p k → IsIn i (group_of b.properties k) → slice_get g.properties.items i ≡ Some q →
       HasValue g.nodes.items g.properties.items p q.name.now (value_said q.value.now) i
   value_in p k i q h among there =
       let found = map_some property_owner (slice_get properties i) (Some k) (sym (slice_get-map property_owner properties i) ∙ belong.properties.sound k i among) in
@@ -163,7 +163,7 @@ module _ (g : Growing) (b : Belongings) (rows : List Row) (are : AreRows g.nodes
       let owner = owner_stands q k (ap property_owner (sym same) ∙ found.2) in
       record { property = q; there = there; stands = owner.0; named = refl; value = refl; node = subst (Leads nodes p) (sym owner.1) h }
 
-  place_of : (p : Stack) (i : ℕ) (q : Property) → slice_get g.properties.items i ≡ Some q → q.stands ≡ true → Leads g.nodes.items p q.node → IsIn i (group_of b.properties.places.items q.node)
+  place_of : (p : Stack) (i : ℕ) (q : Property) → slice_get g.properties.items i ≡ Some q → q.stands ≡ true → Leads g.nodes.items p q.node → IsIn i (group_of b.properties q.node)
   place_of p i q there stood h =
       let owner : property_owner q ≡ Some q.node = ap (λ (t : Bool). cond t (Some q.node) None) stood in
       let at : slice_get (map property_owner properties) i ≡ Some (Some q.node) =
@@ -201,11 +201,11 @@ module _ (g : Growing) (b : Belongings) (rows : List Row) (are : AreRows g.nodes
 
   -- ---- what is read is resolved
 
-  pub resolved : (unnamed : Unnamed) → ((r : Row) → IsIn r rows → AreRead unnamed es g.properties.items (group_of b.properties.places.items r.node)) →
+  pub resolved : (unnamed : Unnamed) → ((r : Row) → IsIn r rows → AreRead unnamed es g.properties.items (group_of b.properties r.node)) →
       AreResolved unnamed g.nodes.items g.properties.items es
   resolved unnamed read i q p there stood h =
       let row = row_of p q.node h in
-      read row.0 row.1 i q (subst (λ (k : ℕ). IsIn i (group_of b.properties.places.items k)) (sym row.2) (place_of p i q there stood h)) there
+      read row.0 row.1 i q (subst (λ (k : ℕ). IsIn i (group_of b.properties k)) (sym row.2) (place_of p i q there stood h)) there
 
   no_unresolved : AreResolved Refused g.nodes.items g.properties.items es → HasUnresolved es → ⊥
   no_unresolved all h =
@@ -256,7 +256,7 @@ module _ (g : Growing) (b : Belongings) (rows : List Row) (are : AreRows g.nodes
   -- ---- refusals
 
   -- a reference that isn't read
-  pub unread_refused : (r : Row) → IsIn r rows → (kind : FaultKind) → WhyUnreadAmong Refused es g.properties.items (group_of b.properties.places.items r.node) kind → WhyNotAfter es kind
+  pub unread_refused : (r : Row) → IsIn r rows → (kind : FaultKind) → WhyUnreadAmong Refused es g.properties.items (group_of b.properties r.node) kind → WhyNotAfter es kind
   unread_refused r among fault.NoMemory h = tt
   unread_refused r among fault.UnresolvedReference h =
       let led = led_to r among in
@@ -321,9 +321,9 @@ module _ (g : Growing) (b : Belongings) (rows : List Row) (are : AreRows g.nodes
     tree = tree unnamed;
     reservations = λ rs. refl;
     list = λ rs. read.0 ∙ (ap (map (listed_row (name_of nodes) (content_by unnamed es number g b))) are.are
-        ∙ list_is nodes properties g.givings.items es grown rooted are.children children_are (group_of b.properties.places.items) (group_of b.labels.places.items)
+        ∙ list_is nodes properties g.givings.items es grown rooted are.children children_are (group_of b.properties) (group_of b.labels)
         belong.properties belong.labels unnamed number rs);
-    named = λ rs. named_after nodes properties g.givings.items es grown rooted are.children children_are (group_of b.properties.places.items) (group_of b.labels.places.items)
+    named = λ rs. named_after nodes properties g.givings.items es grown rooted are.children children_are (group_of b.properties) (group_of b.labels)
         belong.properties belong.labels unnamed number rs numbers (subst (λ (rs' : List Row). AreNumbers rs' (length nodes) numbers) are.are numbered)
         (subst (λ (rs' : List Row). AreNamedBy nodes numbers (length rs') number) are.are named) (resolved unnamed read.1) labelled;
   }

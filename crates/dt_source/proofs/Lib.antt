@@ -12,6 +12,7 @@ pub mod Grows
 pub mod Descents
 pub mod Referents
 pub mod Owning
+pub mod Grouping
 pub mod Rows
 pub mod Lookups
 pub mod Numbers
@@ -34,3 +35,4 @@ pub mod Wholes
 pub mod Targets
 pub mod Ending
 pub mod BuiltTrees
+pub mod Outcomes

@@ -32,10 +32,6 @@ label_at givings i = option_map_or (λ (g : Giving). g.label.now) (slice_get giv
 
 -- ---- values
 
--- a node below the root comes after its parent
-abbrev pub AreAbove : List Node → Type 0
-AreAbove nodes = (k : ℕ) (n : Node) → 0 < k → slice_get nodes k ≡ Some n → n.parent < k
-
 -- each name from the root down, with a `/` before it, where the node's own stands first
 abbrev pub names_text : Stack → List ℕ
 names_text [] = []

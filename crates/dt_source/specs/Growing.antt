@@ -7,6 +7,7 @@ use Rattle.dt_model.specs.Names.{Name}
 use Rattle.dt_model.specs.Event.{Stack}
 use Rattle.dt_model.specs.Source.{Part}
 use Rattle.dt_parse.specs.Said.{value_said}
+use Rattle.dt_source.specs.Grown.{AreAbove}
 use Rattle.dt_source.specs.Shape.{Shape, node_at}
 use Rattle.dt_source.specs.Table.{Key, entry, name_entry}
 use Rattle.dt_source.specs.declared.table.Last.{Last}
@@ -116,7 +117,7 @@ shape g = shape_of g.nodes.items g.children.map.entries g.properties.items g.pla
 -- the nodes are found by their parents and their names, and a parent stands before its children
 pub record HasNodes (nodes : List Node) (children : List (Key × Last)) : Type 0 where
   pub indexed : IsIndexed 1 (nodes_listed nodes children)
-  pub above : (k : ℕ) (n : Node) → 0 < k → slice_get nodes k ≡ Some n → n.parent < k
+  pub above : AreAbove nodes
 
 -- the properties are found by their nodes and their names
 pub record HasProperties (size : ℕ) (properties : List Property) (places : List (Key × Last)) : Type 0 where

@@ -9,6 +9,10 @@ use Rattle.dt_source.specs.declared.growing.Node.{Node}
 use Rattle.dt_source.specs.declared.growing.Property.{Property}
 use Rattle.dt_source.specs.declared.growing.Giving.{Giving}
 
+-- a node below the root comes after its parent
+abbrev pub AreAbove : List Node → Type 0
+AreAbove nodes = (k : ℕ) (n : Node) → 0 < k → slice_get nodes k ≡ Some n → n.parent < k
+
 -- node k stands under these names
 abbrev pub Leads : List Node → Stack → ℕ → Type 0
 Leads nodes [] k = (k ≡ 0) × (0 < length nodes)
@@ -33,7 +37,7 @@ pub record HasLabel (nodes : List Node) (givings : List Giving) (l : Name) (p : 
 
 -- The entries that stand are the nodes, the values and the labels after the events, each once and in their order.
 pub record IsGrown (nodes : List Node) (properties : List Property) (givings : List Giving) (es : Events) : Type 0 where
-  pub above : (k : ℕ) (n : Node) → 0 < k → slice_get nodes k ≡ Some n → n.parent < k
+  pub above : AreAbove nodes
   pub shallow : (p : Stack) (k : ℕ) → Leads nodes p k → length p ≤ most_names
   pub nodes_are : (p : Stack) → stands es p ≡ true → (k : ℕ) × Leads nodes p k
   pub nodes_stand : (p : Stack) (k : ℕ) → Leads nodes p k → stands es p ≡ true

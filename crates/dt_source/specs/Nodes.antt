@@ -31,7 +31,7 @@ pub record AreFilled (g : Growing) (b : Belongings) (rows : List Row) (ns : List
 -- a reference isn't read, or all are, and a number isn't as it has to be
 abbrev pub IsUnfilled : Growing → Belongings → List Row → Fault → Type 0
 IsUnfilled g b rows e = IsUnreadRow Refused g b rows e
-    ⊎ (EachNaming g b.numbers.items (λ es number. (r : Row) → IsIn r rows → AreRead Refused es g.properties.items (group_of b.properties.places.items r.node))
+    ⊎ (EachNaming g b.numbers.items (λ es number. (r : Row) → IsIn r rows → AreRead Refused es g.properties.items (group_of b.properties r.node))
     × WhyNotNumbered b.numbers.items g.properties.items e)
 
 -- ---- by the events

@@ -69,24 +69,24 @@ ArePropertiesRead unnamed es number properties places ps = (ps ≡ map (property
 
 -- the places are those of the nodes' properties and labels
 pub record Belong (g : Growing) (b : Belongings) : Type 0 where
-  pub properties : AreOwned (map property_owner g.properties.items) (length g.nodes.items) (group_of b.properties.places.items)
-  pub labels : AreOwned (map label_owner g.givings.items) (length g.nodes.items) (group_of b.labels.places.items)
+  pub properties : AreOwned (map property_owner g.properties.items) (length g.nodes.items) (group_of b.properties)
+  pub labels : AreOwned (map label_owner g.givings.items) (length g.nodes.items) (group_of b.labels)
 
 -- what a node has by what belongs to each
 abbrev pub content_by : Unnamed → Events → (Stack → ℕ) → Growing → Belongings → ℕ → Content NodeReference
-content_by unnamed es number g b = content_of unnamed es number g.properties.items g.givings.items (group_of b.properties.places.items) (group_of b.labels.places.items)
+content_by unnamed es number g b = content_of unnamed es number g.properties.items g.givings.items (group_of b.properties) (group_of b.labels)
 
 -- the node of a row is this one, and its references are read
 abbrev pub IsRowRead : Unnamed → Events → (Stack → ℕ) → Growing → Belongings → Row → Listed NodeReference → Type 0
 IsRowRead unnamed es number g b r n =
-    (n ≡ listed_row (name_of g.nodes.items) (content_by unnamed es number g b) r) × AreRead unnamed es g.properties.items (group_of b.properties.places.items r.node)
+    (n ≡ listed_row (name_of g.nodes.items) (content_by unnamed es number g b) r) × AreRead unnamed es g.properties.items (group_of b.properties r.node)
 
 -- the nodes of some rows are these, and their references are read
 abbrev pub AreRowsRead : Unnamed → Events → (Stack → ℕ) → Growing → Belongings → List Row → List (Listed NodeReference) → Type 0
 AreRowsRead unnamed es number g b rows ns =
     (ns ≡ map (listed_row (name_of g.nodes.items) (content_by unnamed es number g b)) rows)
-    × ((r : Row) → IsIn r rows → AreRead unnamed es g.properties.items (group_of b.properties.places.items r.node))
+    × ((r : Row) → IsIn r rows → AreRead unnamed es g.properties.items (group_of b.properties r.node))
 
 -- why the node of a row isn't read
 abbrev pub IsUnreadRow : Unnamed → Growing → Belongings → List Row → Fault → Type 0
-IsUnreadRow unnamed g b rows e = (r : Row) × IsIn r rows × IsUnreadAmong unnamed g (group_of b.properties.places.items r.node) e
+IsUnreadRow unnamed g b rows e = (r : Row) × IsIn r rows × IsUnreadAmong unnamed g (group_of b.properties r.node) e

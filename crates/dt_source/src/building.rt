@@ -1,14 +1,13 @@
 //! The tree that a source means.
 
-ghost use Rattle.std.specs.Prelude.{◌≡◌, ◌<◌, false, None, map, length, IsOk, IfOk, IfErr, MatchResult};
+ghost use Rattle.std.specs.Prelude.{◌≡◌, ◌<◌, None, map, length, IfOk, IfErr, MatchResult};
 ghost use Rattle.dt_model.specs.Limits.{most_nodes};
 ghost use Rattle.dt_model.specs.Named.{tree_of};
-ghost use Rattle.dt_model.specs.NamedOf.{IsNamedOf};
 ghost use Rattle.dt_names.specs.declared.fault.FaultKind.TheVariants.{Limit};
 ghost use Rattle.dt_parse.specs.Said.{place_said, reservation_said};
-ghost use Rattle.dt_source.specs.Building.{AreNodesOf, MayBeWhole};
+ghost use Rattle.dt_source.specs.Building.{AreNodesOf, MayBeWhole, HasTree};
 ghost use Rattle.dt_source.specs.Refusals.{mode_said, WhyNotNamed, WhyNotRead, place_of};
-ghost use Rattle.dt_source.specs.Said.{list_said, node_said};
+ghost use Rattle.dt_source.specs.Said.{IsTree, list_said, node_said};
 
 use crate::named::{NamedNode, NamedTree};
 use crate::nodes::named_nodes;
@@ -50,7 +49,7 @@ fn whole<'a>(
 ) -> Result<NamedTree<'a>, Fault>
     requires { MayBeWhole (list_said reservations.items nodes.items) }
     ensures { MatchResult result
-        (λ tree. tree ≡ list_said reservations.items nodes.entry.items)
+        (λ tree. (tree ≡ list_said reservations.items nodes.entry.items) × IsTree tree)
         (λ fault. (fault.kind ≡ Limit) × (fault.at ≡ None) × (most_nodes < length nodes.entry.items)) }
 {
     if MOST_NODES < nodes.len() {
@@ -74,8 +73,7 @@ pub fn build_base<'a>(
     source: &Source<'a>,
     mode: Mode,
 ) -> Result<NamedTree<'a>, Fault>
-    ensures base { IsOk result → source.now.plugin ≡ false }
-    ensures tree { IfOk result (λ t. IsNamedOf (mode_said mode) source.now.reservations source.now.places (tree_of t)) }
+    ensures tree { IfOk result (λ t. HasTree (mode_said mode) source.now (tree_of t)) }
     ensures refused { IfErr result (λ fault. WhyNotNamed (mode_said mode) fault.kind source.now × (fault.at ≡ place_of fault.kind)) }
 {
     if source.is_overlay() {

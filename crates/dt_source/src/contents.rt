@@ -6,7 +6,7 @@ ghost use Rattle.dt_source.specs.Said.{property_said, node_said};
 ghost use Rattle.dt_source.specs.Growing.{IsSound};
 ghost use Rattle.dt_source.specs.Owned.{group_of, AreOwned};
 ghost use Rattle.dt_source.specs.Listing.{name_of, AreNumbers};
-ghost use Rattle.dt_source.specs.Contents.{property_owner, label_owner, AreAbove, label_at};
+ghost use Rattle.dt_source.specs.Contents.{property_owner, label_owner, label_at};
 ghost use Rattle.dt_source.specs.Resolving.{EachNaming, IsUnreadAmong, IsPropertyRead, ArePropertiesRead, IsRowRead, AreRowsRead, IsUnreadRow, Belong};
 
 use crate::groups::Groups;
@@ -34,7 +34,7 @@ fn property_owners(
 ) -> Result<Vec<Option<usize>>, AllocError>
     ensures { IfOk result (λ v. v.items ≡ map property_owner properties.now) }
 {
-    let mut owners = Vec::new(alloc);
+    let mut owners = Vec::with_capacity(alloc, properties.len())?;
     for property in properties {
         let owner = if property.stands {
             Some(property.node)
@@ -50,7 +50,7 @@ fn property_owners(
 fn label_owners(alloc: Global, givings: &[Giving<'_>]) -> Result<Vec<Option<usize>>, AllocError>
     ensures { IfOk result (λ v. v.items ≡ map label_owner givings.now) }
 {
-    let mut owners = Vec::new(alloc);
+    let mut owners = Vec::with_capacity(alloc, givings.len())?;
     for giving in givings {
         owners.push(Some(giving.node))?;
     }
@@ -63,7 +63,7 @@ fn properties_by_node(
     properties: &[Property<'_, '_>],
     count: usize,
 ) -> Result<Groups, AllocError>
-    ensures { IfOk result (λ groups. AreOwned (map property_owner properties.now) count (group_of groups.places.items)) }
+    ensures { IfOk result (λ groups. AreOwned (map property_owner properties.now) count (group_of groups)) }
 {
     let owners = property_owners(alloc, properties)?;
     Groups::new(alloc, &owners, count)
@@ -71,7 +71,7 @@ fn properties_by_node(
 
 /// The labels of each of so many nodes.
 fn labels_by_node(alloc: Global, givings: &[Giving<'_>], count: usize) -> Result<Groups, AllocError>
-    ensures { IfOk result (λ groups. AreOwned (map label_owner givings.now) count (group_of groups.places.items)) }
+    ensures { IfOk result (λ groups. AreOwned (map label_owner givings.now) count (group_of groups)) }
 {
     let owners = label_owners(alloc, givings)?;
     Groups::new(alloc, &owners, count)
@@ -126,7 +126,7 @@ fn labels_at<'a>(
     requires { (i : ℕ) → IsIn i places.now → i < length givings.now }
     ensures { IfOk result (λ labels. map (λ l. l.now) labels.items ≡ map (label_at givings.now) places.now) }
 {
-    let mut labels = Vec::new(alloc);
+    let mut labels = Vec::with_capacity(alloc, places.len())?;
     for place in places {
         labels.push(label_there(givings, *place))?;
     }
@@ -142,7 +142,6 @@ fn property_there<'a>(
     place: usize,
 ) -> Result<NamedProperty<'a>, Fault>
     requires sound { IsSound growing.now }
-    requires above { AreAbove growing.now.nodes.items }
     requires inside { place < length growing.now.properties.items }
     ensures { MatchResult result
         (λ property. EachNaming growing.now numbers.now (λ es number. IsPropertyRead unnamed es number growing.now.properties.items place (property_said property)))
@@ -166,7 +165,6 @@ fn add_properties<'a>(
     properties: &mut Vec<NamedProperty<'a>>,
 ) -> Result<(), Fault>
     requires sound { IsSound growing.now }
-    requires above { AreAbove growing.now.nodes.items }
     requires inside { (i : ℕ) → IsIn i places.now → i < length growing.now.properties.items }
     requires empty { properties.old.items ≡ [] }
     ensures { MatchResult result
@@ -189,14 +187,13 @@ fn properties_at<'a>(
     places: &[usize],
 ) -> Result<Vec<NamedProperty<'a>>, Fault>
     requires sound { IsSound growing.now }
-    requires above { AreAbove growing.now.nodes.items }
     requires inside { (i : ℕ) → IsIn i places.now → i < length growing.now.properties.items }
     ensures { MatchResult result
         (λ properties. EachNaming growing.now numbers.now (λ es number.
         ArePropertiesRead unnamed es number growing.now.properties.items places.now (map property_said properties.items)))
         (λ fault. IsUnreadAmong unnamed growing.now places.now fault) }
 {
-    let mut properties = Vec::new(alloc);
+    let mut properties = Vec::with_capacity(alloc, places.len())?;
     add_properties(alloc, growing, numbers, unnamed, places, &mut properties)?;
     Ok(properties)
 }
@@ -210,11 +207,10 @@ fn named_node<'a>(
     row: Row,
 ) -> Result<NamedNode<'a>, Fault>
     requires sound { IsSound growing.now }
-    requires above { AreAbove growing.now.nodes.items }
     requires belong { Belong growing.now belongings.now }
     ensures { MatchResult result
         (λ node. EachNaming growing.now belongings.now.numbers.items (λ es number. IsRowRead unnamed es number growing.now belongings.now row (node_said node)))
-        (λ fault. IsUnreadAmong unnamed growing.now (group_of belongings.now.properties.places.items row.node) fault) }
+        (λ fault. IsUnreadAmong unnamed growing.now (group_of belongings.now.properties row.node) fault) }
 {
     let labels = labels_at(alloc, &growing.givings, belongings.labels.of(row.node))?;
     let places = belongings.properties.of(row.node);
@@ -237,7 +233,6 @@ pub(crate) fn add_nodes<'a>(
     nodes: &mut Vec<NamedNode<'a>>,
 ) -> Result<(), Fault>
     requires sound { IsSound growing.now }
-    requires above { AreAbove growing.now.nodes.items }
     requires belong { Belong growing.now belongings.now }
     requires empty { nodes.old.items ≡ [] }
     ensures { MatchResult result

@@ -6,6 +6,7 @@ mod building;
 mod contents;
 mod groups;
 mod growing;
+mod laws;
 mod listing;
 mod named;
 mod nodes;
@@ -16,5 +17,6 @@ mod table;
 mod values;
 
 pub use building::build_base;
+pub use laws::one_outcome;
 pub use named::{NamedNode, NamedPiece, NamedProperty, NamedReference, NamedTree, NamedValue};
 pub use reading::Mode;

@@ -28,7 +28,7 @@ fn push(rows: &mut Vec<Row>, row: Row) -> Result<(), AllocError>
 /// Adds a node and what stands below it, as deep as `depth`.
 fn add(rows: &mut Vec<Row>, children: &Groups, row: Row, depth: usize) -> Result<(), AllocError>
     ensures { OnOk result
-        (rows.new.items ≡ rows.old.items ++ rows_of (group_of children.now.places.items) depth row (length rows.old.items)) }
+        (rows.new.items ≡ rows.old.items ++ rows_of (group_of children.now) depth row (length rows.old.items)) }
 {
     let number = rows.len();
     push(rows, row)?;
@@ -48,7 +48,7 @@ fn add(rows: &mut Vec<Row>, children: &Groups, row: Row, depth: usize) -> Result
 fn parents(alloc: Global, nodes: &[Node<'_>]) -> Result<Vec<Option<usize>>, AllocError>
     ensures { IfOk result (λ v. v.items ≡ parents_of nodes.now) }
 {
-    let mut parents = Vec::new(alloc);
+    let mut parents = Vec::with_capacity(alloc, nodes.len())?;
     for (number, node) in nodes.iter().enumerate() {
         let parent = if number > 0 && node.stands {
             Some(node.parent)
@@ -62,7 +62,7 @@ fn parents(alloc: Global, nodes: &[Node<'_>]) -> Result<Vec<Option<usize>>, Allo
 
 /// The children of each node that weren't deleted.
 fn children(alloc: Global, nodes: &[Node<'_>]) -> Result<Groups, AllocError>
-    ensures { IfOk result (λ children. AreOwned (parents_of nodes.now) (length nodes.now) (group_of children.places.items)) }
+    ensures { IfOk result (λ children. AreOwned (parents_of nodes.now) (length nodes.now) (group_of children)) }
 {
     let parents = parents(alloc, nodes)?;
     Groups::new(alloc, &parents, nodes.len())
@@ -70,7 +70,7 @@ fn children(alloc: Global, nodes: &[Node<'_>]) -> Result<Groups, AllocError>
 
 /// The nodes that stand in preorder, where `children` has the children of each node that weren't deleted.
 fn preorder(alloc: Global, children: &Groups) -> Result<Vec<Row>, AllocError>
-    ensures { IfOk result (λ v. v.items ≡ rows_of (group_of children.now.places.items) most_names (record { node = 0; parent = 0 }) 0) }
+    ensures { IfOk result (λ v. v.items ≡ rows_of (group_of children.now) most_names (record { node = 0; parent = 0 }) 0) }
 {
     let mut rows = Vec::new(alloc);
     let root = Row { node: 0, parent: 0 };

@@ -3,7 +3,6 @@
 ghost use Rattle.std.specs.Prelude.{◌≡◌, [], map, MatchResult};
 ghost use Rattle.dt_source.specs.Said.{node_said};
 ghost use Rattle.dt_source.specs.Growing.{IsSound};
-ghost use Rattle.dt_source.specs.Contents.{AreAbove};
 ghost use Rattle.dt_source.specs.Resolving.{Belong};
 ghost use Rattle.dt_source.specs.Nodes.{AreFilled, IsUnfilled, AreListed, IsUnlisted};
 
@@ -25,7 +24,6 @@ fn fill<'a>(
     nodes: &mut Vec<NamedNode<'a>>,
 ) -> Result<(), Fault>
     requires sound { IsSound growing.now }
-    requires above { AreAbove growing.now.nodes.items }
     requires belong { Belong growing.now belongings.now }
     requires empty { nodes.old.items ≡ [] }
     ensures { MatchResult result
@@ -42,15 +40,14 @@ pub(crate) fn named_nodes<'a>(
     alloc: Global,
     growing: &Growing<'_, 'a>,
 ) -> Result<Vec<NamedNode<'a>>, Fault>
-    requires sound { IsSound growing.now }
-    requires above { AreAbove growing.now.nodes.items }
+    requires { IsSound growing.now }
     ensures { MatchResult result
         (λ nodes. AreListed growing.now (map node_said nodes.items))
         (λ fault. IsUnlisted growing.now fault) }
 {
     let rows = rows(alloc, &growing.nodes)?;
     let belongings = Belongings::new(alloc, growing, &rows)?;
-    let mut nodes = Vec::new(alloc);
+    let mut nodes = Vec::with_capacity(alloc, rows.len())?;
     fill(alloc, growing, &belongings, &rows, &mut nodes)?;
     Ok(nodes)
 }

@@ -8,9 +8,9 @@ ghost use Rattle.dt_model.specs.Source.{Events, number_of, text_of};
 ghost use Rattle.dt_parse.specs.Said.{reference_of, referring, piece_parts};
 ghost use Rattle.dt_parse.specs.Said as source_said;
 ghost use Rattle.dt_source.specs.Said.{reference_said, value_said};
-ghost use Rattle.dt_source.specs.Grown.{Leads};
+ghost use Rattle.dt_source.specs.Grown.{AreAbove, Leads};
 ghost use Rattle.dt_source.specs.Growing.{IsSound};
-ghost use Rattle.dt_source.specs.Contents.{names_text, AreAbove, kept_label, named_cell, named_part, named_parts};
+ghost use Rattle.dt_source.specs.Contents.{names_text, kept_label, named_cell, named_part, named_parts};
 ghost use Rattle.dt_source.specs.Resolving.{IsOf, EachNaming, IsAdded, IsUnread};
 
 use crate::growing::{Growing, Node};
@@ -173,7 +173,6 @@ fn add_text(
     value: &mut NamedValue<'_>,
 ) -> Result<(), Fault>
     requires sound { IsSound growing.now }
-    requires above { AreAbove growing.now.nodes.items }
     ensures { MatchResult result
         (λ _. (es : Events) (number : Stack → ℕ) → IsOf growing.now es →
         IsAdded (value_said value.old) (named_part unnamed es number (text_of (reference_of reference.now))) (value_said value.new))
@@ -195,8 +194,7 @@ fn add_reference<'a>(
     piece: &Piece<'a>,
     value: &mut NamedValue<'a>,
 ) -> Result<(), Fault>
-    requires sound { IsSound growing.now }
-    requires above { AreAbove growing.now.nodes.items }
+    requires { IsSound growing.now }
     ensures { MatchResult result
         (λ _. EachNaming growing.now numbers.now (λ es number.
         IsAdded (value_said value.old) (named_part unnamed es number (referring piece.now.form (reference_of piece.now.reference))) (value_said value.new)))
@@ -218,7 +216,6 @@ fn add_piece<'a>(
     value: &mut NamedValue<'a>,
 ) -> Result<(), Fault>
     requires sound { IsSound growing.now }
-    requires above { AreAbove growing.now.nodes.items }
     ensures { MatchResult result
         (λ _. EachNaming growing.now numbers.now (λ es number.
         IsAdded (value_said value.old) (named_parts unnamed es number (piece_parts piece.now)) (value_said value.new)))
@@ -238,7 +235,6 @@ fn add_value<'a>(
     value: &mut NamedValue<'a>,
 ) -> Result<(), Fault>
     requires sound { IsSound growing.now }
-    requires above { AreAbove growing.now.nodes.items }
     requires empty { value_said value.old ≡ [] }
     ensures { MatchResult result
         (λ _. EachNaming growing.now numbers.now (λ es number.
@@ -263,7 +259,6 @@ pub(crate) fn named_value<'a>(
     source: &Value<'a>,
 ) -> Result<NamedValue<'a>, Fault>
     requires sound { IsSound growing.now }
-    requires above { AreAbove growing.now.nodes.items }
     ensures { MatchResult result
         (λ value. EachNaming growing.now numbers.now (λ es number.
         named_parts unnamed es number (source_said.value_said source.now) ≡ Some (value_said value)))

@@ -16,12 +16,12 @@ pub returns-clause-tree : goal.returns-clause-tree
 returns-clause-tree c =
     let t = tree_of c.in_ok-named.named in
     if_ok (λ a. IsNumbered base t (reading a)) (λ a. TextHasTree base c.args.text.now (reading a))
-    (λ a n. tree_of_text c.tree_is_meant.ensures base c.args.text.now t (reading a) c.in_ok-named.ensures.named c.validity.ensures.named n)
+    (λ a n. tree_of_text c.tree_is_meant.ensures base c.args.text.now t (reading a) c.in_ok-named.ensures.named n)
     c.labelled.result c.labelled.ensures.tree
 
 pub returns-clause-refused : goal.returns-clause-refused
 returns-clause-refused c =
     let t = tree_of c.in_ok-named.named in
     if_err (λ (fault : Fault). WhyNotLabelled fault.kind t × (fault.at ≡ None)) (WhyNotCompiled base c.args.text.now)
-    (λ fault why. not_labelled c.tree_is_meant.ensures c.args.text.now t fault c.in_ok-named.ensures.named c.validity.ensures.named why)
+    (λ fault why. not_labelled c.tree_is_meant.ensures c.args.text.now t fault c.in_ok-named.ensures.named why)
     c.labelled.result c.labelled.ensures.refused

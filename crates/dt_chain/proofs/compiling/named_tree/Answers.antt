@@ -1,13 +1,12 @@
-use Rattle.std.proofs.Common.{◌≡◌, false}
+use Rattle.std.proofs.Common.{◌≡◌}
 use Rattle.std.proofs.lemmas.Result.{err_from_is_err_and}
 use Rattle.dt_names.specs.declared.fault.Fault.{Fault}
 use Rattle.dt_model.specs.Named.{tree_of}
-use Rattle.dt_model.specs.NamedOf.{IsNamedOf}
-use Rattle.dt_source.specs.Refusals.{mode_said}
-use Rattle.dt_source.specs.Refusals.{WhyNotNamed, place_of}
+use Rattle.dt_source.specs.Building.{HasTree}
+use Rattle.dt_source.specs.Refusals.{mode_said, WhyNotNamed, place_of}
 use Rattle.dt_chain.specs.Compiled.{WhyNotCompiled, unparsed}
 use Rattle.dt_chain.specs.Steps.{TextHasNamed}
-use Rattle.dt_chain.proofs.Stages.{not_named, if_err, if_ok_also}
+use Rattle.dt_chain.proofs.Stages.{not_named, if_err, if_ok}
 use Rattle.dt_chain.proofs.compiling.named_tree.Goals as goal
 
 pub returns-in_err-source-clause-refused : goal.returns-in_err-source-clause-refused
@@ -18,17 +17,16 @@ returns-in_err-source-clause-refused c =
 pub returns-clause-named : goal.returns-clause-named
 returns-clause-named c =
     let s = c.in_ok-source.source in
-    if_ok_also (s.plugin ≡ false) (λ t. IsNamedOf (mode_said c.args.mode) s.reservations s.places (tree_of t)) (λ t. TextHasNamed (mode_said c.args.mode) c.args.text.now (tree_of t))
-    (λ plain t named. record {
+    if_ok (λ t. HasTree (mode_said c.args.mode) s (tree_of t)) (λ t. TextHasNamed (mode_said c.args.mode) c.args.text.now (tree_of t))
+    (λ t tree. record {
       says = s;
       parsed = c.in_ok-source.ensures.ok;
-      plain = plain;
+      tree = tree;
       places = c.spelled.ensures.places;
       some = c.spelled.ensures.some;
       reservations = c.spelled.ensures.reservations;
-      named = named;
     })
-    c.build_base.result c.build_base.ensures.base c.build_base.ensures.tree
+    c.build_base.result c.build_base.ensures.tree
 
 pub returns-clause-refused : goal.returns-clause-refused
 returns-clause-refused c =

@@ -14,7 +14,7 @@ pub returns-clause-tree : goal.returns-clause-tree
 returns-clause-tree c =
     let t = tree_of c.in_ok-named.named in
     if_ok (λ a. IsNumbered raw t (reading a)) (λ a. TextHasTree raw c.args.text.now (reading a))
-    (λ a n. tree_of_text c.tree_is_meant.ensures raw c.args.text.now t (reading a) c.in_ok-named.ensures.named c.validity.ensures.named n)
+    (λ a n. tree_of_text c.tree_is_meant.ensures raw c.args.text.now t (reading a) c.in_ok-named.ensures.named n)
     c.numbered.result c.numbered.ensures.tree
 
 pub returns-clause-refused : goal.returns-clause-refused

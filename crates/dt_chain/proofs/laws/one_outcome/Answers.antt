@@ -10,4 +10,4 @@ returns-clause-only c =
 
 pub returns-clause-refusal : goal.returns-clause-refusal
 returns-clause-refusal c =
-    refused_once c.one_outcome.ensures.said c.one_outcome.ensures.only c.one_outcome.ensures.fault c.refusal_is_one.ensures c.compiled_is_not_refused.ensures.meant
+    refused_once c.one_outcome.ensures.said c.one_outcome.ensures.only c.one_outcome.ensures.fault c.one_outcome-2.ensures.refused c.compiled_is_not_refused.ensures.meant

@@ -6,10 +6,10 @@ use Rattle.dt_model.specs.Limits.{most_nodes}
 use Rattle.dt_model.specs.Named.{NodeReference, NamedList, tree_of}
 use Rattle.dt_model.specs.NamedOf.{IsNamedOf}
 use Rattle.dt_model.specs.Source.{Place}
-use Rattle.dt_source.specs.Building.{AreNodesOf, MayBeWhole}
+use Rattle.dt_source.specs.Building.{AreNodesOf, MayBeWhole, HasTree}
 use Rattle.dt_source.specs.Refusals.{mode_said, WhyNotNamed, place_of}
-use Rattle.dt_source.specs.Said.{node_said}
-use Rattle.dt_source.proofs.BuiltTrees.{tree_means, may_be_whole, many_are_refused, too_many_named, of_result, refused_result}
+use Rattle.dt_source.specs.Said.{IsTree, list_said, node_said}
+use Rattle.dt_source.proofs.BuiltTrees.{tree_means, may_be_whole, many_are_refused, too_many_named, answered_result, refused_result}
 use Rattle.dt_source.proofs.building.build_base.Goals as goal
 
 pub whole-requires : goal.whole-requires
@@ -29,8 +29,16 @@ returns-clause-tree c =
     let ns = map node_said c.in_ok-nodes.nodes.items in
     let h = subst (λ (ps : List Place). AreNodesOf mode ps ns) c.items.ensures c.in_ok-nodes.ensures in
     let means = tree_means mode s ns h c.list_is_of_its_tree.ensures c.spelled.ensures.nested c.nested_places.ensures.closed in
-    of_result (λ (t : NamedList NodeReference). IsNamedOf mode s.reservations s.places (tree_of t)) c.whole.result _ _ c.whole.ensures
-    (subst (λ (rs : List (ℕ × ℕ)). IsNamedOf mode s.reservations s.places (tree_of (record { reservations = rs; nodes = ns }))) (sym (c.in_ok-reservations.ensures ∙ c.reservations.ensures)) means)
+    let l : NamedList NodeReference = list_said c.in_ok-reservations.reservations.items c.in_ok-nodes.nodes.items in
+    let named : IsNamedOf mode s.reservations s.places (tree_of l) =
+    subst (λ (rs : List (ℕ × ℕ)). IsNamedOf mode s.reservations s.places (tree_of (record { reservations = rs; nodes = ns }))) (sym (c.in_ok-reservations.ensures ∙ c.reservations.ensures)) means in
+    answered_result (λ (t : NamedList NodeReference). (t ≡ l) × IsTree t) (λ (t : NamedList NodeReference). HasTree mode s (tree_of t)) _
+    (λ t is. record {
+      plain = sym c.is_overlay.ensures ∙ c.if-is_overlay.false;
+      means = subst (λ (u : NamedList NodeReference). IsNamedOf mode s.reservations s.places (tree_of u)) (sym is.0) named;
+      named = is.1.named;
+    })
+    c.whole.result c.whole.ensures
 
 pub returns-clause-refused : goal.returns-clause-refused
 returns-clause-refused c =

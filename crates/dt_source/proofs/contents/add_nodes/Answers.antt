@@ -1,7 +1,10 @@
-use Rattle.std.proofs.Common.{get_or}
+use Rattle.std.proofs.Common.{◌≡◌, List, map, take, get_or, subst}
 use Rattle.std.proofs.lemmas.Result.{err_from_is_err_and}
+use Rattle.std.proofs.lemmas.List.{take_all}
 use Rattle.dt_source.specs.declared.listing.Row.{Row}
 use Rattle.dt_source.specs.Owned.{group_of}
+use Rattle.dt_source.specs.Said.{node_said}
+use Rattle.dt_source.specs.Resolving.{EachNaming, AreRowsRead}
 use Rattle.dt_source.proofs.ContentSteps.{rows_more, unread_row, unread_for_memory}
 use Rattle.dt_source.proofs.contents.add_nodes.Goals as goal
 
@@ -18,9 +21,16 @@ returns-in_err-push c =
     let rows = c.args.rows.now in
     let k = c.loop-row.row-index in
     let d : Row = record { node = 0; parent = 0 } in
-    rw e.1 (unread_row c.args.unnamed g b rows k d e.0 c.loop-row-test.true (unread_for_memory c.args.unnamed g (group_of b.properties.places.items (get_or rows k d).node) e.0 e.2.0 e.2.1))
+    rw e.1 (unread_row c.args.unnamed g b rows k d e.0 c.loop-row-test.true (unread_for_memory c.args.unnamed g (group_of b.properties (get_or rows k d).node) e.0 e.2.0 e.2.1))
 
 pub loop-row-preserved : goal.loop-row-preserved
 loop-row-preserved c =
     rows_more c.args.unnamed c.args.growing.now c.args.belongings.now c.args.rows.now c.loop-row.row-index (record { node = 0; parent = 0 }) c.loop-row.nodes.items c.push.new.self.items c.in_ok-node.node
     c.loop-row-test.true c.in_ok-push.ensures.items c.loop-row.invariant c.in_ok-node.ensures
+
+pub returns : goal.returns
+returns c =
+    let rows = c.args.rows.now in
+    let all : take c.loop-row.row-index rows ≡ rows = take_all c.loop-row.row-index rows c.loop-row-test.false in
+    subst (λ (rs : List Row). EachNaming c.args.growing.now c.args.belongings.now.numbers.items (λ es number.
+    AreRowsRead c.args.unnamed es number c.args.growing.now c.args.belongings.now rs (map node_said c.loop-row.nodes.items))) all c.loop-row.invariant

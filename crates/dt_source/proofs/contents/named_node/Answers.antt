@@ -31,7 +31,7 @@ returns c =
     let places = c.of-places.result.now in
     let n : NamedNode = record { parent = r.parent; name = Borrowed c.name_at.result; labels = c.in_ok-labels.labels; properties = c.in_ok-properties.properties } in
     let name : cow_slice_items n.name ≡ name_of g.nodes.items r.node = c.name_at.ensures ∙ ap (λ (ns : List Node). name_of ns r.node) c.deref-3.ensures.value in
-    let labels : map (λ l. l.now) n.labels.items ≡ map (label_at g.givings.items) (group_of b.labels.places.items r.node) =
+    let labels : map (λ l. l.now) n.labels.items ≡ map (label_at g.givings.items) (group_of b.labels r.node) =
     c.in_ok-labels.ensures ∙ (ap (λ (gs : List Giving). map (label_at gs) c.of.result.now) c.deref.ensures.value ∙ ap (map (label_at g.givings.items)) c.of.ensures) in
     let properties : EachNaming g b.numbers.items (λ es number. ArePropertiesRead c.args.unnamed es number g.properties.items places (map property_said n.properties.items)) =
     subst (λ (ns : List (Option ℕ)). EachNaming g ns (λ es number. ArePropertiesRead c.args.unnamed es number g.properties.items places (map property_said n.properties.items)))

@@ -8,7 +8,7 @@ use Rattle.dt_source.proofs.listing.+add.Goals as goal
 
 pub returns-after-loop-child : goal.returns-after-loop-child
 returns-after-loop-child t c =
-    let children : ℕ → List ℕ = group_of c.args.children.now.places.items in
+    let children : ℕ → List ℕ = group_of c.args.children.now in
     let old = c.args.rows.now.items in
     let pushed = c.push.new.rows.items in
     let rows = c.loop-child.rows.items in
@@ -22,4 +22,4 @@ returns-after-loop-child t c =
 
 pub returns-else-depth-gt0 : goal.returns-else-depth-gt0
 returns-else-depth-gt0 t c =
-    none_added (group_of c.args.children.now.places.items) c.args.rows.now.items c.push.new.rows.items c.args.row c.args.depth c.if-depth-gt0.false c.in_ok-push.ensures
+    none_added (group_of c.args.children.now) c.args.rows.now.items c.push.new.rows.items c.args.row c.args.depth c.if-depth-gt0.false c.in_ok-push.ensures

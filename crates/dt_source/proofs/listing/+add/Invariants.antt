@@ -9,7 +9,7 @@ decreases-add l = l.depth
 
 abbrev pub invariant-loop-child : goal.invariant-loop-child
 invariant-loop-child l =
-    let below : ℕ → ℕ → List Row = rows_below (group_of l.children.places.items) (l.depth - 1) in
+    let below : ℕ → ℕ → List Row = rows_below (group_of l.children) (l.depth - 1) in
     record {
       deep : 0 < l.depth;
       so_far : l.rows.items ++ rows_each below (length l.rows.items) l.number (drop l.child-index l.child-items)

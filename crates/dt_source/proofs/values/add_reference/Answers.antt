@@ -19,3 +19,6 @@ returns-in-Text c =
     (result_map c.add_text.result (λ _. (es : Events) (number : Stack → ℕ) → IsOf g es → IsAdded old (named_part u es number x) new)
     (λ _. EachNaming g c.args.numbers.now (λ es number. IsAdded old (named_part u es number x) new))
     (IsUnread u g (x ∷ [])) (IsUnread u g (x ∷ [])) (λ _ h es number limit of by. h es number of) (λ e h. h) c.add_text.ensures)
+
+pub returns-in-Cell : goal.returns-in-Cell
+returns-in-Cell c = rw c.in-Cell.is c.add_cell.ensures

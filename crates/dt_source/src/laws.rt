@@ -1,0 +1,19 @@
+//! What is true of building the trees of sources.
+
+ghost use Rattle.dt_model.specs.Named.{NodeReference, Named};
+ghost use Rattle.dt_model.specs.Source.{Mode};
+ghost use Rattle.dt_names.specs.Fault.{IsExclusive, IsOneRefusal};
+ghost use Rattle.dt_grammar.specs.Grammar.{Says};
+ghost use Rattle.dt_source.specs.Building.{HasTree};
+ghost use Rattle.dt_source.specs.Refusals.{WhyNotNamed};
+
+use dt_laws::{named_is_not_refused, refusal_is_one};
+
+/// A source has a tree, or is refused for one reason, and not both, unless memory is wanted.
+pub fn one_outcome()
+    ensures built { (mode : Mode) (s : Says) (t : Named NodeReference) → IsExclusive (HasTree mode s t) (λ kind. WhyNotNamed mode kind s) }
+    ensures refused { (mode : Mode) (s : Says) → IsOneRefusal (λ kind. WhyNotNamed mode kind s) }
+{
+    named_is_not_refused();
+    refusal_is_one();
+}
