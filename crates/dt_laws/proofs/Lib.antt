@@ -124,3 +124,12 @@ pub mod CompiledTrees
 pub mod CheckedRefusals
 pub mod CheckedOrders
 pub mod CheckedCompiled
+pub mod ReferenceCells
+pub mod FixupGroups
+pub mod ObjectCells
+pub mod MirroredCells
+pub mod NodesUnlessEmpty
+pub mod MirroredNodes
+pub mod ObjectTrees
+pub mod OverlayParts
+pub mod KeyedInOverlays
