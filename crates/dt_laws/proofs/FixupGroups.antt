@@ -1,5 +1,5 @@
 -- The properties of `__fixups__`, one for each label, list the cells that wait for it: every cell once, and none else.
-use Rattle.std.proofs.Common.{◌≡◌, ◌≢◌, ℕ, ◌<◌, ◌^◌, Bool, true, false, not, cond, List, [], ◌∷◌, ◌++◌, append_assoc, append-nil, map, codes, decimal, refl, sym, ap, subst, ◌∙◌, inl, inr, true≢false}
+use Rattle.std.proofs.Common.{◌≡◌, ◌≢◌, ℕ, ◌<◌, ◌^◌, Bool, true, false, not, cond, List, [], ◌∷◌, ◌++◌, append_assoc, map, codes, decimal, refl, sym, ap, subst, ◌∙◌, inl, inr, true≢false}
 use Rattle.std.specs.Prelude.{if◌then◌else◌}
 use Rattle.std.specs.List.{AllByRecursion, flat_map, filter}
 use Rattle.std.specs.Str.{bytes_eq}
@@ -144,12 +144,14 @@ cells_for_once cells l d =
 
 labelled_once : (l : Name) (cs : List Cell) → AreDistinct cs → AreDistinct (map (waiting l) cs)
 labelled_once l [] d = tt
-labelled_once l (c ∷ cs) d =
-    (each_from (λ y. y ≢ waiting l c) (map (waiting l) cs)
+labelled_once l (c ∷ cs) d = (
+  each_from (λ y. y ≢ waiting l c) (map (waiting l) cs)
       (λ y i e.
       let w = in_map_from (waiting l) cs y i in
       let same : w.0 ≡ c = ap (λ (x : Name × Cell). x.1) (sym w.2 ∙ e) in
-      not_twice c cs d (subst (λ z. IsIn z cs) same w.1)), labelled_once l cs d.1)
+      not_twice c cs d (subst (λ z. IsIn z cs) same w.1)),
+  labelled_once l cs d.1,
+)
 
 pub grouped_once : (cells : List (Name × Cell)) → AreDistinct cells → AreDistinct (grouped cells)
 grouped_once cells d =

@@ -1,8 +1,7 @@
 -- A node of a named tree is keyed exactly where it is in the overlay that the tree is named by.
-use Rattle.std.proofs.Common.{◌≡◌, ℕ, suc, ◌+◌, ◌<◌, Bool, true, false, ◌||◌, not, List, [], ◌∷◌, ◌++◌, length, map, nat_lt, reverse, codes, is_some, refl, sym, ap, subst, ◌∙◌, inl, inr, Option, Some, None, arith, true≢false}
+use Rattle.std.proofs.Common.{◌≡◌, ℕ, suc, ◌+◌, ◌<◌, Bool, true, false, ◌||◌, List, [], ◌∷◌, length, nat_lt, reverse, codes, is_some, refl, sym, ap, subst, ◌∙◌, inl, inr, Option, Some, None, arith, true≢false}
 use Rattle.std.specs.List.{AllByRecursion, list_any, flat_map}
 use Rattle.std.specs.Option.{option_map, option_map_or, option_and_then}
-use Rattle.std.specs.Str.{bytes_eq}
 use Rattle.std.proofs.lemmas.Bool.{or_cases}
 use Rattle.std.proofs.lemmas.Bool.Decides.{nat_tests, Decides-eqb}
 use Rattle.std.proofs.lemmas.List.{reverse-reverse, length-map}
@@ -12,13 +11,13 @@ use Rattle.dt_model.specs.Lists.{IsIn}
 use Rattle.dt_model.specs.Meaning.{Item, byte, reference, item_renamed, EachReference}
 use Rattle.dt_model.specs.Event.{Stack, Event, opening, giving, definition, undefinition, deletion, gives, takes, value_at, names}
 use Rattle.dt_model.specs.Source.{by_label, by_path, Part, one, number_of, text_of, Events, labelled, referent, refers, refers_there, labels_there}
-use Rattle.dt_model.specs.Overlay.{OverlayReference, inside, outside, reference_renamed, Fragment, Overlay, IsOverlay}
+use Rattle.dt_model.specs.Overlay.{inside, outside, reference_renamed, Fragment, Overlay, IsOverlay}
 use Rattle.dt_model.specs.OverlaySource.{overlay_reference, overlay_items, overlay_of}
 use Rattle.dt_model.specs.Named as named
-use Rattle.dt_model.specs.Named.{NodeReference, NamedProperty, Content, Named, NamedNode, NamedPlaced, node_at, node_count, nodes_of, paths_of, written_in, value_of}
+use Rattle.dt_model.specs.Named.{NodeReference, NamedProperty, Content, Named, NamedNode, NamedPlaced, node_at, node_count, nodes_of, paths_of, value_of}
 use Rattle.dt_model.specs.NamedOf.{IsNamedBy, IsBelow, RefersBelow, path_among, meant, refers_to, has_reference_to, asked, contents_of}
 use Rattle.dt_laws.proofs.Cases.{map_some, map_or_true}
-use Rattle.dt_laws.proofs.Tests.{any_from, any_here, each_in, in_left, in_right, in_append, in_map, in_map_from}
+use Rattle.dt_laws.proofs.Tests.{any_from, any_here, each_in, in_append, in_map, in_map_from}
 use Rattle.dt_laws.proofs.Lasts.{last_any, names_by}
 use Rattle.dt_laws.proofs.Sound.{Sound}
 use Rattle.dt_laws.proofs.Labels.{some_label}

@@ -133,3 +133,10 @@ pub mod MirroredNodes
 pub mod ObjectTrees
 pub mod OverlayParts
 pub mod KeyedInOverlays
+pub mod ObjectInstances
+pub mod FragmentOrder
+pub mod CellsMeant
+pub mod ObjectMeant
+pub mod ObjectEncoded
+pub mod ObjectLaws
+pub mod ShortValues

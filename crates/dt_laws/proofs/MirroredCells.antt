@@ -1,5 +1,5 @@
 -- What `__local_fixups__` lists: the cells that hold numbers of the tree's own nodes, where their offsets are 32-bit numbers.
-use Rattle.std.proofs.Common.{◌≡◌, ℕ, ◌<◌, ◌^◌, ◌%◌, ◌+◌, List, [], ◌∷◌, ◌++◌, append_assoc, append-nil, length, map, refl, sym, ap, subst, ◌∙◌, inl, inr, arith}
+use Rattle.std.proofs.Common.{◌≡◌, ℕ, ◌<◌, ◌^◌, ◌%◌, List, [], ◌∷◌, ◌++◌, append-nil, length, map, refl, sym, ap, ◌∙◌, inl, inr, arith}
 use Rattle.std.specs.List.{flat_map}
 use Rattle.std.proofs.lemmas.Nat.{from_be_bytes-to_be_bytes_4}
 use Rattle.std.proofs.lemmas.List.{length-append}
@@ -12,7 +12,7 @@ use Rattle.dt_model.specs.Object.{Cell, references_from, words_of, cells_of}
 use Rattle.dt_model.specs.Overlay.{inside, outside}
 use Rattle.dt_model.specs.Fixups.{inside_offset, offsets_as, local_properties, unless_empty, mirror}
 use Rattle.dt_model.specs.Tree as tree
-use Rattle.dt_model.specs.Tree.{Property, Forest, Placed}
+use Rattle.dt_model.specs.Tree.{Property, Forest}
 use Rattle.dt_model.specs.Named.{NodeReference, NamedProperty, Content, NamedForest, no_nodes, branch, NamedPlaced, preorder}
 use Rattle.dt_laws.proofs.Tests.{in_left, in_right}
 use Rattle.dt_laws.proofs.ReferenceCells.{flat_of_flat, flat_same, cell_at, cells_of_property, cells_of_node}
@@ -45,7 +45,7 @@ as_offsets path name (b ∷ bytes) = append-nil (map (offset_cell path name) (wo
 
 -- ---- of a node
 
-node_cells : (n : NamedPlaced NodeReference) → HasLowOffsets n.content → cells_of (record { path = n.path; properties = local_properties n.content }) ≡ flat_map inside_of (cells_of_node n)
+pub node_cells : (n : NamedPlaced NodeReference) → HasLowOffsets n.content → cells_of (record { path = n.path; properties = local_properties n.content }) ≡ flat_map inside_of (cells_of_node n)
 node_cells n low =
     flat_of_flat (cells_listed n.path) (λ (p : NamedProperty NodeReference). offsets_as p.name (flat_map inside_offset (references_from 0 p.value))) n.content.properties
     ∙ flat_same (λ (p : NamedProperty NodeReference). flat_map (cells_listed n.path) (offsets_as p.name (flat_map inside_offset (references_from 0 p.value))))

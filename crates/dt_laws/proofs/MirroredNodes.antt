@@ -1,5 +1,5 @@
 -- The nodes of `__local_fixups__` are nodes of the tree, with some of their properties, and a blob may hold them.
-use Rattle.std.proofs.Common.{◌≡◌, ◌≢◌, ℕ, suc, ◌%◌, Bool, true, false, List, [], ◌∷◌, ◌++◌, length, map, codes, refl, sym, ap, subst, ◌∙◌, ◌⊎◌, inl, inr, Option, Some, None, is_some, true≢false}
+use Rattle.std.proofs.Common.{◌≡◌, ◌≢◌, ℕ, suc, ◌%◌, Bool, true, false, List, [], ◌∷◌, ◌++◌, length, map, codes, refl, sym, ap, subst, ◌∙◌, inl, inr, Option, Some, None, is_some, true≢false}
 use Rattle.std.specs.Prelude.{option_and_then}
 use Rattle.std.specs.List.{AllByRecursion, flat_map}
 use Rattle.std.specs.Str.{bytes_eq}
@@ -7,9 +7,9 @@ use Rattle.dt_model.specs.Names.{Name, IsPropertyName}
 use Rattle.dt_model.specs.Path.{Path}
 use Rattle.dt_model.specs.Lists.{IsIn}
 use Rattle.dt_model.specs.Object.{references_from}
-use Rattle.dt_model.specs.Fixups.{inside_offset, offsets_as, local_properties, unless_empty, mirror}
+use Rattle.dt_model.specs.Fixups.{inside_offset, offsets_as, local_properties, mirror}
 use Rattle.dt_model.specs.Tree as tree
-use Rattle.dt_model.specs.Tree.{Property, Forest, Node}
+use Rattle.dt_model.specs.Tree.{Property, Node}
 use Rattle.dt_model.specs.Valid as valid
 use Rattle.dt_model.specs.Valid.{AreDistinct, AreProperties, AreNodes, phandles}
 use Rattle.dt_model.specs.Named.{NodeReference, NamedProperty, Content, NamedForest, no_nodes, branch, NamedNode, NamedPlaced, sibling, node_below, value_of, names, preorder}

@@ -1,12 +1,12 @@
 -- A node that is left out where it is empty: what look-ups find, and that a blob may hold it.
-use Rattle.std.proofs.Common.{◌≡◌, ◌≢◌, ℕ, Bool, true, false, List, [], ◌∷◌, ◌++◌, ◌⊎◌, codes, refl, sym, ap, subst, ◌∙◌, inl, inr, Option, Some, None, true≢false}
+use Rattle.std.proofs.Common.{◌≡◌, ◌≢◌, ℕ, Bool, true, false, List, [], ◌∷◌, ◌++◌, ◌⊎◌, codes, refl, sym, ap, ◌∙◌, inl, inr, Option, Some, None}
 use Rattle.std.specs.Prelude.{option_and_then}
 use Rattle.std.specs.List.{AllByRecursion, flat_map}
 use Rattle.std.specs.Option.{option_to_list}
 use Rattle.std.specs.Str.{bytes_eq}
 use Rattle.dt_model.specs.Names.{Name, IsNodeName}
 use Rattle.dt_model.specs.Path.{Path}
-use Rattle.dt_model.specs.Object.{Cell, cells_of, properties_of, nodes_from}
+use Rattle.dt_model.specs.Object.{cells_of, properties_of, nodes_from}
 use Rattle.dt_model.specs.Fixups.{unless_empty}
 use Rattle.dt_model.specs.Tree.{Property, Forest, no_nodes, branch, Node, sibling, node_below, value_of, preorder}
 use Rattle.dt_model.specs.Valid.{AreDistinct, AreProperties, AreNodes, names, phandles}

@@ -1,6 +1,6 @@
 -- A tree with its labels and cells as the root's last children: what look-ups find in it, and that a blob may hold it.
-use Rattle.std.proofs.Common.{◌≡◌, ◌≢◌, ℕ, Bool, true, false, ◌||◌, ◌&&◌, List, [], ◌∷◌, ◌++◌, codes, refl, sym, ap, subst, ◌∙◌, inl, inr, Option, Some, None, append_assoc, append-nil, is_some, true≢false}
-use Rattle.std.specs.Prelude.{option_and_then, not, if◌then◌else◌}
+use Rattle.std.proofs.Common.{◌≡◌, ◌≢◌, Bool, true, false, List, [], ◌∷◌, ◌++◌, codes, refl, sym, ap, subst, ◌∙◌, inl, inr, Option, Some, None, append_assoc, append-nil, is_some, true≢false}
+use Rattle.std.specs.Prelude.{option_and_then, if◌then◌else◌}
 use Rattle.std.specs.List.{AllByRecursion}
 use Rattle.std.specs.Option.{option_or}
 use Rattle.std.specs.Str.{bytes_eq}
@@ -16,7 +16,7 @@ use Rattle.dt_model.specs.Valid.{AreDistinct, AreProperties, AreNodes, IsPhandle
 use Rattle.dt_laws.proofs.CheckedNames.{node_name}
 use Rattle.dt_laws.proofs.Distinct.{distinct_append}
 use Rattle.dt_laws.proofs.Tests.{each_in, bytes_eq_refl, bytes_eq_true}
-use Rattle.dt_laws.proofs.NodesUnlessEmpty.{IsUnlessEmpty, found_here, found_other, node_found, nodes_unless_empty, each_name, distinct_unless_empty, phandles_unless_empty}
+use Rattle.dt_laws.proofs.NodesUnlessEmpty.{IsUnlessEmpty, found_here, found_other, nodes_unless_empty, each_name, distinct_unless_empty, phandles_unless_empty}
 
 -- ---- siblings behind others
 

@@ -11,7 +11,7 @@ use Rattle.dt_model.specs.OverlaySource.{fragment_name, OverlaySoFar, overlay_st
 use Rattle.dt_laws.proofs.Cases.{not_refused}
 use Rattle.dt_laws.proofs.Lasts.{last_each, value_by}
 use Rattle.dt_laws.proofs.Tests.{each_append}
-use Rattle.dt_laws.proofs.OverlayMaking.{next_number, MakesAsAny, MakesFragment, OverlayMakes, overlay_makes}
+use Rattle.dt_laws.proofs.OverlayMaking.{next_number, MakesFragment, OverlayMakes, overlay_makes}
 use Rattle.dt_laws.proofs.OverlayHolding.{if_read_ok}
 
 abbrev is_other_part : Part → Bool
