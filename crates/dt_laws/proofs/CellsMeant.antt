@@ -32,7 +32,7 @@ module _ (es : Events) (o : Overlay) (t : Named NodeReference) (n : IsNamedBy es
   with_path : ℕ × NodeReference → ℕ × OverlayReference
   with_path r = (r.0, renamed r.1)
 
-  pub cell_meant : (c : Cell) (r : NodeReference) → IsIn (c, r) (cells_in t) → IsCellOf o c (renamed r)
+  cell_meant : (c : Cell) (r : NodeReference) → IsIn (c, r) (cells_in t) → IsCellOf o c (renamed r)
   unfolding with_path
   cell_meant c r i =
       let h = cell_from t (named_apart t is_named) one_each (c, r) i in (

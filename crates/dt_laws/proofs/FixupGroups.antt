@@ -11,7 +11,7 @@ use Rattle.dt_model.specs.Object.{Cell, IsCellText, AreCellTexts, AreFixups}
 use Rattle.dt_model.specs.Fixups.{cell_text, first_labels, text_for, fixup, fixups}
 use Rattle.dt_model.specs.Tree.{Property}
 use Rattle.dt_model.specs.Valid.{AreDistinct}
-use Rattle.dt_laws.proofs.Tests.{bytes_eq_refl, bytes_eq_true, bytes_eq_other, each_from, in_map, in_map_from}
+use Rattle.dt_laws.proofs.Tests.{bytes_eq_refl, bytes_eq_true, each_from, in_map, in_map_from}
 use Rattle.dt_laws.proofs.Distinct.{distinct_filter, in_flat, not_twice}
 use Rattle.dt_laws.proofs.Flat.{from_flat, distinct_flat}
 
@@ -46,9 +46,6 @@ itself (x ∷ xs) = ap (λ ys. x ∷ ys) (itself xs)
 abbrev is_other : Name → Name → Bool
 is_other l k = not (bytes_eq k l)
 
-other_passes : (k l : Name) → k ≢ l → is_other l k ≡ true
-other_passes k l ne = ap not (bytes_eq_other k l ne)
-
 passes_other : (k l : Name) → is_other l k ≡ true → k ≢ l
 passes_other k l h same = let z : false ≡ true = ap not (sym (ap (λ y. bytes_eq y l) same ∙ bytes_eq_refl l)) ∙ h in true≢false (sym z)
 
@@ -60,7 +57,7 @@ label_from ((k, c) ∷ cells) l (inr i) =
     let w = label_from cells l (in_filter (is_other k) (first_labels cells) l i).0 in
     (w.0, inr w.1)
 
-pub label_in : (cells : List (Name × Cell)) (l : Name) (c : Cell) → IsIn (l, c) cells → IsIn l (first_labels cells)
+label_in : (cells : List (Name × Cell)) (l : Name) (c : Cell) → IsIn (l, c) cells → IsIn l (first_labels cells)
 label_in [] l c i = absurd i
 label_in ((k, d) ∷ cells) l c (inl same) = inl (ap (λ x. x.0) same)
 label_in ((k, d) ∷ cells) l c (inr i) = step (label_in cells l c i) (bytes_eq l k) refl

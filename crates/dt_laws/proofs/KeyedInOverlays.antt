@@ -5,7 +5,7 @@ use Rattle.std.specs.Option.{option_map, option_map_or, option_and_then}
 use Rattle.std.proofs.lemmas.Bool.{or_cases}
 use Rattle.std.proofs.lemmas.Bool.Decides.{nat_tests, Decides-eqb}
 use Rattle.std.proofs.lemmas.List.{reverse-reverse, length-map}
-use Rattle.dt_model.specs.Names.{Name}
+use Rattle.dt_model.specs.Names.{Name, IsLabel}
 use Rattle.dt_model.specs.Path.{Path, path_eq}
 use Rattle.dt_model.specs.Lists.{IsIn}
 use Rattle.dt_model.specs.Meaning.{Item, byte, reference, item_renamed, EachReference}
@@ -128,8 +128,15 @@ has_some (y ∷ ys) x i = positive (length ys)
     positive : (n : ℕ) → nat_lt 0 (suc n) ≡ true
     positive n = grind (arith, nat_tests)
 
-module _ (es : Events) (fs : List Fragment) (t : Named NodeReference) (n : IsNamedBy es (overlay_of es fs).value t) (s : Sound es) (overlay : IsOverlay (overlay_of es fs))
-    (left : (p : Stack) (x : Name) (v : List Part) → value_at es p x ≡ Some v → AreOverlayParts v) where
+-- the tree is named by the overlay of these events, with these fragments, which is what its source means
+pub record IsNamedIn (es : Events) (fs : List Fragment) (t : Named NodeReference) : Type 0 where
+  pub tree : IsNamedBy es (overlay_of es fs).value t
+  pub sound : Sound es
+  pub overlay : IsOverlay (overlay_of es fs)
+  pub left : (p : Stack) (x : Name) (v : List Part) → value_at es p x ≡ Some v → AreOverlayParts v
+  pub labels : (l : Name) (p : Stack) → names es l p ≡ true → IsLabel l
+
+module _ (es : Events) (fs : List Fragment) (t : Named NodeReference) (by : IsNamedIn es fs t) where
   abbrev pub o : Overlay
   o = overlay_of es fs
 
@@ -148,7 +155,7 @@ module _ (es : Events) (fs : List Fragment) (t : Named NodeReference) (n : IsNam
 
   labelled_same : (p : Path) (c : NamedNode NodeReference) → node_at t p ≡ Some c → nat_lt 0 (length c.content.labels) ≡ list_any (labels_there es (reverse p)) es
   labelled_same p c e =
-      let order = n.order.labels p c e in
+      let order = by.tree.order.labels p c e in
       same_tests (nat_lt 0 (length c.content.labels)) (list_any (labels_there es (reverse p)) es) (label_there (reverse p) c.content.labels order.sound)
       (λ k.
       let w = any_from (labels_there es (reverse p)) es k in
@@ -159,12 +166,12 @@ module _ (es : Events) (fs : List Fragment) (t : Named NodeReference) (n : IsNam
 
   value_parts : (p : Path) (c : NamedNode NodeReference) (x : Name) (v : List (Item NodeReference)) → node_at t p ≡ Some c → value_of c.content.properties x ≡ Some v
       → (parts : List Part) × (value_at es (reverse p) x ≡ Some parts) × (flat_map (overlay_items es) parts ≡ meant t v)
-  value_parts p c x v e k = map_some (flat_map (overlay_items es)) (value_at es (reverse p) x) (meant t v) (sym (value_same es o.value t n p c x e) ∙ ap (option_map (meant t)) k)
+  value_parts p c x v e k = map_some (flat_map (overlay_items es)) (value_at es (reverse p) x) (meant t v) (sym (value_same es o.value t by.tree p c x e) ∙ ap (option_map (meant t)) k)
 
   parts_value : (p : Path) (c : NamedNode NodeReference) (x : Name) (parts : List Part) → node_at t p ≡ Some c → value_at es (reverse p) x ≡ Some parts
       → (v : List (Item NodeReference)) × (value_of c.content.properties x ≡ Some v) × (meant t v ≡ flat_map (overlay_items es) parts)
   parts_value p c x parts e k =
-      map_some (meant t) (value_of c.content.properties x) (flat_map (overlay_items es) parts) (value_same es o.value t n p c x e ∙ ap (option_map (flat_map (overlay_items es))) k)
+      map_some (meant t) (value_of c.content.properties x) (flat_map (overlay_items es) parts) (value_same es o.value t by.tree p c x e ∙ ap (option_map (flat_map (overlay_items es))) k)
 
   -- no node has a property `phandle`
   pub no_phandle : (p : Path) (c : NamedNode NodeReference) → node_at t p ≡ Some c → value_of c.content.properties (codes "phandle") ≡ None
@@ -173,8 +180,8 @@ module _ (es : Events) (fs : List Fragment) (t : Named NodeReference) (n : IsNam
       step : (y : Option (List (Item NodeReference))) → value_of c.content.properties (codes "phandle") ≡ y → y ≡ None
       step None k = refl
       step (Some v) k =
-          let there : o.value p (codes "phandle") ≡ Some (meant t v) = sym (value_same es o.value t n p c (codes "phandle") e) ∙ ap (option_map (meant t)) k in
-          absurd (true≢false (overlay.values_named p (codes "phandle") (ap is_some there)).1)
+          let there : o.value p (codes "phandle") ≡ Some (meant t v) = sym (value_same es o.value t by.tree p c (codes "phandle") e) ∙ ap (option_map (meant t)) k in
+          absurd (true≢false (by.overlay.values_named p (codes "phandle") (ap is_some there)).1)
 
   -- ---- references
 
@@ -185,10 +192,10 @@ module _ (es : Events) (fs : List Fragment) (t : Named NodeReference) (n : IsNam
       let x = any_from (λ (x : NamedProperty NodeReference). list_any (refers_to k) x.value) (c.0).properties c.2 in
       let item = any_from (refers_to k) (x.0).value x.2 in
       let node = in_map_from (λ (x : NamedPlaced NodeReference). x.content) (nodes_of t) c.0 c.1 in
-      let a = listed_at t node.0 (apart es o.value t n) node.1 in
+      let a = listed_at t node.0 (apart es o.value t by.tree) node.1 in
       let same : c.0 ≡ a.node.content = node.2 ∙ sym a.same in
       let i : IsIn x.0 a.node.content.properties = subst (λ (z : Content NodeReference). IsIn x.0 z.properties) same x.1 in
-      let order = n.order.properties node.0.path a.node a.is in
+      let order = by.tree.order.properties node.0.path a.node a.is in
       let d = falls_distinct _ (property_names a.node.content.properties) order.sorted in
       let w = value_parts node.0.path a.node (x.0).name (x.0).value a.is (listed_value a.node.content.properties x.0 d i) in
       let there : IsIn (reference (inside k)) (x.0).value = subst (λ z. IsIn z (x.0).value) (refers_to-is k item.0 item.2) item.1 in
@@ -202,22 +209,22 @@ module _ (es : Events) (fs : List Fragment) (t : Named NodeReference) (n : IsNam
       → list_any (has_reference_to k) (contents_of t) ≡ true
   value_there k p q m parts at value refer =
       let back : value_at es (reverse (reverse q)) m ≡ Some parts = ap (λ z. value_at es z m) (reverse-reverse q) ∙ value in
-      let c = stands_node es o.value t n (reverse q) (s.values (reverse (reverse q)) m parts back) in
+      let c = stands_node es o.value t by.tree (reverse q) (by.sound.values (reverse (reverse q)) m parts back) in
       let v = parts_value (reverse q) c.0 m parts c.1 back in
       let referred : IsIn (reference (inside p)) (flat_map (overlay_items es) parts) =
-      subst (λ z. IsIn (reference (inside z)) (flat_map (overlay_items es) parts)) (reverse-reverse p) (refer_items es parts (reverse p) (left q m parts value) refer) in
+      subst (λ z. IsIn (reference (inside z)) (flat_map (overlay_items es) parts)) (reverse-reverse p) (refer_items es parts (reverse p) (by.left q m parts value) refer) in
       let means : IsIn (reference (inside p)) (meant t v.0) = subst (IsIn (reference (inside p))) (sym v.2) referred in
       let item = in_map_from (item_renamed (reference_renamed (path_among (paths_of t)))) v.0 (reference (inside p)) means in
       let j = renamed_reference (path_among (paths_of t)) item.0 p item.2 in
       let i : IsIn (reference (inside j.0)) v.0 = subst (λ z. IsIn z v.0) j.1 item.1 in
       let listed = value_listed (c.0).content.properties m v.0 v.1 in
       let there : IsIn (c.0).content (contents_of t) = in_map (λ (x : NamedPlaced NodeReference). x.content) (nodes_of t) (record { path = reverse q; content = (c.0).content }) (at_listed t (reverse q) c.0 c.1) in
-      let below_all = each_in (RefersBelow (1 + node_count t.children)) (contents_of t) (c.0).content n.referred there in
+      let below_all = each_in (RefersBelow (1 + node_count t.children)) (contents_of t) (c.0).content by.tree.referred there in
       let below = each_below (1 + node_count t.children) v.0 j.0 (each_in (λ (x : NamedProperty NodeReference). EachReference (IsBelow (1 + node_count t.children)) x.value) (c.0).content.properties _ below_all listed) i in
       let a = length-nodes t in
       let b = length-map (nodes_of t) (λ (x : NamedPlaced NodeReference). x.path) in
       let placed : HasAt j.0 p (paths_of t) = subst (λ z. HasAt j.0 z (paths_of t)) j.2 (at_path j.0 (paths_of t) (omega (arith, below, a, b))) in
-      let same : j.0 ≡ k = one_at j.0 k p (paths_of t) (paths_distinct t (apart es o.value t n)) placed at in
+      let same : j.0 ≡ k = one_at j.0 k p (paths_of t) (paths_distinct t (apart es o.value t by.tree)) placed at in
       any_here (has_reference_to k) (contents_of t) (c.0).content there
       (any_here (λ (x : NamedProperty NodeReference). list_any (refers_to k) x.value) (c.0).content.properties (record { name = m; value = v.0 }) listed
       (any_here (refers_to k) v.0 (reference (inside j.0)) i ((Decides-eqb j.0 k).1 same)))

@@ -109,9 +109,6 @@ local_value c x v e =
 
 -- ---- a blob may hold them
 
-names_of : List Property → List Name
-names_of ps = map (λ (p : Property). p.name) ps
-
 each_local : (P : Name → Type 0) (ps : List (NamedProperty NodeReference)) → AllByRecursion P (property_names ps)
     → AllByRecursion P (map (λ (p : Property). p.name) (flat_map (λ (p : NamedProperty NodeReference). offsets_as p.name (flat_map inside_offset (references_from 0 p.value))) ps))
 each_local P [] h = tt

@@ -10,11 +10,10 @@ use Rattle.dt_model.specs.Names.{Name}
 use Rattle.dt_model.specs.Path.{Path, path_value, is_bookkeeping_name, is_bookkeeping}
 use Rattle.dt_model.specs.Lists.{IsIn}
 use Rattle.dt_model.specs.Meaning.{Item, cell, value_bytes}
-use Rattle.dt_model.specs.Event.{names}
 use Rattle.dt_model.specs.Source.{Events}
 use Rattle.dt_model.specs.Fixups.{outside_cells, fixups, local_properties, mirror}
 use Rattle.dt_model.specs.Object.{Cell, AreFixups, HasFixups, local_cells, fragment_names, object_value, Encodes}
-use Rattle.dt_model.specs.Overlay.{OverlayReference, object_number, Fragment, Overlay, IsOverlay, content}
+use Rattle.dt_model.specs.Overlay.{OverlayReference, object_number, Fragment, Overlay, IsOverlay}
 use Rattle.dt_model.specs.Tree as tree
 use Rattle.dt_model.specs.Tree.{Property, Forest, no_nodes, Reading, Node, sibling, value_of, stands_in, value_in}
 use Rattle.dt_model.specs.Valid as valid

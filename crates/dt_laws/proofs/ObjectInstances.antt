@@ -9,21 +9,19 @@ use Rattle.std.proofs.lemmas.List.{length-map}
 use Rattle.dt_model.specs.Names.{Name}
 use Rattle.dt_model.specs.Path.{Path}
 use Rattle.dt_model.specs.Meaning.{Item, byte, reference, item_renamed, EachReference, cell, value_bytes}
-use Rattle.dt_model.specs.Event.{Stack, value_at}
-use Rattle.dt_model.specs.Source.{Part, Events}
+use Rattle.dt_model.specs.Source.{Events}
 use Rattle.dt_model.specs.Object.{object_value}
-use Rattle.dt_model.specs.Overlay.{OverlayReference, inside, outside, object_number, reference_renamed, Fragment, Overlay, IsOverlay}
+use Rattle.dt_model.specs.Overlay.{OverlayReference, inside, outside, object_number, reference_renamed, Fragment, Overlay}
 use Rattle.dt_model.specs.OverlaySource.{overlay_of}
 use Rattle.dt_model.specs.Tree as tree
 use Rattle.dt_model.specs.Tree.{Reading, Node, value_of, stands_in, value_in}
 use Rattle.dt_model.specs.Numbering.{IsNumberFor, IsNumbering}
 use Rattle.dt_model.specs.Named as named
 use Rattle.dt_model.specs.Named.{NodeReference, Content, Named, NamedNode, NamedPlaced, NamedProperty, node_at, node_count, nodes_of, paths_of, written_in}
-use Rattle.dt_model.specs.NamedOf.{IsBelow, IsNamedBy, IsNamed, path_among, meant, has_reference_to, asked, contents_of, asked_in}
+use Rattle.dt_model.specs.NamedOf.{IsBelow, IsNamed, path_among, meant, has_reference_to, asked, contents_of, asked_in}
 use Rattle.dt_model.specs.Instance.{number_for, number_at, numbered_properties, instance_of}
 use Rattle.dt_laws.proofs.Cases.{some_there}
 use Rattle.dt_laws.proofs.Tests.{bytes_eq_true, each_in}
-use Rattle.dt_laws.proofs.Sound.{Sound}
 use Rattle.dt_laws.proofs.Listed as listed
 use Rattle.dt_laws.proofs.NamedListed.{listed_at, at_listed, length-nodes}
 use Rattle.dt_laws.proofs.NamedPaths.{paths_distinct}
@@ -35,8 +33,7 @@ use Rattle.dt_laws.proofs.NumberedProperties.{numbered_value, other_value, phand
 use Rattle.dt_laws.proofs.NumberedTrees.{instance_node, node_in, node_same}
 use Rattle.dt_laws.proofs.InstanceValid.{valid}
 use Rattle.dt_laws.proofs.KeyedNodes.{same_tests}
-use Rattle.dt_laws.proofs.OverlayParts.{AreOverlayParts}
-use Rattle.dt_laws.proofs.KeyedInOverlays.{keyed_same}
+use Rattle.dt_laws.proofs.KeyedInOverlays.{IsNamedIn, keyed_same}
 
 -- ---- numbers of nodes
 
@@ -70,12 +67,11 @@ each_mapped P Q f [] h = tt
 each_mapped P Q f (byte b ∷ v) h = each_mapped P Q f v h
 each_mapped P Q f (reference r ∷ v) h = (f r h.0, each_mapped P Q f v h.1)
 
-module _ (es : Events) (fs : List Fragment) (t : Named NodeReference) (n : IsNamedBy es (overlay_of es fs).value t) (s : Sound es) (overlay : IsOverlay (overlay_of es fs))
-    (left : (p : Stack) (x : Name) (v : List Part) → value_at es p x ≡ Some v → AreOverlayParts v) (is_named : IsNamed t) (numbers : List (Option ℕ)) (given : IsNumbering (asked_in t) numbers) where
+module _ (es : Events) (fs : List Fragment) (t : Named NodeReference) (by : IsNamedIn es fs t) (is_named : IsNamed t) (numbers : List (Option ℕ)) (given : IsNumbering (asked_in t) numbers) where
   abbrev pub o : Overlay
   o = overlay_of es fs
 
-  abbrev pub instance : Reading
+  abbrev instance : Reading
   instance = instance_of numbers t
 
   -- the number at the place of the path
@@ -91,7 +87,7 @@ module _ (es : Events) (fs : List Fragment) (t : Named NodeReference) (n : IsNam
   keyed_here : (k : ℕ) (x : NamedPlaced NodeReference) → HasAt k x (nodes_of t) → o.keyed x.path ≡ (asked (contents_of t) k x.content).keyed
   keyed_here k x h =
       let a = listed_at t x (named_apart t is_named) (at_in k x (nodes_of t) h) in
-      sym (keyed_same es fs t n s overlay left k x.path a.node (path_of k x h) a.is) ∙ ap (λ c. (asked (contents_of t) k c).keyed) a.same
+      sym (keyed_same es fs t by k x.path a.node (path_of k x h) a.is) ∙ ap (λ c. (asked (contents_of t) k c).keyed) a.same
 
   numbered_here : (k : ℕ) (x : NamedPlaced NodeReference) → HasAt k x (nodes_of t) → (if o.keyed x.path then Some (number x.path) else None) ≡ number_at numbers k
   numbered_here k x h =
@@ -111,7 +107,7 @@ module _ (es : Events) (fs : List Fragment) (t : Named NodeReference) (n : IsNam
 
   keyed_at : (p : Path) → o.keyed p ≡ true → IsKeyedAt p
   keyed_at p keyed =
-      let c = stands_node es o.value t n p (overlay.keyed_stand p keyed) in
+      let c = stands_node es o.value t by.tree p (by.overlay.keyed_stand p keyed) in
       let x : NamedPlaced NodeReference = record { path = p; content = (c.0).content } in
       let k = in_at x (nodes_of t) (at_listed t p c.0 c.1) in
       record {
@@ -148,7 +144,7 @@ module _ (es : Events) (fs : List Fragment) (t : Named NodeReference) (n : IsNam
       let c = some_there (node_at t p) h in
       let k = node_placed p c.0 c.1 in
       listed.listed_stands instance (instance_node numbers k.0 (record { path = p; content = (c.0).content })) (valid t numbers is_named given) (node_in numbers t k.0 _ k.1))
-      ∙ n.nodes p
+      ∙ by.tree.nodes p
 
   -- ---- values
 
@@ -195,7 +191,7 @@ module _ (es : Events) (fs : List Fragment) (t : Named NodeReference) (n : IsNam
       (each_in (λ (p : NamedProperty NodeReference). EachReference (IsBelow (1 + node_count t.children)) p.value) x.content.properties (record { name = name; value = w })
       (content_is t is_named x i).referred (value_listed x.content.properties name w e)))
       ∙ ap (λ (c : Content NodeReference). option_map (value_bytes (object_number number)) (option_map (meant t) (named.value_of c.properties name))) (sym a.same)
-      ∙ ap (option_map (value_bytes (object_number number))) (value_same es o.value t n x.path a.node name a.is)
+      ∙ ap (option_map (value_bytes (object_number number))) (value_same es o.value t by.tree x.path a.node name a.is)
 
   values_here : (k : ℕ) (x : NamedPlaced NodeReference) (name : Name) → HasAt k x (nodes_of t) → value_in instance x.path name ≡ object_value o number x.path name
   values_here k x name h = value_here k x name h ∙ step (bytes_eq name (codes "phandle")) refl
@@ -209,12 +205,12 @@ module _ (es : Events) (fs : List Fragment) (t : Named NodeReference) (n : IsNam
   none_there p name e = step (bytes_eq name (codes "phandle")) refl (o.keyed p) refl (o.value p name) refl
     where
       not_there : o.stands p ≡ true → ⊥
-      not_there h = let c = stands_node es o.value t n p h in let z : None ≡ Some c.0 = sym e ∙ c.1 in cc
+      not_there h = let c = stands_node es o.value t by.tree p h in let z : None ≡ Some c.0 = sym e ∙ c.1 in cc
 
       step : (b : Bool) → bytes_eq name (codes "phandle") ≡ b → (k : Bool) → o.keyed p ≡ k → (v : Option (List (Item OverlayReference))) → o.value p name ≡ v → object_value o number p name ≡ None
-      step true h true k v w = absurd (not_there (overlay.keyed_stand p k))
+      step true h true k v w = absurd (not_there (by.overlay.keyed_stand p k))
       step true h false k v w = rw h (rw k refl)
-      step false h k l (Some v) w = absurd (not_there (overlay.values_stand p name (ap is_some w)))
+      step false h k l (Some v) w = absurd (not_there (by.overlay.values_stand p name (ap is_some w)))
       step false h k l None w =
           ap (λ b. if b then (if o.keyed p then Some (cell (number p)) else None) else option_map (value_bytes (object_number number)) (o.value p name)) h ∙ ap (option_map (value_bytes (object_number number))) w
 

@@ -6,11 +6,10 @@ use Rattle.std.specs.Option.{option_map}
 use Rattle.dt_model.specs.Names.{Name, IsPropertyName, IsLabel}
 use Rattle.dt_model.specs.Path.{Path, path_value}
 use Rattle.dt_model.specs.Lists.{IsIn}
-use Rattle.dt_model.specs.Event.{Stack, stands, value_at, names}
-use Rattle.dt_model.specs.Source.{Part, Events}
+use Rattle.dt_model.specs.Source.{Events}
 use Rattle.dt_model.specs.Fixups.{outside_cells, first_labels, fixups}
 use Rattle.dt_model.specs.Object.{Cell}
-use Rattle.dt_model.specs.Overlay.{Fragment, Overlay, IsOverlay, content}
+use Rattle.dt_model.specs.Overlay.{Fragment, Overlay}
 use Rattle.dt_model.specs.OverlaySource.{overlay_of}
 use Rattle.dt_model.specs.Ordered.{AreLabelsInOrder}
 use Rattle.dt_model.specs.Tree as tree
@@ -19,11 +18,10 @@ use Rattle.dt_model.specs.Valid.{AreDistinct, AreProperties, IsValid}
 use Rattle.dt_model.specs.Numbering.{IsNumbering}
 use Rattle.dt_model.specs.Named as named
 use Rattle.dt_model.specs.Named.{NodeReference, Content, Named, NamedPlaced, node_count, nodes_of, paths_of}
-use Rattle.dt_model.specs.NamedOf.{IsNamedBy, IsNamed, asked_in}
+use Rattle.dt_model.specs.NamedOf.{IsNamed, asked_in}
 use Rattle.dt_model.specs.Instance.{symbol, AreSymbols, symbols_of, instance_of}
 use Rattle.dt_laws.proofs.Tests.{each_from, in_map}
 use Rattle.dt_laws.proofs.Merging.{no_value}
-use Rattle.dt_laws.proofs.Sound.{Sound}
 use Rattle.dt_laws.proofs.LabelSymbols as labels
 use Rattle.dt_laws.proofs.LabelSymbols.{label_is_name, symbol_value}
 use Rattle.dt_laws.proofs.NamedListed.{listed_at, at_listed}
@@ -31,8 +29,7 @@ use Rattle.dt_laws.proofs.NamedPaths.{paths_distinct}
 use Rattle.dt_laws.proofs.NamedSources.{stands_node}
 use Rattle.dt_laws.proofs.AskedNumbers.{named_apart}
 use Rattle.dt_laws.proofs.InstanceValid as instances
-use Rattle.dt_laws.proofs.OverlayParts.{AreOverlayParts}
-use Rattle.dt_laws.proofs.KeyedInOverlays.{no_phandle}
+use Rattle.dt_laws.proofs.KeyedInOverlays.{IsNamedIn, no_phandle}
 use Rattle.dt_laws.proofs.ObjectInstances.{stands_same}
 use Rattle.dt_laws.proofs.MirroredNodes.{local_are, mirror_distinct, mirror_nodes, no_local_phandle, mirror_phandles}
 use Rattle.dt_laws.proofs.FixupGroups.{label_from, labels_once, names_of_fixups}
@@ -60,26 +57,24 @@ all_named : (P : Name → Type 0) (ps : List Property) → AllByRecursion P (map
 all_named P [] h = tt
 all_named P (p ∷ ps) h = (h.0, all_named P ps h.1)
 
-module _ (es : Events) (fs : List Fragment) (t : Named NodeReference) (n : IsNamedBy es (overlay_of es fs).value t) (s : Sound es) (overlay : IsOverlay (overlay_of es fs))
-    (left : (p : Stack) (x : Name) (v : List Part) → value_at es p x ≡ Some v → AreOverlayParts v) (given_labels : (l : Name) (p : Stack) → names es l p ≡ true → IsLabel l)
-    (is_named : IsNamed t) (numbers : List (Option ℕ)) (given : IsNumbering (asked_in t) numbers) where
+module _ (es : Events) (fs : List Fragment) (t : Named NodeReference) (by : IsNamedIn es fs t) (is_named : IsNamed t) (numbers : List (Option ℕ)) (given : IsNumbering (asked_in t) numbers) where
   abbrev pub o : Overlay
   o = overlay_of es fs
 
-  abbrev pub bare : Reading
+  abbrev bare : Reading
   bare = instance_of numbers t
 
-  abbrev pub symbols : List Property
+  abbrev symbols : List Property
   symbols = symbols_of t
 
   abbrev pub object : Reading
   object = with_nodes bare (object_nodes symbols t)
 
-  abbrev pub cells : List (Name × Cell)
+  abbrev cells : List (Name × Cell)
   cells = outside_cells t
 
   bare_stands : (p : Path) → stands_in bare p ≡ o.stands p
-  bare_stands p = stands_same es fs t n s overlay left is_named numbers given p
+  bare_stands p = stands_same es fs t by is_named numbers given p
 
   -- the tree has no bookkeeping nodes
   pub has_none : HasNone bare.children
@@ -89,7 +84,7 @@ module _ (es : Events) (fs : List Fragment) (t : Named NodeReference) (n : IsNam
       step None e = refl
       step (Some c) e =
           let there : stands_in bare (x ∷ []) ≡ true = ap (λ y. is_some (option_and_then (λ c. tree.node_below c []) y)) e in
-          absurd (true≢false (sym h ∙ overlay.plain (x ∷ []) (sym (bare_stands (x ∷ [])) ∙ there)))
+          absurd (true≢false (sym h ∙ by.overlay.plain (x ∷ []) (sym (bare_stands (x ∷ [])) ∙ there)))
 
   -- ---- labels
 
@@ -98,22 +93,22 @@ module _ (es : Events) (fs : List Fragment) (t : Named NodeReference) (n : IsNam
       subst (AreSymbols es (paths_of t)) (symbols_same t) (symbols_are es (nodes_of t)
       (λ x i.
       let a = listed_at t x (named_apart t is_named) i in
-      subst (λ (c : Content NodeReference). AreLabelsInOrder es x.path c.labels) a.same (n.order.labels x.path a.node a.is)))
+      subst (λ (c : Content NodeReference). AreLabelsInOrder es x.path c.labels) a.same (by.tree.order.labels x.path a.node a.is)))
 
   apart_paths : AreDistinct (paths_of t)
   apart_paths = paths_distinct t (named_apart t is_named)
 
   pub label_value : (l : Name) → value_of symbols l ≡ option_map path_value (o.label l)
   label_value l =
-      symbol_value es s (paths_of t) symbols apart_paths symbols_by
+      symbol_value es by.sound (paths_of t) symbols apart_paths symbols_by
       (λ p there.
-      let c = stands_node es o.value t n p there in
+      let c = stands_node es o.value t by.tree p there in
       in_map (λ (x : NamedPlaced NodeReference). x.path) (nodes_of t) (record { path = p; content = (c.0).content }) (at_listed t p c.0 c.1)) l
 
   -- ---- cells that wait for labels
 
   label_of : (l : Name) → IsIn l (first_labels cells) → IsLabel l
-  label_of l i = let w = label_from cells l i in waiting_label es o t n is_named l w.0 w.1
+  label_of l i = let w = label_from cells l i in waiting_label es o t by.tree is_named l w.0 w.1
 
   fixups_are : AreProperties (fixups cells)
   fixups_are = record {
@@ -128,15 +123,15 @@ module _ (es : Events) (fs : List Fragment) (t : Named NodeReference) (n : IsNam
 
   -- ---- a blob may hold it
 
-  pub none_written : (x : NamedPlaced NodeReference) → IsIn x (nodes_of t) → named.value_of x.content.properties (codes "phandle") ≡ None
+  none_written : (x : NamedPlaced NodeReference) → IsIn x (nodes_of t) → named.value_of x.content.properties (codes "phandle") ≡ None
   none_written x i =
       let a = listed_at t x (named_apart t is_named) i in
-      ap (λ (c : Content NodeReference). named.value_of c.properties (codes "phandle")) (sym a.same) ∙ no_phandle es fs t n s overlay left x.path a.node a.is
+      ap (λ (c : Content NodeReference). named.value_of c.properties (codes "phandle")) (sym a.same) ∙ no_phandle es fs t by x.path a.node a.is
 
   pub object_valid : IsValid object
   object_valid =
       valid_object symbols t bare has_none (instances.valid t numbers is_named given)
-      (labels.symbols_are es s (paths_of t) symbols apart_paths symbols_by given_labels) (labels.no_phandle es s (paths_of t) symbols apart_paths symbols_by given_labels)
+      (labels.symbols_are es by.sound (paths_of t) symbols apart_paths symbols_by by.labels) (labels.no_phandle es by.sound (paths_of t) symbols apart_paths symbols_by by.labels)
       fixups_are no_fixup_phandle
       (local_are (1 + node_count t.children) t.content is_named.root) (no_local_phandle t.content (none_written (record { path = []; content = t.content }) (inl refl)))
       (mirror_nodes (1 + node_count t.children) 1 t.children is_named.nodes) (mirror_distinct t.children is_named.siblings) (mirror_phandles [] t.children (λ x i. none_written x (inr i)))

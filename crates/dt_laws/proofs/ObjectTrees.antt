@@ -130,7 +130,7 @@ module _ (r : Reading) (gs : Forest) (are : AreBookkeeping (names gs)) (none : H
       let there = sibling_named r.children x i in
       true≢false (sym there ∙ ap is_some (none x (each_in (λ y. is_bookkeeping_name y ≡ true) (names gs) x are j)))
 
-  pub valid_with_nodes : IsValid r → AreNodes gs → AreDistinct (names gs) → phandles gs ≡ [] → IsValid (with_nodes r gs)
+  valid_with_nodes : IsValid r → AreNodes gs → AreDistinct (names gs) → phandles gs ≡ [] → IsValid (with_nodes r gs)
   valid_with_nodes valid nodes distinct no_numbers = record {
     boot_cpu = valid.boot_cpu;
     reservations = valid.reservations;

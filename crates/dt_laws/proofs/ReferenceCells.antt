@@ -30,7 +30,7 @@ flat_same f g [] same = refl
 flat_same f g (x ∷ xs) same = ap (λ ys. ys ++ flat_map f xs) (same x (inl refl)) ∙ ap (λ ys. g x ++ ys) (flat_same f g xs (λ y i. same y (inr i)))
 
 -- elements whose images differ differ
-pub distinct_of_images : {X Y : Type 0} (f : X → Y) (xs : List X) → AreDistinct (map f xs) → AreDistinct xs
+distinct_of_images : {X Y : Type 0} (f : X → Y) (xs : List X) → AreDistinct (map f xs) → AreDistinct xs
 distinct_of_images f [] d = tt
 distinct_of_images f (x ∷ xs) d = (each_from (λ y. y ≢ x) xs (λ y i e. not_twice (f x) (map f xs) d (subst (λ z. IsIn z (map f xs)) (ap f e) (in_map f xs y i))), distinct_of_images f xs d.1)
 
@@ -93,7 +93,7 @@ module _ {R : Type 0} where
   only_cell x = x.0
 
   -- the reference is at the cell
-  abbrev pub HasCell : Named R → Cell → R → Type 0
+  abbrev HasCell : Named R → Cell → R → Type 0
   HasCell t c r = (items : List (Item R)) × (value_of (content_in t c.path).properties c.property ≡ Some items) × IsIn (c.offset, r) (references_from 0 items)
 
   -- no two properties of a node have one name
