@@ -52,6 +52,7 @@ pub mod NamedPaths
 pub mod NamedValues
 pub mod Flat
 pub mod NamedSources
+pub mod NamedByEvents
 pub mod NamedMeant
 pub mod Places
 pub mod GivenNumbers
@@ -116,6 +117,8 @@ pub mod SourceRefusals
 pub mod StandingNodes
 pub mod NamedRefusals
 pub mod OneNumbering
+pub mod OneNamedTree
+pub mod NamedOverlays
 pub mod SameTrees
 pub mod OneTree
 pub mod LabelSymbols
