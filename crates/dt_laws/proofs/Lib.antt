@@ -124,3 +124,4 @@ pub mod CompiledTrees
 pub mod CheckedRefusals
 pub mod CheckedOrders
 pub mod CheckedCompiled
+pub mod OneOverlay
