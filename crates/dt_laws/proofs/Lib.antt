@@ -125,3 +125,4 @@ pub mod CheckedRefusals
 pub mod CheckedOrders
 pub mod CheckedCompiled
 pub mod OneOverlay
+pub mod OverlayNested

@@ -1,8 +1,18 @@
 //! What is true of what overlays' sources mean, and of their refusals.
 
-ghost use Rattle.dt_laws.specs.OverlayTrees.{OneOverlay};
+ghost use Rattle.dt_laws.specs.OverlayTrees.{
+  OneOverlay,
+  OverlayIsPlaced,
+  OverlayIsClosed,
+};
 
 /// The places of an overlay's source mean one overlay.
 pub fn overlay_is_one()
     ensures { OneOverlay }
+{}
+
+/// Places that are well nested are never refused as misplaced, and where all of them are read no body is left open.
+pub fn overlay_is_placed()
+    ensures placed { OverlayIsPlaced }
+    ensures closed { OverlayIsClosed }
 {}
