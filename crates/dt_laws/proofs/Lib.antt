@@ -126,3 +126,4 @@ pub mod CheckedOrders
 pub mod CheckedCompiled
 pub mod OneOverlay
 pub mod OverlayNested
+pub mod OverlayDepths

@@ -4,6 +4,8 @@ ghost use Rattle.dt_laws.specs.OverlayTrees.{
   OneOverlay,
   OverlayIsPlaced,
   OverlayIsClosed,
+  OverlayNodesAreShallow,
+  OverlayRootStands,
 };
 
 /// The places of an overlay's source mean one overlay.
@@ -15,4 +17,10 @@ pub fn overlay_is_one()
 pub fn overlay_is_placed()
     ensures placed { OverlayIsPlaced }
     ensures closed { OverlayIsClosed }
+{}
+
+/// No node with more than 64 names in its path stands after the places of an overlay's source, and the root stands.
+pub fn overlay_nodes_are_shallow()
+    ensures shallow { OverlayNodesAreShallow }
+    ensures rooted { OverlayRootStands }
 {}
