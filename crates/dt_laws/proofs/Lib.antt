@@ -127,3 +127,4 @@ pub mod CheckedCompiled
 pub mod OneOverlay
 pub mod OverlayNested
 pub mod OverlayDepths
+pub mod OverlayRefusals

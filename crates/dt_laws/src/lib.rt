@@ -26,7 +26,9 @@ pub use named::{
     instance_is_meant, instance_is_valid, least_is_low, list_is_of_its_tree, many_stand,
     meant_is_named, named_is_not_refused, nodes_are_shallow, root_stands, tree_is_meant,
 };
-pub use overlay_sources::{overlay_is_one, overlay_is_placed, overlay_nodes_are_shallow};
+pub use overlay_sources::{
+    overlay_is_one, overlay_is_placed, overlay_nodes_are_shallow, overlay_refusal_is_one,
+};
 pub use sources::{
     fragment_is_new, label_is_one_nodes, order_is_one, overlay_source_is_an_overlay,
     second_in_one_body, source_is_a_meaning,

@@ -6,6 +6,8 @@ ghost use Rattle.dt_laws.specs.OverlayTrees.{
   OverlayIsClosed,
   OverlayNodesAreShallow,
   OverlayRootStands,
+  OverlayRefusalIsOne,
+  OverlayIsNotRefused,
 };
 
 /// The places of an overlay's source mean one overlay.
@@ -23,4 +25,10 @@ pub fn overlay_is_placed()
 pub fn overlay_nodes_are_shallow()
     ensures shallow { OverlayNodesAreShallow }
     ensures rooted { OverlayRootStands }
+{}
+
+/// An overlay's source is refused for one reason, and one that means something for nothing but too many nodes.
+pub fn overlay_refusal_is_one()
+    ensures one { OverlayRefusalIsOne }
+    ensures meant { OverlayIsNotRefused }
 {}
