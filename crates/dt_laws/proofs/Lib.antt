@@ -127,3 +127,7 @@ pub mod CompiledTrees
 pub mod CheckedRefusals
 pub mod CheckedOrders
 pub mod CheckedCompiled
+pub mod OneOverlay
+pub mod OverlayNested
+pub mod OverlayDepths
+pub mod OverlayRefusals

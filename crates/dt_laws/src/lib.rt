@@ -9,6 +9,7 @@ mod joining;
 mod laws;
 mod lists;
 mod named;
+mod overlay_sources;
 mod overlay_trees;
 mod premises;
 mod samples;
@@ -25,6 +26,9 @@ pub use lists::{in_turn_is_fold, least_numbers_are_one};
 pub use named::{
     instance_is_meant, instance_is_valid, least_is_low, list_is_of_its_tree, many_stand,
     meant_is_named, named_is_not_refused, nodes_are_shallow, root_stands, tree_is_meant,
+};
+pub use overlay_sources::{
+    overlay_is_one, overlay_is_placed, overlay_nodes_are_shallow, overlay_refusal_is_one,
 };
 pub use overlay_trees::{named_overlay_is_not_refused, object_is_one, overlay_is_named};
 pub use sources::{
