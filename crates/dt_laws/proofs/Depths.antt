@@ -14,10 +14,10 @@ use Rattle.dt_laws.proofs.Holding.{Holds, holds-read, referent_stands}
 use Rattle.dt_laws.proofs.ReadAll.{if_read_ok, first_is, holds-first, no_rules, any_obeys}
 
 -- no node that stands is deeper than the limit
-abbrev AreShallow : Events → Type 0
+abbrev pub AreShallow : Events → Type 0
 AreShallow es = (p : Stack) → stands es p ≡ true → length p ≤ most_names
 
-shallow-opening : (es : Events) (q : Stack) → AreShallow es → length q ≤ most_names → AreShallow (es ++ opening q ∷ [])
+pub shallow-opening : (es : Events) (q : Stack) → AreShallow es → length q ≤ most_names → AreShallow (es ++ opening q ∷ [])
 shallow-opening es q shallow low p h =
     elim (opened es q p h) [ inl same ↦ subst (λ r. length r ≤ most_names) same low | inr before ↦ shallow p before ]
 
@@ -39,7 +39,7 @@ module _ (mode : Mode) (s t : SoFar) (holds : Holds no_rules s) (shallow : AreSh
   same_nodes : (e : Event (List Part)) → t.events ≡ s.events ++ e ∷ [] → ((p : Stack) → stands (s.events ++ e ∷ []) p ≡ stands s.events p) → AreShallow t.events
   same_nodes e is same p h = shallow p (sym (same p) ∙ ap (λ es. stands es p) (sym is) ∙ h)
 
-  shallow-read : (place : Place) → read mode s place ≡ Ok t → Makes mode s place t → AreShallow t.events
+  pub shallow-read : (place : Place) → read mode s place ≡ Ok t → Makes mode s place t → AreShallow t.events
   shallow-read root r m = subst (λ (u : SoFar). AreShallow u.events) (sym m.1) (shallow-opening s.events [] shallow (omega arith))
   shallow-read (block b) r m =
       subst (λ (u : SoFar). AreShallow u.events) (sym m.1.2)

@@ -52,6 +52,7 @@ pub mod NamedPaths
 pub mod NamedValues
 pub mod Flat
 pub mod NamedSources
+pub mod NamedByEvents
 pub mod NamedMeant
 pub mod Places
 pub mod GivenNumbers
@@ -116,6 +117,8 @@ pub mod SourceRefusals
 pub mod StandingNodes
 pub mod NamedRefusals
 pub mod OneNumbering
+pub mod OneNamedTree
+pub mod NamedOverlays
 pub mod SameTrees
 pub mod OneTree
 pub mod LabelSymbols
@@ -140,3 +143,7 @@ pub mod ObjectMeant
 pub mod ObjectEncoded
 pub mod ObjectLaws
 pub mod ShortValues
+pub mod OneOverlay
+pub mod OverlayNested
+pub mod OverlayDepths
+pub mod OverlayRefusals

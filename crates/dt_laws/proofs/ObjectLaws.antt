@@ -21,7 +21,7 @@ use Rattle.dt_model.specs.Valid.{IsValid}
 use Rattle.dt_model.specs.Named as named
 use Rattle.dt_model.specs.Named.{NodeReference, Named, NamedPlaced, root_of, nodes_of, paths_of}
 use Rattle.dt_model.specs.NamedOf.{IsNamedBy, IsNamed, path_among, meant}
-use Rattle.dt_laws.specs.OverlayTrees.{OverlayIsNamed, ObjectIsValid}
+use Rattle.dt_laws.specs.OverlayTrees.{ObjectIsValid}
 use Rattle.dt_laws.specs.ShortValues.{HasShortValues, ShortObjectEncodes}
 use Rattle.dt_laws.proofs.Tests.{in_map}
 use Rattle.dt_laws.proofs.Holding.{Holds, label_follows}
@@ -30,6 +30,7 @@ use Rattle.dt_laws.proofs.Overlays.{source_overlay}
 use Rattle.dt_laws.proofs.NamedListed.{listed_at}
 use Rattle.dt_laws.proofs.NamedValues.{listed_value}
 use Rattle.dt_laws.proofs.NamedSources.{value_same}
+use Rattle.dt_laws.proofs.NamedOverlays.{overlay_is_named}
 use Rattle.dt_laws.proofs.AskedNumbers.{named_apart, content_is}
 use Rattle.dt_laws.proofs.NumberedTrees.{names_same, count_same}
 use Rattle.dt_laws.proofs.OverlayParts.{parts_left}
@@ -47,7 +48,7 @@ no_fewer : (fs gs : Forest) → valid.node_count fs ≤ valid.node_count (follow
 no_fewer no_nodes gs = omega arith
 no_fewer (branch x ps c s) gs = let more = no_fewer s gs in omega (arith, more)
 
-module _ (is_named_so : OverlayIsNamed) (places : List Place) (valid_places : AllByRecursion IsPlace places) (u : Reading) (i : IsObjectOf places u) (few : 1 + valid.node_count u.children ≤ most_nodes) where
+module _ (places : List Place) (valid_places : AllByRecursion IsPlace places) (u : Reading) (i : IsObjectOf places u) (few : 1 + valid.node_count u.children ≤ most_nodes) where
   abbrev t : Named NodeReference
   t = i.named
 
@@ -95,7 +96,7 @@ module _ (is_named_so : OverlayIsNamed) (places : List Place) (valid_places : Al
       omega (arith, all, a, b)
 
   is_named : IsNamed t
-  is_named = is_named_so places t i.fragments valid_places fewer i.of_places
+  is_named = overlay_is_named places t i.fragments valid_places fewer i.of_places
 
   may_hold : IsValid u
   may_hold = subst IsValid (sym same) (meaning.object_valid es fs t by is_named i.numbers i.numbering)
@@ -146,8 +147,8 @@ module _ (is_named_so : OverlayIsNamed) (places : List Place) (valid_places : Al
     pub of_source : (q : Overlay) × (number : Path → ℕ) × OverlayMeans places q × Encodes u q number
     of_source = (i.of_places.overlay, numbered, means, subst (λ (r : Reading). Encodes r i.of_places.overlay numbered) (sym same) (subst (λ (q : Overlay). Encodes object q numbered) (sym is) of_object))
 
-pub object_valid : OverlayIsNamed → ObjectIsValid
-object_valid is_named_so places t valid_places i few = may_hold is_named_so places valid_places t i few
+pub object_valid : ObjectIsValid
+object_valid places t valid_places i few = may_hold places valid_places t i few
 
-pub short_object_encodes : OverlayIsNamed → ShortObjectEncodes
-short_object_encodes is_named_so places t valid_places i few short = of_source is_named_so places valid_places t i few short
+pub short_object_encodes : ShortObjectEncodes
+short_object_encodes places t valid_places i few short = of_source places valid_places t i few short

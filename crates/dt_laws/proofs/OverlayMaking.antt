@@ -45,7 +45,7 @@ OverlayMakes written s close t = MakesAsAny s close t
 same_overlay : (x y : OverlaySoFar) → ◌≡◌ {A = Result OverlaySoFar OverlayRefusal} (Ok x) (Ok y) → y ≡ x
 same_overlay x y e = cc
 
-with_next_ok : (n : ℕ) (o : Result SoFar Refusal) (t : OverlaySoFar) → with_next n o ≡ Ok t → (u : SoFar) × (o ≡ Ok u) × (t ≡ record { source = u; next = n })
+pub with_next_ok : (n : ℕ) (o : Result SoFar Refusal) (t : OverlaySoFar) → with_next n o ≡ Ok t → (u : SoFar) × (o ≡ Ok u) × (t ≡ record { source = u; next = n })
 with_next_ok n (Ok u) t h = (u, refl, same_overlay (record { source = u; next = n }) t h)
 with_next_ok n (Err e) t h = cc
 

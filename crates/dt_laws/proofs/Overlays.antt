@@ -66,12 +66,12 @@ module _ (es : Events) (fs : List Fragment) where
 
 -- ---- fragments
 
-in_names : (f : Fragment) (fs : List Fragment) → IsIn f fs → IsIn f.name (map (λ (f : Fragment). f.name) fs)
+pub in_names : (f : Fragment) (fs : List Fragment) → IsIn f fs → IsIn f.name (map (λ (f : Fragment). f.name) fs)
 in_names f (g ∷ gs) (inl e) = inl (ap (λ (f : Fragment). f.name) e)
 in_names f (g ∷ gs) (inr k) = inr (in_names f gs k)
 in_names f [] h = absurd h
 
-of_name : (n : Name) (fs : List Fragment) → IsIn n (map (λ (f : Fragment). f.name) fs) → (target : Target) × IsIn (record { name = n; target = target }) fs
+pub of_name : (n : Name) (fs : List Fragment) → IsIn n (map (λ (f : Fragment). f.name) fs) → (target : Target) × IsIn (record { name = n; target = target }) fs
 of_name n [] h = absurd h
 of_name n (g ∷ gs) (inl e) = (g.target, inl (λ i. record { name = e i; target = g.target }))
 of_name n (g ∷ gs) (inr k) = let rest = of_name n gs k in (rest.0, inr rest.1)

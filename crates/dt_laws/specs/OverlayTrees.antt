@@ -1,12 +1,13 @@
 -- What is true of what overlays' sources mean, of the trees that they are compiled to, and of their refusals.
-use Rattle.std.specs.Prelude.{◌≡◌, ℕ, ◌+◌, ◌<◌, ◌≤◌, true, List, [], length, None, Ok}
+use Rattle.std.specs.Prelude.{◌≡◌, ℕ, ◌+◌, ◌<◌, ◌≤◌, true, List, [], length, None, Ok, Err}
 use Rattle.std.specs.List.{AllByRecursion}
 use Rattle.dt_model.specs.Limits.{most_names, most_nodes}
 use Rattle.dt_model.specs.Path.{Path}
 use Rattle.dt_model.specs.Event.{Stack, stands}
-use Rattle.dt_model.specs.Source.{Place, IsPlace}
+use Rattle.dt_model.specs.Source.{Place, IsPlace, misplaced}
+use Rattle.dt_model.specs.Nested.{AreNested}
 use Rattle.dt_model.specs.Overlay.{Overlay}
-use Rattle.dt_model.specs.OverlaySource.{OverlaySoFar, root_children, overlay_start, read_overlays, OverlayMeans}
+use Rattle.dt_model.specs.OverlaySource.{OverlaySoFar, as_any, root_children, overlay_start, read_overlays, OverlayMeans}
 use Rattle.dt_model.specs.Object.{Encodes}
 use Rattle.dt_model.specs.Tree.{Reading}
 use Rattle.dt_model.specs.Valid.{IsValid, node_count}
@@ -20,6 +21,15 @@ use Rattle.dt_model.specs.Refused.{StandMany, OverlaySourceRefusal, too_many, Is
 -- the places of an overlay's source mean one overlay
 abbrev pub OneOverlay : Type 0
 OneOverlay = (places : List Place) (o q : Overlay) → OverlayMeans places o → OverlayMeans places q → o ≡ q
+
+-- places that are well nested are never refused as misplaced
+abbrev pub OverlayIsPlaced : Type 0
+OverlayIsPlaced = (places : List Place) → AreNested 0 places → read_overlays (root_children None places) overlay_start places ≡ Err (as_any misplaced) → ⊥
+
+-- and where all of them are read no body is left open
+abbrev pub OverlayIsClosed : Type 0
+OverlayIsClosed = (places : List Place) (s : OverlaySoFar) → AreNested 0 places → read_overlays (root_children None places) overlay_start places ≡ Ok s
+    → s.source.bodies ≡ []
 
 -- no node with more than 64 names in its path stands
 abbrev pub OverlayNodesAreShallow : Type 0
