@@ -52,6 +52,7 @@ pub mod NamedPaths
 pub mod NamedValues
 pub mod Flat
 pub mod NamedSources
+pub mod NamedByEvents
 pub mod NamedMeant
 pub mod Places
 pub mod GivenNumbers
@@ -116,6 +117,8 @@ pub mod SourceRefusals
 pub mod StandingNodes
 pub mod NamedRefusals
 pub mod OneNumbering
+pub mod OneNamedTree
+pub mod NamedOverlays
 pub mod SameTrees
 pub mod OneTree
 pub mod LabelSymbols
@@ -124,10 +127,23 @@ pub mod CompiledTrees
 pub mod CheckedRefusals
 pub mod CheckedOrders
 pub mod CheckedCompiled
-mod OneOverlay
-mod OverlayDepths
-mod OverlayNested
-mod OverlayRefusals
-mod NamedOverlays
-mod SameNamed
-mod OneObject
+pub mod ReferenceCells
+pub mod FixupGroups
+pub mod ObjectCells
+pub mod MirroredCells
+pub mod NodesUnlessEmpty
+pub mod MirroredNodes
+pub mod ObjectTrees
+pub mod OverlayParts
+pub mod KeyedInOverlays
+pub mod ObjectInstances
+pub mod FragmentOrder
+pub mod CellsMeant
+pub mod ObjectMeant
+pub mod ObjectEncoded
+pub mod ObjectLaws
+pub mod ShortValues
+pub mod OneOverlay
+pub mod OverlayNested
+pub mod OverlayDepths
+pub mod OverlayRefusals

@@ -1,81 +1,119 @@
--- A named tree that the places of an overlay's source mean is one that a source may mean.
-use Rattle.std.proofs.Common.{◌≡◌, true, false, true≢false, List, codes, reverse, refl, sym, ap, subst, ◌∙◌, Option, Some, None}
-use Rattle.std.specs.Prelude.{option_map}
-use Rattle.std.specs.List.{AllByRecursion, flat_map}
-use Rattle.std.specs.Str.{bytes_eq}
+-- The named tree that an overlay's source means: a source may mean it, it is the only one, and with few nodes the source
+-- isn't refused.
+use Rattle.std.proofs.Common.{◌≡◌, ◌+◌, ◌≤◌, List, [], ◌∷◌, refl, codes, is_some, sym, ap, subst, ◌∙◌, Option, Some, None, true≢false, arith}
+use Rattle.std.specs.Prelude.{option_and_then}
+use Rattle.std.specs.List.{AllByRecursion}
 use Rattle.dt_model.specs.Limits.{most_nodes}
-use Rattle.dt_model.specs.Names.{Name}
 use Rattle.dt_model.specs.Path.{Path}
 use Rattle.dt_model.specs.Meaning.{Item}
-use Rattle.dt_model.specs.Event.{value_at}
-use Rattle.dt_model.specs.Overlay.{OverlayReference, Overlay}
-use Rattle.dt_model.specs.OverlaySource.{OverlaySoFar, overlay_items, overlay_start, root_children}
-use Rattle.dt_model.specs.Source.{Place, IsPlace}
+use Rattle.dt_model.specs.Source.{Place, IsPlace, Events}
 use Rattle.dt_model.specs.Valid.{IsReservation}
-use Rattle.dt_model.specs.Named.{NodeReference, Named, NamedNode, node_at, value_of, number_of}
-use Rattle.dt_model.specs.NamedOf.{meant}
+use Rattle.dt_model.specs.Valid as valid
+use Rattle.dt_model.specs.Overlay.{OverlayReference, Overlay, IsOverlay}
+use Rattle.dt_model.specs.OverlaySource.{OverlaySoFar, root_children, overlay_start}
+use Rattle.dt_model.specs.Tree.{Forest, no_nodes, branch, Property, Reading}
+use Rattle.dt_model.specs.Named.{NodeReference, Named, number_of, node_count}
+use Rattle.dt_model.specs.NamedOf.{IsNamedBy, asked_in}
 use Rattle.dt_model.specs.NamedOverlay.{NamedFragment, IsNamedOverlayOf}
-use Rattle.dt_model.specs.Refused.{IsOverlayRefusedFor}
-use Rattle.dt_laws.specs.OverlayTrees.{OverlayIsNamed, OverlayManyStand, NamedOverlayIsNotRefused}
-use Rattle.dt_laws.proofs.Bound.{path_named}
-use Rattle.dt_laws.proofs.Cases.{map_some, some_there}
+use Rattle.dt_model.specs.Numbering.{IsNumbering, written_numbers}
+use Rattle.dt_model.specs.Fixups.{fixup_nodes, with_fixups}
+use Rattle.dt_model.specs.Instance.{symbols_of, instance_of, followed_by, with_symbols}
+use Rattle.dt_model.specs.Refused.{StandMany, too_many, IsOverlayRefusedFor}
+use Rattle.dt_laws.specs.OverlayTrees.{OverlayIsNamed, OverlayManyStand, NamedOverlayIsNotRefused, OneObject, ObjectIsNotRefused}
 use Rattle.dt_laws.proofs.Holding.{Holds, node_follows, label_follows, value_follows}
-use Rattle.dt_laws.proofs.NamedMeant.{MayBeNamed, is_named, stand_many}
-use Rattle.dt_laws.proofs.NamedRefusals.{not_many}
-use Rattle.dt_laws.proofs.NamedSources.{value_same}
-use Rattle.dt_laws.proofs.OneOverlay.{one_end}
-use Rattle.dt_laws.proofs.OverlayDepths.{overlay_nodes_are_shallow}
 use Rattle.dt_laws.proofs.OverlayHolding.{overlay_rules, holds-overlay_start, holds-overlay}
-use Rattle.dt_laws.proofs.OverlayRefusals.{overlay_not_refused}
 use Rattle.dt_laws.proofs.Overlays.{source_overlay}
-use Rattle.dt_model.specs.Refused.{StandMany}
+use Rattle.dt_laws.proofs.OneOverlay.{one_end, one_overlay}
+use Rattle.dt_laws.proofs.OverlayDepths.{overlay_shallow}
+use Rattle.dt_laws.proofs.OverlayRefusals.{overlay_not_refused}
+use Rattle.dt_laws.proofs.NamedByEvents.{AreNamable, is_named, stand_many, not_many}
+use Rattle.dt_laws.proofs.OneNamedTree.{one_named}
+use Rattle.dt_laws.proofs.OneNumbering.{one_numbering}
+use Rattle.dt_laws.proofs.NumberedTrees.{count_same}
 
-module _ (places : List Place) (t : Named NodeReference) (fragments : List NamedFragment) (n : IsNamedOverlayOf places t fragments) (valid : AllByRecursion IsPlace places) where
-  abbrev es : Rattle.dt_model.specs.Source.Events
+module _ (places : List Place) (t : Named NodeReference) (fragments : List NamedFragment) (n : IsNamedOverlayOf places t fragments) where
+  abbrev es : Events
   es = n.means.so_far.source.events
 
-  holds : Holds overlay_rules n.means.so_far.source
-  holds = holds-overlay (root_children None places) overlay_start n.means.so_far places holds-overlay_start valid n.means.all_read
+  module _ (valid : AllByRecursion IsPlace places) where
+    holds : Holds overlay_rules n.means.so_far.source
+    holds = holds-overlay (root_children None places) overlay_start n.means.so_far places holds-overlay_start valid n.means.all_read
 
-  -- the parts of a value
-  parts : (p : Path) (x : Name) (items : List (Item OverlayReference)) → n.overlay.value p x ≡ Some items
-      → (v : List Rattle.dt_model.specs.Source.Part) × (value_at es (reverse p) x ≡ Some v) × (flat_map (overlay_items es) v ≡ items)
-  parts p x items e = map_some (flat_map (overlay_items es)) (value_at es (reverse p) x) items (ap (λ (o : Overlay). o.value p x) (sym n.means.means) ∙ e)
+    is_overlay : IsOverlay n.overlay
+    is_overlay = source_overlay places n.overlay valid n.means
 
-  -- no node has a property `phandle`
-  pub no_phandle : (p : Path) (c : NamedNode NodeReference) → node_at t p ≡ Some c → value_of c.content.properties (codes "phandle") ≡ None
-  no_phandle p c e = step (value_of c.content.properties (codes "phandle")) refl
-    where
-      step : (o : Option (List (Item NodeReference))) → value_of c.content.properties (codes "phandle") ≡ o → value_of c.content.properties (codes "phandle") ≡ None
-      step None k = k
-      step (Some v) k =
-          let w = parts p (codes "phandle") (meant t v) (sym (value_same es n.overlay.value t n.tree p c (codes "phandle") e) ∙ ap (option_map (meant t)) k) in
-          let f = value_follows overlay_rules es (reverse p) (codes "phandle") w.0 holds.each w.1 in
-          let z : true ≡ false = f.2 in
-          absurd (true≢false z)
+    -- no node of an overlay has a property `phandle`
+    no_phandle : (p : Path) → n.overlay.value p (codes "phandle") ≡ None
+    no_phandle p = step (n.overlay.value p (codes "phandle")) refl
+      where
+        step : (o : Option (List (Item OverlayReference))) → n.overlay.value p (codes "phandle") ≡ o → o ≡ None
+        step None e = refl
+        step (Some v) e = absurd (true≢false (is_overlay.values_named p (codes "phandle") (ap is_some e)).1)
 
-  may : MayBeNamed es n.overlay.value t
-  may = record {
-    named = λ p k. path_named p (node_follows overlay_rules es (reverse p) holds.each k).0;
-    shallow = λ q k. overlay_nodes_are_shallow places n.means.so_far valid n.means.all_read q k;
-    labelled = λ l q k. label_follows overlay_rules es l q holds.each k;
-    one = λ l q r j k. holds.sound.one l q r j k;
-    defined = λ q x k. let v = some_there (value_at es q x) k in (value_follows overlay_rules es q x v.0 holds.each v.1).0;
-    bytes = λ p x items k. (source_overlay places n.overlay valid n.means).bytes p x items k;
-    numbered = λ p c v e k. absurd (let z : None ≡ Some v = sym (no_phandle p c e) ∙ k in cc);
-    own = λ p q c d k e f i j. absurd (let z : None ≡ Some k = sym (ap (λ o. Rattle.std.specs.Prelude.option_and_then number_of o) (no_phandle p c e)) ∙ i in cc);
-  }
+    namable : AreNamable es n.overlay.value
+    namable = record {
+      shallow = overlay_shallow places n.means.so_far n.means.all_read;
+      nodes = λ p h. (node_follows overlay_rules es p holds.each h).0;
+      labels = λ l p h. label_follows overlay_rules es l p holds.each h;
+      one = holds.sound.one;
+      properties = λ p x v h. (value_follows overlay_rules es p x v holds.each h).0;
+      bytes = is_overlay.bytes;
+      numbered = λ p items h. absurd (let z : None ≡ Some items = sym (no_phandle p) ∙ h in cc);
+      own = λ p q k h g. absurd (let z : None ≡ Some k = sym (ap (option_and_then number_of) (no_phandle p)) ∙ h in cc);
+    }
 
 pub overlay_is_named : OverlayIsNamed
 overlay_is_named places t fragments valid few n =
-    is_named n.means.so_far.source.events n.overlay.value t n.tree (may places t fragments n valid)
-    (subst (AllByRecursion IsReservation) (sym n.no_reservations) tt) few
+    is_named (es places t fragments n) n.overlay.value t n.tree (namable places t fragments n valid) (subst (AllByRecursion IsReservation) (sym n.no_reservations) tt) few
 
-pub overlay_many_stand : OverlayManyStand
-overlay_many_stand places t fragments many n = stand_many n.means.so_far.source.events n.overlay.value t n.tree many
+pub overlay_stand_many : OverlayManyStand
+overlay_stand_many places t fragments many n = stand_many (es places t fragments n) n.overlay.value t n.tree most_nodes many
 
-pub named_overlay_not_refused : NamedOverlayIsNotRefused
-named_overlay_not_refused places t fragments r n small h =
-    let many = subst (IsOverlayRefusedFor places) (overlay_not_refused places n.overlay r n.means h) h in
-    let end = one_end many.1.so_far n.means.so_far many.1.all_read n.means.all_read in
-    not_many n.means.so_far.source.events n.overlay.value t n.tree small (subst (λ (s : OverlaySoFar). StandMany most_nodes s.source.events) end many.2)
+-- ---- refusals
+
+few_not_refused : (places : List Place) (t : Named NodeReference) (fragments : List NamedFragment) → IsNamedOverlayOf places t fragments → 1 + node_count t.children ≤ most_nodes
+    → IsOverlayRefusedFor places too_many → ⊥
+few_not_refused places t fragments n few h =
+    let end : h.1.so_far ≡ n.means.so_far = one_end h.1.so_far n.means.so_far h.1.all_read n.means.all_read in
+    not_many (es places t fragments n) n.overlay.value t n.tree most_nodes few (subst (λ (s : OverlaySoFar). StandMany most_nodes s.source.events) end h.2)
+
+pub named_not_refused : NamedOverlayIsNotRefused
+named_not_refused places t fragments r n few h =
+    few_not_refused places t fragments n few (subst (IsOverlayRefusedFor places) (overlay_not_refused places n.overlay r n.means h) h)
+
+-- ---- the object
+
+one_tree : (places : List Place) (t u : Named NodeReference) (fragments others : List NamedFragment) → IsNamedOverlayOf places t fragments → IsNamedOverlayOf places u others → t ≡ u
+one_tree places t u fragments others n m =
+    let end : n.means.so_far ≡ m.means.so_far = one_end n.means.so_far m.means.so_far n.means.all_read m.means.all_read in
+    let same : n.overlay ≡ m.overlay = one_overlay places n.overlay m.overlay n.means m.means in
+    let first : IsNamedBy (es places u others m) m.overlay.value t =
+    subst (λ (o : Overlay). IsNamedBy (es places u others m) o.value t) same (subst (λ (s : OverlaySoFar). IsNamedBy s.source.events n.overlay.value t) end n.tree) in
+    one_named (es places u others m) m.overlay.value t u first m.tree (n.no_reservations ∙ sym m.no_reservations)
+
+pub one_object : OneObject
+one_object places t u a b =
+    let same : a.named ≡ b.named = one_tree places a.named b.named a.fragments b.fragments a.of_places b.of_places in
+    let of_a : IsNumbering (asked_in b.named) a.numbers = subst (λ (x : Named NodeReference). IsNumbering (asked_in x) a.numbers) same a.numbering in
+    let numbers : a.numbers ≡ b.numbers = one_numbering (written_numbers (asked_in b.named)) (asked_in b.named) a.numbers b.numbers of_a b.numbering in
+    a.is ∙ (λ i. with_fixups (same i) (with_symbols (symbols_of (same i)) (instance_of (numbers i) (same i)))) ∙ sym b.is
+
+-- ---- how many nodes it has
+
+count_followed : (fs gs : Forest) → valid.node_count fs ≤ valid.node_count (followed_by fs gs)
+count_followed no_nodes gs = omega arith
+count_followed (branch x ps c s) gs = let l = count_followed s gs in omega (arith, l)
+
+count_symbols : (symbols : List Property) (r : Reading) → valid.node_count r.children ≤ valid.node_count (with_symbols symbols r).children
+count_symbols [] r = omega arith
+count_symbols (s ∷ symbols) r = count_followed r.children (branch (codes "__symbols__") (s ∷ symbols) no_nodes no_nodes)
+
+pub object_not_refused : ObjectIsNotRefused
+object_not_refused places t r object few h =
+    let named = object.named in
+    let bare = instance_of object.numbers named in
+    let a = count_same object.numbers 1 named.children in
+    let b = count_symbols (symbols_of named) bare in
+    let c = count_followed (with_symbols (symbols_of named) bare).children (fixup_nodes named) in
+    let d = ap (λ (x : Reading). valid.node_count x.children) object.is in
+    named_not_refused places named object.fragments r object.of_places (omega (arith, few, a, b, c, d)) h

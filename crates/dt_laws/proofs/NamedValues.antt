@@ -9,7 +9,7 @@ use Rattle.dt_model.specs.Meaning.{Item, byte, reference, item_renamed, AreBytes
 use Rattle.dt_model.specs.Overlay.{OverlayReference, inside}
 use Rattle.dt_model.specs.Source.{Part, one, Events, all_bound, written}
 use Rattle.dt_model.specs.Valid.{AreDistinct}
-use Rattle.dt_model.specs.Named.{NodeReference, NamedProperty, value_of, number_of}
+use Rattle.dt_model.specs.Named.{NamedProperty, value_of, number_of}
 use Rattle.dt_laws.proofs.Tests.{bytes_eq_refl, bytes_eq_true, bytes_eq_other, each_in, in_map}
 
 pub all_of_map : {X Y : Type 0} (f : X → Y) (P : Y → Type 0) (xs : List X) → AllByRecursion P (map f xs) → AllByRecursion (λ x. P (f x)) xs
@@ -44,16 +44,6 @@ module _ {R : Type 0} where
 
 -- ---- renamed references
 
-renamed_bytes : {R S : Type 0} (f : R → S) (bs : List ℕ) (v : List (Item R)) → map byte bs ≡ map (item_renamed f) v → map byte bs ≡ v
-renamed_bytes f [] [] e = refl
-renamed_bytes f [] (x ∷ v) e = cc
-renamed_bytes f (b ∷ bs) [] e = cc
-renamed_bytes f (b ∷ bs) (byte c ∷ v) e =
-    let same : b ≡ c = cc in
-    let rest = renamed_bytes f bs v cc in
-    λ i. byte (same i) ∷ rest i
-renamed_bytes f (b ∷ bs) (reference r ∷ v) e = cc
-
 pub bytes_renamed : {R S : Type 0} (f : R → S) (v : List (Item R)) → AreBytes (map (item_renamed f) v) → AreBytes v
 bytes_renamed f [] h = tt
 bytes_renamed f (byte b ∷ v) h = (h.0, bytes_renamed f v h.1)
@@ -66,11 +56,23 @@ renamed_too f (reference r ∷ v) h = renamed_too f v h
 
 -- ---- the number that a value writes
 
+-- the bytes of a value decide it
+pub number_renamed : {R S : Type 0} (f : R → S) (v : List (Item R)) → number_of (map (item_renamed f) v) ≡ number_of v
+number_renamed f [] = refl
+number_renamed f (reference r ∷ v) = refl
+number_renamed f (byte a ∷ []) = refl
+number_renamed f (byte a ∷ reference r ∷ v) = refl
+number_renamed f (byte a ∷ byte b ∷ []) = refl
+number_renamed f (byte a ∷ byte b ∷ reference r ∷ v) = refl
+number_renamed f (byte a ∷ byte b ∷ byte c ∷ []) = refl
+number_renamed f (byte a ∷ byte b ∷ byte c ∷ reference r ∷ v) = refl
+number_renamed f (byte a ∷ byte b ∷ byte c ∷ byte d ∷ []) = refl
+number_renamed f (byte a ∷ byte b ∷ byte c ∷ byte d ∷ x ∷ v) = refl
+
 -- a value of a source that writes a number writes it also when it is read
-pub number_written : (es : Events) (parts : List Part) (f : NodeReference → OverlayReference) (items : List (Item Path)) (v : List (Item NodeReference)) (k : ℕ)
-    → written parts ≡ Some k → all_bound es parts ≡ Some items → map (item_renamed inside) items ≡ map (item_renamed f) v → number_of v ≡ Some k
-number_written es (one a ∷ one b ∷ one c ∷ one d ∷ []) f items v k w e same =
+pub number_written : (es : Events) (parts : List Part) (items : List (Item Path)) (k : ℕ) → written parts ≡ Some k → all_bound es parts ≡ Some items
+    → number_of (map (item_renamed {S = OverlayReference} inside) items) ≡ Some k
+number_written es (one a ∷ one b ∷ one c ∷ one d ∷ []) items k w e =
     let plain : map byte (a ∷ b ∷ c ∷ d ∷ []) ≡ items = cc in
-    let renamed : map byte (a ∷ b ∷ c ∷ d ∷ []) ≡ map (item_renamed f) v = ap (map (item_renamed inside)) plain ∙ same in
-    ap number_of (sym (renamed_bytes f (a ∷ b ∷ c ∷ d ∷ []) v renamed)) ∙ w
-number_written es _ f items v k w e same = cc
+    ap (λ v. number_of (map (item_renamed {S = OverlayReference} inside) v)) (sym plain) ∙ w
+number_written es _ items k w e = cc

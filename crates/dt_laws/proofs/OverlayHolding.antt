@@ -36,20 +36,26 @@ holds-overlay_start = record {
 abbrev no_names : Body
 no_names = record { properties = []; children = [] }
 
+-- by any rules that its nodes and its property follow
+module _ (r : Rules) (s : SoFar) (h : Holds r s) (f name : Name) (value : List Part) where
+  pub holds-opened : r.node (f ∷ []) → r.node (reverse (content f)) → r.value name value → Holds r (open_fragment f name value s)
+  holds-opened own inner follows =
+      let s1 : SoFar = enter s (f ∷ []) [] in
+      let h1 : Holds r s1 = holds-enter r s h (f ∷ []) []
+      (λ x q e. let same : [] ≡ q = cc in subst (λ p. stands s.events p ≡ true) same h.sound.rooted) own in
+      let s2 : SoFar = record { events = s1.events ++ definition s1.node name value ∷ []; node = s1.node; bodies = no_names ∷ [] } in
+      let h2 : Holds r s2 = holds-property r s1 h1 no_names [] (no_names ∷ []) name value refl follows in
+      let top : Stack = reverse (content f) in
+      let h3 : Holds r (enter s2 top []) = holds-enter r s2 h2 top []
+      (λ x q e. let same : f ∷ [] ≡ q = cc in subst (λ p. stands s2.events p ≡ true) same (h2.here no_names [] refl)) inner in
+      subst (λ es. Holds r (record { events = es; node = top; bodies = no_names ∷ [] }))
+      (one_by_one s.events (opening (f ∷ [])) (definition (f ∷ []) name value) (opening top)) h3
+
 module _ (s : SoFar) (h : Holds overlay_rules s) (k : ℕ) (name : Name) (value : List Part) (follows : overlay_rules.value name value) where
   pub holds-fragment : Holds overlay_rules (open_fragment (fragment_name k) name value s)
   holds-fragment =
-      let f : Name = fragment_name k in
-      let s1 : SoFar = enter s (f ∷ []) [] in
-      let h1 : Holds overlay_rules s1 = holds-enter overlay_rules s h (f ∷ []) []
-      (λ x q e. let same : [] ≡ q = cc in subst (λ p. stands s.events p ≡ true) same h.sound.rooted) ((fragment_named k, tt), fragment_plain k) in
-      let s2 : SoFar = record { events = s1.events ++ definition s1.node name value ∷ []; node = s1.node; bodies = no_names ∷ [] } in
-      let h2 : Holds overlay_rules s2 = holds-property overlay_rules s1 h1 no_names [] (no_names ∷ []) name value refl follows in
-      let top : Stack = reverse (content f) in
-      let h3 : Holds overlay_rules (enter s2 top []) = holds-enter overlay_rules s2 h2 top []
-      (λ x q e. let same : f ∷ [] ≡ q = cc in subst (λ p. stands s2.events p ≡ true) same (h2.here no_names [] refl)) ((overlay_named, (fragment_named k, tt)), fragment_plain k) in
-      subst (λ es. Holds overlay_rules (record { events = es; node = top; bodies = no_names ∷ [] }))
-      (one_by_one s.events (opening (f ∷ [])) (definition (f ∷ []) name value) (opening top)) h3
+      let own = fragment_named k in
+      holds-opened overlay_rules s h (fragment_name k) name value ((own, tt), fragment_plain k) ((overlay_named, (own, tt)), fragment_plain k) follows
 
 -- ---- a place is read
 

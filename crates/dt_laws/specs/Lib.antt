@@ -15,3 +15,4 @@ pub mod AppliedSample
 pub mod Premises
 pub mod Joining
 pub mod InTurn
+pub mod ShortValues

@@ -22,10 +22,11 @@ use Rattle.dt_model.specs.Refused.{StandMany, OverlaySourceRefusal, too_many, Is
 abbrev pub OneOverlay : Type 0
 OneOverlay = (places : List Place) (o q : Overlay) → OverlayMeans places o → OverlayMeans places q → o ≡ q
 
--- where they are well nested none is misplaced, and no body is left open
+-- places that are well nested are never refused as misplaced
 abbrev pub OverlayIsPlaced : Type 0
 OverlayIsPlaced = (places : List Place) → AreNested 0 places → read_overlays (root_children None places) overlay_start places ≡ Err (as_any misplaced) → ⊥
 
+-- and where all of them are read no body is left open
 abbrev pub OverlayIsClosed : Type 0
 OverlayIsClosed = (places : List Place) (s : OverlaySoFar) → AreNested 0 places → read_overlays (root_children None places) overlay_start places ≡ Ok s
     → s.source.bodies ≡ []

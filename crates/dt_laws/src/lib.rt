@@ -9,7 +9,9 @@ mod joining;
 mod laws;
 mod lists;
 mod named;
+mod objects;
 mod overlay_sources;
+mod overlay_trees;
 mod premises;
 mod samples;
 mod sources;
@@ -26,10 +28,11 @@ pub use named::{
     instance_is_meant, instance_is_valid, least_is_low, list_is_of_its_tree, many_stand,
     meant_is_named, named_is_not_refused, nodes_are_shallow, root_stands, tree_is_meant,
 };
+pub use objects::{object_encodes, object_is_valid};
 pub use overlay_sources::{
-    named_overlay_is_not_refused, object_is_one, overlay_is_named, overlay_is_one,
-    overlay_is_placed, overlay_nodes_are_shallow, overlay_refusal_is_one,
+    overlay_is_one, overlay_is_placed, overlay_nodes_are_shallow, overlay_refusal_is_one,
 };
+pub use overlay_trees::{named_overlay_is_not_refused, object_is_one, overlay_is_named};
 pub use sources::{
     fragment_is_new, label_is_one_nodes, order_is_one, overlay_source_is_an_overlay,
     second_in_one_body, source_is_a_meaning,

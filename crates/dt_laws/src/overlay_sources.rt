@@ -1,4 +1,4 @@
-//! What is true of what overlays' sources mean, of the trees that they are compiled to, and of their refusals.
+//! What is true of what overlays' sources mean, and of their refusals.
 
 ghost use Rattle.dt_laws.specs.OverlayTrees.{
   OneOverlay,
@@ -8,15 +8,17 @@ ghost use Rattle.dt_laws.specs.OverlayTrees.{
   OverlayRootStands,
   OverlayRefusalIsOne,
   OverlayIsNotRefused,
-  OverlayIsNamed,
-  OverlayManyStand,
-  NamedOverlayIsNotRefused,
-  OneObject,
 };
 
 /// The places of an overlay's source mean one overlay.
 pub fn overlay_is_one()
     ensures { OneOverlay }
+{}
+
+/// Places that are well nested are never refused as misplaced, and where all of them are read no body is left open.
+pub fn overlay_is_placed()
+    ensures placed { OverlayIsPlaced }
+    ensures closed { OverlayIsClosed }
 {}
 
 /// No node with more than 64 names in its path stands after the places of an overlay's source, and the root stands.
@@ -29,28 +31,4 @@ pub fn overlay_nodes_are_shallow()
 pub fn overlay_refusal_is_one()
     ensures one { OverlayRefusalIsOne }
     ensures meant { OverlayIsNotRefused }
-{}
-
-/// Places of an overlay's source that are well nested are never refused as misplaced, and where all of them are read no body is
-/// left open.
-pub fn overlay_is_placed()
-    ensures placed { OverlayIsPlaced }
-    ensures closed { OverlayIsClosed }
-{}
-
-/// A named tree that the places of an overlay's source mean is one that a source may mean, where it isn't too large; where
-/// it is, too many nodes stand.
-pub fn overlay_is_named()
-    ensures named { OverlayIsNamed }
-    ensures many { OverlayManyStand }
-{}
-
-/// An overlay's source that means a named tree whose nodes aren't too many isn't refused.
-pub fn named_overlay_is_not_refused()
-    ensures { NamedOverlayIsNotRefused }
-{}
-
-/// An overlay's source is compiled to one tree.
-pub fn object_is_one()
-    ensures { OneObject }
 {}

@@ -1,5 +1,4 @@
-use Rattle.dt_laws.proofs.OverlayNested.{overlay_placed}
-use Rattle.dt_laws.proofs.OverlayNested.{overlay_closed}
+use Rattle.dt_laws.proofs.OverlayNested.{overlay_placed, overlay_closed}
 use Rattle.dt_laws.proofs.overlay_sources.overlay_is_placed.Goals as goal
 
 pub returns-clause-placed : goal.returns-clause-placed
