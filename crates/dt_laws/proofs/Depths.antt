@@ -21,7 +21,7 @@ pub shallow-opening : (es : Events) (q : Stack) → AreShallow es → length q �
 shallow-opening es q shallow low p h =
     elim (opened es q p h) [ inl same ↦ subst (λ r. length r ≤ most_names) same low | inr before ↦ shallow p before ]
 
-pub shallow-deletion : (es : Events) (q : Stack) → AreShallow es → AreShallow (es ++ deletion q ∷ [])
+shallow-deletion : (es : Events) (q : Stack) → AreShallow es → AreShallow (es ++ deletion q ∷ [])
 shallow-deletion es q shallow p h = shallow p (deleted es q p h).1
 
 -- a child that is opened isn't too deep

@@ -74,10 +74,10 @@ module _ {R : Type 0} where
     pub same : node.content ≡ n.content
 
   -- a sibling that differs from none of these isn't found
-  pub other_sibling : (f : NamedForest R) (x y : Name) (c : NamedNode R) → AllByRecursion (λ z. z ≢ y) (names f) → sibling f x ≡ Some c → bytes_eq x y ≡ false
+  other_sibling : (f : NamedForest R) (x y : Name) (c : NamedNode R) → AllByRecursion (λ z. z ≢ y) (names f) → sibling f x ≡ Some c → bytes_eq x y ≡ false
   other_sibling f x y c d e = bytes_eq_other x y (each_in (λ z. z ≢ y) (names f) x d (sibling_named f x c (found_sibling f x c e)))
 
-  pub found_some : (f : NamedForest R) (x : Name) (p : Path) (c : NamedNode R) → found f x p ≡ Some c → (s : NamedNode R) × (sibling f x ≡ Some s) × (node_below s p ≡ Some c)
+  found_some : (f : NamedForest R) (x : Name) (p : Path) (c : NamedNode R) → found f x p ≡ Some c → (s : NamedNode R) × (sibling f x ≡ Some s) × (node_below s p ≡ Some c)
   found_some f x p c e = step (sibling f x) refl
     where
       step : (y : Option (NamedNode R)) → sibling f x ≡ y → (s : NamedNode R) × (sibling f x ≡ Some s) × (node_below s p ≡ Some c)

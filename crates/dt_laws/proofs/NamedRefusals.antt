@@ -17,6 +17,5 @@ few mode reservations places t n small h =
 
 pub named_is_not_refused : NamedIsNotRefused
 named_is_not_refused mode reservations places t r n small h =
-    let many = subst (IsRefusedFor mode places) (meant_not_refused mode reservations places n.meaning r n.means h) h in
-    let end : many.0 ≡ n.means.so_far = one_end many.0 n.means.so_far many.1 n.means.all_read in
-    not_many n.means.so_far.events (bound_values n.means.so_far.events) t n.tree small (subst (λ (s : SoFar). StandMany most_nodes s.events) end many.3)
+    let r' = meant_not_refused mode reservations places n.meaning r n.means h in
+    few mode reservations places t n small (subst (IsRefusedFor mode places) r' h)

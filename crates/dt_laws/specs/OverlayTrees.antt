@@ -8,7 +8,6 @@ use Rattle.dt_model.specs.Source.{Place, IsPlace, misplaced}
 use Rattle.dt_model.specs.Nested.{AreNested}
 use Rattle.dt_model.specs.Overlay.{Overlay}
 use Rattle.dt_model.specs.OverlaySource.{OverlaySoFar, as_any, root_children, overlay_start, read_overlays, OverlayMeans}
-use Rattle.dt_model.specs.Object.{Encodes}
 use Rattle.dt_model.specs.Tree.{Reading}
 use Rattle.dt_model.specs.Valid.{IsValid, node_count}
 use Rattle.dt_model.specs.Named as named
@@ -33,12 +32,12 @@ OverlayIsClosed = (places : List Place) (s : OverlaySoFar) → AreNested 0 place
 
 -- no node with more than 64 names in its path stands
 abbrev pub OverlayNodesAreShallow : Type 0
-OverlayNodesAreShallow = (places : List Place) (s : OverlaySoFar) → AllByRecursion IsPlace places → read_overlays (root_children None places) overlay_start places ≡ Ok s
+OverlayNodesAreShallow = (places : List Place) (s : OverlaySoFar) → read_overlays (root_children None places) overlay_start places ≡ Ok s
     → (p : Stack) → stands s.source.events p ≡ true → length p ≤ most_names
 
 -- the root stands
 abbrev pub OverlayRootStands : Type 0
-OverlayRootStands = (places : List Place) (s : OverlaySoFar) → AllByRecursion IsPlace places → read_overlays (root_children None places) overlay_start places ≡ Ok s
+OverlayRootStands = (places : List Place) (s : OverlaySoFar) → read_overlays (root_children None places) overlay_start places ≡ Ok s
     → stands s.source.events [] ≡ true
 
 -- they are refused for one reason
@@ -73,13 +72,7 @@ abbrev pub ObjectIsNotRefused : Type 0
 ObjectIsNotRefused = (places : List Place) (t : Reading) (r : OverlaySourceRefusal)
     → IsObjectOf places t → 1 + node_count t.children ≤ most_nodes → IsOverlayRefusedFor places r → ⊥
 
--- a blob may hold the tree,
+-- a blob may hold the tree
 abbrev pub ObjectIsValid : Type 0
 ObjectIsValid = (places : List Place) (t : Reading)
     → AllByRecursion IsPlace places → IsObjectOf places t → 1 + node_count t.children ≤ most_nodes → IsValid t
-
--- and it is an object of what they mean
-abbrev pub ObjectEncodes : Type 0
-ObjectEncodes = (places : List Place) (t : Reading)
-    → AllByRecursion IsPlace places → IsObjectOf places t → 1 + node_count t.children ≤ most_nodes
-    → (o : Overlay) × (number : Path → ℕ) × OverlayMeans places o × Encodes t o number

@@ -1,9 +1,0 @@
-use Rattle.dt_laws.proofs.NamedOverlays.{overlay_is_named}
-use Rattle.dt_laws.proofs.NamedOverlays.{overlay_many_stand}
-use Rattle.dt_laws.proofs.overlay_sources.overlay_is_named.Goals as goal
-
-pub returns-clause-named : goal.returns-clause-named
-returns-clause-named c = overlay_is_named
-
-pub returns-clause-many : goal.returns-clause-many
-returns-clause-many c = overlay_many_stand
