@@ -199,6 +199,26 @@ text_source = block (by_label (codes "a")) ∷ property (codes "p") (text_of (by
 abbrev pub path_source : List Place
 path_source = block (by_label (codes "a")) ∷ property (codes "p") (number_of (by_path (codes "x" ∷ [])) ∷ []) ∷ close ∷ []
 
+-- &a { phandle = &b; };
+abbrev pub numbering_text_source : List Place
+numbering_text_source = block (by_label (codes "a")) ∷ property (codes "phandle") (text_of (by_label (codes "b")) ∷ []) ∷ close ∷ []
+
+-- &a { p; p = &b; };
+abbrev pub text_again_source : List Place
+text_again_source = block (by_label (codes "a")) ∷ property (codes "p") [] ∷ property (codes "p") (text_of (by_label (codes "b")) ∷ []) ∷ close ∷ []
+
+-- / { g { __overlay__ { p = <&f>; }; }; f: h { }; };
+abbrev pub no_target_source : List Place
+no_target_source =
+    root ∷ child (codes "g") ∷ child (codes "__overlay__") ∷ property (codes "p") (phandle_of (codes "f")) ∷ close ∷ close
+    ∷ child (codes "h") ∷ label (codes "f") ∷ close ∷ close ∷ []
+
+-- / { g { target-path = "/"; __overlay__ { p = <&f>; }; }; f: h { }; };
+abbrev pub outside_content_source : List Place
+outside_content_source =
+    root ∷ child (codes "g") ∷ property (codes "target-path") (text (codes "/")) ∷ child (codes "__overlay__") ∷ property (codes "p") (phandle_of (codes "f")) ∷ close ∷ close
+    ∷ child (codes "h") ∷ label (codes "f") ∷ close ∷ close ∷ []
+
 -- / { g { target-path = "/"; __overlay__ { n: x { }; }; }; f { target = <&n>; __overlay__ { q; }; }; };
 abbrev pub inner_source : List Place
 inner_source =

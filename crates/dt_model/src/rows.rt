@@ -43,8 +43,15 @@ ghost use Rattle.dt_model.specs.Source.{
   read_all,
   meaning_of,
 };
-ghost use Rattle.dt_model.specs.Refused.{IsRefusedFor, at_place};
-ghost use Rattle.dt_model.specs.OverlaySource.{overlay_delete, overlay_phandle, overlay_path};
+ghost use Rattle.dt_model.specs.Refused.{IsRefusedFor, IsOverlayRefusedFor, at_place, at_end};
+ghost use Rattle.dt_model.specs.OverlaySource.{
+  as_any,
+  bad_fragment,
+  outside_content,
+  overlay_delete,
+  overlay_phandle,
+  overlay_path,
+};
 ghost use Rattle.dt_model.specs.Rows.{
   gap_tree,
   two_labels,
@@ -81,6 +88,10 @@ ghost use Rattle.dt_model.specs.Rows.{
   numbering_source,
   text_source,
   path_source,
+  numbering_text_source,
+  text_again_source,
+  no_target_source,
+  outside_content_source,
   controller,
   two_cells,
   with_two_cells,
@@ -257,6 +268,17 @@ pub fn refused_overlays()
     ensures phandle { overlay_refusal numbering_source ≡ Some overlay_phandle }
     ensures text { overlay_refusal text_source ≡ Some overlay_path }
     ensures path { overlay_refusal path_source ≡ Some overlay_path }
+    ensures phandle_first { overlay_refusal numbering_text_source ≡ Some overlay_phandle }
+    ensures text_first { overlay_refusal text_again_source ≡ Some overlay_path }
+    ensures node { overlay_refusal node_twice ≡ Some (as_any duplicate_node) }
+    ensures label { overlay_refusal label_twice ≡ Some (as_any duplicate_label) }
+{}
+
+/// Of what is wrong after the last place of an overlay, a fragment that holds no target is told first, then a reference to a
+/// node that no fragment brings.
+pub fn late_overlay_refusals()
+    ensures target { IsOverlayRefusedFor no_target_source (at_end bad_fragment) }
+    ensures reference { IsOverlayRefusedFor outside_content_source (at_end outside_content) }
 {}
 
 // ---- merging meanings
