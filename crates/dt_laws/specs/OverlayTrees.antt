@@ -1,8 +1,7 @@
 -- What is true of what overlays' sources mean, of the trees that they are compiled to, and of their refusals.
-use Rattle.std.specs.Prelude.{◌≡◌, ℕ, ◌+◌, ◌<◌, ◌≤◌, true, List, [], length, None, Ok, Err}
+use Rattle.std.specs.Prelude.{◌≡◌, ◌+◌, ◌<◌, ◌≤◌, true, List, [], length, None, Ok, Err}
 use Rattle.std.specs.List.{AllByRecursion}
 use Rattle.dt_model.specs.Limits.{most_names, most_nodes}
-use Rattle.dt_model.specs.Path.{Path}
 use Rattle.dt_model.specs.Event.{Stack, stands}
 use Rattle.dt_model.specs.Source.{Place, IsPlace, misplaced}
 use Rattle.dt_model.specs.Nested.{AreNested}
