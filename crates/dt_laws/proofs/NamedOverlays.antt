@@ -7,29 +7,32 @@ use Rattle.dt_model.specs.Limits.{most_nodes}
 use Rattle.dt_model.specs.Path.{Path}
 use Rattle.dt_model.specs.Meaning.{Item}
 use Rattle.dt_model.specs.Source.{Place, IsPlace, Events}
-use Rattle.dt_model.specs.Valid.{IsReservation}
+use Rattle.dt_model.specs.Valid.{AreDistinct, IsReservation}
 use Rattle.dt_model.specs.Valid as valid
-use Rattle.dt_model.specs.Overlay.{OverlayReference, Overlay, IsOverlay}
+use Rattle.dt_model.specs.Overlay.{OverlayReference, Target, at_reference, at_path as to_path, Fragment, Overlay, IsOverlay}
 use Rattle.dt_model.specs.OverlaySource.{OverlaySoFar, root_children, overlay_start}
 use Rattle.dt_model.specs.Tree.{Forest, no_nodes, branch, Property, Reading}
-use Rattle.dt_model.specs.Named.{NodeReference, Named, number_of, node_count}
-use Rattle.dt_model.specs.NamedOf.{IsNamedBy, asked_in}
-use Rattle.dt_model.specs.NamedOverlay.{NamedFragment, IsNamedOverlayOf}
+use Rattle.dt_model.specs.Named.{NodeReference, Named, number_of, node_count, paths_of}
+use Rattle.dt_model.specs.NamedOf.{path_among, IsNamedBy, asked_in}
+use Rattle.dt_model.specs.NamedOverlay.{NamedTarget, to_reference, to_text, NamedFragment, IsTargetOf, AreFragmentsOf, IsNamedOverlayOf}
 use Rattle.dt_model.specs.Numbering.{IsNumbering, written_numbers}
 use Rattle.dt_model.specs.Fixups.{fixup_nodes, with_fixups}
 use Rattle.dt_model.specs.Instance.{symbols_of, instance_of, followed_by, with_symbols}
 use Rattle.dt_model.specs.Refused.{StandMany, too_many, IsOverlayRefusedFor}
-use Rattle.dt_laws.specs.OverlayTrees.{OverlayIsNamed, OverlayManyStand, NamedOverlayIsNotRefused, OneObject, ObjectIsNotRefused}
+use Rattle.dt_laws.specs.OverlayTrees.{OverlayIsNamed, OverlayManyStand, NamedOverlayIsNotRefused, OneNamedOverlay, OneObject, ObjectIsNotRefused}
 use Rattle.dt_laws.proofs.Holding.{Holds, node_follows, label_follows, value_follows}
 use Rattle.dt_laws.proofs.OverlayHolding.{overlay_rules, holds-overlay_start, holds-overlay}
 use Rattle.dt_laws.proofs.Overlays.{source_overlay}
 use Rattle.dt_laws.proofs.OneOverlay.{one_end, one_overlay}
 use Rattle.dt_laws.proofs.OverlayDepths.{overlay_shallow}
 use Rattle.dt_laws.proofs.OverlayRefusals.{overlay_not_refused}
+use Rattle.dt_laws.proofs.NamedPaths.{paths_distinct}
+use Rattle.dt_laws.proofs.NamedSources.{apart}
 use Rattle.dt_laws.proofs.NamedByEvents.{AreNamable, is_named, stand_many, not_many}
-use Rattle.dt_laws.proofs.OneNamedTree.{one_named}
+use Rattle.dt_laws.proofs.OneNamedTree.{reference_back, one_named}
 use Rattle.dt_laws.proofs.OneNumbering.{one_numbering}
 use Rattle.dt_laws.proofs.NumberedTrees.{count_same}
+use Rattle.dt_laws.proofs.Places.{HasAt, at_path, one_at}
 
 module _ (places : List Place) (t : Named NodeReference) (fragments : List NamedFragment) (n : IsNamedOverlayOf places t fragments) where
   abbrev es : Events
@@ -83,17 +86,42 @@ named_not_refused places t fragments r n few h =
 
 -- ---- the object
 
-one_tree : (places : List Place) (t u : Named NodeReference) (fragments others : List NamedFragment) → IsNamedOverlayOf places t fragments → IsNamedOverlayOf places u others → t ≡ u
-one_tree places t u fragments others n m =
+one_target : (paths : List Path) (x y : NamedTarget) (z : Target) → AreDistinct paths → IsTargetOf paths x z → IsTargetOf paths y z → x ≡ y
+one_target paths (to_reference r) (to_reference s) (at_reference q) d h k = ap to_reference (reference_back paths r s d h.0 k.0 (h.1 ∙ sym k.1))
+one_target paths (to_reference r) (to_text text) (at_reference q) d h k = absurd k
+one_target paths (to_text text) y (at_reference q) d h k = absurd h
+one_target paths (to_reference r) y (to_path p) d h k = absurd h
+one_target paths (to_text text) (to_reference r) (to_path p) d h k = absurd k
+one_target paths (to_text text) (to_text other) (to_path p) d h k = ap to_text (h ∙ sym k)
+
+one_list : (paths : List Path) (fs gs : List NamedFragment) (hs : List Fragment) → AreDistinct paths → AreFragmentsOf paths fs hs → AreFragmentsOf paths gs hs → fs ≡ gs
+one_list paths [] [] [] d h k = refl
+one_list paths (f ∷ fs) gs [] d h k = absurd h
+one_list paths [] (g ∷ gs) [] d h k = absurd k
+one_list paths [] gs (x ∷ hs) d h k = absurd h
+one_list paths (f ∷ fs) [] (x ∷ hs) d h k = absurd k
+one_list paths (f ∷ fs) (g ∷ gs) (x ∷ hs) d h k =
+    let at : path_among paths f.node ≡ path_among paths g.node = h.1 ∙ sym k.1 in
+    let node : f.node ≡ g.node = one_at f.node g.node (path_among paths f.node) paths d (at_path f.node paths h.0) (subst (λ p. HasAt g.node p paths) (sym at) (at_path g.node paths k.0)) in
+    let target : f.target ≡ g.target = one_target paths f.target g.target x.target d h.2 k.2 in
+    let first : f ≡ g = λ i. record { node = node i; target = target i } in
+    let rest : fs ≡ gs = one_list paths fs gs hs d h.3 k.3 in
+    λ i. first i ∷ rest i
+
+pub one_named_overlay : OneNamedOverlay
+one_named_overlay places t u fragments others n m =
+    let es = es places u others m in
     let end : n.means.so_far ≡ m.means.so_far = one_end n.means.so_far m.means.so_far n.means.all_read m.means.all_read in
     let same : n.overlay ≡ m.overlay = one_overlay places n.overlay m.overlay n.means m.means in
-    let first : IsNamedBy (es places u others m) m.overlay.value t =
-    subst (λ (o : Overlay). IsNamedBy (es places u others m) o.value t) same (subst (λ (s : OverlaySoFar). IsNamedBy s.source.events n.overlay.value t) end n.tree) in
-    one_named (es places u others m) m.overlay.value t u first m.tree (n.no_reservations ∙ sym m.no_reservations)
+    let of_t : IsNamedBy es m.overlay.value t = subst (λ (o : Overlay). IsNamedBy es o.value t) same (subst (λ (s : OverlaySoFar). IsNamedBy s.source.events n.overlay.value t) end n.tree) in
+    let tree : t ≡ u = one_named es m.overlay.value t u of_t m.tree (n.no_reservations ∙ sym m.no_reservations) in
+    let first : AreFragmentsOf (paths_of u) fragments m.overlay.fragments =
+    subst (λ (o : Overlay). AreFragmentsOf (paths_of u) fragments o.fragments) same (subst (λ (x : Named NodeReference). AreFragmentsOf (paths_of x) fragments n.overlay.fragments) tree n.fragments_are) in
+    (tree, one_list (paths_of u) fragments others m.overlay.fragments (paths_distinct u (apart es m.overlay.value u m.tree)) first m.fragments_are)
 
 pub one_object : OneObject
 one_object places t u a b =
-    let same : a.named ≡ b.named = one_tree places a.named b.named a.fragments b.fragments a.of_places b.of_places in
+    let same : a.named ≡ b.named = (one_named_overlay places a.named b.named a.fragments b.fragments a.of_places b.of_places).0 in
     let of_a : IsNumbering (asked_in b.named) a.numbers = subst (λ (x : Named NodeReference). IsNumbering (asked_in x) a.numbers) same a.numbering in
     let numbers : a.numbers ≡ b.numbers = one_numbering (written_numbers (asked_in b.named)) (asked_in b.named) a.numbers b.numbers of_a b.numbering in
     a.is ∙ (λ i. with_fixups (same i) (with_symbols (symbols_of (same i)) (instance_of (numbers i) (same i)))) ∙ sym b.is

@@ -24,7 +24,7 @@ use Rattle.dt_laws.proofs.NamedSources.{apart, value_same}
 -- ---- values
 
 -- references to nodes of different paths are renamed to different ones
-reference_back : (paths : List Path) (r s : NodeReference) → AreDistinct paths → IsBelow (length paths) r → IsBelow (length paths) s
+pub reference_back : (paths : List Path) (r s : NodeReference) → AreDistinct paths → IsBelow (length paths) r → IsBelow (length paths) s
     → reference_renamed (path_among paths) r ≡ reference_renamed (path_among paths) s → r ≡ s
 reference_back paths (inside j) (inside k) d h g e =
     let same : path_among paths j ≡ path_among paths k = cc in

@@ -62,6 +62,11 @@ abbrev pub NamedOverlayIsNotRefused : Type 0
 NamedOverlayIsNotRefused = (places : List Place) (t : Named NodeReference) (fragments : List NamedFragment) (r : OverlaySourceRefusal)
     → IsNamedOverlayOf places t fragments → 1 + named.node_count t.children ≤ most_nodes → IsOverlayRefusedFor places r → ⊥
 
+-- they mean one named tree, with one list of fragments
+abbrev pub OneNamedOverlay : Type 0
+OneNamedOverlay = (places : List Place) (t u : Named NodeReference) (fragments others : List NamedFragment)
+    → IsNamedOverlayOf places t fragments → IsNamedOverlayOf places u others → (t ≡ u) × (fragments ≡ others)
+
 -- they are compiled to one tree
 abbrev pub OneObject : Type 0
 OneObject = (places : List Place) (t u : Reading) → IsObjectOf places t → IsObjectOf places u → t ≡ u

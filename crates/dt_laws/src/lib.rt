@@ -32,7 +32,9 @@ pub use objects::{object_encodes, object_is_valid};
 pub use overlay_sources::{
     overlay_is_one, overlay_is_placed, overlay_nodes_are_shallow, overlay_refusal_is_one,
 };
-pub use overlay_trees::{named_overlay_is_not_refused, object_is_one, overlay_is_named};
+pub use overlay_trees::{
+    named_overlay_is_not_refused, named_overlay_is_one, object_is_one, overlay_is_named,
+};
 pub use sources::{
     fragment_is_new, label_is_one_nodes, order_is_one, overlay_source_is_an_overlay,
     second_in_one_body, source_is_a_meaning,

@@ -4,6 +4,7 @@ ghost use Rattle.dt_laws.specs.OverlayTrees.{
   OverlayIsNamed,
   OverlayManyStand,
   NamedOverlayIsNotRefused,
+  OneNamedOverlay,
   OneObject,
   ObjectIsNotRefused,
 };
@@ -18,6 +19,11 @@ pub fn overlay_is_named()
 /// An overlay's source that means a named tree whose nodes aren't too many isn't refused.
 pub fn named_overlay_is_not_refused()
     ensures { NamedOverlayIsNotRefused }
+{}
+
+/// The places of an overlay's source mean one named tree, with one list of fragments.
+pub fn named_overlay_is_one()
+    ensures { OneNamedOverlay }
 {}
 
 /// An overlay's source is compiled to one tree; where its nodes aren't too many, the source isn't refused.
