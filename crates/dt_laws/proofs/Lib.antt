@@ -63,6 +63,7 @@ pub mod InstanceValid
 pub mod KeyedNodes
 pub mod InstanceMeant
 pub mod TreeMeant
+pub mod CheckedNamedBy
 pub mod CheckedNamed
 pub mod WorkedNamed
 pub mod Stands
@@ -147,3 +148,5 @@ pub mod OneOverlay
 pub mod OverlayNested
 pub mod OverlayDepths
 pub mod OverlayRefusals
+pub mod CheckedNamedOverlays
+pub mod WorkedObject

@@ -29,11 +29,13 @@ checked = record {
   closed = refl;
   is_read = search rules;
   reservations = refl;
-  placed = refl;
-  nodes = refl;
-  values = search rules;
-  referred = search (rules, arith);
-  ordered = refl;
+  tree = record {
+    placed = refl;
+    nodes = refl;
+    values = search rules;
+    referred = search (rules, arith);
+    ordered = refl;
+  };
 }
 
 pub sample_is_named : IsNamedOf base [] named_source named_tree

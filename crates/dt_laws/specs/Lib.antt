@@ -8,6 +8,7 @@ pub mod NamedTrees
 pub mod NamedSample
 pub mod CompiledTrees
 pub mod OverlayTrees
+pub mod ObjectSample
 pub mod Bodies
 pub mod SampleSources
 pub mod Fragments
