@@ -210,11 +210,12 @@ within_long q (x ∷ p) w =
 
 -- ---- a body is opened
 
-pub enters : (t : View) (so_far : SoFar) (p : Stack) (bodies : List Body) (open_bodies : List OpenBody) (e : OpenBody) → Shows t (so_far.events ++ opening p ∷ []) → AreShallow so_far.events → length p ≤ most_names
+pub enters_with : (t : View) (so_far : SoFar) (p : Stack) (bodies : List Body) (open_bodies : List OpenBody) (e : OpenBody) → Shows t (so_far.events ++ opening p ∷ []) → AreShallow so_far.events → length p ≤ most_names
     → node_at t p ≡ Some e.node → e.depth ≡ length p → e.node < t.size → AreOpen t e.node e.item (drop 1 p) open_bodies bodies
-    → ((x : Name) (k : ℕ) → t.opened e.node x ≡ Some k → k < e.item) → ((i : ℕ) (x : Name) (k : ℕ) → t.opened i x ≡ Some k → k < e.item + 1) → ((i : ℕ) (x : Name) (k : ℕ) → t.defined i x ≡ Some k → k < e.item)
+    → ((x : Name) (k : ℕ) → t.opened e.node x ≡ Some k → k < e.item) → ((x : Name) (k : ℕ) → t.defined e.node x ≡ Some k → k < e.item)
+    → ((i : ℕ) (x : Name) (k : ℕ) → t.opened i x ≡ Some k → k < e.item + 1) → ((i : ℕ) (x : Name) (k : ℕ) → t.defined i x ≡ Some k → k < e.item + 1)
     → StandsFor t (open_bodies ++ e ∷ []) (e.item + 1) (enter so_far p bodies)
-enters t so_far p bodies open_bodies e shows shallow few at depth inside around fresh opened defined = record {
+enters_with t so_far p bodies open_bodies e shows shallow few at depth inside around fresh unset opened defined = record {
   shows = shows;
   shallow = shallow-opening so_far.events p shallow few;
   open_bodies = (
@@ -227,10 +228,18 @@ enters t so_far p bodies open_bodies e shows shallow few at depth inside around 
       node = at;
       depth = depth;
       children = λ x. not_behind e.item (t.opened e.node x) (fresh x);
-      properties = λ x. not_behind e.item (t.defined e.node x) (defined e.node x);
+      properties = λ x. not_behind e.item (t.defined e.node x) (unset x);
     },
     are_open-later t e.node e.node e.item (e.item + 1) (drop 1 p) open_bodies bodies (omega arith) (omega arith) around,
   );
   opened_before = opened;
-  defined_before = λ i x k d. omega (arith, defined i x k d);
+  defined_before = defined;
 }
+
+-- where nothing was defined since
+pub enters : (t : View) (so_far : SoFar) (p : Stack) (bodies : List Body) (open_bodies : List OpenBody) (e : OpenBody) → Shows t (so_far.events ++ opening p ∷ []) → AreShallow so_far.events → length p ≤ most_names
+    → node_at t p ≡ Some e.node → e.depth ≡ length p → e.node < t.size → AreOpen t e.node e.item (drop 1 p) open_bodies bodies
+    → ((x : Name) (k : ℕ) → t.opened e.node x ≡ Some k → k < e.item) → ((i : ℕ) (x : Name) (k : ℕ) → t.opened i x ≡ Some k → k < e.item + 1) → ((i : ℕ) (x : Name) (k : ℕ) → t.defined i x ≡ Some k → k < e.item)
+    → StandsFor t (open_bodies ++ e ∷ []) (e.item + 1) (enter so_far p bodies)
+enters t so_far p bodies open_bodies e shows shallow few at depth inside around fresh opened defined =
+    enters_with t so_far p bodies open_bodies e shows shallow few at depth inside around fresh (λ x k d. defined e.node x k d) opened (λ i x k d. omega (arith, defined i x k d))

@@ -7,7 +7,7 @@ use Rattle.dt_model.specs.Event.{Stack}
 use Rattle.dt_model.specs.Lists.{IsIn}
 use Rattle.dt_laws.proofs.Cases.{map_some}
 use Rattle.dt_source.specs.declared.growing.Node.{Node}
-use Rattle.dt_source.specs.Grown.{Leads}
+use Rattle.dt_source.specs.Grown.{name_said, Leads}
 use Rattle.dt_source.specs.Owned.{AreOwned, AreRising}
 use Rattle.dt_source.specs.Listing.{parent_of, parents_of, name_of}
 
@@ -25,7 +25,7 @@ leads_once nodes (x ∷ p) (y ∷ q) k a b =
     let same : b.0 ≡ a.0 = same_node nodes k b.0 a.0 b.1 a.1 in
     let other : Leads nodes q a.0.parent = subst (λ (n : Node). Leads nodes q n.parent) same b.5 in
     let rest : p ≡ q = leads_once nodes p q a.0.parent a.5 other in
-    let name : x ≡ y = sym a.3 ∙ (ap (λ (n : Node). n.name.now) (sym same) ∙ b.3) in
+    let name : x ≡ y = sym a.3 ∙ (ap (λ (n : Node). name_said n.name) (sym same) ∙ b.3) in
     λ i. name i ∷ rest i
 
 -- names lead to each node above one
@@ -91,7 +91,7 @@ are_children nodes children owned = record {
 pub leads_child : (nodes : List Node) (p : Stack) (k c : ℕ) → Leads nodes p k → IsChild nodes k c → Leads nodes (name_of nodes c ∷ p) c
 leads_child nodes p k zero h child = let b = child.below in absurd (omega arith)
 leads_child nodes p k (suc c) h child =
-    let named : child.node.name.now ≡ name_of nodes (suc c) = sym (ap (λ (o : Option Node). option_map_or (λ (n : Node). n.name.now) o []) child.there) in
+    let named : name_said child.node.name ≡ name_of nodes (suc c) = sym (ap (λ (o : Option Node). option_map_or (λ (n : Node). name_said n.name) o []) child.there) in
     (child.node, child.there, child.below, named, child.stands, subst (Leads nodes p) (sym child.parent) h)
 
 -- what names lead to is a child of what is above it, and has its name
@@ -100,5 +100,5 @@ pub child_led : (nodes : List Node) (x : Name) (p : Stack) (k c : ℕ) → ((j :
 child_led nodes x p k zero one h = let above : 0 < 0 = h.2 in absurd (omega arith)
 child_led nodes x p k (suc c) one h = (
   record { node = h.0; there = h.1; below = h.2; stands = h.4; parent = one h.0.parent h.5 },
-  ap (λ (o : Option Node). option_map_or (λ (n : Node). n.name.now) o []) h.1 ∙ h.3,
+  ap (λ (o : Option Node). option_map_or (λ (n : Node). name_said n.name) o []) h.1 ∙ h.3,
 )

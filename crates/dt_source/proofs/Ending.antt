@@ -1,5 +1,5 @@
 -- The nodes that were listed are those of the events; and why none were.
-use Rattle.std.proofs.Common.{◌≡◌, ◌≢◌, ℕ, zero, suc, ◌<◌, Bool, true, false, not, ◌&&◌, cond, List, [], ◌∷◌, map, length, reverse, Option, None, Some, IsSome, is_some, option_map, slice_get, codes, refl, sym, ap, subst, ◌∙◌, inl, inr, arith}
+use Rattle.std.proofs.Common.{◌≡◌, ◌≢◌, ℕ, zero, suc, ◌<◌, Bool, true, false, not, ◌&&◌, cond, List, [], ◌∷◌, map, length, reverse, Option, None, Some, IsSome, is_some, option_map, slice_get, codes, refl, sym, ap, subst, ◌∙◌, ◌⊎◌, inl, inr, arith}
 use Rattle.std.specs.List.{AllByRecursion}
 use Rattle.std.specs.Option.{option_and_then}
 use Rattle.std.specs.Str.{bytes_eq}
@@ -33,7 +33,7 @@ use Rattle.dt_source.specs.declared.referring.Unnamed.TheVariants.{Refused}
 use Rattle.dt_source.specs.Contents.{property_owner, AreNamedBy, IsLabelledPart, AreLabelled, all_read, read_values, AreResolved}
 use Rattle.dt_source.specs.Resolving.{IsOf, EachNaming, AreRead, AreRowsRead, content_by, WhyUnreadAmong, Belong}
 use Rattle.dt_source.specs.Phandles.{is_numbered, is_phandle, number_written, AreWritten, AreOwn, HasUnwritten, HasTwice, WhyUnnumbered}
-use Rattle.dt_source.specs.Nodes.{AreFilled, IsUnfilled, AreNodesBy, AreNodesAfter, WhyNotAfter}
+use Rattle.dt_source.specs.Nodes.{AreFilled, IsUnfilled, HasUnread, AreNodesBy, AreNodesAfter, WhyNotAfter}
 use Rattle.dt_source.proofs.ChildrenLed.{AreChildren, are_children, leads_once, leads_root, leads_within}
 use Rattle.dt_source.proofs.Walking.{walk, rows-nodes}
 use Rattle.dt_source.proofs.Placing.{Pairwise, IsPlacedAt, forest-placed}
@@ -264,6 +264,16 @@ module _ (g : Growing) (b : Belongings) (rows : List Row) (are : AreRows g.nodes
       let value = value_in led.0 r.node h.0 q led.1 h.2 h.3 in
       (led.0, q.name.now, value_said q.value.now, grown.values_stand led.0 q.name.now (value_said q.value.now) h.0 value, unbound es (value_said q.value.now) h.4)
   unread_refused r among kind h = absurd h
+
+  pub unread_there : (unnamed : Unnamed) (r : Row) → IsIn r rows → (kind : FaultKind) → WhyUnreadAmong unnamed es g.properties.items (group_of b.properties r.node) kind →
+      (kind ≡ fault.NoMemory) ⊎ HasUnread unnamed es
+  unread_there unnamed r among fault.NoMemory h = inl refl
+  unread_there unnamed r among fault.UnresolvedReference h =
+      let led = led_to r among in
+      let q = h.1 in
+      let value = value_in led.0 r.node h.0 q led.1 h.2 h.3 in
+      inr (led.0, q.name.now, value_said q.value.now, grown.values_stand led.0 q.name.now (value_said q.value.now) h.0 value, h.4)
+  unread_there unnamed r among kind h = absurd h
 
   -- a `phandle` that writes none
   bad_there : HasUnwritten b.numbers.items g.properties.items → HasBadPhandle es

@@ -8,7 +8,7 @@ use Rattle.dt_model.specs.Names.{Name, IsLabel}
 use Rattle.dt_model.specs.Path.{Path}
 use Rattle.dt_model.specs.Meaning.{Item, item_renamed, EachReference}
 use Rattle.dt_model.specs.Event.{Stack, value_at, names, property_age, label_age}
-use Rattle.dt_model.specs.Overlay.{inside, outside, OverlayReference, reference_renamed}
+use Rattle.dt_model.specs.Overlay.{inside, outside, reference_renamed}
 use Rattle.dt_model.specs.Source.{Part, Reference, Events, referent}
 use Rattle.dt_model.specs.Lists.{IsIn}
 use Rattle.dt_model.specs.Named.{NodeReference, Content, NamedProperty, value_of}

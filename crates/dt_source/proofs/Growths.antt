@@ -7,6 +7,7 @@ use Rattle.std.proofs.lemmas.Bool.{eqb-true, eq-eqb}
 use Rattle.dt_model.specs.Names.{Name}
 use Rattle.dt_model.specs.Source.{Part}
 use Rattle.dt_parse.specs.Said.{value_said}
+use Rattle.dt_source.specs.Grown.{name_said}
 use Rattle.dt_source.specs.Table.{Key, entry, Puts, name_entry, PutsName}
 use Rattle.dt_source.specs.Shape.{Shape, begun, MakesRoot, AddsChild, OpensChild, Cuts, Defines, Undefines, Gives}
 use Rattle.dt_source.specs.Growing.{found, nodes_listed, properties_listed, item_of, to_node, shape_of, HasNodes, HasProperties, HasLabels}
@@ -47,15 +48,15 @@ module _ (properties : List Property) (places : List (Key × Last)) (givings : L
   }
 
   pub adds_child : (nodes new : List Node) (children found' : List (Key × Last)) (n : Node) (w : Last) → HasNodes nodes children → new ≡ nodes ++ n ∷ []
-      → Puts children found' n.parent n.name.now w → w.number ≡ length nodes → n.stands ≡ true
-      → AddsChild (shape_of nodes children properties places givings labels) (shape_of new found' properties places givings labels) n.parent n.name.now w.item
+      → Puts children found' n.parent (name_said n.name) w → w.number ≡ length nodes → n.stands ≡ true
+      → AddsChild (shape_of nodes children properties places givings labels) (shape_of new found' properties places givings labels) n.parent (name_said n.name) w.item
   adds_child nodes new children found' n w h e puts number here =
-      subst (λ xs. AddsChild (shape_of nodes children properties places givings labels) (shape_of xs found' properties places givings labels) n.parent n.name.now w.item) (sym e)
+      subst (λ xs. AddsChild (shape_of nodes children properties places givings labels) (shape_of xs found' properties places givings labels) n.parent (name_said n.name) w.item) (sym e)
       record {
         size = length-append nodes (n ∷ []);
-        child = found-added 1 (nodes_listed nodes children) (nodes_listed (nodes ++ n ∷ []) found') n.parent n.name.now h.indexed
-            (listed-push (λ (m : Node). m.parent) (λ (m : Node). m.name.now) (λ (m : Node). m.stands) nodes n children found' w puts number here);
-        opened = item_of_put children found' n.parent n.name.now w puts;
+        child = found-added 1 (nodes_listed nodes children) (nodes_listed (nodes ++ n ∷ []) found') n.parent (name_said n.name) h.indexed
+            (listed-push (λ (m : Node). m.parent) (λ (m : Node). name_said m.name) (λ (m : Node). m.stands) nodes n children found' w puts number here);
+        opened = item_of_put children found' n.parent (name_said n.name) w puts;
         count = refl;
         place = refl;
         value = refl;
@@ -68,7 +69,7 @@ module _ (properties : List Property) (places : List (Key × Last)) (givings : L
       → OpensChild (shape_of nodes children properties places givings labels) (shape_of nodes found' properties places givings labels) i x w.item
   opens_child nodes children found' i x w puts there = record {
     size = refl;
-    child = found-kept (nodes_listed nodes children) (nodes_listed nodes found') (listed-again (λ (m : Node). m.parent) (λ (m : Node). m.name.now) (λ (m : Node). m.stands) nodes children found' i x w puts there);
+    child = found-kept (nodes_listed nodes children) (nodes_listed nodes found') (listed-again (λ (m : Node). m.parent) (λ (m : Node). name_said m.name) (λ (m : Node). m.stands) nodes children found' i x w puts there);
     opened = item_of_put children found' i x w puts;
     count = refl;
     place = refl;
@@ -80,7 +81,7 @@ module _ (properties : List Property) (places : List (Key × Last)) (givings : L
 
   -- a node that stands doesn't any more
   pub cuts : (nodes : List Node) (children : List (Key × Last)) (k : ℕ) (n m : Node) → HasNodes nodes children → 0 < k → slice_get nodes k ≡ Some n → n.stands ≡ true
-      → m.parent ≡ n.parent → m.name.now ≡ n.name.now → m.stands ≡ false
+      → m.parent ≡ n.parent → name_said m.name ≡ name_said n.name → m.stands ≡ false
       → Cuts (shape_of nodes children properties places givings labels) (shape_of (slice_set nodes k m) children properties places givings labels)
       ((nodes_listed nodes children).owner k) ((nodes_listed nodes children).name k)
   cuts nodes children k n m h from there stands parent name fell =
@@ -88,7 +89,7 @@ module _ (properties : List Property) (places : List (Key × Last)) (givings : L
       let inside : k < length nodes = slice_get_within nodes k n there in
       let stood : l.stands k ≡ true = ap (λ (o : Option Node). option_map_or (λ n. n.stands) o false) there ∙ stands in
       let fewer = found-dropped 1 l (nodes_listed (slice_set nodes k m) children) k h.indexed inside (h.indexed.complete k (omega arith) inside stood)
-      (listed-drop (λ (m : Node). m.parent) (λ (m : Node). m.name.now) (λ (m : Node). m.stands) nodes k n m children there parent name fell) in
+      (listed-drop (λ (m : Node). m.parent) (λ (m : Node). name_said m.name) (λ (m : Node). m.stands) nodes k n m children there parent name fell) in
       record {
         size = length-set nodes k m;
         child = fewer;

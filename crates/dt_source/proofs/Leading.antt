@@ -4,7 +4,7 @@ use Rattle.std.specs.Option.{option_and_then, option_map_or}
 use Rattle.std.proofs.lemmas.Option.{option_and_then_some, slice_get_within}
 use Rattle.dt_model.specs.Event.{Stack}
 use Rattle.dt_source.specs.Shape.{node_at}
-use Rattle.dt_source.specs.Grown.{Leads}
+use Rattle.dt_source.specs.Grown.{name_said, Leads}
 use Rattle.dt_source.specs.Growing.{found, nodes_listed, shape, IsSound}
 use Rattle.dt_source.specs.declared.growing.Node.{Node}
 use Rattle.dt_source.specs.declared.growing.Growing.{Growing}
@@ -14,15 +14,15 @@ use Rattle.dt_source.proofs.Walks.{root_is, root_there}
 
 -- a node that stands is found as the child of its parent
 pub found_there : (g : Growing) → IsSound g → (k : ℕ) (n : Node) → slice_get g.nodes.items k ≡ Some n → 0 < k → n.stands ≡ true
-    → found (nodes_listed g.nodes.items g.children.map.entries) n.parent n.name.now ≡ Some k
+    → found (nodes_listed g.nodes.items g.children.map.entries) n.parent (name_said n.name) ≡ Some k
 found_there g h k n at from stands =
     let l = nodes_listed g.nodes.items g.children.map.entries in
     let owner : l.owner k ≡ n.parent = ap (λ (o : Option Node). option_map_or (λ n. n.parent) o 0) at in
-    let named : l.name k ≡ n.name.now = ap (λ (o : Option Node). option_map_or (λ n. n.name.now) o []) at in
+    let named : l.name k ≡ name_said n.name = ap (λ (o : Option Node). option_map_or (λ n. name_said n.name) o []) at in
     let stood : l.stands k ≡ true = ap (λ (o : Option Node). option_map_or (λ n. n.stands) o false) at ∙ stands in
     let last : l.last (l.owner k) (l.name k) ≡ Some k = h.nodes.indexed.complete k (omega arith) (slice_get_within g.nodes.items k n at) stood in
-    let here : l.last n.parent n.name.now ≡ Some k = rw (owner, named) at last in
-    found_stands l n.parent n.name.now k here stood
+    let here : l.last n.parent (name_said n.name) ≡ Some k = rw (owner, named) at last in
+    found_stands l n.parent (name_said n.name) k here stood
 
 pub leads_to : (g : Growing) → IsSound g → (p : Stack) (k : ℕ) → Leads g.nodes.items p k → node_at (shape g) p ≡ Some k
 leads_to g h [] k l = root_there (length g.nodes.items) l.1 ∙ ap Some (sym l.0)
@@ -59,5 +59,5 @@ leads_above g k n at other (x ∷ r) l =
 
 -- and the names that lead on to it
 pub leads_below : (g : Growing) (k : ℕ) (n : Node) → slice_get g.nodes.items k ≡ Some n → 0 < k → n.stands ≡ true → (p : Stack) → Leads g.nodes.items p n.parent
-    → Leads g.nodes.items (n.name.now ∷ p) k
+    → Leads g.nodes.items (name_said n.name ∷ p) k
 leads_below g k n at from stands p l = (n, at, from, refl, stands, l)

@@ -36,3 +36,6 @@ pub mod Targets
 pub mod Ending
 pub mod BuiltTrees
 pub mod Outcomes
+pub mod NewFragments
+pub mod OverlaySteps
+pub mod ArenaSteps

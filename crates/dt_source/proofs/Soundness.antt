@@ -8,6 +8,7 @@ use Rattle.dt_model.specs.Names.{Name}
 use Rattle.dt_model.specs.Event.{Stack}
 use Rattle.dt_model.specs.Source.{Part}
 use Rattle.dt_model.proofs.EventSteps.{bytes_eq-is, bytes_eq-refl}
+use Rattle.dt_source.specs.Grown.{name_said}
 use Rattle.dt_source.specs.Table.{Key, Puts, name_entry, PutsName}
 use Rattle.dt_source.specs.Shape.{Shape, node_at, given_at, IsForest}
 use Rattle.dt_source.specs.Growing.{found, nodes_listed, properties_listed, HasNodes, HasProperties, HasLabels, to_node, given_to, shape, IsSound}
@@ -64,7 +65,7 @@ pub record IsChild (nodes : List Node) (i : ℕ) (x : Name) (j : ℕ) : Type 0 w
   pub node : Node
   pub there : slice_get nodes j ≡ Some node
   pub parent : node.parent ≡ i
-  pub name : node.name.now ≡ x
+  pub name : name_said node.name ≡ x
   pub stands : node.stands ≡ true
   pub below : i < j
   pub inside : j < length nodes
@@ -79,7 +80,7 @@ is_child nodes entries h i x j e =
       node = n.0;
       there = n.1;
       parent = parent;
-      name = sym (ap (λ (o : Option Node). option_map_or (λ n. n.name.now) o []) n.1) ∙ g.3;
+      name = sym (ap (λ (o : Option Node). option_map_or (λ n. name_said n.name) o []) n.1) ∙ g.3;
       stands = sym (ap (λ (o : Option Node). option_map_or (λ n. n.stands) o false) n.1) ∙ f.1;
       below = rw (← parent) (h.above j n.0 (omega (arith, g.0)) n.1);
       inside = g.1;
@@ -104,22 +105,22 @@ root-pushed nodes new n entries h none e =
     subst (λ xs. HasNodes xs entries) (sym (e ∙ ap (λ xs. xs ++ n ∷ []) empty)) (root-made n entries (subst (λ xs. HasNodes xs entries) empty h))
 
 pub child-added : (nodes : List Node) (n : Node) (old new : List (Key × Last)) (w : Last) → HasNodes nodes old → n.parent < length nodes
-    → found (nodes_listed nodes old) n.parent n.name.now ≡ None → Puts old new n.parent n.name.now w → w.number ≡ length nodes → n.stands ≡ true → HasNodes (nodes ++ n ∷ []) new
+    → found (nodes_listed nodes old) n.parent (name_said n.name) ≡ None → Puts old new n.parent (name_said n.name) w → w.number ≡ length nodes → n.stands ≡ true → HasNodes (nodes ++ n ∷ []) new
 child-added nodes n old new w h inside none puts number here = record {
-  indexed = indexed-added 1 (nodes_listed nodes old) (nodes_listed (nodes ++ n ∷ []) new) n.parent n.name.now (omega arith) h.indexed none
-      (listed-push (λ (m : Node). m.parent) (λ (m : Node). m.name.now) (λ (m : Node). m.stands) nodes n old new w puts number here);
+  indexed = indexed-added 1 (nodes_listed nodes old) (nodes_listed (nodes ++ n ∷ []) new) n.parent (name_said n.name) (omega arith) h.indexed none
+      (listed-push (λ (m : Node). m.parent) (λ (m : Node). name_said m.name) (λ (m : Node). m.stands) nodes n old new w puts number here);
   above = λ k m from there. pushed_cases nodes n k m _ there (λ b e. h.above k m from e) (λ e s. rw (e, ← s) inside);
 }
 
 pub nodes-pushed : (nodes more : List Node) (n : Node) (old new : List (Key × Last)) (w : Last) → HasNodes nodes old → more ≡ nodes ++ n ∷ [] → n.parent < length nodes
-    → found (nodes_listed nodes old) n.parent n.name.now ≡ None → Puts old new n.parent n.name.now w → w.number ≡ length nodes → n.stands ≡ true → HasNodes more new
+    → found (nodes_listed nodes old) n.parent (name_said n.name) ≡ None → Puts old new n.parent (name_said n.name) w → w.number ≡ length nodes → n.stands ≡ true → HasNodes more new
 nodes-pushed nodes more n old new w h e inside none puts number here = subst (λ xs. HasNodes xs new) (sym e) (child-added nodes n old new w h inside none puts number here)
 
-pub node-fallen : (nodes : List Node) (k : ℕ) (n m : Node) (entries : List (Key × Last)) → HasNodes nodes entries → slice_get nodes k ≡ Some n → m.parent ≡ n.parent → m.name.now ≡ n.name.now → m.stands ≡ false
+pub node-fallen : (nodes : List Node) (k : ℕ) (n m : Node) (entries : List (Key × Last)) → HasNodes nodes entries → slice_get nodes k ≡ Some n → m.parent ≡ n.parent → name_said m.name ≡ name_said n.name → m.stands ≡ false
     → HasNodes (slice_set nodes k m) entries
 node-fallen nodes k n m entries h there parent name fell = record {
   indexed = indexed-dropped 1 (nodes_listed nodes entries) (nodes_listed (slice_set nodes k m) entries) k h.indexed
-      (listed-drop (λ (m : Node). m.parent) (λ (m : Node). m.name.now) (λ (m : Node). m.stands) nodes k n m entries there parent name fell);
+      (listed-drop (λ (m : Node). m.parent) (λ (m : Node). name_said m.name) (λ (m : Node). m.stands) nodes k n m entries there parent name fell);
   above = λ j o from at. set_cases nodes k m j o _ at (λ e. h.above j o from e)
       (λ e b s. rw (← s, parent) (h.above j n from (subst (λ i. slice_get nodes i ≡ Some n) e there)));
 }
@@ -127,7 +128,7 @@ node-fallen nodes k n m entries h there parent name fell = record {
 pub child-again : (nodes : List Node) (old new : List (Key × Last)) (i : ℕ) (x : Name) (w : Last) → HasNodes nodes old → Puts old new i x w → found (nodes_listed nodes old) i x ≡ Some w.number → HasNodes nodes new
 child-again nodes old new i x w h puts there = record {
   indexed = indexed-kept 1 (nodes_listed nodes old) (nodes_listed nodes new) h.indexed
-      (listed-again (λ (m : Node). m.parent) (λ (m : Node). m.name.now) (λ (m : Node). m.stands) nodes old new i x w puts there);
+      (listed-again (λ (m : Node). m.parent) (λ (m : Node). name_said m.name) (λ (m : Node). m.stands) nodes old new i x w puts there);
   above = h.above;
 }
 
@@ -305,7 +306,7 @@ forest g h = record {
       let d = is_child g.nodes.items g.children.map.entries h.nodes k y j e' in
       let same : Some c.node ≡ Some d.node = sym c.there ∙ d.there in
       let cd : c.node ≡ d.node = cc in
-      (sym c.parent ∙ ap (λ (n : Node). n.parent) cd ∙ d.parent, sym c.name ∙ ap (λ (n : Node). n.name.now) cd ∙ d.name);
+      (sym c.parent ∙ ap (λ (n : Node). n.parent) cd ∙ d.parent, sym c.name ∙ ap (λ (n : Node). name_said n.name) cd ∙ d.name);
   placed = λ i n k e.
       let c = is_property (length g.nodes.items) g.properties.items g.places.map.entries h.properties i n k e in
       (rw (← c.node) (h.properties.owned k c.property c.there), slice_get_within g.properties.items k c.property c.there);

@@ -5,7 +5,7 @@ use Rattle.dt_model.specs.Names.{Name}
 use Rattle.dt_model.specs.Event.{Stack}
 use Rattle.dt_model.specs.Source.{Mode, SoFar, Reference, read, block, delete_node, misplaced}
 use Rattle.dt_source.specs.Shape.{node_at}
-use Rattle.dt_source.specs.Grown.{Leads, IsGrown}
+use Rattle.dt_source.specs.Grown.{name_said, Leads, IsGrown}
 use Rattle.dt_source.specs.Growing.{nodes_listed, shape, IsSound}
 use Rattle.dt_source.specs.declared.growing.Node.{Node}
 use Rattle.dt_source.specs.declared.growing.Growing.{Growing}
@@ -50,6 +50,6 @@ standing g h (x ∷ p) k l other = record {
   rest = p;
   is = refl;
   parent = leads_to g h p l.0.parent l.5 ∙ ap Some (sym (ap (λ (o : Option Node). option_map_or (λ n. n.parent) o 0) l.1));
-  named = ap (λ (o : Option Node). option_map_or (λ n. n.name.now) o []) l.1 ∙ l.3;
+  named = ap (λ (o : Option Node). option_map_or (λ n. name_said n.name) o []) l.1 ∙ l.3;
   stands = ap (λ (o : Option Node). option_map_or (λ n. n.stands) o false) l.1 ∙ l.4;
 }

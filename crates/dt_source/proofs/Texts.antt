@@ -8,7 +8,7 @@ use Rattle.dt_model.specs.Names.{Name}
 use Rattle.dt_model.specs.Path.{Path, path_text}
 use Rattle.dt_model.specs.Event.{Stack}
 use Rattle.dt_source.specs.declared.growing.Node.{Node}
-use Rattle.dt_source.specs.Grown.{Leads}
+use Rattle.dt_source.specs.Grown.{name_said, Leads}
 use Rattle.dt_source.specs.Contents.{names_text}
 use Rattle.dt_source.proofs.ChildrenLed.{leads_within}
 
@@ -52,15 +52,15 @@ names_past nodes text k past p h = let near = leads_within nodes p k h in absurd
 
 -- the name behind those above it
 pub names_more : (nodes : List Node) (text above out : List ℕ) (k : ℕ) (n : Node) → 0 < k → slice_get nodes k ≡ Some n →
-    ((q : Stack) → Leads nodes q n.parent → above ≡ text ++ names_text q) → out ≡ above ++ 47 ∷ n.name.now → (p : Stack) → Leads nodes p k → out ≡ text ++ names_text p
+    ((q : Stack) → Leads nodes q n.parent → above ≡ text ++ names_text q) → out ≡ above ++ 47 ∷ name_said n.name → (p : Stack) → Leads nodes p k → out ≡ text ++ names_text p
 names_more nodes text above out k n below there before e [] h = let root : k ≡ 0 = h.0 in absurd (omega arith)
 names_more nodes text above out k n below there before e (x ∷ p) h =
     let m = h.0 in
     let at = h.1 in
     let same : m ≡ n = cc in
     let led : Leads nodes p n.parent = subst (λ (l : Node). Leads nodes p l.parent) same h.5 in
-    let name : n.name.now ≡ x = ap (λ (l : Node). l.name.now) (sym same) ∙ h.3 in
-    e ∙ (ap (λ (t : List ℕ). t ++ 47 ∷ n.name.now) (before p led) ∙ (ap (λ (y : Name). (text ++ names_text p) ++ 47 ∷ y) name ∙ append_assoc text (names_text p) (47 ∷ x)))
+    let name : name_said n.name ≡ x = ap (λ (l : Node). name_said l.name) (sym same) ∙ h.3 in
+    e ∙ (ap (λ (t : List ℕ). t ++ 47 ∷ name_said n.name) (before p led) ∙ (ap (λ (y : Name). (text ++ names_text p) ++ 47 ∷ y) name ∙ append_assoc text (names_text p) (47 ∷ x)))
 
 -- the root's path
 pub root_text : (nodes : List Node) (text out : List ℕ) (k : ℕ) → k ≡ 0 → out ≡ text ++ 47 ∷ [] → (p : Stack) → Leads nodes p k → out ≡ text ++ path_text (reverse p)

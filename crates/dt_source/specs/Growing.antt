@@ -7,7 +7,7 @@ use Rattle.dt_model.specs.Names.{Name}
 use Rattle.dt_model.specs.Event.{Stack}
 use Rattle.dt_model.specs.Source.{Part}
 use Rattle.dt_parse.specs.Said.{value_said}
-use Rattle.dt_source.specs.Grown.{AreAbove}
+use Rattle.dt_source.specs.Grown.{AreAbove, name_said}
 use Rattle.dt_source.specs.Shape.{Shape, node_at}
 use Rattle.dt_source.specs.Table.{Key, entry, name_entry}
 use Rattle.dt_source.specs.declared.table.Last.{Last}
@@ -79,7 +79,7 @@ listed owner name stands xs entries = record {
 }
 
 abbrev pub nodes_listed : List Node → List (Key × Last) → Listing
-nodes_listed nodes entries = listed (λ n. n.parent) (λ n. n.name.now) (λ n. n.stands) nodes entries
+nodes_listed nodes entries = listed (λ n. n.parent) (λ n. name_said n.name) (λ n. n.stands) nodes entries
 
 abbrev pub properties_listed : List Property → List (Key × Last) → Listing
 properties_listed properties entries = listed (λ q. q.node) (λ q. q.name.now) (λ q. q.stands) properties entries

@@ -5,6 +5,8 @@ use Rattle.dt_model.specs.Names.{Name}
 use Rattle.dt_model.specs.Event.{Stack, stands, value_at, names, age, property_age, label_age}
 use Rattle.dt_model.specs.Source.{Part, Events}
 use Rattle.dt_parse.specs.Said.{value_said}
+use Rattle.dt_source.specs.declared.growing.NameText.{NameText}
+use Rattle.dt_source.specs.declared.growing.NameText.TheVariants.{Written, Made}
 use Rattle.dt_source.specs.declared.growing.Node.{Node}
 use Rattle.dt_source.specs.declared.growing.Property.{Property}
 use Rattle.dt_source.specs.declared.growing.Giving.{Giving}
@@ -13,11 +15,15 @@ use Rattle.dt_source.specs.declared.growing.Giving.{Giving}
 abbrev pub AreAbove : List Node → Type 0
 AreAbove nodes = (k : ℕ) (n : Node) → 0 < k → slice_get nodes k ≡ Some n → n.parent < k
 
+abbrev pub name_said : NameText → Name
+name_said (Written x) = x.now
+name_said (Made x) = x.now
+
 -- node k stands under these names
 abbrev pub Leads : List Node → Stack → ℕ → Type 0
 Leads nodes [] k = (k ≡ 0) × (0 < length nodes)
 Leads nodes (x ∷ p) k =
-    (n : Node) × (slice_get nodes k ≡ Some n) × (0 < k) × (n.name.now ≡ x) × (n.stands ≡ true) × Leads nodes p n.parent
+    (n : Node) × (slice_get nodes k ≡ Some n) × (0 < k) × (name_said n.name ≡ x) × (n.stands ≡ true) × Leads nodes p n.parent
 
 -- entry i is the property of this name and value of the node that stands under these names
 pub record HasValue (nodes : List Node) (properties : List Property) (p : Stack) (x : Name) (v : List Part) (i : ℕ) : Type 0 where

@@ -12,3 +12,5 @@ pub mod Resolving
 pub mod Phandles
 pub mod Nodes
 pub mod Building
+pub mod OverlayReading
+pub mod Arena

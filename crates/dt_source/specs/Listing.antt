@@ -6,6 +6,7 @@ use Rattle.dt_model.specs.Names.{Name}
 use Rattle.dt_model.specs.Named.{NodeReference, Content, NamedForest, no_nodes, branch, Named, Listed}
 use Rattle.dt_source.specs.declared.growing.Node.{Node}
 use Rattle.dt_source.specs.declared.listing.Row.{Row}
+use Rattle.dt_source.specs.Grown.{name_said}
 use Rattle.dt_source.specs.Owned.{AreOwned}
 
 -- ---- nodes by their numbers
@@ -22,7 +23,7 @@ parents_of (root ∷ ns) = None ∷ map parent_of ns
 -- the name of node k; the root has none
 abbrev pub name_of : List Node → ℕ → Name
 name_of nodes zero = []
-name_of nodes (suc k) = option_map_or (λ (n : Node). n.name.now) (slice_get nodes (suc k)) []
+name_of nodes (suc k) = option_map_or (λ (n : Node). name_said n.name) (slice_get nodes (suc k)) []
 
 -- ---- rows
 

@@ -1,8 +1,8 @@
 -- What listing the nodes of a tree under construction gives, and why they aren't listed.
-use Rattle.std.specs.Prelude.{◌≡◌, ℕ, true, List, [], Option, None, ◌⊎◌}
-use Rattle.dt_model.specs.Event.{stands}
+use Rattle.std.specs.Prelude.{◌≡◌, ℕ, true, List, [], Option, None, Some, ◌⊎◌}
+use Rattle.dt_model.specs.Event.{Stack, stands, value_at}
 use Rattle.dt_model.specs.Lists.{IsIn}
-use Rattle.dt_model.specs.Source.{Events, IsResolved, unresolved, bad_phandle, duplicate_phandle, IsLateRefusal}
+use Rattle.dt_model.specs.Source.{Part, Events, IsResolved, unresolved, bad_phandle, duplicate_phandle, IsLateRefusal}
 use Rattle.dt_model.specs.Names.{Name}
 use Rattle.dt_model.specs.Path.{Path}
 use Rattle.dt_model.specs.Meaning.{Item}
@@ -16,7 +16,9 @@ use Rattle.dt_source.specs.declared.growing.Growing.{Growing}
 use Rattle.dt_source.specs.declared.contents.Belongings.{Belongings}
 use Rattle.dt_source.specs.declared.listing.Row.{Row}
 use Rattle.dt_source.specs.Owned.{group_of}
-use Rattle.dt_source.specs.declared.referring.Unnamed.TheVariants.{Refused}
+use Rattle.dt_source.specs.Contents.{AreLabelled, all_read, read_values}
+use Rattle.dt_source.specs.declared.referring.Unnamed.{Unnamed}
+use Rattle.dt_source.specs.declared.referring.Unnamed.TheVariants.{Refused, Kept}
 use Rattle.dt_source.specs.Resolving.{EachEvents, EachNaming, AreRead, AreRowsRead, IsUnreadRow}
 use Rattle.dt_source.specs.Phandles.{AreWritten, AreOwn, WhyNotNumbered}
 
@@ -62,3 +64,16 @@ AreListed g ns = EachEvents g (λ es. stands es [] ≡ true → AreNodesAfter es
 
 abbrev pub IsUnlisted : Growing → Fault → Type 0
 IsUnlisted g e = (e.at ≡ None) × EachEvents g (λ es. stands es [] ≡ true → WhyNotAfter es e.kind)
+
+-- ---- of an overlay
+
+-- a value that stands isn't read
+abbrev pub HasUnread : Unnamed → Events → Type 0
+HasUnread unnamed es = (p : Stack) × (x : Name) × (v : List Part) × (value_at es p x ≡ Some v) × (all_read unnamed es v ≡ None)
+
+-- the nodes are those of the tree in which labels are kept, where it has a root
+abbrev pub AreKept : Growing → List (Listed NodeReference) → Type 0
+AreKept g ns = EachEvents g (λ es. stands es [] ≡ true → AreLabelled Kept es → AreNodesBy es (read_values Kept es) ns)
+
+abbrev pub IsUnkept : Growing → Fault → Type 0
+IsUnkept g e = (e.at ≡ None) × EachEvents g (λ es. stands es [] ≡ true → (e.kind ≡ fault.NoMemory) ⊎ HasUnread Kept es)

@@ -53,7 +53,12 @@ abbrev pub GoesOn : Result SoFar Refusal → Reading → ℕ → Type 0
 GoesOn (Ok so_far) r items = Holds r items so_far
 GoesOn (Err refusal) r items = ⊥
 
--- the reading does with the item of this number what the definition does with what it says
+-- the reading does with the item of this number what a step of the definition does
+abbrev pub Does : (SoFar → Result SoFar Refusal) → Reading → Reading → ℕ → Result (Unit {0}) Fault → Type 0
+Does step old new item result =
+    (so_far : SoFar) → Holds old item so_far → MatchResult result (λ _. GoesOn (step so_far) new (item + 1)) (Tells (step so_far))
+
+-- what the definition does with what the item says
 abbrev pub Follows : Mode → Reading → Reading → ℕ → Place → Result (Unit {0}) Fault → Type 0
 Follows mode old new item place result =
     (so_far : SoFar) → Holds old item so_far → MatchResult result (λ _. GoesOn (read mode so_far place) new (item + 1)) (Tells (read mode so_far place))

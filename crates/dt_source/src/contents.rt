@@ -1,7 +1,9 @@
 //! What the nodes of a named tree have: names, labels and properties.
 
 ghost use Rattle.std.specs.Prelude.{◌≡◌, ℕ, ◌<◌, ◌∷◌, [], length, map, IfOk, MatchResult};
+ghost use Rattle.std.specs.Cow.{cow_slice_items};
 ghost use Rattle.dt_model.specs.Lists.{IsIn};
+ghost use Rattle.dt_source.specs.Grown.{name_said};
 ghost use Rattle.dt_source.specs.Said.{property_said, node_said};
 ghost use Rattle.dt_source.specs.Growing.{IsSound};
 ghost use Rattle.dt_source.specs.Owned.{group_of, AreOwned};
@@ -10,7 +12,7 @@ ghost use Rattle.dt_source.specs.Contents.{property_owner, label_owner, label_at
 ghost use Rattle.dt_source.specs.Resolving.{EachNaming, IsUnreadAmong, IsPropertyRead, ArePropertiesRead, IsRowRead, AreRowsRead, IsUnreadRow, Belong};
 
 use crate::groups::Groups;
-use crate::growing::{Giving, Growing, Node, Property};
+use crate::growing::{Giving, Growing, NameText, Node, Property};
 use crate::listing::{Row, numbers};
 use crate::named::{NamedNode, NamedProperty};
 use crate::referring::Unnamed;
@@ -96,16 +98,30 @@ impl Belongings {
     }
 }
 
+/// A name as a named tree has it.
+fn kept_name<'a>(alloc: Global, name: NameText<'_, 'a>) -> Result<CowSlice<'a, u8>, AllocError>
+    ensures { IfOk result (λ text. cow_slice_items text ≡ name_said name.entry) }
+{
+    match name {
+        NameText::Written(name) => Ok(CowSlice::Borrowed(name)),
+        NameText::Made(name) => Ok(CowSlice::Owned(name.to_vec(alloc)?)),
+    }
+}
+
 /// The name of a node; the root has none.
-fn name_at<'a>(nodes: &[Node<'a>], node: usize) -> &'a [u8]
-    ensures { result.now ≡ name_of nodes.now node }
+fn name_at<'a>(
+    alloc: Global,
+    nodes: &[Node<'_, 'a>],
+    node: usize,
+) -> Result<CowSlice<'a, u8>, AllocError>
+    ensures { IfOk result (λ text. cow_slice_items text ≡ name_of nodes.now node) }
 {
     if node == 0 {
-        return b"";
+        return Ok(CowSlice::Borrowed(b""));
     }
     match nodes.get(node) {
-        Some(node) => node.name,
-        None => b"",
+        Some(node) => kept_name(alloc, node.name),
+        None => Ok(CowSlice::Borrowed(b"")),
     }
 }
 
@@ -212,12 +228,13 @@ fn named_node<'a>(
         (λ node. EachNaming growing.now belongings.now.numbers.items (λ es number. IsRowRead unnamed es number growing.now belongings.now row (node_said node)))
         (λ fault. IsUnreadAmong unnamed growing.now (group_of belongings.now.properties row.node) fault) }
 {
+    let name = name_at(alloc, &growing.nodes, row.node)?;
     let labels = labels_at(alloc, &growing.givings, belongings.labels.of(row.node))?;
     let places = belongings.properties.of(row.node);
     let properties = properties_at(alloc, growing, &belongings.numbers, unnamed, places)?;
     Ok(NamedNode {
         parent: row.parent,
-        name: CowSlice::Borrowed(name_at(&growing.nodes, row.node)),
+        name,
         labels,
         properties,
     })

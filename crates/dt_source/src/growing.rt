@@ -4,17 +4,36 @@ ghost use Rattle.std.specs.Prelude.{◌≡◌, ◌<◌, ◌⊎◌, [], true, len
 ghost use Rattle.dt_model.specs.Event.{Stack};
 ghost use Rattle.dt_parse.specs.Said.{value_said};
 ghost use Rattle.dt_source.specs.Shape.{given_at, MakesRoot, AddsChild, OpensChild, Cuts, Defines, Undefines, Gives};
+ghost use Rattle.dt_source.specs.Grown.{name_said};
 ghost use Rattle.dt_source.specs.Growing.{shape, nodes_listed, properties_listed, IsSound};
 
 use crate::table::{Last, NameTable, Table};
 use dt_parse::Value;
 use std::alloc::{AllocError, Global};
 
+/// The name of a node: as it is written in the text, or made for a new fragment.
+#[derive(Clone, Copy)]
+pub enum NameText<'s, 'a> {
+    Written(&'a [u8]),
+    Made(&'s [u8]),
+}
+
+impl<'s, 'a: 's> NameText<'s, 'a> {
+    pub fn bytes(self) -> &'s [u8]
+        ensures { result.now ≡ name_said self.entry }
+    {
+        match self {
+            NameText::Written(name) => name,
+            NameText::Made(name) => name,
+        }
+    }
+}
+
 /// A node. It stands where neither it nor a node above it was deleted.
 #[derive(Drop)]
-pub struct Node<'a> {
+pub struct Node<'s, 'a> {
     pub parent: usize,
-    pub name: &'a [u8],
+    pub name: NameText<'s, 'a>,
     /// Whether it wasn't deleted by itself.
     pub stands: bool,
 }
@@ -40,10 +59,10 @@ pub struct Giving<'a> {
 /// name, a property by its node and its name, a label by its bytes; nothing is walked but a path.
 #[derive(Drop)]
 pub(crate) struct Growing<'s, 'a> {
-    pub nodes: Vec<Node<'a>>,
+    pub nodes: Vec<Node<'s, 'a>>,
     pub properties: Vec<Property<'s, 'a>>,
     pub givings: Vec<Giving<'a>>,
-    pub children: Table<'a>,
+    pub children: Table<'s>,
     pub places: Table<'a>,
     pub labels: NameTable<'a>,
 }
@@ -124,7 +143,7 @@ impl<'s, 'a> Growing<'s, 'a> {
     {
         self.nodes.push(Node {
             parent: 0,
-            name: b"",
+            name: NameText::Written(b""),
             stands: true,
         })?;
         Ok(())
@@ -144,12 +163,17 @@ impl<'s, 'a> Growing<'s, 'a> {
         }
     }
 
-    fn add_child(&mut self, parent: usize, name: &'a [u8], item: usize) -> Result<usize, AllocError>
+    fn add_child(
+        &mut self,
+        parent: usize,
+        name: NameText<'s, 'a>,
+        item: usize,
+    ) -> Result<usize, AllocError>
         requires sound { IsSound self.old }
         requires inside { parent < length self.old.nodes.items }
-        requires absent { (shape self.old).child parent name.now ≡ None }
+        requires absent { (shape self.old).child parent (name_said name) ≡ None }
         ensures number { IfOk result (λ node. node ≡ length self.old.nodes.items) }
-        ensures added { OnOk result (AddsChild (shape self.old) (shape self.new) parent name.now item) }
+        ensures added { OnOk result (AddsChild (shape self.old) (shape self.new) parent (name_said name.entry) item) }
         ensures sound { OnOk result (IsSound self.new) }
     {
         let number = self.nodes.len();
@@ -158,25 +182,26 @@ impl<'s, 'a> Growing<'s, 'a> {
             name,
             stands: true,
         })?;
-        self.children.put(parent, name, Last { number, item })?;
+        self.children
+            .put(parent, name.bytes(), Last { number, item })?;
         Ok(number)
     }
 
     fn open_again(
         &mut self,
         parent: usize,
-        name: &'a [u8],
+        name: NameText<'s, 'a>,
         node: usize,
         item: usize,
     ) -> Result<usize, AllocError>
         requires sound { IsSound self.old }
-        requires there { (shape self.old).child parent name.now ≡ Some node }
+        requires there { (shape self.old).child parent (name_said name) ≡ Some node }
         ensures number { IfOk result (λ n. n ≡ node) }
-        ensures opened { OnOk result (OpensChild (shape self.old) (shape self.new) parent name.now item) }
+        ensures opened { OnOk result (OpensChild (shape self.old) (shape self.new) parent (name_said name.entry) item) }
         ensures sound { OnOk result (IsSound self.new) }
     {
         self.children
-            .put(parent, name, Last { number: node, item })?;
+            .put(parent, name.bytes(), Last { number: node, item })?;
         Ok(node)
     }
 
@@ -184,19 +209,19 @@ impl<'s, 'a> Growing<'s, 'a> {
     pub fn open_child(
         &mut self,
         parent: usize,
-        name: &'a [u8],
+        name: NameText<'s, 'a>,
         item: usize,
     ) -> Result<usize, AllocError>
         requires sound { IsSound self.old }
         requires inside { parent < length self.old.nodes.items }
         ensures opened { IfOk result (λ node.
-            (((shape self.old).child parent name.now ≡ None) × AddsChild (shape self.old) (shape self.new) parent name.now item
+            (((shape self.old).child parent (name_said name.entry) ≡ None) × AddsChild (shape self.old) (shape self.new) parent (name_said name.entry) item
             × (node ≡ length self.old.nodes.items))
-            ⊎ (((shape self.old).child parent name.now ≡ Some node)
-            × OpensChild (shape self.old) (shape self.new) parent name.now item)) }
+            ⊎ (((shape self.old).child parent (name_said name.entry) ≡ Some node)
+            × OpensChild (shape self.old) (shape self.new) parent (name_said name.entry) item)) }
         ensures sound { OnOk result (IsSound self.new) }
     {
-        match self.child(parent, name) {
+        match self.child(parent, name.bytes()) {
             Some(node) => self.open_again(parent, name, node, item),
             None => self.add_child(parent, name, item),
         }

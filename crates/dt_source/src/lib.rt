@@ -2,6 +2,7 @@
 //! (Devicetree Specification v0.4, chapter 6).
 #![tactic(auto)]
 
+mod arena;
 mod building;
 mod contents;
 mod groups;
@@ -10,6 +11,7 @@ mod laws;
 mod listing;
 mod named;
 mod nodes;
+mod overlaying;
 mod phandles;
 mod reading;
 mod referring;

@@ -45,7 +45,7 @@ fn add(rows: &mut Vec<Row>, children: &Groups, row: Row, depth: usize) -> Result
 }
 
 /// The node to which each node belongs as a child; none for the root, and for those that were deleted.
-fn parents(alloc: Global, nodes: &[Node<'_>]) -> Result<Vec<Option<usize>>, AllocError>
+fn parents(alloc: Global, nodes: &[Node<'_, '_>]) -> Result<Vec<Option<usize>>, AllocError>
     ensures { IfOk result (λ v. v.items ≡ parents_of nodes.now) }
 {
     let mut parents = Vec::with_capacity(alloc, nodes.len())?;
@@ -61,7 +61,7 @@ fn parents(alloc: Global, nodes: &[Node<'_>]) -> Result<Vec<Option<usize>>, Allo
 }
 
 /// The children of each node that weren't deleted.
-fn children(alloc: Global, nodes: &[Node<'_>]) -> Result<Groups, AllocError>
+fn children(alloc: Global, nodes: &[Node<'_, '_>]) -> Result<Groups, AllocError>
     ensures { IfOk result (λ children. AreOwned (parents_of nodes.now) (length nodes.now) (group_of children)) }
 {
     let parents = parents(alloc, nodes)?;
@@ -79,7 +79,7 @@ fn preorder(alloc: Global, children: &Groups) -> Result<Vec<Row>, AllocError>
 }
 
 /// The nodes that stand in preorder, the root first.
-pub(crate) fn rows(alloc: Global, nodes: &[Node<'_>]) -> Result<Vec<Row>, AllocError>
+pub(crate) fn rows(alloc: Global, nodes: &[Node<'_, '_>]) -> Result<Vec<Row>, AllocError>
     ensures { IfOk result (λ v. AreRows nodes.now v.items) }
 {
     let children = children(alloc, nodes)?;

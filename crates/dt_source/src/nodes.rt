@@ -4,7 +4,7 @@ ghost use Rattle.std.specs.Prelude.{◌≡◌, [], map, MatchResult};
 ghost use Rattle.dt_source.specs.Said.{node_said};
 ghost use Rattle.dt_source.specs.Growing.{IsSound};
 ghost use Rattle.dt_source.specs.Resolving.{Belong};
-ghost use Rattle.dt_source.specs.Nodes.{AreFilled, IsUnfilled, AreListed, IsUnlisted};
+ghost use Rattle.dt_source.specs.Nodes.{AreFilled, IsUnfilled, AreListed, IsUnlisted, AreKept, IsUnkept};
 
 use crate::contents::{Belongings, add_nodes};
 use crate::growing::Growing;
@@ -49,5 +49,29 @@ pub(crate) fn named_nodes<'a>(
     let belongings = Belongings::new(alloc, growing, &rows)?;
     let mut nodes = Vec::with_capacity(alloc, rows.len())?;
     fill(alloc, growing, &belongings, &rows, &mut nodes)?;
+    Ok(nodes)
+}
+
+/// The nodes that stand in an overlay's tree in preorder, each with what it has: a label that names none of them is kept.
+pub(crate) fn overlay_nodes<'a>(
+    alloc: Global,
+    growing: &Growing<'_, 'a>,
+) -> Result<Vec<NamedNode<'a>>, Fault>
+    requires { IsSound growing.now }
+    ensures { MatchResult result
+        (λ nodes. AreKept growing.now (map node_said nodes.items))
+        (λ fault. IsUnkept growing.now fault) }
+{
+    let rows = rows(alloc, &growing.nodes)?;
+    let belongings = Belongings::new(alloc, growing, &rows)?;
+    let mut nodes = Vec::new(alloc);
+    add_nodes(
+        alloc,
+        growing,
+        &belongings,
+        Unnamed::Kept,
+        &rows,
+        &mut nodes,
+    )?;
     Ok(nodes)
 }

@@ -1,6 +1,6 @@
 //! Reading the items of a source, one after another (Devicetree Specification v0.4, 6.3).
 
-ghost use Rattle.std.specs.Prelude.{◌≡◌, ◌<◌, ◌-◌, ◌++◌, ◌∷◌, [], ℕ, false, Some, None, Ok, IfOk, OnOk, MatchResult, slice_get, length, map};
+ghost use Rattle.std.specs.Prelude.{◌≡◌, ◌<◌, ◌≤◌, ◌-◌, ◌++◌, ◌∷◌, [], ℕ, false, Some, None, Ok, IfOk, OnOk, MatchResult, slice_get, length, map};
 ghost use Rattle.dt_model.specs.Event.{Stack};
 ghost use Rattle.dt_model.specs.Path.{is_bookkeeping_name};
 ghost use Rattle.dt_model.specs.Source.{SoFar, root, block, delete_node, child, property, delete_property, delete_child, close, is_reserved, nothing, read, read_all};
@@ -9,10 +9,11 @@ ghost use Rattle.dt_names.specs.declared.fault.FaultKind.TheVariants.{Syntax};
 ghost use Rattle.dt_parse.specs.Said.{place_said, reference_of, value_said};
 ghost use Rattle.dt_source.specs.Grown.{Leads, IsGrown};
 ghost use Rattle.dt_source.specs.Growing.{IsSound};
-ghost use Rattle.dt_source.specs.Reading.{is_behind, Follows, GoesOn, HasTarget, Holds, IsWhole, MayOpen};
+ghost use Rattle.dt_model.specs.OverlaySource.{open_fragment};
+ghost use Rattle.dt_source.specs.Reading.{is_behind, Does, Follows, GoesOn, HasTarget, Holds, IsWhole, MayOpen};
 ghost use Rattle.dt_source.specs.Refusals.{mode_said, Tells, WhyNotGrown};
 
-use crate::growing::Growing;
+use crate::growing::{Growing, NameText};
 use dt_names::limits::MOST_NAMES;
 use dt_names::{Fault, FaultKind};
 use dt_parse::{Item, Reference, Value};
@@ -80,7 +81,7 @@ fn enter(bodies: &mut Vec<OpenBody>, body: OpenBody) -> Result<(), AllocError>
 }
 
 impl<'s, 'a> Reading<'s, 'a> {
-    fn new(alloc: Global) -> Self
+    pub fn new(alloc: Global) -> Self
         ensures whole { IsWhole result }
         ensures meaning { Holds result 0 nothing }
     {
@@ -117,10 +118,11 @@ impl<'s, 'a> Reading<'s, 'a> {
         }
     }
 
-    fn root(&mut self, item: usize) -> Result<(), Fault>
+    pub fn root(&mut self, item: usize) -> Result<(), Fault>
         requires { IsWhole self.old }
         ensures meaning { (mode : model.Mode) → Follows mode self.old self.new item root result }
         ensures whole { OnOk result (IsWhole self.new) }
+        ensures grown { OnOk result (length self.old.growing.nodes.items ≤ length self.new.growing.nodes.items) }
     {
         self.outside()?;
         self.growing.open_root()?;
@@ -151,10 +153,11 @@ impl<'s, 'a> Reading<'s, 'a> {
         }
     }
 
-    fn block(&mut self, item: usize, reference: &Reference<'a>) -> Result<(), Fault>
+    pub fn block(&mut self, item: usize, reference: &Reference<'a>) -> Result<(), Fault>
         requires { IsWhole self.old }
         ensures meaning { (mode : model.Mode) → Follows mode self.old self.new item (block (reference_of reference.now)) result }
         ensures whole { OnOk result (IsWhole self.new) }
+        ensures grown { OnOk result (length self.old.growing.nodes.items ≤ length self.new.growing.nodes.items) }
     {
         let (node, depth) = self.target(reference)?;
         enter(&mut self.bodies, OpenBody { node, depth, item })?;
@@ -195,22 +198,26 @@ impl<'s, 'a> Reading<'s, 'a> {
         Ok(body)
     }
 
-    fn child(&mut self, mode: Mode, item: usize, name: &'a [u8]) -> Result<(), Fault>
+    pub fn child(&mut self, mode: Mode, item: usize, name: &'a [u8]) -> Result<(), Fault>
         requires { IsWhole self.old }
         ensures meaning { Follows (mode_said mode) self.old self.new item (child name.now) result }
         ensures whole { OnOk result (IsWhole self.new) }
+        ensures grown { OnOk result (length self.old.growing.nodes.items ≤ length self.new.growing.nodes.items) }
     {
         let body = self.parent(mode, name)?;
-        let node = self.growing.open_child(body.node, name, item)?;
+        let node = self
+            .growing
+            .open_child(body.node, NameText::Written(name), item)?;
         let depth = body.depth + 1;
         enter(&mut self.bodies, OpenBody { node, depth, item })?;
         Ok(())
     }
 
-    fn label(&mut self, label: &'a [u8]) -> Result<(), Fault>
+    pub fn label(&mut self, label: &'a [u8]) -> Result<(), Fault>
         requires { IsWhole self.old }
         ensures meaning { (mode : model.Mode) (item : ℕ) → Follows mode self.old self.new item (model.label label.now) result }
         ensures whole { OnOk result (IsWhole self.new) }
+        ensures grown { OnOk result (length self.old.growing.nodes.items ≤ length self.new.growing.nodes.items) }
     {
         let body = self.innermost()?;
         match self.growing.labelled(label) {
@@ -228,10 +235,11 @@ impl<'s, 'a> Reading<'s, 'a> {
         }
     }
 
-    fn define(&mut self, item: usize, name: &'a [u8], value: &'s Value<'a>) -> Result<(), Fault>
+    pub fn define(&mut self, item: usize, name: &'a [u8], value: &'s Value<'a>) -> Result<(), Fault>
         requires { IsWhole self.old }
         ensures meaning { (mode : model.Mode) → Follows mode self.old self.new item (property name.now (value_said value.now)) result }
         ensures whole { OnOk result (IsWhole self.new) }
+        ensures grown { OnOk result (length self.old.growing.nodes.items ≤ length self.new.growing.nodes.items) }
     {
         let body = self.innermost()?;
         if is_later(body.item, self.growing.defined(body.node, name)) {
@@ -261,15 +269,47 @@ impl<'s, 'a> Reading<'s, 'a> {
         Ok(())
     }
 
-    fn close(&mut self) -> Result<(), Fault>
+    pub fn close(&mut self) -> Result<(), Fault>
         requires { IsWhole self.old }
         ensures meaning { (mode : model.Mode) (item : ℕ) → Follows mode self.old self.new item close result }
         ensures whole { OnOk result (IsWhole self.new) }
+        ensures grown { OnOk result (length self.old.growing.nodes.items ≤ length self.new.growing.nodes.items) }
     {
         match self.bodies.pop() {
             Some(_) => Ok(()),
             None => Err(Fault::of(FaultKind::Syntax)),
         }
+    }
+
+    /// Opens a new fragment, with a property that tells its target.
+    pub fn open_fragment(
+        &mut self,
+        item: usize,
+        name: &'s [u8],
+        property: &'a [u8],
+        value: &'s Value<'a>,
+    ) -> Result<(), Fault>
+        requires whole { IsWhole self.old }
+        requires rooted { 0 < length self.old.growing.nodes.items }
+        ensures meaning { Does (λ so_far. model.outside so_far.bodies (Ok (open_fragment name.now property.now (value_said value.now) so_far))) self.old self.new item result }
+        ensures whole { OnOk result (IsWhole self.new) }
+        ensures rooted { OnOk result (0 < length self.new.growing.nodes.items) }
+    {
+        self.outside()?;
+        let fragment = self.growing.open_child(0, NameText::Made(name), item)?;
+        self.growing.define(fragment, property, value, item)?;
+        let content = self
+            .growing
+            .open_child(fragment, NameText::Written(b"__overlay__"), item)?;
+        enter(
+            &mut self.bodies,
+            OpenBody {
+                node: content,
+                depth: 2,
+                item,
+            },
+        )?;
+        Ok(())
     }
 
     /// One more item.

@@ -31,7 +31,7 @@ fn add_name(text: &mut Vec<u8>, name: &[u8]) -> Result<(), AllocError>
 }
 
 /// Adds each name of a node's path with a `/` before it.
-fn add_names(text: &mut Vec<u8>, nodes: &[Node<'_>], node: usize) -> Result<(), AllocError>
+fn add_names(text: &mut Vec<u8>, nodes: &[Node<'_, '_>], node: usize) -> Result<(), AllocError>
     requires { AreAbove nodes.now }
     ensures { OnOk result ((p : Stack) → Leads nodes.now p node → text.new.items ≡ text.old.items ++ names_text p) }
 {
@@ -40,13 +40,13 @@ fn add_names(text: &mut Vec<u8>, nodes: &[Node<'_>], node: usize) -> Result<(), 
     }
     if let Some(found) = nodes.get(node) {
         add_names(text, nodes, found.parent)?;
-        add_name(text, found.name)?;
+        add_name(text, found.name.bytes())?;
     }
     Ok(())
 }
 
 /// Adds the text of a node's path.
-fn add_path(text: &mut Vec<u8>, nodes: &[Node<'_>], node: usize) -> Result<(), AllocError>
+fn add_path(text: &mut Vec<u8>, nodes: &[Node<'_, '_>], node: usize) -> Result<(), AllocError>
     requires { AreAbove nodes.now }
     ensures { OnOk result ((p : Stack) → Leads nodes.now p node → text.new.items ≡ text.old.items ++ path_text (reverse p)) }
 {
@@ -59,7 +59,7 @@ fn add_path(text: &mut Vec<u8>, nodes: &[Node<'_>], node: usize) -> Result<(), A
 }
 
 /// Adds the text of a node's path, and a NUL.
-fn add_path_value(text: &mut Vec<u8>, nodes: &[Node<'_>], node: usize) -> Result<(), AllocError>
+fn add_path_value(text: &mut Vec<u8>, nodes: &[Node<'_, '_>], node: usize) -> Result<(), AllocError>
     requires { AreAbove nodes.now }
     ensures { OnOk result ((p : Stack) → Leads nodes.now p node → text.new.items ≡ text.old.items ++ path_value (reverse p)) }
 {
@@ -102,7 +102,7 @@ fn add_bytes(value: &mut NamedValue<'_>, bytes: &[u8]) -> Result<(), AllocError>
 /// Adds the text of a node's path, and a NUL.
 fn add_path_bytes(
     value: &mut NamedValue<'_>,
-    nodes: &[Node<'_>],
+    nodes: &[Node<'_, '_>],
     node: usize,
 ) -> Result<(), AllocError>
     requires { AreAbove nodes.now }

@@ -1,6 +1,5 @@
 use Rattle.std.proofs.Common.{◌≡◌, ◌<◌, ℕ, Option, List, length, map, refl, sym, ap, subst, ◌∙◌}
 use Rattle.std.specs.Cow.{cow_slice_items}
-use Rattle.std.specs.declared.borrow.CowSlice.TheVariants.{Borrowed}
 use Rattle.dt_model.specs.Lists.{IsIn}
 use Rattle.dt_source.specs.declared.growing.Giving.{Giving}
 use Rattle.dt_source.specs.declared.growing.Node.{Node}
@@ -16,7 +15,7 @@ use Rattle.dt_source.proofs.contents.named_node.Goals as goal
 pub labels_at-requires : goal.labels_at-requires
 labels_at-requires c = λ i among.
     let k = c.args.row.node in
-    subst (λ (gs : List Giving). i < length gs) (sym c.deref.ensures.value)
+    subst (λ (gs : List Giving). i < length gs) (sym c.deref-2.ensures.value)
     (label_within c.args.growing.now c.args.belongings.now k i c.requires.belong (subst (IsIn i) c.of.ensures among))
 
 pub properties_at-requires-clause-inside : goal.properties_at-requires-clause-inside
@@ -29,11 +28,11 @@ returns c =
     let b = c.args.belongings.now in
     let r = c.args.row in
     let places = c.of-places.result.now in
-    let n : NamedNode = record { parent = r.parent; name = Borrowed c.name_at.result; labels = c.in_ok-labels.labels; properties = c.in_ok-properties.properties } in
-    let name : cow_slice_items n.name ≡ name_of g.nodes.items r.node = c.name_at.ensures ∙ ap (λ (ns : List Node). name_of ns r.node) c.deref-3.ensures.value in
+    let n : NamedNode = record { parent = r.parent; name = c.in_ok-name.name; labels = c.in_ok-labels.labels; properties = c.in_ok-properties.properties } in
+    let name : cow_slice_items n.name ≡ name_of g.nodes.items r.node = c.in_ok-name.ensures ∙ ap (λ (ns : List Node). name_of ns r.node) c.deref.ensures.value in
     let labels : map (λ l. l.now) n.labels.items ≡ map (label_at g.givings.items) (group_of b.labels r.node) =
-    c.in_ok-labels.ensures ∙ (ap (λ (gs : List Giving). map (label_at gs) c.of.result.now) c.deref.ensures.value ∙ ap (map (label_at g.givings.items)) c.of.ensures) in
+    c.in_ok-labels.ensures ∙ (ap (λ (gs : List Giving). map (label_at gs) c.of.result.now) c.deref-2.ensures.value ∙ ap (map (label_at g.givings.items)) c.of.ensures) in
     let properties : EachNaming g b.numbers.items (λ es number. ArePropertiesRead c.args.unnamed es number g.properties.items places (map property_said n.properties.items)) =
     subst (λ (ns : List (Option ℕ)). EachNaming g ns (λ es number. ArePropertiesRead c.args.unnamed es number g.properties.items places (map property_said n.properties.items)))
-    c.deref-2.ensures.value c.in_ok-properties.ensures in
+    c.deref-3.ensures.value c.in_ok-properties.ensures in
     node_read c.args.unnamed g b r n places c.of-places.ensures refl name labels properties

@@ -1,4 +1,5 @@
 use Rattle.std.proofs.Common.{◌≡◌, ◌<◌, ◌∷◌, [], ℕ, true, Some, length, get_or, slice_get, arith}
+use Rattle.dt_source.specs.Grown.{name_said}
 use Rattle.dt_source.specs.declared.growing.Node.{Node}
 use Rattle.dt_source.specs.declared.growing.Growing.{Growing}
 use Rattle.dt_source.proofs.Leading.{leads_above, leads_below}
@@ -36,7 +37,7 @@ loop-at-preserved c =
     record {
       inside = omega (arith, above, c.loop-at.invariant.inside);
       low = omega (arith, above, c.loop-at.invariant.low);
-      to = λ p l. let q = c.loop-at.invariant.to (n.name.now ∷ p) (leads_below g c.loop-at.at n at from stands p l) in (q.0, q.1, omega (arith, q.2));
+      to = λ p l. let q = c.loop-at.invariant.to (name_said n.name ∷ p) (leads_below g c.loop-at.at n at from stands p l) in (q.0, q.1, omega (arith, q.2));
       from = λ p l. let q = c.loop-at.invariant.from p l in (leads_above g c.loop-at.at n at c.loop-at-test.true q.0 q.1).1;
     }
 

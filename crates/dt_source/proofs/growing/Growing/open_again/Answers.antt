@@ -1,4 +1,5 @@
 use Rattle.std.proofs.Common.{arith}
+use Rattle.dt_source.specs.Grown.{name_said}
 use Rattle.dt_source.specs.Shape.{OpensChild}
 use Rattle.dt_source.specs.Growing.{shape}
 use Rattle.dt_source.specs.declared.growing.Growing.{Growing}
@@ -11,15 +12,15 @@ pub returns-clause-opened : goal.returns-clause-opened
 returns-clause-opened c =
     let old : Growing = c.args.self.now in
     opens_child old.properties.items old.places.map.entries old.givings.items old.labels.map.entries old.nodes.items old.children.map.entries c.put.new.self.map.entries
-    c.args.parent c.args.name.now _ c.in_ok-put.ensures c.requires.there
+    c.args.parent (name_said c.args.name) _ (rw c.bytes.ensures at c.in_ok-put.ensures) c.requires.there
 
 pub returns-clause-sound : goal.returns-clause-sound
 returns-clause-sound c =
     let old : Growing = c.args.self.now in
     let new : Growing = record { nodes = old.nodes; properties = old.properties; givings = old.givings; children = c.put.new.self; places = old.places; labels = old.labels } in
-    let made : OpensChild (shape old) (shape new) c.args.parent c.args.name.now c.args.item = returns-clause-opened c in
+    let made : OpensChild (shape old) (shape new) c.args.parent (name_said c.args.name) c.args.item = returns-clause-opened c in
     record {
-      nodes = child-again old.nodes.items old.children.map.entries new.children.map.entries c.args.parent c.args.name.now _ c.requires.sound.nodes c.in_ok-put.ensures c.requires.there;
+      nodes = child-again old.nodes.items old.children.map.entries new.children.map.entries c.args.parent (name_said c.args.name) _ c.requires.sound.nodes (rw c.bytes.ensures at c.in_ok-put.ensures) c.requires.there;
       properties = c.requires.sound.properties;
-      labels = labels-kept (shape old) (shape new) old.givings.items old.labels.map.entries (omega arith) (stood-again (shape old) (shape new) (forest old c.requires.sound) c.args.parent c.args.name.now c.args.item made) c.requires.sound.labels;
+      labels = labels-kept (shape old) (shape new) old.givings.items old.labels.map.entries (omega arith) (stood-again (shape old) (shape new) (forest old c.requires.sound) c.args.parent (name_said c.args.name) c.args.item made) c.requires.sound.labels;
     }
