@@ -19,11 +19,10 @@ import struct
 import subprocess
 import sys
 import tempfile
-import time
 from collections import Counter
 from concurrent.futures import ThreadPoolExecutor
 
-from peaks import peak
+from measuring import peak, timed
 
 
 def make(linux, folder):
@@ -50,13 +49,11 @@ def make(linux, folder):
 def run(command, seconds=60):
     """The bytes that a command writes, its status, the last line that it tells, and its wall time."""
     with tempfile.TemporaryFile() as out, tempfile.TemporaryFile() as told:
-        start = time.perf_counter()
-        done = subprocess.run(command, stdout=out, stderr=told, timeout=seconds)
-        took = time.perf_counter() - start
+        status, took = timed(command, out, told, seconds)
         out.seek(0)
         told.seek(0)
         lines = told.read().decode(errors="replace").strip().splitlines()
-        return out.read(), done.returncode, lines[-1] if lines else "", took
+        return out.read(), status, lines[-1] if lines else "", took
 
 
 class Tree:

@@ -10,7 +10,7 @@ import sys
 import tempfile
 import time
 
-from peaks import peak
+from measuring import peak
 
 BUSES, DEVICES, RUNS = 255, 200, 7
 

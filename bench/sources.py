@@ -8,9 +8,8 @@ import os
 import subprocess
 import sys
 import tempfile
-import time
 
-from peaks import peak
+from measuring import peak, timed
 
 RUNS = 3
 WIDTH = 255  # how many children a node has, where the nodes themselves aren't the point
@@ -119,14 +118,9 @@ def seconds(command):
     """The shortest wall time of some runs and the peak memory in MiB; a word where the command fails or takes too long."""
     best = None
     for _ in range(RUNS):
-        start = time.perf_counter()
-        try:
-            done = subprocess.run(command, stdout=subprocess.DEVNULL, stderr=subprocess.DEVNULL, timeout=10)
-        except subprocess.TimeoutExpired:
-            return "over 10 s"
-        took = time.perf_counter() - start
-        if done.returncode:
-            return "refuses"
+        status, took = timed(command, subprocess.DEVNULL, subprocess.DEVNULL, 10)
+        if status:
+            return "over 10 s" if status < 0 else "refuses"
         best = min(best or took, took)
     return f"{best:7.3f} s {peak(command):4.0f} MiB"
 
