@@ -150,3 +150,8 @@ pub mod OverlayDepths
 pub mod OverlayRefusals
 pub mod CheckedNamedOverlays
 pub mod WorkedObject
+pub mod ListedNodes
+pub mod ListedShapes
+pub mod ListedOrder
+pub mod PlainValues
+pub mod OverlayChecks

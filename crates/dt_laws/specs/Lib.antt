@@ -17,3 +17,4 @@ pub mod Premises
 pub mod Joining
 pub mod InTurn
 pub mod ShortValues
+pub mod OverlayChecks

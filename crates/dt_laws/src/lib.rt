@@ -10,6 +10,7 @@ mod laws;
 mod lists;
 mod named;
 mod objects;
+mod overlay_checks;
 mod overlay_sources;
 mod overlay_trees;
 mod premises;
@@ -29,6 +30,7 @@ pub use named::{
     meant_is_named, named_is_not_refused, nodes_are_shallow, root_stands, tree_is_meant,
 };
 pub use objects::{object_encodes, object_is_valid};
+pub use overlay_checks::{checked_overlay_is_meant, nodes_are_behind, overlay_values_are_plain};
 pub use overlay_sources::{
     overlay_is_one, overlay_is_placed, overlay_nodes_are_shallow, overlay_refusal_is_one,
 };
