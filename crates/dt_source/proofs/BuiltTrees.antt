@@ -27,7 +27,7 @@ list_count number parent (branch name content children siblings) =
     let outer = list_count (suc number + node_count children) parent siblings in
     omega (arith, inner, outer, length-append (listed (suc number) number children) (listed (suc number + node_count children) parent siblings))
 
-count_is : (t : Named NodeReference) → length (list_of t) ≡ 1 + node_count t.children
+pub count_is : (t : Named NodeReference) → length (list_of t) ≡ 1 + node_count t.children
 count_is t = let c = list_count 1 0 t.children in omega (arith, c)
 
 -- ---- the tree

@@ -3,20 +3,12 @@ use Rattle.std.specs.Prelude.{◌≡◌, ◌⊎◌, ℕ, ◌+◌, Bool, cond, Li
 use Rattle.dt_model.specs.Names.{Name}
 use Rattle.dt_model.specs.Path.{path_value}
 use Rattle.dt_model.specs.Source.{by_label, by_path, Part, one, number_of, Reference, Place, block, root, delete_node, child, label, property, delete_property, delete_child, close}
-use Rattle.dt_model.specs.OverlaySource.{fragment_name, free_from, OverlayRefusal, as_any, overlay_delete, overlay_phandle, overlay_path, OverlaySoFar, read_overlay}
+use Rattle.dt_model.specs.OverlaySource.{fragment_name, free_from, OverlayRefusal, OverlaySoFar, read_overlay}
 use Rattle.dt_names.specs.declared.fault.Fault.{Fault}
-use Rattle.dt_names.specs.declared.fault.FaultKind.{FaultKind}
-use Rattle.dt_names.specs.declared.fault.FaultKind.TheVariants.{NoMemory, OverlayDelete, OverlayPhandle, OverlayPathReference}
+use Rattle.dt_names.specs.declared.fault.FaultKind.TheVariants.{NoMemory}
 use Rattle.dt_source.specs.Reading.{Holds}
-use Rattle.dt_source.specs.Refusals.{refusal_kind}
+use Rattle.dt_source.specs.Refusals.{overlay_kind}
 use Rattle.dt_source.specs.declared.reading.Reading.{Reading}
-
--- the kind of fault that tells a refusal
-abbrev pub overlay_kind : OverlayRefusal → FaultKind
-overlay_kind (as_any r) = refusal_kind r
-overlay_kind overlay_delete = OverlayDelete
-overlay_kind overlay_phandle = OverlayPhandle
-overlay_kind overlay_path = OverlayPathReference
 
 -- a fault without a place: memory was refused, or it tells the refusal
 abbrev pub OverlayTells : Result OverlaySoFar OverlayRefusal → Fault → Type 0

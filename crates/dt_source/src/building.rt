@@ -43,7 +43,7 @@ fn pairs(alloc: Global, reservations: &[Reservation]) -> Result<Vec<(u64, u64)>,
 }
 
 // The tree of the nodes, where they aren't too many.
-fn whole<'a>(
+pub(crate) fn whole<'a>(
     reservations: Vec<(u64, u64)>,
     nodes: Vec<NamedNode<'a>>,
 ) -> Result<NamedTree<'a>, Fault>

@@ -3,8 +3,10 @@
 #![tactic(auto)]
 
 mod arena;
+mod brought;
 mod building;
 mod contents;
+mod fragments;
 mod groups;
 mod growing;
 mod laws;
@@ -12,6 +14,7 @@ mod listing;
 mod named;
 mod nodes;
 mod overlaying;
+mod overlays;
 mod phandles;
 mod reading;
 mod referring;
@@ -19,6 +22,8 @@ mod table;
 mod values;
 
 pub use building::build_base;
+pub use fragments::{Fragment, Target};
 pub use laws::one_outcome;
 pub use named::{NamedNode, NamedPiece, NamedProperty, NamedReference, NamedTree, NamedValue};
+pub use overlays::{NamedOverlay, build_overlay};
 pub use reading::Mode;
