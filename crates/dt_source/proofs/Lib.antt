@@ -39,3 +39,4 @@ pub mod Outcomes
 pub mod NewFragments
 pub mod OverlaySteps
 pub mod ArenaSteps
+pub mod NamesMade

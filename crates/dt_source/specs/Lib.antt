@@ -14,3 +14,4 @@ pub mod Nodes
 pub mod Building
 pub mod OverlayReading
 pub mod Arena
+pub mod FragmentNames

@@ -5,6 +5,7 @@
 mod arena;
 mod building;
 mod contents;
+mod fragment_names;
 mod groups;
 mod growing;
 mod laws;
