@@ -15,3 +15,4 @@ pub mod Building
 pub mod OverlayReading
 pub mod Arena
 pub mod Fragments
+pub mod FragmentNames

@@ -4,9 +4,10 @@ ghost use Rattle.std.specs.Prelude.{◌≡◌, ◌∷◌, [], map, IfOk};
 ghost use Rattle.dt_model.specs.Path.{path_value};
 ghost use Rattle.dt_model.specs.Source.{by_label, number_of, one};
 ghost use Rattle.dt_parse.specs.Said.{place_said, reference_of, value_said};
-ghost use Rattle.dt_source.specs.Arena.{block_references};
+ghost use Rattle.dt_source.specs.Arena.{block_references, IsArena};
 ghost use Rattle.dt_source.specs.OverlayReading.{target_value};
 
+use crate::fragment_names::fragment_names;
 use dt_names::{Label, NodePath};
 use dt_parse::{Form, Item, Piece, Reference, Value};
 use std::alloc::{AllocError, Global};
@@ -83,4 +84,15 @@ pub(crate) fn targets<'a>(alloc: Global, items: &[Item<'a>]) -> Result<Vec<Value
         }
     }
     Ok(values)
+}
+
+impl<'a> Arena<'a> {
+    /// What the tree of these items borrows.
+    pub fn new(alloc: Global, items: &[Item<'a>]) -> Result<Arena<'a>, AllocError>
+        ensures { IfOk result (λ arena. IsArena (map place_said items.now) arena) }
+    {
+        let values = targets(alloc, items)?;
+        let names = fragment_names(alloc, items, values.len())?;
+        Ok(Arena { names, values })
+    }
 }

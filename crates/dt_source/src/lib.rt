@@ -6,6 +6,7 @@ mod arena;
 mod brought;
 mod building;
 mod contents;
+mod fragment_names;
 mod fragments;
 mod groups;
 mod growing;
