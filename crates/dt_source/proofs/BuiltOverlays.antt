@@ -173,5 +173,5 @@ no_overlay_read s fault plugin none why =
     subst (λ (at : Option ℕ). Told s at fault.kind) (sym why.0)
     (elim why.1 [
       | inl e ↦ subst (Told s None) (sym e) (tt, refl)
-      | inr r ↦ subst (Told s None) (sym r.2) (told_overlay s r.0 (record { plugin = plugin; no_reservations = none; refusal = r.0; refused = r.1; told = refl }))
+      | inr r ↦ subst (Told s None) (sym r.2) (told_overlay s r.0 (record { plugin = plugin; reservations = none; refusal = r.0; refused = r.1; told = refl }))
     ])

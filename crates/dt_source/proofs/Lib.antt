@@ -41,3 +41,5 @@ pub mod OverlaySteps
 pub mod ArenaSteps
 pub mod BuiltOverlays
 pub mod NamesMade
+pub mod Marks
+pub mod FragmentSteps

@@ -85,7 +85,7 @@ WhyNoOverlayRead places fault =
 -- the source is an overlay's without memory reservations, and its places are refused for this
 pub record IsOverlayFaultOf (s : Says) (kind : FaultKind) : Type 0 where
   pub plugin : s.plugin ≡ true
-  pub no_reservations : s.reservations ≡ []
+  pub reservations : s.reservations ≡ []
   pub refusal : OverlaySourceRefusal
   pub refused : IsOverlayRefusedFor s.places refusal
   pub told : kind ≡ overlay_fault_of refusal

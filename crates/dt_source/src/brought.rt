@@ -1,6 +1,6 @@
 //! Which nodes of an overlay its fragments bring, and what these refer to (dtc's notes on overlay objects).
 
-ghost use Rattle.std.specs.Prelude.{◌≡◌, ℕ, true, false, map, slice_get, IfOk, MatchResult};
+ghost use Rattle.std.specs.Prelude.{◌≡◌, ◌||◌, ℕ, true, false, not, Some, map, slice_get, IfOk, MatchResult};
 ghost use Rattle.dt_model.specs.Lists.{IsIn};
 ghost use Rattle.dt_model.specs.Named.{NodeReference, Listed};
 ghost use Rattle.dt_model.specs.NamedOverlay.{NamedFragment};
@@ -82,6 +82,13 @@ fn refer_within(marks: &[bool], properties: &[NamedProperty<'_>]) -> bool
     true
 }
 
+/// Does the node of a number, if it is marked, refer to no node but marked ones?
+fn is_contained(marks: &[bool], number: NodeId, node: &NamedNode<'_>) -> bool
+    ensures { result ≡ (not (checks.is_marked marks.now number) || checks.refer_within marks.now (node_said node.now).content.properties) }
+{
+    !is_marked(marks, number) || refer_within(marks, &node.properties)
+}
+
 /// Do the marked nodes refer to no node but marked ones?
 fn are_contained(nodes: &[NamedNode<'_>], marks: &[bool]) -> bool
     ensures all { result ≡ true → AreContained (map node_said nodes.now) marks.now }
@@ -89,7 +96,7 @@ fn are_contained(nodes: &[NamedNode<'_>], marks: &[bool]) -> bool
         × (checks.is_marked marks.now k ≡ true) × (checks.refer_within marks.now n.content.properties ≡ false) }
 {
     for (number, node) in nodes.iter().enumerate() {
-        if is_marked(marks, number) && !refer_within(marks, &node.properties) {
+        if !is_contained(marks, number, node) {
             return false;
         }
     }

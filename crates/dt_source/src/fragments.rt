@@ -49,7 +49,10 @@ fn one_reference<'a>(value: &NamedValue<'a>) -> Option<NamedReference<'a>>
         ((r : NodeReference) → value_said value.now ≢ reference r ∷ [])
         (λ r. value_said value.now ≡ reference (reference_said r) ∷ []) }
 {
-    if value.pieces.len() != 1 || !value.bytes.is_empty() {
+    if value.pieces.len() != 1 {
+        return None;
+    }
+    if !value.bytes.is_empty() {
         return None;
     }
     let piece = &value.pieces[0];

@@ -1,12 +1,8 @@
-use Rattle.std.proofs.Common.{◌≡◌, ℕ, true, false, map, slice_get, IfOk, MatchResult, ◌+◌, ◌-◌, ◌*◌, ◌<◌, ◌≤◌, length}
-use Rattle.dt_model.specs.Lists.{IsIn}
-use Rattle.dt_model.specs.Named.{NodeReference, Listed}
-use Rattle.dt_model.specs.NamedOverlay.{NamedFragment}
-use Rattle.dt_laws.specs.OverlayChecks as checks
-use Rattle.dt_laws.specs.OverlayChecks.{AreBehind, AreBrought, AreContained, AreFragmentsAmong, AreChecked, AreTargetsContained}
-use Rattle.dt_source.specs.Fragments.{fragment_said, target_said, IsUnchecked}
-use Rattle.dt_source.specs.Said.{reference_said, value_said, property_said, node_said}
+-- All is as it has to be where it is so in what is left.
+use Rattle.std.proofs.Common.{map, drop}
+use Rattle.dt_laws.specs.OverlayChecks.{AreTargetsContained}
+use Rattle.dt_source.specs.Fragments.{fragment_said}
 use Rattle.dt_source.proofs.brought.are_targets_contained.Given as goal
 
 abbrev pub invariant-loop-fragment : goal.invariant-loop-fragment
-invariant-loop-fragment l = ?
+invariant-loop-fragment l = AreTargetsContained l.marks (map fragment_said (drop l.fragment-index l.fragments)) → AreTargetsContained l.marks (map fragment_said l.fragments)

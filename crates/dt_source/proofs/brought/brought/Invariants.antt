@@ -1,12 +1,8 @@
-use Rattle.std.proofs.Common.{◌≡◌, ℕ, true, false, map, slice_get, IfOk, MatchResult, ◌+◌, ◌-◌, ◌*◌, ◌<◌, ◌≤◌, length}
-use Rattle.dt_model.specs.Lists.{IsIn}
-use Rattle.dt_model.specs.Named.{NodeReference, Listed}
-use Rattle.dt_model.specs.NamedOverlay.{NamedFragment}
-use Rattle.dt_laws.specs.OverlayChecks as checks
-use Rattle.dt_laws.specs.OverlayChecks.{AreBehind, AreBrought, AreContained, AreFragmentsAmong, AreChecked, AreTargetsContained}
-use Rattle.dt_source.specs.Fragments.{fragment_said, target_said, IsUnchecked}
-use Rattle.dt_source.specs.Said.{reference_said, value_said, property_said, node_said}
+-- The nodes before this one are marked, or not.
+use Rattle.dt_source.specs.Said.{node_said}
+use Rattle.std.proofs.Common.{map}
+use Rattle.dt_source.proofs.Marks.{AreMarkedBefore}
 use Rattle.dt_source.proofs.brought.brought.Given as goal
 
 abbrev pub invariant-loop-node : goal.invariant-loop-node
-invariant-loop-node l = ?
+invariant-loop-node l = AreMarkedBefore (map node_said l.nodes) l.marks.items l.node-index

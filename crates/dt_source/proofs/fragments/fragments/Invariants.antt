@@ -1,14 +1,8 @@
-use Rattle.std.proofs.Common.{◌≡◌, ◌≢◌, ◌<◌, ◌++◌, ◌∷◌, [], ℕ, List, map, length, Some, None, codes, MatchOption, MatchResult, ◌+◌, ◌-◌, ◌*◌, ◌≤◌}
-use Rattle.std.specs.Option.{option_map}
-use Rattle.dt_model.specs.Meaning.{byte, reference}
-use Rattle.dt_model.specs.Named.{NodeReference}
-use Rattle.dt_model.specs.Named as named
-use Rattle.dt_model.specs.NamedOverlay.{NamedTarget}
-use Rattle.dt_laws.specs.OverlayChecks as checks
-use Rattle.dt_laws.specs.OverlayChecks.{IsPathText, HoldTarget, AreFragmentsAmong}
-use Rattle.dt_source.specs.Fragments.{target_said, fragment_said, WhyNoTarget, IsUnchecked}
-use Rattle.dt_source.specs.Said.{reference_said, value_said, property_said, node_said}
+-- The fragments so far, and those of the nodes that are left.
+use Rattle.std.proofs.Common.{map}
+use Rattle.dt_source.specs.Fragments.{fragment_said}
+use Rattle.dt_source.proofs.FragmentSteps.{AreSoFar}
 use Rattle.dt_source.proofs.fragments.fragments.Given as goal
 
 abbrev pub invariant-loop-node : goal.invariant-loop-node
-invariant-loop-node l = ?
+invariant-loop-node l = AreSoFar l.nodes (map fragment_said l.fragments.items) l.node-index

@@ -1,15 +1,9 @@
-use Rattle.std.proofs.Common.{rules, ◌≡◌, ◌≢◌, ◌<◌, ◌++◌, ◌∷◌, [], ℕ, List, map, length, Some, None, codes, MatchOption, MatchResult, ◌+◌, ◌-◌, ◌*◌, ◌≤◌, ◌/◌, ◌%◌, Bool, true, false, nat_eq, nat_lt, slice_index_or, slice_set, bit_and, bit_or, Fits, w8, w32, w64, Bor, MutBor}
-use Rattle.std.specs.Option.{option_map}
-use Rattle.dt_model.specs.Meaning.{byte, reference}
-use Rattle.dt_model.specs.Named.{NodeReference}
-use Rattle.dt_model.specs.Named as named
-use Rattle.dt_model.specs.NamedOverlay.{NamedTarget}
-use Rattle.dt_laws.specs.OverlayChecks as checks
-use Rattle.dt_laws.specs.OverlayChecks.{IsPathText, HoldTarget, AreFragmentsAmong}
-use Rattle.dt_source.specs.Fragments.{target_said, fragment_said, WhyNoTarget, IsUnchecked}
-use Rattle.dt_source.specs.Said.{reference_said, value_said, property_said, node_said}
+use Rattle.std.proofs.Common.{sym, ◌∙◌, arith}
+use Rattle.dt_source.proofs.FragmentSteps.{one_piece, no_bytes, some_items}
 use Rattle.dt_source.proofs.fragments.one_reference.Goals as goal
 
--- src/fragments.rt:53:9
 pub returns-then-len-ne1 : goal.returns-then-len-ne1
-returns-then-len-ne1 c = ?
+returns-then-len-ne1 c = λ r e. let one = one_piece c.args.value.now r e in absurd (omega (arith, one, c.len.ensures, c.if-len-ne1.true))
+
+pub returns-then-not-is_empty : goal.returns-then-not-is_empty
+returns-then-not-is_empty c = λ r e. some_items c.args.value.now.bytes (sym c.is_empty.ensures ∙ c.if-not-is_empty.true) (no_bytes c.args.value.now r e)

@@ -1,15 +1,15 @@
-use Rattle.std.proofs.Common.{rules, ◌≡◌, ◌≢◌, ◌<◌, ◌++◌, ◌∷◌, [], ℕ, List, map, length, Some, None, codes, MatchOption, MatchResult, ◌+◌, ◌-◌, ◌*◌, ◌≤◌, ◌/◌, ◌%◌, Bool, true, false, nat_eq, nat_lt, slice_index_or, slice_set, bit_and, bit_or, Fits, w8, w32, w64, Bor, MutBor}
-use Rattle.std.specs.Option.{option_map}
-use Rattle.dt_model.specs.Meaning.{byte, reference}
-use Rattle.dt_model.specs.Named.{NodeReference}
-use Rattle.dt_model.specs.Named as named
-use Rattle.dt_model.specs.NamedOverlay.{NamedTarget}
-use Rattle.dt_laws.specs.OverlayChecks as checks
-use Rattle.dt_laws.specs.OverlayChecks.{IsPathText, HoldTarget, AreFragmentsAmong}
-use Rattle.dt_source.specs.Fragments.{target_said, fragment_said, WhyNoTarget, IsUnchecked}
-use Rattle.dt_source.specs.Said.{reference_said, value_said, property_said, node_said}
+use Rattle.std.proofs.Common.{◌≡◌, [], ◌∷◌, ◌++◌, map, sym, ap, subst, ◌∙◌}
+use Rattle.std.proofs.lemmas.List.{map-append}
+use Rattle.dt_laws.specs.OverlayChecks.{HoldTarget}
+use Rattle.dt_source.specs.Fragments.{target_said, fragment_said}
+use Rattle.dt_source.specs.Said.{property_said}
+use Rattle.dt_source.proofs.FragmentSteps.{properties_there}
 use Rattle.dt_source.proofs.fragments.push_fragment.Goals as goal
 
--- src/fragments.rt:126:1
 pub returns : goal.returns
-returns c = ?
+returns c = (
+  target_said c.in_ok-target.target,
+  ap (λ fs. map fragment_said fs) c.in_ok-push.ensures.items ∙ map-append fragment_said c.args.fragments.now.items _,
+  subst (λ ps. HoldTarget ps (target_said c.in_ok-target.target)) (sym (properties_there c.args.nodes.now c.args.number c.index-nodes-number.result c.requires c.index-nodes-number.is))
+      (subst (λ qs. HoldTarget (map property_said qs) (target_said c.in_ok-target.target)) (c.deref.ensures.value ∙ ap (λ n. n.properties.items) (sym c.index-nodes-number.is)) c.in_ok-target.ensures),
+)
