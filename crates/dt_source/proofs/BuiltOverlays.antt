@@ -1,8 +1,9 @@
 -- The tree that is built of an overlay's places, with the fragments of its list, is what they mean.
-use Rattle.std.proofs.Common.{◌≡◌, ◌≢◌, ◌⊎◌, ℕ, ◌+◌, ◌<◌, ◌≤◌, true, inl, inr, List, [], ◌∷◌, ◌++◌, length, reverse, Option, Some, None, refl, sym, ap, subst, ◌∙◌, arith}
+use Rattle.std.proofs.Common.{◌≡◌, ◌≢◌, ◌⊎◌, ℕ, ◌+◌, ◌<◌, ◌≤◌, ◌==◌, true, false, inl, inr, List, [], ◌∷◌, ◌++◌, map, length, reverse, Option, Some, None, refl, sym, ap, subst, ◌∙◌, arith}
 use Rattle.std.specs.Prelude.{option_and_then, Err}
 use Rattle.std.specs.List.{AllByRecursion, flat_map}
 use Rattle.std.specs.Option.{option_map, option_map_or, option_or}
+use Rattle.std.proofs.lemmas.Bool.Decides.{eqb_tells}
 use Rattle.dt_names.specs.declared.fault.Fault.{Fault}
 use Rattle.dt_names.specs.declared.fault.FaultKind.{FaultKind}
 use Rattle.dt_names.specs.declared.fault.FaultKind.TheVariants.{NoMemory, BadFragment, OutsideContent}
@@ -175,3 +176,11 @@ no_overlay_read s fault plugin none why =
       | inl e ↦ subst (Told s None) (sym e) (tt, refl)
       | inr r ↦ subst (Told s None) (sym r.2) (told_overlay s r.0 (record { plugin = plugin; reservations = none; refusal = r.0; refused = r.1; told = refl }))
     ])
+
+-- no reservation is one of a source that has none
+pub none_reserved : {X Y : Type 0} (f : X → Y) (xs : List X) (ys : List Y) → map f xs ≡ ys → (length xs == 0) ≡ true → ys ≡ []
+none_reserved f [] ys e none = sym e
+none_reserved f (x ∷ xs) ys e none = elim (eqb_tells (length (x ∷ xs)) 0) [
+  | inl h ↦ absurd (omega (arith, h.1))
+  | inr h ↦ let no : true ≡ false = sym none ∙ h.0 in cc
+]
