@@ -109,6 +109,22 @@ fn add_copies(
     Ok(())
 }
 
+// The node with the cells of the root.
+fn add_root(tree: &mut FlatTree, out: &mut Vec<u8>, root: &NamedNode<'_>) -> Result<NodeId, Fault>
+    requires absent { child_of (named_children tree.old.slots 0) (codes "__local_fixups__") ≡ None }
+    requires plain { AllByRecursion IsPlain (local_properties (node_said root.now).content) }
+    ensures tree { OnOk result (tree.new ≡ record tree.old
+        { slots = with_mirror_root tree.old.slots (node_said root.now).content }) }
+    ensures node { IfOk result (λ node. node ≡ length tree.old.slots) }
+    ensures refused { IfErr result
+        (λ fault. WhyNotPlanted fault.kind (with_mirror_root tree.old.slots (node_said root.now).content) × (fault.at ≡ None)) }
+{
+    let name = NodeName::new(b"__local_fixups__".as_slice())?;
+    let node = tree.add_node(tree.root(), &name)?;
+    set_cells(tree, node, out, &root.properties)?;
+    Ok(node)
+}
+
 // The node with the copies below it.
 fn add_mirror(
     tree: &mut FlatTree,
@@ -132,9 +148,7 @@ fn add_mirror(
         (mirrored (marked_at needed.now) 1 (with_mirror_root tree.old.slots (node_said root.now).content)
         (length tree.old.slots ∷ []) (map node_said others.now)) × (fault.at ≡ None)) }
 {
-    let name = NodeName::new(b"__local_fixups__".as_slice())?;
-    let node = tree.add_node(tree.root(), &name)?;
-    set_cells(tree, node, out, &root.properties)?;
+    let node = add_root(tree, out, root)?;
     copies.push(node)?;
     add_copies(tree, copies, out, needed, others)
 }
