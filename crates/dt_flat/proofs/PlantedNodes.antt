@@ -193,7 +193,7 @@ outside i k p q [] h lt l d = tt
 outside i k p q (n ∷ ns) h lt l d =
     (elim h.0 [ inl e ↦ ((λ f. d (sym f ∙ e)), inl (omega arith)) | inr e ↦ ((λ f. omega arith), inr e) ], outside i k p q ns h.1 lt l d)
 
-rows_read : (i p d : ℕ) (f : Forest) → p < i → forest_among i (rows i p d f) p ≡ f
+pub rows_read : (i p d : ℕ) (f : Forest) → p < i → forest_among i (rows i p d f) p ≡ f
 rows_read i p d no_nodes lt = refl
 rows_read i p d (branch name properties children siblings) lt =
     let inner = rows (suc i) i (d + 1) children in

@@ -3,3 +3,17 @@ pub mod Labels
 pub mod SymbolTrees
 pub mod Setting
 pub mod Refused
+pub mod Texts
+pub mod Listing
+pub mod FirstCome
+pub mod Marks
+pub mod Mirroring
+pub mod Needed
+pub mod PlainCells
+pub mod Copies
+pub mod Inside
+pub mod OwnNames
+pub mod Outside
+pub mod Counting
+pub mod LastChildren
+pub mod ObjectNodes

@@ -86,3 +86,14 @@ follow_turn left rest n lengths after size first counted may =
     let now = subst (λ (ns : List NamedNode). MayFollow (length lengths) (map node_said ns)) first may in
     let more : suc (length lengths) ≡ length after = omega (arith, length_push lengths size, ap length counted) in
     subst (λ (k : ℕ). MayFollow k (map node_said rest)) more now.2
+
+-- one of several properties
+pub property_turn_left : (old new : Arena) (k : ℕ) (xs : List Property) (i : ℕ) (x : Property) (name : Name) → k < length old.slots → name ≡ x.name
+    → drop i xs ≡ x ∷ drop (i + 1) xs → new ≡ record old { slots = with_property old.slots k name x.value }
+    → (k < length new.slots) × (record new { slots = with_properties new.slots k (drop (i + 1) xs) } ≡ record old { slots = with_properties old.slots k (drop i xs) })
+property_turn_left old new k xs i x name there named next is =
+    let rest = drop (i + 1) xs in (
+      omega (arith, there, ap (λ (a : Arena). length a.slots) is, length-with_property old.slots k name x.value),
+      ap (λ (a : Arena). record a { slots = with_properties a.slots k rest }) (is ∙ ap (λ (n : Name). record old { slots = with_property old.slots k n x.value }) named)
+          ∙ ap (λ (ys : List Property). record old { slots = with_properties old.slots k ys }) (sym next),
+    )

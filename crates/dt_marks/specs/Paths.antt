@@ -2,7 +2,7 @@
 use Rattle.std.specs.Prelude.{ℕ, suc, ◌<◌, List, [], ◌∷◌, ◌++◌, take, map, length, slice_index, codes}
 use Rattle.std.specs.List.{AllByRecursion}
 use Rattle.dt_model.specs.Names.{Name, IsLabel}
-use Rattle.dt_model.specs.Named.{NodeReference, Listed}
+use Rattle.dt_model.specs.Named.{NodeReference, Content, Listed}
 use Rattle.dt_model.specs.Tree.{Property}
 
 -- the text of the path of the next node, where the last one's value and the lengths of those of the nodes so far are these
@@ -13,12 +13,20 @@ text_behind value lengths parent name = take (slice_index lengths parent) value 
 abbrev pub labelled : (path : List ℕ) → Name → Property
 labelled path l = record { name = l; value = path }
 
--- the labels of the nodes that follow
+-- what is found in the nodes that follow, by the text of a path and what its node has
+abbrev pub behind : {X : Type 0} → (List ℕ → Content NodeReference → List X) → (value lengths : List ℕ) → List (Listed NodeReference) → List X
+behind found value lengths [] = []
+behind found value lengths (n ∷ ns) =
+    found (text_behind value lengths n.parent n.name) n.content
+    ++ behind found (text_behind value lengths n.parent n.name ++ 0 ∷ []) (lengths ++ length (text_behind value lengths n.parent n.name) ∷ []) ns
+
+-- the labels of a node as properties, where this is the text of its path
+abbrev pub labels_at : List ℕ → Content NodeReference → List Property
+labels_at text c = map (labelled (text ++ 0 ∷ [])) c.labels
+
+-- those of the nodes that follow
 abbrev pub symbols_behind : (value lengths : List ℕ) → List (Listed NodeReference) → List Property
-symbols_behind value lengths [] = []
-symbols_behind value lengths (n ∷ ns) =
-    map (labelled (text_behind value lengths n.parent n.name ++ 0 ∷ [])) n.content.labels
-    ++ symbols_behind (text_behind value lengths n.parent n.name ++ 0 ∷ []) (lengths ++ length (text_behind value lengths n.parent n.name) ∷ []) ns
+symbols_behind value lengths ns = behind labels_at value lengths ns
 
 -- those of all nodes, the first of which is the root
 abbrev pub all_symbols : List (Listed NodeReference) → List Property

@@ -1,6 +1,6 @@
 //! The texts of the paths of nodes that come in preorder.
 
-ghost use Rattle.std.specs.Prelude.{◌≡◌, ◌<◌, ◌++◌, ◌∷◌, [], length, OnOk, IfOk};
+ghost use Rattle.std.specs.Prelude.{ℕ, List, ◌≡◌, ◌<◌, ◌++◌, ◌∷◌, [], length, OnOk, IfOk};
 ghost use Rattle.dt_marks.specs.Paths.{text_behind};
 
 use dt_names::NodeId;
@@ -24,6 +24,13 @@ impl LastPath {
             value: Vec::new(alloc),
             lengths: vec![in alloc; 0]?,
         })
+    }
+
+    /// The text of a path whose value is kept.
+    pub fn text(&self) -> &[u8]
+        ensures { (text : List ℕ) → self.now.value.items ≡ text ++ 0 ∷ [] → result.now ≡ text }
+    {
+        &self.value[..self.value.len().saturating_sub(1)]
     }
 
     /// The node comes that has this parent and this name.
