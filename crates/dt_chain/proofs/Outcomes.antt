@@ -19,7 +19,7 @@ use Rattle.dt_source.proofs.Outcomes.{Sorted, sorted}
 use Rattle.dt_write.specs.Written.{written}
 use Rattle.dt_chain.specs.Means.{TextHasTree}
 use Rattle.dt_chain.specs.Compiled.{IsCompiled, WhyNotCompiled, told, no_memory, unparsed, unnamed, many, big}
-use Rattle.dt_chain.specs.Laws.{OneMeaning, OneBlob, CompiledIsNotRefused, OneRefusal, BaseRepresents, RawIsInstance}
+use Rattle.dt_chain.specs.Laws.{OneMeaning, BaseRepresents, RawIsInstance}
 use Rattle.dt_chain.proofs.Stages.{one_more}
 
 -- a text says one thing
@@ -54,7 +54,7 @@ tree_once once one mode text t u h k =
     let said : h.says ≡ k.says = once text h.says k.says h.parsed k.parsed in
     one mode k.says.reservations k.says.places t u (subst (λ (s : Says). IsTreeOf mode s.reservations s.places t) said h.tree) k.tree
 
-pub blob_once : SaidOnce → OneTree → OneBlob
+pub blob_once : SaidOnce → OneTree → (mode : Mode) (text blob other : List ℕ) → IsCompiled mode text blob → IsCompiled mode text other → blob ≡ other
 blob_once once one mode text blob other h k = h.is ∙ ap written (tree_once once one mode text h.tree k.tree h.of_text k.of_text) ∙ sym k.is
 
 -- ---- why a source has no tree
@@ -63,7 +63,7 @@ blob_once once one mode text blob other h k = h.is ∙ ap written (tree_once onc
 meant : (mode : Mode) (s : Says) (t : Reading) (h : IsTreeOf mode s.reservations s.places t) → SourceMeans mode s.reservations s.places h.instance.meaning
 meant mode s t h = h.instance.means
 
-limit_told : (kind : FaultKind) → kind ≡ Limit → record { kind = kind; at = place_of kind } ≡ told Limit
+pub limit_told : (kind : FaultKind) → kind ≡ Limit → record { kind = kind; at = place_of kind } ≡ told Limit
 limit_told kind e = ap (λ (k : FaultKind). let f : Fault = record { kind = k; at = place_of k } in f) e
 
 -- a text that has a tree is refused for nothing but the number of its nodes
@@ -98,7 +98,8 @@ few_nodes mode rs ps t h w =
 
 -- ---- answered, or refused
 
-pub compiled_not_refused : SaidOnce → SaidOnly → OneTree → MeantIsNotRefused → FewAreNotRefused → CompiledIsNotRefused
+pub compiled_not_refused : SaidOnce → SaidOnly → OneTree → MeantIsNotRefused → FewAreNotRefused
+    → (mode : Mode) (text blob : List ℕ) (e : Fault) → IsCompiled mode text blob → WhyNotCompiled mode text e → e.kind ≡ NoMemory
 compiled_not_refused once only one not few mode text blob _ h no_memory = refl
 compiled_not_refused once only one not few mode text blob _ h (unparsed e why) = only text h.of_text.says e h.of_text.parsed why
 compiled_not_refused once only one not few mode text blob _ h (unnamed s kind parsed why) = step (sorted mode s kind why)
@@ -133,7 +134,7 @@ abbrev pub NamedOnce : Type 0
 NamedOnce = (mode : Mode) (s : Says) → IsOneRefusal (λ kind. WhyNotNamed mode kind s)
 
 -- a source's fault
-abbrev of_kind : FaultKind → Fault
+abbrev pub of_kind : FaultKind → Fault
 of_kind k = record { kind = k; at = place_of k }
 
 module _ (once : SaidOnce) (only : SaidOnly) (fault : FaultOnce) (one : NamedOnce) (not : MeantIsNotRefused) where
@@ -155,7 +156,7 @@ module _ (once : SaidOnce) (only : SaidOnly) (fault : FaultOnce) (one : NamedOnc
   with_source mode text s k _ parsed why wanted wanted' (many u h more) = limit_told k (only_many once not mode text u s k h parsed wanted why).0
   with_source mode text s k _ parsed why wanted wanted' (big u h more) = limit_told k (only_many once not mode text u s k h parsed wanted why).0
 
-  pub refused_once : OneRefusal
+  pub refused_once : (mode : Mode) (text : List ℕ) (e f : Fault) → WhyNotCompiled mode text e → WhyNotCompiled mode text f → e.kind ≢ NoMemory → f.kind ≢ NoMemory → e ≡ f
   refused_once mode text _ f no_memory also wanted wanted' = absurd (wanted refl)
   refused_once mode text _ f (unparsed e why) also wanted wanted' = step f also wanted'
     where
@@ -189,7 +190,7 @@ read_as places some valid reads mode text blob bytes h =
     let ok = valid mode s.reservations s.places h.tree (some text s h.of_text.parsed) (places text s bytes h.of_text.parsed) h.of_text.tree in
     subst (λ (b : List ℕ). Rattle.dt_model.specs.Format.Reads b h.tree) (sym h.is) (reads h.tree ok (subst (λ (b : List ℕ). length b ≤ most_bytes) h.is h.size))
 
-no_boot_cpu : (symbols : List Rattle.dt_model.specs.Tree.Property) (t : Reading) → (with_symbols symbols t).boot_cpu ≡ t.boot_cpu
+pub no_boot_cpu : (symbols : List Rattle.dt_model.specs.Tree.Property) (t : Reading) → (with_symbols symbols t).boot_cpu ≡ t.boot_cpu
 no_boot_cpu [] t = refl
 no_boot_cpu (s ∷ symbols) t = refl
 

@@ -2,7 +2,7 @@
 use Rattle.std.proofs.Common.{◌≡◌, ℕ, List, None, refl, ap}
 use Rattle.dt_names.specs.declared.fault.Fault.{Fault}
 use Rattle.dt_names.specs.declared.fault.FaultKind.TheVariants.{NoMemory}
-use Rattle.dt_model.specs.Source.{Mode}
+use Rattle.dt_model.specs.Source.{Mode, base}
 use Rattle.dt_lex.specs.Lexing as lexing
 use Rattle.dt_lex.specs.Lexing.{WhyNotLexed}
 use Rattle.dt_parse.specs.Reading as reading
@@ -11,6 +11,10 @@ use Rattle.dt_parse.proofs.Parsing.{never_memory}
 use Rattle.dt_source.specs.Refusals.{place_of}
 use Rattle.dt_chain.specs.Compiled as compiled
 use Rattle.dt_chain.specs.Compiled.{WhyNotCompiled}
+use Rattle.dt_chain.specs.CompiledOverlay as overlay
+use Rattle.dt_chain.specs.CompiledOverlay.{WhyNotCompiledOverlay}
+use Rattle.dt_chain.specs.Blobs as blobs
+use Rattle.dt_chain.specs.Blobs.{WhyNoBlob}
 
 unlexed : (text : List ℕ) (e : Fault) → WhyNotLexed text e → e.kind ≡ NoMemory → e.at ≡ None
 unlexed text e lexing.no_memory h = refl
@@ -29,3 +33,15 @@ memory_unplaced mode text _ (compiled.unparsed e why) h = unparsed text e why h
 memory_unplaced mode text _ (compiled.unnamed s kind parsed why) h = ap place_of h
 memory_unplaced mode text _ (compiled.many t k more) h = refl
 memory_unplaced mode text _ (compiled.big t k more) h = refl
+
+overlay_unplaced : (text : List ℕ) (e : Fault) → WhyNotCompiledOverlay text e → e.kind ≡ NoMemory → e.at ≡ None
+overlay_unplaced text _ overlay.no_memory h = refl
+overlay_unplaced text _ (overlay.refused s kind parsed why) h = ap place_of h
+overlay_unplaced text _ (overlay.large t k more) h = refl
+overlay_unplaced text _ (overlay.big t k more) h = refl
+
+pub blob_unplaced : (text : List ℕ) (e : Fault) → WhyNoBlob text e → e.kind ≡ NoMemory → e.at ≡ None
+blob_unplaced text _ blobs.no_memory h = refl
+blob_unplaced text _ (blobs.unparsed e why) h = unparsed text e why h
+blob_unplaced text _ (blobs.as_base s e parsed plain why) h = memory_unplaced base text e why h
+blob_unplaced text _ (blobs.as_overlay s e parsed plugin why) h = overlay_unplaced text e why h

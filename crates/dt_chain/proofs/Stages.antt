@@ -5,11 +5,12 @@ use Rattle.std.specs.Str.{bytes_eq}
 use Rattle.dt_names.specs.declared.fault.Fault.{Fault}
 use Rattle.dt_names.specs.declared.fault.FaultKind.{FaultKind}
 use Rattle.dt_names.specs.declared.fault.FaultKind.TheVariants.{NoMemory, Limit, BadVersionTag, BadToken, BadInteger, BadName, PropertyAfterNode, BadReferenceWidth, DivideByZero, OutOfRange, Syntax}
-use Rattle.dt_model.specs.Limits.{most_nodes}
+use Rattle.dt_model.specs.Limits.{most_nodes, most_bytes}
 use Rattle.dt_model.specs.Names.{Name}
 use Rattle.dt_model.specs.Tree as tree
 use Rattle.dt_model.specs.Tree.{Property, Forest, Reading}
 use Rattle.dt_model.specs.Valid as valid
+use Rattle.dt_model.specs.Valid.{IsWithinLimits}
 use Rattle.dt_model.specs.Source.{Mode, base, raw, duplicate_property, duplicate_node, duplicate_label, no_such_target, reserved_name, too_deep, misplaced, unresolved, bad_phandle, duplicate_phandle}
 use Rattle.dt_model.specs.Refused.{SourceRefusal, at_place, at_end, too_many as too_many_nodes}
 use Rattle.dt_model.specs.Named as named
@@ -18,7 +19,7 @@ use Rattle.dt_model.specs.Instance.{numbered_forest, instance_of, symbols_of, wi
 use Rattle.dt_laws.specs.Sources.{SourceIsPlain}
 use Rattle.dt_laws.specs.NamedTrees.{TreeIsMeant}
 use Rattle.dt_grammar.specs.Grammar.{Says}
-use Rattle.dt_parse.specs.Reading.{IsParsed, IsSourceFault}
+use Rattle.dt_parse.specs.Reading.{IsSourceFault}
 use Rattle.dt_parse.proofs.Parsing.{source_kind}
 use Rattle.dt_source.specs.Refusals.{WhyNotNamed, fault_of, place_of}
 use Rattle.dt_flat.specs.Arena.{Arena, Slot, named_children, child_of, reading}
@@ -27,20 +28,20 @@ use Rattle.dt_marks.specs.Refusals.{WhyNoSymbols}
 use Rattle.dt_write.specs.Written.{written}
 use Rattle.dt_write.specs.Refusals.{WhyNoBlob}
 use Rattle.dt_chain.specs.Means.{TextHasTree}
-use Rattle.dt_chain.specs.Compiled.{WhyNotCompiled, IsCompilerFault, told, no_memory, unparsed, unnamed, many, big}
-use Rattle.dt_chain.specs.Steps.{TextHasNamed, IsNumbered, HasRoom, WhyNotLabelled}
+use Rattle.dt_chain.specs.Compiled.{IsCompiled, WhyNotCompiled, IsCompilerFault, told, no_memory, unparsed, unnamed, many, big}
+use Rattle.dt_chain.specs.Steps.{OfEachText, HasNamed, IsNumbered, HasRoom, WhyNotLabelled}
 
 -- a fault is told by its kind and its place
-fault_is : (fault : Fault) (at : Option ℕ) → fault.at ≡ at → record { kind = fault.kind; at = at } ≡ fault
+pub fault_is : (fault : Fault) (at : Option ℕ) → fault.at ≡ at → record { kind = fault.kind; at = at } ≡ fault
 fault_is fault at e = sym (ap (λ (x : Option ℕ). let f : Fault = record { kind = fault.kind; at = x } in f) e)
 
-pub not_named : (mode : Mode) (text : List ℕ) (s : Says) (fault : Fault) → IsParsed text s → WhyNotNamed mode fault.kind s × (fault.at ≡ place_of fault.kind)
-    → WhyNotCompiled mode text fault
-not_named mode text s fault parsed why = subst (WhyNotCompiled mode text) (fault_is fault (place_of fault.kind) why.1) (unnamed s fault.kind parsed why.0)
+pub not_named : (mode : Mode) (s : Says) (fault : Fault) → WhyNotNamed mode fault.kind s × (fault.at ≡ place_of fault.kind)
+    → OfEachText s (λ text. WhyNotCompiled mode text fault)
+not_named mode s fault why text parsed = subst (WhyNotCompiled mode text) (fault_is fault (place_of fault.kind) why.1) (unnamed s fault.kind parsed why.0)
 
 -- ---- room for the labels
 
-no_sibling : (numbers : List (Option ℕ)) (k : ℕ) (f : NamedForest NodeReference) (x : Name) → sibling f x ≡ None → tree.sibling (numbered_forest numbers k f) x ≡ None
+pub no_sibling : (numbers : List (Option ℕ)) (k : ℕ) (f : NamedForest NodeReference) (x : Name) → sibling f x ≡ None → tree.sibling (numbered_forest numbers k f) x ≡ None
 no_sibling numbers k no_nodes x e = refl
 no_sibling numbers k (branch name content children siblings) x e = step (no_sibling numbers (suc k + node_count children) siblings x) (bytes_eq x name) refl
   where
@@ -53,12 +54,16 @@ none_mapped : {X Y : Type 0} (f : X → Y) (o : Option X) → option_map f o ≡
 none_mapped f None e = refl
 none_mapped f (Some x) e = absurd (let z : Some (f x) ≡ None = e in cc)
 
+-- a child that the reading hasn't the arena hasn't
+pub no_child : (a : Arena) (x : Name) → tree.sibling (reading a).children x ≡ None → child_of (named_children a.slots 0) x ≡ None
+no_child a x none = none_mapped (has a.slots) (child_of (named_children a.slots 0) x) (sym (sibling_below a.slots 0 x) ∙ none)
+
 pub room : (t : Named NodeReference) (a : Arena) → HasRoom t → IsNumbered raw t (reading a) → child_of (named_children a.slots 0) (codes "__symbols__") ≡ None
 room t a h n =
-    let none = subst (λ (u : Reading). tree.sibling u.children (codes "__symbols__") ≡ None) (sym n.is) (no_sibling n.numbers 1 t.children (codes "__symbols__") h.free) in
-    none_mapped (has a.slots) (child_of (named_children a.slots 0) (codes "__symbols__")) (sym (sibling_below a.slots 0 (codes "__symbols__")) ∙ none)
+    no_child a (codes "__symbols__")
+    (subst (λ (u : Reading). tree.sibling u.children (codes "__symbols__") ≡ None) (sym n.is) (no_sibling n.numbers 1 t.children (codes "__symbols__") h.free))
 
-not_there : (n : NamedNode NodeReference) (x : Name) → is_some (named.node_below n (x ∷ [])) ≡ false → sibling n.children x ≡ None
+pub not_there : (n : NamedNode NodeReference) (x : Name) → is_some (named.node_below n (x ∷ [])) ≡ false → sibling n.children x ≡ None
 not_there n x e = step (sibling n.children x) refl
   where
     step : (o : Option (NamedNode NodeReference)) → sibling n.children x ≡ o → sibling n.children x ≡ None
@@ -66,26 +71,27 @@ not_there n x e = step (sibling n.children x) refl
     step (Some c) h = absurd (true≢false (rw h at e))
 
 -- a base has no child in which its labels are kept
-pub base_has_room : SourceIsPlain → (text : List ℕ) (t : Named NodeReference) → TextHasNamed base text t → HasRoom t
-base_has_room plain text t h = record { free = not_there (named.root_of t) (codes "__symbols__") (step (is_some (node_at t (codes "__symbols__" ∷ []))) refl) }
+pub base_has_room : SourceIsPlain → (s : Says) (t : Named NodeReference) → HasNamed base s t → HasRoom t
+base_has_room plain s t h = record { free = not_there (named.root_of t) (codes "__symbols__") (step (is_some (node_at t (codes "__symbols__" ∷ []))) refl) }
   where
     step : (b : Bool) → is_some (node_at t (codes "__symbols__" ∷ [])) ≡ b → is_some (node_at t (codes "__symbols__" ∷ [])) ≡ false
     step false e = e
     step true e =
-        let p = plain h.says.reservations h.says.places h.tree.means.meaning h.tree.means.means in
+        let p = plain s.reservations s.places h.tree.means.meaning h.tree.means.means in
         let stands : h.tree.means.meaning.stands (codes "__symbols__" ∷ []) ≡ true =
         ap (λ (m : Rattle.dt_model.specs.Meaning.Meaning). m.stands (codes "__symbols__" ∷ [])) h.tree.means.means.means ∙ sym (h.tree.means.tree.nodes (codes "__symbols__" ∷ [])) ∙ e in
         absurd (true≢false (p.plain (codes "__symbols__" ∷ []) stands))
 
 -- ---- the whole tree
 
-pub tree_of_text : TreeIsMeant → (mode : Mode) (text : List ℕ) (t : Named NodeReference) (r : Reading) → TextHasNamed mode text t → IsNumbered mode t r → TextHasTree mode text r
-tree_of_text meant mode text t r h n = record {
-  says = h.says;
-  parsed = h.parsed;
+pub tree_of_text : TreeIsMeant → (mode : Mode) (s : Says) (t : Named NodeReference) (r : Reading) → HasNamed mode s t → IsNumbered mode t r
+    → OfEachText s (λ text. TextHasTree mode text r)
+tree_of_text meant mode s t r h n text parsed = record {
+  says = s;
+  parsed = parsed;
   plain = h.tree.plain;
-  tree = subst (Rattle.dt_model.specs.Instance.IsTreeOf mode h.says.reservations h.says.places) (sym n.is)
-      (meant mode h.says.reservations h.says.places t n.numbers h.some h.places h.reservations h.tree.means h.tree.named n.numbering);
+  tree = subst (Rattle.dt_model.specs.Instance.IsTreeOf mode s.reservations s.places) (sym n.is)
+      (meant mode s.reservations s.places t n.numbers h.some h.places h.reservations h.tree.means h.tree.named n.numbering);
 }
 
 -- ---- too many nodes
@@ -113,7 +119,7 @@ many_with : (symbols : List Property) (t : Reading) → 0 < length symbols → v
 many_with [] t h = absurd (omega arith)
 many_with (s ∷ symbols) t h = one_more t.children (codes "__symbols__") (s ∷ symbols)
 
-too_many : (t : Named NodeReference) (numbers : List (Option ℕ)) (count : ℕ) → count ≡ length (list_of t) → 0 < length (symbols_of t) → most_nodes ≤ count
+pub too_many : (t : Named NodeReference) (numbers : List (Option ℕ)) (count : ℕ) → count ≡ length (list_of t) → 0 < length (symbols_of t) → most_nodes ≤ count
     → most_nodes < 1 + valid.node_count (with_symbols (symbols_of t) (instance_of numbers t)).children
 too_many t numbers count e some h =
     let a = many_with (symbols_of t) (instance_of numbers t) some in
@@ -126,18 +132,20 @@ no_labels t r slots NoMemory n e why = tt
 no_labels t r slots Limit n e why = (why.0, subst (λ (k : ℕ). most_nodes ≤ k) e why.1, n.numbers, n.numbering)
 no_labels t r slots _ n e why = absurd why
 
-unlabelled : TreeIsMeant → (text : List ℕ) (t : Named NodeReference) (kind : FaultKind) → TextHasNamed base text t → WhyNotLabelled kind t → WhyNotCompiled base text (told kind)
-unlabelled meant text t NoMemory h why = no_memory
-unlabelled meant text t Limit h why =
+unlabelled : TreeIsMeant → (s : Says) (t : Named NodeReference) (kind : FaultKind) → HasNamed base s t → WhyNotLabelled kind t
+    → OfEachText s (λ text. WhyNotCompiled base text (told kind))
+unlabelled meant s t NoMemory h why text parsed = no_memory
+unlabelled meant s t Limit h why text parsed =
     many (with_symbols (symbols_of t) (instance_of why.2 t))
-    (tree_of_text meant base text t _ h (record { numbers = why.2; numbering = why.3; is = refl })) (too_many t why.2 (length (list_of t)) refl why.0 why.1)
-unlabelled meant text t _ h why = absurd why
+    (tree_of_text meant base s t _ h (record { numbers = why.2; numbering = why.3; is = refl }) text parsed) (too_many t why.2 (length (list_of t)) refl why.0 why.1)
+unlabelled meant s t _ h why text parsed = absurd why
 
-pub not_labelled : TreeIsMeant → (text : List ℕ) (t : Named NodeReference) (fault : Fault) → TextHasNamed base text t → WhyNotLabelled fault.kind t × (fault.at ≡ None) → WhyNotCompiled base text fault
-not_labelled meant text t fault h why = subst (WhyNotCompiled base text) (fault_is fault None why.1) (unlabelled meant text t fault.kind h why.0)
+pub not_labelled : TreeIsMeant → (s : Says) (t : Named NodeReference) (fault : Fault) → HasNamed base s t → WhyNotLabelled fault.kind t × (fault.at ≡ None)
+    → OfEachText s (λ text. WhyNotCompiled base text fault)
+not_labelled meant s t fault h why text parsed = subst (WhyNotCompiled base text) (fault_is fault None why.1) (unlabelled meant s t fault.kind h why.0 text parsed)
 
-pub not_numbered : (mode : Mode) (text : List ℕ) (fault : Fault) → (fault.kind ≡ NoMemory) × (fault.at ≡ None) → WhyNotCompiled mode text fault
-not_numbered mode text fault why =
+pub not_numbered : (mode : Mode) (s : Says) (fault : Fault) → (fault.kind ≡ NoMemory) × (fault.at ≡ None) → OfEachText s (λ text. WhyNotCompiled mode text fault)
+not_numbered mode s fault why text parsed =
     subst (WhyNotCompiled mode text) (ap told (sym why.0) ∙ fault_is fault None why.1) no_memory
 
 -- ---- the blob
@@ -147,9 +155,17 @@ unwritten mode text r NoMemory h why = no_memory
 unwritten mode text r Limit h why = big r h why
 unwritten mode text r _ h why = absurd why
 
-pub not_written : (mode : Mode) (text : List ℕ) (r : Reading) (fault : Fault) → TextHasTree mode text r → WhyNoBlob fault.kind (length (written r)) × (fault.at ≡ None)
-    → WhyNotCompiled mode text fault
-not_written mode text r fault h why = subst (WhyNotCompiled mode text) (fault_is fault None why.1) (unwritten mode text r fault.kind h why.0)
+-- the text has the tree, whatever text says this
+abbrev pub HasTree : Mode → Says → Reading → Type 0
+HasTree mode s r = OfEachText s (λ text. TextHasTree mode text r)
+
+pub not_written : (mode : Mode) (s : Says) (r : Reading) (fault : Fault) → HasTree mode s r → WhyNoBlob fault.kind (length (written r)) × (fault.at ≡ None)
+    → OfEachText s (λ text. WhyNotCompiled mode text fault)
+not_written mode s r fault h why text parsed = subst (WhyNotCompiled mode text) (fault_is fault None why.1) (unwritten mode text r fault.kind (h text parsed) why.0)
+
+pub is_written : (mode : Mode) (s : Says) (r : Reading) (blob : List ℕ) → HasTree mode s r → IsWithinLimits r → blob ≡ written r → length blob ≤ most_bytes
+    → OfEachText s (λ text. IsCompiled mode text blob)
+is_written mode s r blob h within is size text parsed = record { tree = r; of_text = h text parsed; is = is; within = within; size = size }
 
 -- ---- results
 
@@ -185,7 +201,7 @@ named_kind mode s NoMemory why = tt
 named_kind mode s BadVersionTag why = tt
 named_kind mode s _ why = subst IsCompilerFault (sym why.told) (refusal_kind why.refusal)
 
-of_source : (k : FaultKind) → IsSourceFault k → IsCompilerFault k
+pub of_source : (k : FaultKind) → IsSourceFault k → IsCompilerFault k
 of_source NoMemory h = tt
 of_source Limit h = tt
 of_source BadVersionTag h = tt

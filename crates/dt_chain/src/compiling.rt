@@ -5,66 +5,116 @@ ghost use Rattle.dt_flat.specs.Arena.{reading};
 ghost use Rattle.dt_model.specs.Named.{tree_of};
 ghost use Rattle.dt_model.specs.Source.{base, raw};
 ghost use Rattle.dt_names.specs.declared.fault.FaultKind.TheVariants.{NoMemory};
-ghost use Rattle.dt_source.specs.Refusals.{mode_said};
+ghost use Rattle.dt_source.specs.Refusals.{mode_said, WhyNotNamed, place_of};
+ghost use Rattle.dt_chain.specs.Blobs.{IsBlobOf, WhyNoBlob};
 ghost use Rattle.dt_chain.specs.Compiled.{IsCompiled, WhyNotCompiled, IsCompilerFault};
-ghost use Rattle.dt_chain.specs.Means.{TextHasTree};
-ghost use Rattle.dt_chain.specs.Steps.{TextHasNamed, IsNumbered, HasRoom, WhyNotLabelled};
+ghost use Rattle.dt_chain.specs.CompiledOverlay.{IsCompiledOverlay, WhyNotCompiledOverlay};
+ghost use Rattle.dt_chain.specs.Means.{TextHasTree, OverlayTextHasTree};
+ghost use Rattle.dt_chain.specs.Steps.{
+  OfEachText,
+  HasNamed,
+  IsNumbered,
+  HasRoom,
+  WhyNotLabelled,
+  HasRooms,
+  IsMarked,
+  WhyNotMarked,
+};
 
 use dt_flat::FlatTree;
-use dt_laws::{source_is_a_meaning, tree_is_meant};
-use dt_marks::add_symbols;
+use dt_laws::{overlay_source_is_an_overlay, source_is_a_meaning, tree_is_meant};
+use dt_marks::{add_fixups, add_symbols};
 use dt_names::Fault;
-use dt_parse::parse;
+use dt_parse::{Source, parse};
 use dt_phandle::{instance, number};
-use dt_source::{Mode, NamedTree, build_base};
+use dt_source::{Mode, NamedTree, build_base, build_overlay};
 use dt_write::write_blob;
 use std::alloc::Global;
 
-/// The blob of a base source (Devicetree Specification v0.4, chapters 5 and 6): version 17, boot CPU 0. Nodes, properties and
+/// The blob of a source (Devicetree Specification v0.4, chapters 5 and 6): version 17, boot CPU 0. Nodes, properties and
 /// labels stand in the order of the text. Each node that a label or a reference in a cell list names has a number of its
 /// own, its property `phandle`: the written one, or else the least that no node has, in the order of the tree. Where there
-/// is a label, the root's last child `__symbols__` holds the labels with their nodes' paths.
+/// is a label, the root's child `__symbols__` holds the labels with their nodes' paths, behind the source's own nodes.
+///
+/// Of an overlay's source (`/plugin/;`), the object that a boot loader applies to a blob with `__symbols__` (dtc's notes on
+/// overlay objects). A block by a label that the source has given before opens that node; each other block by a label or a path
+/// opens the content of a new fragment. A cell by a label that the source gives holds its node's number, and `__local_fixups__` tells
+/// where; a cell by any other label is all ones, and `__fixups__` tells where.
 ///
 /// # Errors
 ///
-/// In this order: a text that is no source, with the fault and the place of `dt_parse::parse`; an overlay's source:
-/// `BadVersionTag`, at 0; then, without a place, the first place of the text that is refused: `ReservedName`,
-/// `DuplicateNode`, `DuplicateProperty`, `DuplicateLabel`, `NoSuchTarget`, or `Limit` (a path of more than 64 names); then
-/// what is wrong at the end: `UnresolvedReference`, `BadPhandle`, `DuplicatePhandle`; then `Limit`: more than 65,536 nodes,
-/// `__symbols__` among them, or a blob longer than 16 MiB. `NoMemory` may be met at any time.
+/// In this order: a text that is no source, with the fault and the place of `dt_parse::parse`. The others have no place: of
+/// an overlay's source, memory reservations: `OverlayReserve`; then the first place of the text that is refused:
+/// `ReservedName`, `DuplicateNode`, `DuplicateProperty`, `DuplicateLabel`, or `Limit` (a path of more than 64 names); of a
+/// base also `NoSuchTarget`, of an overlay's source also `OverlayDelete`, `OverlayPhandle` and `OverlayPathReference`; then
+/// what is wrong at the end: of a base `UnresolvedReference`, `BadPhandle`, `DuplicatePhandle`, of an overlay's source
+/// `BadFragment`, `OutsideContent`; then `Limit`: more than 65,536 nodes, or in an object a path of more than 64 names, those
+/// that are added among them, or a blob longer than 16 MiB. `NoMemory` may be met at any time.
 pub fn compile(alloc: Global, text: &[u8]) -> Result<Vec<u8>, Fault>
-    ensures blob { IfOk result (λ blob. IsCompiled base text.now blob.items) }
-    ensures refused { IfErr result (λ fault. WhyNotCompiled base text.now fault) }
+    ensures blob { IfOk result (λ blob. IsBlobOf text.now blob.items) }
+    ensures refused { IfErr result (λ fault. WhyNoBlob text.now fault) }
     ensures kinds { IfErr result (λ fault. IsCompilerFault fault.kind) }
 {
-    let tree = base_tree(alloc, text)?;
-    tree.validity();
-    write_blob(alloc, &tree)
+    let source = parse(alloc, text)?;
+    if source.is_overlay() {
+        overlay_blob(alloc, &source)
+    } else {
+        base_blob(alloc, &source)
+    }
 }
 
-/// The blob of a source as it stands: as `compile`, but the bookkeeping nodes may be written, and nothing is added.
+/// The blob of a source as it stands: as `compile` of a base, but the bookkeeping nodes may be written, and nothing is added.
 ///
 /// # Errors
 ///
-/// Those of `compile`, but `ReservedName`.
+/// Those of `compile` of a base, but `ReservedName`; and an overlay's source: `BadVersionTag`, at 0, after the faults of
+/// `dt_parse::parse`.
 pub fn compile_raw(alloc: Global, text: &[u8]) -> Result<Vec<u8>, Fault>
     ensures blob { IfOk result (λ blob. IsCompiled raw text.now blob.items) }
     ensures refused { IfErr result (λ fault. WhyNotCompiled raw text.now fault) }
     ensures kinds { IfErr result (λ fault. IsCompilerFault fault.kind) }
 {
-    let tree = raw_tree(alloc, text)?;
+    let source = parse(alloc, text)?;
+    raw_blob(alloc, &source)
+}
+
+// The blob of a base.
+fn base_blob(alloc: Global, source: &Source<'_>) -> Result<Vec<u8>, Fault>
+    ensures blob { IfOk result (λ blob. OfEachText source.now (λ text. IsCompiled base text blob.items)) }
+    ensures refused { IfErr result (λ fault. OfEachText source.now (λ text. WhyNotCompiled base text fault)) }
+{
+    let tree = base_tree(alloc, source)?;
     tree.validity();
     write_blob(alloc, &tree)
 }
 
-/// The tree that a text means.
-fn named_tree<'a>(alloc: Global, text: &'a [u8], mode: Mode) -> Result<NamedTree<'a>, Fault>
-    ensures named { IfOk result (λ t. TextHasNamed (mode_said mode) text.now (tree_of t)) }
-    ensures refused { IfErr result (λ fault. WhyNotCompiled (mode_said mode) text.now fault) }
+// The blob of a source as it stands.
+fn raw_blob(alloc: Global, source: &Source<'_>) -> Result<Vec<u8>, Fault>
+    ensures blob { IfOk result (λ blob. OfEachText source.now (λ text. IsCompiled raw text blob.items)) }
+    ensures refused { IfErr result (λ fault. OfEachText source.now (λ text. WhyNotCompiled raw text fault)) }
 {
-    let source = parse(alloc, text)?;
+    let tree = raw_tree(alloc, source)?;
+    tree.validity();
+    write_blob(alloc, &tree)
+}
+
+// The blob of an overlay's object.
+fn overlay_blob(alloc: Global, source: &Source<'_>) -> Result<Vec<u8>, Fault>
+    ensures blob { IfOk result (λ blob. OfEachText source.now (λ text. IsCompiledOverlay text blob.items)) }
+    ensures refused { IfErr result (λ fault. OfEachText source.now (λ text. WhyNotCompiledOverlay text fault)) }
+{
+    let tree = overlay_tree(alloc, source)?;
+    tree.validity();
+    write_blob(alloc, &tree)
+}
+
+/// The tree that a source means.
+fn named_tree<'a>(alloc: Global, source: &Source<'a>, mode: Mode) -> Result<NamedTree<'a>, Fault>
+    ensures named { IfOk result (λ t. HasNamed (mode_said mode) source.now (tree_of t)) }
+    ensures refused { IfErr result (λ fault. WhyNotNamed (mode_said mode) fault.kind source.now × (fault.at ≡ place_of fault.kind)) }
+{
     source.spelled();
-    build_base(alloc, &source, mode)
+    build_base(alloc, source, mode)
 }
 
 /// The same with a number for each of its keyed nodes.
@@ -89,21 +139,42 @@ fn labelled(alloc: Global, named: &NamedTree<'_>) -> Result<FlatTree, Fault>
     Ok(tree)
 }
 
-fn base_tree(alloc: Global, text: &[u8]) -> Result<FlatTree, Fault>
-    ensures tree { IfOk result (λ t. TextHasTree base text.now (reading t)) }
-    ensures refused { IfErr result (λ fault. WhyNotCompiled base text.now fault) }
+/// The same with its cells that refer to nodes.
+fn marked(alloc: Global, named: &NamedTree<'_>) -> Result<FlatTree, Fault>
+    requires { HasRooms (tree_of named.now) }
+    ensures tree { IfOk result (λ t. IsMarked (tree_of named.now) (reading t)) }
+    ensures refused { IfErr result (λ fault. WhyNotMarked fault.kind (tree_of named.now) × (fault.at ≡ None)) }
+{
+    let mut tree = labelled(alloc, named)?;
+    add_fixups(alloc, &mut tree, named)?;
+    Ok(tree)
+}
+
+fn base_tree(alloc: Global, source: &Source<'_>) -> Result<FlatTree, Fault>
+    ensures tree { IfOk result (λ t. OfEachText source.now (λ text. TextHasTree base text (reading t))) }
+    ensures refused { IfErr result (λ fault. OfEachText source.now (λ text. WhyNotCompiled base text fault)) }
 {
     tree_is_meant();
     source_is_a_meaning();
-    let named = named_tree(alloc, text, Mode::Base)?;
+    let named = named_tree(alloc, source, Mode::Base)?;
     labelled(alloc, &named)
 }
 
-fn raw_tree(alloc: Global, text: &[u8]) -> Result<FlatTree, Fault>
-    ensures tree { IfOk result (λ t. TextHasTree raw text.now (reading t)) }
-    ensures refused { IfErr result (λ fault. WhyNotCompiled raw text.now fault) }
+fn raw_tree(alloc: Global, source: &Source<'_>) -> Result<FlatTree, Fault>
+    ensures tree { IfOk result (λ t. OfEachText source.now (λ text. TextHasTree raw text (reading t))) }
+    ensures refused { IfErr result (λ fault. OfEachText source.now (λ text. WhyNotCompiled raw text fault)) }
 {
     tree_is_meant();
-    let named = named_tree(alloc, text, Mode::Raw)?;
+    let named = named_tree(alloc, source, Mode::Raw)?;
     numbered(alloc, &named)
+}
+
+fn overlay_tree(alloc: Global, source: &Source<'_>) -> Result<FlatTree, Fault>
+    ensures tree { IfOk result (λ t. OfEachText source.now (λ text. OverlayTextHasTree text (reading t))) }
+    ensures refused { IfErr result (λ fault. OfEachText source.now (λ text. WhyNotCompiledOverlay text fault)) }
+{
+    overlay_source_is_an_overlay();
+    source.spelled();
+    let overlay = build_overlay(alloc, source)?;
+    marked(alloc, overlay.tree())
 }

@@ -1,0 +1,159 @@
+-- An overlay's source is compiled to one blob, or is refused for one reason.
+use Rattle.std.proofs.Common.{◌≡◌, ◌≢◌, ℕ, ◌<◌, ◌≤◌, ◌⊎◌, inl, inr, List, [], length, refl, sym, ap, subst, ◌∙◌, true, false, true≢false, arith}
+use Rattle.dt_names.specs.declared.fault.Fault.{Fault}
+use Rattle.dt_names.specs.declared.fault.FaultKind.{FaultKind}
+use Rattle.dt_names.specs.declared.fault.FaultKind.TheVariants.{NoMemory, Limit, BadVersionTag, OverlayReserve}
+use Rattle.dt_model.specs.Limits.{most_bytes}
+use Rattle.dt_model.specs.Format.{Reads}
+use Rattle.dt_model.specs.OverlaySource.{OverlayMeans}
+use Rattle.dt_model.specs.Tree.{Reading}
+use Rattle.dt_model.specs.Valid.{IsWithinLimits}
+use Rattle.dt_model.specs.Instance.{symbols_of, instance_of}
+use Rattle.dt_model.specs.Fixups.{IsObjectOf}
+use Rattle.dt_laws.specs.OverlayTrees.{OneOverlay, OneObject, OverlayRefusalIsOne, OverlayIsNotRefused, ObjectIsNotRefused, ObjectIsValid}
+use Rattle.dt_laws.specs.ShortValues.{ReadValuesAreShort, ShortObjectEncodes}
+use Rattle.dt_grammar.specs.Grammar.{Says}
+use Rattle.dt_parse.specs.Reading.{IsParsed}
+use Rattle.dt_source.specs.Refusals.{WhyNoOverlay, IsOverlayFaultOf, overlay_fault_of}
+use Rattle.dt_write.specs.Written.{written}
+use Rattle.dt_chain.specs.Means.{OverlayTextHasTree}
+use Rattle.dt_chain.specs.Compiled.{told}
+use Rattle.dt_chain.specs.CompiledOverlay.{IsCompiledOverlay, WhyNotCompiledOverlay, no_memory, refused, large, big}
+use Rattle.dt_chain.specs.Laws.{OneOverlayMeaning, OverlayIsObject}
+use Rattle.dt_chain.proofs.Outcomes.{SaidOnce, PlacesAre, WrittenReads, limit_told, no_boot_cpu, of_kind}
+
+-- ---- one meaning, one tree
+
+pub overlay_once : SaidOnce → OneOverlay → OneOverlayMeaning
+overlay_once once one text o q h k =
+    let said : h.says ≡ k.says = once text h.says k.says h.parsed k.parsed in
+    one k.says.places o q (subst (λ (s : Says). OverlayMeans s.places o) said h.means) k.means
+
+pub tree_once : SaidOnce → OneObject → (text : List ℕ) (t u : Reading) → OverlayTextHasTree text t → OverlayTextHasTree text u → t ≡ u
+tree_once once one text t u h k =
+    let said : h.says ≡ k.says = once text h.says k.says h.parsed k.parsed in
+    one k.says.places t u (subst (λ (s : Says). IsObjectOf s.places t) said h.tree) k.tree
+
+pub blob_once : SaidOnce → OneObject → (text blob other : List ℕ) → IsCompiledOverlay text blob → IsCompiledOverlay text other → blob ≡ other
+blob_once once one text blob other h k = h.is ∙ ap written (tree_once once one text h.tree k.tree h.of_text k.of_text) ∙ sym k.is
+
+-- ---- why a source has no object
+
+-- memory is wanted; or it is no overlay's; or it has reservations; or its places are refused
+abbrev Sorted : Says → FaultKind → Type 0
+Sorted s kind =
+    (kind ≡ NoMemory) ⊎ ((kind ≡ BadVersionTag) × (s.plugin ≡ false)) ⊎ ((kind ≡ OverlayReserve) × (s.plugin ≡ true) × (s.reservations ≢ [])) ⊎ IsOverlayFaultOf s kind
+
+sorted : (s : Says) (kind : FaultKind) → WhyNoOverlay kind s → Sorted s kind
+sorted s NoMemory why = inl refl
+sorted s BadVersionTag why = inr (inl (refl, why))
+sorted s OverlayReserve why = inr (inr (inl (refl, why.0, why.1)))
+sorted s _ why = inr (inr (inr why))
+
+no_plugin : (s : Says) → s.plugin ≡ false → s.plugin ≡ true → ⊥
+no_plugin s e h = true≢false (sym h ∙ e)
+
+-- a text that has a tree is refused for nothing but the number of its nodes
+only_many : SaidOnce → OverlayIsNotRefused → (text : List ℕ) (t : Reading) (s : Says) (kind : FaultKind) → OverlayTextHasTree text t → IsParsed text s
+    → kind ≢ NoMemory → WhyNoOverlay kind s → kind ≡ Limit
+only_many once not text t s kind h parsed wanted why = step (sorted s kind why)
+  where
+    said : h.says ≡ s
+    said = once text h.says s h.parsed parsed
+
+    tree : IsObjectOf s.places t
+    tree = subst (λ (x : Says). IsObjectOf x.places t) said h.tree
+
+    step : Sorted s kind → kind ≡ Limit
+    step (inl e) = absurd (wanted e)
+    step (inr (inl e)) = absurd (no_plugin s e.1 (subst (λ (x : Says). x.plugin ≡ true) said h.plugin))
+    step (inr (inr (inl e))) = absurd (e.2 (subst (λ (x : Says). x.reservations ≡ []) said h.reservations))
+    step (inr (inr (inr f))) = f.told ∙ ap overlay_fault_of (not s.places tree.of_places.overlay f.refusal tree.of_places.means f.refused)
+
+-- ---- answered, or refused
+
+pub compiled_not_refused : SaidOnce → OneObject → ObjectIsNotRefused
+    → (text blob : List ℕ) (e : Fault) → IsCompiledOverlay text blob → WhyNotCompiledOverlay text e → e.kind ≡ NoMemory
+compiled_not_refused once one not text blob _ h no_memory = refl
+compiled_not_refused once one not text blob _ h (refused s kind parsed why) = step (sorted s kind why)
+  where
+    said : h.of_text.says ≡ s
+    said = once text h.of_text.says s h.of_text.parsed parsed
+
+    tree : IsObjectOf s.places h.tree
+    tree = subst (λ (x : Says). IsObjectOf x.places h.tree) said h.of_text.tree
+
+    step : Sorted s kind → kind ≡ NoMemory
+    step (inl e) = e
+    step (inr (inl e)) = absurd (no_plugin s e.1 (subst (λ (x : Says). x.plugin ≡ true) said h.of_text.plugin))
+    step (inr (inr (inl e))) = absurd (e.2 (subst (λ (x : Says). x.reservations ≡ []) said h.of_text.reservations))
+    step (inr (inr (inr f))) = absurd (not s.places h.tree f.refusal tree h.within.count f.refused)
+compiled_not_refused once one not text blob _ h (large t k more) =
+    absurd (more (subst IsWithinLimits (tree_once once one text h.tree t h.of_text k) h.within))
+compiled_not_refused once one not text blob _ h (big t k more) =
+    let same : t ≡ h.tree = tree_once once one text t h.tree k h.of_text in
+    let less : length (written h.tree) ≤ most_bytes = subst (λ (b : List ℕ). length b ≤ most_bytes) h.is h.size in
+    let more' : most_bytes < length (written h.tree) = subst (λ (u : Reading). most_bytes < length (written u)) same more in
+    absurd (omega (arith, less, more'))
+
+-- ---- one refusal
+
+-- two refusals of a source
+named_once : OverlayRefusalIsOne → (s : Says) (k j : FaultKind) → Sorted s k → Sorted s j → k ≢ NoMemory → j ≢ NoMemory → k ≡ j
+named_once one s k j (inl e) also wanted wanted' = absurd (wanted e)
+named_once one s k j (inr (inl e)) (inl i) wanted wanted' = absurd (wanted' i)
+named_once one s k j (inr (inl e)) (inr (inl i)) wanted wanted' = e.0 ∙ sym i.0
+named_once one s k j (inr (inl e)) (inr (inr (inl i))) wanted wanted' = absurd (no_plugin s e.1 i.1)
+named_once one s k j (inr (inl e)) (inr (inr (inr g))) wanted wanted' = absurd (no_plugin s e.1 g.plugin)
+named_once one s k j (inr (inr (inl e))) (inl i) wanted wanted' = absurd (wanted' i)
+named_once one s k j (inr (inr (inl e))) (inr (inl i)) wanted wanted' = absurd (no_plugin s i.1 e.1)
+named_once one s k j (inr (inr (inl e))) (inr (inr (inl i))) wanted wanted' = e.0 ∙ sym i.0
+named_once one s k j (inr (inr (inl e))) (inr (inr (inr g))) wanted wanted' = absurd (e.2 g.reservations)
+named_once one s k j (inr (inr (inr f))) (inl i) wanted wanted' = absurd (wanted' i)
+named_once one s k j (inr (inr (inr f))) (inr (inl i)) wanted wanted' = absurd (no_plugin s i.1 f.plugin)
+named_once one s k j (inr (inr (inr f))) (inr (inr (inl i))) wanted wanted' = absurd (i.2 f.reservations)
+named_once one s k j (inr (inr (inr f))) (inr (inr (inr g))) wanted wanted' =
+    f.told ∙ ap overlay_fault_of (one s.places f.refusal g.refusal f.refused g.refused) ∙ sym g.told
+
+module _ (once : SaidOnce) (one : OverlayRefusalIsOne) (not : OverlayIsNotRefused) where
+  -- a text that has a tree is refused only as too large
+  with_tree : (text : List ℕ) (t : Reading) (f : Fault) → OverlayTextHasTree text t → f.kind ≢ NoMemory → WhyNotCompiledOverlay text f → told Limit ≡ f
+  with_tree text t _ h wanted no_memory = absurd (wanted refl)
+  with_tree text t _ h wanted (refused s kind parsed why) = sym (limit_told kind (only_many once not text t s kind h parsed wanted why))
+  with_tree text t _ h wanted (large u k more) = refl
+  with_tree text t _ h wanted (big u k more) = refl
+
+  -- a source is refused as one
+  with_source : (text : List ℕ) (s : Says) (k : FaultKind) (f : Fault) → IsParsed text s → WhyNoOverlay k s → k ≢ NoMemory → f.kind ≢ NoMemory → WhyNotCompiledOverlay text f → of_kind k ≡ f
+  with_source text s k _ parsed why wanted wanted' no_memory = absurd (wanted' refl)
+  with_source text s k _ parsed why wanted wanted' (refused r j same also) =
+      let said : r ≡ s = once text r s same parsed in
+      ap of_kind (named_once one s k j (sorted s k why) (sorted s j (subst (WhyNoOverlay j) said also)) wanted wanted')
+  with_source text s k _ parsed why wanted wanted' (large u h more) = limit_told k (only_many once not text u s k h parsed wanted why)
+  with_source text s k _ parsed why wanted wanted' (big u h more) = limit_told k (only_many once not text u s k h parsed wanted why)
+
+  pub refused_once : (text : List ℕ) (e f : Fault) → WhyNotCompiledOverlay text e → WhyNotCompiledOverlay text f → e.kind ≢ NoMemory → f.kind ≢ NoMemory → e ≡ f
+  refused_once text _ f no_memory also wanted wanted' = absurd (wanted refl)
+  refused_once text _ f (refused s kind parsed why) also wanted wanted' = with_source text s kind f parsed why wanted wanted' also
+  refused_once text _ f (large t h more) also wanted wanted' = with_tree text t f h wanted' also
+  refused_once text _ f (big t h more) also wanted wanted' = with_tree text t f h wanted' also
+
+-- ---- what the blob is
+
+pub overlay_is_object : PlacesAre → ObjectIsValid → WrittenReads → ShortObjectEncodes → ReadValuesAreShort → OverlayIsObject
+overlay_is_object places valid reads encodes short text blob bytes h =
+    let s = h.of_text.says in
+    let ps = places text s bytes h.of_text.parsed in
+    let object = h.of_text.tree in
+    let ok = valid s.places h.tree ps object h.within.count in
+    let read = subst (λ (b : List ℕ). Reads b h.tree) (sym h.is) (reads h.tree ok (subst (λ (b : List ℕ). length b ≤ most_bytes) h.is h.size)) in
+    let r = encodes s.places h.tree ps object h.within.count (short blob h.tree read) in
+    record {
+      overlay = r.0;
+      means = record { says = s; parsed = h.of_text.parsed; plugin = h.of_text.plugin; reservations = h.of_text.reservations; means = r.2 };
+      tree = h.tree;
+      reads = read;
+      number = r.1;
+      encodes = r.3;
+      boot_cpu = ap (λ (u : Reading). u.boot_cpu) object.is ∙ no_boot_cpu (symbols_of object.named) (instance_of object.numbers object.named);
+    }
