@@ -2,13 +2,14 @@
 use Rattle.std.specs.Prelude.{◌≡◌, ◌++◌, ◌∷◌, [], ℕ, List, Bool, Option, None, length, codes, decimal, if◌then◌else◌}
 use Rattle.std.specs.List.{sum_by}
 use Rattle.hex.specs.Hex.{encode_lower}
-use Rattle.dt_model.specs.Source.{Mode, base, raw}
+use Rattle.dt_model.specs.Source.{raw}
 use Rattle.dt_model.specs.Tree.{Reading, nodes_of}
 use Rattle.dt_model.specs.Format.{Reads, IsWithin}
 use Rattle.dt_model.specs.Checks.{BlobFault, IsFirstFault}
 use Rattle.dt_names.specs.declared.fault.FaultKind.{FaultKind}
 use Rattle.dt_names.specs.declared.fault.FaultKind.TheVariants.{NoMemory, WriteFault}
 use Rattle.dt_read.specs.Kinds.{kind_of}
+use Rattle.dt_chain.specs.Blobs as blobs
 use Rattle.dt_chain.specs.Compiled.{IsCompiled, WhyNotCompiled, IsCompilerFault}
 use Rattle.dtool.specs.Written.{IsUntouched, IsCutShort}
 use Rattle.dtool.specs.declared.job.Job.{Job}
@@ -37,15 +38,11 @@ pub record IsCounted (blob bytes : List ℕ) : Type 0 where
   pub within : IsWithin blob tree
   pub line : bytes ≡ counts_line tree
 
--- the blob that a source is compiled to
-abbrev pub IsBlobOf : Mode → Bool → List ℕ → List ℕ → Type 0
-IsBlobOf mode hex text bytes = (blob : List ℕ) × IsCompiled mode text blob × (bytes ≡ printed hex blob)
-
--- what the job writes of the inputs
+-- What the job writes of the inputs: the blob of a base or of an overlay; that of a source as it stands; or a line.
 abbrev pub IsWritten : Job → Bool → List (List ℕ) → List ℕ → Type 0
-IsWritten Compile hex (text ∷ []) bytes = IsBlobOf base hex text bytes
+IsWritten Compile hex (text ∷ []) bytes = (blob : List ℕ) × blobs.IsBlobOf text blob × (bytes ≡ printed hex blob)
 IsWritten Compile hex _ bytes = ⊥
-IsWritten CompileRaw hex (text ∷ []) bytes = IsBlobOf raw hex text bytes
+IsWritten CompileRaw hex (text ∷ []) bytes = (blob : List ℕ) × IsCompiled raw text blob × (bytes ≡ printed hex blob)
 IsWritten CompileRaw hex _ bytes = ⊥
 IsWritten Check hex (blob ∷ []) bytes = IsCounted blob bytes
 IsWritten Check hex _ bytes = ⊥
@@ -54,15 +51,11 @@ IsWritten Check hex _ bytes = ⊥
 abbrev pub WhyNoBlob : FaultKind → Option ℕ → List ℕ → Type 0
 WhyNoBlob kind at bytes = (f : BlobFault) × (kind ≡ kind_of f) × IsFirstFault bytes f at
 
--- why a source isn't compiled
-abbrev pub WhyNoBlobOf : Mode → FaultKind → Option ℕ → List ℕ → Type 0
-WhyNoBlobOf mode kind at text = WhyNotCompiled mode text (record { kind = kind; at = at }) × IsCompilerFault kind
-
 -- why the inputs are refused
 abbrev pub WhyNotMade : FaultKind → Option ℕ → Job → List (List ℕ) → Type 0
-WhyNotMade kind at Compile (text ∷ []) = WhyNoBlobOf base kind at text
+WhyNotMade kind at Compile (text ∷ []) = blobs.WhyNoBlob text (record { kind = kind; at = at }) × IsCompilerFault kind
 WhyNotMade kind at Compile _ = ⊥
-WhyNotMade kind at CompileRaw (text ∷ []) = WhyNoBlobOf raw kind at text
+WhyNotMade kind at CompileRaw (text ∷ []) = WhyNotCompiled raw text (record { kind = kind; at = at }) × IsCompilerFault kind
 WhyNotMade kind at CompileRaw _ = ⊥
 WhyNotMade kind at Check (blob ∷ []) = WhyNoBlob kind at blob
 WhyNotMade kind at Check _ = ⊥

@@ -9,7 +9,8 @@ ghost use Rattle.dtool.specs.declared.job.Job.TheVariants.{Compile, CompileRaw};
 use dt_names::{Fault, Sink, put_all};
 use std::alloc::Global;
 
-/// Compiles a source, and writes its blob as bytes, or with `hex` as lower-case hexadecimal and a line feed.
+/// Compiles a source, a base's or an overlay's, and writes its blob as bytes, or with `hex` as lower-case hexadecimal and a
+/// line feed.
 ///
 /// # Errors
 ///
@@ -26,7 +27,7 @@ pub fn compile<S: Sink>(alloc: Global, hex: bool, text: &[u8], out: &mut S) -> R
     show(alloc, hex, blob.as_slice(), out)
 }
 
-/// The same of a source as it stands: bookkeeping nodes may be written, and nothing is added.
+/// The same of a source that is no overlay's, as it stands: bookkeeping nodes may be written, and nothing is added.
 ///
 /// # Errors
 ///

@@ -12,9 +12,9 @@ use std::alloc::Global;
 /// What the tool can be asked for.
 #[derive(Clone, Copy, PartialEq, Eq)]
 pub enum Job {
-    /// A blob of one devicetree source.
+    /// A blob of one devicetree source: of a base, or of an overlay, which is its object.
     Compile,
-    /// The same of a source as it stands: bookkeeping nodes may be written, and nothing is added.
+    /// A blob of a source that is no overlay's, as it stands: bookkeeping nodes may be written, and nothing is added.
     CompileRaw,
     /// A line that tells how many nodes, properties and reservations a blob has.
     Check,

@@ -1,5 +1,5 @@
-//! `dtool`, a tool for devicetrees: `dtool compile [--hex] [--raw] FILE` makes a blob of a devicetree source, and
-//! `dtool check FILE` checks a blob and counts what it holds.
+//! `dtool`, a tool for devicetrees: `dtool compile [--hex] [--raw] FILE` makes a blob of a devicetree source, an object of an
+//! overlay's source, and `dtool check FILE` checks a blob and counts what it holds.
 //!
 //! The word `stdin` in place of a file is standard input. The exit status is 0, 1 at a fault of an input, which is told
 //! on standard error, or 2 where the words of the command line aren't a command.

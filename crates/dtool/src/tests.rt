@@ -332,6 +332,15 @@ fn words_that_are_a_command(rt: HostRuntime) {
     assert!(rt;
         asks_for(
             rt.alloc(),
+            "dtool compile --raw a.dts",
+            Job::CompileRaw,
+            false,
+            "a.dts"
+        )
+    );
+    assert!(rt;
+        asks_for(
+            rt.alloc(),
             "dtool compile -- --hex",
             Job::Compile,
             false,

@@ -172,7 +172,7 @@ fn raw<'a>(alloc: Global) -> Arg<'a>
     Arg::new(alloc, "raw")
         .long("raw")
         .action(ArgAction::SetTrue)
-        .help("Take the source as it stands: bookkeeping nodes may be written, and none is added")
+        .help("Take the source, no overlay's, as it stands: bookkeeping nodes may be written, and none is added")
 }
 
 /// `compile [--hex] [--raw] FILE`.
@@ -181,7 +181,7 @@ fn compile<'a>(alloc: Global) -> Result<Command<'a>, AllocError>
     ensures own { IfOk result (λ command. (out-Command command).has_globals ≡ false) }
 {
     Command::new(alloc, "compile")
-        .about("Makes a blob of a devicetree source")
+        .about("Makes a blob of a devicetree source; of an overlay's, the object that is applied")
         .arg(hex(alloc))?
         .arg(raw(alloc))?
         .arg(file(alloc, "The source; the word stdin is standard input"))

@@ -1,8 +1,7 @@
 use Rattle.std.proofs.Common.{refl, sym, subst}
 use Rattle.std.proofs.KnownBytes.{Keeps-refl}
 use Rattle.std.proofs.lemmas.Result.{err_from_is_err_and}
-use Rattle.dt_model.specs.Source.{base}
-use Rattle.dt_chain.specs.Compiled.{IsCompiled}
+use Rattle.dt_chain.specs.Blobs.{IsBlobOf}
 use Rattle.dtool.proofs.Refusals.{not_compiled, not_shown}
 use Rattle.dtool.proofs.compiling.compile.Goals as goal
 
@@ -13,12 +12,12 @@ returns-in_err-blob-clause-refused g c =
     let contents = g.S.Sink.contents c.args.out.now in
     let has_failed = g.S.Sink.has_failed c.args.out.now in
     rw (p.1, p.2)
-    (not_compiled contents contents has_failed has_failed base fault.kind fault.at c.args.hex c.args.text.now
+    (not_compiled contents contents has_failed has_failed fault.kind fault.at c.args.hex c.args.text.now
     c.in_err-blob.ensures.refused c.in_err-blob.ensures.kinds (Keeps-refl contents, refl))
 
 pub returns-clause-refused : goal.returns-clause-refused
 returns-clause-refused g c =
     let blob = c.as_slice.result.now in
-    let made : IsCompiled base c.args.text.now blob = subst (IsCompiled base c.args.text.now) (sym c.as_slice.ensures.value) c.in_ok-blob.ensures.blob in
+    let made : IsBlobOf c.args.text.now blob = subst (IsBlobOf c.args.text.now) (sym c.as_slice.ensures.value) c.in_ok-blob.ensures.blob in
     not_shown (g.S.Sink.contents c.args.out.now) (g.S.Sink.contents c.show.new.out) (g.S.Sink.has_failed c.args.out.now) (g.S.Sink.has_failed c.show.new.out)
-    base c.show.result c.args.hex c.args.text.now blob made c.show.ensures.refused
+    c.show.result c.args.hex c.args.text.now blob made c.show.ensures.refused

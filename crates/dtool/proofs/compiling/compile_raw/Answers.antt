@@ -3,7 +3,7 @@ use Rattle.std.proofs.KnownBytes.{Keeps-refl}
 use Rattle.std.proofs.lemmas.Result.{err_from_is_err_and}
 use Rattle.dt_model.specs.Source.{raw}
 use Rattle.dt_chain.specs.Compiled.{IsCompiled}
-use Rattle.dtool.proofs.Refusals.{not_compiled, not_shown}
+use Rattle.dtool.proofs.Refusals.{not_compiled_raw, not_shown_raw}
 use Rattle.dtool.proofs.compiling.compile_raw.Goals as goal
 
 pub returns-in_err-blob-clause-refused : goal.returns-in_err-blob-clause-refused
@@ -13,12 +13,12 @@ returns-in_err-blob-clause-refused g c =
     let contents = g.S.Sink.contents c.args.out.now in
     let has_failed = g.S.Sink.has_failed c.args.out.now in
     rw (p.1, p.2)
-    (not_compiled contents contents has_failed has_failed raw fault.kind fault.at c.args.hex c.args.text.now
+    (not_compiled_raw contents contents has_failed has_failed fault.kind fault.at c.args.hex c.args.text.now
     c.in_err-blob.ensures.refused c.in_err-blob.ensures.kinds (Keeps-refl contents, refl))
 
 pub returns-clause-refused : goal.returns-clause-refused
 returns-clause-refused g c =
     let blob = c.as_slice.result.now in
     let made : IsCompiled raw c.args.text.now blob = subst (IsCompiled raw c.args.text.now) (sym c.as_slice.ensures.value) c.in_ok-blob.ensures.blob in
-    not_shown (g.S.Sink.contents c.args.out.now) (g.S.Sink.contents c.show.new.out) (g.S.Sink.has_failed c.args.out.now) (g.S.Sink.has_failed c.show.new.out)
-    raw c.show.result c.args.hex c.args.text.now blob made c.show.ensures.refused
+    not_shown_raw (g.S.Sink.contents c.args.out.now) (g.S.Sink.contents c.show.new.out) (g.S.Sink.has_failed c.args.out.now) (g.S.Sink.has_failed c.show.new.out)
+    c.show.result c.args.hex c.args.text.now blob made c.show.ensures.refused
