@@ -172,7 +172,9 @@ fn raw<'a>(alloc: Global) -> Arg<'a>
     Arg::new(alloc, "raw")
         .long("raw")
         .action(ArgAction::SetTrue)
-        .help("Take the source, no overlay's, as it stands: bookkeeping nodes may be written, and none is added")
+        .help(
+            "Take the source, no overlay's, as it stands: bookkeeping nodes may be written, and none is added",
+        )
 }
 
 /// `compile [--hex] [--raw] FILE`.
