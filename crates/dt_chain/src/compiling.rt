@@ -135,8 +135,14 @@ fn labelled(alloc: Global, named: &NamedTree<'_>) -> Result<FlatTree, Fault>
 {
     named.validity();
     let mut tree = numbered(alloc, named)?;
-    add_symbols(alloc, &mut tree, named)?;
-    Ok(tree)
+    match add_symbols(alloc, &mut tree, named) {
+        Ok(()) => Ok(tree),
+        Err(fault) => {
+            // Let go of by hand: what goes at an exit by itself is proved there field by field.
+            drop(tree);
+            Err(fault)
+        }
+    }
 }
 
 /// The same with its cells that refer to nodes.
@@ -146,8 +152,13 @@ fn marked(alloc: Global, named: &NamedTree<'_>) -> Result<FlatTree, Fault>
     ensures refused { IfErr result (λ fault. WhyNotMarked fault.kind (tree_of named.now) × (fault.at ≡ None)) }
 {
     let mut tree = labelled(alloc, named)?;
-    add_fixups(alloc, &mut tree, named)?;
-    Ok(tree)
+    match add_fixups(alloc, &mut tree, named) {
+        Ok(()) => Ok(tree),
+        Err(fault) => {
+            drop(tree);
+            Err(fault)
+        }
+    }
 }
 
 fn base_tree(alloc: Global, source: &Source<'_>) -> Result<FlatTree, Fault>
