@@ -1,5 +1,5 @@
 -- The tree that is built of an overlay's places, with the fragments of its list, is what they mean.
-use Rattle.std.proofs.Common.{◌≡◌, ◌≢◌, ◌⊎◌, ℕ, ◌+◌, ◌<◌, ◌≤◌, ◌==◌, true, false, inl, inr, List, [], ◌∷◌, ◌++◌, map, length, reverse, Option, Some, None, refl, sym, ap, subst, ◌∙◌, arith}
+use Rattle.std.proofs.Common.{◌≡◌, ◌⊎◌, ℕ, ◌+◌, ◌<◌, ◌==◌, true, false, inl, inr, List, [], ◌∷◌, ◌++◌, map, length, reverse, Option, Some, None, refl, sym, ap, subst, ◌∙◌, arith}
 use Rattle.std.specs.Prelude.{option_and_then, Err}
 use Rattle.std.specs.List.{AllByRecursion, flat_map}
 use Rattle.std.specs.Option.{option_map, option_map_or, option_or}
@@ -14,7 +14,7 @@ use Rattle.dt_model.specs.Meaning.{Item, reference}
 use Rattle.dt_model.specs.Event.{Stack, value_at}
 use Rattle.dt_model.specs.Nested.{AreNested}
 use Rattle.dt_model.specs.Overlay.{inside, outside, OverlayReference}
-use Rattle.dt_model.specs.OverlaySource.{OverlayRefusal, as_any, overlay_delete, overlay_phandle, overlay_path, is_overlay_part, overlay_items, overlay_of, bad_fragment, outside_content, OverlaySoFar}
+use Rattle.dt_model.specs.OverlaySource.{OverlayRefusal, as_any, overlay_delete, overlay_phandle, overlay_path, is_overlay_part, overlay_items, overlay_of, bad_fragment, outside_content}
 use Rattle.dt_model.specs.Named.{NodeReference, Named, Listed, NamedList, node_count, list_of, tree_of}
 use Rattle.dt_model.specs.NamedOf.{IsNamed}
 use Rattle.dt_model.specs.NamedOverlay.{NamedFragment, IsNamedOverlayOf}
@@ -22,11 +22,11 @@ use Rattle.dt_model.specs.Source.{by_label, by_path, Part, one, number_of, text_
 use Rattle.dt_model.specs.Refused.{OverlaySourceRefusal, at_place, at_end, too_many, IsOverlayRefusedFor}
 use Rattle.dt_laws.specs.NamedTrees.{ListIsOfItsTree}
 use Rattle.dt_laws.specs.OverlayTrees.{OverlayIsNamed, OverlayManyStand}
-use Rattle.dt_laws.specs.OverlayChecks.{AreBehind, ListedAreBehind, AreChecked, HasUntargeted, AreUncontained, IsTreeAfter, OverlayValuesArePlain, CheckedIsMeant, UntargetedIsRefused, UncontainedIsRefused}
+use Rattle.dt_laws.specs.OverlayChecks.{AreBehind, ListedAreBehind, AreChecked, HasUntargeted, AreUncontained, IsTreeAfter, CheckedIsMeant, UntargetedIsRefused, UncontainedIsRefused}
 use Rattle.dt_grammar.specs.Grammar.{Says}
 use Rattle.dt_source.specs.Arena.{all_overlay}
 use Rattle.dt_source.specs.Building.{MayBeWhole}
-use Rattle.dt_source.specs.Contents.{named_part, named_parts, all_read, read_values, kept_label, IsLabelledPart, AreLabelled}
+use Rattle.dt_source.specs.Contents.{named_part, named_parts, all_read, read_values, IsLabelledPart, AreLabelled}
 use Rattle.dt_source.specs.Fragments.{AreOverlayNodes, WhyUnchecked, IsUnchecked}
 use Rattle.dt_source.specs.Nodes.{AreNodesBy, HasUnread}
 use Rattle.dt_source.specs.OverlayReading.{OverlayTells}

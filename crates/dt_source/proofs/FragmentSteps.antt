@@ -1,5 +1,5 @@
 -- What values have to be to name targets, and fragments one after another.
-use Rattle.std.proofs.Common.{◌≡◌, ◌≢◌, ℕ, zero, suc, ◌+◌, ◌<◌, ◌≤◌, Bool, true, false, not, ◌&&◌, ◌==◌, vec_len, cond, nat_eq, codes, Option, List, [], ◌∷◌, ◌++◌, map, drop, length, length-append, get_or, slice_get, Some, None, inl, inr, refl, sym, ap, subst, ◌∙◌, append_assoc, arith}
+use Rattle.std.proofs.Common.{◌≡◌, ℕ, zero, suc, ◌+◌, ◌<◌, ◌≤◌, Bool, true, false, not, ◌&&◌, ◌==◌, vec_len, cond, nat_eq, codes, Option, List, [], ◌∷◌, ◌++◌, map, drop, length, length-append, get_or, slice_get, Some, None, inl, inr, refl, sym, ap, subst, ◌∙◌, append_assoc, arith}
 use Rattle.std.specs.Global.{Vec}
 use Rattle.std.specs.List.{AllByRecursion}
 use Rattle.std.specs.Str.{bytes_eq}
@@ -9,8 +9,7 @@ use Rattle.std.proofs.lemmas.Bool.Decides.{eqb_tells}
 use Rattle.std.proofs.lemmas.Option.{slice_get-map, slice_get-get_or, slice_get_within}
 use Rattle.dt_model.specs.Lists.{IsIn}
 use Rattle.dt_model.specs.Meaning.{Item, byte, reference}
-use Rattle.dt_model.specs.Names.{IsNodeName}
-use Rattle.dt_model.specs.Path.{Path, path_text}
+use Rattle.dt_model.specs.Path.{Path}
 use Rattle.dt_model.specs.Named.{NodeReference, Listed}
 use Rattle.dt_model.specs.NamedOverlay.{NamedTarget, NamedFragment}
 use Rattle.dt_laws.specs.OverlayChecks.{is_first, is_content, fragments_among, IsPathText, HoldTarget, properties_at, is_within, refers_within, AreFragmentsAmong}
@@ -229,8 +228,8 @@ module _ (nodes : List NamedNode) where
   not_targeted fs i n BadFragment l is content h why = (
     n.parent,
     subst (λ ks. IsIn n.parent ks)
-    (ap (λ ks. map (λ (f : NamedFragment). f.node) fs ++ ks) (sym (first_left nodes i n l is ∙ ap (λ b. cond b (n.parent ∷ rest) rest) content)) ∙ h.nodes_are)
-    (in_behind (map (λ (f : NamedFragment). f.node) fs) rest n.parent),
+        (ap (λ ks. map (λ (f : NamedFragment). f.node) fs ++ ks) (sym (first_left nodes i n l is ∙ ap (λ b. cond b (n.parent ∷ rest) rest) content)) ∙ h.nodes_are)
+        (in_behind (map (λ (f : NamedFragment). f.node) fs) rest n.parent),
     why,
   )
     where

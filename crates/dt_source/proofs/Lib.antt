@@ -43,3 +43,4 @@ pub mod BuiltOverlays
 pub mod NamesMade
 pub mod Marks
 pub mod FragmentSteps
+pub mod OverlayOutcomes

@@ -1,5 +1,5 @@
 -- A source has a tree, or is refused for one reason.
-use Rattle.std.proofs.Common.{◌≡◌, ◌⊎◌, inl, inr, ℕ, true, true≢false, refl, sym, ap, ◌∙◌}
+use Rattle.std.proofs.Common.{◌≡◌, ◌⊎◌, inl, inr, true, true≢false, refl, sym, ap, ◌∙◌}
 use Rattle.dt_names.specs.Fault.{IsExclusive, IsOneRefusal}
 use Rattle.dt_names.specs.declared.fault.FaultKind.{FaultKind}
 use Rattle.dt_names.specs.declared.fault.FaultKind.TheVariants.{NoMemory, BadVersionTag}

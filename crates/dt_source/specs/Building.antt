@@ -1,5 +1,5 @@
 -- What is built of a source.
-use Rattle.std.specs.Prelude.{◌≡◌, ◌≤◌, ℕ, false, List, length, Ok}
+use Rattle.std.specs.Prelude.{◌≡◌, ◌≤◌, false, List, length, Ok}
 use Rattle.dt_model.specs.Limits.{most_nodes}
 use Rattle.dt_model.specs.Named.{NodeReference, Listed, Named, NamedList}
 use Rattle.dt_model.specs.NamedOf.{IsNamed, IsNamedOf}

@@ -1,11 +1,13 @@
 -- What the fragments of an overlay say, and what was looked at in the nodes of its tree.
-use Rattle.std.specs.Prelude.{◌≡◌, ◌≢◌, ◌<◌, ℕ, List, None, Ok, slice_get}
+use Rattle.std.specs.Prelude.{◌≡◌, true, List, None, Ok}
 use Rattle.std.specs.Prelude as prelude
-use Rattle.dt_model.specs.Named.{NodeReference, NamedProperty, Listed, NamedList}
-use Rattle.dt_model.specs.NamedOverlay.{NamedTarget, to_reference, to_text, NamedFragment}
+use Rattle.dt_model.specs.Named.{NodeReference, NamedProperty, Listed, Named, NamedList}
+use Rattle.dt_model.specs.NamedOf.{IsNamed}
+use Rattle.dt_model.specs.NamedOverlay.{NamedTarget, to_reference, to_text, NamedFragment, IsNamedOverlayOf}
 use Rattle.dt_model.specs.OverlaySource.{OverlaySoFar, overlay_of}
 use Rattle.dt_model.specs.Source.{Place}
 use Rattle.dt_laws.specs.OverlayChecks.{HoldTarget, HasUntargeted, AreUncontained}
+use Rattle.dt_grammar.specs.Grammar.{Says}
 use Rattle.dt_names.specs.declared.fault.Fault.{Fault}
 use Rattle.dt_names.specs.declared.fault.FaultKind.{FaultKind}
 use Rattle.dt_names.specs.declared.fault.FaultKind.TheVariants.{NoMemory, BadFragment, OutsideContent}
@@ -27,6 +29,14 @@ fragment_said f = record { node = f.node; target = target_said f.target }
 pub record ListedOverlay : Type 0 where
   pub tree : NamedList NodeReference
   pub fragments : List NamedFragment
+
+-- the source is an overlay's, without memory reservations, and means this tree, which is one that a source may mean, with these
+-- fragments
+pub record HasOverlay (s : Says) (t : Named NodeReference) (fragments : List NamedFragment) : Type 0 where
+  pub plugin : s.plugin ≡ true
+  pub reservations : s.reservations ≡ prelude.[]
+  pub means : IsNamedOverlayOf s.places t fragments
+  pub named : IsNamed t
 
 -- memory was refused, or a node with these properties holds no target
 abbrev pub WhyNoTarget : List (NamedProperty NodeReference) → FaultKind → Type 0

@@ -122,7 +122,9 @@ pub(crate) fn is_first(nodes: &[NamedNode<'_>], number: NodeId) -> bool
 fn is_content(nodes: &[NamedNode<'_>], node: &NamedNode<'_>) -> bool
     ensures { result ≡ checks.is_content (map node_said nodes.now) (node_said node.now) }
 {
-    node.parent != 0 && is_first(nodes, node.parent) && node.name.as_slice() == b"__overlay__".as_slice()
+    node.parent != 0
+        && is_first(nodes, node.parent)
+        && node.name.as_slice() == b"__overlay__".as_slice()
 }
 
 /// Adds the fragment of a number.

@@ -24,7 +24,7 @@ mod values;
 
 pub use building::build_base;
 pub use fragments::{Fragment, Target};
-pub use laws::one_outcome;
+pub use laws::{one_outcome, one_overlay_outcome};
 pub use named::{NamedNode, NamedPiece, NamedProperty, NamedReference, NamedTree, NamedValue};
 pub use overlays::{NamedOverlay, build_overlay};
 pub use reading::Mode;

@@ -1,8 +1,8 @@
-use Rattle.std.proofs.Common.{◌≡◌, ◌<◌, ◌+◌, ◌&&◌, ◌∷◌, [], ◌++◌, true, false, List, map, drop, length, get_or, sym, ap, ◌∙◌, arith}
+use Rattle.std.proofs.Common.{◌≡◌, ◌+◌, ◌&&◌, [], ◌++◌, true, false, List, map, drop, length, get_or, sym, ap, ◌∙◌, arith}
 use Rattle.std.proofs.lemmas.List.{drop_all}
 use Rattle.dt_model.specs.Meaning.{byte}
 use Rattle.dt_laws.specs.OverlayChecks as checks
-use Rattle.dt_source.specs.Said.{reference_said, pieces_said, value_said}
+use Rattle.dt_source.specs.Said.{reference_said, pieces_said}
 use Rattle.dt_source.specs.declared.named.NamedPiece.{NamedPiece}
 use Rattle.dt_source.proofs.FragmentSteps.{left_within, bytes_within}
 use Rattle.dt_source.proofs.brought.refers_within.Goals as goal

@@ -1,6 +1,5 @@
-use Rattle.std.proofs.Common.{◌≡◌, ◌+◌, ◌≤◌, refl, [], ◌∷◌, map, sym, ap, subst, ◌∙◌, arith}
+use Rattle.std.proofs.Common.{◌+◌, refl, map, sym, ap, subst, ◌∙◌, arith}
 use Rattle.std.proofs.lemmas.Result.{err_from_is_err_and}
-use Rattle.dt_model.specs.NamedOverlay.{NamedFragment}
 use Rattle.dt_source.specs.Fragments.{fragment_said}
 use Rattle.dt_source.specs.Said.{node_said}
 use Rattle.dt_source.proofs.FragmentSteps.{AreSoFar, content_parent, no_fragment, one_fragment, not_targeted, all_fragments}
@@ -17,9 +16,11 @@ pub returns-in_err-push_fragment : goal.returns-in_err-push_fragment
 returns-in_err-push_fragment c =
     let e = err_from_is_err_and c.from_residual.result c.from_residual.ensures.1 in
     let why = c.in_err-push_fragment.ensures in
-    rw (e.1, e.2)
-    (why.0, not_targeted c.args.nodes.now (map fragment_said c.loop-node.fragments.items) c.loop-node.node-index c.node-item.result c.in_err-push_fragment.field-0.0.kind
-    c.loop-node-test.true c.node-item.is (sym c.is_content.ensures ∙ c.if-is_content.true) c.loop-node.invariant why.1)
+    rw (e.1, e.2) (
+      why.0,
+      not_targeted c.args.nodes.now (map fragment_said c.loop-node.fragments.items) c.loop-node.node-index c.node-item.result c.in_err-push_fragment.field-0.0.kind
+          c.loop-node-test.true c.node-item.is (sym c.is_content.ensures ∙ c.if-is_content.true) c.loop-node.invariant why.1,
+    )
 
 pub loop-node-preserved : goal.loop-node-preserved
 loop-node-preserved c = elim c.if-is_content.branch [

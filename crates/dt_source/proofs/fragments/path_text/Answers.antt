@@ -1,4 +1,4 @@
-use Rattle.std.proofs.Common.{◌≡◌, ◌++◌, ◌∷◌, [], sym, ap, ◌∙◌}
+use Rattle.std.proofs.Common.{◌++◌, ◌∷◌, [], sym, ◌∙◌}
 use Rattle.dt_source.proofs.FragmentSteps.{no_pieces, no_path_text, no_items, some_items}
 use Rattle.dt_source.proofs.fragments.path_text.Goals as goal
 

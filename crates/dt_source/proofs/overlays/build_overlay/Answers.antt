@@ -79,7 +79,12 @@ returns-clause-refused c =
     let none = none_reserved reservation_said c.reservations.result.now s.reservations c.reservations.ensures (sym c.is_empty.ensures ∙ c.if-not-is_empty.false) in
     refused_result _ (λ (fault : Fault). (fault.kind ≡ Limit) × (fault.at ≡ None) × (most_nodes < length c.in_ok-nodes.nodes.items))
     (λ (fault : Fault). WhyNoOverlay fault.kind s × (fault.at ≡ place_of fault.kind))
-    (λ fault why. no_overlay_read s fault (sym c.is_overlay.ensures ∙ c.if-not-is_overlay.false) none
-    (why.1, inr (too_many,
-    too_many_stand s.places ns h fs checked c.checked_overlay_is_meant.ensures.meant c.spelled.ensures.nested c.overlay_is_named.ensures.many (omega (arith, why.2, length-map c.in_ok-nodes.nodes.items node_said)), why.0)))
+    (λ fault why. no_overlay_read s fault (sym c.is_overlay.ensures ∙ c.if-not-is_overlay.false) none (
+      why.1,
+      inr (
+        too_many,
+        too_many_stand s.places ns h fs checked c.checked_overlay_is_meant.ensures.meant c.spelled.ensures.nested c.overlay_is_named.ensures.many (omega (arith, why.2, length-map c.in_ok-nodes.nodes.items node_said)),
+        why.0,
+      ),
+    ))
     c.whole_overlay.result c.whole_overlay.ensures
