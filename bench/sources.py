@@ -105,7 +105,8 @@ def references_by_one_label(count):
 
 
 def inside_references(count):
-    nodes = tree(count, lambda i: f"n{i}: n{i} {{ p = <&n{i}>; }}; ")
+    # Each of these nodes is made again below __local_fixups__.
+    nodes = tree(count // 2, lambda i: f"n{i}: n{i} {{ p = <&n{i}>; }}; ")
     return "&l {\n" + nodes + "};\n"
 
 
