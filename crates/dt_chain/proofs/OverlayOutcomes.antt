@@ -2,7 +2,7 @@
 use Rattle.std.proofs.Common.{◌≡◌, ◌≢◌, ℕ, ◌<◌, ◌≤◌, ◌⊎◌, inl, inr, List, [], length, refl, sym, ap, subst, ◌∙◌, true, false, true≢false, arith}
 use Rattle.dt_names.specs.declared.fault.Fault.{Fault}
 use Rattle.dt_names.specs.declared.fault.FaultKind.{FaultKind}
-use Rattle.dt_names.specs.declared.fault.FaultKind.TheVariants.{NoMemory, Limit, BadVersionTag, OverlayReserve}
+use Rattle.dt_names.specs.declared.fault.FaultKind.TheVariants.{NoMemory, Limit}
 use Rattle.dt_model.specs.Limits.{most_bytes}
 use Rattle.dt_model.specs.Format.{Reads}
 use Rattle.dt_model.specs.OverlaySource.{OverlayMeans}
@@ -14,7 +14,8 @@ use Rattle.dt_laws.specs.OverlayTrees.{OneOverlay, OneObject, OverlayRefusalIsOn
 use Rattle.dt_laws.specs.ShortValues.{ReadValuesAreShort, ShortObjectEncodes}
 use Rattle.dt_grammar.specs.Grammar.{Says}
 use Rattle.dt_parse.specs.Reading.{IsParsed}
-use Rattle.dt_source.specs.Refusals.{WhyNoOverlay, IsOverlayFaultOf, overlay_fault_of}
+use Rattle.dt_source.specs.Refusals.{WhyNoOverlay, overlay_fault_of}
+use Rattle.dt_source.proofs.OverlayOutcomes.{Sorted, sorted, overlay_refused_once}
 use Rattle.dt_write.specs.Written.{written}
 use Rattle.dt_chain.specs.Means.{OverlayTextHasTree}
 use Rattle.dt_chain.specs.Compiled.{told}
@@ -38,17 +39,6 @@ pub blob_once : SaidOnce → OneObject → (text blob other : List ℕ) → IsCo
 blob_once once one text blob other h k = h.is ∙ ap written (tree_once once one text h.tree k.tree h.of_text k.of_text) ∙ sym k.is
 
 -- ---- why a source has no object
-
--- memory is wanted; or it is no overlay's; or it has reservations; or its places are refused
-abbrev Sorted : Says → FaultKind → Type 0
-Sorted s kind =
-    (kind ≡ NoMemory) ⊎ ((kind ≡ BadVersionTag) × (s.plugin ≡ false)) ⊎ ((kind ≡ OverlayReserve) × (s.plugin ≡ true) × (s.reservations ≢ [])) ⊎ IsOverlayFaultOf s kind
-
-sorted : (s : Says) (kind : FaultKind) → WhyNoOverlay kind s → Sorted s kind
-sorted s NoMemory why = inl refl
-sorted s BadVersionTag why = inr (inl (refl, why))
-sorted s OverlayReserve why = inr (inr (inl (refl, why.0, why.1)))
-sorted s _ why = inr (inr (inr why))
 
 no_plugin : (s : Says) → s.plugin ≡ false → s.plugin ≡ true → ⊥
 no_plugin s e h = true≢false (sym h ∙ e)
@@ -98,23 +88,6 @@ compiled_not_refused once one not text blob _ h (big t k more) =
 
 -- ---- one refusal
 
--- two refusals of a source
-named_once : OverlayRefusalIsOne → (s : Says) (k j : FaultKind) → Sorted s k → Sorted s j → k ≢ NoMemory → j ≢ NoMemory → k ≡ j
-named_once one s k j (inl e) also wanted wanted' = absurd (wanted e)
-named_once one s k j (inr (inl e)) (inl i) wanted wanted' = absurd (wanted' i)
-named_once one s k j (inr (inl e)) (inr (inl i)) wanted wanted' = e.0 ∙ sym i.0
-named_once one s k j (inr (inl e)) (inr (inr (inl i))) wanted wanted' = absurd (no_plugin s e.1 i.1)
-named_once one s k j (inr (inl e)) (inr (inr (inr g))) wanted wanted' = absurd (no_plugin s e.1 g.plugin)
-named_once one s k j (inr (inr (inl e))) (inl i) wanted wanted' = absurd (wanted' i)
-named_once one s k j (inr (inr (inl e))) (inr (inl i)) wanted wanted' = absurd (no_plugin s i.1 e.1)
-named_once one s k j (inr (inr (inl e))) (inr (inr (inl i))) wanted wanted' = e.0 ∙ sym i.0
-named_once one s k j (inr (inr (inl e))) (inr (inr (inr g))) wanted wanted' = absurd (e.2 g.reservations)
-named_once one s k j (inr (inr (inr f))) (inl i) wanted wanted' = absurd (wanted' i)
-named_once one s k j (inr (inr (inr f))) (inr (inl i)) wanted wanted' = absurd (no_plugin s i.1 f.plugin)
-named_once one s k j (inr (inr (inr f))) (inr (inr (inl i))) wanted wanted' = absurd (i.2 f.reservations)
-named_once one s k j (inr (inr (inr f))) (inr (inr (inr g))) wanted wanted' =
-    f.told ∙ ap overlay_fault_of (one s.places f.refusal g.refusal f.refused g.refused) ∙ sym g.told
-
 module _ (once : SaidOnce) (one : OverlayRefusalIsOne) (not : OverlayIsNotRefused) where
   -- a text that has a tree is refused only as too large
   with_tree : (text : List ℕ) (t : Reading) (f : Fault) → OverlayTextHasTree text t → f.kind ≢ NoMemory → WhyNotCompiledOverlay text f → told Limit ≡ f
@@ -128,7 +101,7 @@ module _ (once : SaidOnce) (one : OverlayRefusalIsOne) (not : OverlayIsNotRefuse
   with_source text s k _ parsed why wanted wanted' no_memory = absurd (wanted' refl)
   with_source text s k _ parsed why wanted wanted' (refused r j same also) =
       let said : r ≡ s = once text r s same parsed in
-      ap of_kind (named_once one s k j (sorted s k why) (sorted s j (subst (WhyNoOverlay j) said also)) wanted wanted')
+      ap of_kind (overlay_refused_once one s k j wanted wanted' why (subst (WhyNoOverlay j) said also))
   with_source text s k _ parsed why wanted wanted' (large u h more) = limit_told k (only_many once not text u s k h parsed wanted why)
   with_source text s k _ parsed why wanted wanted' (big u h more) = limit_told k (only_many once not text u s k h parsed wanted why)
 

@@ -50,3 +50,11 @@ with_root t n = record { boot_cpu = t.boot_cpu; reservations = t.reservations; p
 
 abbrev pub changed_at : (Node → Node) → Path → Reading → Reading
 changed_at change p t = with_root t (changed_below change p (root_of t))
+
+-- a child of a name added to the node of a path, the last of all, where there is none yet
+abbrev pub with_child_at : Path → Name → Reading → Reading
+with_child_at p name t = changed_at (λ n. record { properties = n.properties; children = with_child n.children name [] (λ nodes. nodes) }) p t
+
+-- a property of the node of a path set
+abbrev pub with_property_at : Path → Name → List ℕ → Reading → Reading
+with_property_at p name value t = changed_at (λ n. record { properties = set_property n.properties name value; children = n.children }) p t

@@ -1,7 +1,7 @@
 -- The number and the name of each kind of fault, which a caller may show or compare; and what is true of the refusals of a call.
 use Rattle.std.specs.Prelude.{◌≡◌, ◌≢◌, ℕ, List, codes}
 use Rattle.dt_names.specs.declared.fault.FaultKind.{FaultKind}
-use Rattle.dt_names.specs.declared.fault.FaultKind.TheVariants.{NoMemory, Limit, BadVersionTag, BadToken, Syntax, BadInteger, DivideByZero, OutOfRange, BadReferenceWidth, PropertyAfterNode, DuplicateProperty, DuplicateNode, DuplicateLabel, NoSuchTarget, UnresolvedReference, BadPhandle, DuplicatePhandle, ReservedName, OverlayDelete, OverlayPhandle, OverlayPathReference, OverlayReserve, OutsideContent, BadFragment, ShortHeader, BadMagic, BadTotal, BadVersion, Misaligned, BlockOutside, NoReservationEnd, BadTag, StructureCut, BadName, BadNameOffset, BadNesting, LateProperty, Duplicate, BadEnd, BlobPhandle, WriteFault, ReadFault}
+use Rattle.dt_names.specs.declared.fault.FaultKind.TheVariants.{NoMemory, Limit, BadVersionTag, BadToken, Syntax, BadInteger, DivideByZero, OutOfRange, BadReferenceWidth, PropertyAfterNode, DuplicateProperty, DuplicateNode, DuplicateLabel, NoSuchTarget, UnresolvedReference, BadPhandle, DuplicatePhandle, ReservedName, OverlayDelete, OverlayPhandle, OverlayPathReference, OverlayReserve, OutsideContent, BadFragment, ShortHeader, BadMagic, BadTotal, BadVersion, Misaligned, BlockOutside, NoReservationEnd, BadTag, StructureCut, BadName, BadNameOffset, BadNesting, LateProperty, Duplicate, BadEnd, BlobPhandle, NoSymbol, BadSymbol, NoTarget, BadFixup, BadLocalFixup, SecondPhandle, NoFragmentTarget, ReservedPlace, WriteFault, ReadFault}
 
 -- the number of a kind
 abbrev pub fault_number : FaultKind → ℕ
@@ -45,6 +45,14 @@ fault_number LateProperty = 52
 fault_number Duplicate = 53
 fault_number BadEnd = 54
 fault_number BlobPhandle = 55
+fault_number NoSymbol = 60
+fault_number BadSymbol = 61
+fault_number NoTarget = 62
+fault_number BadFixup = 63
+fault_number BadLocalFixup = 64
+fault_number SecondPhandle = 65
+fault_number NoFragmentTarget = 66
+fault_number ReservedPlace = 67
 fault_number WriteFault = 90
 fault_number ReadFault = 91
 
@@ -90,6 +98,14 @@ fault_name LateProperty = codes "LateProperty"
 fault_name Duplicate = codes "Duplicate"
 fault_name BadEnd = codes "BadEnd"
 fault_name BlobPhandle = codes "BlobPhandle"
+fault_name NoSymbol = codes "NoSymbol"
+fault_name BadSymbol = codes "BadSymbol"
+fault_name NoTarget = codes "NoTarget"
+fault_name BadFixup = codes "BadFixup"
+fault_name BadLocalFixup = codes "BadLocalFixup"
+fault_name SecondPhandle = codes "SecondPhandle"
+fault_name NoFragmentTarget = codes "NoFragmentTarget"
+fault_name ReservedPlace = codes "ReservedPlace"
 fault_name WriteFault = codes "WriteFault"
 fault_name ReadFault = codes "ReadFault"
 

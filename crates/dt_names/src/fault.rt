@@ -89,6 +89,22 @@ pub enum FaultKind {
     BadEnd,
     /// A `phandle` to be set in a tree that isn't one number of the allowed range, or that another node has.
     BlobPhandle,
+    /// A label of a fixup that the base's `__symbols__` doesn't hold.
+    NoSymbol,
+    /// A symbol that isn't the path of a node, or of one that has no number.
+    BadSymbol,
+    /// A target of a fragment that names no node.
+    NoTarget,
+    /// A fixup that lists no four bytes of a value of the object.
+    BadFixup,
+    /// A local fixup that lists no four bytes, or a number that none of the nodes has that it may name.
+    BadLocalFixup,
+    /// A node with a number that lands where a node with a number is.
+    SecondPhandle,
+    /// A fragment whose target is no number and no path.
+    NoFragmentTarget,
+    /// A fragment that lands in a bookkeeping node.
+    ReservedPlace,
     /// The output refused bytes.
     WriteFault,
     /// The input couldn't be read.
@@ -141,6 +157,14 @@ impl FaultKind {
             FaultKind::Duplicate => 53,
             FaultKind::BadEnd => 54,
             FaultKind::BlobPhandle => 55,
+            FaultKind::NoSymbol => 60,
+            FaultKind::BadSymbol => 61,
+            FaultKind::NoTarget => 62,
+            FaultKind::BadFixup => 63,
+            FaultKind::BadLocalFixup => 64,
+            FaultKind::SecondPhandle => 65,
+            FaultKind::NoFragmentTarget => 66,
+            FaultKind::ReservedPlace => 67,
             FaultKind::WriteFault => 90,
             FaultKind::ReadFault => 91,
         }
@@ -191,6 +215,14 @@ impl FaultKind {
             FaultKind::Duplicate => "Duplicate",
             FaultKind::BadEnd => "BadEnd",
             FaultKind::BlobPhandle => "BlobPhandle",
+            FaultKind::NoSymbol => "NoSymbol",
+            FaultKind::BadSymbol => "BadSymbol",
+            FaultKind::NoTarget => "NoTarget",
+            FaultKind::BadFixup => "BadFixup",
+            FaultKind::BadLocalFixup => "BadLocalFixup",
+            FaultKind::SecondPhandle => "SecondPhandle",
+            FaultKind::NoFragmentTarget => "NoFragmentTarget",
+            FaultKind::ReservedPlace => "ReservedPlace",
             FaultKind::WriteFault => "WriteFault",
             FaultKind::ReadFault => "ReadFault",
         }

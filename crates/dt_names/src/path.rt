@@ -223,6 +223,17 @@ impl Path {
         Ok(())
     }
 
+    /// The same path, with bytes of its own.
+    pub fn copy(&self, alloc: Global) -> Result<Path, AllocError>
+        ensures { IfOk result (λ path. path ≡ self.now) }
+    {
+        let text = Vec::from_slice(alloc, &self.text)?;
+        Ok(Path {
+            text,
+            count: self.count,
+        })
+    }
+
     /// How many names the path has.
     pub fn len(&self) -> usize
         ensures value { result ≡ length self.now }

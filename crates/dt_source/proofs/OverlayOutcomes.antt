@@ -11,11 +11,11 @@ use Rattle.dt_source.specs.Fragments.{HasOverlay}
 use Rattle.dt_source.specs.Refusals.{WhyNoOverlay, IsOverlayFaultOf, overlay_fault_of}
 
 -- memory is wanted; or it is no overlay's; or it reserves memory; or its places are refused
-abbrev Sorted : Says → FaultKind → Type 0
+abbrev pub Sorted : Says → FaultKind → Type 0
 Sorted s kind =
     (kind ≡ NoMemory) ⊎ ((kind ≡ BadVersionTag) × (s.plugin ≡ false)) ⊎ ((kind ≡ OverlayReserve) × (s.plugin ≡ true) × (s.reservations ≢ [])) ⊎ IsOverlayFaultOf s kind
 
-sorted : (s : Says) (kind : FaultKind) → WhyNoOverlay kind s → Sorted s kind
+pub sorted : (s : Says) (kind : FaultKind) → WhyNoOverlay kind s → Sorted s kind
 sorted s NoMemory why = inl refl
 sorted s BadVersionTag why = inr (inl (refl, why))
 sorted s OverlayReserve why = inr (inr (inl (refl, why.0, why.1)))
