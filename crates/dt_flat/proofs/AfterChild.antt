@@ -46,7 +46,7 @@ properties-push [] m (suc q) e = refl
 properties-push (n ∷ ns) m zero e = refl
 properties-push (n ∷ ns) m (suc q) e = properties-push ns m q e
 
-properties-past : (ns : List Slot) (q : ℕ) → length ns ≤ q → properties ns q ≡ []
+pub properties-past : (ns : List Slot) (q : ℕ) → length ns ≤ q → properties ns q ≡ []
 properties-past [] q h = refl
 properties-past (n ∷ ns) zero h = absurd (omega arith)
 properties-past (n ∷ ns) (suc q) h = properties-past ns q (omega arith)

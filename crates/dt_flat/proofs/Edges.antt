@@ -8,17 +8,17 @@ use Rattle.dt_model.proofs.EventSteps.{bytes_eq-is}
 use Rattle.dt_flat.specs.Arena.{Slot, named_among, named_children, child_of, parent_of, name_of}
 
 -- the node that was found among those from number k on, d places behind the first of them
-record Found (k : ℕ) (ns : List Slot) (p : ℕ) (x : Name) (j : ℕ) : Type 0 where
-  distance : ℕ
-  place : j ≡ k + distance
-  within : distance < length ns
-  parent : parent_of ns distance ≡ p
-  name : bytes_eq x (name_of ns distance) ≡ true
+pub record Found (k : ℕ) (ns : List Slot) (p : ℕ) (x : Name) (j : ℕ) : Type 0 where
+  pub distance : ℕ
+  pub place : j ≡ k + distance
+  pub within : distance < length ns
+  pub parent : parent_of ns distance ≡ p
+  pub name : bytes_eq x (name_of ns distance) ≡ true
 
 later : (k : ℕ) (n : Slot) (ns : List Slot) (p : ℕ) (x : Name) (j : ℕ) → Found (suc k) ns p x j → Found k (n ∷ ns) p x j
 later k n ns p x j f = record { distance = suc f.distance; place = omega (arith, f.place); within = omega (arith, f.within); parent = f.parent; name = f.name }
 
-found_among : (k : ℕ) (ns : List Slot) (p : ℕ) (x : Name) (j : ℕ) → child_of (named_among k ns p) x ≡ Some j → Found k ns p x j
+pub found_among : (k : ℕ) (ns : List Slot) (p : ℕ) (x : Name) (j : ℕ) → child_of (named_among k ns p) x ≡ Some j → Found k ns p x j
 found_among k [] p x j h = cc
 found_among k (n ∷ ns) p x j h = by (found_among (suc k) ns p x j) (eqb n.parent p) refl h
   where
@@ -32,12 +32,12 @@ found_among k (n ∷ ns) p x j h = by (found_among (suc k) ns p x j) (eqb n.pare
     by rec true e h' = first (bytes_eq x n.name) refl (eqb-true n.parent p e) rec h'
     by rec false e h' = later k n ns p x j (rec h')
 
-parent-drop : (m : ℕ) (ns : List Slot) (d : ℕ) → parent_of (drop m ns) d ≡ parent_of ns (m + d)
+pub parent-drop : (m : ℕ) (ns : List Slot) (d : ℕ) → parent_of (drop m ns) d ≡ parent_of ns (m + d)
 parent-drop zero ns d = let e : d ≡ 0 + d = omega arith in ap (parent_of ns) e
 parent-drop (suc m) [] d = refl
 parent-drop (suc m) (n ∷ ns) d = let e : suc (m + d) ≡ suc m + d = omega arith in parent-drop m ns d ∙ ap (parent_of (n ∷ ns)) e
 
-name-drop : (m : ℕ) (ns : List Slot) (d : ℕ) → name_of (drop m ns) d ≡ name_of ns (m + d)
+pub name-drop : (m : ℕ) (ns : List Slot) (d : ℕ) → name_of (drop m ns) d ≡ name_of ns (m + d)
 name-drop zero ns d = let e : d ≡ 0 + d = omega arith in ap (name_of ns) e
 name-drop (suc m) [] d = refl
 name-drop (suc m) (n ∷ ns) d = let e : suc (m + d) ≡ suc m + d = omega arith in name-drop m ns d ∙ ap (name_of (n ∷ ns)) e

@@ -1,9 +1,12 @@
 -- What the maps of a node stand for, after a look or an insertion.
-use Rattle.std.proofs.Common.{◌≡◌, ℕ, zero, suc, Bool, true, false, cond, List, [], ◌∷◌, ◌++◌, length, slice_get, Option, Some, None, option_map, refl, ap}
+use Rattle.std.proofs.Common.{◌≡◌, ℕ, zero, suc, ◌+◌, ◌<◌, Bool, true, false, not, cond, List, [], ◌∷◌, ◌++◌, length, slice_get, Option, Some, None, is_some, option_map, refl, sym, ap, ◌∙◌, arith}
 use Rattle.std.specs.Global.{Vec}
 use Rattle.std.specs.Map.{lookup}
 use Rattle.std.specs.Str.{bytes_eq}
-use Rattle.indexmap.specs.IndexMap.{insert_entry}
+use Rattle.std.specs.Map.{keys_of, values_of}
+use Rattle.std.specs.List.{position, position_or_len}
+use Rattle.indexmap.specs.IndexMap.{insert_entry, set_value_at}
+use Rattle.indexmap.proofs.MapLemmas.{Found-position}
 use Rattle.dt_model.specs.Tree.{Property, value_of}
 use Rattle.dt_flat.specs.Arena.{Child, child_of}
 use Rattle.dt_model.specs.Changes.{set_property}
@@ -36,6 +39,39 @@ set-kept (e ∷ es) k v = by (bytes_eq k.items e.0.items) (set-kept es k v)
         ≡ cond b (record { name = e.0.items; value = v.items } ∷ properties_kept es) (record { name = e.0.items; value = e.1.items } ∷ set_property (properties_kept es) k.items v.items)
     by true h = refl
     by false h = ap (λ (ps : List Property). record { name = e.0.items; value = e.1.items } ∷ ps) h
+
+-- what stands at the index of a name is its value
+pub value-at : (es : List (Vec ℕ × Vec ℕ)) (i : ℕ) (name value : List ℕ) (v : Vec ℕ) → position (λ (k : Vec ℕ). bytes_eq name k.items) (keys_of es) ≡ Some i → Some v ≡ slice_get (values_of es) i
+    → value_of (properties_kept es) name ≡ Some value → v.items ≡ value
+value-at es i name value v at here is =
+    let found : lookup (λ (k : Vec ℕ). bytes_eq name k.items) es ≡ Some v = (Found-position (λ (k : Vec ℕ). bytes_eq name k.items) es i at).value ∙ sym here in
+    let same : Some v.items ≡ Some value = ap (λ (o : Option (Vec ℕ)). option_map (λ v. v.items) o) (sym found) ∙ sym (get-kept es name) ∙ is in
+    cc
+
+-- a value that is written at the first key that is the name
+patch-first : (es : List (Vec ℕ × Vec ℕ)) (name : List ℕ) (w : Vec ℕ) → position_or_len (λ (k : Vec ℕ). bytes_eq name k.items) (keys_of es) < length es
+    → properties_kept (set_value_at es (position_or_len (λ (k : Vec ℕ). bytes_eq name k.items) (keys_of es)) w) ≡ set_property (properties_kept es) name w.items
+patch-first [] name w lt = absurd (omega arith)
+patch-first (e ∷ es) name w lt = by (bytes_eq name e.0.items) (position_or_len (λ (k : Vec ℕ). bytes_eq name k.items) (keys_of es)) lt (λ l. patch-first es name w l)
+  where
+    by : (b : Bool) (index : ℕ) → cond (not b) (1 + index) 0 < suc (length es) → (index < length es → properties_kept (set_value_at es index w) ≡ set_property (properties_kept es) name w.items)
+        → properties_kept (set_value_at (e ∷ es) (cond (not b) (1 + index) 0) w) ≡ cond b (record { name = e.0.items; value = w.items } ∷ properties_kept es) (record { name = e.0.items; value = e.1.items } ∷ set_property (properties_kept es) name w.items)
+    by true index l f = refl
+    by false index l f =
+        let next : 1 + index ≡ suc index = omega arith in
+        ap (λ (k : ℕ). properties_kept (set_value_at (e ∷ es) k w)) next ∙ ap (λ (ps : List Property). record { name = e.0.items; value = e.1.items } ∷ ps) (f (omega arith))
+
+-- a value that is written at the index of a name
+pub patch-kept : (es : List (Vec ℕ × Vec ℕ)) (i : ℕ) (name : List ℕ) (w : Vec ℕ) → position (λ (k : Vec ℕ). bytes_eq name k.items) (keys_of es) ≡ Some i → properties_kept (set_value_at es i w) ≡ set_property (properties_kept es) name w.items
+patch-kept es i name w at =
+    let found = Found-position (λ (k : Vec ℕ). bytes_eq name k.items) es i at in
+    let index : position_or_len (λ (k : Vec ℕ). bytes_eq name k.items) (keys_of es) ≡ i = found.or_len in
+    ap (λ (k : ℕ). properties_kept (set_value_at es k w)) (sym index) ∙ patch-first es name w (omega (arith, found.within))
+
+-- a name without an index has no value
+pub no_index : (o : Option (Vec ℕ)) (value : List ℕ) → false ≡ is_some o → option_map (λ v. v.items) o ≡ Some value → ⊥
+no_index None value e is = cc
+no_index (Some v) value e is = cc
 
 pub length-children : (es : List (Vec ℕ × ℕ)) → length (children_kept es) ≡ length es
 length-children [] = refl

@@ -12,3 +12,7 @@ pub mod Soundness
 pub mod PlantedNodes
 pub mod Plantable
 pub mod ManyProperties
+pub mod ToRoot
+pub mod Descent
+pub mod Changing
+pub mod Counting

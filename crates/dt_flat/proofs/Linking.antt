@@ -3,9 +3,9 @@ use Rattle.std.proofs.Common.{◌≡◌, ◌≢◌, ℕ, zero, suc, ◌+◌, ◌
 use Rattle.std.proofs.lemmas.List.{append-nil, length-drop}
 use Rattle.dt_model.specs.Tree.{Property}
 use Rattle.dt_flat.specs.declared.places.Place.{Place}
-use Rattle.dt_flat.specs.Arena.{Slot, Child, children_among, children, named_among, named_children, with_child, with_property, depth_of, name_of, properties}
+use Rattle.dt_flat.specs.Arena.{Slot, Child, children_among, children, named_among, named_children, with_child, with_property, depth_of, parent_of, name_of, properties}
 use Rattle.dt_model.specs.Changes.{set_property}
-use Rattle.dt_flat.specs.Linked.{slot_kept, slots_kept, children_at, listed, added, with_value, AreLinked}
+use Rattle.dt_flat.specs.Linked.{slot_kept, slots_kept, children_at, properties_at, listed, added, with_value, AreLinked}
 use Rattle.dt_flat.proofs.AfterChild.{tested, differs, named_children-push, childless-push}
 use Rattle.dt_flat.proofs.AfterProperty.{children-with_property}
 
@@ -14,6 +14,11 @@ length-kept [] = refl
 length-kept (n ∷ ns) = ap suc (length-kept ns)
 
 -- ---- what is kept of a node
+
+pub parent-kept : (ns : List Place) (i : ℕ) (d : Place) → i < length ns → (get_or ns i d).parent ≡ parent_of (slots_kept ns) i
+parent-kept [] i d h = absurd (omega arith)
+parent-kept (n ∷ ns) zero d h = refl
+parent-kept (n ∷ ns) (suc i) d h = parent-kept ns i d (omega arith)
 
 pub depth-kept : (ns : List Place) (i : ℕ) (d : Place) → i < length ns → (get_or ns i d).depth ≡ depth_of (slots_kept ns) i
 depth-kept [] i d h = absurd (omega arith)
@@ -29,6 +34,16 @@ pub properties-kept : (ns : List Place) (i : ℕ) (d : Place) → i < length ns 
 properties-kept [] i d h = absurd (omega arith)
 properties-kept (n ∷ ns) zero d h = refl
 properties-kept (n ∷ ns) (suc i) d h = properties-kept ns i d (omega arith)
+
+pub properties_at-kept : (ns : List Place) (i : ℕ) → properties_at ns i ≡ properties (slots_kept ns) i
+properties_at-kept [] i = refl
+properties_at-kept (n ∷ ns) zero = refl
+properties_at-kept (n ∷ ns) (suc i) = properties_at-kept ns i
+
+properties_at-get_or : (ns : List Place) (i : ℕ) (d : Place) → i < length ns → properties_at ns i ≡ (get_or ns i d).properties
+properties_at-get_or [] i d h = absurd (omega arith)
+properties_at-get_or (n ∷ ns) zero d h = refl
+properties_at-get_or (n ∷ ns) (suc i) d h = properties_at-get_or ns i d (omega arith)
 
 pub children-kept : (slots : List Slot) (p : ℕ) (ns : List Place) (i : ℕ) (d : Place) → i < length ns → AreLinked slots p ns → (get_or ns i d).children ≡ named_children slots (p + i)
 children-kept slots p [] i d h linked = absurd (omega arith)
@@ -229,3 +244,6 @@ value_other root os p k x ps name value is at e =
 
 pub children_at_other : (root : Place) (os : List Place) (p k : ℕ) (x : Place) → p ≡ suc k → k < length os → x ≡ get_or os k x → x.children ≡ children_at (root ∷ os) p
 children_at_other root os p k x is lt at = ap (λ (n : Place). n.children) at ∙ sym (children_at-get_or os k x lt) ∙ ap (children_at (root ∷ os)) (sym is)
+
+pub properties_at_other : (root : Place) (os : List Place) (p k : ℕ) (x : Place) → p ≡ suc k → k < length os → x ≡ get_or os k x → x.properties ≡ properties_at (root ∷ os) p
+properties_at_other root os p k x is lt at = ap (λ (n : Place). n.properties) at ∙ sym (properties_at-get_or os k x lt) ∙ ap (properties_at (root ∷ os)) (sym is)

@@ -1,17 +1,24 @@
 -- The table of phandles after a property is set or a node is added.
-use Rattle.std.proofs.Common.{◌≡◌, ◌≢◌, ℕ, ◌<◌, Bool, true, false, not, cond, eqb, List, [], ◌∷◌, ◌++◌, length, Option, Some, None, refl, sym, ap, subst, ◌∙◌, inl, inr, ◌⊎◌, true≢false}
-use Rattle.std.specs.Prelude.{codes}
+use Rattle.std.proofs.Common.{◌≡◌, ◌≢◌, ℕ, zero, suc, ◌+◌, ◌<◌, ◌≤◌, Bool, true, false, not, cond, eqb, List, [], ◌∷◌, ◌++◌, length, Option, Some, None, refl, sym, ap, subst, ◌∙◌, inl, inr, ◌⊎◌, true≢false, arith}
+use Rattle.std.specs.Prelude.{codes, IfSome}
+use Rattle.std.specs.List.{AllByRecursion}
+use Rattle.std.specs.Option.{option_to_list}
 use Rattle.std.specs.Str.{bytes_eq}
 use Rattle.std.specs.Int.{w32, from_be_bytes}
 use Rattle.std.specs.Map.{lookup}
-use Rattle.std.proofs.lemmas.Bool.{cases_eq, eqb-true}
+use Rattle.std.proofs.lemmas.Bool.{cases_eq, cases_lt, eqb-true}
+use Rattle.std.proofs.lemmas.List.{append-nil, drop_all}
 use Rattle.std.proofs.lemmas.Slice.Eq.{bytes_eq-Decides}
+use Rattle.dt_model.specs.Applied.{with_cell}
+use Rattle.dt_model.specs.Meaning.{cell}
 use Rattle.dt_model.specs.Tree.{Property, value_of}
+use Rattle.dt_model.specs.Valid.{IsPhandle, phandle_values}
 use Rattle.dt_flat.specs.Arena.{Slot, properties, with_property, number_in, phandle_at}
 use Rattle.dt_model.specs.Changes.{set_property}
 use Rattle.dt_flat.specs.Numbers.{Table, holder, is_number, given, MayGive, IsNumbered}
 use Rattle.dt_flat.specs.Refusals.{MaySet}
-use Rattle.dt_flat.proofs.AfterChild.{tested, differs, properties-push}
+use Rattle.dt_flat.specs.Sound.{AreCells}
+use Rattle.dt_flat.proofs.AfterChild.{tested, differs, properties-push, properties-past}
 use Rattle.dt_flat.proofs.AfterProperty.{properties-same, properties-other}
 
 -- the number that some properties give
@@ -167,3 +174,63 @@ may_give slots table p value numbered may = record {
   valid = may.valid refl;
   own = λ i at. may.own refl i (numbered.sound (from_be_bytes w32 value) i at);
 }
+
+-- ---- nodes with numbers, and their values
+
+-- what has a number is a node
+pub numbered-within : (slots : List Slot) (table : Table) (n i : ℕ) → IsNumbered slots table → holder table n ≡ Some i → i < length slots
+numbered-within slots table n i numbered e =
+    elim (cases_lt i (length slots)) [
+      | inl lt ↦ lt
+      | inr past ↦ let none : None ≡ Some n = sym (ap phandle_of (properties-past slots i past)) ∙ numbered.sound n i e in absurd cc
+    ]
+
+pub found-within : (slots : List Slot) (table : Table) (n : ℕ) (found : Option ℕ) → IsNumbered slots table → found ≡ holder table n → IfSome found (λ i. i < length slots)
+found-within slots table n None numbered e = tt
+found-within slots table n (Some i) numbered e = numbered-within slots table n i numbered (sym e)
+
+-- a phandle that stands in the tree is one
+pub phandle-there : (slots : List Slot) (p : ℕ) (value : List ℕ) → AllByRecursion (λ n. AllByRecursion IsPhandle (phandle_values n.properties)) slots → value_of (properties slots p) (codes "phandle") ≡ Some value → IsPhandle value
+phandle-there [] p value h e = absurd cc
+phandle-there (n ∷ ns) zero value h e = one (value_of n.properties (codes "phandle")) h.0 e
+  where
+    one : (o : Option (List ℕ)) → AllByRecursion IsPhandle (option_to_list o) → o ≡ Some value → IsPhandle value
+    one None h e = absurd cc
+    one (Some w) h e = let same : w ≡ value = cc in subst IsPhandle same h.0
+phandle-there (n ∷ ns) (suc p) value h e = phandle-there ns p value h.1 e
+
+-- a cell in a phandle is all of it
+pub whole_cell : (value : List ℕ) (offset number : ℕ) → length value ≡ 4 → offset + 4 ≤ length value → with_cell value offset number ≡ cell number
+whole_cell value offset number four room =
+    let first : offset ≡ 0 = omega arith in
+    ap (λ (k : ℕ). with_cell value k number) first ∙ ap (λ (bytes : List ℕ). cell number ++ bytes) (drop_all 4 value (omega arith)) ∙ append-nil (cell number)
+
+-- so it is in a tree; the slots and the value are seen in two ways
+pub whole_phandle : (slots kept : List Slot) (p : ℕ) (name value other : List ℕ) (offset number : ℕ) → name ≡ codes "phandle" → kept ≡ slots → AllByRecursion (λ n. AllByRecursion IsPhandle (phandle_values n.properties)) kept
+    → value_of (properties slots p) name ≡ Some value → value_of (properties slots p) name ≡ Some other → offset + 4 ≤ length other → with_cell value offset number ≡ cell number
+whole_phandle slots kept p name value other offset number named same valid here there room =
+    let one : other ≡ value = cc in
+    let at : value_of (properties kept p) (codes "phandle") ≡ Some value = ap (λ (ns : List Slot). value_of (properties ns p) (codes "phandle")) same ∙ ap (value_of (properties slots p)) (sym named) ∙ here in
+    whole_cell value offset number (phandle-there kept p value valid at).four (omega (arith, room, ap (λ (xs : List ℕ). length xs) one))
+
+pub AreCells-added : (ns : List Slot) (m : Slot) → m.properties ≡ [] → AreCells ns → AreCells (ns ++ m ∷ [])
+AreCells-added ns m none cells q value e = cells q value (ap (λ (ps : List Property). value_of ps (codes "phandle")) (sym (properties-push ns m q none)) ∙ e)
+
+pub AreCells-kept : (slots : List Slot) (p : ℕ) (name value : List ℕ) → p < length slots → name ≢ codes "phandle" → AreCells slots → AreCells (with_property slots p name value)
+AreCells-kept slots p name value lt ne cells q w e =
+    elim (cases_eq q p) [
+      | inl same ↦ cells p w (sym (ap (λ (ps : List Property). value_of ps (codes "phandle")) (properties-same slots p name value lt) ∙ value-other (properties slots p) name value (codes "phandle") ne) ∙ ap (λ (k : ℕ). value_of (properties (with_property slots p name value) k) (codes "phandle")) (sym same) ∙ e)
+      | inr d ↦ cells q w (ap (λ (ps : List Property). value_of ps (codes "phandle")) (sym (properties-other slots p name value q d)) ∙ e)
+    ]
+
+pub AreCells-set : (slots : List Slot) (p : ℕ) (value : List ℕ) → p < length slots → value ≡ cell (from_be_bytes w32 value) → AreCells slots → AreCells (with_property slots p (codes "phandle") value)
+AreCells-set slots p value lt is cells q w e =
+    elim (cases_eq q p) [
+      | inl same ↦
+          let set : Some value ≡ Some w =
+          sym (ap (λ (ps : List Property). value_of ps (codes "phandle")) (properties-same slots p (codes "phandle") value lt) ∙ value-same (properties slots p) (codes "phandle") value)
+          ∙ ap (λ (k : ℕ). value_of (properties (with_property slots p (codes "phandle") value) k) (codes "phandle")) (sym same) ∙ e in
+          let at : value ≡ w = cc in
+          subst (λ (v : List ℕ). v ≡ cell (from_be_bytes w32 v)) at is
+      | inr d ↦ cells q w (ap (λ (ps : List Property). value_of ps (codes "phandle")) (sym (properties-other slots p (codes "phandle") value q d)) ∙ e)
+    ]

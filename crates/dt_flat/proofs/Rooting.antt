@@ -109,15 +109,15 @@ IsRooted-property slots p name value h = record {
 
 -- ---- how many nodes there are: no node is below two parents
 
-abbrev sum_below : ℕ → (ℕ → ℕ) → ℕ
+abbrev pub sum_below : ℕ → (ℕ → ℕ) → ℕ
 sum_below zero f = 0
 sum_below (suc i) f = f i + sum_below i f
 
-sum-none : (i : ℕ) → sum_below i (λ p. 0) ≡ 0
+pub sum-none : (i : ℕ) → sum_below i (λ p. 0) ≡ 0
 sum-none zero = refl
 sum-none (suc i) = omega (arith, sum-none i)
 
-sum-same : (i : ℕ) (f g : ℕ → ℕ) → ((p : ℕ) → p < i → f p ≡ g p) → sum_below i f ≡ sum_below i g
+pub sum-same : (i : ℕ) (f g : ℕ → ℕ) → ((p : ℕ) → p < i → f p ≡ g p) → sum_below i f ≡ sum_below i g
 sum-same zero f g h = refl
 sum-same (suc i) f g h = omega (arith, h i (omega arith), sum-same i f g (λ p l. h p (omega arith)))
 
@@ -136,14 +136,14 @@ sum-one (suc i) k x f g same more =
           omega arith
     ]
 
-abbrev under : ℕ → List Slot → ℕ → ℕ
+abbrev pub under : ℕ → List Slot → ℕ → ℕ
 under i ns p = node_count (forest_among i ns p)
 
-under-other : (i : ℕ) (n : Slot) (ns : List Slot) (p : ℕ) → p ≢ n.parent → under i (n ∷ ns) p ≡ under (suc i) ns p
+pub under-other : (i : ℕ) (n : Slot) (ns : List Slot) (p : ℕ) → p ≢ n.parent → under i (n ∷ ns) p ≡ under (suc i) ns p
 under-other i n ns p d =
     ap (λ (b : Bool). node_count (cond b (branch n.name n.properties (forest_among (suc i) ns i) (forest_among (suc i) ns p)) (forest_among (suc i) ns p))) (differs n.parent p (omega arith))
 
-under-parent : (i : ℕ) (n : Slot) (ns : List Slot) → under i (n ∷ ns) n.parent ≡ under (suc i) ns n.parent + (1 + under (suc i) ns i)
+pub under-parent : (i : ℕ) (n : Slot) (ns : List Slot) → under i (n ∷ ns) n.parent ≡ under (suc i) ns n.parent + (1 + under (suc i) ns i)
 under-parent i n ns =
     let p = n.parent in
     let swap : 1 + under (suc i) ns i + under (suc i) ns p ≡ under (suc i) ns p + (1 + under (suc i) ns i) = omega arith in
@@ -158,7 +158,7 @@ total i (n ∷ ns) =
 
 -- ---- how deep they are
 
-first_of_rest : (slots : List Slot) (k : ℕ) (n : Slot) (ns : List Slot) → drop k slots ≡ n ∷ ns → (parent_of slots k ≡ n.parent) × (k < length slots) × (drop (suc k) slots ≡ ns)
+pub first_of_rest : (slots : List Slot) (k : ℕ) (n : Slot) (ns : List Slot) → drop k slots ≡ n ∷ ns → (parent_of slots k ≡ n.parent) × (k < length slots) × (drop (suc k) slots ≡ ns)
 first_of_rest [] zero n ns e = absurd cc
 first_of_rest [] (suc k) n ns e = absurd cc
 first_of_rest (m ∷ ms) zero n ns e =

@@ -5,12 +5,13 @@ use Rattle.std.specs.Int.{w32, from_be_bytes}
 use Rattle.std.specs.Map.{lookup}
 use Rattle.std.proofs.lemmas.List.{drop_all}
 use Rattle.std.proofs.lemmas.List.Elements.{All-from_recursion}
+use Rattle.dt_model.specs.Meaning.{cell}
 use Rattle.dt_model.specs.Names.{Name, is_name_byte, IsNodeName, IsPropertyName}
 use Rattle.dt_model.specs.Valid.{AreDistinct, IsReservation}
 use Rattle.dt_flat.specs.Arena.{Arena, Slot, root_alone, named_among, named_children, child_of, depth_of, phandle_at, with_child, with_property}
 use Rattle.dt_flat.specs.Numbers.{Table, holder, given, MayGive}
-use Rattle.dt_flat.specs.Sound.{IsSound}
-use Rattle.dt_flat.proofs.Numbering.{IsNumbered-added, IsNumbered-kept, IsNumbered-same, IsNumbered-set}
+use Rattle.dt_flat.specs.Sound.{AreCells, IsSound}
+use Rattle.dt_flat.proofs.Numbering.{IsNumbered-added, IsNumbered-kept, IsNumbered-same, IsNumbered-set, AreCells-added, AreCells-kept, AreCells-set}
 use Rattle.dt_flat.proofs.Rooting.{IsRooted-child, IsRooted-property}
 use Rattle.dt_flat.proofs.Validity.{AreValid-added, AreValid-set, reserved}
 
@@ -21,6 +22,7 @@ IsSound-reservation a table r one sound = record {
   rooted = sound.rooted;
   numbered = sound.numbered;
   valid = sound.valid;
+  cells = sound.cells;
 }
 
 pub IsSound-child : (a : Arena) (table : Table) (p : ℕ) (name : Name) → p < length a.slots → length a.slots < 65536 → depth_of a.slots p < 64 → IsNodeName name → child_of (named_children a.slots p) name ≡ None → IsSound a table
@@ -33,6 +35,7 @@ IsSound-child a table p name lt few shallow named fresh sound =
       rooted = IsRooted-child a.slots p name lt few shallow sound.rooted;
       numbered = IsNumbered-added a.slots made table refl sound.numbered;
       valid = AreValid-added a.slots made sound.rooted.some refl named fresh sound.valid;
+      cells = AreCells-added a.slots made refl sound.cells;
     }
 
 -- a property of another name than phandle
@@ -43,6 +46,7 @@ IsSound-property a table p name value lt named ne sound = record {
   rooted = IsRooted-property a.slots p name value sound.rooted;
   numbered = IsNumbered-kept a.slots p name value table lt ne sound.numbered;
   valid = AreValid-set a.slots p name value named (λ e. absurd (ne e)) sound.valid;
+  cells = AreCells-kept a.slots p name value lt ne sound.cells;
 }
 
 -- a table of the same entries
@@ -53,17 +57,20 @@ IsSound-same a old new e sound = record {
   rooted = sound.rooted;
   numbered = IsNumbered-same a.slots old new e sound.numbered;
   valid = sound.valid;
+  cells = sound.cells;
 }
 
 -- a phandle that no other node has
-pub IsSound-phandle : (a : Arena) (old table : Table) (p number : ℕ) (value : List ℕ) → p < length a.slots → MayGive old p value → number ≡ from_be_bytes w32 value → ((n : ℕ) → holder table n ≡ given old (phandle_at a.slots p) number p n) → IsSound a old
+pub IsSound-phandle : (a : Arena) (old table : Table) (p number : ℕ) (value : List ℕ) → p < length a.slots → MayGive old p value → number ≡ from_be_bytes w32 value → value ≡ cell number
+    → ((n : ℕ) → holder table n ≡ given old (phandle_at a.slots p) number p n) → IsSound a old
     → IsSound (record a { slots = with_property a.slots p (codes "phandle") value }) table
-IsSound-phandle a old table p number value lt may is gives sound = record {
+IsSound-phandle a old table p number value lt may is whole gives sound = record {
   boot_cpu = sound.boot_cpu;
   reservations = sound.reservations;
   rooted = IsRooted-property a.slots p (codes "phandle") value sound.rooted;
   numbered = IsNumbered-set a.slots p number value old table lt may.valid.four is (λ i e. may.own i (ap (holder old) (sym is) ∙ e)) gives sound.numbered;
   valid = AreValid-set a.slots p (codes "phandle") value phandle_named (λ e. may.valid) sound.valid;
+  cells = AreCells-set a.slots p value lt (whole ∙ ap cell is) sound.cells;
 }
   where
     phandle_named : IsPropertyName (codes "phandle")
@@ -93,6 +100,7 @@ IsSound-root boot_cpu table fits none = record {
     siblings = λ p. subst (λ (ns : List Slot). AreDistinct (map (λ c. c.name) (named_among (suc p) ns p))) (sym (drop_all (suc p) (root_alone boot_cpu).slots (omega arith))) tt;
     phandles = (tt, tt);
   };
+  cells = uncelled;
 }
   where
     nothing : (n i : ℕ) → holder table n ≡ Some i → ⊥
@@ -101,3 +109,7 @@ IsSound-root boot_cpu table fits none = record {
     unnumbered : (i n : ℕ) → phandle_at (root_alone boot_cpu).slots i ≡ Some n → ⊥
     unnumbered zero n e = absurd cc
     unnumbered (suc i) n e = absurd cc
+
+    uncelled : AreCells (root_alone boot_cpu).slots
+    uncelled zero value e = absurd cc
+    uncelled (suc q) value e = absurd cc

@@ -3,6 +3,7 @@ use Rattle.std.specs.Prelude.{◌≡◌, ℕ, zero, suc, List, [], ◌∷◌, �
 use Rattle.dt_flat.specs.declared.places.Place.{Place}
 use Rattle.dt_flat.specs.Arena.{Slot, Child, named_children}
 use Rattle.dt_model.specs.Changes.{set_property}
+use Rattle.dt_model.specs.Tree.{Property}
 
 -- the node that a place stands for
 abbrev pub slot_kept : Place → Slot
@@ -17,6 +18,12 @@ abbrev pub children_at : List Place → ℕ → List Child
 children_at [] p = []
 children_at (n ∷ ns) zero = n.children
 children_at (n ∷ ns) (suc p) = children_at ns p
+
+-- the properties of a place
+abbrev pub properties_at : List Place → ℕ → List Property
+properties_at [] p = []
+properties_at (n ∷ ns) zero = n.properties
+properties_at (n ∷ ns) (suc p) = properties_at ns p
 
 -- one more in the list of children of a place
 abbrev pub listed : List Place → ℕ → Child → List Place

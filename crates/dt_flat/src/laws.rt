@@ -4,10 +4,12 @@ ghost use Rattle.std.specs.Prelude.{◌≡◌, ◌<◌, ◌+◌, ◌==◌, ◌&&
 ghost use Rattle.std.specs.Str.{bytes_eq};
 ghost use Rattle.dt_model.specs.Names.{Name};
 ghost use Rattle.dt_model.specs.Path.{Path};
+ghost use Rattle.dt_model.specs.Changes.{with_child_at, with_property_at};
 ghost use Rattle.dt_model.specs.Tree.{value_of, node_at};
+ghost use Rattle.dt_model.specs.Valid.{node_count};
 ghost use Rattle.dt_names.specs.Fault.{IsExclusive, IsOneRefusal};
 ghost use Rattle.dt_flat.specs.Refusals.{MayAdd, MaySet, WhyNoNode, WhyNotReserved, WhyNotSet};
-ghost use Rattle.dt_flat.specs.Arena.{Arena, Slot, reading, named_children, child_of, properties, below, node_from, with_child, with_property};
+ghost use Rattle.dt_flat.specs.Arena.{Arena, Slot, IsRooted, reading, named_children, child_of, properties, below, node_from, with_child, with_property};
 
 /// The node of a path in the reading is what the arena has at the number to which the path leads.
 pub fn reading_by_path()
@@ -39,6 +41,21 @@ pub fn after_a_property()
     ensures values { (slots : List Slot) (p : ℕ) (n : Name) (v : List ℕ) (i : ℕ) (m : Name) → p < length slots →
         value_of (properties (with_property slots p n v) i) m ≡
         (if (p == i) && bytes_eq m n then Some v else value_of (properties slots i) m) }
+{}
+
+/// What an arena is read as after a change of the node to which a path leads.
+pub fn changes_by_path()
+    ensures child { (a : Arena) (q : Path) (p : ℕ) (name : Name) → IsRooted a.slots → node_from a.slots 0 q ≡ Some p →
+        child_of (named_children a.slots p) name ≡ None →
+        reading (record a { slots = with_child a.slots p name }) ≡ with_child_at q name (reading a) }
+    ensures property { (a : Arena) (q : Path) (p : ℕ) (name : Name) (value : List ℕ) → IsRooted a.slots →
+        node_from a.slots 0 q ≡ Some p →
+        reading (record a { slots = with_property a.slots p name value }) ≡ with_property_at q name value (reading a) }
+{}
+
+/// The reading of an arena has as many nodes as the arena.
+pub fn nodes_are_counted()
+    ensures { (a : Arena) → IsRooted a.slots → 1 + node_count (reading a).children ≡ length a.slots }
 {}
 
 /// A change of a tree is made, or is refused for one reason, and not both, unless memory is wanted.

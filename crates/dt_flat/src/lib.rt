@@ -9,10 +9,14 @@ mod places;
 mod planting;
 mod properties;
 mod tree;
+mod ways;
 
 pub use children::Children;
 pub use dt_names::NodeId;
-pub use laws::{after_a_child, after_a_property, one_outcome, reading_by_path};
+pub use laws::{
+    after_a_child, after_a_property, changes_by_path, nodes_are_counted, one_outcome,
+    reading_by_path,
+};
 pub use planting::{may_be_planted, planted_reads};
 pub use properties::Props;
 pub use tree::FlatTree;

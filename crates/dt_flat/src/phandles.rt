@@ -4,6 +4,7 @@ ghost use Rattle.std.specs.Prelude.{◌≡◌, ◌≤◌, ◌<◌, ℕ, ◌↔�
 ghost use Rattle.std.specs.Int.{w32, from_be_bytes};
 ghost use Rattle.indexmap.specs.IndexMap.{IsUnchanged, spare};
 ghost use Rattle.dt_flat.specs.Numbers.{holder, given, MayGive};
+ghost use Rattle.dt_model.specs.Meaning.{cell};
 ghost use Rattle.dt_model.specs.Valid.{IsPhandle};
 
 use crate::NodeId;
@@ -14,8 +15,8 @@ use std::alloc::{AllocError, Global};
 /// Which node has a number.
 pub type Phandles = IndexMap<u32, NodeId>;
 
-// The node that has the number.
-fn find(phandles: &Phandles, number: u32) -> Option<NodeId>
+/// The node that has the number.
+pub fn find_number(phandles: &Phandles, number: u32) -> Option<NodeId>
     ensures { result ≡ holder phandles.now number }
 {
     phandles.get(&number).copied()
@@ -25,7 +26,7 @@ fn find(phandles: &Phandles, number: u32) -> Option<NodeId>
 fn is_free(phandles: &Phandles, number: u32, node: NodeId) -> bool
     ensures { IsTrue result ↔ ((i : ℕ) → holder phandles.now number ≡ Some i → i ≡ node) }
 {
-    match find(phandles, number) {
+    match find_number(phandles, number) {
         Some(holder) => holder == node,
         None => true,
     }
@@ -35,6 +36,7 @@ fn is_free(phandles: &Phandles, number: u32, node: NodeId) -> bool
 pub fn free_number(phandles: &Phandles, node: NodeId, value: &[u8]) -> Option<u32>
     ensures may { IsSome result ↔ MayGive phandles.now node value.now }
     ensures number { IfSome result (λ number. number ≡ from_be_bytes w32 value.now) }
+    ensures cell { IfSome result (λ number. value.now ≡ cell number) }
 {
     let number = phandle_of(value)?;
     if !is_free(phandles, number, node) {

@@ -1,9 +1,11 @@
 //! The nodes of a tree, each with what it has.
 
-ghost use Rattle.std.specs.Prelude.{◌≡◌, ◌<◌, ◌++◌, ◌∷◌, [], suc, None, length, vec_len, vec_capacity, OnOk, OnErr};
+ghost use Rattle.std.specs.Prelude.{◌≡◌, ◌<◌, ◌≤◌, ◌+◌, ◌++◌, ◌∷◌, ℕ, List, [], suc, None, Some, length, vec_len, vec_capacity, OnOk, OnErr};
+ghost use Rattle.dt_model.specs.Applied.{with_cell};
 ghost use Rattle.dt_model.specs.Limits.{most_names};
-ghost use Rattle.dt_flat.specs.Linked.{children_at, listed, with_value};
-ghost use Rattle.dt_flat.specs.Arena.{Slot, named_children, child_of, with_child, with_property, properties, name_of, depth_of};
+ghost use Rattle.dt_model.specs.Tree.{value_of};
+ghost use Rattle.dt_flat.specs.Linked.{children_at, listed, properties_at, with_value};
+ghost use Rattle.dt_flat.specs.Arena.{Slot, named_children, child_of, with_child, with_property, properties, name_of, depth_of, parent_of};
 
 use crate::NodeId;
 use crate::children::ChildTable;
@@ -125,6 +127,28 @@ fn put(
     }
 }
 
+// Writes a number at an offset of the value of a property.
+fn patch(
+    root: &mut Place,
+    others: &mut Vec<Place>,
+    node: NodeId,
+    name: &[u8],
+    offset: usize,
+    number: u32,
+)
+    requires node { node < suc (length others.old.items) }
+    requires cell { (value : List ℕ) × (value_of (properties_at (root.old ∷ others.old.items) node) name.now ≡ Some value)
+        × (offset + 4 ≤ length value) }
+    ensures { (value : List ℕ) → value_of (properties_at (root.old ∷ others.old.items) node) name.now ≡ Some value →
+        root.new ∷ others.new.items ≡ with_value (root.old ∷ others.old.items) node name.now (with_cell value offset number) }
+{
+    if node == 0 {
+        root.properties.patch(name, offset, number);
+    } else {
+        others[node - 1].properties.patch(name, offset, number);
+    }
+}
+
 impl Places {
     /// A root alone.
     pub fn new(alloc: Global) -> Self
@@ -153,6 +177,7 @@ impl Places {
     /// What is kept of a node.
     pub fn get(&self, node: NodeId) -> &Place
         requires { node < length self.now }
+        ensures parent { result.now.parent ≡ parent_of self.now node }
         ensures depth { result.now.depth ≡ depth_of self.now node }
         ensures name { result.now.name.items ≡ name_of self.now node }
         ensures properties { result.now.properties ≡ properties self.now node }
@@ -195,5 +220,16 @@ impl Places {
     {
         put(&mut self.root, &mut self.others, alloc, node, name, value)?;
         Ok(())
+    }
+
+    /// Writes a number, the highest byte first, at an offset of the value of a property.
+    pub fn patch(&mut self, node: NodeId, name: &[u8], offset: usize, number: u32)
+        requires node { node < length self.old }
+        requires cell { (value : List ℕ) × (value_of (properties self.old node) name.now ≡ Some value)
+            × (offset + 4 ≤ length value) }
+        ensures { (value : List ℕ) → value_of (properties self.old node) name.now ≡ Some value →
+            self.new ≡ with_property self.old node name.now (with_cell value offset number) }
+    {
+        patch(&mut self.root, &mut self.others, node, name, offset, number);
     }
 }

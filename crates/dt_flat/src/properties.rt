@@ -1,9 +1,10 @@
 //! The properties of one node.
 
-ghost use Rattle.std.specs.Prelude.{◌≡◌, ◌<◌, [], length, OnOk, OnErr, option_map, slice_get, Some};
+ghost use Rattle.std.specs.Prelude.{◌≡◌, ◌<◌, ◌≤◌, ◌+◌, ℕ, List, [], length, OnOk, OnErr, option_map, slice_get, Some};
 ghost use Rattle.std.specs.Iterator.{YieldsFirstBy, item_count};
-ghost use Rattle.dt_model.specs.Tree.{value_of};
+ghost use Rattle.dt_model.specs.Applied.{with_cell};
 ghost use Rattle.dt_model.specs.Changes.{set_property};
+ghost use Rattle.dt_model.specs.Tree.{value_of};
 
 use indexmap::IndexMap;
 use std::alloc::{AllocError, Global};
@@ -23,6 +24,14 @@ impl Model for PropertyTable {
     ghost Value = { List Property };
 
     ghost view = { λ a. properties_kept a.values.entries };
+}
+
+/// Writes a number, the highest byte first, at an offset.
+pub fn write_cell(bytes: &mut [u8], offset: usize, number: u32)
+    requires { offset + 4 ≤ length bytes.old }
+    ensures { bytes.new ≡ with_cell bytes.old offset number }
+{
+    bytes[offset..offset + 4].copy_from_slice(&number.to_be_bytes());
 }
 
 impl PropertyTable {
@@ -72,6 +81,22 @@ impl PropertyTable {
         let value = Vec::from_slice(alloc, value)?;
         self.values.insert(key, value)?;
         Ok(())
+    }
+
+    /// Writes a number, the highest byte first, at an offset of the value of the property of a name. Looks at no other byte of
+    /// the value.
+    pub fn patch(&mut self, name: &[u8], offset: usize, number: u32)
+        requires { (value : List ℕ) × (value_of self.old name.now ≡ Some value) × (offset + 4 ≤ length value) }
+        ensures { (value : List ℕ) → value_of self.old name.now ≡ Some value →
+            self.new ≡ set_property self.old name.now (with_cell value offset number) }
+    {
+        let Some(place) = self.values.get_index_of(name) else {
+            unreachable!();
+        };
+        match self.values.get_index_mut(place) {
+            Some(value) => write_cell(value, offset, number),
+            None => unreachable!(),
+        }
     }
 
     /// The properties in order.

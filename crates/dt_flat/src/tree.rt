@@ -1,17 +1,21 @@
 //! Ordered trees with byte values.
 
-ghost use Rattle.std.specs.Prelude.{◌≡◌, ◌<◌, ◌++◌, ◌∷◌, [], ℕ, None, length, All, IsOk, OnOk, OnErr, IfOk, IfErr, option_map, codes};
+ghost use Rattle.std.specs.Prelude.{◌≡◌, ◌↔◌, ◌<◌, ◌≤◌, ◌+◌, ◌++◌, ◌∷◌, [], ℕ, List, None, Some, length, All, IsOk, OnOk, OnErr, IfOk, IfErr, IfSome, option_map, codes};
+ghost use Rattle.dt_model.specs.Applied.{with_cell};
 ghost use Rattle.dt_model.specs.Tree.{value_of};
 ghost use Rattle.dt_model.specs.Valid.{IsValid, IsWithinLimits};
 ghost use Rattle.dt_flat.specs.Numbers.{holder, given};
 ghost use Rattle.dt_flat.specs.Refusals.{WhyNoNode, WhyNotReserved, WhyNotSet, MayAdd, MaySet};
-ghost use Rattle.dt_flat.specs.Arena.{Arena, IsRooted, root_alone, children, with_child, with_property, properties, name_of, node_from, phandle_at, reading};
+ghost use Rattle.dt_flat.specs.Arena.{Arena, IsRooted, root_alone, children, named_children, child_of, with_child, with_property, properties, name_of, node_from, phandle_at, reading};
+ghost use Rattle.dt_flat.specs.Sound.{AreCells};
+ghost use Rattle.dt_names.specs.declared.fault.FaultKind.TheVariants.{NoMemory};
 
 use crate::NodeId;
 use crate::children::Children;
-use crate::phandles::{Phandles, free_number, give};
+use crate::phandles::{Phandles, find_number, free_number, give};
 use crate::places::Places;
 use crate::properties::Props;
+use crate::ways::path_of;
 use dt_names::limits::{MOST_NAMES, MOST_NODES};
 use dt_names::{Fault, FaultKind, NodeName, Path, PropName};
 use std::alloc::{AllocError, Global};
@@ -173,12 +177,43 @@ impl FlatTree {
         Ok(())
     }
 
+    /// Writes a number, the highest byte first, at an offset of the value of a property. `BlobPhandle`, `NoMemory`: as for
+    /// `set_prop` of the value that the property then has. At a fault the tree is unchanged.
+    pub fn patch_cell(
+        &mut self,
+        node: NodeId,
+        name: &PropName<'_>,
+        offset: usize,
+        number: u32,
+    ) -> Result<(), Fault>
+        requires node { node < length self.old.slots }
+        requires cell { (value : List ℕ) × (value_of (properties self.old.slots node) name.now ≡ Some value)
+            × (offset + 4 ≤ length value) }
+        ensures ok { (value : List ℕ) → value_of (properties self.old.slots node) name.now ≡ Some value →
+            OnOk result (self.new ≡ record self.old { slots = with_property self.old.slots node name.now (with_cell value offset number) }) }
+        ensures allowed { (value : List ℕ) → value_of (properties self.old.slots node) name.now ≡ Some value →
+            IsOk result → MaySet self.old.slots node name.now (with_cell value offset number) }
+        ensures err { OnErr result (self.new ≡ self.old) }
+        ensures refused { (value : List ℕ) → value_of (properties self.old.slots node) name.now ≡ Some value →
+            IfErr result (λ fault.
+            WhyNotSet fault.kind self.old.slots node name.now (with_cell value offset number) × (fault.at ≡ None)) }
+    {
+        let name = name.as_bytes();
+        if name != b"phandle".as_slice() {
+            self.places.patch(node, name, offset, number);
+            return Ok(());
+        }
+        // A phandle is one cell, so the number is all of it.
+        self.set_phandle(node, &number.to_be_bytes())
+    }
+
     /// What is true of each tree: a blob may hold it (Devicetree Specification v0.4, chapters 2 and 5), it is within the
-    /// limits, and its nodes stand behind their parents, the root first. Does nothing.
+    /// limits, its nodes stand behind their parents, the root first, and each `phandle` is the cell of a number. Does nothing.
     pub fn validity(&self)
         ensures valid { IsValid (reading self.now) }
         ensures within { IsWithinLimits (reading self.now) }
         ensures rooted { IsRooted self.now.slots }
+        ensures cells { AreCells self.now.slots }
     {
         // The invariant says it, and it is known where a field is named.
         let _ = &self.places;
@@ -231,6 +266,31 @@ impl FlatTree {
             node = self.places.get(node).children.find(name)?;
         }
         Some(node)
+    }
+
+    /// The child of a name, None where the node has none of that name.
+    pub fn child(&self, node: NodeId, name: &[u8]) -> Option<NodeId>
+        requires { node < length self.now.slots }
+        ensures { result ≡ child_of (named_children self.now.slots node) name.now }
+    {
+        self.places.get(node).children.find(name)
+    }
+
+    /// The node that has the number as its `phandle` (Devicetree Specification v0.4, 2.3.3), None where none has it.
+    pub fn by_phandle(&self, number: u32) -> Option<NodeId>
+        ensures value { (node : ℕ) → (result ≡ Some node) ↔ (phandle_at self.now.slots node ≡ Some number) }
+        ensures there { IfSome result (λ node. node < length self.now.slots) }
+    {
+        find_number(&self.phandles, number)
+    }
+
+    /// The path of a node. `NoMemory`: memory was refused.
+    pub fn path(&self, alloc: Global, node: NodeId) -> Result<Path, Fault>
+        requires { node < length self.now.slots }
+        ensures value { IfOk result (λ path. node_from self.now.slots 0 path ≡ Some node) }
+        ensures refused { IfErr result (λ fault. (fault.kind ≡ NoMemory) × (fault.at ≡ None)) }
+    {
+        path_of(&self.places, alloc, node)
     }
 
     /// The value of a property of a node, None where it has no property of that name.

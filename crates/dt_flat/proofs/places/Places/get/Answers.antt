@@ -1,12 +1,21 @@
 use Rattle.std.proofs.Common.{◌≡◌, ◌<◌, ◌-◌, ◌+◌, ◌∷◌, ◌∙◌, suc, ap, length, List, arith}
 use Rattle.dt_flat.specs.declared.places.Place.{Place}
-use Rattle.dt_flat.specs.Arena.{Slot, named_children, properties, name_of, depth_of}
+use Rattle.dt_flat.specs.Arena.{Slot, named_children, properties, name_of, depth_of, parent_of}
 use Rattle.dt_flat.specs.Linked.{slots_kept}
-use Rattle.dt_flat.proofs.Linking.{length-kept, depth-kept, name-kept, properties-kept, children-kept}
+use Rattle.dt_flat.proofs.Linking.{length-kept, parent-kept, depth-kept, name-kept, properties-kept, children-kept}
 use Rattle.dt_flat.proofs.places.Places.get.Goals as goal
 
 pub index-requires : goal.index-requires
 index-requires c = omega (arith, length-kept c.self.inside.others.items, ap (λ (slots : List Slot). length slots) c.self.view_is, c.requires, c.if-node-eq0.false)
+
+pub returns-else-node-eq0-clause-parent : goal.returns-else-node-eq0-clause-parent
+returns-else-node-eq0-clause-parent c =
+    let ns = c.self.inside.root ∷ c.self.inside.others.items in
+    let k = c.args.node - 1 in
+    let x = c.index.result.now in
+    let lt : suc k < length ns = omega (arith, length-kept c.self.inside.others.items, ap (λ (slots : List Slot). length slots) c.self.view_is, c.requires, c.if-node-eq0.false) in
+    let at : suc k ≡ c.args.node = omega (arith, c.if-node-eq0.false) in
+    ap (λ (n : Place). n.parent) c.index.ensures ∙ parent-kept ns (suc k) x lt ∙ ap (parent_of (slots_kept ns)) at ∙ ap (λ (slots : List Slot). parent_of slots c.args.node) c.self.view_is
 
 pub returns-else-node-eq0-clause-depth : goal.returns-else-node-eq0-clause-depth
 returns-else-node-eq0-clause-depth c =

@@ -19,7 +19,7 @@ invariant_of-self-2 c =
     let a : Arena = record { boot_cpu = c.self.inside.boot_cpu; reservations = c.self.inside.reservations.items; slots = slots } in
     let lt : c.args.node < length slots = omega (arith, ap (λ (t : Arena). length t.slots) c.self.view_is, c.requires) in
     subst (λ (ns : List Slot). IsSound (record a { slots = ns }) c.put_number.new.phandles) (sym c.in_ok-put_number.ensures.ok)
-    (IsSound-phandle a c.self.inside.phandles c.put_number.new.phandles c.args.node c.in-Some.number c.args.value.now lt (c.in-Some.ensures.may.0 refl) c.in-Some.ensures.number c.in_ok-put_number.ensures.given c.self.invariant)
+    (IsSound-phandle a c.self.inside.phandles c.put_number.new.phandles c.args.node c.in-Some.number c.args.value.now lt (c.in-Some.ensures.may.0 refl) c.in-Some.ensures.number c.in-Some.ensures.cell c.in_ok-put_number.ensures.given c.self.invariant)
 
 pub returns-in_default-clause-refused : goal.returns-in_default-clause-refused
 returns-in_default-clause-refused c =
