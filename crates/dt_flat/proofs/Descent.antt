@@ -1,8 +1,9 @@
 -- Which nodes stand above a node.
-use Rattle.std.proofs.Common.{◌≡◌, ℕ, zero, suc, ◌+◌, ◌-◌, ◌<◌, ◌≤◌, List, [], ◌∷◌, length, Option, Some, None, refl, sym, ap, ◌∙◌, arith}
+use Rattle.std.proofs.Common.{◌≡◌, ℕ, zero, suc, ◌+◌, ◌-◌, ◌<◌, ◌≤◌, List, [], ◌∷◌, ◌++◌, length, Option, Some, None, refl, sym, ap, ◌∙◌, arith}
 use Rattle.std.specs.Prelude.{option_and_then}
+use Rattle.dt_model.specs.Names.{Name}
 use Rattle.dt_model.specs.Path.{Path}
-use Rattle.dt_flat.specs.Arena.{Slot, IsRooted, named_children, child_of, parent_of, depth_of, node_from}
+use Rattle.dt_flat.specs.Arena.{Slot, IsRooted, named_children, child_of, parent_of, depth_of, name_of, node_from}
 use Rattle.dt_flat.proofs.Edges.{edge}
 
 -- the node so many steps up
@@ -74,3 +75,43 @@ path-within slots (x ∷ q) i p lt e = by (child_of (named_children slots i) x) 
     by : (o : Option ℕ) → child_of (named_children slots i) x ≡ o → option_and_then (λ c. node_from slots c q) o ≡ Some p → ((j : ℕ) → j < length slots → node_from slots j q ≡ Some p → p < length slots) → p < length slots
     by None is e f = absurd cc
     by (Some j) is e f = f j (edge slots i x j is).within e
+
+-- ---- one path to each node
+
+-- the names of a node and of those so many steps up
+abbrev names_up : List Slot → ℕ → ℕ → Path
+names_up slots zero p = []
+names_up slots (suc n) p = name_of slots (lifted slots n p) ∷ names_up slots n p
+
+path-names : (slots : List Slot) (q : Path) (i p : ℕ) → node_from slots i q ≡ Some p → (q ≡ names_up slots (length q) p) × (lifted slots (length q) p ≡ i)
+path-names slots [] i p e = let same : i ≡ p = cc in (refl, sym same)
+path-names slots (x ∷ q) i p e = by (child_of (named_children slots i) x) refl e (λ j h. path-names slots q j p h)
+  where
+    by : (o : Option ℕ) → child_of (named_children slots i) x ≡ o → option_and_then (λ c. node_from slots c q) o ≡ Some p → ((j : ℕ) → node_from slots j q ≡ Some p → (q ≡ names_up slots (length q) p) × (lifted slots (length q) p ≡ j))
+        → (x ∷ q ≡ name_of slots (lifted slots (length q) p) ∷ names_up slots (length q) p) × (parent_of slots (lifted slots (length q) p) ≡ i)
+    by None is e f = absurd cc
+    by (Some j) is e f =
+        let at = edge slots i x j is in
+        let rest = f j e in
+        let name : x ≡ name_of slots (lifted slots (length q) p) = sym at.name ∙ ap (name_of slots) (sym rest.1) in
+        ((λ k. name k ∷ rest.0 k), ap (parent_of slots) rest.1 ∙ at.parent)
+
+-- two paths to one node are the same
+pub path-same : (slots : List Slot) (q r : Path) (i p : ℕ) → IsRooted slots → node_from slots i q ≡ Some p → node_from slots i r ≡ Some p → q ≡ r
+path-same slots q r i p rooted a b =
+    let count : length q ≡ length r = omega (arith, path-length slots q i p rooted a, path-length slots r i p rooted b) in
+    (path-names slots q i p a).0 ∙ ap (λ (n : ℕ). names_up slots n p) count ∙ sym (path-names slots r i p b).0
+
+-- a path with one name more
+pub path-further : (slots : List Slot) (q : Path) (i : ℕ) (x : Name) → node_from slots i (q ++ x ∷ []) ≡ option_and_then (λ p. child_of (named_children slots p) x) (node_from slots i q)
+path-further slots [] i x = by (child_of (named_children slots i) x)
+  where
+    by : (o : Option ℕ) → option_and_then (λ c. Some c) o ≡ o
+    by None = refl
+    by (Some c) = refl
+path-further slots (y ∷ q) i x = by (child_of (named_children slots i) y) (λ c. path-further slots q c x)
+  where
+    by : (o : Option ℕ) → ((c : ℕ) → node_from slots c (q ++ x ∷ []) ≡ option_and_then (λ p. child_of (named_children slots p) x) (node_from slots c q))
+        → option_and_then (λ c. node_from slots c (q ++ x ∷ [])) o ≡ option_and_then (λ p. child_of (named_children slots p) x) (option_and_then (λ c. node_from slots c q) o)
+    by None f = refl
+    by (Some c) f = f c

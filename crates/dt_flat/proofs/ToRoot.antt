@@ -1,8 +1,9 @@
 -- The way from a node up to the root, and its names.
-use Rattle.std.proofs.Common.{◌≡◌, ◌≢◌, ℕ, zero, suc, ◌+◌, ◌-◌, ◌<◌, Bool, true, false, cond, eqb, List, [], ◌∷◌, length, drop, map, set, Option, Some, None, refl, sym, ap, ◌∙◌, arith}
+use Rattle.std.proofs.Common.{◌≡◌, ◌≢◌, ℕ, zero, suc, ◌+◌, ◌-◌, ◌<◌, ◌≤◌, Bool, true, false, cond, eqb, List, [], ◌∷◌, length, drop, map, set, Option, Some, None, inl, inr, refl, sym, ap, ◌∙◌, arith}
 use Rattle.std.specs.Prelude.{option_and_then}
 use Rattle.std.specs.List.{AllByRecursion}
 use Rattle.std.specs.Str.{bytes_eq}
+use Rattle.std.proofs.lemmas.Bool.{cases_lt}
 use Rattle.std.proofs.lemmas.List.{length-drop}
 use Rattle.std.proofs.lemmas.Slice.Eq.{bytes_eq-Decides}
 use Rattle.dt_model.specs.Names.{Name, IsNodeName}
@@ -82,3 +83,17 @@ node_named (n ∷ ns) (suc i) named pos lt = at ns i named (omega arith)
     at [] i h lt = absurd (omega arith)
     at (n ∷ ns) zero h lt = h.0
     at (n ∷ ns) (suc i) h lt = at ns i h.1 (omega arith)
+
+-- a path leads to each node
+pub path_to : (slots : List Slot) (node : ℕ) → IsRooted slots → AreValid slots → node < length slots → (path : Path) × (node_from slots 0 path ≡ Some node)
+path_to slots node rooted valid lt = climb node node [] (omega arith) lt refl
+  where
+    climb : (steps i : ℕ) (names : Path) → i ≤ steps → i < length slots → node_from slots i names ≡ Some node → (path : Path) × (node_from slots 0 path ≡ Some node)
+    climb zero i names le l leads = let top : i ≡ 0 = omega arith in (names, ap (λ (k : ℕ). node_from slots k names) (sym top) ∙ leads)
+    climb (suc steps) i names le l leads =
+        elim (cases_lt 0 i) [
+          | inl pos ↦
+              let above : parent_of slots i < i = rooted.above i pos l in
+              climb steps (parent_of slots i) (name_of slots i ∷ names) (omega arith) (omega arith) (from_parent slots i node names rooted valid pos l leads)
+          | inr none ↦ let top : i ≡ 0 = omega arith in (names, ap (λ (k : ℕ). node_from slots k names) (sym top) ∙ leads)
+        ]

@@ -2,6 +2,7 @@
 
 ghost use Rattle.std.specs.Prelude.{◌≡◌, ◌↔◌, ◌<◌, ◌≤◌, ◌+◌, ◌++◌, ◌∷◌, [], ℕ, List, None, Some, length, All, IsOk, OnOk, OnErr, IfOk, IfErr, IfSome, option_map, codes};
 ghost use Rattle.dt_model.specs.Applied.{with_cell};
+ghost use Rattle.dt_model.specs.Path.{Path as Names};
 ghost use Rattle.dt_model.specs.Tree.{value_of};
 ghost use Rattle.dt_model.specs.Valid.{IsValid, IsWithinLimits};
 ghost use Rattle.dt_flat.specs.Numbers.{holder, given};
@@ -208,11 +209,14 @@ impl FlatTree {
     }
 
     /// What is true of each tree: a blob may hold it (Devicetree Specification v0.4, chapters 2 and 5), it is within the
-    /// limits, its nodes stand behind their parents, the root first, and each `phandle` is the cell of a number. Does nothing.
+    /// limits, its nodes stand behind their parents, the root first, a path leads to each of them, and each `phandle` is the
+    /// cell of a number. Does nothing.
     pub fn validity(&self)
         ensures valid { IsValid (reading self.now) }
         ensures within { IsWithinLimits (reading self.now) }
         ensures rooted { IsRooted self.now.slots }
+        ensures paths { (node : ℕ) → node < length self.now.slots →
+            (path : Names) × (node_from self.now.slots 0 path ≡ Some node) }
         ensures cells { AreCells self.now.slots }
     {
         // The invariant says it, and it is known where a field is named.

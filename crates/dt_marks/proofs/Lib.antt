@@ -3,7 +3,7 @@ pub mod Labels
 pub mod SymbolTrees
 pub mod Setting
 pub mod Refused
-pub mod Texts
+pub mod TextTables
 pub mod Listing
 pub mod FirstCome
 pub mod Marks
@@ -17,3 +17,5 @@ pub mod Outside
 pub mod Counting
 pub mod LastChildren
 pub mod ObjectNodes
+pub mod TextCuts
+pub mod CellTexts

@@ -3,3 +3,5 @@ pub mod Refusals
 pub mod Waiting
 pub mod Mirrored
 pub mod Cells
+pub mod Texts
+pub mod Cuts
