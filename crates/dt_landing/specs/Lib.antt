@@ -1,0 +1,7 @@
+pub mod Checking
+pub mod Laws
+pub mod Objects
+pub mod Outcomes
+pub mod Refusals
+pub mod Steps
+pub mod Writing
