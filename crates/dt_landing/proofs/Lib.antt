@@ -16,3 +16,4 @@ pub mod RefusedOutcomes
 pub mod RefusedValues
 pub mod SingleChanges
 pub mod WrittenCells
+pub mod PassedOutcomes

@@ -1,8 +1,9 @@
 //! Why an object isn't applied, and what that says of the overlay.
 
-ghost use Rattle.dt_landing.specs.Outcomes.{RefusedIsUndefined, AppliedIsNotRefused};
+ghost use Rattle.dt_landing.specs.Outcomes.{RefusedIsUndefined, AppliedIsNotRefused, PassedIsApplied};
 
-use crate::checking::refused_is_not_applied;
+use crate::checking::{passed_is_allowed, refused_is_not_applied};
+use crate::landing::allowed_may_land;
 use dt_laws::applying_is_merging;
 
 /// Memory and limits aside, an object of an overlay is refused only where the overlay can't be applied.
@@ -18,4 +19,13 @@ pub fn applied_is_not_refused()
     ensures { AppliedIsNotRefused }
 {
     refused_is_not_applied();
+}
+
+/// Where an object has no fault and the look beforehand is passed, it is applied, and nothing but memory and the number of nodes
+/// is in the way.
+pub fn passed_is_applied()
+    ensures { PassedIsApplied }
+{
+    passed_is_allowed();
+    allowed_may_land();
 }
