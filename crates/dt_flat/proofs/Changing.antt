@@ -31,6 +31,7 @@ IsChanged s p (n ∷ ns) (m ∷ ms) = (n.parent ≡ m.parent) × (n.name ≡ m.n
 abbrev IsApart : List Slot → ℕ → ℕ → ℕ → Type 0
 IsApart slots s k p = (t : ℕ) → s ≤ t → t < length slots → parent_of slots t ≡ k → Leads slots t p → ⊥
 
+-- so what stands below k is read as before
 unchanged : (slots : List Slot) (p : ℕ) (s : ℕ) (ns ms : List Slot) (k : ℕ) → IsRooted slots → IsChanged s p ns ms → drop s slots ≡ ns → 0 < s → k ≢ p → IsApart slots s k p → forest_among s ns k ≡ forest_among s ms k
 unchanged slots p s [] [] k rooted h at pos ne apart = refl
 unchanged slots p s [] (m ∷ ms) k rooted h at pos ne apart =
@@ -58,6 +59,7 @@ unchanged slots p s (n ∷ ns) (m ∷ ms) k rooted h at pos ne apart =
 
 -- ---- the node on the way
 
+-- the children of i, of which j is the first of its name and leads to p, are read with j changed alone
 changed_among : (slots new : List Slot) (p i j : ℕ) (x : Name) (change : Node → Node) → IsRooted slots → i ≢ p → parent_of slots j ≡ i → 0 < j → j < length slots → Leads slots j p → change (has slots j) ≡ has new j
     → (s : ℕ) (ns ms : List Slot) → IsChanged s p ns ms → drop s slots ≡ ns → drop s new ≡ ms → 0 < s → child_of (named_among s ns i) x ≡ Some j → changed_sibling change (forest_among s ns i) x ≡ forest_among s ms i
 changed_among slots new p i j x change rooted ne parent jpos jlt leads is s [] ms h at there pos found = absurd cc
@@ -121,6 +123,7 @@ pub record IsChange (slots new : List Slot) (p : ℕ) (change : Node → Node) :
   pub kept : (i : ℕ) → i ≢ p → i < length slots → properties slots i ≡ properties new i
   pub behind : (s : ℕ) → s ≤ length slots → IsChanged s p (drop s slots) (drop s new)
 
+-- the node at the start of a path to p is read with the end of the path changed
 pub changed_on_way : (slots new : List Slot) (p : ℕ) (change : Node → Node) → IsRooted slots → IsChange slots new p change → (q : Path) (i : ℕ) → i < length slots → node_from slots i q ≡ Some p → changed_below change q (has slots i) ≡ has new i
 changed_on_way slots new p change rooted is [] i lt e =
     let same : i ≡ p = cc in
@@ -142,15 +145,18 @@ changed_on_way slots new p change rooted is (x ∷ q) i lt e = by (child_of (nam
 
 -- ---- a property set
 
+-- nodes that stay the same are changed nowhere
 changed-itself : (s p : ℕ) (ns : List Slot) → IsChanged s p ns ns
 changed-itself s p [] = tt
 changed-itself s p (n ∷ ns) = (refl, refl, (λ ne. refl), changed-itself (suc s) p ns)
 
+-- a property set at number p is a change of p
 property-changed : (s k p : ℕ) (ns : List Slot) (name : Name) (value : List ℕ) → s + k ≡ p → IsChanged s p ns (with_property ns k name value)
 property-changed s k p [] name value at = tt
 property-changed s zero p (n ∷ ns) name value at = (refl, refl, (λ ne. absurd (ne (omega arith))), changed-itself (suc s) p ns)
 property-changed s (suc k) p (n ∷ ns) name value at = (refl, refl, (λ ne. refl), property-changed (suc s) k p ns name value (omega arith))
 
+-- and so it is from each number on
 property-behind : (d p k : ℕ) (ns : List Slot) (name : Name) (value : List ℕ) → d + k ≡ p → (s : ℕ) → IsChanged (d + s) p (drop s ns) (drop s (with_property ns k name value))
 property-behind d p k ns name value at zero = let e : d + 0 ≡ d = omega arith in subst (λ (i : ℕ). IsChanged i p ns (with_property ns k name value)) (sym e) (property-changed d k p ns name value at)
 property-behind d p k [] name value at (suc s) = tt
@@ -159,11 +165,13 @@ property-behind d p (suc k) (n ∷ ns) name value at (suc s) =
     let e : suc d + s ≡ d + suc s = omega arith in
     subst (λ (i : ℕ). IsChanged i p (drop s ns) (drop s (with_property ns k name value))) e (property-behind (suc d) p k ns name value (omega arith) s)
 
+-- nothing behind the node differs
 drop-property : (ns : List Slot) (k : ℕ) (name : Name) (value : List ℕ) → drop (suc k) (with_property ns k name value) ≡ drop (suc k) ns
 drop-property [] k name value = refl
 drop-property (n ∷ ns) zero name value = refl
 drop-property (n ∷ ns) (suc k) name value = drop-property ns k name value
 
+-- a property that is set by number is set at the path
 pub property_by_path : (a : Arena) (q : Path) (p : ℕ) (name : Name) (value : List ℕ) → IsRooted a.slots → node_from a.slots 0 q ≡ Some p → reading (record a { slots = with_property a.slots p name value }) ≡ with_property_at q name value (reading a)
 property_by_path a q p name value rooted e =
     let slots = a.slots in
@@ -183,6 +191,7 @@ property_by_path a q p name value rooted e =
 
 -- ---- a child added
 
+-- a child of p at the end is a change of p
 child-changed : (s p : ℕ) (ns : List Slot) (m : Slot) → m.parent ≡ p → IsChanged s p ns (ns ++ m ∷ [])
 child-changed s p [] m at = (at, refl)
 child-changed s p (n ∷ ns) m at = (refl, refl, (λ ne. refl), child-changed (suc s) p ns m at)
@@ -223,6 +232,7 @@ child-added slots p m rooted plt up none s (n ∷ ns) at lt fresh =
         named true f = absurd cc
         named false f = let rests = rest f in λ t. branch n.name n.properties (under t) (rests t)
 
+-- a child that is added by number is added at the path
 pub child_by_path : (a : Arena) (q : Path) (p : ℕ) (name : Name) → IsRooted a.slots → node_from a.slots 0 q ≡ Some p → child_of (named_children a.slots p) name ≡ None → reading (record a { slots = with_child a.slots p name }) ≡ with_child_at q name (reading a)
 child_by_path a q p name rooted e fresh =
     let slots = a.slots in

@@ -32,6 +32,7 @@ counted slots i (n ∷ ns) rooted pos at =
     let here = sum-one-there i n.parent (1 + under (suc i) ns i) (under i (n ∷ ns)) (under (suc i) ns) parent (λ p d. under-other i n ns p d) (under-parent i n ns) in
     omega arith
 
+-- the nodes of the reading, and the root
 pub nodes-counted : (a : Arena) → IsRooted a.slots → 1 + node_count (reading a).children ≡ length a.slots
 nodes-counted a rooted =
     let whole : under 1 (drop 1 a.slots) 0 + 0 ≡ length (drop 1 a.slots) = counted a.slots 1 (drop 1 a.slots) rooted (omega arith) refl in

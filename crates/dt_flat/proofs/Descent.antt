@@ -16,6 +16,7 @@ pub record Leads (slots : List Slot) (k p : ℕ) : Type 0 where
   pub deep : depth_of slots k ≤ depth_of slots p
   pub up : lifted slots (depth_of slots p - depth_of slots k) p ≡ k
 
+-- each node leads to itself
 pub leads-itself : (slots : List Slot) (p : ℕ) → Leads slots p p
 leads-itself slots p =
     let none : depth_of slots p - depth_of slots p ≡ 0 = omega arith in
@@ -83,6 +84,7 @@ abbrev names_up : List Slot → ℕ → ℕ → Path
 names_up slots zero p = []
 names_up slots (suc n) p = name_of slots (lifted slots n p) ∷ names_up slots n p
 
+-- a path is made of the names on the way, and goes up to where it began
 path-names : (slots : List Slot) (q : Path) (i p : ℕ) → node_from slots i q ≡ Some p → (q ≡ names_up slots (length q) p) × (lifted slots (length q) p ≡ i)
 path-names slots [] i p e = let same : i ≡ p = cc in (refl, sym same)
 path-names slots (x ∷ q) i p e = by (child_of (named_children slots i) x) refl e (λ j h. path-names slots q j p h)

@@ -15,6 +15,7 @@ length-kept (n ∷ ns) = ap suc (length-kept ns)
 
 -- ---- what is kept of a node
 
+-- the parent of the node that a place stands for
 pub parent-kept : (ns : List Place) (i : ℕ) (d : Place) → i < length ns → (get_or ns i d).parent ≡ parent_of (slots_kept ns) i
 parent-kept [] i d h = absurd (omega arith)
 parent-kept (n ∷ ns) zero d h = refl
@@ -35,11 +36,13 @@ properties-kept [] i d h = absurd (omega arith)
 properties-kept (n ∷ ns) zero d h = refl
 properties-kept (n ∷ ns) (suc i) d h = properties-kept ns i d (omega arith)
 
+-- the properties by number are those of the node that is kept there
 pub properties_at-kept : (ns : List Place) (i : ℕ) → properties_at ns i ≡ properties (slots_kept ns) i
 properties_at-kept [] i = refl
 properties_at-kept (n ∷ ns) zero = refl
 properties_at-kept (n ∷ ns) (suc i) = properties_at-kept ns i
 
+-- and of the place itself
 properties_at-get_or : (ns : List Place) (i : ℕ) (d : Place) → i < length ns → properties_at ns i ≡ (get_or ns i d).properties
 properties_at-get_or [] i d h = absurd (omega arith)
 properties_at-get_or (n ∷ ns) zero d h = refl
@@ -245,5 +248,6 @@ value_other root os p k x ps name value is at e =
 pub children_at_other : (root : Place) (os : List Place) (p k : ℕ) (x : Place) → p ≡ suc k → k < length os → x ≡ get_or os k x → x.children ≡ children_at (root ∷ os) p
 children_at_other root os p k x is lt at = ap (λ (n : Place). n.children) at ∙ sym (children_at-get_or os k x lt) ∙ ap (children_at (root ∷ os)) (sym is)
 
+-- the properties of a place that was looked up
 pub properties_at_other : (root : Place) (os : List Place) (p k : ℕ) (x : Place) → p ≡ suc k → k < length os → x ≡ get_or os k x → x.properties ≡ properties_at (root ∷ os) p
 properties_at_other root os p k x is lt at = ap (λ (n : Place). n.properties) at ∙ sym (properties_at-get_or os k x lt) ∙ ap (properties_at (root ∷ os)) (sym is)

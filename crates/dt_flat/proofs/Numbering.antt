@@ -185,6 +185,7 @@ numbered-within slots table n i numbered e =
       | inr past ↦ let none : None ≡ Some n = sym (ap phandle_of (properties-past slots i past)) ∙ numbered.sound n i e in absurd cc
     ]
 
+-- so is what a look-up finds
 pub found-within : (slots : List Slot) (table : Table) (n : ℕ) (found : Option ℕ) → IsNumbered slots table → found ≡ holder table n → IfSome found (λ i. i < length slots)
 found-within slots table n None numbered e = tt
 found-within slots table n (Some i) numbered e = numbered-within slots table n i numbered (sym e)
@@ -213,9 +214,11 @@ whole_phandle slots kept p name value other offset number named same valid here 
     let at : value_of (properties kept p) (codes "phandle") ≡ Some value = ap (λ (ns : List Slot). value_of (properties ns p) (codes "phandle")) same ∙ ap (value_of (properties slots p)) (sym named) ∙ here in
     whole_cell value offset number (phandle-there kept p value valid at).four (omega (arith, room, ap (λ (xs : List ℕ). length xs) one))
 
+-- each phandle is still a cell after a node without properties is added
 pub AreCells-added : (ns : List Slot) (m : Slot) → m.properties ≡ [] → AreCells ns → AreCells (ns ++ m ∷ [])
 AreCells-added ns m none cells q value e = cells q value (ap (λ (ps : List Property). value_of ps (codes "phandle")) (sym (properties-push ns m q none)) ∙ e)
 
+-- and after a property of another name is set
 pub AreCells-kept : (slots : List Slot) (p : ℕ) (name value : List ℕ) → p < length slots → name ≢ codes "phandle" → AreCells slots → AreCells (with_property slots p name value)
 AreCells-kept slots p name value lt ne cells q w e =
     elim (cases_eq q p) [
@@ -223,6 +226,7 @@ AreCells-kept slots p name value lt ne cells q w e =
       | inr d ↦ cells q w (ap (λ (ps : List Property). value_of ps (codes "phandle")) (sym (properties-other slots p name value q d)) ∙ e)
     ]
 
+-- and after a cell is set as a phandle
 pub AreCells-set : (slots : List Slot) (p : ℕ) (value : List ℕ) → p < length slots → value ≡ cell (from_be_bytes w32 value) → AreCells slots → AreCells (with_property slots p (codes "phandle") value)
 AreCells-set slots p value lt is cells q w e =
     elim (cases_eq q p) [

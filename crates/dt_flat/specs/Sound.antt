@@ -16,7 +16,7 @@ pub record AreValid (slots : List Slot) : Type 0 where
   pub siblings : (p : ℕ) → AreDistinct (map (λ c. c.name) (named_children slots p))
   pub phandles : AllByRecursion (λ n. AllByRecursion IsPhandle (phandle_values n.properties)) slots
 
--- each phandle is the cell of its number, so that two nodes with one value are two nodes with one number
+-- each phandle is the cell of its number, so that nodes of one number have one value
 abbrev pub AreCells : List Slot → Type 0
 AreCells slots = (p : ℕ) (value : List ℕ) → value_of (properties slots p) (codes "phandle") ≡ Some value → value ≡ cell (from_be_bytes w32 value)
 

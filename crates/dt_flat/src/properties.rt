@@ -26,8 +26,8 @@ impl Model for PropertyTable {
     ghost view = { λ a. properties_kept a.values.entries };
 }
 
-/// Writes a number, the highest byte first, at an offset.
-pub fn write_cell(bytes: &mut [u8], offset: usize, number: u32)
+// Writes a number, the highest byte first, at an offset.
+fn write_cell(bytes: &mut [u8], offset: usize, number: u32)
     requires { offset + 4 ≤ length bytes.old }
     ensures { bytes.new ≡ with_cell bytes.old offset number }
 {
