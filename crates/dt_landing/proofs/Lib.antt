@@ -2,6 +2,7 @@ pub mod CheckedFragments
 pub mod CheckedLandings
 pub mod CheckedNumbers
 pub mod CheckedSites
+pub mod ExceededLimits
 pub mod FoundSites
 pub mod KnownChanges
 pub mod KnownChecks

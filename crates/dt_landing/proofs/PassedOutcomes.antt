@@ -1,13 +1,11 @@
 -- An object without faults is applied where the look beforehand is passed.
-use Rattle.std.proofs.Common.{◌≡◌, ℕ, Bool, true, false, true≢false, ◌&&◌, List, [], ◌∷◌, ◌++◌, map, is_some, refl, sym, ap, subst, ◌∙◌, Some, None}
+use Rattle.std.proofs.Common.{◌≡◌, Bool, true, false, true≢false, ◌&&◌, List, [], ◌∷◌, ◌++◌, map, is_some, sym, ap, ◌∙◌, Some, None}
 use Rattle.std.specs.Prelude.{if◌then◌else◌, option_and_then}
 use Rattle.std.specs.List.{list_all, AllByRecursion}
 use Rattle.dt_model.specs.Names.{Name}
-use Rattle.dt_model.specs.Path.{Path}
-use Rattle.dt_model.specs.Merged.{Site}
-use Rattle.dt_model.specs.Object.{Cell, AreFixups, fragment_names}
+use Rattle.dt_model.specs.Object.{Cell, AreFixups}
 use Rattle.dt_model.specs.Tree.{Property, Reading}
-use Rattle.dt_model.specs.Applied.{symbol, writes, find_sites, is_allowed, if_allowed, applied_at, applied}
+use Rattle.dt_model.specs.Applied.{symbol, writes, is_allowed, if_allowed, applied_at}
 use Rattle.dt_landing.specs.Laws.{PassedIsAllowed, AllowedMayLand}
 use Rattle.dt_landing.specs.Objects.{IsFixup, fixups_in}
 use Rattle.dt_landing.specs.Outcomes.{PassedIsApplied}

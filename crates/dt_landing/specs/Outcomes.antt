@@ -44,3 +44,7 @@ PassedIsApplied = (base object : Reading) (fixups : List (Name × Cell)) (number
     → HasFixups object fixups → AreNewNumbers base object numbers → IsWellFormed base object
     → check_fragments base object (writes base object fixups numbers) numbers [] (fragment_names object.children) nothing_landed ≡ Ok sites
     → MayBeApplied base object fixups numbers sites
+
+-- a limit is told only where what would come of it exceeds it
+abbrev pub LimitIsExceeded : Type 0
+LimitIsExceeded = (base object t : Reading) → IsValid base → IsValid object → IsApplied base object t → WhyNotApplied Limit base object → IsWithinLimits t → ⊥

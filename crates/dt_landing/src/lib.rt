@@ -14,5 +14,7 @@ pub use landing::{
     allowed_may_land, child_is_added, fragments_are_merged, landing_is_merging, nodes_are_kept,
     places_are_kept, symbols_are_merged, symbols_are_plain,
 };
-pub use outcomes::{applied_is_not_refused, passed_is_applied, refused_is_undefined};
+pub use outcomes::{
+    applied_is_not_refused, limit_is_exceeded, passed_is_applied, refused_is_undefined,
+};
 pub use writing::cells_are_written;

@@ -1,8 +1,8 @@
 //! Why an object isn't applied, and what that says of the overlay.
 
-ghost use Rattle.dt_landing.specs.Outcomes.{RefusedIsUndefined, AppliedIsNotRefused, PassedIsApplied};
+ghost use Rattle.dt_landing.specs.Outcomes.{RefusedIsUndefined, AppliedIsNotRefused, PassedIsApplied, LimitIsExceeded};
 
-use crate::checking::{passed_is_allowed, refused_is_not_applied};
+use crate::checking::{limit_is_due, passed_is_allowed, refused_is_not_applied};
 use crate::landing::allowed_may_land;
 use dt_laws::applying_is_merging;
 
@@ -28,4 +28,11 @@ pub fn passed_is_applied()
 {
     passed_is_allowed();
     allowed_may_land();
+}
+
+/// A limit is told only where the tree that would come of the object exceeds it.
+pub fn limit_is_exceeded()
+    ensures { LimitIsExceeded }
+{
+    limit_is_due();
 }
