@@ -1,5 +1,5 @@
 -- A limit is told only where the tree that would come of the object exceeds it.
-use Rattle.std.proofs.Common.{◌≡◌, ℕ, Bool, true, false, ◌||◌, List, [], ◌∷◌, ◌++◌, codes, refl, sym, ap, subst, ◌∙◌, ◌⊎◌, inl, inr, Option, Some, None, arith}
+use Rattle.std.proofs.Common.{◌≡◌, ℕ, Bool, true, false, ◌||◌, List, [], ◌∷◌, ◌++◌, codes, refl, sym, ap, subst, ◌+◌, ◌<◌, ◌≤◌, ◌∙◌, ◌⊎◌, inl, inr, Option, Some, None, arith}
 use Rattle.std.specs.Prelude.{option_and_then, if◌then◌else◌}
 use Rattle.std.specs.List.{list_any}
 use Rattle.dt_model.specs.Names.{Name}
@@ -8,7 +8,8 @@ use Rattle.dt_model.specs.Merged.{Site, landing, sources}
 use Rattle.dt_model.specs.Numbers.{numbers_of, new_paths, AreNewNumbers, paths_of}
 use Rattle.dt_model.specs.Object.{Cell, HasFixups, fragment_names, properties_of}
 use Rattle.dt_model.specs.Tree.{Property, Reading, node_at, stands_in}
-use Rattle.dt_model.specs.Valid.{IsValid, IsWithinLimits}
+use Rattle.dt_model.specs.Limits.{most_nodes}
+use Rattle.dt_model.specs.Valid.{IsValid, IsWithinLimits, node_count}
 use Rattle.dt_model.specs.Changes.{with_child_at}
 use Rattle.dt_model.specs.Applied.{Write, writes, find_sites, is_allowed, if_allowed, with_fragments, landed_symbols, with_symbols_merged, applied_at, applied}
 use Rattle.dt_laws.specs.InTurn.{IsApplied}
@@ -117,6 +118,12 @@ pub limit_is_exceeded : LimitIsDue → LimitIsExceeded
 limit_is_exceeded due base object t valid_base valid is (inl none) within =
     too_deep base object none.fixups none.numbers valid_base valid none.new t (applied_with base object t none.fixups none.numbers is none.listed none.new)
     (due base object (writes base object none.fixups none.numbers) none.numbers valid_base valid none.new none.refused) within
-limit_is_exceeded due base object t valid_base valid is (inr crowded) within =
+limit_is_exceeded due base object t valid_base valid is (inr (inl crowded)) within =
     too_many base object crowded.fixups crowded.numbers valid_base valid crowded.new t
     (applied_with base object t crowded.fixups crowded.numbers is crowded.listed crowded.new) crowded.crowded within
+limit_is_exceeded due base object t valid_base valid is (inr (inr over)) within =
+    let z : Some t ≡ Some over.result = sym (applied_with base object t over.applied.fixups over.applied.numbers is over.applied.listed over.applied.new) ∙ over.applied.is in
+    let same : t ≡ over.result = cc in
+    let few : 1 + node_count t.children ≤ most_nodes = within.count in
+    let many : most_nodes < 1 + node_count t.children = subst (λ (u : Reading). most_nodes < 1 + node_count u.children) (sym same) over.many in
+    omega (arith, few, many)

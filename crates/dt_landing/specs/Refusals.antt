@@ -1,12 +1,13 @@
 -- Why an object isn't applied.
-use Rattle.std.specs.Prelude.{◌≡◌, ◌≢◌, ℕ, ◌<◌, ◌⊎◌, true, List, [], ◌∷◌, ◌++◌, length, Some, None, Err, codes}
+use Rattle.std.specs.Prelude.{◌≡◌, ◌≢◌, ℕ, ◌+◌, ◌<◌, ◌⊎◌, true, List, [], ◌∷◌, ◌++◌, length, Some, None, Err, codes}
 use Rattle.std.specs.List.{AllByRecursion}
 use Rattle.dt_model.specs.Limits.{most_nodes}
 use Rattle.dt_model.specs.Names.{Name}
 use Rattle.dt_model.specs.Path.{Path}
 use Rattle.dt_model.specs.Lists.{IsIn}
 use Rattle.dt_model.specs.Tree.{Property, Reading, stands_in, value_in}
-use Rattle.dt_model.specs.Valid.{AreDistinct}
+use Rattle.dt_model.specs.Valid.{AreDistinct, node_count}
+use Rattle.dt_laws.specs.InTurn.{IsApplied}
 use Rattle.dt_model.specs.Merged.{Site, landing}
 use Rattle.dt_model.specs.Object.{Cell, HasFixups, fragment_names}
 use Rattle.dt_model.specs.Numbers.{AreNewNumbers}
@@ -43,6 +44,12 @@ pub record IsCrowded (base object : Reading) : Type 0 where
   pub new : AreNewNumbers base object numbers
   pub crowded : IsCrowdedAt base object (writes base object fixups numbers) numbers
 
+-- what would come of it has more than 65,536 nodes
+pub record IsOverfull (base object : Reading) : Type 0 where
+  pub result : Reading
+  pub applied : IsApplied base object result
+  pub many : most_nodes < 1 + node_count result.children
+
 abbrev pub WhyNotApplied : FaultKind → Reading → Reading → Type 0
 WhyNotApplied NoMemory base object = Unit {0}
 WhyNotApplied NoFragmentTarget base object = (f : Name) × IsIn f (fragment_names object.children) × ¬ HasTarget object f
@@ -55,5 +62,5 @@ WhyNotApplied BadLocalFixup base object = (p : Path) × (stands_in object (codes
 WhyNotApplied NoTarget base object = HasNoSites base object NoTarget
 WhyNotApplied ReservedPlace base object = HasNoSites base object ReservedPlace
 WhyNotApplied SecondPhandle base object = HasNoSites base object SecondPhandle
-WhyNotApplied Limit base object = HasNoSites base object Limit ⊎ IsCrowded base object
+WhyNotApplied Limit base object = HasNoSites base object Limit ⊎ IsCrowded base object ⊎ IsOverfull base object
 WhyNotApplied _ base object = ⊥
