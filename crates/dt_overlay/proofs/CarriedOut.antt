@@ -1,0 +1,147 @@
+-- Landing an object whose fragments have sites is applying it.
+use Rattle.std.proofs.Common.{◌≡◌, ℕ, ◌+◌, ◌<◌, ◌≤◌, List, [], ◌∷◌, map, length, sym, ap, subst, ◌∙◌, inl, inr, ◌⊎◌, Option, None, codes, arith}
+use Rattle.std.specs.List.{AllByRecursion}
+use Rattle.dt_model.specs.Limits.{most_nodes}
+use Rattle.dt_model.specs.Path.{Path}
+use Rattle.dt_model.specs.Tree.{Property, Reading, no_nodes, branch}
+use Rattle.dt_model.specs.Valid.{IsValid, IsWithinLimits, node_count}
+use Rattle.dt_model.specs.Changes.{with_child_at}
+use Rattle.dt_model.specs.Merged.{Site}
+use Rattle.dt_model.specs.Object.{fragment_names}
+use Rattle.dt_model.specs.Applied.{Write, writes, with_fragments, with_symbols_merged, landed_symbols, applied_at}
+use Rattle.dt_names.specs.declared.fault.Fault.{Fault}
+use Rattle.dt_names.specs.declared.fault.FaultKind.TheVariants.{NoMemory, Limit}
+use Rattle.dt_laws.specs.InTurn.{IsApplied}
+use Rattle.dt_flat.specs.Arena.{Arena, IsRooted}
+use Rattle.dt_landing.specs.Laws.{FragmentsAreMerged, SymbolsAreMerged, NodesAreKept}
+use Rattle.dt_landing.specs.Objects.{symbols_in}
+use Rattle.dt_landing.specs.Outcomes.{MayBeApplied, PassedIsApplied}
+use Rattle.dt_landing.specs.Refusals.{IsOverfull}
+use Rattle.dt_overlay.specs.declared.applying.Plan.{Plan}
+use Rattle.dt_overlay.specs.declared.fragments.Fragment.{Fragment}
+use Rattle.dt_overlay.specs.declared.numbers.Brought.{Brought}
+use Rattle.dt_overlay.specs.Applying.{IsReadAs, IsSitedAs}
+use Rattle.dt_overlay.specs.Landed.{land_each, MayLandEach}
+use Rattle.dt_overlay.specs.SymbolLanding.{AreToLand}
+use Rattle.dt_overlay.proofs.CarriedLandings.{contents_there, found_names_all, each_is_fragments, each_may_land}
+use Rattle.dt_overlay.proofs.WritesPaths.{EachHasPath}
+
+module _ (law : PassedIsApplied) (kept : NodesAreKept) (merge : FragmentsAreMerged) (set : SymbolsAreMerged) where
+  -- symbols take no nodes away
+  symbols_add : (ps : List Property) (t : Reading) → node_count t.children ≤ node_count (with_symbols_merged ps t).children
+  symbols_add [] t = omega arith
+  symbols_add (x ∷ xs) t =
+      let u : Reading = with_child_at [] (codes "__symbols__") t in
+      let more : node_count t.children ≤ node_count u.children = (kept [] (branch (codes "__symbols__") [] no_nodes no_nodes) [] t).0 in
+      let same = (kept (codes "__symbols__" ∷ []) no_nodes (x ∷ xs) u).1 in
+      subst (λ (v : Reading). node_count t.children ≤ node_count v.children) (set x xs t) (omega (arith, more, same))
+
+  module _ (base object : Reading) (tree : Arena) (b : Brought) (p : Plan) (s : IsSitedAs base object tree b p) (valid_base : IsValid base) (few_base : IsWithinLimits base)
+      (rooted : IsRooted tree.slots) (paths : EachHasPath tree.slots) where
+    abbrev read : IsReadAs base object tree b p
+    read = s.read
+
+    abbrev ws : List Write
+    ws = writes base object read.fixups read.numbers
+
+    passed : MayBeApplied base object read.fixups read.numbers s.found
+    passed = law base object read.fixups read.numbers s.found valid_base read.ready.valid few_base read.few read.listed read.new read.well s.passed
+
+    named : map (λ (x : Site). x.fragment) s.found ≡ fragment_names object.children
+    named = found_names_all base object ws read.numbers s.found valid_base read.ready.valid read.new passed.sited
+
+    abbrev contents : List ℕ
+    contents = map (λ (x : Fragment). x.content) p.fragments.items
+
+    -- what comes of the fragments
+    abbrev after : Reading
+    after = land_each b.numbers.items tree.slots contents p.sites.items base
+
+    pub nodes_there : AllByRecursion (λ x. x.content < length tree.slots) p.fragments.items
+    nodes_there = contents_there object ws read.numbers tree p.fragments.items b read.ready rooted
+
+    pub may_land : MayLandEach b.numbers.items tree.slots (map (λ (x : Fragment). x.content) p.fragments.items) p.sites.items base
+    may_land =
+        subst (λ (qs : List Path). MayLandEach b.numbers.items tree.slots contents qs base) (sym s.sites)
+        (each_may_land object ws read.numbers tree p.fragments.items b read.ready rooted paths s.found named base passed.may)
+
+    landed_is : after ≡ with_fragments base object ws read.numbers s.found
+    landed_is =
+        ap (λ (qs : List Path). land_each b.numbers.items tree.slots contents qs base) s.sites
+        ∙ each_is_fragments object ws read.numbers tree p.fragments.items b read.ready rooted paths s.found named base
+        ∙ merge base object ws read.numbers s.found passed.may
+
+    pub to_land : AreToLand object s.found tree b p.sites.items p.symbols.items
+    to_land = record {
+      writes = ws;
+      numbers = read.numbers;
+      fragments = p.fragments.items;
+      ready = read.ready;
+      symbols = read.symbols;
+      named = named;
+      sited = s.sites;
+      shallow = passed.shallow;
+    }
+
+    abbrev whole : Reading
+    whole = applied_at base object read.fixups read.numbers s.found
+
+    whole_applied : IsApplied base object whole
+    whole_applied = record { fixups = read.fixups; numbers = read.numbers; listed = read.listed; new = read.new; is = passed.applied }
+
+    -- once the labels are set, the object is applied
+    pub carried : (t u : Reading) → t ≡ land_each b.numbers.items tree.slots (map (λ (x : Fragment). x.content) p.fragments.items) p.sites.items base
+        → u ≡ with_symbols_merged (landed_symbols object s.found (symbols_in object)) t → IsApplied base object u
+    carried t u e h =
+        subst (λ (v : Reading). IsApplied base object v) (sym (h ∙ ap (with_symbols_merged (landed_symbols object s.found (symbols_in object))) (e ∙ landed_is))) whole_applied
+
+    -- too many nodes on the way are too many in the end
+    pub overfull_landing : most_nodes < 1 + node_count (land_each b.numbers.items tree.slots (map (λ (x : Fragment). x.content) p.fragments.items) p.sites.items base).children
+        → IsOverfull base object
+    overfull_landing many =
+        let more : node_count after.children ≤ node_count whole.children =
+        subst (λ (v : Reading). node_count v.children ≤ node_count whole.children) (sym landed_is)
+        (symbols_add (landed_symbols object s.found (symbols_in object)) (with_fragments base object ws read.numbers s.found)) in
+        record { result = whole; applied = whole_applied; many = omega (arith, many, more) }
+
+    pub overfull_symbols : (t : Reading) → t ≡ land_each b.numbers.items tree.slots (map (λ (x : Fragment). x.content) p.fragments.items) p.sites.items base
+        → most_nodes < 1 + node_count (with_symbols_merged (landed_symbols object s.found (symbols_in object)) t).children → IsOverfull base object
+    overfull_symbols t e many = record {
+      result = whole;
+      applied = whole_applied;
+      many = subst (λ (v : Reading). most_nodes < 1 + node_count (with_symbols_merged (landed_symbols object s.found (symbols_in object)) v).children) (e ∙ landed_is) many;
+    }
+
+    -- the same of lists that are these
+    module _ (numbers : List (Option ℕ)) (fragments : List Fragment) (sites : List Path) (of_numbers : numbers ≡ b.numbers.items) (of_fragments : fragments ≡ p.fragments.items)
+        (of_sites : sites ≡ p.sites.items) where
+      as_listed : land_each numbers tree.slots (map (λ (x : Fragment). x.content) fragments) sites base ≡ after
+      as_listed =
+          ap (λ (ns : List (Option ℕ)). land_each ns tree.slots (map (λ (x : Fragment). x.content) fragments) sites base) of_numbers
+          ∙ ap (λ (fs : List Fragment). land_each b.numbers.items tree.slots (map (λ (x : Fragment). x.content) fs) sites base) of_fragments
+          ∙ ap (λ (qs : List Path). land_each b.numbers.items tree.slots contents qs base) of_sites
+
+      pub these_may_land : MayLandEach numbers tree.slots (map (λ (x : Fragment). x.content) fragments) sites base
+      these_may_land =
+          subst (λ (ns : List (Option ℕ)). MayLandEach ns tree.slots (map (λ (x : Fragment). x.content) fragments) sites base) (sym of_numbers)
+          (subst (λ (fs : List Fragment). MayLandEach b.numbers.items tree.slots (map (λ (x : Fragment). x.content) fs) sites base) (sym of_fragments)
+          (subst (λ (qs : List Path). MayLandEach b.numbers.items tree.slots contents qs base) (sym of_sites) may_land))
+
+      -- a fault while the fragments land
+      pub told_landing : (e : Fault) → (e.at ≡ None) × ((e.kind ≡ NoMemory) ⊎ ((e.kind ≡ Limit)
+          × (most_nodes < 1 + node_count (land_each numbers tree.slots (map (λ (x : Fragment). x.content) fragments) sites base).children)))
+          → (e.at ≡ None) × ((e.kind ≡ NoMemory) ⊎ ((e.kind ≡ Limit) × IsOverfull base object))
+      told_landing e (at, inl k) = (at, inl k)
+      told_landing e (at, inr (k, many)) = (at, inr (k, overfull_landing (subst (λ (v : Reading). most_nodes < 1 + node_count v.children) as_listed many)))
+
+      -- a fault while the labels are set
+      pub told_symbols : (t : Reading) → t ≡ land_each numbers tree.slots (map (λ (x : Fragment). x.content) fragments) sites base
+          → (e : Fault) → (e.at ≡ None) × ((e.kind ≡ NoMemory) ⊎ ((e.kind ≡ Limit)
+          × (most_nodes < 1 + node_count (with_symbols_merged (landed_symbols object s.found (symbols_in object)) t).children)))
+          → (e.at ≡ None) × ((e.kind ≡ NoMemory) ⊎ ((e.kind ≡ Limit) × IsOverfull base object))
+      told_symbols t is e (at, inl k) = (at, inl k)
+      told_symbols t is e (at, inr (k, many)) = (at, inr (k, overfull_symbols t (is ∙ as_listed) many))
+
+      pub all_carried : (t u : Reading) → t ≡ land_each numbers tree.slots (map (λ (x : Fragment). x.content) fragments) sites base
+          → u ≡ with_symbols_merged (landed_symbols object s.found (symbols_in object)) t → IsApplied base object u
+      all_carried t u e h = carried t u (e ∙ as_listed) h

@@ -1,0 +1,12 @@
+pub mod Applying
+pub mod Fixups
+pub mod FlatTargets
+pub mod Landed
+pub mod LocalFixups
+pub mod Looked
+pub mod NumbersGiven
+pub mod Plans
+pub mod SymbolLanding
+pub mod Symbols
+pub mod Targets
+pub mod Writing

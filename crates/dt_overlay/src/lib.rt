@@ -1,0 +1,21 @@
+//! Applying an overlay's object to a tree (dtc's notes on overlay objects).
+#![tactic(auto)]
+
+mod applying;
+mod cuts;
+mod fixups;
+mod flat_target;
+mod fragments;
+mod landing;
+mod local_fixups;
+mod looks;
+mod numbers;
+mod sites;
+mod symbol_landing;
+mod symbols;
+mod target;
+mod texts;
+mod writes;
+
+pub use applying::apply;
+pub use target::Target;

@@ -1,0 +1,85 @@
+//! Trees that take an overlay.
+
+ghost use Rattle.std.specs.Prelude.{◌≡◌, ◌+◌, ◌≤◌, true, false, ◌++◌, ◌∷◌, [], ℕ, List, None, Some, length, OnOk, OnErr, IsOk, IfOk, IfErr, MatchOption};
+ghost use Rattle.std.specs.Option.{option_copied};
+ghost use Rattle.dt_model.specs.Applied.{with_cell};
+ghost use Rattle.dt_model.specs.Changes.{with_child_at, with_property_at};
+ghost use Rattle.dt_model.specs.Path.{Path as Names};
+ghost use Rattle.dt_model.specs.Tree.{Reading, stands_in, value_in};
+ghost use Rattle.dt_model.specs.Valid.{IsValid, IsWithinLimits};
+ghost use Rattle.dt_names.specs.declared.fault.FaultKind.TheVariants.{NoMemory};
+ghost use Rattle.dt_landing.specs.Objects.{HasNumber};
+ghost use Rattle.dt_overlay.specs.Targets.{HasCells, MayAddAt, MaySetAt, WhyNotAddedAt, WhyNotSetAt};
+
+use dt_names::{Fault, NodeName, Path, PropName};
+use std::alloc::Global;
+
+/// A tree that takes an overlay. It is seen as the tree that a blob's reader has.
+pub trait Target {
+    /// The tree.
+    ghost reading: { Self → Reading };
+
+    /// What is true of each tree: a blob may hold it (Devicetree Specification v0.4, chapters 2 and 5), it is within the limits,
+    /// and each `phandle` is the cell of a number. Does nothing.
+    fn validity(&self)
+        ensures valid { IsValid (reading self.now) }
+        ensures within { IsWithinLimits (reading self.now) }
+        ensures cells { HasCells (reading self.now) };
+
+    /// Is there a node of the path? Takes no memory.
+    fn find(&self, path: &Path) -> bool
+        ensures { result ≡ stands_in (reading self.now) path.now };
+
+    /// The value of a property of a path's node; None where there is no such node, or it has no property of that name.
+    /// Takes no memory.
+    fn prop(&self, path: &Path, name: &[u8]) -> Option<&[u8]>
+        ensures { option_copied result ≡ value_in (reading self.now) path.now name.now };
+
+    /// The path of the node that has the number as its `phandle` (Devicetree Specification v0.4, 2.3.3), None where none has it.
+    /// `NoMemory`: memory was refused.
+    fn by_phandle(&self, alloc: Global, number: u32) -> Result<Option<Path>, Fault>
+        ensures found { IfOk result (λ found. MatchOption found ((p : Names) → HasNumber (reading self.now) p number → ⊥)
+            (λ path. HasNumber (reading self.now) path number)) }
+        ensures refused { IfErr result (λ fault. (fault.kind ≡ NoMemory) × (fault.at ≡ None)) };
+
+    /// Sets a property of a path's node: one that is there keeps its place, a new one goes last. `BlobPhandle`: the property is
+    /// `phandle`, and the value isn't four bytes of a number from 1 to 0xfffffffe that no other node has. `NoMemory`: memory was
+    /// refused. At a fault the tree is unchanged.
+    fn set_prop(&mut self, path: &Path, name: &PropName<'_>, value: &[u8]) -> Result<(), Fault>
+        requires { stands_in (reading self.old) path.now ≡ true }
+        ensures ok { OnOk result (reading self.new ≡ with_property_at path.now name.now value.now (reading self.old)) }
+        ensures allowed { IsOk result → MaySetAt (reading self.old) path.now name.now value.now }
+        ensures err { OnErr result (reading self.new ≡ reading self.old) }
+        ensures refused { IfErr result (λ fault.
+            WhyNotSetAt fault.kind (reading self.old) path.now name.now value.now × (fault.at ≡ None)) };
+
+    /// Adds a child at the end of the children of a path's node. `Duplicate`: the node has a child of that name. `Limit`: the
+    /// tree has 65,536 nodes, or the path 64 names. `NoMemory`: memory was refused. Where the first two hold, it answers
+    /// `Duplicate`. At a fault the tree is unchanged.
+    fn add_node(&mut self, parent: &Path, name: &NodeName<'_>) -> Result<(), Fault>
+        requires { stands_in (reading self.old) parent.now ≡ true }
+        ensures ok { OnOk result (reading self.new ≡ with_child_at parent.now name.now (reading self.old)) }
+        ensures allowed { IsOk result → MayAddAt (reading self.old) parent.now name.now }
+        ensures err { OnErr result (reading self.new ≡ reading self.old) }
+        ensures refused { IfErr result (λ fault.
+            WhyNotAddedAt fault.kind (reading self.old) parent.now name.now × (fault.at ≡ None)) };
+
+    /// Writes a number, the highest byte first, at an offset of the value of a property of a path's node. Faults are those of
+    /// `set_prop` for the value that the property then has.
+    fn patch_cell(
+        &mut self,
+        path: &Path,
+        name: &PropName<'_>,
+        offset: usize,
+        number: u32,
+    ) -> Result<(), Fault>
+        requires { (value : List ℕ) × (value_in (reading self.old) path.now name.now ≡ Some value) × (offset + 4 ≤ length value) }
+        ensures ok { (value : List ℕ) → value_in (reading self.old) path.now name.now ≡ Some value →
+            OnOk result (reading self.new ≡ with_property_at path.now name.now (with_cell value offset number) (reading self.old)) }
+        ensures allowed { (value : List ℕ) → value_in (reading self.old) path.now name.now ≡ Some value →
+            IsOk result → MaySetAt (reading self.old) path.now name.now (with_cell value offset number) }
+        ensures err { OnErr result (reading self.new ≡ reading self.old) }
+        ensures refused { (value : List ℕ) → value_in (reading self.old) path.now name.now ≡ Some value →
+            IfErr result (λ fault.
+            WhyNotSetAt fault.kind (reading self.old) path.now name.now (with_cell value offset number) × (fault.at ≡ None)) };
+}

@@ -1,0 +1,80 @@
+//! Texts of paths.
+
+ghost use Rattle.std.specs.Prelude.{◌≡◌, ◌<◌, ◌≤◌, ◌++◌, ◌∷◌, ◌⊎◌, [], ℕ, None, Some, length, drop, OnOk, IfOk, IfErr, ◌↔◌, IsTrue};
+ghost use Rattle.std.specs.List.{AllByRecursion};
+ghost use Rattle.dt_model.specs.Limits.{most_names};
+ghost use Rattle.dt_model.specs.Names.{IsNodeName};
+ghost use Rattle.dt_model.specs.Path.{path_value};
+ghost use Rattle.dt_model.specs.Path.{Path as Names};
+ghost use Rattle.dt_flat.specs.Arena.{node_from};
+ghost use Rattle.dt_names.specs.declared.fault.FaultKind.TheVariants.{NoMemory, Limit};
+
+use dt_flat::FlatTree;
+use dt_names::{Fault, NodeId, NodeName, NodePath, Path};
+use std::alloc::{AllocError, Global};
+
+/// Is the value the text of a path with a NUL?
+pub fn is_path_value(value: &[u8]) -> bool
+    ensures { IsTrue result ↔ ((p : Names) × (value.now ≡ path_value p) × AllByRecursion IsNodeName p) }
+{
+    match value.split_last() {
+        Some((0, text)) => NodePath::new(text).is_some(),
+        _ => false,
+    }
+}
+
+/// The node of a path.
+pub fn node_of(tree: &FlatTree, path: &NodePath<'_>) -> Option<NodeId>
+    ensures { result ≡ node_from tree.now.slots 0 path.now }
+{
+    let mut node = tree.root();
+    for name in path.names() {
+        node = tree.child(node, name)?;
+    }
+    Some(node)
+}
+
+/// The text of a path with a NUL, in the place of what was there.
+pub fn put_path(out: &mut Vec<u8>, path: &Path) -> Result<(), AllocError>
+    ensures { OnOk result (out.new.items ≡ path_value path.now) }
+{
+    out.clear();
+    for name in path.names() {
+        out.push(b'/')?;
+        out.extend_from_slice(name)?;
+    }
+    if out.is_empty() {
+        out.push(b'/')?;
+    }
+    out.push(0)?;
+    Ok(())
+}
+
+/// The path of a child. `Limit`: the path has 64 names. `NoMemory`: memory was refused.
+pub fn child_path(alloc: Global, path: &Path, name: &[u8]) -> Result<Path, Fault>
+    requires { IsNodeName name.now }
+    ensures value { IfOk result (λ child. child ≡ path.now ++ name.now ∷ []) }
+    ensures room { IfOk result (λ child. length path.now < most_names) }
+    ensures refused { IfErr result (λ fault. (fault.at ≡ None)
+        × ((fault.kind ≡ NoMemory) ⊎ ((fault.kind ≡ Limit) × (most_names ≤ length path.now)))) }
+{
+    let name = NodeName::new(name)?;
+    let mut child = path.copy(alloc)?;
+    child.push(&name)?;
+    Ok(child)
+}
+
+/// The path behind a site that a node has behind the fragment and its `__overlay__`.
+/// `Limit`: it has more than 64 names. `NoMemory`: memory was refused.
+pub fn join(alloc: Global, site: &Path, own: &Path) -> Result<Path, Fault>
+    requires { AllByRecursion IsNodeName own.now }
+    ensures value { IfOk result (λ path. path ≡ site.now ++ drop 2 own.now) }
+    ensures refused { IfErr result (λ fault. (fault.at ≡ None)
+        × ((fault.kind ≡ NoMemory) ⊎ ((fault.kind ≡ Limit) × (most_names < length (site.now ++ drop 2 own.now))))) }
+{
+    let mut path = site.copy(alloc)?;
+    for name in own.names().skip(2) {
+        path.push(&NodeName::new(name)?)?;
+    }
+    Ok(path)
+}
