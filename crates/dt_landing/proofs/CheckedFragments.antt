@@ -47,14 +47,14 @@ names_append [] sites = refl
 names_append (x ∷ earlier) sites = ap (λ z. x.fragment ∷ z) (names_append earlier sites)
 
 -- a fragment that comes later is another one
-other_fragment : (f : Name) (fs : List Name) (earlier : List Site) → AreDistinct (site_names earlier ++ f ∷ fs) → IsOther f earlier
+pub other_fragment : (f : Name) (fs : List Name) (earlier : List Site) → AreDistinct (site_names earlier ++ f ∷ fs) → IsOther f earlier
 other_fragment f fs earlier d = all earlier (λ x i e. apart (site_names earlier) (f ∷ fs) x d i (inl e))
   where
     all : (sites : List Site) → ((x : Name) → IsIn x (site_names sites) → x ≢ f) → IsOther f sites
     all [] other = tt
     all (x ∷ sites) other = (other x.fragment (inl refl), all sites (λ y i. other y (inr i)))
 
-distinct_next : (f : Name) (fs : List Name) (earlier : List Site) (x : Site) → x.fragment ≡ f → AreDistinct (site_names earlier ++ f ∷ fs) → AreDistinct (site_names (earlier ++ x ∷ []) ++ fs)
+pub distinct_next : (f : Name) (fs : List Name) (earlier : List Site) (x : Site) → x.fragment ≡ f → AreDistinct (site_names earlier ++ f ∷ fs) → AreDistinct (site_names (earlier ++ x ∷ []) ++ fs)
 distinct_next f fs earlier x same d =
     subst AreDistinct
     (sym (ap (λ z. z ++ fs) (names_append earlier (x ∷ [])) ∙ append_assoc (site_names earlier) (x.fragment ∷ []) fs ∙ ap (λ z. site_names earlier ++ z ∷ fs) same)) d

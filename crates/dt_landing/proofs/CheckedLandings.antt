@@ -225,7 +225,7 @@ module _ (base object : Reading) (valid_base : IsValid base) (valid : IsValid ob
       ]
 
   -- and where a landing is too deep, it is there
-  refused_deep : Refused Limit → IsTooDeep base object ws numbers
+  pub refused_deep : Refused Limit → IsTooDeep base object ws numbers
   refused_deep r = elim r.fault [
     | inl n ↦ absurd (let z : Limit ≡ NoTarget = n.0 in cc)
     | inr s ↦ elim s.2 [
@@ -267,15 +267,14 @@ module _ (base object : Reading) (valid_base : IsValid base) (valid : IsValid ob
                 deep = far;
               }
 
-pub refused_is_not_applied : RefusedIsNotApplied
-refused_is_not_applied base object fixups numbers kind valid_base valid new e ne =
+-- what a fragment without a site, or with what may not land on it, comes to
+pub refused_not_applied : (base object : Reading) (valid_base : IsValid base) (valid : IsValid object) (fixups : List (Name × Cell)) (numbers : List (Path × ℕ)) (new : AreNewNumbers base object numbers) (kind : FaultKind)
+    → AreRefused base object valid_base valid (writes base object fixups numbers) numbers new [] (fragment_names object.children) kind → kind ≢ Limit → applied base object fixups numbers ≡ None
+refused_not_applied base object valid_base valid fixups numbers new kind refused ne =
     step (find_sites base object ws numbers [] (fragment_names object.children)) refl
   where
     ws : List Write
     ws = writes base object fixups numbers
-
-    refused : AreRefused base object valid_base valid ws numbers new [] (fragment_names object.children) kind
-    refused = subst (Checked base object valid_base valid ws numbers new [] (fragment_names object.children)) e (all_checked base object valid_base valid ws numbers new)
 
     allowed_by : (sites : List Site) → is_allowed base object fixups numbers sites ≡ true → AreAllowed base object numbers sites
     allowed_by sites h =
@@ -295,6 +294,12 @@ refused_is_not_applied base object fixups numbers kind valid_base valid new e ne
     step : (y : Option (List Site)) → find_sites base object ws numbers [] (fragment_names object.children) ≡ y → applied base object fixups numbers ≡ None
     step None k = ap (option_and_then (if_allowed base object fixups numbers)) k
     step (Some sites) k = ap (option_and_then (if_allowed base object fixups numbers)) k ∙ inner sites k (is_allowed base object fixups numbers sites) refl
+
+pub refused_is_not_applied : RefusedIsNotApplied
+refused_is_not_applied base object fixups numbers kind valid_base valid new e ne =
+    let ws = writes base object fixups numbers in
+    let refused = subst (Checked base object valid_base valid ws numbers new [] (fragment_names object.children)) e (all_checked base object valid_base valid ws numbers new) in
+    refused_not_applied base object valid_base valid fixups numbers new kind refused ne
 
 pub limit_is_due : LimitIsDue
 limit_is_due base object ws numbers valid_base valid new e =

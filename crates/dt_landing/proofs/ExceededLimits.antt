@@ -12,6 +12,7 @@ use Rattle.dt_model.specs.Limits.{most_nodes}
 use Rattle.dt_model.specs.Valid.{IsValid, IsWithinLimits, node_count}
 use Rattle.dt_model.specs.Changes.{with_child_at}
 use Rattle.dt_model.specs.Applied.{Write, writes, find_sites, is_allowed, if_allowed, with_fragments, landed_symbols, with_symbols_merged, applied_at, applied}
+use Rattle.dt_names.specs.declared.fault.FaultKind.TheVariants.{Limit}
 use Rattle.dt_laws.specs.InTurn.{IsApplied}
 use Rattle.dt_laws.proofs.Tests.{any_here, each_in, or_left, or_right}
 use Rattle.dt_laws.proofs.CellTexts.{one_fixups}
@@ -19,15 +20,17 @@ use Rattle.dt_laws.proofs.Landing.{AreThere, there_from, stands-with_fragments}
 use Rattle.dt_laws.proofs.Lands.{source_of}
 use Rattle.dt_laws.proofs.LeastNumbers.{numbers_are_one}
 use Rattle.dt_laws.proofs.StandingNodes.{no_more, length-paths_of, stands_among}
-use Rattle.dt_landing.specs.Laws.{IsTooDeep, LimitIsDue}
+use Rattle.dt_landing.specs.Laws.{IsTooDeep}
 use Rattle.dt_landing.specs.Refusals.{IsCrowdedAt}
 use Rattle.dt_landing.specs.Outcomes.{LimitIsExceeded}
+use Rattle.dt_landing.proofs.CheckedLandings.{refused_deep}
 use Rattle.dt_landing.proofs.CheckedNumbers.{within_depth}
 use Rattle.dt_landing.proofs.CheckedSites.{append_found}
 use Rattle.dt_landing.proofs.FoundSites.{content_stands, found_in_turn}
 use Rattle.dt_landing.proofs.KnownMoves.{lands_still}
 use Rattle.dt_landing.proofs.LandedNodes.{symbols_are_merged}
 use Rattle.dt_landing.proofs.SingleChanges.{child_kept, properties_kept}
+use Rattle.dt_landing.proofs.StoppedFragments.{refused_of}
 
 -- what stands goes on standing where symbols are merged
 symbols_kept : (ps : List Property) (t : Reading) (q : Path) → stands_in t q ≡ true → stands_in (with_symbols_merged ps t) q ≡ true
@@ -107,21 +110,22 @@ module _ (base object : Reading) (fixups : List (Name × Cell)) (numbers : List 
         omega (arith, le, e, few, many)
 
 -- an object that is applied is so with these fixups and numbers
-applied_with : (base object t : Reading) (fixups : List (Name × Cell)) (numbers : List (Path × ℕ)) → IsApplied base object t → HasFixups object fixups → AreNewNumbers base object numbers
+pub applied_with : (base object t : Reading) (fixups : List (Name × Cell)) (numbers : List (Path × ℕ)) → IsApplied base object t → HasFixups object fixups → AreNewNumbers base object numbers
     → applied base object fixups numbers ≡ Some t
 applied_with base object t fixups numbers is listed new =
     let f : fixups ≡ is.fixups = one_fixups (properties_of (node_at object (codes "__fixups__" ∷ []))) fixups is.fixups listed is.listed in
     let n : numbers ≡ is.numbers = numbers_are_one (numbers_of base) (new_paths object) numbers is.numbers new is.new in
     ap (λ fs. applied base object fs numbers) f ∙ ap (applied base object is.fixups) n ∙ is.is
 
-pub limit_is_exceeded : LimitIsDue → LimitIsExceeded
-limit_is_exceeded due base object t valid_base valid is (inl none) within =
+pub limit_is_exceeded : LimitIsExceeded
+limit_is_exceeded base object t valid_base valid is (inl none) within =
     too_deep base object none.fixups none.numbers valid_base valid none.new t (applied_with base object t none.fixups none.numbers is none.listed none.new)
-    (due base object (writes base object none.fixups none.numbers) none.numbers valid_base valid none.new none.refused) within
-limit_is_exceeded due base object t valid_base valid is (inr (inl crowded)) within =
+    (refused_deep base object valid_base valid (writes base object none.fixups none.numbers) none.numbers none.new
+    (refused_of base object valid_base valid (writes base object none.fixups none.numbers) none.numbers none.new Limit none.why)) within
+limit_is_exceeded base object t valid_base valid is (inr (inl crowded)) within =
     too_many base object crowded.fixups crowded.numbers valid_base valid crowded.new t
     (applied_with base object t crowded.fixups crowded.numbers is crowded.listed crowded.new) crowded.crowded within
-limit_is_exceeded due base object t valid_base valid is (inr (inr over)) within =
+limit_is_exceeded base object t valid_base valid is (inr (inr over)) within =
     let z : Some t ≡ Some over.result = sym (applied_with base object t over.applied.fixups over.applied.numbers is over.applied.listed over.applied.new) ∙ over.applied.is in
     let same : t ≡ over.result = cc in
     let few : 1 + node_count t.children ≤ most_nodes = within.count in

@@ -74,7 +74,7 @@ pub record IsAdded (base s t : Reading) (q : Path) (marked : Bool) : Type 0 wher
   pub own : marked ≡ true → is_marked t q ≡ true
   pub only : (p : Path) → is_marked t p ≡ true → (is_marked s p ≡ true) ⊎ ((marked ≡ true) × (p ≡ q))
 
-child_added : (base s : Reading) (q : Path) (name : Name) → stands_in s q ≡ true → IsAdded base s (with_child_at q name s) (q ++ name ∷ []) false
+pub child_added : (base s : Reading) (q : Path) (name : Name) → stands_in s q ≡ true → IsAdded base s (with_child_at q name s) (q ++ name ∷ []) false
 child_added base s q name there = record {
   keeps = child_keeps q name s there;
   sound = λ p h. inr (child_sound q name s there p h);
@@ -84,7 +84,7 @@ child_added base s q name there = record {
   only = λ p h. inl (ap is_some (sym (child_value q name s there p (codes "numbered"))) ∙ h);
 }
 
-mark_added : (base s t : Reading) (q : Path) → IsAdded base s t q false → IsAdded base s (with_property_at q (codes "numbered") [] t) q true
+pub mark_added : (base s t : Reading) (q : Path) → IsAdded base s t q false → IsAdded base s (with_property_at q (codes "numbered") [] t) q true
 mark_added base s t q h = record {
   keeps = λ p k. property_stands q (codes "numbered") [] t h.there p ∙ h.keeps p k;
   sound = λ p k. h.sound p (sym (property_stands q (codes "numbered") [] t h.there p) ∙ k);
@@ -282,7 +282,7 @@ module _ (base : Reading) (L : Move → Type 0) where
 
     -- ---- what a fragment brings
 
-    places_added : (s : Reading) (q : Path) → Known base (Or L []) s → (stands_in base q ≡ true) ⊎ (stands_in s q ≡ true) → IsAdded base s (with_places [] q s) q false
+    pub places_added : (s : Reading) (q : Path) → Known base (Or L []) s → (stands_in base q ≡ true) ⊎ (stands_in s q ≡ true) → IsAdded base s (with_places [] q s) q false
     places_added s q k there = record {
       keeps = places_keep [] q s refl;
       sound = sound;

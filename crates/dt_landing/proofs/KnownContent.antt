@@ -107,7 +107,7 @@ module _ (base : Reading) (L M : Move → Type 0) (to : (m : Move) → L m → M
 
 -- ---- behind a fragment
 
-some_of : (L : Move → Type 0) (m : Move) → Or L [] m → L m
+pub some_of : (L : Move → Type 0) (m : Move) → Or L [] m → L m
 some_of L m (inl h) = h
 some_of L m (inr i) = absurd i
 

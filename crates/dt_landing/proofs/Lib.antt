@@ -3,6 +3,8 @@ pub mod CheckedLandings
 pub mod CheckedNumbers
 pub mod CheckedSites
 pub mod ExceededLimits
+pub mod FirstSites
+pub mod FirstStops
 pub mod FoundSites
 pub mod KnownChanges
 pub mod KnownChecks
@@ -10,11 +12,15 @@ pub mod KnownContent
 pub mod KnownMoves
 pub mod LandedNodes
 pub mod LandedNumbers
+pub mod LookedFragments
+pub mod LookedNodes
 pub mod MayLand
+pub mod PassedOutcomes
 pub mod PlainSymbols
+pub mod RefusalStages
 pub mod RefusedObjects
 pub mod RefusedOutcomes
 pub mod RefusedValues
 pub mod SingleChanges
+pub mod StoppedFragments
 pub mod WrittenCells
-pub mod PassedOutcomes

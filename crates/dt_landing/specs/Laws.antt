@@ -1,5 +1,5 @@
 -- What landing change by change comes to, and what a look at all of it beforehand tells.
-use Rattle.std.specs.Prelude.{◌≡◌, ◌≢◌, ℕ, ◌+◌, ◌<◌, ◌≤◌, true, false, ◌&&◌, ◌⊎◌, List, [], ◌∷◌, ◌++◌, length, Some, None, Ok, Err, codes}
+use Rattle.std.specs.Prelude.{◌≡◌, ◌↔◌, ◌≢◌, ℕ, ◌+◌, ◌<◌, ◌≤◌, true, false, ◌&&◌, ◌⊎◌, List, [], ◌∷◌, ◌++◌, length, Some, None, Ok, Err, codes}
 use Rattle.std.specs.List.{list_all, AllByRecursion}
 use Rattle.dt_model.specs.Limits.{most_names}
 use Rattle.dt_model.specs.Names.{Name, IsPropertyName}
@@ -15,18 +15,19 @@ use Rattle.dt_model.specs.Applied.{Write, writes, find_sites, is_allowed, is_pla
 use Rattle.dt_names.specs.declared.fault.FaultKind.{FaultKind}
 use Rattle.dt_names.specs.declared.fault.FaultKind.TheVariants.{Limit}
 use Rattle.dt_landing.specs.Steps.{land_properties, land_nodes, land_node, land_fragments, MayLandFragments}
+use Rattle.dt_landing.specs.Landings.{AreSited, HasNoSite}
 use Rattle.dt_landing.specs.Checking.{nothing_landed, check_content, check_fragments, IsKnown}
 
 -- ---- landing is merging
 
--- landing a node on one that is there merges it into that one
+-- landing a node merges it into the one that is there
 abbrev pub LandingIsMerging : Type 0
-LandingIsMerging = (q : Path) (m : Node) (t : Reading) → stands_in t q ≡ true → land_node q m t ≡ changed_at (λ n. merged_node n m) q t
+LandingIsMerging = (q : Path) (m : Node) (t : Reading) → land_node q m t ≡ changed_at (λ n. merged_node n m) q t
 
--- so it is with what fragments bring, whose sites are there
+-- so it is with what fragments bring
 abbrev pub FragmentsAreMerged : Type 0
 FragmentsAreMerged = (t object : Reading) (ws : List Write) (numbers : List (Path × ℕ)) (sites : List Site)
-    → MayLandFragments t object ws numbers sites → land_fragments t object ws numbers sites ≡ with_fragments t object ws numbers sites
+    → land_fragments t object ws numbers sites ≡ with_fragments t object ws numbers sites
 
 -- and with symbols
 abbrev pub SymbolsAreMerged : Type 0
@@ -109,7 +110,21 @@ PassedIsAllowed = (base object : Reading) (ws : List Write) (numbers : List (Pat
     → (find_sites base object ws numbers [] (fragment_names object.children) ≡ Some sites)
     × AreAllowed base object numbers sites × AreShallow object sites
 
--- and where it isn't passed, though no landing is too deep, the object isn't applied
+-- it is passed exactly where each node that they bring may land, one after another
+abbrev pub LookIsPassed : Type 0
+LookIsPassed = (base object : Reading) (ws : List Write) (numbers : List (Path × ℕ)) (sites : List Site)
+    → IsValid base → IsValid object → IsWithinLimits base → AreNewNumbers base object numbers
+    → (check_fragments base object ws numbers [] (fragment_names object.children) nothing_landed ≡ Ok sites)
+    ↔ AreSited base object ws numbers [] (fragment_names object.children) sites
+
+-- and it tells why the first that has no site has none
+abbrev pub LookStops : Type 0
+LookStops = (base object : Reading) (ws : List Write) (numbers : List (Path × ℕ)) (kind : FaultKind)
+    → IsValid base → IsValid object → IsWithinLimits base → AreNewNumbers base object numbers
+    → (check_fragments base object ws numbers [] (fragment_names object.children) nothing_landed ≡ Err kind)
+    ↔ HasNoSite kind base object ws numbers
+
+-- where it isn't passed, though no landing is too deep, the object isn't applied
 abbrev pub RefusedIsNotApplied : Type 0
 RefusedIsNotApplied = (base object : Reading) (fixups : List (Name × Cell)) (numbers : List (Path × ℕ)) (kind : FaultKind)
     → IsValid base → IsValid object → AreNewNumbers base object numbers

@@ -1,4 +1,5 @@
 pub mod Checking
+pub mod Landings
 pub mod Laws
 pub mod Objects
 pub mod Outcomes

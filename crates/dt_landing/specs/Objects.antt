@@ -97,8 +97,20 @@ pub record IsSymbol (object : Reading) (value : List ℕ) : Type 0 where
 
 -- ---- all of it
 
+abbrev pub HaveTargets : Reading → Type 0
+HaveTargets object = AllByRecursion (HasTarget object) (fragment_names object.children)
+
+abbrev pub AreFixedUp : Reading → Reading → Type 0
+AreFixedUp base object = AllByRecursion (IsFixup base object) (fixups_in object)
+
+abbrev pub AreMirrors : Reading → Type 0
+AreMirrors object = (p : Path) → stands_in object (codes "__local_fixups__" ∷ p) ≡ true → IsMirror object p
+
+abbrev pub AreSymbols : Reading → Type 0
+AreSymbols object = AllByRecursion (λ (x : Property). IsSymbol object x.value) (symbols_in object)
+
 pub record IsWellFormed (base object : Reading) : Type 0 where
-  pub targets : AllByRecursion (HasTarget object) (fragment_names object.children)
-  pub fixups : AllByRecursion (IsFixup base object) (fixups_in object)
-  pub mirror : (p : Path) → stands_in object (codes "__local_fixups__" ∷ p) ≡ true → IsMirror object p
-  pub symbols : AllByRecursion (λ (x : Property). IsSymbol object x.value) (symbols_in object)
+  pub targets : HaveTargets object
+  pub fixups : AreFixedUp base object
+  pub mirror : AreMirrors object
+  pub symbols : AreSymbols object

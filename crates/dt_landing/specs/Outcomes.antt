@@ -48,3 +48,15 @@ PassedIsApplied = (base object : Reading) (fixups : List (Name × Cell)) (number
 -- a limit is told only where what would come of it exceeds it
 abbrev pub LimitIsExceeded : Type 0
 LimitIsExceeded = (base object t : Reading) → IsValid base → IsValid object → IsApplied base object t → WhyNotApplied Limit base object → IsWithinLimits t → ⊥
+
+-- ---- one outcome
+
+-- an object is applied to a tree in one way
+abbrev pub AppliedIsOne : Type 0
+AppliedIsOne = (base object t u : Reading) → IsApplied base object t → IsApplied base object u → t ≡ u
+
+-- and memory and limits aside it is refused for one reason
+abbrev pub OneRefusal : Type 0
+OneRefusal = (base object : Reading) (kind other : FaultKind) → IsValid base → IsValid object → IsWithinLimits base
+    → WhyNotApplied kind base object → WhyNotApplied other base object
+    → kind ≢ NoMemory → kind ≢ Limit → other ≢ NoMemory → other ≢ Limit → kind ≡ other

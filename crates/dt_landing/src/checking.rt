@@ -1,6 +1,6 @@
 //! A look at what fragments bring, before anything lands.
 
-ghost use Rattle.dt_landing.specs.Laws.{NothingIsKnown, ContentIsKnown, PassedIsAllowed, RefusedIsNotApplied, LimitIsDue};
+ghost use Rattle.dt_landing.specs.Laws.{NothingIsKnown, ContentIsKnown, PassedIsAllowed, LookIsPassed, LookStops, RefusedIsNotApplied, LimitIsDue};
 
 /// What is known before anything lands.
 pub fn nothing_is_known()
@@ -17,7 +17,17 @@ pub fn passed_is_allowed()
     ensures { PassedIsAllowed }
 {}
 
-/// Where it isn't, the object isn't applied.
+/// The look is passed exactly where all nodes that the fragments bring may land, one after another.
+pub fn look_is_passed()
+    ensures { LookIsPassed }
+{}
+
+/// Where it isn't, it tells why the first fragment that gets no site has none.
+pub fn look_stops()
+    ensures { LookStops }
+{}
+
+/// And the object isn't applied.
 pub fn refused_is_not_applied()
     ensures { RefusedIsNotApplied }
 {}

@@ -8,13 +8,15 @@ mod outcomes;
 mod writing;
 
 pub use checking::{
-    content_is_known, limit_is_due, nothing_is_known, passed_is_allowed, refused_is_not_applied,
+    content_is_known, limit_is_due, look_is_passed, look_stops, nothing_is_known,
+    passed_is_allowed, refused_is_not_applied,
 };
 pub use landing::{
     allowed_may_land, child_is_added, fragments_are_merged, landing_is_merging, nodes_are_kept,
     places_are_kept, symbols_are_merged, symbols_are_plain,
 };
 pub use outcomes::{
-    applied_is_not_refused, limit_is_exceeded, passed_is_applied, refused_is_undefined,
+    applied_is_not_refused, applied_is_one, limit_is_exceeded, one_refusal, passed_is_applied,
+    refused_is_undefined,
 };
 pub use writing::cells_are_written;

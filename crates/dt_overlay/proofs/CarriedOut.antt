@@ -69,7 +69,7 @@ module _ (law : PassedIsApplied) (kept : NodesAreKept) (merge : FragmentsAreMerg
     landed_is =
         ap (λ (qs : List Path). land_each b.numbers.items tree.slots contents qs base) s.sites
         ∙ each_is_fragments object ws read.numbers tree p.fragments.items b read.ready rooted paths s.found named base
-        ∙ merge base object ws read.numbers s.found passed.may
+        ∙ merge base object ws read.numbers s.found
 
     pub to_land : AreToLand object s.found tree b p.sites.items p.symbols.items
     to_land = record {

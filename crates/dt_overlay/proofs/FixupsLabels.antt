@@ -1,10 +1,9 @@
 -- What is listed for labels, as a loop goes over the properties of `__fixups__`.
-use Rattle.std.proofs.Common.{◌≡◌, ℕ, ◌<◌, ◌^◌, List, [], ◌∷◌, ◌++◌, map, Option, Some, None, unwrap_or, option_map, refl, sym, ap, subst, ◌∙◌, inl, inr, append_assoc, codes}
+use Rattle.std.proofs.Common.{◌≡◌, ℕ, ◌<◌, ◌^◌, List, [], ◌∷◌, ◌++◌, map, Option, Some, None, unwrap_or, option_map, refl, sym, ap, subst, ◌∙◌, ◌⊎◌, inl, inr, append_assoc, codes}
 use Rattle.std.specs.Prelude.{option_and_then}
 use Rattle.std.specs.List.{AllByRecursion}
 use Rattle.std.proofs.lemmas.List.{append-nil}
 use Rattle.std.proofs.lemmas.Nat.{from_be_bytes-to_be_bytes_4}
-use Rattle.dt_model.specs.Lists.{IsIn}
 use Rattle.dt_model.specs.Meaning.{cell}
 use Rattle.dt_model.specs.Names.{Name}
 use Rattle.dt_model.specs.Object.{Cell, properties_of}
@@ -15,11 +14,12 @@ use Rattle.dt_names.specs.declared.fault.FaultKind.{FaultKind}
 use Rattle.dt_names.specs.declared.fault.FaultKind.TheVariants.{NoMemory, NoSymbol, BadSymbol, BadFixup}
 use Rattle.dt_flat.specs.Arena.{Arena, reading, node_from, child_of, named_children, properties}
 use Rattle.dt_flat.proofs.ByPath.{has, reading_at}
-use Rattle.dt_landing.specs.Objects.{HasCell, SymbolHasNumber, fixups_in}
-use Rattle.dt_landing.specs.Refusals.{WhyNotApplied}
+use Rattle.dt_laws.proofs.Tests.{each_append}
+use Rattle.dt_landing.specs.Objects.{HasCell, AreCellsOf, SymbolHasNumber, IsFixup, fixups_in}
+use Rattle.dt_landing.specs.Refusals.{WhyNoFixup, HasNoFixup}
 use Rattle.dt_overlay.specs.declared.writes.Write.{Write as KeptWrite}
-use Rattle.dt_overlay.specs.Plans.{AreWritesOf, ListsFixups, IsFixupFault}
-use Rattle.dt_overlay.specs.Fixups.{numbered, ListsCells, ListsLabels, WhyNoFixup}
+use Rattle.dt_overlay.specs.Plans.{AreWritesOf, ListsFixups}
+use Rattle.dt_overlay.specs.Fixups.{numbered, ListsCells, ListsLabels, WhyNoNumber}
 use Rattle.dt_overlay.proofs.FixupsTold.{AreWritesOf-append}
 
 -- ---- one label
@@ -90,26 +90,29 @@ ListsLabels-more base object x rest old mid new first others =
 
 -- ---- as a loop goes on
 
--- what is listed for the properties that are left completes what is listed for all
+-- what is listed for the properties that are left completes what is listed for all, and those before have numbers
 pub record LabelsLeft (base : Reading) (object : Arena) (all left : List Property) (before after : List KeptWrite) : Type 0 where
   pub listed : (new : List KeptWrite) → ListsLabels base object left after new → ListsLabels base object all before new
-  pub among : (x : Property) → IsIn x left → IsIn x all
+  pub front : List Property
+  pub split : all ≡ front ++ left
+  pub well : AllByRecursion (IsFixup base (reading object)) front
 
 pub labels_begin : (base : Reading) (object : Arena) (all left : List Property) (out : List KeptWrite) → left ≡ all → LabelsLeft base object all left out out
 labels_begin base object all left out e = record {
   listed = λ new l. subst (λ (ps : List Property). ListsLabels base object ps out new) e l;
-  among = λ x i. subst (IsIn x) e i;
+  front = [];
+  split = sym e;
+  well = tt;
 }
 
 pub labels_step : (base : Reading) (object : Arena) (all left rest : List Property) (x : Property) (before after out : List KeptWrite) → left ≡ x ∷ rest → LabelsLeft base object all left before after
     → ListsLabels base object (x ∷ []) after out → LabelsLeft base object all rest before out
 labels_step base object all left rest x before after out e so_far first = record {
   listed = λ new others. so_far.listed new (subst (λ (ps : List Property). ListsLabels base object ps after new) (sym e) (ListsLabels-more base object x rest after out new first others));
-  among = λ y i. so_far.among y (subst (IsIn y) (sym e) (inr i));
+  front = so_far.front ++ x ∷ [];
+  split = so_far.split ∙ ap (λ (ps : List Property). so_far.front ++ ps) e ∙ sym (append_assoc so_far.front (x ∷ []) rest);
+  well = each_append (IsFixup base (reading object)) so_far.front (x ∷ []) so_far.well first.well;
 }
-
-pub label_among : (base : Reading) (object : Arena) (all left rest : List Property) (x : Property) (before after : List KeptWrite) → left ≡ x ∷ rest → LabelsLeft base object all left before after → IsIn x all
-label_among base object all left rest x before after e so_far = so_far.among x (subst (IsIn x) (sym e) (inl refl))
 
 -- ---- all of them
 
@@ -138,10 +141,29 @@ labels_over base object all left before after is e so_far =
 
 -- ---- why not
 
--- a property whose cells get no number is why the object isn't applied
-pub no_fixup : (base object : Reading) (x : Property) (kind : FaultKind) → IsIn x (fixups_in object) → WhyNoFixup kind base object x → IsFixupFault kind × WhyNotApplied kind base object
-no_fixup base object x NoMemory i why = (inl refl, tt)
-no_fixup base object x BadFixup i why = (inr (inl refl), (x, i, why))
-no_fixup base object x NoSymbol i why = (inr (inr (inl refl)), (x, i, why))
-no_fixup base object x BadSymbol i why = (inr (inr (inr refl)), inl (x, i, why.0, why.1))
-no_fixup base object x _ i why = absurd why
+-- cells that the object has get no number for the label's sake
+pub unnumbered : (base object : Reading) (x : Property) (kind : FaultKind) → (cells : List Cell) × AreCellsOf object x.value cells → WhyNoNumber kind base x.name
+    → (kind ≡ NoMemory) ⊎ WhyNoFixup kind base object x
+unnumbered base object x NoMemory has why = inl refl
+unnumbered base object x NoSymbol has why = inr (has, why)
+unnumbered base object x BadSymbol has why = inr (has, why.0, why.1)
+unnumbered base object x _ has why = absurd why
+
+-- the value isn't texts of cells that the object has
+pub unlisted : (base object : Reading) (x : Property) (kind : FaultKind) → (kind ≡ NoMemory) ⊎ ((kind ≡ BadFixup) × ((cells : List Cell) → ¬ AreCellsOf object x.value cells))
+    → (kind ≡ NoMemory) ⊎ WhyNoFixup kind base object x
+unlisted base object x kind (inl memory) = inl memory
+unlisted base object x kind (inr (is, never)) = inr (subst (λ (k : FaultKind). WhyNoFixup k base object x) (sym is) never)
+
+-- the first property whose cells get no number
+pub first_unnumbered : (base : Reading) (object : Arena) (all left rest : List Property) (x : Property) (before after : List KeptWrite) (kind : FaultKind) → fixups_in (reading object) ≡ all → left ≡ x ∷ rest
+    → LabelsLeft base object all left before after → (kind ≡ NoMemory) ⊎ WhyNoFixup kind base (reading object) x → (kind ≡ NoMemory) ⊎ HasNoFixup kind base (reading object)
+first_unnumbered base object all left rest x before after kind is e so_far (inl memory) = inl memory
+first_unnumbered base object all left rest x before after kind is e so_far (inr why) = inr (record {
+  front = so_far.front;
+  property = x;
+  back = rest;
+  are = is ∙ so_far.split ∙ ap (λ (ps : List Property). so_far.front ++ ps) e;
+  well = so_far.well;
+  why = why;
+})

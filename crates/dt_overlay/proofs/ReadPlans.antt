@@ -4,16 +4,18 @@ use Rattle.std.specs.Prelude.{Result, Ok, Err, OnOk, IfErr}
 use Rattle.std.specs.List.{AllByRecursion, flat_map}
 use Rattle.dt_model.specs.Names.{Name}
 use Rattle.dt_model.specs.Path.{Path}
-use Rattle.dt_model.specs.Tree.{Reading, stands_in}
+use Rattle.dt_model.specs.Lists.{IsIn}
+use Rattle.dt_model.specs.Tree.{Property, Reading, stands_in}
 use Rattle.dt_model.specs.Valid.{IsValid, IsWithinLimits}
 use Rattle.dt_model.specs.Object.{Cell, fragment_names, local_cells}
 use Rattle.dt_model.specs.Numbers.{AreNewNumbers}
 use Rattle.dt_model.specs.Applied.{Write, label_write, local_write, writes}
 use Rattle.dt_flat.specs.Arena.{Arena, Slot, IsRooted, reading}
 use Rattle.dt_names.specs.declared.fault.Fault.{Fault}
-use Rattle.dt_names.specs.declared.fault.FaultKind.TheVariants.{NoMemory, BadLocalFixup}
-use Rattle.dt_landing.specs.Refusals.{WhyNotApplied}
-use Rattle.dt_landing.specs.Objects.{HasTarget, HasCell, IsMirror, symbols_in}
+use Rattle.dt_names.specs.declared.fault.FaultKind.{FaultKind}
+use Rattle.dt_names.specs.declared.fault.FaultKind.TheVariants.{NoMemory, NoSymbol, BadSymbol, BadFixup, BadLocalFixup}
+use Rattle.dt_landing.specs.Refusals.{HasNoFixup, WhyNotApplied}
+use Rattle.dt_landing.specs.Objects.{HasTarget, HaveTargets, HasCell, AreFixedUp, IsMirror, AreMirrors, IsSymbol, symbols_in}
 use Rattle.dt_overlay.specs.declared.applying.Plan.{Plan}
 use Rattle.dt_overlay.specs.declared.fragments.Fragment.{Fragment}
 use Rattle.dt_overlay.specs.declared.fragments.FragmentTarget.{FragmentTarget}
@@ -46,7 +48,7 @@ held : (object : Reading) (f : Name) (t : FragmentTarget) → IsTargetOf object 
 held object f Number is = inl is
 held object f (TargetPath value) is = inr (is.0, (is.2.0, is.1 ∙ ap (λ (bytes : List ℕ). Some bytes) is.2.1.text, is.2.1.named))
 
-all_held : (slots : List Slot) (object : Reading) (xs : List Fragment) (fs : List Name) → AreFragmentsOf slots object xs fs → AllByRecursion (HasTarget object) fs
+pub all_held : (slots : List Slot) (object : Reading) (xs : List Fragment) (fs : List Name) → AreFragmentsOf slots object xs fs → AllByRecursion (HasTarget object) fs
 all_held slots object [] [] h = tt
 all_held slots object [] (f ∷ fs) h = absurd h
 all_held slots object (x ∷ xs) [] h = absurd h
@@ -54,11 +56,28 @@ all_held slots object (x ∷ xs) (f ∷ fs) h = (held object f x.target h.0.targ
 
 -- ---- faults
 
--- the fault of a cell of the object's own nodes is one of the object's
-pub local_told : (base object : Reading) (e : Fault) → (e.at ≡ None) × ((e.kind ≡ NoMemory) ⊎ ((e.kind ≡ BadLocalFixup)
+-- the first fault of a cell that waits for a label is one of the object's
+pub label_told : (base object : Reading) (e : Fault) → HaveTargets object → (e.at ≡ None) × ((e.kind ≡ NoMemory) ⊎ HasNoFixup e.kind base object) → (e.at ≡ None) × WhyNotApplied e.kind base object
+label_told base object e targets (at, inl k) = (at, subst (λ kind. WhyNotApplied kind base object) (sym k) tt)
+label_told base object e targets (at, inr first) = (at, step e.kind first)
+  where
+    step : (kind : FaultKind) → HasNoFixup kind base object → WhyNotApplied kind base object
+    step BadFixup h = (targets, h)
+    step NoSymbol h = (targets, h)
+    step BadSymbol h = (targets, inl h)
+    step _ h = absurd h.why
+
+-- so is that of a cell of the object's own nodes, where there is none of those
+pub local_told : (base object : Reading) (e : Fault) → HaveTargets object → AreFixedUp base object → (e.at ≡ None) × ((e.kind ≡ NoMemory) ⊎ ((e.kind ≡ BadLocalFixup)
     × ((p : Path) × (stands_in object (codes "__local_fixups__" ∷ p) ≡ true) × ((IsMirror object p) → ⊥)))) → (e.at ≡ None) × WhyNotApplied e.kind base object
-local_told base object e (at, inl k) = (at, subst (λ kind. WhyNotApplied kind base object) (sym k) tt)
-local_told base object e (at, inr (k, why)) = (at, subst (λ kind. WhyNotApplied kind base object) (sym k) why)
+local_told base object e targets fixups (at, inl k) = (at, subst (λ kind. WhyNotApplied kind base object) (sym k) tt)
+local_told base object e targets fixups (at, inr (k, why)) = (at, subst (λ kind. WhyNotApplied kind base object) (sym k) (targets, fixups, why))
+
+-- and that of a label, where there is none of both
+pub symbol_told : (base object : Reading) (e : Fault) → HaveTargets object → AreFixedUp base object → AreMirrors object → (e.at ≡ None) × ((e.kind ≡ NoMemory) ⊎ ((e.kind ≡ BadSymbol)
+    × ((x : Property) × IsIn x (symbols_in object) × ((IsSymbol object x.value) → ⊥)))) → (e.at ≡ None) × WhyNotApplied e.kind base object
+symbol_told base object e targets fixups mirrors (at, inl k) = (at, subst (λ kind. WhyNotApplied kind base object) (sym k) tt)
+symbol_told base object e targets fixups mirrors (at, inr (k, why)) = (at, subst (λ kind. WhyNotApplied kind base object) (sym k) (targets, inr (fixups, mirrors, why)))
 
 -- ---- cells
 

@@ -23,7 +23,8 @@ use Rattle.dt_landing.proofs.KnownMoves.{Move, has_number, moves, content_moves,
 use Rattle.dt_landing.proofs.WrittenCells.{looked_at_as_written}
 use Rattle.dt_overlay.specs.declared.numbers.Brought.{Brought}
 use Rattle.dt_overlay.specs.declared.fragments.Fragment.{Fragment}
-use Rattle.dt_overlay.specs.Looked.{node_of, AreTooMany, IsOnWay, IsAmong, IsReachedFrom, IsTaken, IsTurnOf, IsFull, WhyNotLooked, target_of}
+use Rattle.dt_landing.specs.Landings.{target_of}
+use Rattle.dt_overlay.specs.Looked.{node_of, AreTooMany, IsOnWay, IsAmong, IsReachedFrom, IsTaken, IsTurnOf, IsFull, WhyNotLooked}
 use Rattle.dt_overlay.proofs.LooksCrowded.{too_many-of}
 use Rattle.dt_overlay.proofs.SitesCells.{stands-with_cells}
 use Rattle.dt_overlay.proofs.SitesLanding.{sites_distinct}

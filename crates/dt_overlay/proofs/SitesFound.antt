@@ -7,7 +7,7 @@ use Rattle.dt_model.specs.Names.{Name}
 use Rattle.dt_model.specs.Path.{Path, is_bookkeeping}
 use Rattle.dt_model.specs.Lists.{IsIn}
 use Rattle.dt_model.specs.Tree.{Reading, node_at}
-use Rattle.dt_model.specs.Valid.{AreDistinct, IsValid}
+use Rattle.dt_model.specs.Valid.{AreDistinct, IsValid, IsWithinLimits}
 use Rattle.dt_model.specs.Overlay.{content}
 use Rattle.dt_model.specs.Merged.{Site}
 use Rattle.dt_model.specs.Object.{fragment_names}
@@ -27,7 +27,9 @@ use Rattle.dt_overlay.specs.declared.numbers.Brought.{Brought}
 use Rattle.dt_overlay.specs.declared.fragments.Fragment.{Fragment}
 use Rattle.dt_landing.specs.Refusals.{IsCrowdedAt}
 use Rattle.dt_overlay.specs.Plans.{AreFragmentsOf, IsFragmentOf, IsReady}
-use Rattle.dt_overlay.specs.Looked.{IsTurnOf, IsFull, target_of}
+use Rattle.dt_landing.specs.Landings.{target_of, HasNoSite}
+use Rattle.dt_landing.specs.Laws.{LookStops}
+use Rattle.dt_overlay.specs.Looked.{IsTurnOf, IsFull}
 use Rattle.dt_overlay.proofs.SitesChecked.{target_stands}
 
 -- the fragments before this index have their sites, and the others decide as all of them did
@@ -224,12 +226,12 @@ module _ (base object : Reading) (valid_base : IsValid base) (ws : List Write) (
       many = full.many.many;
     }
 
-    pub found_refused : (kind : FaultKind)
+    pub found_refused : LookStops → IsWithinLimits base → (kind : FaultKind)
         → (kind ≡ NoMemory) ⊎ ((check_site base object next.name (target_of base object ws numbers so_far.earlier next.name) s ≡ Err kind) ⊎ ((kind ≡ Limit) × IsFull base object ws numbers so_far.earlier next.name))
-        → (kind ≡ NoMemory) ⊎ ((check_fragments base object ws numbers [] (fragment_names object.children) nothing_landed ≡ Err kind) ⊎ ((kind ≡ Limit) × IsCrowdedAt base object ws numbers))
-    found_refused kind (inl memory) = inl memory
-    found_refused kind (inr (inl failed)) = inr (inl (found_failed kind failed))
-    found_refused kind (inr (inr full)) = inr (inr (full.0, found_full full.1))
+        → (kind ≡ NoMemory) ⊎ (HasNoSite kind base object ws numbers ⊎ ((kind ≡ Limit) × IsCrowdedAt base object ws numbers))
+    found_refused law within kind (inl memory) = inl memory
+    found_refused law within kind (inr (inl failed)) = inr (inl ((law base object ws numbers kind valid_base ready.valid within new).0 (found_failed kind failed)))
+    found_refused law within kind (inr (inr full)) = inr (inr (full.0, found_full full.1))
 
   -- after the last
   pub found_ended : length fragments ≤ index → (found : List Site) × (check_fragments base object ws numbers [] (fragment_names object.children) nothing_landed ≡ Ok found) × (paths ≡ map (λ (y : Site). y.at) found)

@@ -18,7 +18,8 @@ use Rattle.dt_overlay.specs.declared.numbers.Brought.{Brought}
 use Rattle.dt_overlay.specs.declared.fragments.Fragment.{Fragment}
 use Rattle.dt_overlay.specs.declared.fragments.FragmentTarget.TheVariants.{Number}
 use Rattle.dt_overlay.specs.Plans.{IsTargetOf}
-use Rattle.dt_overlay.specs.Looked.{IsTurnOf, LandsTooDeep, target_of}
+use Rattle.dt_landing.specs.Landings.{target_of}
+use Rattle.dt_overlay.specs.Looked.{IsTurnOf, LandsTooDeep}
 use Rattle.dt_overlay.proofs.Reached.{value-led}
 
 -- ---- a value with cells written has four bytes still

@@ -7,7 +7,7 @@ use Rattle.dt_model.specs.Object.{Cell, AreFixups, IsCellText}
 use Rattle.dt_model.specs.Applied.{Write, label_write}
 use Rattle.dt_flat.specs.Arena.{Arena, reading}
 use Rattle.dt_names.specs.declared.fault.FaultKind.{FaultKind}
-use Rattle.dt_names.specs.declared.fault.FaultKind.TheVariants.{NoMemory, NoSymbol, BadSymbol, BadFixup}
+use Rattle.dt_names.specs.declared.fault.FaultKind.TheVariants.{NoMemory, NoSymbol, BadSymbol}
 use Rattle.dt_marks.specs.Texts.{TellCells}
 use Rattle.dt_marks.specs.declared.reading.CellText.{CellText}
 use Rattle.dt_landing.specs.Objects.{HasCell, AreCellsOf, SymbolHasNumber, IsFixup}
@@ -59,8 +59,3 @@ WhyNoNumber NoMemory base l = Unit {0}
 WhyNoNumber NoSymbol base l = value_in base (codes "__symbols__" ∷ []) l ≡ None
 WhyNoNumber BadSymbol base l = (value_in base (codes "__symbols__" ∷ []) l ≢ None) × ((n : ℕ) → ¬ SymbolHasNumber base l n)
 WhyNoNumber _ base l = ⊥
-
--- the cells that wait for a property's label get no number
-abbrev pub WhyNoFixup : FaultKind → Reading → Reading → Property → Type 0
-WhyNoFixup BadFixup base object x = (cells : List Cell) → ¬ AreCellsOf object x.value cells
-WhyNoFixup kind base object x = WhyNoNumber kind base x.name

@@ -1,16 +1,16 @@
 -- What is known while the fragments are looked at, as a tree in memory.
-use Rattle.std.specs.Prelude.{◌≡◌, ◌≢◌, ℕ, ◌<◌, ◌≤◌, ◌⊎◌, true, List, [], ◌∷◌, ◌++◌, length, map, take, Some, Option, Result, Err, codes}
+use Rattle.std.specs.Prelude.{◌≡◌, ◌≢◌, ℕ, ◌<◌, ◌≤◌, ◌⊎◌, true, List, [], ◌∷◌, ◌++◌, length, map, take, Some, Result, Err}
 use Rattle.std.specs.List.{AllByRecursion}
 use Rattle.dt_model.specs.Limits.{most_names, most_nodes}
 use Rattle.dt_model.specs.Names.{Name}
 use Rattle.dt_model.specs.Path.{Path}
-use Rattle.dt_model.specs.Tree.{Forest, no_nodes, branch, Reading, Node, stands_in, value_in}
+use Rattle.dt_model.specs.Tree.{Forest, no_nodes, branch, Reading, Node, stands_in}
 use Rattle.dt_model.specs.Valid.{AreDistinct}
 use Rattle.dt_model.specs.Changes.{with_child_at}
 use Rattle.dt_model.specs.Merged.{Site, landing}
 use Rattle.dt_model.specs.Numbers.{AreNewNumbers}
 use Rattle.dt_model.specs.Object.{fragment_names}
-use Rattle.dt_model.specs.Applied.{Write, target_node, find_site}
+use Rattle.dt_model.specs.Applied.{Write, find_site}
 use Rattle.dt_names.specs.declared.fault.FaultKind.{FaultKind}
 use Rattle.dt_names.specs.declared.fault.FaultKind.TheVariants.{NoMemory, Limit}
 use Rattle.dt_flat.specs.Arena.{Arena, Slot, reading, node_from, name_of, properties, below}
@@ -104,10 +104,6 @@ pub record IsTurnOf (base object : Reading) (ws : List Write) (numbers : List (P
 -- one of the nodes that land so far lands too deep
 abbrev pub LandsTooDeep : Reading → List Site → Type 0
 LandsTooDeep object earlier = (p q : Path) × (stands_in object p ≡ true) × (landing earlier p ≡ Some q) × (most_names < length q)
-
--- a fragment's target
-abbrev pub target_of : Reading → Reading → List Write → List (Path × ℕ) → List Site → Name → Option Path
-target_of base object ws numbers earlier f = target_node base object ws numbers earlier f (value_in object (f ∷ []) (codes "target"))
 
 -- the fragment has a site, but what it brings makes too many nodes
 pub record IsFull (base object : Reading) (ws : List Write) (numbers : List (Path × ℕ)) (earlier : List Site) (f : Name) : Type 0 where

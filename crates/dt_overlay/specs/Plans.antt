@@ -1,5 +1,5 @@
 -- What the code keeps of an object while it is applied, and what that stands for.
-use Rattle.std.specs.Prelude.{◌≡◌, ◌↔◌, ℕ, ◌<◌, ◌⊎◌, List, [], ◌∷◌, ◌++◌, length, map, replicate, slice_get, Option, Some, None, true, is_some, nat_eq, if◌then◌else◌, codes}
+use Rattle.std.specs.Prelude.{◌≡◌, ◌↔◌, ℕ, ◌<◌, List, [], ◌∷◌, ◌++◌, length, map, replicate, slice_get, Option, Some, None, true, is_some, nat_eq, if◌then◌else◌, codes}
 use Rattle.std.specs.List.{AllByRecursion, flat_map}
 use Rattle.indexmap.specs.IndexMap.{get}
 use Rattle.dt_model.specs.Names.{Name}
@@ -12,8 +12,6 @@ use Rattle.dt_model.specs.Object.{Cell, HasFixups, fragment_names, local_cells}
 use Rattle.dt_model.specs.Numbers.{number_in, is_brought}
 use Rattle.dt_model.specs.Applied.{Write, label_write, local_write, node_named}
 use Rattle.dt_flat.specs.Arena.{Arena, Slot, reading, node_from}
-use Rattle.dt_names.specs.declared.fault.FaultKind.{FaultKind}
-use Rattle.dt_names.specs.declared.fault.FaultKind.TheVariants.{NoMemory, NoSymbol, BadSymbol, BadFixup}
 use Rattle.dt_marks.specs.Texts.{IsPathValue}
 use Rattle.dt_overlay.specs.declared.fragments.Fragment.{Fragment}
 use Rattle.dt_overlay.specs.declared.fragments.FragmentTarget.{FragmentTarget}
@@ -67,10 +65,6 @@ pub record ListsFixups (base : Reading) (object : Arena) (old new : List KeptWri
   pub writes : AreWritesOf object.slots more (map (label_write base) fixups)
   pub cells : AllByRecursion (λ (x : Name × Cell). HasCell (reading object) x.1) fixups
   pub well : AllByRecursion (IsFixup base (reading object)) (fixups_in (reading object))
-
--- the kinds of faults that such cells have
-abbrev pub IsFixupFault : FaultKind → Type 0
-IsFixupFault kind = (kind ≡ NoMemory) ⊎ (kind ≡ BadFixup) ⊎ (kind ≡ NoSymbol) ⊎ (kind ≡ BadSymbol)
 
 -- the cells of the object's own nodes are listed behind what was
 pub record ListsLocalFixups (object : Arena) (numbers : List (Path × ℕ)) (old new : List KeptWrite) : Type 0 where

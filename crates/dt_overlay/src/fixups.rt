@@ -12,9 +12,9 @@ ghost use Rattle.dt_names.specs.declared.fault.FaultKind.TheVariants.{NoMemory, 
 ghost use Rattle.dt_flat.specs.Arena.{reading, node_from};
 ghost use Rattle.dt_marks.specs.Texts.{IsPathValue};
 ghost use Rattle.dt_landing.specs.Objects.{AreCellsOf, SymbolHasNumber};
-ghost use Rattle.dt_landing.specs.Refusals.{WhyNotApplied};
-ghost use Rattle.dt_overlay.specs.Plans.{ListsFixups, IsFixupFault};
-ghost use Rattle.dt_overlay.specs.Fixups.{cell_told, HasTold, ListsTold, ListsCells, ListsLabels, WhyNoNumber, WhyNoFixup};
+ghost use Rattle.dt_landing.specs.Refusals.{WhyNoFixup, HasNoFixup};
+ghost use Rattle.dt_overlay.specs.Plans.{ListsFixups};
+ghost use Rattle.dt_overlay.specs.Fixups.{cell_told, HasTold, ListsTold, ListsCells, ListsLabels, WhyNoNumber};
 
 use crate::Target;
 use crate::cuts::cut;
@@ -177,8 +177,8 @@ fn list_fixup<T: Target>(
     requires { symbols.now ≡ codes "__symbols__" ∷ [] }
     ensures listed { OnOk result (ListsLabels (T.reading target.now) object.now
         (record { name = label.now; value = value.now } ∷ []) out.old.items out.new.items) }
-    ensures refused { IfErr result (λ fault. (fault.at ≡ None) × WhyNoFixup fault.kind (T.reading target.now) (reading object.now)
-        (record { name = label.now; value = value.now })) }
+    ensures refused { IfErr result (λ fault. (fault.at ≡ None) × ((fault.kind ≡ NoMemory)
+        ⊎ WhyNoFixup fault.kind (T.reading target.now) (reading object.now) (record { name = label.now; value = value.now }))) }
 {
     if !are_cells(object, value) {
         return Err(Fault::of(FaultKind::BadFixup));
@@ -187,8 +187,9 @@ fn list_fixup<T: Target>(
     list_cells(alloc, object, value, number, out)
 }
 
-/// Lists what is written into the cells that the object's `__fixups__` lists, label by label. `BadFixup`: a value isn't texts
-/// of cells that the object has. `NoSymbol`: the base has no such label. `BadSymbol`: it has, but for no node with a number.
+/// Lists what is written into the cells that the object's `__fixups__` lists, label by label, and tells the first label without
+/// a number. `BadFixup`: its value isn't texts of cells that the object has. `NoSymbol`: the base has no such label.
+/// `BadSymbol`: it has, but for no node with a number.
 pub fn list_fixups<T: Target>(
     alloc: Global,
     target: &T,
@@ -198,8 +199,8 @@ pub fn list_fixups<T: Target>(
 ) -> Result<(), Fault>
     requires { symbols.now ≡ codes "__symbols__" ∷ [] }
     ensures listed { OnOk result (ListsFixups (T.reading target.now) object.now out.old.items out.new.items) }
-    ensures refused { IfErr result (λ fault. (fault.at ≡ None)
-        × IsFixupFault fault.kind × WhyNotApplied fault.kind (T.reading target.now) (reading object.now)) }
+    ensures refused { IfErr result (λ fault. (fault.at ≡ None) × ((fault.kind ≡ NoMemory)
+        ⊎ HasNoFixup fault.kind (T.reading target.now) (reading object.now))) }
 {
     let Some(node) = object.child(object.root(), b"__fixups__".as_slice()) else {
         return Ok(());

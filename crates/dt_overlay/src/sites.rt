@@ -15,7 +15,8 @@ ghost use Rattle.dt_model.specs.Applied.{Write, node_numbered, landed_with, node
 ghost use Rattle.dt_names.specs.declared.fault.FaultKind.TheVariants.{NoMemory, Limit};
 ghost use Rattle.dt_flat.specs.Arena.{root_alone, node_from, properties, reading};
 ghost use Rattle.dt_landing.specs.Checking.{check_site, check_fragments, nothing_landed, IsKnown};
-ghost use Rattle.dt_overlay.specs.Looked.{IsTurn, IsTurnOf, LandsTooDeep, target_of, IsFull};
+ghost use Rattle.dt_landing.specs.Landings.{target_of, HasNoSite};
+ghost use Rattle.dt_overlay.specs.Looked.{IsTurn, IsTurnOf, LandsTooDeep, IsFull};
 ghost use Rattle.dt_landing.specs.Refusals.{IsCrowdedAt};
 ghost use Rattle.dt_overlay.specs.Plans.{IsReady, IsReadyOfSome};
 ghost use Rattle.dt_overlay.specs.declared.fragments.Fragment.{Fragment};
@@ -26,6 +27,7 @@ use crate::looks::{check_content, is_bookkeeping};
 use crate::numbers::Brought;
 use crate::texts::join;
 use dt_flat::FlatTree;
+use dt_landing::look_stops;
 use dt_marks::symbol_path;
 use dt_names::{Fault, FaultKind, NodeId, Path};
 use std::alloc::Global;
@@ -215,9 +217,10 @@ pub fn find_sites<T: Target>(
         × (sites.new.items ≡ map (λ x. x.at) found)) }
     ensures refused { (read : Reading) (ws : List Write) (numbers : List (Names × ℕ)) →
         IsReady read ws numbers object.now fragments.now brought.now → AreNewNumbers (T.reading target.now) read numbers → IfErr result (λ fault. (fault.at ≡ None) × ((fault.kind ≡ NoMemory)
-        ⊎ (check_fragments (T.reading target.now) read ws numbers [] (fragment_names read.children) nothing_landed ≡ Err fault.kind)
+        ⊎ HasNoSite fault.kind (T.reading target.now) read ws numbers
         ⊎ ((fault.kind ≡ Limit) × IsCrowdedAt (T.reading target.now) read ws numbers))) }
 {
+    look_stops();
     target.validity();
     object.validity();
     for fragment in fragments {

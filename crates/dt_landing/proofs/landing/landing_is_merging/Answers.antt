@@ -2,4 +2,4 @@ use Rattle.dt_landing.proofs.LandedNodes.{landing_is_merging}
 use Rattle.dt_landing.proofs.landing.landing_is_merging.Goals as goal
 
 pub returns : goal.returns
-returns c q m t there = landing_is_merging q m t
+returns c = landing_is_merging

@@ -2,4 +2,4 @@ use Rattle.dt_landing.proofs.RefusedOutcomes.{applied_is_not_refused}
 use Rattle.dt_landing.proofs.outcomes.applied_is_not_refused.Goals as goal
 
 pub returns : goal.returns
-returns c = applied_is_not_refused c.refused_is_not_applied.ensures
+returns c = applied_is_not_refused

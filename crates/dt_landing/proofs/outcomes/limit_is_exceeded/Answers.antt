@@ -2,4 +2,4 @@ use Rattle.dt_landing.proofs.ExceededLimits.{limit_is_exceeded}
 use Rattle.dt_landing.proofs.outcomes.limit_is_exceeded.Goals as goal
 
 pub returns : goal.returns
-returns c = limit_is_exceeded c.limit_is_due.ensures
+returns c = limit_is_exceeded

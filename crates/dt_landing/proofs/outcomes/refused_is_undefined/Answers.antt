@@ -2,4 +2,4 @@ use Rattle.dt_landing.proofs.RefusedOutcomes.{refused_is_undefined}
 use Rattle.dt_landing.proofs.outcomes.refused_is_undefined.Goals as goal
 
 pub returns : goal.returns
-returns c = refused_is_undefined c.refused_is_not_applied.ensures c.applying_is_merging.ensures
+returns c = refused_is_undefined c.applying_is_merging.ensures

@@ -1,21 +1,43 @@
 use Rattle.std.proofs.Common.{◌≡◌, List, sym, ap, subst, ◌∙◌}
 use Rattle.std.proofs.lemmas.Result.{err_from_is_err_and}
+use Rattle.dt_model.specs.Object.{fragment_names}
 use Rattle.dt_flat.specs.Arena.{Arena, reading}
 use Rattle.dt_overlay.specs.Plans.{ListsFixups, ListsLocalFixups, ListsSymbols}
 use Rattle.dt_overlay.specs.Writing.{AreWritable, with_writes}
 use Rattle.dt_overlay.specs.declared.applying.Plan.{Plan}
 use Rattle.dt_overlay.specs.declared.symbols.Symbol.{Symbol}
 use Rattle.dt_overlay.specs.declared.writes.Write.{Write}
-use Rattle.dt_overlay.proofs.ReadPlans.{on_ok, local_told, locals_writable, labels_writable, read_as}
+use Rattle.dt_overlay.proofs.ReadPlans.{on_ok, all_held, label_told, local_told, symbol_told, locals_writable, labels_writable, read_as}
 use Rattle.dt_overlay.proofs.applying.read.Goals as goal
+
+pub returns-in_err-list_fixups-clause-refused : goal.returns-in_err-list_fixups-clause-refused
+returns-in_err-list_fixups-clause-refused g c =
+    let a = c.args.object.now in
+    let e = err_from_is_err_and c.from_residual-in_err-list_fixups.result c.from_residual-in_err-list_fixups.ensures.1 in
+    rw (e.1, e.2)
+    (label_told (g.T.Target.reading c.args.target.now) (reading a) c.in_err-list_fixups.field-0.0
+    (all_held a.slots (reading a) c.list_fragments.new.out.items (fragment_names (reading a).children) c.in_ok-list_fragments.ensures.listed) c.in_err-list_fixups.ensures.refused)
 
 pub returns-in_err-list_local_fixups-clause-refused : goal.returns-in_err-list_local_fixups-clause-refused
 returns-in_err-list_local_fixups-clause-refused g c =
     let e = err_from_is_err_and c.from_residual-in_err-list_local_fixups.result c.from_residual-in_err-list_local_fixups.ensures.1 in
+    let a = c.args.object.now in
     let numbers = c.in_ok-number_all.ensures.brought in
     rw (e.1, e.2)
-    (local_told (g.T.Target.reading c.args.target.now) (reading c.args.object.now) c.in_err-list_local_fixups.field-0.0
+    (local_told (g.T.Target.reading c.args.target.now) (reading a) c.in_err-list_local_fixups.field-0.0
+    (all_held a.slots (reading a) c.list_fragments.new.out.items (fragment_names (reading a).children) c.in_ok-list_fragments.ensures.listed) c.in_ok-list_fixups.ensures.listed.well
     (c.in_err-list_local_fixups.ensures.refused numbers.0 numbers.2))
+
+pub returns-in_err-list_symbols-clause-refused : goal.returns-in_err-list_symbols-clause-refused
+returns-in_err-list_symbols-clause-refused g c =
+    let e = err_from_is_err_and c.from_residual-in_err-list_symbols.result c.from_residual-in_err-list_symbols.ensures.1 in
+    let a = c.args.object.now in
+    let numbers = c.in_ok-number_all.ensures.brought in
+    let locals = c.in_ok-list_local_fixups.ensures.listed numbers.0 numbers.2 in
+    rw (e.1, e.2)
+    (symbol_told (g.T.Target.reading c.args.target.now) (reading a) c.in_err-list_symbols.field-0.0
+    (all_held a.slots (reading a) c.list_fragments.new.out.items (fragment_names (reading a).children) c.in_ok-list_fragments.ensures.listed) c.in_ok-list_fixups.ensures.listed.well locals.well
+    c.in_err-list_symbols.ensures.refused)
 
 pub write_cells-requires : goal.write_cells-requires
 write_cells-requires g c =

@@ -1,14 +1,12 @@
-use Rattle.std.proofs.Common.{rules, ◌≡◌, ◌∷◌, [], Some, None, sym, subst, codes, IfErr}
+use Rattle.std.proofs.Common.{rules, ◌≡◌, ◌⊎◌, ◌∷◌, [], Some, None, sym, codes, IfErr}
 use Rattle.std.proofs.lemmas.Result.{IfErr-weaker}
-use Rattle.dt_model.specs.Lists.{IsIn}
 use Rattle.dt_model.specs.Tree.{Property}
 use Rattle.dt_names.specs.declared.fault.Fault.{Fault}
+use Rattle.dt_names.specs.declared.fault.FaultKind.TheVariants.{NoMemory}
 use Rattle.dt_flat.specs.Arena.{reading, node_from, properties}
 use Rattle.dt_flat.proofs.Edges.{edge}
-use Rattle.dt_landing.specs.Refusals.{WhyNotApplied}
-use Rattle.dt_overlay.specs.Plans.{IsFixupFault}
-use Rattle.dt_overlay.specs.Fixups.{WhyNoFixup}
-use Rattle.dt_overlay.proofs.FixupsLabels.{ListsLabels-none, labels_step, labels_over, label_among, fixups_listed, child_led, properties_led, no_properties_led, no_fixup}
+use Rattle.dt_landing.specs.Refusals.{WhyNoFixup, HasNoFixup}
+use Rattle.dt_overlay.proofs.FixupsLabels.{ListsLabels-none, labels_step, labels_over, first_unnumbered, fixups_listed, child_led, properties_led, no_properties_led}
 use Rattle.dt_overlay.proofs.fixups.list_fixups.Goals as goal
 
 pub returns-in_default-clause-listed : goal.returns-in_default-clause-listed
@@ -37,14 +35,14 @@ returns-in_err-list_fixup-clause-refused g c =
     let x : Property = record { name = c.in-Some-2.label.now; value = c.in-Some-2.value.now } in
     let leads : node_from a.slots 0 (codes "__fixups__" ∷ []) ≡ Some c.in-Some.node =
     child_led a c.root.result c.as_slice.result.now (codes "__fixups__") (Some c.in-Some.node) c.root.ensures.node c.as_slice.ensures c.in-Some.ensures in
-    let listed = label_among t a (properties a.slots c.in-Some.node) c.loop-label.label-iterator c.next.new.self x c.args.out.now.items c.loop-label.out.items c.in-Some-2.ensures.steps c.loop-label.invariant.left in
-    let among = subst (IsIn x) (sym (properties_led a (codes "__fixups__" ∷ []) c.in-Some.node leads)) listed in
-    let told : IfErr c.from_residual.result (λ (fault : Fault). (fault.at ≡ None) × WhyNoFixup fault.kind t (reading a) x) = search rules in
-    IfErr-weaker c.from_residual.result (λ (fault : Fault). (fault.at ≡ None) × WhyNoFixup fault.kind t (reading a) x)
-    (λ (fault : Fault). (fault.at ≡ None) × IsFixupFault fault.kind × WhyNotApplied fault.kind t (reading a))
+    let told : IfErr c.from_residual.result (λ (fault : Fault). (fault.at ≡ None) × ((fault.kind ≡ NoMemory) ⊎ WhyNoFixup fault.kind t (reading a) x)) = search rules in
+    IfErr-weaker c.from_residual.result (λ (fault : Fault). (fault.at ≡ None) × ((fault.kind ≡ NoMemory) ⊎ WhyNoFixup fault.kind t (reading a) x))
+    (λ (fault : Fault). (fault.at ≡ None) × ((fault.kind ≡ NoMemory) ⊎ HasNoFixup fault.kind t (reading a)))
     (λ fault why. (
-    let refused = no_fixup t (reading a) x fault.kind among why.1 in
-    (why.0, refused.0, refused.1))) told
+      why.0,
+      first_unnumbered t a (properties a.slots c.in-Some.node) c.loop-label.label-iterator c.next.new.self x c.args.out.now.items c.loop-label.out.items fault.kind
+          (properties_led a (codes "__fixups__" ∷ []) c.in-Some.node leads) c.in-Some-2.ensures.steps c.loop-label.invariant.left why.1,
+    )) told
 
 pub returns-clause-listed : goal.returns-clause-listed
 returns-clause-listed g c =

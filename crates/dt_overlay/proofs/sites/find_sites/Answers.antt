@@ -35,7 +35,7 @@ returns-in_err-path-clause-refused g c = λ read ws numbers ready new.
     rw (e.1, e.2) (
       why.0,
       found_refused base read c.validity.ensures.valid ws numbers c.args.object.now c.args.fragments.now c.args.brought.now ready new c.loop-fragment.fragment-index s paths so_far c.fragment-item.result c.loop-fragment-test.true c.fragment-item.is
-          c.in_err-path.field-0.0.kind why.1,
+          c.look_stops.ensures c.validity.ensures.within c.in_err-path.field-0.0.kind why.1,
     )
 
 pub loop-fragment-preserved : goal.loop-fragment-preserved

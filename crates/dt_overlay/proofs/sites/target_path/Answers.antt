@@ -6,7 +6,8 @@ use Rattle.dt_model.specs.Applied.{node_numbered, landed_with, number_at}
 use Rattle.dt_names.specs.declared.fault.Fault.{Fault}
 use Rattle.dt_names.specs.declared.fault.FaultKind.TheVariants.{NoMemory}
 use Rattle.dt_flat.specs.Arena.{reading}
-use Rattle.dt_overlay.specs.Looked.{LandsTooDeep, target_of}
+use Rattle.dt_landing.specs.Landings.{target_of}
+use Rattle.dt_overlay.specs.Looked.{LandsTooDeep}
 use Rattle.dt_overlay.proofs.SitesTargets.{target_number, not_too_deep}
 use Rattle.dt_overlay.proofs.sites.target_path.Goals as goal
 

@@ -1,0 +1,5 @@
+use Rattle.dt_landing.proofs.RefusalStages.{one_refusal}
+use Rattle.dt_landing.proofs.outcomes.one_refusal.Goals as goal
+
+pub returns : goal.returns
+returns c = one_refusal
