@@ -18,7 +18,7 @@ use Rattle.dt_source.specs.Refusals.{WhyNotNamed, fault_of, place_of}
 use Rattle.dt_source.proofs.Outcomes.{Sorted, sorted}
 use Rattle.dt_write.specs.Written.{written}
 use Rattle.dt_chain.specs.Means.{TextHasTree}
-use Rattle.dt_chain.specs.Compiled.{IsCompiled, WhyNotCompiled, told, no_memory, unparsed, unnamed, many, big}
+use Rattle.dt_chain.specs.Compiled.{IsCompiled, WhyNoTree, WhyNotCompiled, told, no_memory, unparsed, unnamed, many, no_tree, big}
 use Rattle.dt_chain.specs.Laws.{OneMeaning, BaseRepresents, RawIsInstance}
 use Rattle.dt_chain.proofs.Stages.{one_more}
 
@@ -98,29 +98,35 @@ few_nodes mode rs ps t h w =
 
 -- ---- answered, or refused
 
-pub compiled_not_refused : SaidOnce → SaidOnly → OneTree → MeantIsNotRefused → FewAreNotRefused
-    → (mode : Mode) (text blob : List ℕ) (e : Fault) → IsCompiled mode text blob → WhyNotCompiled mode text e → e.kind ≡ NoMemory
-compiled_not_refused once only one not few mode text blob _ h no_memory = refl
-compiled_not_refused once only one not few mode text blob _ h (unparsed e why) = only text h.of_text.says e h.of_text.parsed why
-compiled_not_refused once only one not few mode text blob _ h (unnamed s kind parsed why) = step (sorted mode s kind why)
+-- a text that has a tree within the limits is refused only where memory is wanted
+pub tree_not_refused : SaidOnce → SaidOnly → OneTree → MeantIsNotRefused → FewAreNotRefused
+    → (mode : Mode) (text : List ℕ) (t : Reading) (e : Fault) → TextHasTree mode text t → IsWithinLimits t → WhyNoTree mode text e → e.kind ≡ NoMemory
+tree_not_refused once only one not few mode text t _ h within no_memory = refl
+tree_not_refused once only one not few mode text t _ h within (unparsed e why) = only text h.says e h.parsed why
+tree_not_refused once only one not few mode text t _ h within (unnamed s kind parsed why) = step (sorted mode s kind why)
   where
-    said : h.of_text.says ≡ s
-    said = once text h.of_text.says s h.of_text.parsed parsed
+    said : h.says ≡ s
+    said = once text h.says s h.parsed parsed
 
-    tree : IsTreeOf mode s.reservations s.places h.tree
-    tree = subst (λ (x : Says). IsTreeOf mode x.reservations x.places h.tree) said h.of_text.tree
+    tree : IsTreeOf mode s.reservations s.places t
+    tree = subst (λ (x : Says). IsTreeOf mode x.reservations x.places t) said h.tree
 
     step : Sorted mode s kind → kind ≡ NoMemory
     step (inl e) = e
-    step (inr (inl e)) = absurd (true≢false (sym e.1 ∙ ap (λ (x : Says). x.plugin) (sym said) ∙ h.of_text.plain))
+    step (inr (inl e)) = absurd (true≢false (sym e.1 ∙ ap (λ (x : Says). x.plugin) (sym said) ∙ h.plain))
     step (inr (inr f)) =
         let r = not mode s.reservations s.places tree.instance.meaning f.refusal tree.instance.means f.refused in
-        absurd (few mode s.reservations s.places tree.bare tree.instance (few_nodes mode s.reservations s.places h.tree tree h.within) (subst (IsRefusedFor mode s.places) r f.refused))
-compiled_not_refused once only one not few mode text blob _ h (many t k more) =
-    let same : t ≡ h.tree = tree_once once one mode text t h.tree k h.of_text in
-    let less : 1 + node_count h.tree.children ≤ most_nodes = h.within.count in
-    let more' : most_nodes < 1 + node_count h.tree.children = subst (λ (u : Reading). most_nodes < 1 + node_count u.children) same more in
+        absurd (few mode s.reservations s.places tree.bare tree.instance (few_nodes mode s.reservations s.places t tree within) (subst (IsRefusedFor mode s.places) r f.refused))
+tree_not_refused once only one not few mode text t _ h within (many u k more) =
+    let same : u ≡ t = tree_once once one mode text u t k h in
+    let less : 1 + node_count t.children ≤ most_nodes = within.count in
+    let more' : most_nodes < 1 + node_count t.children = subst (λ (v : Reading). most_nodes < 1 + node_count v.children) same more in
     absurd (omega (arith, less, more'))
+
+pub compiled_not_refused : SaidOnce → SaidOnly → OneTree → MeantIsNotRefused → FewAreNotRefused
+    → (mode : Mode) (text blob : List ℕ) (e : Fault) → IsCompiled mode text blob → WhyNotCompiled mode text e → e.kind ≡ NoMemory
+compiled_not_refused once only one not few mode text blob _ h no_memory = refl
+compiled_not_refused once only one not few mode text blob _ h (no_tree e why) = tree_not_refused once only one not few mode text h.tree e h.of_text h.within why
 compiled_not_refused once only one not few mode text blob _ h (big t k more) =
     let same : t ≡ h.tree = tree_once once one mode text t h.tree k h.of_text in
     let less : length (written h.tree) ≤ most_bytes = subst (λ (b : List ℕ). length b ≤ most_bytes) h.is h.size in
@@ -138,37 +144,50 @@ abbrev pub of_kind : FaultKind → Fault
 of_kind k = record { kind = k; at = place_of k }
 
 module _ (once : SaidOnce) (only : SaidOnly) (fault : FaultOnce) (one : NamedOnce) (not : MeantIsNotRefused) where
-  -- a text that has a tree is refused only as too large
-  with_tree : (mode : Mode) (text : List ℕ) (t : Reading) (f : Fault) → TextHasTree mode text t → f.kind ≢ NoMemory → WhyNotCompiled mode text f → told Limit ≡ f
+  -- a text that has a tree has none within the limits only as too large
+  with_tree : (mode : Mode) (text : List ℕ) (t : Reading) (f : Fault) → TextHasTree mode text t → f.kind ≢ NoMemory → WhyNoTree mode text f → told Limit ≡ f
   with_tree mode text t _ h wanted no_memory = absurd (wanted refl)
   with_tree mode text t _ h wanted (unparsed f why) = absurd (wanted (only text h.says f h.parsed why))
   with_tree mode text t _ h wanted (unnamed s kind parsed why) = sym (limit_told kind (only_many once not mode text t s kind h parsed wanted why).0)
   with_tree mode text t _ h wanted (many u k more) = refl
-  with_tree mode text t _ h wanted (big u k more) = refl
 
   -- a source is refused as one
-  with_source : (mode : Mode) (text : List ℕ) (s : Says) (k : FaultKind) (f : Fault) → IsParsed text s → WhyNotNamed mode k s → k ≢ NoMemory → f.kind ≢ NoMemory → WhyNotCompiled mode text f → of_kind k ≡ f
+  with_source : (mode : Mode) (text : List ℕ) (s : Says) (k : FaultKind) (f : Fault) → IsParsed text s → WhyNotNamed mode k s → k ≢ NoMemory → f.kind ≢ NoMemory → WhyNoTree mode text f → of_kind k ≡ f
   with_source mode text s k _ parsed why wanted wanted' no_memory = absurd (wanted' refl)
   with_source mode text s k _ parsed why wanted wanted' (unparsed f also) = absurd (wanted' (only text s f parsed also))
   with_source mode text s k _ parsed why wanted wanted' (unnamed r j same also) =
       let said : r ≡ s = once text r s same parsed in
       ap of_kind (one mode s k j wanted wanted' why (subst (WhyNotNamed mode j) said also))
   with_source mode text s k _ parsed why wanted wanted' (many u h more) = limit_told k (only_many once not mode text u s k h parsed wanted why).0
-  with_source mode text s k _ parsed why wanted wanted' (big u h more) = limit_told k (only_many once not mode text u s k h parsed wanted why).0
 
-  pub refused_once : (mode : Mode) (text : List ℕ) (e f : Fault) → WhyNotCompiled mode text e → WhyNotCompiled mode text f → e.kind ≢ NoMemory → f.kind ≢ NoMemory → e ≡ f
-  refused_once mode text _ f no_memory also wanted wanted' = absurd (wanted refl)
-  refused_once mode text _ f (unparsed e why) also wanted wanted' = step f also wanted'
+  -- a text has no tree within the limits for one reason
+  pub tree_refused_once : (mode : Mode) (text : List ℕ) (e f : Fault) → WhyNoTree mode text e → WhyNoTree mode text f → e.kind ≢ NoMemory → f.kind ≢ NoMemory → e ≡ f
+  tree_refused_once mode text _ f no_memory also wanted wanted' = absurd (wanted refl)
+  tree_refused_once mode text _ f (unparsed e why) also wanted wanted' = step f also wanted'
     where
-      step : (f : Fault) → WhyNotCompiled mode text f → f.kind ≢ NoMemory → e ≡ f
+      step : (f : Fault) → WhyNoTree mode text f → f.kind ≢ NoMemory → e ≡ f
       step _ no_memory w = absurd (w refl)
       step _ (unparsed g other) w = fault text e g why other wanted w
       step _ (unnamed s kind parsed other) w = absurd (wanted (only text s e parsed why))
       step _ (many u h more) w = absurd (wanted (only text h.says e h.parsed why))
-      step _ (big u h more) w = absurd (wanted (only text h.says e h.parsed why))
-  refused_once mode text _ f (unnamed s kind parsed why) also wanted wanted' = with_source mode text s kind f parsed why wanted wanted' also
-  refused_once mode text _ f (many t h more) also wanted wanted' = with_tree mode text t f h wanted' also
-  refused_once mode text _ f (big t h more) also wanted wanted' = with_tree mode text t f h wanted' also
+  tree_refused_once mode text _ f (unnamed s kind parsed why) also wanted wanted' = with_source mode text s kind f parsed why wanted wanted' also
+  tree_refused_once mode text _ f (many t h more) also wanted wanted' = with_tree mode text t f h wanted' also
+
+  -- and is not compiled for one
+  pub refused_once : (mode : Mode) (text : List ℕ) (e f : Fault) → WhyNotCompiled mode text e → WhyNotCompiled mode text f → e.kind ≢ NoMemory → f.kind ≢ NoMemory → e ≡ f
+  refused_once mode text _ f no_memory also wanted wanted' = absurd (wanted refl)
+  refused_once mode text _ f (no_tree e why) also wanted wanted' = step f also wanted'
+    where
+      step : (f : Fault) → WhyNotCompiled mode text f → f.kind ≢ NoMemory → e ≡ f
+      step _ no_memory w = absurd (w refl)
+      step _ (no_tree g other) w = tree_refused_once mode text e g why other wanted w
+      step _ (big u h more) w = sym (with_tree mode text u e h wanted why)
+  refused_once mode text _ f (big t h more) also wanted wanted' = step f also wanted'
+    where
+      step : (f : Fault) → WhyNotCompiled mode text f → f.kind ≢ NoMemory → told Limit ≡ f
+      step _ no_memory w = absurd (w refl)
+      step _ (no_tree g other) w = with_tree mode text t g h w other
+      step _ (big u k more) w = refl
 
 -- ---- what the blob is
 

@@ -10,7 +10,7 @@ use Rattle.dt_parse.specs.Reading.{WhyNotParsed}
 use Rattle.dt_parse.proofs.Parsing.{never_memory}
 use Rattle.dt_source.specs.Refusals.{place_of}
 use Rattle.dt_chain.specs.Compiled as compiled
-use Rattle.dt_chain.specs.Compiled.{WhyNotCompiled}
+use Rattle.dt_chain.specs.Compiled.{WhyNoTree, WhyNotCompiled}
 use Rattle.dt_chain.specs.CompiledOverlay as overlay
 use Rattle.dt_chain.specs.CompiledOverlay.{WhyNotCompiledOverlay}
 use Rattle.dt_chain.specs.Blobs as blobs
@@ -27,11 +27,15 @@ unparsed text e (reading.unlexed f why) h = unlexed text f why h
 unparsed text e (reading.untagged tokens l x n) h = cc
 unparsed text e (reading.broken tokens before left kind l x t s b) h = absurd (never_memory b h)
 
+tree_unplaced : (mode : Mode) (text : List ℕ) (e : Fault) → WhyNoTree mode text e → e.kind ≡ NoMemory → e.at ≡ None
+tree_unplaced mode text _ compiled.no_memory h = refl
+tree_unplaced mode text _ (compiled.unparsed e why) h = unparsed text e why h
+tree_unplaced mode text _ (compiled.unnamed s kind parsed why) h = ap place_of h
+tree_unplaced mode text _ (compiled.many t k more) h = refl
+
 pub memory_unplaced : (mode : Mode) (text : List ℕ) (e : Fault) → WhyNotCompiled mode text e → e.kind ≡ NoMemory → e.at ≡ None
 memory_unplaced mode text _ compiled.no_memory h = refl
-memory_unplaced mode text _ (compiled.unparsed e why) h = unparsed text e why h
-memory_unplaced mode text _ (compiled.unnamed s kind parsed why) h = ap place_of h
-memory_unplaced mode text _ (compiled.many t k more) h = refl
+memory_unplaced mode text _ (compiled.no_tree e why) h = tree_unplaced mode text e why h
 memory_unplaced mode text _ (compiled.big t k more) h = refl
 
 overlay_unplaced : (text : List ℕ) (e : Fault) → WhyNotCompiledOverlay text e → e.kind ≡ NoMemory → e.at ≡ None

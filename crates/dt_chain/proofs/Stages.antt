@@ -28,7 +28,7 @@ use Rattle.dt_marks.specs.Refusals.{WhyNoSymbols}
 use Rattle.dt_write.specs.Written.{written}
 use Rattle.dt_write.specs.Refusals.{WhyNoBlob}
 use Rattle.dt_chain.specs.Means.{TextHasTree}
-use Rattle.dt_chain.specs.Compiled.{IsCompiled, WhyNotCompiled, IsCompilerFault, told, no_memory, unparsed, unnamed, many, big}
+use Rattle.dt_chain.specs.Compiled.{IsCompiled, WhyNoTree, WhyNotCompiled, IsCompilerFault, told, no_memory, unparsed, unnamed, many, no_tree, big}
 use Rattle.dt_chain.specs.Steps.{OfEachText, HasNamed, IsNumbered, HasRoom, WhyNotLabelled}
 
 -- a fault is told by its kind and its place
@@ -36,8 +36,8 @@ pub fault_is : (fault : Fault) (at : Option ℕ) → fault.at ≡ at → record 
 fault_is fault at e = sym (ap (λ (x : Option ℕ). let f : Fault = record { kind = fault.kind; at = x } in f) e)
 
 pub not_named : (mode : Mode) (s : Says) (fault : Fault) → WhyNotNamed mode fault.kind s × (fault.at ≡ place_of fault.kind)
-    → OfEachText s (λ text. WhyNotCompiled mode text fault)
-not_named mode s fault why text parsed = subst (WhyNotCompiled mode text) (fault_is fault (place_of fault.kind) why.1) (unnamed s fault.kind parsed why.0)
+    → OfEachText s (λ text. WhyNoTree mode text fault)
+not_named mode s fault why text parsed = subst (WhyNoTree mode text) (fault_is fault (place_of fault.kind) why.1) (unnamed s fault.kind parsed why.0)
 
 -- ---- room for the labels
 
@@ -133,7 +133,7 @@ no_labels t r slots Limit n e why = (why.0, subst (λ (k : ℕ). most_nodes ≤ 
 no_labels t r slots _ n e why = absurd why
 
 unlabelled : TreeIsMeant → (s : Says) (t : Named NodeReference) (kind : FaultKind) → HasNamed base s t → WhyNotLabelled kind t
-    → OfEachText s (λ text. WhyNotCompiled base text (told kind))
+    → OfEachText s (λ text. WhyNoTree base text (told kind))
 unlabelled meant s t NoMemory h why text parsed = no_memory
 unlabelled meant s t Limit h why text parsed =
     many (with_symbols (symbols_of t) (instance_of why.2 t))
@@ -141,12 +141,12 @@ unlabelled meant s t Limit h why text parsed =
 unlabelled meant s t _ h why text parsed = absurd why
 
 pub not_labelled : TreeIsMeant → (s : Says) (t : Named NodeReference) (fault : Fault) → HasNamed base s t → WhyNotLabelled fault.kind t × (fault.at ≡ None)
-    → OfEachText s (λ text. WhyNotCompiled base text fault)
-not_labelled meant s t fault h why text parsed = subst (WhyNotCompiled base text) (fault_is fault None why.1) (unlabelled meant s t fault.kind h why.0 text parsed)
+    → OfEachText s (λ text. WhyNoTree base text fault)
+not_labelled meant s t fault h why text parsed = subst (WhyNoTree base text) (fault_is fault None why.1) (unlabelled meant s t fault.kind h why.0 text parsed)
 
-pub not_numbered : (mode : Mode) (s : Says) (fault : Fault) → (fault.kind ≡ NoMemory) × (fault.at ≡ None) → OfEachText s (λ text. WhyNotCompiled mode text fault)
+pub not_numbered : (mode : Mode) (s : Says) (fault : Fault) → (fault.kind ≡ NoMemory) × (fault.at ≡ None) → OfEachText s (λ text. WhyNoTree mode text fault)
 not_numbered mode s fault why text parsed =
-    subst (WhyNotCompiled mode text) (ap told (sym why.0) ∙ fault_is fault None why.1) no_memory
+    subst (WhyNoTree mode text) (ap told (sym why.0) ∙ fault_is fault None why.1) no_memory
 
 -- ---- the blob
 
@@ -180,6 +180,10 @@ if_err P Q f (Err e) p = f e p
 pub if_ok_both : {A E : Type 0} (P Q R : A → Type 0) → ((a : A) → P a → Q a → R a) → (r : Result A E) → IfOk r P → IfOk r Q → IfOk r R
 if_ok_both P Q R f (Ok a) p q = f a p q
 if_ok_both P Q R f (Err e) p q = tt
+
+pub if_ok_all : {A E : Type 0} (P Q R S T : A → Type 0) → ((a : A) → P a → Q a → R a → S a → T a) → (r : Result A E) → IfOk r P → IfOk r Q → IfOk r R → IfOk r S → IfOk r T
+if_ok_all P Q R S T f (Ok a) p q r s = f a p q r s
+if_ok_all P Q R S T f (Err e) p q r s = tt
 
 -- ---- the kinds of the compiler's faults
 
@@ -215,9 +219,13 @@ of_source OutOfRange h = tt
 of_source Syntax h = tt
 of_source _ h = absurd h
 
+tree_kind : (mode : Mode) (text : List ℕ) (e : Fault) → WhyNoTree mode text e → IsCompilerFault e.kind
+tree_kind mode text _ no_memory = tt
+tree_kind mode text _ (unparsed e why) = of_source e.kind (source_kind text e why)
+tree_kind mode text _ (unnamed s kind parsed why) = named_kind mode s kind why
+tree_kind mode text _ (many t h more) = tt
+
 pub compiler_kind : (mode : Mode) (text : List ℕ) (e : Fault) → WhyNotCompiled mode text e → IsCompilerFault e.kind
 compiler_kind mode text _ no_memory = tt
-compiler_kind mode text _ (unparsed e why) = of_source e.kind (source_kind text e why)
-compiler_kind mode text _ (unnamed s kind parsed why) = named_kind mode s kind why
-compiler_kind mode text _ (many t h more) = tt
+compiler_kind mode text _ (no_tree e why) = tree_kind mode text e why
 compiler_kind mode text _ (big t h more) = tt

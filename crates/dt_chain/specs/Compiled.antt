@@ -25,17 +25,24 @@ pub record IsCompiled (mode : Mode) (text blob : List ℕ) : Type 0 where
 abbrev pub told : FaultKind → Fault
 told kind = record { kind = kind; at = None }
 
+-- Why a text has no tree within the limits.
+pub data WhyNoTree (mode : Mode) (text : List ℕ) : Fault → Type 0 where
+  -- memory may be refused at any time
+  no_memory : WhyNoTree mode text (told fault.NoMemory)
+  -- it isn't a source, by its first fault
+  unparsed : (e : Fault) → WhyNotParsed text e → WhyNoTree mode text e
+  -- it is an overlay's, or it means nothing, or too much
+  unnamed : (s : Says) (kind : FaultKind) → IsParsed text s → WhyNotNamed mode kind s →
+      WhyNoTree mode text (record { kind = kind; at = place_of kind })
+  -- with the node of its labels its tree has more than 65,536 nodes, the root among them
+  many : (t : Reading) → TextHasTree mode text t → most_nodes < 1 + node_count t.children → WhyNoTree mode text (told fault.Limit)
+
 -- Why a text isn't compiled.
 pub data WhyNotCompiled (mode : Mode) (text : List ℕ) : Fault → Type 0 where
   -- memory may be refused at any time
   no_memory : WhyNotCompiled mode text (told fault.NoMemory)
-  -- it isn't a source, by its first fault
-  unparsed : (e : Fault) → WhyNotParsed text e → WhyNotCompiled mode text e
-  -- it is an overlay's, or it means nothing, or too much
-  unnamed : (s : Says) (kind : FaultKind) → IsParsed text s → WhyNotNamed mode kind s →
-      WhyNotCompiled mode text (record { kind = kind; at = place_of kind })
-  -- with the node of its labels its tree has more than 65,536 nodes, the root among them
-  many : (t : Reading) → TextHasTree mode text t → most_nodes < 1 + node_count t.children → WhyNotCompiled mode text (told fault.Limit)
+  -- it has no tree within the limits
+  no_tree : (e : Fault) → WhyNoTree mode text e → WhyNotCompiled mode text e
   -- the blob of its tree would be longer than 16 MiB
   big : (t : Reading) → TextHasTree mode text t → most_bytes < length (written t) → WhyNotCompiled mode text (told fault.Limit)
 

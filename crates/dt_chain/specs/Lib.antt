@@ -3,5 +3,9 @@ pub mod Compiled
 pub mod CompiledOverlay
 pub mod Blobs
 pub mod Steps
+pub mod Inputs
+pub mod Applied
+pub mod Built
 pub mod Laws
+pub mod Chains
 pub mod Input

@@ -4,10 +4,13 @@ ghost use Rattle.std.specs.Prelude.{◌≡◌, None, length, IfOk, IfErr};
 ghost use Rattle.dt_flat.specs.Arena.{reading};
 ghost use Rattle.dt_model.specs.Named.{tree_of};
 ghost use Rattle.dt_model.specs.Source.{base, raw};
+ghost use Rattle.dt_model.specs.Tree.{Reading};
 ghost use Rattle.dt_names.specs.declared.fault.FaultKind.TheVariants.{NoMemory};
 ghost use Rattle.dt_source.specs.Refusals.{mode_said, WhyNotNamed, place_of};
+ghost use Rattle.dt_chain.specs.Applied.{IsRead};
 ghost use Rattle.dt_chain.specs.Blobs.{IsBlobOf, WhyNoBlob};
-ghost use Rattle.dt_chain.specs.Compiled.{IsCompiled, WhyNotCompiled, IsCompilerFault};
+ghost use Rattle.dt_chain.specs.Built.{HasObject};
+ghost use Rattle.dt_chain.specs.Compiled.{IsCompiled, WhyNoTree, WhyNotCompiled, IsCompilerFault};
 ghost use Rattle.dt_chain.specs.CompiledOverlay.{IsCompiledOverlay, WhyNotCompiledOverlay};
 ghost use Rattle.dt_chain.specs.Means.{TextHasTree, OverlayTextHasTree};
 ghost use Rattle.dt_chain.specs.Steps.{
@@ -98,9 +101,10 @@ fn raw_blob(alloc: Global, source: &Source<'_>) -> Result<Vec<u8>, Fault>
     write_blob(alloc, &tree)
 }
 
-// The blob of an overlay's object.
-fn overlay_blob(alloc: Global, source: &Source<'_>) -> Result<Vec<u8>, Fault>
+/// The blob of an overlay's object.
+pub(crate) fn overlay_blob(alloc: Global, source: &Source<'_>) -> Result<Vec<u8>, Fault>
     ensures blob { IfOk result (λ blob. OfEachText source.now (λ text. IsCompiledOverlay text blob.items)) }
+    ensures object { IfOk result (λ blob. OfEachText source.now (λ text. (t : Reading) × HasObject text t × IsRead blob.items t)) }
     ensures refused { IfErr result (λ fault. OfEachText source.now (λ text. WhyNotCompiledOverlay text fault)) }
 {
     let tree = overlay_tree(alloc, source)?;
@@ -161,9 +165,10 @@ fn marked(alloc: Global, named: &NamedTree<'_>) -> Result<FlatTree, Fault>
     }
 }
 
-fn base_tree(alloc: Global, source: &Source<'_>) -> Result<FlatTree, Fault>
+/// The tree of a base.
+pub(crate) fn base_tree(alloc: Global, source: &Source<'_>) -> Result<FlatTree, Fault>
     ensures tree { IfOk result (λ t. OfEachText source.now (λ text. TextHasTree base text (reading t))) }
-    ensures refused { IfErr result (λ fault. OfEachText source.now (λ text. WhyNotCompiled base text fault)) }
+    ensures refused { IfErr result (λ fault. OfEachText source.now (λ text. WhyNoTree base text fault)) }
 {
     tree_is_meant();
     source_is_a_meaning();
@@ -173,7 +178,7 @@ fn base_tree(alloc: Global, source: &Source<'_>) -> Result<FlatTree, Fault>
 
 fn raw_tree(alloc: Global, source: &Source<'_>) -> Result<FlatTree, Fault>
     ensures tree { IfOk result (λ t. OfEachText source.now (λ text. TextHasTree raw text (reading t))) }
-    ensures refused { IfErr result (λ fault. OfEachText source.now (λ text. WhyNotCompiled raw text fault)) }
+    ensures refused { IfErr result (λ fault. OfEachText source.now (λ text. WhyNoTree raw text fault)) }
 {
     tree_is_meant();
     let named = named_tree(alloc, source, Mode::Raw)?;

@@ -13,12 +13,31 @@ ghost use Rattle.dt_chain.specs.Laws.{
   RawIsInstance,
   OverlayIsObject,
 };
-
-use dt_laws::{
-    compiled_base_represents, compiled_is_not_refused, compiled_tree_is_one,
-    compiled_tree_is_valid, object_encodes, object_is_one, object_is_valid, overlay_is_one,
-    overlay_refusal_is_one,
+ghost use Rattle.dt_chain.specs.Chains.{
+  OneRefusalToApply,
+  OneRefusalToBuild,
+  OneBlobApplied,
+  AppliedIsNotRefused,
+  OneBlobBuilt,
+  BuiltIsNotRefused,
+  ApplyingIsMerging,
+  RefusedIsNoMerge,
+  BuildingIsMerging,
+  NotBuiltIsNoMeaning,
 };
+
+use dt_landing::{
+    applied_is_not_refused, applied_is_one, limit_is_exceeded, one_refusal, refused_is_undefined,
+};
+use dt_laws::{
+    blob_has_no_fault, compiled_base_represents, compiled_is_not_refused, compiled_tree_is_one,
+    compiled_tree_is_valid, first_fault_is_one, in_turn_is_fold, object_encodes, object_is_one,
+    object_is_valid, overlay_is_one, overlay_refusal_is_one, overlay_source_is_an_overlay,
+    sites_are_one, source_is_a_meaning,
+};
+use dt_model::one_reading;
+use dt_parse::parsed_has_places;
+use dt_write::written_reads;
 
 /// A text means one thing: a base's one meaning, an overlay's one overlay.
 pub fn one_meaning()
@@ -54,10 +73,72 @@ pub fn what_compiling_means()
     ensures raw { RawIsInstance }
     ensures overlay { OverlayIsObject }
 {
-    dt_parse::parsed_has_places();
+    parsed_has_places();
     compiled_tree_is_valid();
     compiled_base_represents();
     object_is_valid();
     object_encodes();
-    dt_write::written_reads();
+    written_reads();
+}
+
+/// Applying objects to a base answers one blob, or refuses, and not both, unless memory is wanted; memory and limits aside it refuses one
+/// input for one fault; and so does building.
+pub fn one_blob()
+    ensures applied { OneBlobApplied }
+    ensures applied_only { AppliedIsNotRefused }
+    ensures built { OneBlobBuilt }
+    ensures built_only { BuiltIsNotRefused }
+    ensures refused { OneRefusalToApply }
+    ensures not_built { OneRefusalToBuild }
+{
+    one_reading();
+    blob_has_no_fault();
+    applied_is_one();
+    one_refusal();
+    applied_is_not_refused();
+    limit_is_exceeded();
+    dt_parse::one_outcome();
+    dt_source::one_outcome();
+    first_fault_is_one();
+    overlay_refusal_is_one();
+    compiled_tree_is_one();
+    compiled_is_not_refused();
+    object_is_one();
+}
+
+/// Whoever wrote the blobs: what applying objects of overlays to a base answers is read as a tree that represents the base's
+/// meaning with the overlays merged into it one after another, by numbers that extend the base's; and memory and limits aside, it
+/// is refused only where that merge isn't defined.
+pub fn what_applying_means()
+    ensures merged { ApplyingIsMerging }
+    ensures refused { RefusedIsNoMerge }
+{
+    one_reading();
+    blob_has_no_fault();
+    in_turn_is_fold();
+    sites_are_one();
+    refused_is_undefined();
+    written_reads();
+}
+
+/// What building answers is read as a tree that represents what the base's text followed by the overlays' texts means, each
+/// keyed node having one number of its own that stands in every reference to it; and memory and limits aside, it is refused
+/// only where one of the texts means nothing, or one of the merges isn't defined.
+pub fn what_building_means()
+    ensures merged { BuildingIsMerging }
+    ensures refused { NotBuiltIsNoMeaning }
+{
+    dt_parse::one_outcome();
+    parsed_has_places();
+    source_is_a_meaning();
+    compiled_base_represents();
+    compiled_is_not_refused();
+    overlay_source_is_an_overlay();
+    overlay_is_one();
+    overlay_refusal_is_one();
+    object_encodes();
+    in_turn_is_fold();
+    sites_are_one();
+    refused_is_undefined();
+    written_reads();
 }

@@ -1,10 +1,17 @@
 //! From the source of a devicetree to the blob that a kernel boots (Devicetree Specification v0.4, chapters 5 and 6).
 #![tactic(auto)]
 
+mod applying;
+mod building;
 mod compiling;
 mod input;
 mod laws;
 
+pub use applying::{apply_bytes, apply_list};
+pub use building::build;
 pub use compiling::{compile, compile_raw};
 pub use input::read_all;
-pub use laws::{one_meaning, one_outcome, what_compiling_means};
+pub use laws::{
+    one_blob, one_meaning, one_outcome, what_applying_means, what_building_means,
+    what_compiling_means,
+};

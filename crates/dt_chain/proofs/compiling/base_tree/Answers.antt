@@ -4,7 +4,7 @@ use Rattle.dt_names.specs.declared.fault.Fault.{Fault}
 use Rattle.dt_flat.specs.Arena.{reading}
 use Rattle.dt_model.specs.Named.{tree_of}
 use Rattle.dt_model.specs.Source.{base}
-use Rattle.dt_chain.specs.Compiled.{WhyNotCompiled}
+use Rattle.dt_chain.specs.Compiled.{WhyNoTree}
 use Rattle.dt_chain.specs.Steps.{OfEachText, IsNumbered, WhyNotLabelled}
 use Rattle.dt_chain.proofs.Stages.{HasTree, base_has_room, tree_of_text, not_named, not_labelled, if_ok, if_err}
 use Rattle.dt_chain.proofs.compiling.base_tree.Goals as goal
@@ -29,6 +29,6 @@ pub returns-clause-refused : goal.returns-clause-refused
 returns-clause-refused c =
     let s = c.args.source.now in
     let t = tree_of c.in_ok-named.named in
-    if_err (λ (fault : Fault). WhyNotLabelled fault.kind t × (fault.at ≡ None)) (λ fault. OfEachText s (λ text. WhyNotCompiled base text fault))
+    if_err (λ (fault : Fault). WhyNotLabelled fault.kind t × (fault.at ≡ None)) (λ fault. OfEachText s (λ text. WhyNoTree base text fault))
     (λ fault why. not_labelled c.tree_is_meant.ensures s t fault c.in_ok-named.ensures.named why)
     c.labelled.result c.labelled.ensures.refused

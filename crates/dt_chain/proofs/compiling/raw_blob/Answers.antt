@@ -1,14 +1,20 @@
 use Rattle.std.proofs.Common.{◌≡◌, ◌≤◌, None, length}
+use Rattle.std.proofs.lemmas.Result.{err_from_is_err_and}
 use Rattle.dt_names.specs.declared.fault.Fault.{Fault}
 use Rattle.dt_flat.specs.Arena.{reading}
 use Rattle.dt_model.specs.Limits.{most_bytes}
 use Rattle.dt_model.specs.Source.{raw}
 use Rattle.dt_write.specs.Written.{written}
 use Rattle.dt_write.specs.Refusals.{WhyNoBlob}
-use Rattle.dt_chain.specs.Compiled.{IsCompiled, WhyNotCompiled}
+use Rattle.dt_chain.specs.Compiled.{IsCompiled, WhyNotCompiled, no_tree}
 use Rattle.dt_chain.specs.Steps.{OfEachText}
 use Rattle.dt_chain.proofs.Stages.{not_written, is_written, if_err, if_ok_both}
 use Rattle.dt_chain.proofs.compiling.raw_blob.Goals as goal
+
+pub returns-in_err-tree-clause-refused : goal.returns-in_err-tree-clause-refused
+returns-in_err-tree-clause-refused c =
+    let e = err_from_is_err_and c.from_residual.result c.from_residual.ensures.1 in
+    rw (e.1, e.2) (λ text parsed. no_tree c.in_err-tree.field-0.0 (c.in_err-tree.ensures.refused text parsed))
 
 pub returns-clause-blob : goal.returns-clause-blob
 returns-clause-blob c =

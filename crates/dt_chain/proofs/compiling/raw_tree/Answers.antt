@@ -5,7 +5,7 @@ use Rattle.dt_names.specs.declared.fault.FaultKind.TheVariants.{NoMemory}
 use Rattle.dt_flat.specs.Arena.{reading}
 use Rattle.dt_model.specs.Named.{tree_of}
 use Rattle.dt_model.specs.Source.{raw}
-use Rattle.dt_chain.specs.Compiled.{WhyNotCompiled}
+use Rattle.dt_chain.specs.Compiled.{WhyNoTree}
 use Rattle.dt_chain.specs.Steps.{OfEachText, IsNumbered}
 use Rattle.dt_chain.proofs.Stages.{HasTree, tree_of_text, not_named, not_numbered, if_ok, if_err}
 use Rattle.dt_chain.proofs.compiling.raw_tree.Goals as goal
@@ -26,6 +26,6 @@ returns-clause-tree c =
 pub returns-clause-refused : goal.returns-clause-refused
 returns-clause-refused c =
     let s = c.args.source.now in
-    if_err (λ (fault : Fault). (fault.kind ≡ NoMemory) × (fault.at ≡ None)) (λ fault. OfEachText s (λ text. WhyNotCompiled raw text fault))
+    if_err (λ (fault : Fault). (fault.kind ≡ NoMemory) × (fault.at ≡ None)) (λ fault. OfEachText s (λ text. WhyNoTree raw text fault))
     (λ fault why. not_numbered raw s fault why)
     c.numbered.result c.numbered.ensures.refused

@@ -1,0 +1,62 @@
+-- An input's object, read from its bytes or compiled from its text.
+use Rattle.std.proofs.Common.{◌≡◌, ◌⊎◌, ℕ, ◌≤◌, inl, inr, List, None, length, sym, ap, subst, ◌∙◌, arith}
+use Rattle.dt_names.specs.declared.fault.Fault.{Fault}
+use Rattle.dt_names.specs.declared.fault.FaultKind.TheVariants.{NoMemory}
+use Rattle.dt_model.specs.Format.{Reads, IsWithin}
+use Rattle.dt_model.specs.Limits.{most_bytes}
+use Rattle.dt_model.specs.Tree.{Reading}
+use Rattle.dt_model.specs.Valid.{IsValid, IsWithinLimits}
+use Rattle.dt_laws.specs.Blobs.{BlobHasNoFault}
+use Rattle.dt_landing.specs.Refusals.{WhyNotApplied}
+use Rattle.dt_grammar.specs.Grammar.{Says}
+use Rattle.dt_write.specs.Written.{written}
+use Rattle.dt_chain.specs.Compiled.{told}
+use Rattle.dt_chain.specs.Inputs.{WhyNoStep, no_memory, no_base, no_object, not_applied}
+use Rattle.dt_chain.specs.Applied.{IsRead, IsNoBlob, WhyNoBlobApplied}
+use Rattle.dt_chain.specs.Built.{HasObject, WhyNoObject}
+use Rattle.dt_chain.specs.Steps.{OfEachText}
+use Rattle.dt_chain.proofs.Stages.{fault_is}
+use Rattle.dt_chain.proofs.OverlayStages.{HasTree}
+use Rattle.dt_chain.proofs.Turns.{Goes}
+
+-- want of memory is told without a place
+pub memory_told : (fault : Fault) → (fault.kind ≡ NoMemory) × (fault.at ≡ None) → fault ≡ told NoMemory
+memory_told fault why = sym (ap told (sym why.0) ∙ fault_is fault None why.1)
+
+-- a base that isn't read
+pub not_read : (base : List ℕ) (objects : List (List ℕ)) (fault : Fault) → (fault ≡ told NoMemory) ⊎ IsNoBlob base fault → WhyNoBlobApplied base objects 0 fault
+not_read base objects fault (inl e) = subst (WhyNoBlobApplied base objects 0) (sym e) (no_memory 0 (omega arith))
+not_read base objects fault (inr why) = no_base fault why
+
+-- an object that is read isn't applied for this reason
+pub read_not_applied : (t object : Reading) (input : List ℕ) (fault : Fault) → IsRead input object → (fault.at ≡ None) × WhyNotApplied fault.kind t object
+    → WhyNoStep IsRead IsNoBlob t input fault
+read_not_applied t object input fault read why =
+    subst (WhyNoStep IsRead IsNoBlob t input) (fault_is fault None why.0) (not_applied object fault.kind read why.1)
+
+-- ---- the object of a text
+
+-- the text has an object, and this is its blob
+abbrev pub HasObjectBlob : (text blob : List ℕ) → Type 0
+HasObjectBlob text blob = (t : Reading) × HasObject text t × IsRead blob t
+
+pub object_written : (s : Says) (t : Reading) (blob : List ℕ) → HasTree s t → IsValid t → IsWithinLimits t → blob ≡ written t → length blob ≤ most_bytes → Reads blob t → IsWithin blob t
+    → OfEachText s (λ text. HasObjectBlob text blob)
+object_written s t blob h valid within is size reads inside text parsed = (
+  t,
+  record { of_text = h text parsed; valid = valid; within = within; size = subst (λ (b : List ℕ). length b ≤ most_bytes) is size },
+  record { reads = reads; within = inside },
+)
+
+-- a blob has one reading
+abbrev pub OneReading : Type 0
+OneReading = (bytes : List ℕ) (t u : Reading) → Reads bytes t → Reads bytes u → t ≡ u
+
+-- what is read from the blob of a text's object is the object
+pub of_text : OneReading → (text blob : List ℕ) (now next : Reading) → HasObjectBlob text blob → Goes IsRead blob now next → Goes HasObject text now next
+of_text one text blob now next h s = (s.0, subst (HasObject text) (one blob h.0 s.0 h.2.reads s.1.reads) h.1, s.2)
+
+pub not_of_text : OneReading → BlobHasNoFault → (text blob : List ℕ) (now : Reading) (e : Fault) → HasObjectBlob text blob → WhyNoStep IsRead IsNoBlob now blob e → WhyNoStep HasObject WhyNoObject now text e
+not_of_text one none text blob now _ h no_memory = no_memory
+not_of_text one none text blob now _ h (no_object e why) = absurd (none blob h.0 why.fault e.at h.2.reads h.2.within why.first)
+not_of_text one none text blob now _ h (not_applied object kind read why) = not_applied object kind (subst (HasObject text) (one blob h.0 object h.2.reads read.reads) h.1) why
