@@ -1,30 +1,25 @@
--- What comes of all inputs, or why there is none.
-use Rattle.std.proofs.Common.{◌≡◌, ℕ, ◌≤◌, List, None, length, refl, sym, subst, arith}
+-- Why there is nothing that comes of all inputs.
+use Rattle.std.proofs.Common.{◌≡◌, ℕ, List, None, length, subst, arith}
 use Rattle.dt_names.specs.declared.fault.Fault.{Fault}
 use Rattle.dt_names.specs.declared.fault.FaultKind.{FaultKind}
 use Rattle.dt_names.specs.declared.fault.FaultKind.TheVariants.{NoMemory, Limit}
-use Rattle.dt_model.specs.Limits.{most_bytes}
 use Rattle.dt_model.specs.Tree.{Reading}
 use Rattle.dt_write.specs.Written.{written}
 use Rattle.dt_write.specs.Refusals.{WhyNoBlob}
 use Rattle.dt_chain.specs.Compiled.{told}
-use Rattle.dt_chain.specs.Inputs.{IsOutcome, IsBlobOfAll, WhyNoneOfAll, no_memory, big}
+use Rattle.dt_chain.specs.Inputs.{IsOutcome, WhyNoneOfAll, no_memory, big}
 use Rattle.dt_chain.proofs.Stages.{fault_is}
 
-module _ (has_base has_object : List ℕ → Reading → Type 0) where
-  pub is_written : (base : List ℕ) (inputs : List (List ℕ)) (t : Reading) (blob : List ℕ) → IsOutcome has_base has_object base inputs t → blob ≡ written t → length blob ≤ most_bytes
-      → IsBlobOfAll has_base has_object base inputs blob
-  is_written base inputs t blob o is size = record { result = t; outcome = o; is = is; size = size }
+module _ (has_base has_object : List ℕ → Reading → Type 0) (lacks_base lacks_object : List ℕ → Fault → Type 0) where
+  unwritten : (base : List ℕ) (inputs : List (List ℕ)) (t : Reading) (kind : FaultKind) → IsOutcome has_base has_object base inputs t → WhyNoBlob kind (length (written t))
+      → WhyNoneOfAll has_base has_object lacks_base lacks_object base inputs (length inputs) (told kind)
+  unwritten base inputs t NoMemory o why = no_memory (length inputs) (omega arith)
+  unwritten base inputs t Limit o why = big t o why
+  unwritten base inputs t _ o why = absurd why
 
-  module _ (lacks_base lacks_object : List ℕ → Fault → Type 0) where
-    unwritten : (base : List ℕ) (inputs : List (List ℕ)) (t : Reading) (kind : FaultKind) → IsOutcome has_base has_object base inputs t → WhyNoBlob kind (length (written t))
-        → WhyNoneOfAll has_base has_object lacks_base lacks_object base inputs (length inputs) (told kind)
-    unwritten base inputs t NoMemory o why = no_memory (length inputs) (omega arith)
-    unwritten base inputs t Limit o why = big t o why
-    unwritten base inputs t _ o why = absurd why
-
-    pub not_written : (base : List ℕ) (inputs : List (List ℕ)) (t : Reading) (k : ℕ) (fault : Fault) → IsOutcome has_base has_object base inputs t → length inputs ≡ k
-        → WhyNoBlob fault.kind (length (written t)) × (fault.at ≡ None) → WhyNoneOfAll has_base has_object lacks_base lacks_object base inputs k fault
-    not_written base inputs t k fault o last why =
-        subst (λ (n : ℕ). WhyNoneOfAll has_base has_object lacks_base lacks_object base inputs n fault) last
-        (subst (WhyNoneOfAll has_base has_object lacks_base lacks_object base inputs (length inputs)) (fault_is fault None why.1) (unwritten base inputs t fault.kind o why.0))
+  -- the blob of what comes of all isn't written
+  pub not_written : (base : List ℕ) (inputs : List (List ℕ)) (t : Reading) (k : ℕ) (fault : Fault) → IsOutcome has_base has_object base inputs t → length inputs ≡ k
+      → WhyNoBlob fault.kind (length (written t)) × (fault.at ≡ None) → WhyNoneOfAll has_base has_object lacks_base lacks_object base inputs k fault
+  not_written base inputs t k fault o last why =
+      subst (λ (n : ℕ). WhyNoneOfAll has_base has_object lacks_base lacks_object base inputs n fault) last
+      (subst (WhyNoneOfAll has_base has_object lacks_base lacks_object base inputs (length inputs)) (fault_is fault None why.1) (unwritten base inputs t fault.kind o why.0))

@@ -1,5 +1,5 @@
 -- Objects applied one after another, and the one at which that stops.
-use Rattle.std.proofs.Common.{◌≡◌, ℕ, suc, zero, ◌+◌, ◌<◌, ◌≤◌, List, [], ◌∷◌, ◌++◌, Bor, length, map, take, drop, get_or, refl, sym, ap, subst, ◌∙◌, arith}
+use Rattle.std.proofs.Common.{◌≡◌, ℕ, suc, zero, ◌+◌, ◌<◌, ◌≤◌, List, [], ◌∷◌, ◌++◌, Bor, length, map, take, drop, get_or, refl, sym, ap, subst, arith}
 use Rattle.dt_names.specs.declared.fault.Fault.{Fault}
 use Rattle.dt_model.specs.Tree.{Reading}
 use Rattle.dt_chain.specs.Inputs.{IsStep, AreSteps, WhyNoStep, IsStopped}
@@ -10,7 +10,7 @@ inputs_of xs = map (λ (x : Bor (List ℕ)). x.now) xs
 
 -- ---- the inputs up to one of them, and those behind it
 
-pub parted : (xs : List (Bor (List ℕ))) (k : ℕ) (x : Bor (List ℕ)) → k < length xs → inputs_of xs ≡ take k (inputs_of xs) ++ (get_or xs k x).now ∷ drop (suc k) (inputs_of xs)
+parted : (xs : List (Bor (List ℕ))) (k : ℕ) (x : Bor (List ℕ)) → k < length xs → inputs_of xs ≡ take k (inputs_of xs) ++ (get_or xs k x).now ∷ drop (suc k) (inputs_of xs)
 parted [] k x lt = absurd (omega arith)
 parted (y ∷ xs) zero x lt = refl
 parted (y ∷ xs) (suc k) x lt = ap (λ (l : List (List ℕ)). y.now ∷ l) (parted xs k x (omega arith))

@@ -1,6 +1,6 @@
 //! Objects applied to a blob.
 
-ghost use Rattle.std.specs.Prelude.{◌≡◌, ◌⊎◌, ◌∷◌, [], ℕ, map, OnOk, IfOk, IfErr};
+ghost use Rattle.std.specs.Prelude.{◌≡◌, ◌⊎◌, ◌∷◌, [], ℕ, List, map, OnOk, IfOk, IfErr};
 ghost use Rattle.dt_flat.specs.Arena.{reading};
 ghost use Rattle.dt_model.specs.Tree.{Reading};
 ghost use Rattle.dt_names.specs.declared.fault.FaultKind.TheVariants.{NoMemory};
@@ -46,10 +46,24 @@ pub fn apply_list(alloc: Global, base: &[u8], overlays: &[&[u8]]) -> Result<Vec<
         Ok(tree) => tree,
         Err(fault) => return Err((0, fault)),
     };
-    apply_all(alloc, &mut tree, overlays)?;
-    match write_blob(alloc, &tree) {
+    apply_and_write(alloc, &mut tree, overlays)
+}
+
+// The blob of a tree with the objects applied to it. It borrows the tree, since each exit where one is owned costs its proof.
+fn apply_and_write(
+    alloc: Global,
+    tree: &mut FlatTree,
+    objects: &[&[u8]],
+) -> Result<Vec<u8>, (usize, Fault)>
+    ensures blob { (base : List ℕ) → IsRead base (reading tree.old) →
+        IfOk result (λ blob. IsBlobApplied base (map (λ x. x.now) objects.now) blob.items) }
+    ensures refused { (base : List ℕ) → IsRead base (reading tree.old) →
+        IfErr result (λ e. WhyNoBlobApplied base (map (λ x. x.now) objects.now) e.0 e.1) }
+{
+    apply_all(alloc, tree, objects)?;
+    match write_blob(alloc, tree) {
         Ok(blob) => Ok(blob),
-        Err(fault) => Err((overlays.len(), fault)),
+        Err(fault) => Err((objects.len(), fault)),
     }
 }
 

@@ -1,6 +1,6 @@
 //! A blob built from sources.
 
-ghost use Rattle.std.specs.Prelude.{map, OnOk, IfOk, IfErr};
+ghost use Rattle.std.specs.Prelude.{ℕ, List, map, OnOk, IfOk, IfErr};
 ghost use Rattle.dt_flat.specs.Arena.{reading};
 ghost use Rattle.dt_model.specs.Source.{base};
 ghost use Rattle.dt_model.specs.Tree.{Reading};
@@ -36,10 +36,24 @@ pub fn build(alloc: Global, base: &[u8], overlays: &[&[u8]]) -> Result<Vec<u8>, 
         Ok(tree) => tree,
         Err(fault) => return Err((0, fault)),
     };
-    apply_texts(alloc, &mut tree, overlays)?;
-    match write_blob(alloc, &tree) {
+    apply_and_write(alloc, &mut tree, overlays)
+}
+
+// The blob of a tree with the overlays of the texts applied to it.
+fn apply_and_write(
+    alloc: Global,
+    tree: &mut FlatTree,
+    texts: &[&[u8]],
+) -> Result<Vec<u8>, (usize, Fault)>
+    ensures blob { (text : List ℕ) → HasBaseTree text (reading tree.old) →
+        IfOk result (λ blob. IsBlobBuilt text (map (λ x. x.now) texts.now) blob.items) }
+    ensures refused { (text : List ℕ) → HasBaseTree text (reading tree.old) →
+        IfErr result (λ e. WhyNoBlobBuilt text (map (λ x. x.now) texts.now) e.0 e.1) }
+{
+    apply_texts(alloc, tree, texts)?;
+    match write_blob(alloc, tree) {
         Ok(blob) => Ok(blob),
-        Err(fault) => Err((overlays.len(), fault)),
+        Err(fault) => Err((texts.len(), fault)),
     }
 }
 

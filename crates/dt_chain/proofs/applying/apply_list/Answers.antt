@@ -1,25 +1,12 @@
-use Rattle.std.proofs.Common.{length}
-use Rattle.std.proofs.lemmas.Result.{err_from_is_err_and}
-use Rattle.dt_flat.specs.Arena.{reading}
-use Rattle.dt_chain.specs.Applied.{IsRead, IsNoBlob}
-use Rattle.dt_chain.specs.Inputs.{IsOutcome, stopped}
-use Rattle.dt_chain.proofs.Inputs.{not_written}
 use Rattle.dt_chain.proofs.Objects.{not_read}
-use Rattle.dt_chain.proofs.Turns.{inputs_of, length_inputs}
+use Rattle.dt_chain.proofs.Turns.{inputs_of}
 use Rattle.dt_chain.proofs.applying.apply_list.Goals as goal
 
 pub returns-in-Err-clause-refused : goal.returns-in-Err-clause-refused
 returns-in-Err-clause-refused c = not_read c.args.base.now (inputs_of c.args.overlays.now) c.in-Err.fault c.in-Err.ensures.refused
 
-pub returns-in_err-apply_all-clause-refused : goal.returns-in_err-apply_all-clause-refused
-returns-in_err-apply_all-clause-refused c =
-    let e = err_from_is_err_and c.from_residual.result c.from_residual.ensures.1 in
-    rw (e.1, e.2) (stopped (reading c.in-Ok.tree) c.in_err-apply_all.field-0.0.0 c.in_err-apply_all.field-0.0.1 c.in-Ok.ensures.read c.in_err-apply_all.ensures.refused)
+pub returns-clause-blob : goal.returns-clause-blob
+returns-clause-blob c = c.apply_and_write.ensures.blob c.args.base.now c.in-Ok.ensures.read
 
 pub returns-clause-refused : goal.returns-clause-refused
-returns-clause-refused c =
-    let xs = c.args.overlays.now in
-    let whole : IsOutcome IsRead IsRead c.args.base.now (inputs_of xs) (reading c.apply_all.new.tree) =
-    record { tree = reading c.in-Ok.tree; of_base = c.in-Ok.ensures.read; steps = c.in_ok-apply_all.ensures.applied } in
-    not_written IsRead IsRead IsNoBlob IsNoBlob c.args.base.now (inputs_of xs) (reading c.apply_all.new.tree) (length xs) c.in-Err-write_blob.fault whole (length_inputs xs)
-    c.in-Err-write_blob.ensures.refused
+returns-clause-refused c = c.apply_and_write.ensures.refused c.args.base.now c.in-Ok.ensures.read
