@@ -17,6 +17,8 @@ pub enum Answer {
 pub enum Stop {
     /// The call was refused.
     Refused(Fault),
+    /// The call was refused for an input, counted from 0.
+    RefusedInput(usize, Fault),
     /// The table says nothing that can be tried: no such call, or none of its words.
     Malformed,
 }
@@ -24,6 +26,12 @@ pub enum Stop {
 impl From<Fault> for Stop {
     fn from(fault: Fault) -> Stop {
         Stop::Refused(fault)
+    }
+}
+
+impl From<(usize, Fault)> for Stop {
+    fn from((input, fault): (usize, Fault)) -> Stop {
+        Stop::RefusedInput(input, fault)
     }
 }
 

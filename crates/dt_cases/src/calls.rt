@@ -1,11 +1,12 @@
 //! The calls that a case can name.
 
 use crate::answer::{Answer, Stop};
-use crate::{blobs, damage, expressions, grammar, names, numbers, tokens, trees};
+use crate::{blobs, chains, damage, expressions, grammar, names, numbers, tokens, trees};
 use std::alloc::Global;
 
-/// What a call answers to some bytes: its name and, behind a blank each, its words.
-pub fn call(alloc: Global, call: &str, input: &[u8]) -> Result<Answer, Stop> {
+/// What a call answers to some bytes, and to the other inputs of the case where it takes more than one: its name and, behind a
+/// blank each, its words.
+pub fn call(alloc: Global, call: &str, input: &[u8], others: &[&[u8]]) -> Result<Answer, Stop> {
     let (name, words) = call.split_once(' ').unwrap_or((call, ""));
     match name {
         "node-name" | "property-name" | "label" | "node-path" | "path" | "path-text" | "push" => {
@@ -20,6 +21,7 @@ pub fn call(alloc: Global, call: &str, input: &[u8]) -> Result<Answer, Stop> {
         "parse" | "item-count" => grammar::call(alloc, name, input),
         "tree" | "tree-blob" => trees::call(alloc, name, words, input),
         "damage" => damage::call(alloc, input),
+        "apply" | "build" => chains::call(alloc, name, input, others),
         _ => blobs::call(alloc, name, words, input),
     }
 }

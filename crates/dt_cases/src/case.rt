@@ -2,9 +2,9 @@
 
 ghost use Rattle.std.specs.Prelude.{◌≡◌, ◌↔◌, IsTrue};
 
-use crate::answer::{Answer, Stop, push_fault, push_hex};
+use crate::answer::{Answer, Stop, push_fault, push_hex, push_line};
 use crate::calls::call;
-use crate::input::input_of;
+use crate::input::{Other, input_of, others_of};
 use std::alloc::{AllocError, Global};
 
 /// A case's lines, and the lines of the table in which it stands.
@@ -31,16 +31,28 @@ pub fn wanted_of(alloc: Global, lines: &[&str]) -> Result<String, AllocError> {
     Ok(wanted)
 }
 
-/// What comes out of one call after another.
-fn called(alloc: Global, calls: &str, input: Vec<u8>) -> Result<String, Stop> {
+/// What comes out of one call after another, on the first input with the others.
+fn called(alloc: Global, calls: &str, input: Vec<u8>, others: &[&[u8]]) -> Result<Answer, Stop> {
     let mut bytes = input;
-    for name in calls.split(", ") {
-        match call(alloc, name, &bytes)? {
+    for name in calls.split(", ").filter(|name| !name.is_empty()) {
+        match call(alloc, name, &bytes, others)? {
             Answer::Bytes(next) => bytes = next,
-            Answer::Told(lines) => return Ok(lines),
+            told => return Ok(told),
         }
     }
-    Ok(hexadecimal(alloc, &bytes)?)
+    Ok(Answer::Bytes(bytes))
+}
+
+/// The other inputs, behind the calls that each goes through first.
+fn made(alloc: Global, others: Vec<Other<'_>>) -> Result<Vec<Vec<u8>>, Stop> {
+    let mut made = Vec::new(alloc);
+    for other in others {
+        match called(alloc, other.calls, other.bytes, &[])? {
+            Answer::Bytes(bytes) => made.push(bytes)?,
+            Answer::Told(_) => return Err(Stop::Malformed),
+        }
+    }
+    Ok(made)
 }
 
 fn hexadecimal(alloc: Global, bytes: &[u8]) -> Result<String, AllocError> {
@@ -53,8 +65,13 @@ fn hexadecimal(alloc: Global, bytes: &[u8]) -> Result<String, AllocError> {
 /// What comes out of a case, or why nothing does.
 fn tried(alloc: Global, case: Case<'_>) -> Result<String, Stop> {
     let calls = head_of(case.lines).ok_or(Stop::Malformed)?;
+    let others = made(alloc, others_of(alloc, case.lines, case.table)?)?;
+    let others: Vec<&[u8]> = others.iter().map(|other| other.as_slice()).collect(alloc)?;
     let input = input_of(alloc, case.lines, case.table)?;
-    called(alloc, calls, input)
+    match called(alloc, calls, input, &others)? {
+        Answer::Bytes(bytes) => Ok(hexadecimal(alloc, &bytes)?),
+        Answer::Told(lines) => Ok(lines),
+    }
 }
 
 /// What comes out of a case, as lines.
@@ -69,6 +86,10 @@ fn line_of(alloc: Global, stop: Stop) -> Result<String, AllocError> {
     let mut line = String::new(alloc);
     match stop {
         Stop::Refused(fault) => push_fault(&mut line, alloc, fault)?,
+        Stop::RefusedInput(input, fault) => {
+            push_line(&mut line, format!(in alloc; "input {input}: "))?;
+            push_fault(&mut line, alloc, fault)?;
+        }
         Stop::Malformed => line.push_str("malformed")?,
     }
     line.push('\n')?;

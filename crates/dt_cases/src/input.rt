@@ -6,20 +6,65 @@ use hex::decode;
 use itoa::Buffer;
 use std::alloc::{AllocError, Global};
 
-/// The bytes that the lines of a case spell, one line's behind the other's.
+/// What goes into a case behind its first input.
+#[derive(Drop)]
+pub struct Other<'a> {
+    /// The calls that it goes through first.
+    pub calls: &'a str,
+    pub bytes: Vec<u8>,
+}
+
+/// The bytes that the lines of a case spell, one line's behind the other's, up to the first line that begins another input.
 pub fn input_of(alloc: Global, lines: &[&str], table: &[&str]) -> Result<Vec<u8>, Stop> {
     let mut input = Vec::new(alloc);
     for line in lines
         .iter()
         .skip_while(|line| line.starts_with('#'))
         .skip(1)
+        .take_while(|line| !line.starts_with("--"))
     {
-        match line.strip_prefix("@ ") {
-            Some(name) => push_sample(&mut input, alloc, table, name)?,
-            None => push_piece(&mut input, alloc, line)?,
-        }
+        push_line(&mut input, alloc, line, table)?;
     }
     Ok(input)
+}
+
+/// The other inputs, each behind a line `--` with the calls that it goes through first.
+pub fn others_of<'a>(
+    alloc: Global,
+    lines: &[&'a str],
+    table: &[&str],
+) -> Result<Vec<Other<'a>>, Stop> {
+    let mut others = Vec::new(alloc);
+    for line in lines.iter().skip_while(|line| !line.starts_with("--")) {
+        match line.strip_prefix("--") {
+            Some(calls) => others.push(Other {
+                calls: calls.trim_start(),
+                bytes: Vec::new(alloc),
+            })?,
+            None => push_to_last(&mut others, alloc, line, table)?,
+        }
+    }
+    Ok(others)
+}
+
+fn push_to_last(
+    others: &mut [Other<'_>],
+    alloc: Global,
+    line: &str,
+    table: &[&str],
+) -> Result<(), Stop> {
+    match others.last_mut() {
+        Some(other) => push_line(&mut other.bytes, alloc, line, table),
+        None => Err(Stop::Malformed),
+    }
+}
+
+/// Appends the bytes that a line spells, or those of the sample that it names.
+fn push_line(input: &mut Vec<u8>, alloc: Global, line: &str, table: &[&str]) -> Result<(), Stop> {
+    match line.strip_prefix("@ ") {
+        Some(name) => push_sample(input, alloc, table, name),
+        None => push_piece(input, alloc, line),
+    }
 }
 
 /// Appends the bytes of the table's sample of a name.

@@ -9,6 +9,7 @@ mod answer;
 mod blobs;
 mod calls;
 mod case;
+mod chains;
 mod damage;
 mod expressions;
 mod grammar;
