@@ -1,4 +1,5 @@
-pub mod JobLemmas
+pub mod InputFaults
+pub mod Loading
 pub mod Pieces
 pub mod Refusals
 pub mod WordLemmas

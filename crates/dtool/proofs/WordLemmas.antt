@@ -1,11 +1,14 @@
 -- What clap's matches say of the tool's words.
-use Rattle.std.proofs.Common.{◌≡◌, List, [], Option, Some, None, true, refl, sym, ap, subst, ◌∙◌, inl, inr, option_map, codes}
-use Rattle.clap.specs.Words.{App, HasKind, HasMatchesOf, IsAmong, Row, Text, fault_of, first_of, is_simple, is_simple_and_free, kind_of, subcommand_of, subcommand_rows_of}
+use Rattle.std.proofs.Common.{◌≡◌, List, [], Bool, Option, Some, None, true, false, if◌then◌else◌, refl, sym, ap, subst, ◌∙◌, inl, inr, option_map, unwrap_or, map, codes, Bor, Vec, Result, Ok, Err, IfOk, MatchOption, ◌∷◌}
+use Rattle.clap.specs.Words.{App, HasKind, HasMatchesOf, IsAmong, Row, Text, all_of, fault_of, first_of, first_value, is_simple, is_simple_and_free, kind_of, matched_of, one_text, raw_values, rows_of, subcommand_of, subcommand_rows_of}
 use Rattle.clap.specs.declared.error.Error.{Error}
 use Rattle.clap.specs.declared.parser.matches.ArgMatches.{ArgMatches}
+use Rattle.clap.specs.declared.parser.matches.Found.{Found}
 use Rattle.clap.proofs.OnLiterals.{clap_on_literals}
-use Rattle.dtool.specs.Words.{Names, NamesNone, IsLine, Tells, WhyNoLine, dtool}
-use Rattle.dtool.specs.declared.words.Line.{Line}
+use Rattle.clap.proofs.WalkLemmas.{first_value-rows, one_text-rows, raw_values-rows}
+use Rattle.dtool.specs.Words.{AreFiles, IsFlag, Names, NamesNone, IsLine, Tells, WhyNoLine, dtool, first_word, other_files, takes_overlays}
+use Rattle.dtool.specs.declared.job.Job.{Job}
+use Rattle.dtool.specs.declared.line.Line.{Line}
 use Rattle.dtool.specs.declared.words.LineFault.{LineFault}
 use Rattle.dtool.specs.declared.words.LineFault.TheVariants.{Memory, Unread, Words}
 
@@ -42,23 +45,45 @@ module _ (app : App) (same : app ≡ dtool) (words : List Text) where
       at (inl memory) = absurd (tells.1 memory)
       at (inr among) = inl (subst (λ (e : Error). IsAmong (kind_of e) (fault_of dtool words)) (sym tells.0) among)
 
--- an entry that has this name and these rows
-module _ {X : Type 0} (f : X → Text) (g : X → List Row) where
-  abbrev pub entry : Option X → Option (Text × List Row)
-  entry = option_map (λ x. (f x, g x))
+-- ---- what is found
 
-  pub entry_is : (o : Option X) (name : Text) (rows : List Row) → Some name ≡ option_map f o → Some rows ≡ option_map (λ (p : Text × List Row). p.1) (entry o) → entry o ≡ Some (name, rows)
-  entry_is None name rows e h = cc
-  entry_is (Some x) name rows e h = cc
+pub is_flag : (f : Found) (flag : Text) (is : Bool) → (one_text f flag ≡ Some (codes "true") → is ≡ true) → (one_text f flag ≡ Some (codes "false") → is ≡ false) → IsFlag flag (rows_of f) is
+is_flag f flag is there not_there = record {
+  there = λ e. there (one_text-rows f flag ∙ e);
+  not_there = λ e. not_there (one_text-rows f flag ∙ e);
+}
 
-rows_in : List Row → Option (Text × List Row) → List Row
-rows_in other None = other
-rows_in other (Some p) = p.1
+-- ---- files
 
--- no file among the rows
-pub no_file : (found : Option (Text × List Row)) (name : Text) (rows : List Row) → found ≡ Some (name, rows) → first_of (codes "FILE") rows ≡ None → NamesNone found
-unfolding rows_in
-no_file found name rows e none job others file f given =
-    let same : rows ≡ others = ap (rows_in rows) (sym e ∙ f) in
-    let both : ◌≡◌ {A = Option Text} None (Some file) = sym none ∙ ap (first_of (codes "FILE")) same ∙ given in
-    cc
+pub first_by : (job : Job) (takes : Bool) → takes_overlays job ≡ takes → first_word job ≡ (if takes then codes "BASE" else codes "FILE")
+first_by job takes is = ap (λ (b : Bool). if b then codes "BASE" else codes "FILE") is
+
+pub others_by : (job : Job) (rows : List Row) (takes : Bool) → takes_overlays job ≡ takes → other_files job rows ≡ (if takes then unwrap_or (all_of (codes "OVERLAY") rows) [] else [])
+others_by job rows takes is = ap (λ (b : Bool). if b then unwrap_or (all_of (codes "OVERLAY") rows) [] else []) is
+
+module _ (job : Job) (f : Found) (word : Text) (same : first_word job ≡ word) (first : Option (Bor Text)) (is : option_map (λ (file : Bor Text). file.now) first ≡ first_value f word) where
+  is_first : option_map (λ (file : Bor Text). file.now) first ≡ first_of (first_word job) (rows_of f)
+  is_first = is ∙ first_value-rows f word ∙ ap (λ (w : Text). first_of w (rows_of f)) (sym same)
+
+  pub are_files : {Z E : Type 0} (r : Result (Option (Vec (Bor Text) Z)) E) (others : List (Bor Text)) → map (λ file. file.now) others ≡ other_files job (rows_of f) →
+      IfOk r (λ files. MatchOption files (option_map (λ file. file.now) first ≡ None) (λ files. (file : Text) × (option_map (λ file. file.now) first ≡ Some file)
+      × (map (λ file. file.now) files.items ≡ file ∷ map (λ file. file.now) others))) →
+      IfOk r (λ files. MatchOption files (first_of (first_word job) (rows_of f) ≡ None) (λ files. AreFiles job (rows_of f) (map (λ file. file.now) files.items)))
+  are_files (Err e) others more h = tt
+  are_files (Ok None) others more h = sym is_first ∙ h
+  are_files (Ok (Some files)) others more (file, given, are) = record {
+    first = file;
+    is_first = sym is_first ∙ given;
+    are = are ∙ ap (λ (rest : List Text). file ∷ rest) more;
+  }
+
+-- the values of `OVERLAY`, or none
+unwrapped : (o : Option (Bor (List (Bor Text)))) (d : Bor (List (Bor Text))) → d.now ≡ [] →
+    map (λ x. x.now) (unwrap_or o d).now ≡ unwrap_or (option_map (λ s. map (λ x. x.now) s.now) o) []
+unwrapped None d none = ap (map (λ x. x.now)) none
+unwrapped (Some values) d none = refl
+
+pub all_overlays : (f : Found) (o : Option (Bor (List (Bor Text)))) (d : Bor (List (Bor Text))) → d.now ≡ [] →
+    option_map (λ s. map (λ x. x.now) s.now) o ≡ option_map raw_values (matched_of f (codes "OVERLAY")) →
+    map (λ x. x.now) (unwrap_or o d).now ≡ unwrap_or (all_of (codes "OVERLAY") (rows_of f)) []
+all_overlays f o d none is = unwrapped o d none ∙ ap (λ (values : Option (List Text)). unwrap_or values []) (is ∙ raw_values-rows f (codes "OVERLAY"))

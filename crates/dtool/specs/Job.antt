@@ -1,5 +1,5 @@
 -- What a job writes of its inputs, and why it doesn't.
-use Rattle.std.specs.Prelude.{◌≡◌, ◌++◌, ◌∷◌, [], ℕ, List, Bool, Option, None, length, codes, decimal, if◌then◌else◌}
+use Rattle.std.specs.Prelude.{◌≡◌, ◌≤◌, ◌<◌, ◌++◌, ◌∷◌, [], ℕ, List, Bool, Option, None, length, codes, decimal, if◌then◌else◌}
 use Rattle.std.specs.List.{sum_by}
 use Rattle.hex.specs.Hex.{encode_lower}
 use Rattle.dt_model.specs.Source.{raw}
@@ -9,16 +9,20 @@ use Rattle.dt_model.specs.Checks.{BlobFault, IsFirstFault}
 use Rattle.dt_names.specs.declared.fault.FaultKind.{FaultKind}
 use Rattle.dt_names.specs.declared.fault.FaultKind.TheVariants.{NoMemory, WriteFault}
 use Rattle.dt_read.specs.Kinds.{kind_of}
+use Rattle.dt_chain.specs.Applied.{IsBlobApplied, WhyNoBlobApplied}
 use Rattle.dt_chain.specs.Blobs as blobs
+use Rattle.dt_chain.specs.Built.{IsBlobBuilt, WhyNoBlobBuilt}
 use Rattle.dt_chain.specs.Compiled.{IsCompiled, WhyNotCompiled, IsCompilerFault}
 use Rattle.dtool.specs.Written.{IsUntouched, IsCutShort}
 use Rattle.dtool.specs.declared.job.Job.{Job}
-use Rattle.dtool.specs.declared.job.Job.TheVariants.{Compile, CompileRaw, Check}
+use Rattle.dtool.specs.declared.job.Job.TheVariants.{Compile, CompileRaw, Apply, Build, Check}
 
 -- a job takes so many inputs
 abbrev pub IsAsked : Job → ℕ → Type 0
 IsAsked Compile count = count ≡ 1
 IsAsked CompileRaw count = count ≡ 1
+IsAsked Apply count = 1 ≤ count
+IsAsked Build count = 1 ≤ count
 IsAsked Check count = count ≡ 1
 
 -- how a blob is written: as it is, or as hexadecimal and a line feed
@@ -38,12 +42,17 @@ pub record IsCounted (blob bytes : List ℕ) : Type 0 where
   pub within : IsWithin blob tree
   pub line : bytes ≡ counts_line tree
 
--- What the job writes of the inputs: the blob of a base or of an overlay; that of a source as it stands; or a line.
+-- What the job writes of the inputs: the blob of a base or of an overlay; that of a source as it stands; that of a base with
+-- objects applied, or with the overlays of sources; or a line.
 abbrev pub IsWritten : Job → Bool → List (List ℕ) → List ℕ → Type 0
 IsWritten Compile hex (text ∷ []) bytes = (blob : List ℕ) × blobs.IsBlobOf text blob × (bytes ≡ printed hex blob)
 IsWritten Compile hex _ bytes = ⊥
 IsWritten CompileRaw hex (text ∷ []) bytes = (blob : List ℕ) × IsCompiled raw text blob × (bytes ≡ printed hex blob)
 IsWritten CompileRaw hex _ bytes = ⊥
+IsWritten Apply hex (base ∷ objects) bytes = (blob : List ℕ) × IsBlobApplied base objects blob × (bytes ≡ printed hex blob)
+IsWritten Apply hex _ bytes = ⊥
+IsWritten Build hex (text ∷ overlays) bytes = (blob : List ℕ) × IsBlobBuilt text overlays blob × (bytes ≡ printed hex blob)
+IsWritten Build hex _ bytes = ⊥
 IsWritten Check hex (blob ∷ []) bytes = IsCounted blob bytes
 IsWritten Check hex _ bytes = ⊥
 
@@ -51,27 +60,34 @@ IsWritten Check hex _ bytes = ⊥
 abbrev pub WhyNoBlob : FaultKind → Option ℕ → List ℕ → Type 0
 WhyNoBlob kind at bytes = (f : BlobFault) × (kind ≡ kind_of f) × IsFirstFault bytes f at
 
--- why the inputs are refused
-abbrev pub WhyNotMade : FaultKind → Option ℕ → Job → List (List ℕ) → Type 0
-WhyNotMade kind at Compile (text ∷ []) = blobs.WhyNoBlob text (record { kind = kind; at = at }) × IsCompilerFault kind
-WhyNotMade kind at Compile _ = ⊥
-WhyNotMade kind at CompileRaw (text ∷ []) = WhyNotCompiled raw text (record { kind = kind; at = at }) × IsCompilerFault kind
-WhyNotMade kind at CompileRaw _ = ⊥
-WhyNotMade kind at Check (blob ∷ []) = WhyNoBlob kind at blob
-WhyNotMade kind at Check _ = ⊥
+-- why an input, counted from 0, is refused
+abbrev pub WhyNotMade : ℕ → FaultKind → Option ℕ → Job → List (List ℕ) → Type 0
+WhyNotMade k kind at Compile (text ∷ []) = (k ≡ 0) × blobs.WhyNoBlob text (record { kind = kind; at = at }) × IsCompilerFault kind
+WhyNotMade k kind at Compile _ = ⊥
+WhyNotMade k kind at CompileRaw (text ∷ []) = (k ≡ 0) × WhyNotCompiled raw text (record { kind = kind; at = at }) × IsCompilerFault kind
+WhyNotMade k kind at CompileRaw _ = ⊥
+WhyNotMade k kind at Apply (base ∷ objects) = WhyNoBlobApplied base objects k (record { kind = kind; at = at })
+WhyNotMade k kind at Apply _ = ⊥
+WhyNotMade k kind at Build (text ∷ overlays) = WhyNoBlobBuilt text overlays k (record { kind = kind; at = at })
+WhyNotMade k kind at Build _ = ⊥
+WhyNotMade k kind at Check (blob ∷ []) = (k ≡ 0) × WhyNoBlob kind at blob
+WhyNotMade k kind at Check _ = ⊥
 
 -- the job takes memory
 abbrev pub TakesMemory : Job → Type 0
 TakesMemory Compile = Unit {0}
 TakesMemory CompileRaw = Unit {0}
+TakesMemory Apply = Unit {0}
+TakesMemory Build = Unit {0}
 TakesMemory Check = ⊥
 
--- Why a job's output wasn't written: memory was refused, to a job that takes some, and nothing was written; or the sink failed,
--- and took a front of it; or the inputs are refused, and nothing was written. Only the last of these may have a place.
-abbrev pub WhyNotPerformed : FaultKind → Option ℕ → Job → Bool → List (List ℕ) → (old new : Option (List ℕ)) (had_failed has_failed : Bool) → Type 0
-WhyNotPerformed NoMemory at job hex inputs old new had_failed has_failed =
-    TakesMemory job × (at ≡ None) × IsUntouched old new had_failed has_failed
-WhyNotPerformed WriteFault at job hex inputs old new had_failed has_failed =
-    (at ≡ None) × (bytes : List ℕ) × IsWritten job hex inputs bytes × IsCutShort bytes old new has_failed
-WhyNotPerformed kind at job hex inputs old new had_failed has_failed =
-    WhyNotMade kind at job inputs × IsUntouched old new had_failed has_failed
+-- Why a job's output wasn't written, and of which input: memory was refused at one, to a job that takes some, or while hexadecimal is
+-- made, which is of input 0, and nothing was written; or the sink failed, and took a front of it, which is of input 0; or an input is
+-- refused, and nothing was written. Only the last of these may have a place.
+abbrev pub WhyNotPerformed : ℕ → FaultKind → Option ℕ → Job → Bool → List (List ℕ) → (old new : Option (List ℕ)) (had_failed has_failed : Bool) → Type 0
+WhyNotPerformed k NoMemory at job hex inputs old new had_failed has_failed =
+    TakesMemory job × (k < length inputs) × (at ≡ None) × IsUntouched old new had_failed has_failed
+WhyNotPerformed k WriteFault at job hex inputs old new had_failed has_failed =
+    (k ≡ 0) × (at ≡ None) × (bytes : List ℕ) × IsWritten job hex inputs bytes × IsCutShort bytes old new has_failed
+WhyNotPerformed k kind at job hex inputs old new had_failed has_failed =
+    WhyNotMade k kind at job inputs × IsUntouched old new had_failed has_failed

@@ -1,8 +1,9 @@
 pub mod Written
 pub mod Files
 pub mod Job
+pub mod Asked
 pub mod Checking
-pub mod Compiling
+pub mod Showing
 pub mod Refused
 pub mod Report
 pub mod Words

@@ -24,7 +24,7 @@ pub fn check<S: Sink>(bytes: &[u8], out: &mut S) -> Result<(), Fault>
     ensures written { OnOk result ((line : List ℕ) × IsWritten Check false (bytes.now ∷ []) line
         × Appends (S.contents out.old) (S.contents out.new) line) }
     ensures sound { OnOk result (S.has_failed out.new ≡ S.has_failed out.old) }
-    ensures refused { IfErr result (λ fault. WhyNotPerformed fault.kind fault.at Check false (bytes.now ∷ [])
+    ensures refused { IfErr result (λ fault. WhyNotPerformed 0 fault.kind fault.at Check false (bytes.now ∷ [])
         (S.contents out.old) (S.contents out.new) (S.has_failed out.old) (S.has_failed out.new)) }
 {
     let blob = Blob::check(bytes)?;

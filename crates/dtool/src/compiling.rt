@@ -1,12 +1,12 @@
-//! A blob of a source, as bytes or as hexadecimal.
+//! A blob of a source.
 
 ghost use Rattle.std.specs.Prelude.{◌≡◌, ◌∷◌, [], List, ℕ, OnOk, IfErr};
 ghost use Rattle.std.specs.Io.KnownBytes.{Appends};
-ghost use Rattle.dtool.specs.Compiling.{WhyNotShown};
-ghost use Rattle.dtool.specs.Job.{IsWritten, WhyNotPerformed, printed};
+ghost use Rattle.dtool.specs.Job.{IsWritten, WhyNotPerformed};
 ghost use Rattle.dtool.specs.declared.job.Job.TheVariants.{Compile, CompileRaw};
 
-use dt_names::{Fault, Sink, put_all};
+use crate::showing::show;
+use dt_names::{Fault, Sink};
 use std::alloc::Global;
 
 /// Compiles a source, a base's or an overlay's, and writes its blob as bytes, or with `hex` as lower-case hexadecimal and a
@@ -20,7 +20,7 @@ pub fn compile<S: Sink>(alloc: Global, hex: bool, text: &[u8], out: &mut S) -> R
     ensures written { OnOk result ((bytes : List ℕ) × IsWritten Compile hex (text.now ∷ []) bytes
         × Appends (S.contents out.old) (S.contents out.new) bytes) }
     ensures sound { OnOk result (S.has_failed out.new ≡ S.has_failed out.old) }
-    ensures refused { IfErr result (λ fault. WhyNotPerformed fault.kind fault.at Compile hex (text.now ∷ [])
+    ensures refused { IfErr result (λ fault. WhyNotPerformed 0 fault.kind fault.at Compile hex (text.now ∷ [])
         (S.contents out.old) (S.contents out.new) (S.has_failed out.old) (S.has_failed out.new)) }
 {
     let blob = dt_chain::compile(alloc, text)?;
@@ -36,24 +36,9 @@ pub fn compile_raw<S: Sink>(alloc: Global, hex: bool, text: &[u8], out: &mut S) 
     ensures written { OnOk result ((bytes : List ℕ) × IsWritten CompileRaw hex (text.now ∷ []) bytes
         × Appends (S.contents out.old) (S.contents out.new) bytes) }
     ensures sound { OnOk result (S.has_failed out.new ≡ S.has_failed out.old) }
-    ensures refused { IfErr result (λ fault. WhyNotPerformed fault.kind fault.at CompileRaw hex (text.now ∷ [])
+    ensures refused { IfErr result (λ fault. WhyNotPerformed 0 fault.kind fault.at CompileRaw hex (text.now ∷ [])
         (S.contents out.old) (S.contents out.new) (S.has_failed out.old) (S.has_failed out.new)) }
 {
     let blob = dt_chain::compile_raw(alloc, text)?;
     show(alloc, hex, blob.as_slice(), out)
-}
-
-/// Writes a blob as bytes, or as hexadecimal and a line feed.
-fn show<S: Sink>(alloc: Global, hex: bool, blob: &[u8], out: &mut S) -> Result<(), Fault>
-    ensures written { OnOk result (Appends (S.contents out.old) (S.contents out.new) (printed hex blob.now)) }
-    ensures sound { OnOk result (S.has_failed out.new ≡ S.has_failed out.old) }
-    ensures refused { IfErr result (λ fault. WhyNotShown fault.kind fault.at (printed hex blob.now)
-        (S.contents out.old) (S.contents out.new) (S.has_failed out.old) (S.has_failed out.new)) }
-{
-    if !hex {
-        return put_all(out, blob);
-    }
-    let mut text = hex::encode(alloc, blob)?;
-    text.push('\n')?;
-    put_all(out, text.as_bytes())
 }

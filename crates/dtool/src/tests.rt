@@ -1,10 +1,13 @@
 //! What takes a sink, a feed or the words of a command line: cases that a table can't hold. Each test is one question to a
 //! function that borrows what is large, since a test that fails lets go of all that it holds.
 
-use crate::files::load;
+ghost use Rattle.std.specs.Prelude.{length};
+ghost use Rattle.dtool.specs.Job.{IsAsked};
+
+use crate::files::{load, load_all};
 use crate::job::{Job, perform};
 use crate::report::report;
-use crate::words::{Line, LineFault, parse};
+use crate::words::{LineFault, parse};
 use dt_chain::read_all;
 use dt_names::{Fault, FaultKind, Feed, In, Out, Path, Sink, put_all};
 use hex::decode;
@@ -86,11 +89,12 @@ fn are_jobs_cut(alloc: Global, blob: &[u8]) -> bool {
     is_cut_anywhere(alloc, Job::Compile, false, SOURCE, blob)
         && is_cut_anywhere(
             alloc,
-            Job::Compile,
+            Job::Build,
             true,
             SOURCE,
             b"d00dfeed0000004800000038000000480000002800000011000000100000000000000000000000100000000000000000000000000000000000000001000000000000000200000009\n",
         )
+        && is_cut_anywhere(alloc, Job::Apply, false, blob, blob)
         && is_cut_anywhere(alloc, Job::Check, true, blob, COUNTS)
 }
 
@@ -101,25 +105,30 @@ fn jobs_into_a_sink_that_fails(rt: HostRuntime) -> Result<(), Fail> {
     Ok(())
 }
 
-// Whether a job refuses its input with this fault, and writes nothing.
-fn is_refused(alloc: Global, job: Job, input: &[u8], fault: Fault) -> bool {
+// Whether a job refuses its inputs with this fault of this one, and writes nothing.
+fn is_refused(alloc: Global, job: Job, inputs: &[&[u8]], input: usize, fault: Fault) -> bool
+    requires { IsAsked job (length inputs.now) }
+{
     let mut out = Out::new(make_narrow(alloc, 1, 100));
-    let refused = perform(alloc, job, true, &[input], &mut out).err();
-    refused == Some((0, fault)) && out.into_inner().held.is_empty()
+    let refused = perform(alloc, job, true, inputs, &mut out).err();
+    refused == Some((input, fault)) && out.into_inner().held.is_empty()
 }
 
 fn are_refused(alloc: Global, blob: &mut [u8]) -> bool {
     if let Some(last) = blob.last_mut() {
         *last = 5;
     }
-    is_refused(alloc, Job::Check, &[], Fault::of(FaultKind::ShortHeader))
-        && is_refused(alloc, Job::Check, blob, Fault::at(FaultKind::BadTag, 68))
-        && is_refused(
-            alloc,
-            Job::Compile,
-            b"/ { };",
-            Fault::at(FaultKind::BadVersionTag, 0),
-        )
+    let bad_tag = Fault::at(FaultKind::BadTag, 68);
+    let bad_version_tag = Fault::at(FaultKind::BadVersionTag, 0);
+    is_refused(
+        alloc,
+        Job::Check,
+        &[&[]],
+        0,
+        Fault::of(FaultKind::ShortHeader),
+    ) && is_refused(alloc, Job::Check, &[blob], 0, bad_tag)
+        && is_refused(alloc, Job::Compile, &[b"/ { };"], 0, bad_version_tag)
+        && is_refused(alloc, Job::Build, &[SOURCE, SOURCE], 1, bad_version_tag)
 }
 
 #[test]
@@ -289,67 +298,58 @@ fn the_longest_input(rt: HostRuntime) {
 }
 
 // Whether the words, parted by blanks, ask for this.
-fn asks_for(alloc: Global, line: &str, job: Job, hex: bool, file: &str) -> bool {
+fn asks_for(alloc: Global, line: &str, job: Job, hex: bool, files: &[&str]) -> bool {
     let Ok(words) = line.split(' ').collect::<Vec<&str>>(alloc) else {
         return false;
     };
     match parse(alloc, words.as_slice()) {
-        Ok(line) => line == Line { job, hex, file },
+        Ok(line) => line.job == job && line.hex == hex && line.files.as_slice() == files,
         Err(_) => false,
     }
 }
 
+const COMMANDS: [(&str, Job, bool, &[&str]); 11] = [
+    ("dtool check a.dtb", Job::Check, false, &["a.dtb"]),
+    ("dtool compile stdin", Job::Compile, false, &["stdin"]),
+    ("dtool compile --hex a.dts", Job::Compile, true, &["a.dts"]),
+    ("dtool compile a.dts --hex", Job::Compile, true, &["a.dts"]),
+    (
+        "dtool compile --raw a.dts",
+        Job::CompileRaw,
+        false,
+        &["a.dts"],
+    ),
+    ("dtool compile -- --hex", Job::Compile, false, &["--hex"]),
+    ("dtool apply a.dtb", Job::Apply, false, &["a.dtb"]),
+    (
+        "dtool apply --hex a.dtb b.dtbo",
+        Job::Apply,
+        true,
+        &["a.dtb", "b.dtbo"],
+    ),
+    (
+        "dtool apply a.dtb b.dtbo a.dtb --hex",
+        Job::Apply,
+        true,
+        &["a.dtb", "b.dtbo", "a.dtb"],
+    ),
+    ("dtool build a.dts", Job::Build, false, &["a.dts"]),
+    (
+        "dtool build stdin --hex stdin",
+        Job::Build,
+        true,
+        &["stdin", "stdin"],
+    ),
+];
+
 #[test]
 fn words_that_are_a_command(rt: HostRuntime) {
-    assert!(rt; asks_for(rt.alloc(), "dtool check a.dtb", Job::Check, false, "a.dtb"));
-    assert!(rt;
-        asks_for(
-            rt.alloc(),
-            "dtool compile stdin",
-            Job::Compile,
-            false,
-            "stdin"
-        )
-    );
-    assert!(rt;
-        asks_for(
-            rt.alloc(),
-            "dtool compile --hex a.dts",
-            Job::Compile,
-            true,
-            "a.dts"
-        )
-    );
-    assert!(rt;
-        asks_for(
-            rt.alloc(),
-            "dtool compile a.dts --hex",
-            Job::Compile,
-            true,
-            "a.dts"
-        )
-    );
-    assert!(rt;
-        asks_for(
-            rt.alloc(),
-            "dtool compile --raw a.dts",
-            Job::CompileRaw,
-            false,
-            "a.dts"
-        )
-    );
-    assert!(rt;
-        asks_for(
-            rt.alloc(),
-            "dtool compile -- --hex",
-            Job::Compile,
-            false,
-            "--hex"
-        )
-    );
+    for (line, job, hex, files) in COMMANDS {
+        assert!(rt; asks_for(rt.alloc(), line, job, hex, files), "{line}");
+    }
 }
 
-const NO_COMMANDS: [&str; 14] = [
+const NO_COMMANDS: [&str; 18] = [
     "",
     "dtool",
     "dtool compile",
@@ -358,6 +358,10 @@ const NO_COMMANDS: [&str; 14] = [
     "dtool compile --hexadecimal a.dts",
     "dtool --hex compile a.dts",
     "dtool decompile a.dts",
+    "dtool apply",
+    "dtool apply --raw a.dtb",
+    "dtool --raw apply a.dtb",
+    "dtool build --hex",
     "dtool check",
     "dtool check --hex a.dtb",
     "dtool check a.dtb b.dtb",
@@ -384,10 +388,16 @@ fn is_source(text: Result<Vec<u8>, Fault>) -> bool {
     text.is_ok_and(|text| text.as_slice() == SOURCE)
 }
 
+// Whether the second file is refused.
+fn is_second_refused(rt: &HostRuntime) -> bool {
+    let names = ["input-of-a-test.dts", "no-input-of-a-test.dts"];
+    load_all(rt, &names).err() == Some((1, Fault::of(FaultKind::ReadFault)))
+}
+
 #[test]
 fn files(rt: HostRuntime) -> Result<(), Fail> {
     fs::write(&rt, "input-of-a-test.dts", SOURCE)?;
-    let is_read = is_source(load(&rt, "input-of-a-test.dts"));
+    let is_read = is_source(load(&rt, "input-of-a-test.dts")) && is_second_refused(&rt);
     fs::remove_file(&rt, "input-of-a-test.dts")?;
     let fault = load(&rt, "input-of-a-test.dts").err();
     assert!(rt; is_read && fault == Some(Fault::of(FaultKind::ReadFault)));

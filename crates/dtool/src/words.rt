@@ -1,12 +1,38 @@
 //! The words of the command line.
 
-ghost use Rattle.std.specs.Prelude.{◌≡◌, false, Bool, List, codes, map, IfOk, IfErr, MatchOption};
+ghost use Rattle.std.specs.Prelude.{◌≡◌, ◌∷◌, None, Some, false, Bool, List, codes, map, option_map, IfOk, IfErr, MatchOption};
 ghost use Rattle.clap.specs.declared.builder.command.Command.{out-Command};
-ghost use Rattle.clap.specs.Words.{Row, Text, app_of, rule_of, subcommand_of, subcommand_rows_of, with_subcommand};
-ghost use Rattle.dtool.specs.Words.{IsLine, Names, NamesNone, Tells, TellsUnread, WhyNoLine, bare, dtool, check_command, compile_command, command_of, file_word, hex_flag, raw_flag, HasFlags, IsFlag};
+ghost use Rattle.clap.specs.Words.{Row, Shape, Text, app_of, first_of, found_of, new_app, rows_of, rule_of, subcommand_of, subcommand_rows_of, with_subcommand};
+ghost use Rattle.dtool.specs.Words.{
+  AreFiles,
+  HasFlags,
+  IsFlag,
+  IsLine,
+  Names,
+  NamesNone,
+  Tells,
+  TellsUnread,
+  WhyNoLine,
+  apply_command,
+  bare,
+  base_word,
+  build_command,
+  check_command,
+  command_of,
+  compile_command,
+  dtool,
+  file_word,
+  first_word,
+  hex_flag,
+  overlay_command,
+  overlay_word,
+  raw_flag,
+  takes_overlays,
+};
 ghost use Rattle.dtool.specs.declared.words.LineFault.TheVariants.{Memory};
 
 use crate::job::Job;
+use crate::line::Line;
 use clap::error::ErrorKind;
 use clap::{Arg, ArgAction, ArgMatches, Command};
 use std::alloc::{AllocError, Global};
@@ -14,17 +40,6 @@ use std::convert::AsStr;
 use std::rt::Env;
 use std::{env, io};
 use thiserror::Error;
-
-/// What the words of a command line ask for.
-#[derive(Clone, Copy, PartialEq, Eq)]
-pub struct Line<'a> {
-    /// What to do.
-    pub job: Job,
-    /// Whether a blob is written as hexadecimal; false where none is written.
-    pub hex: bool,
-    /// The name of the input's file.
-    pub file: &'a str,
-}
 
 /// Why words ask for nothing. Its `Display` is the text for the user.
 #[derive(Debug, Drop, Error)]
@@ -89,17 +104,21 @@ pub fn parse<'a, S: AsStr>(alloc: Global, words: &'a [S]) -> Result<Line<'a>, Li
     ensures refused { IfErr result (WhyNoLine (map S.text words.entry.now)) }
 {
     let mut command = tool(alloc)?;
-    asked(&mut command, words)
+    asked(alloc, &mut command, words)
 }
 
 /// What the words ask of the tool's command.
-fn asked<'a, S: AsStr>(command: &mut Command<'a>, words: &'a [S]) -> Result<Line<'a>, LineFault>
+fn asked<'a, S: AsStr>(
+    alloc: Global,
+    command: &mut Command<'a>,
+    words: &'a [S],
+) -> Result<Line<'a>, LineFault>
     requires { app_of command.old ≡ dtool }
     ensures line { IfOk result (IsLine (map S.text words.entry.now)) }
     ensures refused { IfErr result (WhyNoLine (map S.text words.entry.now)) }
 {
     let matches = command.try_get_matches_from_mut(words)?;
-    match line_in(&matches) {
+    match line_in(alloc, &matches)? {
         Some(line) => Ok(line),
         None => Err(no_line(command)),
     }
@@ -118,23 +137,76 @@ fn no_line(command: &mut Command<'_>) -> LineFault
     }
 }
 
-/// What is asked for, where there are a command and a file.
-fn line_in<'a>(matches: &ArgMatches<'a>) -> Option<Line<'a>>
-    ensures { MatchOption result (NamesNone (subcommand_rows_of matches.now)) (Names (subcommand_rows_of matches.now)) }
+/// What is asked for, where there are a command and its first file.
+fn line_in<'a>(alloc: Global, matches: &ArgMatches<'a>) -> Result<Option<Line<'a>>, AllocError>
+    ensures { IfOk result (λ line. MatchOption line (NamesNone (subcommand_rows_of matches.now)) (Names (subcommand_rows_of matches.now))) }
 {
-    match matches.subcommand() {
-        Some(("compile", found)) => Some(Line {
-            job: compiling(found.get_flag("raw")),
-            hex: found.get_flag("hex"),
-            file: found.get_str("FILE")?,
-        }),
-        Some(("check", found)) => Some(Line {
-            job: Job::Check,
-            hex: false,
-            file: found.get_str("FILE")?,
-        }),
+    let Some((command, found)) = matches.subcommand() else {
+        return Ok(None);
+    };
+    let Some((job, hex)) = job_of(command, found) else {
+        return Ok(None);
+    };
+    match files_of(alloc, job, found)? {
+        Some(files) => Ok(Some(Line { job, hex, files })),
+        None => Ok(None),
+    }
+}
+
+/// The job of a command, and whether its blob is written as hexadecimal.
+fn job_of(command: &str, found: &ArgMatches<'_>) -> Option<(Job, bool)>
+    ensures { MatchOption result ((job : Job) → command.now ≡ command_of job → ⊥)
+        (λ asked. (command.now ≡ command_of asked.0) × HasFlags asked.0 (rows_of (found_of found.now)) asked.1) }
+{
+    match command {
+        "compile" => Some((compiling(found.get_flag("raw")), found.get_flag("hex"))),
+        "apply" => Some((Job::Apply, found.get_flag("hex"))),
+        "build" => Some((Job::Build, found.get_flag("hex"))),
+        "check" => Some((Job::Check, false)),
         _ => None,
     }
+}
+
+/// The files of a job, where there is the first.
+fn files_of<'a>(
+    alloc: Global,
+    job: Job,
+    found: &ArgMatches<'a>,
+) -> Result<Option<Vec<&'a str>>, AllocError>
+    ensures { IfOk result (λ files. MatchOption files (first_of (first_word job) (rows_of (found_of found.now)) ≡ None)
+        (λ files. AreFiles job (rows_of (found_of found.now)) (map (λ file. file.now) files.items))) }
+{
+    if takes_overlays(job) {
+        let overlays = found.get_strs("OVERLAY").unwrap_or(&[]);
+        in_order(alloc, found.get_str("BASE"), overlays)
+    } else {
+        in_order(alloc, found.get_str("FILE"), &[])
+    }
+}
+
+/// Whether a job takes overlays, beside a base.
+fn takes_overlays(job: Job) -> bool
+    ensures { result ≡ takes_overlays job }
+{
+    matches!(job, Job::Apply | Job::Build)
+}
+
+/// The first file, where there is one, and the others behind it.
+fn in_order<'a>(
+    alloc: Global,
+    first: Option<&'a str>,
+    others: &[&'a str],
+) -> Result<Option<Vec<&'a str>>, AllocError>
+    ensures { IfOk result (λ files. MatchOption files (option_map (λ file. file.now) first.entry ≡ None) (λ files. (file : Text)
+        × (option_map (λ file. file.now) first.entry ≡ Some file) × (map (λ file. file.now) files.items ≡ file ∷ map (λ file. file.now) others.now))) }
+{
+    let Some(first) = first else {
+        return Ok(None);
+    };
+    let mut files = Vec::new(alloc);
+    files.push(first)?;
+    files.extend_from_slice(others)?;
+    Ok(Some(files))
 }
 
 /// The job of a source: the flag `--raw` is there or not.
@@ -151,6 +223,24 @@ fn file<'a>(alloc: Global, help: &'a str) -> Arg<'a>
     ensures own { result.global ≡ false }
 {
     Arg::new(alloc, "FILE").required(true).help(help)
+}
+
+/// The word for a base's file.
+fn base<'a>(alloc: Global, help: &'a str) -> Arg<'a>
+    ensures rule { rule_of result ≡ base_word }
+    ensures own { result.global ≡ false }
+{
+    Arg::new(alloc, "BASE").required(true).help(help)
+}
+
+/// The words for the overlays' files.
+fn overlays<'a>(alloc: Global, help: &'a str) -> Arg<'a>
+    ensures rule { rule_of result ≡ overlay_word }
+    ensures own { result.global ≡ false }
+{
+    Arg::new(alloc, "OVERLAY")
+        .action(ArgAction::Append)
+        .help(help)
 }
 
 /// The flag for hexadecimal.
@@ -189,6 +279,53 @@ fn compile<'a>(alloc: Global) -> Result<Command<'a>, AllocError>
         .arg(file(alloc, "The source; the word stdin is standard input"))
 }
 
+/// `apply [--hex] BASE [OVERLAY..]`.
+fn apply<'a>(alloc: Global) -> Result<Command<'a>, AllocError>
+    ensures shape { IfOk result (λ command. app_of command ≡ apply_command) }
+    ensures own { IfOk result (λ command. (out-Command command).has_globals ≡ false) }
+{
+    with_overlays(
+        alloc,
+        Command::new(alloc, "apply").about(
+            "Applies the objects of overlays to a base's blob, one after another",
+        ),
+        "The blob of the base; the word stdin is standard input",
+        "The blobs of the overlays' objects, in order",
+    )
+}
+
+/// `build [--hex] BASE [OVERLAY..]`.
+fn build<'a>(alloc: Global) -> Result<Command<'a>, AllocError>
+    ensures shape { IfOk result (λ command. app_of command ≡ build_command) }
+    ensures own { IfOk result (λ command. (out-Command command).has_globals ≡ false) }
+{
+    with_overlays(
+        alloc,
+        Command::new(alloc, "build").about(
+            "Makes a blob of a base's source with the overlays of other sources applied",
+        ),
+        "The source of the base; the word stdin is standard input",
+        "The sources of the overlays, in order",
+    )
+}
+
+/// A command with `[--hex] BASE [OVERLAY..]`.
+fn with_overlays<'a>(
+    alloc: Global,
+    command: Command<'a>,
+    base_help: &'a str,
+    overlay_help: &'a str,
+) -> Result<Command<'a>, AllocError>
+    requires { (out-Command command).has_globals ≡ false }
+    ensures shape { (name : Text) → app_of command.entry ≡ new_app name → IfOk result (λ whole. app_of whole ≡ overlay_command name) }
+    ensures own { IfOk result (λ whole. (out-Command whole).has_globals ≡ false) }
+{
+    command
+        .arg(hex(alloc))?
+        .arg(base(alloc, base_help))?
+        .arg(overlays(alloc, overlay_help))
+}
+
 /// `check FILE`.
 fn check<'a>(alloc: Global) -> Result<Command<'a>, AllocError>
     ensures shape { IfOk result (λ command. app_of command ≡ check_command) }
@@ -208,25 +345,30 @@ fn without_commands<'a>(alloc: Global) -> Command<'a>
         .subcommand_required(true)
 }
 
-/// The tool with its first command.
-fn with_compile<'a>(alloc: Global) -> Result<Command<'a>, AllocError>
-    ensures { IfOk result (λ command. app_of command ≡ with_subcommand bare compile_command.top) }
+/// The tool with one more command.
+fn with_command<'a>(
+    tool: Command<'a>,
+    command: Result<Command<'a>, AllocError>,
+) -> Result<Command<'a>, AllocError>
+    ensures { (shape : Shape) → IfOk command.entry (λ command. ((app_of command).top ≡ shape) × ((out-Command command).has_globals ≡ false))
+        → IfOk result (λ whole. app_of whole ≡ with_subcommand (app_of tool.entry) shape) }
 {
-    let compile = compile(alloc)?;
-    without_commands(alloc).subcommand(compile)
-}
-
-/// The commands that the tool has.
-fn tool<'a>(alloc: Global) -> Result<Command<'a>, AllocError>
-    ensures { IfOk result (λ command. app_of command ≡ dtool) }
-{
-    let tool = with_compile(alloc)?;
-    match check(alloc) {
-        Ok(check) => tool.subcommand(check),
+    match command {
+        Ok(command) => tool.subcommand(command),
         Err(error) => {
             // Let go of by hand: what goes at an exit by itself is proved there field by field.
             drop(tool);
             Err(error)
         }
     }
+}
+
+/// The commands that the tool has.
+fn tool<'a>(alloc: Global) -> Result<Command<'a>, AllocError>
+    ensures { IfOk result (λ command. app_of command ≡ dtool) }
+{
+    let tool = with_command(without_commands(alloc), compile(alloc))?;
+    let tool = with_command(tool, apply(alloc))?;
+    let tool = with_command(tool, build(alloc))?;
+    with_command(tool, check(alloc))
 }

@@ -12,7 +12,7 @@ returns-in_err-blob-clause-refused g c =
     let contents = g.S.Sink.contents c.args.out.now in
     let has_failed = g.S.Sink.has_failed c.args.out.now in
     rw (p.1, p.2)
-    (not_compiled contents contents has_failed has_failed fault.kind fault.at c.args.hex c.args.text.now
+    (not_compiled contents contents has_failed has_failed fault c.args.hex c.args.text.now
     c.in_err-blob.ensures.refused c.in_err-blob.ensures.kinds (Keeps-refl contents, refl))
 
 pub returns-clause-refused : goal.returns-clause-refused

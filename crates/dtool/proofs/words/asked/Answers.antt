@@ -1,4 +1,6 @@
-use Rattle.std.proofs.Common.{map}
+use Rattle.std.proofs.Common.{map, subst, MatchOption}
+use Rattle.clap.specs.Words.{subcommand_rows_of}
+use Rattle.dtool.specs.Words.{Names, NamesNone}
 use Rattle.std.proofs.lemmas.Result.{err_from_is_err_and}
 use Rattle.dtool.proofs.WordLemmas.{asked, not_asked, told}
 use Rattle.dtool.proofs.words.asked.Goals as goal
@@ -10,8 +12,10 @@ returns-in_err-matches-clause-refused g c =
 
 pub returns-in-Some-clause-line : goal.returns-in-Some-clause-line
 returns-in-Some-clause-line g c =
-    asked _ c.requires _ c.in_ok-matches.matches c.in-Some.line c.in_ok-matches.ensures.kinds c.in_ok-matches.ensures.ok.2 c.in-Some.ensures
+    let names = subst (λ o. MatchOption o (NamesNone (subcommand_rows_of c.in_ok-matches.matches)) (Names (subcommand_rows_of c.in_ok-matches.matches))) c.in-Some.is c.in_ok-line.ensures in
+    asked _ c.requires _ c.in_ok-matches.matches c.in-Some.line c.in_ok-matches.ensures.kinds c.in_ok-matches.ensures.ok.2 names
 
 pub returns-clause-refused : goal.returns-clause-refused
 returns-clause-refused g c =
-    c.no_line.ensures (map g.S.AsStr.text c.args.words.now) (not_asked _ c.requires _ c.in_ok-matches.matches c.in_ok-matches.ensures.ok.2 c.in-None.ensures)
+    let none = subst (λ o. MatchOption o (NamesNone (subcommand_rows_of c.in_ok-matches.matches)) (Names (subcommand_rows_of c.in_ok-matches.matches))) c.in-None.is c.in_ok-line.ensures in
+    c.no_line.ensures (map g.S.AsStr.text c.args.words.now) (not_asked _ c.requires _ c.in_ok-matches.matches c.in_ok-matches.ensures.ok.2 none)

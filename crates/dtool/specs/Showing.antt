@@ -1,4 +1,4 @@
--- Why a source's blob isn't written.
+-- Why a blob isn't written.
 use Rattle.std.specs.Prelude.{◌≡◌, ℕ, List, Bool, Option, None}
 use Rattle.dt_names.specs.declared.fault.FaultKind.{FaultKind}
 use Rattle.dt_names.specs.declared.fault.FaultKind.TheVariants.{NoMemory, WriteFault}
