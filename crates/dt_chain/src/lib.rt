@@ -4,12 +4,14 @@
 mod applying;
 mod building;
 mod compiling;
+mod decompiling;
 mod input;
 mod laws;
 
 pub use applying::{apply_bytes, apply_list};
 pub use building::build;
 pub use compiling::{compile, compile_raw};
+pub use decompiling::decompile;
 pub use input::read_all;
 pub use laws::{
     one_blob, one_meaning, one_outcome, what_applying_means, what_building_means,

@@ -36,11 +36,11 @@ digits_lack s unfit [] h = tt
 digits_lack s unfit (d ∷ ds) h = (λ e. unfit (subst (λ (n : ℕ). digit_value n < 10) e h.0), digits_lack s unfit ds h.1)
 
 -- a path's text has no colon
-path_without_colon : (p : Path) → AllByRecursion IsNodeName p → Lacks 58 (path_text p)
+pub path_without_colon : (p : Path) → AllByRecursion IsNodeName p → Lacks 58 (path_text p)
 path_without_colon = path_lacks 58 (λ e. absurd (omega arith)) (λ h. cc)
 
 -- a property's name has none
-property_without_colon : (x : List ℕ) → All (λ b. IsTrue (is_name_byte b)) x → Lacks 58 x
+pub property_without_colon : (x : List ℕ) → All (λ b. IsTrue (is_name_byte b)) x → Lacks 58 x
 property_without_colon = passed_lacks 58 is_name_byte (λ h. cc)
 
 -- the text of a cell has no NUL

@@ -19,3 +19,8 @@ pub mod LastChildren
 pub mod ObjectNodes
 pub mod TextCuts
 pub mod CellTexts
+pub mod ListedCells
+pub mod ToldFixups
+pub mod NodePlaces
+pub mod ToldLocalFixups
+pub mod MirrorWalks

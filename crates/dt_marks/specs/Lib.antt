@@ -5,3 +5,8 @@ pub mod Mirrored
 pub mod Cells
 pub mod Texts
 pub mod Cuts
+pub mod Listed
+pub mod FixupsLeft
+pub mod ListedViews
+pub mod LocalFixupsLeft
+pub mod MirrorViews

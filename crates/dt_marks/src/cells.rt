@@ -10,7 +10,7 @@ ghost use Rattle.dt_flat.specs.Planted.{with_properties};
 ghost use Rattle.dt_marks.specs.Cells.{is_inside, has_cells, cells_of};
 ghost use Rattle.dt_marks.specs.Mirrored.{IsPlain};
 
-use crate::fixups::behind;
+use crate::fixup_texts::behind;
 use dt_flat::FlatTree;
 use dt_names::{Fault, NodeId, PropName};
 use dt_source::{NamedNode, NamedProperty, NamedReference, NamedValue};

@@ -1,6 +1,6 @@
 //! Bytes that are cut at a separator.
 
-ghost use Rattle.std.specs.Prelude.{MatchOption};
+ghost use Rattle.std.specs.Prelude.{◌≡◌, [], MatchOption};
 ghost use Rattle.std.specs.Iterator.{YieldsFirstRef, item_count};
 ghost use Rattle.dt_marks.specs.Cuts.{Lacks, IsCut};
 
@@ -20,6 +20,18 @@ impl<'a> Model for Texts<'a> {
     ghost Value = { List (List ℕ) };
 
     ghost view = { λ t. texts_in t.rest.now };
+}
+
+impl<'a> Texts<'a> {
+    /// No texts.
+    #[tactic(auto, unfolding(crate::specs::Cuts::texts_in))]
+    pub fn none() -> Texts<'a>
+        ensures { result ≡ [] }
+    {
+        Texts {
+            rest: b"".as_slice(),
+        }
+    }
 }
 
 impl<'a> Iterator for Texts<'a> {

@@ -4,9 +4,13 @@
 
 mod cells;
 mod cuts;
-mod fixups;
+mod fixup_texts;
 mod laws;
+mod listed;
+mod listed_fixups;
+mod listed_locals;
 mod mirror;
+mod objects;
 mod overlays;
 mod paths;
 mod reading;
@@ -15,6 +19,10 @@ mod waiting;
 
 pub use cuts::Texts;
 pub use laws::{cell_texts_are_texts, texts_are_one};
+pub use listed::ListedCell;
+pub use listed_fixups::Fixups;
+pub use listed_locals::LocalFixups;
+pub use objects::{fixups, local_fixups};
 pub use overlays::add_fixups;
 pub use reading::{CellText, cell_text, symbol_path, texts};
 pub use symbols::add_symbols;

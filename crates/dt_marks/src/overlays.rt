@@ -6,7 +6,7 @@ ghost use Rattle.dt_model.specs.Named.{tree_of};
 ghost use Rattle.dt_flat.specs.Arena.{reading, named_children, child_of};
 ghost use Rattle.dt_marks.specs.Refusals.{WhyNoFixups};
 
-use crate::fixups::add_outside;
+use crate::fixup_texts::add_outside;
 use crate::mirror::add_inside;
 use dt_flat::FlatTree;
 use dt_names::Fault;

@@ -29,8 +29,8 @@ pub struct CellText<'a> {
     pub offset: usize,
 }
 
-// The number that decimal digits write; None where the bytes aren't such digits, or the number is 2^64 or more.
-fn number(digits: &[u8]) -> Option<usize>
+/// The number that decimal digits write; None where the bytes aren't such digits, or the number is 2^64 or more.
+pub fn number(digits: &[u8]) -> Option<usize>
     ensures { MatchOption result ((n : ℕ) → n < 2 ^ 64 → ¬ IsNumeralOf digits.now n) (IsNumeralOf digits.now) }
 {
     // `parse` would take a sign.

@@ -17,6 +17,7 @@ pub mod Wholes
 pub mod CountLemmas
 pub mod Growing
 pub mod Shallow
+pub mod StepLemmas
 pub mod TableBits
 pub mod KeyCounts
 pub mod Novelty

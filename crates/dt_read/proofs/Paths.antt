@@ -9,7 +9,7 @@ use Rattle.dt_model.specs.Path.{Path}
 use Rattle.dt_model.specs.Tree.{Property, Node, node_below}
 use Rattle.dt_model.specs.Valid.{AreDistinct, names}
 use Rattle.dt_read.specs.Placed.{Nodes, no_nodes, node, forest_of, place_below, last_name}
-use Rattle.dt_read.specs.TreeTokens.{Parts, heads_of}
+use Rattle.dt_read.specs.TreeTokens.{Parts, heads_of, head_named}
 use Rattle.dt_read.specs.Order.{Rise}
 use Rattle.dt_read.proofs.Ordering.{HasBelow, rise_bounds}
 
@@ -122,6 +122,10 @@ skips k place name properties children siblings (x ∷ xs) a =
     by_test : (b : Bool) → bytes_eq x name ≡ b → bytes_eq x name ≡ false
     by_test true is = absurd (a.0 ((bytes_eq-Decides x name).0 is))
     by_test false is = is
+
+pub child_place : (k : ℕ) (nodes : Nodes) (x : Name) → place_below k nodes (x ∷ []) ≡ head_named (heads_of nodes) x
+child_place k no_nodes x = refl
+child_place k (node place name properties children siblings) x = ap (cond (bytes_eq x name) (Some place)) (child_place k siblings x)
 
 pub child_places : (k : ℕ) (nodes : Nodes) → AreDistinct (names (forest_of nodes)) → map (λ x. place_below k nodes (x ∷ [])) (names (forest_of nodes)) ≡ map (λ n. Some n) (map (λ h. h.0) (heads_of nodes))
 child_places k no_nodes d = refl

@@ -14,8 +14,9 @@ use Rattle.dt_read.specs.declared.blocks.Blocks.{Blocks}
 use Rattle.dt_read.specs.Kinds.{kind_of}
 use Rattle.dt_read.specs.Placed.{forest_of, PlacedTree, reading_of, place_of, IsAt, last_name, properties_of, names_of, properties_at, child_names}
 use Rattle.dt_read.specs.Marks.{Root}
-use Rattle.dt_read.specs.TreeTokens.{Parts, node_of, heads_of, HasTree}
+use Rattle.dt_read.specs.TreeTokens.{Parts, node_of, heads_of, head_named, HasTree}
 use Rattle.dt_read.specs.Pairs.{pairs_of}
+use Rattle.dt_read.specs.Walked.{Step, holds, closes, steps_of_nodes, WalkIn}
 use Rattle.dt_read.specs.Phandle.{ArePhandles}
 use Rattle.dt_read.specs.Blocks.{AreBlocks, whole_of, IsWellPlaced}
 use Rattle.dt_read.specs.Growth.{reading_with, MayCopy}
@@ -25,7 +26,7 @@ use Rattle.dt_read.proofs.Headers.{fine, header_of, has_header, is_sound}
 use Rattle.dt_read.proofs.Apart.{below_is_node, root_is_node, parts_apart}
 use Rattle.dt_read.proofs.Nodes.{at_node}
 use Rattle.std.specs.Prelude.{IsSome, IfSome, option_and_then, unwrap_or}
-use Rattle.dt_read.proofs.Paths.{plain, one_path, found_below_path, child_places}
+use Rattle.dt_read.proofs.Paths.{plain, one_path, found_below_path, child_place, child_places}
 
 -- ---- the reading
 
@@ -139,6 +140,7 @@ pub record AtPath (t : PlacedTree) (path : Path) (k : ℕ) : Type 0 where
   pub there : node_at (reading_of t) path ≡ Some (plain parts)
   pub name : last_name path ≡ parts.name
   pub children : map (λ n. Some n) (map (λ h. h.0) (heads_of parts.children)) ≡ map (λ x. place_of t (path ++ x ∷ [])) (names (forest_of parts.children))
+  pub child : (x : Name) → place_of t (path ++ x ∷ []) ≡ head_named (heads_of parts.children) x
 
 pub at_path : (t : PlacedTree) → IsWellPlaced t → (path : Path) (k : ℕ) → IsAt t path k → AtPath t path k
 at_path t w [] k e =
@@ -149,6 +151,7 @@ at_path t w [] k e =
       there = refl;
       name = refl;
       children = sym (child_places t.place t.children w.apart.siblings_apart);
+      child = child_place t.place t.children;
     }
 at_path t w (x ∷ p) k e =
     let f = found_below_path t.children t.place t.properties x p k e in
@@ -159,6 +162,7 @@ at_path t w (x ∷ p) k e =
       there = f.there;
       name = f.name;
       children = sym (child_places k f.parts.children both.1) ∙ same_map (names (forest_of f.parts.children)) (λ z. sym (f.more z));
+      child = λ z. f.more z ∙ child_place k f.parts.children z;
     }
   where
     same_map : {f g : Name → Option ℕ} (xs : List Name) → ((z : Name) → f z ≡ g z) → map f xs ≡ map g xs
@@ -198,6 +202,26 @@ children_so t u same w path k e heads h =
     ∙ a.children
     ∙ ap (λ (ns : List Name). map (λ x. place_of t (path ++ x ∷ [])) ns) named
     ∙ ap (λ (v : PlacedTree). map (λ x. place_of v (path ++ x ∷ [])) (child_names v path)) same
+
+pub child_so : (t u : PlacedTree) → t ≡ u → IsWellPlaced t → (path : Path) (k : ℕ) → IsAt u path k → (name : Name) (child : Option ℕ) → IfSome (node_of (whole_of t) k) (λ parts. child ≡ head_named (heads_of parts.children) name)
+    → child ≡ place_of u (path ++ name ∷ [])
+child_so t u same w path k e name child h =
+    let a = at_same t u same w path k e in
+    at_node (λ parts. child ≡ head_named (heads_of parts.children) name) (node_of (whole_of t) k) a.parts a.found h
+    ∙ sym (a.child name) ∙ ap (λ (v : PlacedTree). place_of v (path ++ name ∷ [])) same
+
+pub steps_so : (t u : PlacedTree) → t ≡ u → IsWellPlaced t → (path : Path) (k : ℕ) → IsAt u path k → (steps : List Step) → IfSome (node_of (whole_of t) k) (λ parts. (behind : List Step) × (steps ≡ map holds parts.properties ++ (steps_of_nodes parts.children ++ closes ∷ behind)))
+    → WalkIn u path steps
+steps_so t u same w path k e steps h =
+    let a = at_same t u same w path k e in
+    let walk = at_node (λ parts. (behind : List Step) × (steps ≡ map holds parts.properties ++ (steps_of_nodes parts.children ++ closes ∷ behind))) (node_of (whole_of t) k) a.parts a.found h in
+    record {
+      properties = a.parts.properties;
+      children = a.parts.children;
+      behind = walk.0;
+      there = subst (λ (v : PlacedTree). node_at (reading_of v) path ≡ Some (plain a.parts)) same a.there;
+      whole = walk.1;
+    }
 
 pub number_small : (bytes : List ℕ) (at : ℕ) → IsBytes bytes → number bytes at < 2 ^ 32
 number_small bytes at fits = by_word (word_at bytes at) refl

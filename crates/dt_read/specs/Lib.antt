@@ -1,10 +1,12 @@
 pub mod Placed
 pub mod Marks
 pub mod Parsing
+pub mod Walked
 pub mod TreeCode
 pub mod TreeTokens
 pub mod Order
 pub mod View
+pub mod StepsLeft
 pub mod Kinds
 pub mod Scan
 pub mod Distinct

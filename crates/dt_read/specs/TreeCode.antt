@@ -5,6 +5,7 @@ use Rattle.dt_read.specs.Marks.{Mark, begin_mark, end_mark, prop_mark, nop_mark,
 use Rattle.std.proofs.Common.{◌≡◌, ℕ, zero, suc, List, [], ◌∷◌, ◌++◌, map, refl, sym, ap, ◌∙◌, append_assoc}
 use Rattle.std.proofs.lemmas.List.{append-nil}
 use Rattle.std.specs.Coded.{Coded, code_by, coded×, coded_ℕ, coded_list}
+use Rattle.dt_read.specs.Walked.{Step, opens, holds, closes}
 use Rattle.dt_read.specs.Parsing.{Left, begun, left_by, root_of, tree_of_marks}
 
 -- ---- tokens and trees
@@ -92,3 +93,24 @@ coded_placed =
 
 abbrev pub coded_property : Coded Property
 coded_property = code_by (List ℕ × List ℕ) (coded× (coded_list coded_ℕ) (coded_list coded_ℕ)) (λ p. (p.name, p.value)) (λ p. record { name = p.0; value = p.1 }) (λ _. refl)
+
+-- a step as the token that it is
+abbrev pub mark_of_step : Step → Mark
+mark_of_step (opens place name) = begin_mark place name
+mark_of_step (holds p) = prop_mark p
+mark_of_step closes = end_mark
+
+abbrev pub step_of_mark : Mark → Step
+step_of_mark (begin_mark place name) = opens place name
+step_of_mark (prop_mark p) = holds p
+step_of_mark end_mark = closes
+step_of_mark nop_mark = closes
+step_of_mark last_mark = closes
+
+pub step_again : (step : Step) → step_of_mark (mark_of_step step) ≡ step
+step_again (opens place name) = refl
+step_again (holds p) = refl
+step_again closes = refl
+
+abbrev pub coded_step : Coded Step
+coded_step = code_by Mark coded_mark mark_of_step step_of_mark step_again

@@ -2,6 +2,7 @@
 use Rattle.dt_model.specs.Tree.{Property}
 use Rattle.dt_read.specs.Placed.{Nodes, no_nodes, node, forest_of}
 use Rattle.std.specs.List.{AllByRecursion}
+use Rattle.std.specs.Str.{bytes_eq}
 use Rattle.dt_model.specs.Names.{IsNodeName, IsPropertyName}
 use Rattle.dt_model.specs.Valid.{node_count, IsNoDeeper}
 use Rattle.dt_model.specs.Checks.{IsSpelled}
@@ -61,6 +62,11 @@ pub record BeginsNode (marks : List Mark) (place : ℕ) (parts : Parts) : Type 0
 abbrev pub heads_of : Nodes → List (ℕ × List ℕ)
 heads_of no_nodes = []
 heads_of (node place name properties children siblings) = (place, name) ∷ heads_of siblings
+
+-- the place of the sibling of a name
+abbrev pub head_named : List (ℕ × List ℕ) → List ℕ → Option ℕ
+head_named [] name = None
+head_named (head ∷ heads) name = if bytes_eq name head.1 then Some head.0 else head_named heads name
 
 -- what stands behind the END_NODEs of that many open nodes
 abbrev pub past : List Mark → ℕ → List Mark

@@ -9,6 +9,7 @@ ghost use Rattle.dt_names.specs.declared.fault.FaultKind.TheVariants.{Limit, NoM
 ghost use Rattle.dt_flat.specs.Arena.{reading};
 ghost use Rattle.dt_read.specs.Kinds.{kind_of};
 ghost use Rattle.dt_read.specs.Placed.{reading_of, IsAt};
+ghost use Rattle.dt_read.specs.Walked.{steps_of, WalkIn};
 
 use crate::NodeId;
 use crate::blocks::blocks_of;
@@ -18,6 +19,7 @@ use crate::flatten::flat_of;
 use crate::pairs::Reservations;
 use crate::phandle::are_phandles;
 use crate::scan::BadToken;
+use crate::steps::Steps;
 use crate::structure::Structure;
 use crate::walk::{Children, Props};
 use dt_flat::FlatTree;
@@ -175,6 +177,30 @@ impl<'a> Blob<'a> {
             map (λ child. Some child) result ≡ map (λ x. place_of self.now (path ++ x ∷ [])) (child_names self.now path) }
     {
         Children::new(self.structure.siblings(node))
+    }
+
+    /// The child of a node that has a name, None where it has no such child. Takes no memory.
+    pub fn child(&self, node: NodeId, name: &[u8]) -> Option<NodeId>
+        requires { (path : Path) × IsAt self.now path node }
+        ensures { (path : Path) → IsAt self.now path node → result ≡ place_of self.now (path ++ name.now ∷ []) }
+    {
+        self.structure.child(node, name)
+    }
+
+    /// A walk through the tree: all nodes in preorder, the root first, each with its properties, then its children (Devicetree
+    /// Specification v0.4, 5.4). It reads each token once, and takes no memory.
+    pub fn steps(&self) -> Steps<'a>
+        ensures { result ≡ steps_of self.now }
+    {
+        Steps::new(self.structure.start())
+    }
+
+    /// A walk through what a node has, in the order of `steps`: up to its `Close`, and on through what is behind the node.
+    pub fn steps_in(&self, node: NodeId) -> Steps<'a>
+        requires { (path : Path) × IsAt self.now path node }
+        ensures { (path : Path) → IsAt self.now path node → WalkIn self.now path result }
+    {
+        self.structure.steps_in(node)
     }
 
     /// The tree as one that can be changed, with the order of its nodes and properties. It wants memory, and nothing else is

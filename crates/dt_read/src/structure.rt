@@ -1,12 +1,13 @@
 //! A checked structure block.
 
-ghost use Rattle.std.specs.Prelude.{◌≡◌, ◌+◌, ◌<◌, ◌^◌, ◌∷◌, ◌++◌, [], length, IfOk, IfErr, IfSome, IsSome};
+ghost use Rattle.std.specs.Prelude.{◌≡◌, ◌+◌, ◌<◌, ◌^◌, ◌∷◌, ◌++◌, [], List, map, length, IfOk, IfErr, IfSome, IsSome};
 
 use crate::NodeId;
 use crate::cursor::{Cursor, skip_properties};
 use crate::scan::{BadToken, first_bad_token};
+use crate::steps::Steps;
 use crate::token::Token;
-use crate::walk::{Props, Siblings, value_in};
+use crate::walk::{Props, Siblings, sibling_in, value_in};
 use std::hash::{DefaultHasher, Hasher};
 use std::marker::Model;
 
@@ -41,7 +42,8 @@ impl<'a> Structure<'a> {
     ghost use Rattle.dt_read.specs.Kinds.{kind_of};
     ghost use Rattle.dt_read.specs.Marks.{last_mark, marks_of};
     ghost use Rattle.dt_read.specs.Order.{HasRisingPlaces};
-    ghost use Rattle.dt_read.specs.TreeTokens.{HasTree, node_of, heads_of, BeginsNode};
+    ghost use Rattle.dt_read.specs.Walked.{Step, holds, closes, steps_of_nodes};
+    ghost use Rattle.dt_read.specs.TreeTokens.{HasTree, node_of, heads_of, head_named, BeginsNode};
 
     /// The tree that a structure block spells, or its first wrong token. The block stands at that place of the blob.
     pub fn check(strings: &'a [u8], at: usize, block: &'a [u8]) -> Result<Structure<'a>, BadToken>
@@ -124,6 +126,25 @@ impl<'a> Structure<'a> {
         let _ = cursor.next();
         skip_properties(&mut cursor);
         Siblings::new(cursor)
+    }
+
+    /// The child of a node that has a name, where there is one.
+    pub fn child(&self, node: NodeId, name: &[u8]) -> Option<NodeId>
+        requires { IsSome (node_of self.now node) }
+        ensures { IfSome (node_of self.now node) (λ parts. result ≡ head_named (heads_of parts.children) name.now) }
+    {
+        sibling_in(self.siblings(node), name)
+    }
+
+    /// A walk through what a node has, and on behind the node.
+    pub fn steps_in(&self, node: NodeId) -> Steps<'a>
+        requires { IsSome (node_of self.now node) }
+        ensures { IfSome (node_of self.now node) (λ parts. (behind : List Step)
+            × (result ≡ map holds parts.properties ++ (steps_of_nodes parts.children ++ closes ∷ behind))) }
+    {
+        let mut cursor = self.cursor_at(node);
+        let _ = cursor.next();
+        Steps::new(cursor)
     }
 
     /// The value of a node's property, where it has the property.

@@ -4,7 +4,7 @@ ghost use Rattle.std.specs.Prelude.{◌≡◌, ◌++◌, ◌∷◌, [], List, �
 ghost use Rattle.std.specs.Option.{MatchOption, option_copied};
 ghost use Rattle.dt_model.specs.Tree.{value_of};
 ghost use Rattle.dt_read.specs.Parsing.{left_by};
-ghost use Rattle.dt_read.specs.TreeTokens.{AreSiblings, heads_left};
+ghost use Rattle.dt_read.specs.TreeTokens.{AreSiblings, heads_left, head_named};
 ghost use Rattle.std.specs.Iterator.{YieldsFirst, YieldsFirstBy, item_count};
 
 use crate::NodeId;
@@ -139,6 +139,18 @@ impl<'a> Iterator for Siblings<'a> {
     fn next(&mut self) -> Option<(usize, &'a [u8])> {
         next_sibling(&mut self.cursor)
     }
+}
+
+/// The sibling of a name, where there is one.
+pub fn sibling_in(mut siblings: Siblings<'_>, name: &[u8]) -> Option<NodeId>
+    ensures { result ≡ head_named siblings.entry name.now }
+{
+    while let Some((node, key)) = siblings.next() {
+        if name == key {
+            return Some(node);
+        }
+    }
+    None
 }
 
 /// The children of a node that are left, in order. It is seen as their places.

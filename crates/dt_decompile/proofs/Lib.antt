@@ -1,0 +1,5 @@
+mod CellTexts
+mod HexDigits
+mod LineTexts
+mod Passing
+mod Quoting

@@ -1,0 +1,10 @@
+-- What is left has the digits that are left of all.
+use Rattle.std.proofs.Common.{◌≡◌, length}
+use Rattle.dt_printed.specs.Printed.{significant}
+use Rattle.dt_decompile.proofs.digits.without_zeros.Given as goal
+
+abbrev pub invariant-loop-rest : goal.invariant-loop-rest
+invariant-loop-rest l = significant l.rest ≡ significant l.digits
+
+abbrev pub decreases-loop-rest : goal.decreases-loop-rest
+decreases-loop-rest l = length l.rest

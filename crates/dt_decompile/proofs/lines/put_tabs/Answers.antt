@@ -1,0 +1,30 @@
+use Rattle.std.proofs.Common.{◌++◌, ◌∙◌, ◌-◌, List, ℕ, ap}
+use Rattle.std.specs.Prelude.{codes}
+use Rattle.dt_printed.specs.Printed.{tabs}
+use Rattle.dt_decompile.proofs.LineTexts.{tabs_more, tabs_last}
+use Rattle.dt_decompile.proofs.Passing.{passed_then, exits_at, passed_last, refused_last, turned}
+use Rattle.dt_decompile.proofs.lines.put_tabs.Goals as goal
+
+pub returns-in_err-put-clause-refused : goal.returns-in_err-put-clause-refused
+returns-in_err-put-clause-refused g c =
+    let (front, split, passed) = c.loop-left.invariant in
+    exits_at _ _ _ _ _ c.from_residual.ensures.1 (split ∙ ap (λ (l : List ℕ). front ++ l) (tabs_more c.loop-left.left c.loop-left-test.true)) passed c.in_err-put.ensures.refused
+
+pub loop-left-preserved : goal.loop-left-preserved
+loop-left-preserved g c =
+    let (front, split, passed) = c.loop-left.invariant in (
+      front ++ codes "\t\t\t\t\t\t\t\t",
+      turned front (codes "\t\t\t\t\t\t\t\t") (tabs (c.loop-left.left - 8))
+          (split ∙ ap (λ (l : List ℕ). front ++ l) (tabs_more c.loop-left.left c.loop-left-test.true)),
+      passed_then passed c.in_ok-put.ensures.passed,
+    )
+
+pub returns-clause-passed : goal.returns-clause-passed
+returns-clause-passed g c =
+    let (front, split, passed) = c.loop-left.invariant in
+    passed_last _ _ _ _ _ _ (split ∙ ap (λ (l : List ℕ). front ++ l) (tabs_last c.loop-left.left c.loop-left-test.false)) passed c.put-2.ensures.passed
+
+pub returns-clause-refused : goal.returns-clause-refused
+returns-clause-refused g c =
+    let (front, split, passed) = c.loop-left.invariant in
+    refused_last _ _ _ _ _ (split ∙ ap (λ (l : List ℕ). front ++ l) (tabs_last c.loop-left.left c.loop-left-test.false)) passed c.put-2.ensures.refused

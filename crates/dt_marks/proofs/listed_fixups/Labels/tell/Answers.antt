@@ -1,0 +1,6 @@
+use Rattle.std.proofs.Common.{sym}
+use Rattle.dt_marks.proofs.ToldFixups.{told_fault}
+use Rattle.dt_marks.proofs.listed_fixups.Labels.tell.Goals as goal
+
+pub returns-in-None : goal.returns-in-None
+returns-in-None c = told_fault c.args.self.now.blob.now c.args.self.now.label.now c.args.text.now _ c.of.result.kind c.none-self.result (sym c.in-None.ensures) c.of.ensures.kind c.none-self.ensures

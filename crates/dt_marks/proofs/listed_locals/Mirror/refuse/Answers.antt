@@ -1,0 +1,9 @@
+use Rattle.std.proofs.Common.{ap}
+use Rattle.dt_model.specs.Object.{words_of}
+use Rattle.dt_marks.proofs.ToldLocalFixups.{nothing_told}
+use Rattle.dt_marks.proofs.listed_locals.Mirror.refuse.Goals as goal
+
+pub returns-clause-nothing : goal.returns-clause-nothing
+returns-clause-nothing c =
+    let s = c.args.self.now in
+    nothing_told s.blob.now s.node s.property.now s.value.now c.as_slice-self.result.now c.new-self.result s.steps (ap words_of c.as_slice-self.ensures) c.new-self.ensures

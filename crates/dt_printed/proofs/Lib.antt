@@ -1,0 +1,15 @@
+pub mod HeldBytes
+pub mod SpelledValues
+pub mod SpelledTrees
+pub mod ReadPlaces
+pub mod TreeEvents
+pub mod TreeOrder
+pub mod TreeInOrder
+pub mod TreeMeant
+pub mod CutWords
+pub mod MissedRules
+pub mod NamedRuns
+pub mod QuotedTexts
+pub mod WrittenNumbers
+pub mod CutValues
+pub mod CutLines

@@ -1,0 +1,4 @@
+pub mod Laws
+pub mod Printed
+pub mod Said
+pub mod Words

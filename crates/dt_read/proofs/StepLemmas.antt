@@ -1,0 +1,48 @@
+-- The tokens of a tree are the steps of a walk through it.
+use Rattle.std.proofs.Common.{◌≡◌, ℕ, List, [], ◌∷◌, ◌++◌, map, refl, ap, ◌∙◌, append_assoc}
+use Rattle.dt_model.specs.Tree.{Property}
+use Rattle.dt_read.specs.Placed.{Nodes, no_nodes, node}
+use Rattle.dt_read.specs.Marks.{Mark, begin_mark, end_mark, prop_mark, last_mark, Root, marks_of_nodes, marks_of}
+use Rattle.dt_read.specs.TreeTokens.{Parts, marks_of_parts}
+use Rattle.dt_read.specs.StepsLeft.{steps_left}
+use Rattle.dt_read.specs.Walked.{Step, opens, holds, closes, steps_of_nodes, steps_of}
+
+-- of properties
+steps_of_properties : (properties : List Property) (rest : List Mark) → steps_left (map prop_mark properties ++ rest) ≡ map holds properties ++ steps_left rest
+steps_of_properties [] rest = refl
+steps_of_properties (p ∷ properties) rest = ap (λ (s : List Step). holds p ∷ s) (steps_of_properties properties rest)
+
+regrouped : (properties : List Property) (children siblings rest : List Mark)
+    → (map prop_mark properties ++ (children ++ end_mark ∷ siblings)) ++ rest ≡ map prop_mark properties ++ (children ++ end_mark ∷ (siblings ++ rest))
+regrouped properties children siblings rest = simp append_assoc
+
+joined : (properties children siblings rest : List Step) → properties ++ (children ++ closes ∷ (siblings ++ rest)) ≡ (properties ++ (children ++ closes ∷ siblings)) ++ rest
+joined properties children siblings rest = simp append_assoc
+
+-- of siblings
+steps_of_siblings : (nodes : Nodes) (rest : List Mark) → steps_left (marks_of_nodes nodes ++ rest) ≡ steps_of_nodes nodes ++ steps_left rest
+steps_of_siblings no_nodes rest = refl
+steps_of_siblings (node place name properties children siblings) rest =
+    let behind = marks_of_nodes siblings ++ rest in
+    ap (λ (s : List Step). opens place name ∷ s) (
+    ap steps_left (regrouped properties (marks_of_nodes children) (marks_of_nodes siblings) rest)
+    ∙ steps_of_properties properties (marks_of_nodes children ++ end_mark ∷ behind)
+    ∙ ap (λ (s : List Step). map holds properties ++ s) (steps_of_siblings children (end_mark ∷ behind))
+    ∙ ap (λ (s : List Step). map holds properties ++ (steps_of_nodes children ++ closes ∷ s)) (steps_of_siblings siblings rest)
+    ∙ joined (map holds properties) (steps_of_nodes children) (steps_of_nodes siblings) (steps_left rest))
+
+-- of what a node has
+pub steps_of_parts : (parts : Parts) (more marks : List Mark) → marks ≡ marks_of_parts parts more → steps_left marks ≡ map holds parts.properties ++ (steps_of_nodes parts.children ++ closes ∷ steps_left more)
+steps_of_parts parts more marks e =
+    ap steps_left e
+    ∙ steps_of_properties parts.properties (marks_of_nodes parts.children ++ end_mark ∷ more)
+    ∙ ap (λ (s : List Step). map holds parts.properties ++ s) (steps_of_siblings parts.children (end_mark ∷ more))
+
+-- of the whole tree
+pub steps_of_tree : (boot_cpu : ℕ) (reservations : List (ℕ × ℕ)) (root : Root)
+    → steps_left (marks_of root ++ last_mark ∷ []) ≡ steps_of (record { boot_cpu = boot_cpu; reservations = reservations; place = root.place; properties = root.properties; children = root.children })
+steps_of_tree boot_cpu reservations root =
+    ap (λ (s : List Step). opens root.place [] ∷ s) (
+    ap steps_left (regrouped root.properties (marks_of_nodes root.children) [] (last_mark ∷ []))
+    ∙ steps_of_properties root.properties (marks_of_nodes root.children ++ end_mark ∷ last_mark ∷ [])
+    ∙ ap (λ (s : List Step). map holds root.properties ++ s) (steps_of_siblings root.children (end_mark ∷ last_mark ∷ [])))

@@ -1,0 +1,23 @@
+-- The steps that are left at a place of a structure block.
+use Rattle.std.specs.Prelude.{List, [], ◌∷◌}
+use Rattle.std.specs.Coded.{Coded, code_by, coded_list}
+use Rattle.dt_read.specs.declared.steps.Step.TheVariants as code
+use Rattle.dt_read.specs.declared.steps.Step as declared
+use Rattle.dt_read.specs.Marks.{Mark, begin_mark, end_mark, prop_mark, nop_mark, last_mark}
+use Rattle.dt_read.specs.TreeCode.{coded_mark}
+use Rattle.dt_read.specs.Walked.{Step, opens, holds, closes}
+
+-- the steps that tokens are, up to the last one
+abbrev pub steps_left : List Mark → List Step
+steps_left [] = []
+steps_left (begin_mark place name ∷ marks) = opens place name ∷ steps_left marks
+steps_left (prop_mark p ∷ marks) = holds p ∷ steps_left marks
+steps_left (end_mark ∷ marks) = closes ∷ steps_left marks
+steps_left (nop_mark ∷ marks) = steps_left marks
+steps_left (last_mark ∷ marks) = []
+
+-- a step, without where it lies in memory
+abbrev pub step_view : declared.Step → Step
+step_view (code.Open node name) = opens node name.now
+step_view (code.Property name value) = holds (record { name = name.now; value = value.now })
+step_view code.Close = closes

@@ -1,0 +1,30 @@
+-- A tree as the steps of a walk through it.
+use Rattle.std.specs.Prelude.{◌≡◌, ℕ, List, [], ◌∷◌, ◌++◌, map, Some}
+use Rattle.dt_model.specs.Names.{Name}
+use Rattle.dt_model.specs.Path.{Path}
+use Rattle.dt_model.specs.Tree.{Property, node_at}
+use Rattle.dt_read.specs.Placed.{Nodes, no_nodes, node, forest_of, PlacedTree, reading_of}
+
+-- a node begins, which has this place; a property of the node that is open; the node that is open ends
+pub data Step : Type 0 where
+  opens : (place : ℕ) (name : Name) → Step
+  holds : (p : Property) → Step
+  closes : Step
+
+-- siblings: of each its properties, then its children
+abbrev pub steps_of_nodes : Nodes → List Step
+steps_of_nodes no_nodes = []
+steps_of_nodes (node place name properties children siblings) =
+    opens place name ∷ (map holds properties ++ (steps_of_nodes children ++ closes ∷ steps_of_nodes siblings))
+
+-- the whole tree, the root first, which has no name
+abbrev pub steps_of : PlacedTree → List Step
+steps_of t = opens t.place [] ∷ (map holds t.properties ++ (steps_of_nodes t.children ++ closes ∷ []))
+
+-- the steps go through what the path's node has, up to its end, and on behind it
+pub record WalkIn (t : PlacedTree) (path : Path) (steps : List Step) : Type 0 where
+  pub properties : List Property
+  pub children : Nodes
+  pub behind : List Step
+  pub there : node_at (reading_of t) path ≡ Some (record { properties = properties; children = forest_of children })
+  pub whole : steps ≡ map holds properties ++ (steps_of_nodes children ++ closes ∷ behind)
