@@ -10,7 +10,7 @@ use Rattle.dtool.specs.Words.{AreFiles, IsFlag, Names, NamesNone, IsLine, Tells,
 use Rattle.dtool.specs.declared.job.Job.{Job}
 use Rattle.dtool.specs.declared.line.Line.{Line}
 use Rattle.dtool.specs.declared.words.LineFault.{LineFault}
-use Rattle.dtool.specs.declared.words.LineFault.TheVariants.{Memory, Unread, Words}
+use Rattle.dtool.specs.declared.words.LineFault.TheVariants.{Memory, Words}
 
 dtool_is_simple : is_simple dtool ≡ true
 unfolding clap_on_literals
@@ -38,7 +38,6 @@ module _ (app : App) (same : app ≡ dtool) (words : List Text) where
 
   pub told : (error : Error) (fault : LineFault) → (is_simple_and_free app ≡ true → HasKind (fault_of app words) error) → Tells error fault → WhyNoLine words fault
   told error Memory kinds tells = tt
-  told error (Unread _) kinds tells = absurd tells
   told error (Words passed) kinds tells = at (faults (λ faults. HasKind faults error) kinds)
     where
       at : HasKind (fault_of dtool words) error → WhyNoLine words (Words passed)

@@ -4,6 +4,6 @@ pub mod Job
 pub mod Asked
 pub mod Checking
 pub mod Showing
-pub mod Refused
+pub mod Run
 pub mod Report
 pub mod Words

@@ -1,8 +1,5 @@
 -- What the words of a command line ask for, as clap reads them.
 use Rattle.std.specs.Prelude.{◌≡◌, ◌≢◌, ◌⊎◌, [], ◌∷◌, List, Bool, Option, Some, true, false, codes, map, unwrap_or, if◌then◌else◌}
-use Rattle.std.specs.IoError.{error_kind}
-use Rattle.std.specs.declared.io.Error as io
-use Rattle.std.specs.declared.io.ErrorKind.TheVariants as kind
 use Rattle.clap.specs.Words.{App, Row, Rule, Text, IsAmong, all_of, fault_of, first_of, kind_of, new_app, new_rule, one_of, subcommand_of, with_rule, with_subcommand}
 use Rattle.clap.specs.declared.builder.action.ArgAction.TheVariants.{Append, SetTrue}
 use Rattle.clap.specs.declared.error.kind.ErrorKind.TheVariants.{MissingSubcommand, OutOfMemory}
@@ -11,7 +8,7 @@ use Rattle.dtool.specs.declared.job.Job.{Job}
 use Rattle.dtool.specs.declared.job.Job.TheVariants.{Compile, CompileRaw, Apply, Build, Check}
 use Rattle.dtool.specs.declared.line.Line.{Line}
 use Rattle.dtool.specs.declared.words.LineFault.{LineFault}
-use Rattle.dtool.specs.declared.words.LineFault.TheVariants.{Memory, Unread, Words}
+use Rattle.dtool.specs.declared.words.LineFault.TheVariants.{Memory, Words}
 
 -- `--hex`
 abbrev pub hex_flag : Rule
@@ -123,7 +120,6 @@ IsLine words line = (fault_of dtool words ≡ []) × Names (subcommand_of dtool 
 -- clap finds such a fault in the words, or no file
 abbrev pub WhyNoLine : List Text → LineFault → Type 0
 WhyNoLine words Memory = Unit {0}
-WhyNoLine words (Unread _) = ⊥
 WhyNoLine words (Words error) =
     IsAmong (kind_of error) (fault_of dtool words)
     ⊎ ((kind_of error ≡ MissingSubcommand) × NamesNone (subcommand_of dtool words))
@@ -131,11 +127,4 @@ WhyNoLine words (Words error) =
 -- how clap's error is passed on
 abbrev pub Tells : Error → LineFault → Type 0
 Tells error Memory = kind_of error ≡ OutOfMemory
-Tells error (Unread _) = ⊥
 Tells error (Words same) = (same ≡ error) × (kind_of error ≢ OutOfMemory)
-
--- how the error of a command line that can't be had is passed on
-abbrev pub TellsUnread : io.Error → LineFault → Type 0
-TellsUnread error Memory = error_kind error ≡ kind.OutOfMemory
-TellsUnread error (Unread same) = (same ≡ error) × (error_kind error ≢ kind.OutOfMemory)
-TellsUnread error (Words _) = ⊥

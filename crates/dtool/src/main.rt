@@ -8,100 +8,52 @@
 //! command line aren't a command.
 #![tactic(auto)]
 
-ghost use Rattle.std.specs.Prelude.{◌≡◌, length};
-ghost use Rattle.dtool.specs.Refused.{Passes};
-ghost use Rattle.dtool.specs.declared.Refusal.TheVariants.{Input};
-ghost use Rattle.dtool.specs.declared.words.LineFault.TheVariants.{Memory};
-
 mod applying;
 mod checking;
 mod compiling;
 mod files;
 mod job;
 mod line;
+mod prompt;
 mod report;
+mod run;
 mod showing;
 #[cfg(test)]
 mod tests;
 mod text;
 mod words;
 
-use crate::files::{load_all, slices};
-use crate::job::perform;
-use crate::line::Line;
-use crate::words::{LineFault, given, parse};
-use dt_names::{Fault, FaultKind, Out};
-use std::alloc::AllocError;
-use std::io::Write;
+use crate::files::SystemFiles;
+use crate::prompt::Prompt;
+use crate::run::run;
+use crate::words::{LineFault, line};
+use dt_names::Out;
+use std::io::ErrorKind;
 use std::process::ExitCode;
+use std::{env, io};
 
-/// Why the exit status isn't 0.
-#[derive(Drop)]
-enum Refusal {
-    /// The words of the command line are no command.
-    Words(LineFault),
-    /// An input, counted from 0, has a fault.
-    Input(usize, Fault),
-}
-
-impl From<LineFault> for Refusal {
-    ghost from_gives = { Passes };
-
-    fn from(fault: LineFault) -> Refusal {
-        match fault {
-            LineFault::Memory => Refusal::Input(0, Fault::of(FaultKind::NoMemory)),
-            fault => Refusal::Words(fault),
-        }
-    }
-}
-
-impl From<AllocError> for Refusal {
-    ghost from_gives = { λ _. Passes Memory };
-
-    fn from(_error: AllocError) -> Refusal {
-        Refusal::Input(0, Fault::of(FaultKind::NoMemory))
-    }
-}
-
-impl From<(usize, Fault)> for Refusal {
-    ghost from_gives = { λ e refusal. refusal ≡ Input e.0 e.1 };
-
-    fn from((input, fault): (usize, Fault)) -> Refusal {
-        Refusal::Input(input, fault)
-    }
+/// The words of the command line, of which the first is the program's name.
+fn given(rt: &HostRuntime) -> io::Result<Vec<String>> {
+    Ok(env::args(rt)?.collect(rt.alloc())?)
 }
 
 /// Does what the words of the command line ask for.
-fn run(rt: &HostRuntime) -> Result<(), Refusal> {
-    let words = given(rt)?;
-    let line = parse(rt.alloc(), words.as_slice())?;
-    let texts = load_all(rt, line.files.as_slice())?;
-    answer(rt, &line, texts.as_slice())
-}
-
-/// Does the job of a line on the texts of its files.
-fn answer(rt: &HostRuntime, line: &Line<'_>, texts: &[Vec<u8>]) -> Result<(), Refusal>
-    requires { length texts.now ≡ length line.now.files.items }
-{
-    let inputs = slices(rt.alloc(), texts)?;
-    let mut out = Out::new(rt.stdout());
-    perform(rt.alloc(), line.job, line.hex, inputs.as_slice(), &mut out)?;
-    match out.into_inner().flush() {
-        Ok(()) => Ok(()),
-        Err(_) => Err(Refusal::Input(0, Fault::of(FaultKind::WriteFault))),
-    }
-}
-
 fn main(rt: HostRuntime) -> ExitCode {
-    match run(&rt) {
-        Ok(()) => ExitCode::SUCCESS,
-        Err(Refusal::Input(input, fault)) => {
-            let _ = report::report(&mut Out::new(rt.stderr()), input, fault);
-            ExitCode::from(1)
+    let words = given(&rt);
+    let asked = match &words {
+        Ok(words) => line(rt.alloc(), words.as_slice()),
+        Err(error) if error.kind() == ErrorKind::OutOfMemory => Err(LineFault::Memory),
+        Err(error) => {
+            let _ = rt.eprintln(error);
+            return ExitCode::from(2);
         }
-        Err(Refusal::Words(fault)) => {
-            let _ = rt.eprint(fault);
-            ExitCode::from(2)
-        }
-    }
+    };
+    let status = run(
+        rt.alloc(),
+        asked,
+        &mut SystemFiles::new(&rt),
+        &mut Out::new(Prompt::new(rt.stdout())),
+        &mut Out::new(rt.stderr()),
+    );
+    ExitCode::from(status)
 }

@@ -18,6 +18,7 @@ use itoa::Buffer;
 /// `WriteFault` where the sink fails: it took a front of the line.
 pub fn report<S: Sink>(err: &mut S, input: usize, fault: Fault) -> Result<(), Fault>
     ensures told { OnOk result (Appends (S.contents err.old) (S.contents err.new) (fault_line input fault)) }
+    ensures sound { OnOk result (S.has_failed err.new ≡ S.has_failed err.old) }
     ensures refused { IfErr result (λ failure. (failure.kind ≡ WriteFault) × (failure.at ≡ None)
         × IsCutShort (fault_line input fault) (S.contents err.old) (S.contents err.new) (S.has_failed err.new)) }
 {

@@ -1,13 +1,15 @@
 //! What takes a sink, a feed or the words of a command line: cases that a table can't hold. Each test is one question to a
 //! function that borrows what is large, since a test that fails lets go of all that it holds.
 
-ghost use Rattle.std.specs.Prelude.{length};
+ghost use Rattle.std.specs.Prelude.{⊤, length};
 ghost use Rattle.dtool.specs.Job.{IsAsked};
 
-use crate::files::{load, load_all};
+use crate::files::{Files, SystemFiles, load_all};
 use crate::job::{Job, perform};
+use crate::prompt::Prompt;
 use crate::report::report;
-use crate::words::{LineFault, parse};
+use crate::run::run;
+use crate::words::{LineFault, line};
 use dt_chain::read_all;
 use dt_names::{Fault, FaultKind, Feed, In, Out, Path, Sink, put_all};
 use hex::decode;
@@ -298,12 +300,12 @@ fn the_longest_input(rt: HostRuntime) {
 }
 
 // Whether the words, parted by blanks, ask for this.
-fn asks_for(alloc: Global, line: &str, job: Job, hex: bool, files: &[&str]) -> bool {
-    let Ok(words) = line.split(' ').collect::<Vec<&str>>(alloc) else {
+fn asks_for(alloc: Global, text: &str, job: Job, hex: bool, files: &[&str]) -> bool {
+    let Ok(words) = text.split(' ').collect::<Vec<&str>>(alloc) else {
         return false;
     };
-    match parse(alloc, words.as_slice()) {
-        Ok(line) => line.job == job && line.hex == hex && line.files.as_slice() == files,
+    match line(alloc, words.as_slice()) {
+        Ok(asked) => asked.job == job && asked.hex == hex && asked.files.as_slice() == files,
         Err(_) => false,
     }
 }
@@ -344,8 +346,8 @@ const COMMANDS: [(&str, Job, bool, &[&str]); 11] = [
 
 #[test]
 fn words_that_are_a_command(rt: HostRuntime) {
-    for (line, job, hex, files) in COMMANDS {
-        assert!(rt; asks_for(rt.alloc(), line, job, hex, files), "{line}");
+    for (text, job, hex, files) in COMMANDS {
+        assert!(rt; asks_for(rt.alloc(), text, job, hex, files), "{text}");
     }
 }
 
@@ -357,7 +359,7 @@ const NO_COMMANDS: [&str; 18] = [
     "dtool compile --hex --hex a.dts",
     "dtool compile --hexadecimal a.dts",
     "dtool --hex compile a.dts",
-    "dtool decompile a.dts",
+    "dtool decompile a.dtb",
     "dtool apply",
     "dtool apply --raw a.dtb",
     "dtool --raw apply a.dtb",
@@ -370,36 +372,171 @@ const NO_COMMANDS: [&str; 18] = [
     "dtool compile --help",
 ];
 
-fn is_no_command(alloc: Global, line: &str) -> bool {
-    match line.split(' ').collect::<Vec<&str>>(alloc) {
-        Ok(words) => matches!(parse(alloc, words.as_slice()), Err(LineFault::Words(_))),
+fn is_no_command(alloc: Global, text: &str) -> bool {
+    match text.split(' ').collect::<Vec<&str>>(alloc) {
+        Ok(words) => matches!(line(alloc, words.as_slice()), Err(LineFault::Words(_))),
         Err(_) => false,
     }
 }
 
 #[test]
 fn words_that_are_none(rt: HostRuntime) {
-    for line in NO_COMMANDS {
-        assert!(rt; is_no_command(rt.alloc(), line), "{line}");
+    for text in NO_COMMANDS {
+        assert!(rt; is_no_command(rt.alloc(), text), "{text}");
     }
 }
 
-fn is_source(text: Result<Vec<u8>, Fault>) -> bool {
-    text.is_ok_and(|text| text.as_slice() == SOURCE)
-}
-
-// Whether the second file is refused.
-fn is_second_refused(rt: &HostRuntime) -> bool {
+// Whether a file of the system is read, and one that isn't there is told.
+fn is_read_until_removed(rt: &HostRuntime) -> Result<bool, Fail> {
+    fs::write(rt, "input-of-a-test.dts", SOURCE)?;
+    let mut files = SystemFiles::new(rt);
     let names = ["input-of-a-test.dts", "no-input-of-a-test.dts"];
-    load_all(rt, &names).err() == Some((1, Fault::of(FaultKind::ReadFault)))
+    let no_file = Fault::of(FaultKind::ReadFault);
+    let is_read = load_all(rt.alloc(), &mut files, &names[..1]).is_ok_and(
+        |texts| texts[0].as_slice() == SOURCE,
+    );
+    let is_told = load_all(rt.alloc(), &mut files, &names).err() == Some((1, no_file));
+    fs::remove_file(rt, "input-of-a-test.dts")?;
+    let is_gone = load_all(rt.alloc(), &mut files, &names).err() == Some((0, no_file));
+    Ok(is_read && is_told && is_gone)
 }
 
 #[test]
 fn files(rt: HostRuntime) -> Result<(), Fail> {
-    fs::write(&rt, "input-of-a-test.dts", SOURCE)?;
-    let is_read = is_source(load(&rt, "input-of-a-test.dts")) && is_second_refused(&rt);
-    fs::remove_file(&rt, "input-of-a-test.dts")?;
-    let fault = load(&rt, "input-of-a-test.dts").err();
-    assert!(rt; is_read && fault == Some(Fault::of(FaultKind::ReadFault)));
+    let is_right = is_read_until_removed(&rt)?;
+    assert!(rt; is_right);
     Ok(())
+}
+
+// Files in a test: each but one holds the source, and standard input holds it too.
+#[derive(Drop)]
+struct Shelf {
+    alloc: Global,
+    asked: usize,
+}
+
+impl Files for Shelf {
+    ghost tells = { λ _ _ _. ⊤ };
+
+    fn load(&mut self, name: &str) -> Result<Vec<u8>, Fault> {
+        self.asked = self.asked.saturating_add(1);
+        if name == "none" {
+            return Err(Fault::of(FaultKind::ReadFault));
+        }
+        read_all(self.alloc, &mut In::new(SOURCE))
+    }
+}
+
+// Whether a run on these words, parted by blanks, has this status, asks for so many files, and writes this.
+fn ends(alloc: Global, text: &str, status: u8, asked: usize, out: &[u8], err: &[u8]) -> bool {
+    let Ok(words) = text.split(' ').collect::<Vec<&str>>(alloc) else {
+        return false;
+    };
+    let mut files = Shelf { alloc, asked: 0 };
+    let mut told = Out::new(make_narrow(alloc, 7, 1000));
+    let mut made = Out::new(make_narrow(alloc, 9, 1000));
+    let answer = run(
+        alloc,
+        line(alloc, words.as_slice()),
+        &mut files,
+        &mut made,
+        &mut told,
+    );
+    answer == status
+        && files.asked == asked
+        && made.into_inner().held.as_slice() == out
+        && told.into_inner().held.as_slice() == err
+}
+
+#[test]
+fn runs(rt: HostRuntime) -> Result<(), Fail> {
+    let alloc = rt.alloc();
+    let blob = decode(alloc, BLOB)?;
+    let hex =
+        b"d00dfeed0000004800000038000000480000002800000011000000100000000000000000000000100000000000000000000000000000000000000001000000000000000200000009\n";
+    assert!(rt; ends(alloc, "dtool compile a.dts", 0, 1, blob.as_slice(), b""));
+    assert!(rt; ends(alloc, "dtool build --hex stdin", 0, 1, hex, b""));
+    assert!(rt;
+        ends(
+            alloc,
+            "dtool build stdin stdin",
+            1,
+            1,
+            b"",
+            b"dtool: input 1: fault 10 BadVersionTag at 0\n"
+        )
+    );
+    assert!(rt;
+        ends(
+            alloc,
+            "dtool build a.dts none stdin",
+            1,
+            2,
+            b"",
+            b"dtool: input 1: fault 91 ReadFault\n"
+        )
+    );
+    assert!(rt;
+        ends(
+            alloc,
+            "dtool check a.dts",
+            1,
+            1,
+            b"",
+            b"dtool: input 0: fault 40 ShortHeader\n"
+        )
+    );
+    Ok(())
+}
+
+// The status of a run on these words, where standard error takes so many bytes.
+fn status_of(alloc: Global, text: &str, room: usize) -> Option<u8> {
+    let words = text.split(' ').collect::<Vec<&str>>(alloc).ok()?;
+    let mut files = Shelf { alloc, asked: 0 };
+    let mut made = Out::new(make_narrow(alloc, 9, 9));
+    let mut told = Out::new(make_narrow(alloc, 9, room));
+    Some(run(
+        alloc,
+        line(alloc, words.as_slice()),
+        &mut files,
+        &mut made,
+        &mut told,
+    ))
+}
+
+#[test]
+fn statuses(rt: HostRuntime) {
+    for room in [0, 20, 2000] {
+        assert!(rt; status_of(rt.alloc(), "dtool compile a.dts", room) == Some(1));
+        assert!(rt; status_of(rt.alloc(), "dtool compile none", room) == Some(1));
+        assert!(rt; status_of(rt.alloc(), "dtool --help", room) == Some(2));
+        assert!(rt; status_of(rt.alloc(), "dtool compile", room) == Some(2));
+    }
+}
+
+// Takes all bytes, and tells only where it is flushed that they didn't arrive.
+#[derive(Drop)]
+struct Full;
+
+impl Write for Full {
+    fn write(&mut self, bytes: &[u8]) -> IoResult<usize> {
+        Ok(bytes.len())
+    }
+
+    fn flush(&mut self) -> IoResult<()> {
+        Err(Error::from(ErrorKind::StorageFull))
+    }
+}
+
+#[test]
+fn a_full_disk(rt: HostRuntime) {
+    let fault = Fault::of(FaultKind::WriteFault);
+    let refused = perform(
+        rt.alloc(),
+        Job::Compile,
+        false,
+        &[SOURCE],
+        &mut Out::new(Prompt::new(Full)),
+    );
+    assert!(rt; refused.err() == Some((0, fault)));
 }

@@ -11,7 +11,6 @@ ghost use Rattle.dtool.specs.Words.{
   Names,
   NamesNone,
   Tells,
-  TellsUnread,
   WhyNoLine,
   apply_command,
   bare,
@@ -37,8 +36,6 @@ use clap::error::ErrorKind;
 use clap::{Arg, ArgAction, ArgMatches, Command};
 use std::alloc::{AllocError, Global};
 use std::convert::AsStr;
-use std::rt::Env;
-use std::{env, io};
 use thiserror::Error;
 
 /// Why words ask for nothing. Its `Display` is the text for the user.
@@ -47,30 +44,26 @@ pub enum LineFault {
     /// Memory was refused.
     #[error("dtool: out of memory\n")]
     Memory,
-    /// The words can't be had, or aren't text.
-    #[error("dtool: the words of the command line: {0}\n")]
-    Unread(io::Error),
     /// The words are no command, or ask for help.
     #[error("{0}")]
     Words(clap::Error),
 }
+
+/// What the exit status tells, at the end of each help.
+const STATUSES: &str = "\
+Each FILE, BASE and OVERLAY is the name of a file; the word stdin is standard input, which is read once.
+A fault is told on standard error, as `dtool: input K: fault N Name at P`: inputs are counted from 0, and P is a byte's place.
+
+Exit status:
+  0  all was done
+  1  an input has a fault, or can't be read, or the output can't be written
+  2  the words are no command, or ask for help";
 
 impl From<AllocError> for LineFault {
     ghost from_gives = { λ _ fault. fault ≡ Memory };
 
     fn from(_error: AllocError) -> LineFault {
         LineFault::Memory
-    }
-}
-
-impl From<io::Error> for LineFault {
-    ghost from_gives = { TellsUnread };
-
-    fn from(error: io::Error) -> LineFault {
-        match error.kind() {
-            io::ErrorKind::OutOfMemory => LineFault::Memory,
-            _ => LineFault::Unread(error),
-        }
     }
 }
 
@@ -85,21 +78,12 @@ impl From<clap::Error> for LineFault {
     }
 }
 
-/// The words of the command line, of which the first is the program's name.
-///
-/// # Errors
-///
-/// `Unread` where one isn't UTF-8, and `Memory`.
-pub fn given<R: Env + AllocGlobal>(rt: &R) -> Result<Vec<String>, LineFault> {
-    Ok(env::args(rt)?.collect(rt.alloc())?)
-}
-
 /// What the words of a command line ask for, of which the first is the program's name.
 ///
 /// # Errors
 ///
 /// `Words` where they are no command that the tool has, or ask for help; and `Memory`.
-pub fn parse<'a, S: AsStr>(alloc: Global, words: &'a [S]) -> Result<Line<'a>, LineFault>
+pub fn line<'a, S: AsStr>(alloc: Global, words: &'a [S]) -> Result<Line<'a>, LineFault>
     ensures line { IfOk result (IsLine (map S.text words.entry.now)) }
     ensures refused { IfErr result (WhyNoLine (map S.text words.entry.now)) }
 {
@@ -274,6 +258,7 @@ fn compile<'a>(alloc: Global) -> Result<Command<'a>, AllocError>
 {
     Command::new(alloc, "compile")
         .about("Makes a blob of a devicetree source; of an overlay's, the object that is applied")
+        .after_help(STATUSES)
         .arg(hex(alloc))?
         .arg(raw(alloc))?
         .arg(file(alloc, "The source; the word stdin is standard input"))
@@ -321,6 +306,7 @@ fn with_overlays<'a>(
     ensures own { IfOk result (λ whole. (out-Command whole).has_globals ≡ false) }
 {
     command
+        .after_help(STATUSES)
         .arg(hex(alloc))?
         .arg(base(alloc, base_help))?
         .arg(overlays(alloc, overlay_help))
@@ -333,6 +319,7 @@ fn check<'a>(alloc: Global) -> Result<Command<'a>, AllocError>
 {
     Command::new(alloc, "check")
         .about("Checks a blob, and counts what it holds")
+        .after_help(STATUSES)
         .arg(file(alloc, "The blob; the word stdin is standard input"))
 }
 
@@ -341,7 +328,8 @@ fn without_commands<'a>(alloc: Global) -> Command<'a>
     ensures { app_of result ≡ bare }
 {
     Command::new(alloc, "dtool")
-        .about("A tool for devicetrees")
+        .about("Compiles devicetree sources, applies overlays, and checks and prints blobs")
+        .after_help(STATUSES)
         .subcommand_required(true)
 }
 

@@ -1,17 +1,20 @@
-use Rattle.std.proofs.Common.{◌≡◌, ◌+◌, map, length, sym, ap, subst, arith, length-append, ◌∷◌, []}
+use Rattle.std.proofs.Common.{Bor, List, ℕ, arith}
 use Rattle.std.proofs.lemmas.List.{length-map}
-use Rattle.dtool.specs.Files.{AreLoadedFrom}
-use Rattle.dtool.proofs.Loading.{one_more}
+use Rattle.dtool.proofs.Loading.{loaded_before, not_next_before, one_more}
 use Rattle.dtool.proofs.files.load_all.Goals as goal
 
 pub loop-k-preserved : goal.loop-k-preserved
 loop-k-preserved g c =
-    let names = map (λ name. name.now) c.args.names.now in
-    let k = c.loop-k.k in
-    let (text, grown, one) = c.in_default.ensures.loaded in
-    let (all, count) = c.loop-k.invariant in
-    let old = map (λ t. t.items) c.loop-k.texts.items in
-    let so_far : k ≡ 0 + length old = omega (arith, count, length-map c.loop-k.texts.items (λ t. t.items)) in (
-      subst (AreLoadedFrom names 0) (sym grown) (one_more names 0 k old text all so_far one),
-      omega (arith, so_far, ap length grown, length-append old (text ∷ []), length-map c.load_next.new.texts.items (λ t. t.items)),
+    let (all, kept) = c.loop-k.invariant in
+    let (text, grown, one) = c.in_default.ensures.loaded in (
+      one_more _ _ _ _ _ text all grown (loaded_before _ _ _ _ text kept one),
+      λ other answer told. kept other answer (c.in_default.ensures.kept other answer told),
+    )
+
+pub returns-in-Err-clause-refused : goal.returns-in-Err-clause-refused
+returns-in-Err-clause-refused g c =
+    let (all, kept) = c.loop-k.invariant in
+    let (why, at) = c.in-Err.ensures.refused in (
+      record { before = omega (arith, c.loop-k-test.true, length-map c.args.names.now (λ (name : Bor (List ℕ)). name.now)); texts = _; loaded = all; why = not_next_before _ _ _ _ _ kept why },
+      at,
     )

@@ -1,8 +1,10 @@
--- The texts so far are those of the names before the index.
-use Rattle.std.proofs.Common.{◌≡◌, length, map}
-use Rattle.dtool.specs.Files.{AreLoadedFrom}
+-- The texts so far are those of the names before the index, and what may be told now may have been told before.
+use Rattle.std.proofs.Common.{ℕ, List, Result, map}
+use Rattle.dt_names.specs.declared.fault.FaultKind.{FaultKind}
+use Rattle.dtool.specs.Files.{AreLoadedTo}
 use Rattle.dtool.proofs.files.load_all.Given as goal
 
 abbrev pub invariant-loop-k : goal.invariant-loop-k
 invariant-loop-k g l =
-    AreLoadedFrom (map (λ name. name.now) l.names) 0 (map (λ text. text.items) l.texts.items) × (length l.texts.items ≡ l.k)
+    AreLoadedTo (g.F.Files.tells l.initial.files) (map (λ name. name.now) l.names) l.k (map (λ text. text.items) l.texts.items)
+    × ((other : List ℕ) (answer : Result (List ℕ) FaultKind) → g.F.Files.tells l.files other answer → g.F.Files.tells l.initial.files other answer)

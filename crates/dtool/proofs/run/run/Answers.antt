@@ -1,0 +1,19 @@
+use Rattle.std.proofs.Common.{Err, ap, ◌∙◌, inl, inr, refl}
+use Rattle.dtool.specs.Run.{done, faulty, no_command}
+use Rattle.dtool.proofs.Runs.{fault_is, untouched}
+use Rattle.dtool.proofs.run.run.Goals as goal
+
+pub returns-in-Ok-work : goal.returns-in-Ok-work
+returns-in-Ok-work g c = (done, refl, (c.in-Ok.line, c.in-Ok.is, c.in-Ok-work.ensures.done), untouched _ _)
+
+pub returns-in-Ok : goal.returns-in-Ok
+returns-in-Ok g c =
+    (faulty c.in-Err.input c.in-Err.fault, c.tell.ensures.status, inr (c.in-Ok.line, c.in-Ok.is, c.in-Err.ensures.refused), c.tell.ensures.said)
+
+pub returns-in-Err-Memory : goal.returns-in-Err-Memory
+returns-in-Err-Memory g c =
+    let fault = fault_is c.of.result _ c.of.ensures.kind c.of.ensures.at in
+    (faulty 0 c.of.result, c.tell-in-Err-Memory.ensures.status, inl (c.in-Err-Memory.is ∙ ap Err c.in-Err-Memory.field-0-is, refl, fault, untouched _ _), c.tell-in-Err-Memory.ensures.said)
+
+pub returns : goal.returns
+returns g c = (no_command c.in-Err-Words.error, c.tell_words.ensures.status, (c.in-Err-Words.is ∙ ap Err c.in-Err-Words.field-0-is, untouched _ _), c.tell_words.ensures.said)
