@@ -11,5 +11,6 @@ pub mod Outcomes
 pub mod OverlayOutcomes
 pub mod OverlayStages
 pub mod Places
+pub mod PrintedAgain
 pub mod Stages
 pub mod Turns

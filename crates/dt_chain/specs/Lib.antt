@@ -8,4 +8,5 @@ pub mod Applied
 pub mod Built
 pub mod Laws
 pub mod Chains
+pub mod Printing
 pub mod Input

@@ -1,13 +1,11 @@
 //! From a blob to a source.
 
-ghost use Rattle.std.specs.Prelude.{◌≡◌, ◌⊎◌, IfOk, IfErr};
-ghost use Rattle.dt_model.specs.Format.{Reads, IsWithin};
-ghost use Rattle.dt_model.specs.Tree.{Reading};
+ghost use Rattle.std.specs.Prelude.{◌≡◌, IfOk, IfErr};
 ghost use Rattle.dt_names.specs.declared.fault.FaultKind.TheVariants.{NoMemory};
 ghost use Rattle.dt_printed.specs.Printed.{printed};
 ghost use Rattle.dt_read.specs.Placed.{reading_of};
-ghost use Rattle.dt_chain.specs.Applied.{IsNoBlob};
 ghost use Rattle.dt_chain.specs.Compiled.{told};
+ghost use Rattle.dt_chain.specs.Printing.{IsDecompiled, WhyNotDecompiled};
 
 use dt_decompile::text_of;
 use dt_names::{Fault, FaultKind, Out};
@@ -21,8 +19,8 @@ use std::alloc::Global;
 ///
 /// The first fault of bytes that are no blob, at its place; and `NoMemory`, without a place.
 pub fn decompile(alloc: Global, bytes: &[u8]) -> Result<Vec<u8>, Fault>
-    ensures printed { IfOk result (λ text. (t : Reading) × Reads bytes.now t × IsWithin bytes.now t × (text.items ≡ printed t)) }
-    ensures refused { IfErr result (λ fault. (fault ≡ told NoMemory) ⊎ IsNoBlob bytes.now fault) }
+    ensures printed { IfOk result (λ text. IsDecompiled bytes.now text.items) }
+    ensures refused { IfErr result (λ fault. WhyNotDecompiled bytes.now fault) }
 {
     let blob = Blob::check(bytes)?;
     text_in_memory(alloc, &blob)

@@ -25,6 +25,12 @@ ghost use Rattle.dt_chain.specs.Chains.{
   BuildingIsMerging,
   NotBuiltIsNoMeaning,
 };
+ghost use Rattle.dt_chain.specs.Printing.{
+  OneText,
+  DecompiledIsNotRefused,
+  OneRefusalToDecompile,
+  PrintedIsCompiledAgain,
+};
 
 use dt_landing::{
     applied_is_not_refused, applied_is_one, limit_is_exceeded, one_refusal, refused_is_undefined,
@@ -37,6 +43,7 @@ use dt_laws::{
 };
 use dt_model::one_reading;
 use dt_parse::parsed_has_places;
+use dt_printed::{read_trees_hold_bytes, text_is_parsed, text_is_tree};
 use dt_write::written_reads;
 
 /// A text means one thing: a base's one meaning, an overlay's one overlay.
@@ -140,5 +147,31 @@ pub fn what_building_means()
     in_turn_is_fold();
     sites_are_one();
     refused_is_undefined();
+    written_reads();
+}
+
+/// A blob is printed as one text, or is refused for one reason, and not both, unless memory is wanted.
+pub fn one_text()
+    ensures text { OneText }
+    ensures only { DecompiledIsNotRefused }
+    ensures refusal { OneRefusalToDecompile }
+{
+    one_reading();
+    blob_has_no_fault();
+    first_fault_is_one();
+}
+
+/// What a blob is printed as is compiled again, taken as it stands, where it is no longer than a source may be: to a blob that is
+/// read as the same tree, its reservations, nodes and properties in their order, with boot CPU 0.
+pub fn what_printing_means()
+    ensures again { PrintedIsCompiledAgain }
+{
+    one_reading();
+    read_trees_hold_bytes();
+    text_is_parsed();
+    text_is_tree();
+    dt_parse::one_outcome();
+    compiled_tree_is_one();
+    compiled_is_not_refused();
     written_reads();
 }

@@ -14,6 +14,6 @@ pub use compiling::{compile, compile_raw};
 pub use decompiling::decompile;
 pub use input::read_all;
 pub use laws::{
-    one_blob, one_meaning, one_outcome, what_applying_means, what_building_means,
-    what_compiling_means,
+    one_blob, one_meaning, one_outcome, one_text, what_applying_means, what_building_means,
+    what_compiling_means, what_printing_means,
 };
