@@ -1,5 +1,5 @@
 -- A blob has one text, which is compiled to the blob's tree again.
-use Rattle.std.proofs.Common.{◌≡◌, ◌≢◌, ◌⊎◌, inl, inr, ℕ, ◌<◌, ◌≤◌, List, length, refl, sym, ap, subst, ◌∙◌, arith}
+use Rattle.std.proofs.Common.{◌≡◌, ◌≢◌, inl, inr, ℕ, ◌<◌, ◌≤◌, List, length, refl, sym, ap, subst, ◌∙◌, arith}
 use Rattle.std.specs.List.{AllByRecursion}
 use Rattle.dt_model.specs.Format.{Reads}
 use Rattle.dt_model.specs.Limits.{most_bytes}
@@ -15,10 +15,10 @@ use Rattle.dt_printed.specs.Laws.{TextIsParsed, TextIsTree, ReadTreesHoldBytes}
 use Rattle.dt_printed.specs.Printed.{printed}
 use Rattle.dt_printed.specs.Said.{said, HasBytes}
 use Rattle.dt_write.specs.Written.{written}
-use Rattle.dt_chain.specs.Applied.{IsRead, IsNoBlob}
+use Rattle.dt_chain.specs.Applied.{IsRead}
 use Rattle.dt_chain.specs.Compiled.{IsCompiled, WhyNotCompiled, told, no_memory, no_tree, big}
 use Rattle.dt_chain.specs.Means.{TextHasTree}
-use Rattle.dt_chain.specs.Printing.{IsDecompiled, WhyNotDecompiled, OneText, DecompiledIsNotRefused, OneRefusalToDecompile, without_boot_cpu, IsCompiledAgain, PrintedIsCompiledAgain}
+use Rattle.dt_chain.specs.Printing.{OneText, DecompiledIsNotRefused, OneRefusalToDecompile, without_boot_cpu, PrintedIsCompiledAgain}
 use Rattle.dt_chain.proofs.AppliedOutcomes.{OneReading, fault_once}
 use Rattle.dt_chain.proofs.Outcomes.{SaidOnce, SaidOnly, WrittenReads, tree_once, tree_not_refused}
 
@@ -28,12 +28,12 @@ pub text_once : OneReading → OneText
 text_once one bytes text other h k = h.is ∙ ap printed (one bytes h.tree k.tree h.read.reads k.read.reads) ∙ sym k.is
 
 pub not_refused : BlobHasNoFault → DecompiledIsNotRefused
-not_refused none bytes text e h (inl no) = ap (λ (f : Fault). f.kind) no
+not_refused none bytes text e h (inl same) = ap (λ (f : Fault). f.kind) same
 not_refused none bytes text e h (inr why) = absurd (none bytes h.tree why.fault e.at h.read.reads h.read.within why.first)
 
 pub refused_once : FirstFaultIsOne → OneRefusalToDecompile
-refused_once one bytes e f (inl no) also wanted wanted' = absurd (wanted (ap (λ (g : Fault). g.kind) no))
-refused_once one bytes e f (inr why) (inl no) wanted wanted' = absurd (wanted' (ap (λ (g : Fault). g.kind) no))
+refused_once one bytes e f (inl same) also wanted wanted' = absurd (wanted (ap (λ (g : Fault). g.kind) same))
+refused_once one bytes e f (inr why) (inl same) wanted wanted' = absurd (wanted' (ap (λ (g : Fault). g.kind) same))
 refused_once one bytes e f (inr why) (inr also) wanted wanted' = fault_once one bytes e f why also wanted wanted'
 
 -- ---- compiled again
@@ -41,7 +41,7 @@ refused_once one bytes e f (inr why) (inr also) wanted wanted' = fault_once one 
 -- the tree with boot CPU 0 is one that a blob may hold
 still_valid : (t : Reading) → IsValid t → IsValid (without_boot_cpu t)
 still_valid t h = record {
-  boot_cpu = arith;
+  boot_cpu = omega arith;
   reservations = h.reservations;
   properties = h.properties;
   nodes = h.nodes;
