@@ -168,6 +168,42 @@ fn carry_out<T: Target>(
     land_planned(alloc, target, symbols, object, brought, plan)
 }
 
+// Applies an object by a plan of its own.
+fn carry_out_planned<T: Target>(
+    alloc: Global,
+    target: &mut T,
+    symbols: &Path,
+    object: &mut FlatTree,
+    brought: &mut Brought,
+) -> Result<(), Fault>
+    requires symbols { symbols.now ≡ codes "__symbols__" ∷ [] }
+    requires unbrought { IsUnbrought (length object.old.slots) brought.old }
+    ensures applied { OnOk result (IsApplied (T.reading target.old) (reading object.old) (T.reading target.new)) }
+    ensures well { OnOk result (IsWellFormed (T.reading target.old) (reading object.old)) }
+    ensures refused { IfErr result (λ fault. (fault.at ≡ None)
+        × WhyNotApplied fault.kind (T.reading target.old) (reading object.old)) }
+    ensures left { IfErr result (λ fault. IsLeftBy fault.kind (T.reading target.old) (reading object.old) (T.reading target.new)) }
+{
+    let mut plan = Plan::new(alloc);
+    let done = carry_out(alloc, target, symbols, object, brought, &mut plan);
+    // Let go of by hand: what goes at an exit by itself is proved there field by field.
+    drop(plan);
+    done
+}
+
+// Applies an object that may be written into.
+fn apply_tree<T: Target>(alloc: Global, target: &mut T, object: &mut FlatTree) -> Result<(), Fault>
+    ensures applied { OnOk result (IsApplied (T.reading target.old) (reading object.old) (T.reading target.new)) }
+    ensures well { OnOk result (IsWellFormed (T.reading target.old) (reading object.old)) }
+    ensures refused { IfErr result (λ fault. (fault.at ≡ None)
+        × WhyNotApplied fault.kind (T.reading target.old) (reading object.old)) }
+    ensures left { IfErr result (λ fault. IsLeftBy fault.kind (T.reading target.old) (reading object.old) (T.reading target.new)) }
+{
+    let symbols = symbols_path(alloc)?;
+    let mut brought = Brought::new(alloc, object.node_count())?;
+    carry_out_planned(alloc, target, &symbols, object, &mut brought)
+}
+
 /// Applies an overlay's object to a tree (dtc's notes on overlay objects): the nodes and the properties that its fragments bring
 /// are added to the nodes that the fragments name, or replace those that are there, fragment by fragment; each node that has a
 /// number gets the least one that no node of the tree has, in the object's preorder; the cells that the object lists hold the
@@ -189,16 +225,8 @@ pub fn apply<T: Target>(alloc: Global, target: &mut T, object: &Blob<'_>) -> Res
         × WhyNotApplied fault.kind (T.reading target.old) (reading_of object.now)) }
     ensures left { IfErr result (λ fault. IsLeftBy fault.kind (T.reading target.old) (reading_of object.now) (T.reading target.new)) }
 {
-    let mut object = object.to_flat(alloc)?;
-    let mut brought = Brought::new(alloc, object.node_count())?;
-    let symbols = symbols_path(alloc)?;
-    let mut plan = Plan::new(alloc);
-    carry_out(
-        alloc,
-        target,
-        &symbols,
-        &mut object,
-        &mut brought,
-        &mut plan,
-    )
+    let mut tree = object.to_flat(alloc)?;
+    let done = apply_tree(alloc, target, &mut tree);
+    drop(tree);
+    done
 }
