@@ -12,12 +12,18 @@ use Rattle.dt_chain.specs.Blobs as blobs
 use Rattle.dt_chain.specs.Built.{IsBlobBuilt, WhyNoBlobBuilt}
 use Rattle.dt_chain.specs.Compiled.{IsCompiled, WhyNotCompiled, IsCompilerFault}
 use Rattle.dt_chain.proofs.Places.{memory_unplaced, blob_unplaced}
-use Rattle.dtool.specs.Job.{IsWritten, TakesMemory, WhyNotMade, WhyNotPerformed, printed}
+use Rattle.dtool.specs.Job.{IsWritten, TakesMemory, WhyNotMade, WhyNotPerformed, encoded}
 use Rattle.dtool.specs.Showing.{WhyNotShown}
 use Rattle.dtool.specs.Written.{IsUntouched}
 use Rattle.dtool.specs.declared.job.Job.{Job}
-use Rattle.dtool.specs.declared.job.Job.TheVariants.{Compile, CompileRaw, Apply, Build, Check}
+use Rattle.dtool.specs.declared.job.Job.TheVariants.{Compile, CompileRaw, Apply, Build, Print, Check}
 use Rattle.dtool.proofs.InputFaults.{IsOfInput, blob_not_applied, compiler_only, inside, text_not_built}
+
+-- the job is done on a blob
+abbrev TakesBlob : Job → Type 0
+TakesBlob Print = Unit {0}
+TakesBlob Check = Unit {0}
+TakesBlob _ = ⊥
 
 module _ (old new : Option (List ℕ)) (had_failed has_failed : Bool) where
   -- ---- a job that takes memory
@@ -30,10 +36,10 @@ module _ (old new : Option (List ℕ)) (had_failed has_failed : Bool) where
   refused job k _ at hex inputs takes inside own made same = (made, same)
 
   shown : (job : Job) (kind : FaultKind) (at : Option ℕ) (hex : Bool) (inputs : List (List ℕ)) (blob : List ℕ) → TakesMemory job → 0 < length inputs →
-      IsWritten job hex inputs (printed hex blob) → WhyNotShown kind at (printed hex blob) old new had_failed has_failed →
+      IsWritten job hex inputs (encoded hex blob) → WhyNotShown kind at (encoded hex blob) old new had_failed has_failed →
       WhyNotPerformed 0 kind at job hex inputs old new had_failed has_failed
   shown job NoMemory at hex inputs blob takes some written why = (takes, some, why.0, why.1)
-  shown job WriteFault at hex inputs blob takes some written why = (refl, why.0, printed hex blob, written, why.1)
+  shown job WriteFault at hex inputs blob takes some written why = (refl, why.0, encoded hex blob, written, why.1)
   shown job _ at hex inputs blob takes some written why = absurd why
 
   -- ---- of a source
@@ -48,12 +54,12 @@ module _ (old new : Option (List ℕ)) (had_failed has_failed : Bool) where
   not_compiled_raw fault hex text why own same =
       refused CompileRaw 0 fault.kind fault.at hex (text ∷ []) tt (omega arith) (compiler_only fault.kind own, memory_unplaced raw text fault why) (refl, why, own) same
 
-  pub not_shown : (r : Result (Unit {0}) Fault) (hex : Bool) (text blob : List ℕ) → blobs.IsBlobOf text blob → IfErr r (λ fault. WhyNotShown fault.kind fault.at (printed hex blob) old new had_failed has_failed) →
+  pub not_shown : (r : Result (Unit {0}) Fault) (hex : Bool) (text blob : List ℕ) → blobs.IsBlobOf text blob → IfErr r (λ fault. WhyNotShown fault.kind fault.at (encoded hex blob) old new had_failed has_failed) →
       IfErr r (λ fault. WhyNotPerformed 0 fault.kind fault.at Compile hex (text ∷ []) old new had_failed has_failed)
   not_shown (Ok done) hex text blob made why = tt
   not_shown (Err fault) hex text blob made why = shown Compile fault.kind fault.at hex (text ∷ []) blob tt (omega arith) (blob, made, refl) why
 
-  pub not_shown_raw : (r : Result (Unit {0}) Fault) (hex : Bool) (text blob : List ℕ) → IsCompiled raw text blob → IfErr r (λ fault. WhyNotShown fault.kind fault.at (printed hex blob) old new had_failed has_failed) →
+  pub not_shown_raw : (r : Result (Unit {0}) Fault) (hex : Bool) (text blob : List ℕ) → IsCompiled raw text blob → IfErr r (λ fault. WhyNotShown fault.kind fault.at (encoded hex blob) old new had_failed has_failed) →
       IfErr r (λ fault. WhyNotPerformed 0 fault.kind fault.at CompileRaw hex (text ∷ []) old new had_failed has_failed)
   not_shown_raw (Ok done) hex text blob made why = tt
   not_shown_raw (Err fault) hex text blob made why = shown CompileRaw fault.kind fault.at hex (text ∷ []) blob tt (omega arith) (blob, made, refl) why
@@ -71,25 +77,30 @@ module _ (old new : Option (List ℕ)) (had_failed has_failed : Bool) where
       refused Build k fault.kind fault.at hex (text ∷ overlays) tt (omega (arith, inside text overlays k fault why)) (text_not_built text overlays k fault why) why same
 
   pub applied_not_shown : (fault : Fault) (hex : Bool) (base : List ℕ) (objects : List (List ℕ)) (blob : List ℕ) → IsBlobApplied base objects blob →
-      WhyNotShown fault.kind fault.at (printed hex blob) old new had_failed has_failed →
+      WhyNotShown fault.kind fault.at (encoded hex blob) old new had_failed has_failed →
       WhyNotPerformed 0 fault.kind fault.at Apply hex (base ∷ objects) old new had_failed has_failed
   applied_not_shown fault hex base objects blob made why =
       shown Apply fault.kind fault.at hex (base ∷ objects) blob tt (omega arith) (blob, made, refl) why
 
   pub built_not_shown : (fault : Fault) (hex : Bool) (text : List ℕ) (overlays : List (List ℕ)) (blob : List ℕ) → IsBlobBuilt text overlays blob →
-      WhyNotShown fault.kind fault.at (printed hex blob) old new had_failed has_failed →
+      WhyNotShown fault.kind fault.at (encoded hex blob) old new had_failed has_failed →
       WhyNotPerformed 0 fault.kind fault.at Build hex (text ∷ overlays) old new had_failed has_failed
   built_not_shown fault hex text overlays blob made why =
       shown Build fault.kind fault.at hex (text ∷ overlays) blob tt (omega arith) (blob, made, refl) why
 
-  -- ---- of a blob that is checked
+  -- ---- of a blob that is printed or checked
 
-  of_fault : (f : BlobFault) (at : Option ℕ) (blob : List ℕ) → IsFirstFault blob f at → IsUntouched old new had_failed has_failed →
-      WhyNotPerformed 0 (kind_of f) at Check false (blob ∷ []) old new had_failed has_failed
-  of_fault checks.short_header at blob first same = ((refl, (checks.short_header, refl, first)), same)
-  of_fault f at blob first same = ((refl, (f, refl, first)), same)
+  made : (job : Job) (f : BlobFault) (at : Option ℕ) (blob : List ℕ) → TakesBlob job → IsFirstFault blob f at → WhyNotMade 0 (kind_of f) at job (blob ∷ [])
+  made Print f at blob takes first = (refl, (f, refl, first))
+  made Check f at blob takes first = (refl, (f, refl, first))
+  made _ f at blob takes first = absurd takes
 
-  pub no_blob : (f : BlobFault) (kind : FaultKind) (at : Option ℕ) (blob : List ℕ) → kind ≡ kind_of f → IsFirstFault blob f at → IsUntouched old new had_failed has_failed →
-      WhyNotPerformed 0 kind at Check false (blob ∷ []) old new had_failed has_failed
-  no_blob f kind at blob is first same =
-      subst (λ (k : FaultKind). WhyNotPerformed 0 k at Check false (blob ∷ []) old new had_failed has_failed) (sym is) (of_fault f at blob first same)
+  of_fault : (job : Job) (f : BlobFault) (at : Option ℕ) (blob : List ℕ) → TakesBlob job → IsFirstFault blob f at → IsUntouched old new had_failed has_failed →
+      WhyNotPerformed 0 (kind_of f) at job false (blob ∷ []) old new had_failed has_failed
+  of_fault job checks.short_header at blob takes first same = (made job checks.short_header at blob takes first, same)
+  of_fault job f at blob takes first same = (made job f at blob takes first, same)
+
+  pub no_blob : (job : Job) (f : BlobFault) (kind : FaultKind) (at : Option ℕ) (blob : List ℕ) → TakesBlob job → kind ≡ kind_of f → IsFirstFault blob f at →
+      IsUntouched old new had_failed has_failed → WhyNotPerformed 0 kind at job false (blob ∷ []) old new had_failed has_failed
+  no_blob job f kind at blob takes is first same =
+      subst (λ (k : FaultKind). WhyNotPerformed 0 k at job false (blob ∷ []) old new had_failed has_failed) (sym is) (of_fault job f at blob takes first same)

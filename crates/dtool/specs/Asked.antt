@@ -4,11 +4,12 @@ use native.Mathlib.Bridge.{le_prop}
 use native.Mathlib.Nat.{ℕ_set}
 use Rattle.dtool.specs.Job.{IsAsked}
 use Rattle.dtool.specs.declared.job.Job.{Job}
-use Rattle.dtool.specs.declared.job.Job.TheVariants.{Compile, CompileRaw, Apply, Build, Check}
+use Rattle.dtool.specs.declared.job.Job.TheVariants.{Compile, CompileRaw, Apply, Build, Print, Check}
 
 pub IsAsked-prop : (job : Job) (count : ℕ) → IsProp (IsAsked job count)
 IsAsked-prop Compile count = ℕ_set count 1
 IsAsked-prop CompileRaw count = ℕ_set count 1
 IsAsked-prop Apply count = le_prop
 IsAsked-prop Build count = le_prop
+IsAsked-prop Print count = ℕ_set count 1
 IsAsked-prop Check count = ℕ_set count 1

@@ -8,14 +8,16 @@ use Rattle.dt_model.specs.Format.{Reads, IsWithin}
 use Rattle.dt_model.specs.Checks.{BlobFault, IsFirstFault}
 use Rattle.dt_names.specs.declared.fault.FaultKind.{FaultKind}
 use Rattle.dt_names.specs.declared.fault.FaultKind.TheVariants.{NoMemory, WriteFault}
+use Rattle.dt_printed.specs.Printed.{printed}
 use Rattle.dt_read.specs.Kinds.{kind_of}
 use Rattle.dt_chain.specs.Applied.{IsBlobApplied, WhyNoBlobApplied}
 use Rattle.dt_chain.specs.Blobs as blobs
 use Rattle.dt_chain.specs.Built.{IsBlobBuilt, WhyNoBlobBuilt}
 use Rattle.dt_chain.specs.Compiled.{IsCompiled, WhyNotCompiled, IsCompilerFault}
-use Rattle.dtool.specs.Written.{IsUntouched, IsCutShort}
+use Rattle.dt_decompile.specs.Cut.{IsCutShort}
+use Rattle.dtool.specs.Written.{IsUntouched}
 use Rattle.dtool.specs.declared.job.Job.{Job}
-use Rattle.dtool.specs.declared.job.Job.TheVariants.{Compile, CompileRaw, Apply, Build, Check}
+use Rattle.dtool.specs.declared.job.Job.TheVariants.{Compile, CompileRaw, Apply, Build, Print, Check}
 
 -- a job takes so many inputs
 abbrev pub IsAsked : Job → ℕ → Type 0
@@ -23,11 +25,19 @@ IsAsked Compile count = count ≡ 1
 IsAsked CompileRaw count = count ≡ 1
 IsAsked Apply count = 1 ≤ count
 IsAsked Build count = 1 ≤ count
+IsAsked Print count = count ≡ 1
 IsAsked Check count = count ≡ 1
 
 -- how a blob is written: as it is, or as hexadecimal and a line feed
-abbrev pub printed : Bool → List ℕ → List ℕ
-printed hex blob = if hex then encode_lower blob ++ 10 ∷ [] else blob
+abbrev pub encoded : Bool → List ℕ → List ℕ
+encoded hex blob = if hex then encode_lower blob ++ 10 ∷ [] else blob
+
+-- the source of a blob's tree
+pub record IsPrinted (blob text : List ℕ) : Type 0 where
+  pub tree : Reading
+  pub reads : Reads blob tree
+  pub within : IsWithin blob tree
+  pub is : text ≡ printed tree
 
 -- `ok nodes N properties P reservations R`, and a line feed
 abbrev pub counts_line : Reading → List ℕ
@@ -43,16 +53,18 @@ pub record IsCounted (blob bytes : List ℕ) : Type 0 where
   pub line : bytes ≡ counts_line tree
 
 -- What the job writes of the inputs: the blob of a base or of an overlay; that of a source as it stands; that of a base with
--- objects applied, or with the overlays of sources; or a line.
+-- objects applied, or with the overlays of sources; the source of a blob; or a line.
 abbrev pub IsWritten : Job → Bool → List (List ℕ) → List ℕ → Type 0
-IsWritten Compile hex (text ∷ []) bytes = (blob : List ℕ) × blobs.IsBlobOf text blob × (bytes ≡ printed hex blob)
+IsWritten Compile hex (text ∷ []) bytes = (blob : List ℕ) × blobs.IsBlobOf text blob × (bytes ≡ encoded hex blob)
 IsWritten Compile hex _ bytes = ⊥
-IsWritten CompileRaw hex (text ∷ []) bytes = (blob : List ℕ) × IsCompiled raw text blob × (bytes ≡ printed hex blob)
+IsWritten CompileRaw hex (text ∷ []) bytes = (blob : List ℕ) × IsCompiled raw text blob × (bytes ≡ encoded hex blob)
 IsWritten CompileRaw hex _ bytes = ⊥
-IsWritten Apply hex (base ∷ objects) bytes = (blob : List ℕ) × IsBlobApplied base objects blob × (bytes ≡ printed hex blob)
+IsWritten Apply hex (base ∷ objects) bytes = (blob : List ℕ) × IsBlobApplied base objects blob × (bytes ≡ encoded hex blob)
 IsWritten Apply hex _ bytes = ⊥
-IsWritten Build hex (text ∷ overlays) bytes = (blob : List ℕ) × IsBlobBuilt text overlays blob × (bytes ≡ printed hex blob)
+IsWritten Build hex (text ∷ overlays) bytes = (blob : List ℕ) × IsBlobBuilt text overlays blob × (bytes ≡ encoded hex blob)
 IsWritten Build hex _ bytes = ⊥
+IsWritten Print hex (blob ∷ []) bytes = IsPrinted blob bytes
+IsWritten Print hex _ bytes = ⊥
 IsWritten Check hex (blob ∷ []) bytes = IsCounted blob bytes
 IsWritten Check hex _ bytes = ⊥
 
@@ -70,6 +82,8 @@ WhyNotMade k kind at Apply (base ∷ objects) = WhyNoBlobApplied base objects k 
 WhyNotMade k kind at Apply _ = ⊥
 WhyNotMade k kind at Build (text ∷ overlays) = WhyNoBlobBuilt text overlays k (record { kind = kind; at = at })
 WhyNotMade k kind at Build _ = ⊥
+WhyNotMade k kind at Print (blob ∷ []) = (k ≡ 0) × WhyNoBlob kind at blob
+WhyNotMade k kind at Print _ = ⊥
 WhyNotMade k kind at Check (blob ∷ []) = (k ≡ 0) × WhyNoBlob kind at blob
 WhyNotMade k kind at Check _ = ⊥
 
@@ -79,6 +93,7 @@ TakesMemory Compile = Unit {0}
 TakesMemory CompileRaw = Unit {0}
 TakesMemory Apply = Unit {0}
 TakesMemory Build = Unit {0}
+TakesMemory Print = ⊥
 TakesMemory Check = ⊥
 
 -- Why a job's output wasn't written, and of which input: memory was refused at one, to a job that takes some, or while hexadecimal is

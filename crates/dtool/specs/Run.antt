@@ -8,7 +8,8 @@ use Rattle.dt_names.specs.declared.fault.FaultKind.TheVariants.{NoMemory}
 use Rattle.dtool.specs.Files.{Tells, AreLoaded, WhyNotLoaded}
 use Rattle.dtool.specs.Job.{IsWritten, WhyNotPerformed}
 use Rattle.dtool.specs.Report.{fault_line}
-use Rattle.dtool.specs.Written.{IsUntouched, IsCutShort}
+use Rattle.dt_decompile.specs.Cut.{IsCutShort}
+use Rattle.dtool.specs.Written.{IsUntouched}
 use Rattle.dtool.specs.declared.line.Line.{Line}
 use Rattle.dtool.specs.declared.words.LineFault.{LineFault}
 use Rattle.dtool.specs.declared.words.LineFault.TheVariants.{Memory, Words}

@@ -2,7 +2,8 @@
 use Rattle.std.specs.Prelude.{◌≡◌, ℕ, List, Bool, Option, None}
 use Rattle.dt_names.specs.declared.fault.FaultKind.{FaultKind}
 use Rattle.dt_names.specs.declared.fault.FaultKind.TheVariants.{NoMemory, WriteFault}
-use Rattle.dtool.specs.Written.{IsUntouched, IsCutShort}
+use Rattle.dt_decompile.specs.Cut.{IsCutShort}
+use Rattle.dtool.specs.Written.{IsUntouched}
 
 -- Why what is to be written wasn't: memory was refused, and nothing was written; or the sink failed, and took a front of it.
 -- Neither has a place.

@@ -5,7 +5,7 @@ use Rattle.clap.specs.declared.builder.action.ArgAction.TheVariants.{Append, Set
 use Rattle.clap.specs.declared.error.kind.ErrorKind.TheVariants.{MissingSubcommand, OutOfMemory}
 use Rattle.clap.specs.declared.error.Error.{Error}
 use Rattle.dtool.specs.declared.job.Job.{Job}
-use Rattle.dtool.specs.declared.job.Job.TheVariants.{Compile, CompileRaw, Apply, Build, Check}
+use Rattle.dtool.specs.declared.job.Job.TheVariants.{Compile, CompileRaw, Apply, Build, Print, Check}
 use Rattle.dtool.specs.declared.line.Line.{Line}
 use Rattle.dtool.specs.declared.words.LineFault.{LineFault}
 use Rattle.dtool.specs.declared.words.LineFault.TheVariants.{Memory, Words}
@@ -46,6 +46,10 @@ apply_command = overlay_command (codes "apply")
 abbrev pub build_command : App
 build_command = overlay_command (codes "build")
 
+-- `print FILE`
+abbrev pub print_command : App
+print_command = with_rule (new_app (codes "print")) file_word
+
 -- `check FILE`
 abbrev pub check_command : App
 check_command = with_rule (new_app (codes "check")) file_word
@@ -57,8 +61,8 @@ bare = let new = new_app (codes "dtool") in record new { top = record new.top { 
 -- `dtool`, with one of its commands
 abbrev pub dtool : App
 dtool =
-    with_subcommand (with_subcommand (with_subcommand (with_subcommand bare compile_command.top) apply_command.top) build_command.top)
-    check_command.top
+    with_subcommand (with_subcommand (with_subcommand (with_subcommand (with_subcommand bare compile_command.top) apply_command.top) build_command.top)
+    print_command.top) check_command.top
 
 -- a job's command
 abbrev pub command_of : Job → Text
@@ -66,6 +70,7 @@ command_of Compile = codes "compile"
 command_of CompileRaw = codes "compile"
 command_of Apply = codes "apply"
 command_of Build = codes "build"
+command_of Print = codes "print"
 command_of Check = codes "check"
 
 -- a flag is there or not, as this says
@@ -79,6 +84,7 @@ HasFlags Compile rows hex = IsFlag (codes "hex") rows hex × IsFlag (codes "raw"
 HasFlags CompileRaw rows hex = IsFlag (codes "hex") rows hex × IsFlag (codes "raw") rows true
 HasFlags Apply rows hex = IsFlag (codes "hex") rows hex
 HasFlags Build rows hex = IsFlag (codes "hex") rows hex
+HasFlags Print rows hex = hex ≡ false
 HasFlags Check rows hex = hex ≡ false
 
 -- the job takes overlays, beside a base

@@ -2,11 +2,11 @@
 
 ghost use Rattle.std.specs.Prelude.{◌≡◌, None, false, codes, ◌++◌, ◌∷◌, [], List, ℕ, OnOk, IfErr};
 ghost use Rattle.std.specs.Io.KnownBytes.{Appends};
+ghost use Rattle.dt_decompile.specs.Cut.{IsCutShort};
 ghost use Rattle.dt_names.specs.declared.fault.FaultKind.TheVariants.{WriteFault};
 ghost use Rattle.dtool.specs.Checking.{line_of};
 ghost use Rattle.dtool.specs.Job.{IsWritten, WhyNotPerformed};
 ghost use Rattle.dtool.specs.Report.{joined};
-ghost use Rattle.dtool.specs.Written.{IsCutShort};
 ghost use Rattle.dtool.specs.declared.job.Job.TheVariants.{Check};
 
 use crate::text::put_pieces;

@@ -7,6 +7,7 @@ ghost use Rattle.dtool.specs.Job.{IsAsked, IsWritten, WhyNotPerformed};
 use crate::applying::{apply, build};
 use crate::checking::check;
 use crate::compiling::{compile, compile_raw};
+use crate::printing::print;
 use dt_names::{Fault, Sink};
 use std::alloc::Global;
 
@@ -21,12 +22,14 @@ pub enum Job {
     Apply,
     /// The blob of a base's source, which is the first input, with the overlays of other sources applied.
     Build,
+    /// The source of a blob.
+    Print,
     /// A line that tells how many nodes, properties and reservations a blob has.
     Check,
 }
 
 /// Does a job on its inputs, and writes what it makes: a blob as bytes, or with `hex` as lower-case hexadecimal and a
-/// line feed; or a line of text, whatever `hex`.
+/// line feed; or text, whatever `hex`.
 ///
 /// # Errors
 ///
@@ -71,6 +74,7 @@ fn run<S: Sink>(
         Job::CompileRaw => of_first(compile_raw(alloc, hex, first, out)),
         Job::Apply => apply(alloc, hex, first, others, out),
         Job::Build => build(alloc, hex, first, others, out),
+        Job::Print => of_first(print(first, out)),
         Job::Check => of_first(check(first, out)),
     }
 }

@@ -2,9 +2,9 @@
 
 ghost use Rattle.std.specs.Prelude.{◌≡◌, None, codes, ◌++◌, ◌∷◌, [], OnOk, IfErr};
 ghost use Rattle.std.specs.Io.KnownBytes.{Appends};
+ghost use Rattle.dt_decompile.specs.Cut.{IsCutShort};
 ghost use Rattle.dt_names.specs.declared.fault.FaultKind.TheVariants.{WriteFault};
 ghost use Rattle.dtool.specs.Report.{fault_line, joined};
-ghost use Rattle.dtool.specs.Written.{IsCutShort};
 
 use crate::text::put_pieces;
 use dt_names::{Fault, Sink};

@@ -2,7 +2,7 @@
 
 ghost use Rattle.std.specs.Prelude.{◌≡◌, OnOk, IfErr};
 ghost use Rattle.std.specs.Io.KnownBytes.{Appends};
-ghost use Rattle.dtool.specs.Job.{printed};
+ghost use Rattle.dtool.specs.Job.{encoded};
 ghost use Rattle.dtool.specs.Showing.{WhyNotShown};
 
 use dt_names::{Fault, Sink, put_all};
@@ -15,9 +15,9 @@ use std::alloc::Global;
 /// Want of memory for the hexadecimal, where nothing is written; and `WriteFault`, where the sink took a front of what was to be
 /// written. Neither has a place.
 pub fn show<S: Sink>(alloc: Global, hex: bool, blob: &[u8], out: &mut S) -> Result<(), Fault>
-    ensures written { OnOk result (Appends (S.contents out.old) (S.contents out.new) (printed hex blob.now)) }
+    ensures written { OnOk result (Appends (S.contents out.old) (S.contents out.new) (encoded hex blob.now)) }
     ensures sound { OnOk result (S.has_failed out.new ≡ S.has_failed out.old) }
-    ensures refused { IfErr result (λ fault. WhyNotShown fault.kind fault.at (printed hex blob.now)
+    ensures refused { IfErr result (λ fault. WhyNotShown fault.kind fault.at (encoded hex blob.now)
         (S.contents out.old) (S.contents out.new) (S.has_failed out.old) (S.has_failed out.new)) }
 {
     if !hex {

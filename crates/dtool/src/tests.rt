@@ -23,6 +23,8 @@ const SOURCE: &[u8] = b"/dts-v1/; / { };";
 const BLOB: &str =
     "d00dfeed0000004800000038000000480000002800000011000000100000000000000000000000100000000000000000000000000000000000000001000000000000000200000009";
 
+const TEXT: &[u8] = b"/dts-v1/;\n/ {\n};\n";
+
 const COUNTS: &[u8] = b"ok nodes 1 properties 0 reservations 0\n";
 
 // Is interrupted at each other call, takes at most `step` bytes at the others, and fails once, when it holds `room`.
@@ -97,6 +99,7 @@ fn are_jobs_cut(alloc: Global, blob: &[u8]) -> bool {
             b"d00dfeed0000004800000038000000480000002800000011000000100000000000000000000000100000000000000000000000000000000000000001000000000000000200000009\n",
         )
         && is_cut_anywhere(alloc, Job::Apply, false, blob, blob)
+        && is_cut_anywhere(alloc, Job::Print, true, blob, TEXT)
         && is_cut_anywhere(alloc, Job::Check, true, blob, COUNTS)
 }
 
@@ -310,7 +313,8 @@ fn asks_for(alloc: Global, text: &str, job: Job, hex: bool, files: &[&str]) -> b
     }
 }
 
-const COMMANDS: [(&str, Job, bool, &[&str]); 11] = [
+const COMMANDS: [(&str, Job, bool, &[&str]); 12] = [
+    ("dtool print a.dtb", Job::Print, false, &["a.dtb"]),
     ("dtool check a.dtb", Job::Check, false, &["a.dtb"]),
     ("dtool compile stdin", Job::Compile, false, &["stdin"]),
     ("dtool compile --hex a.dts", Job::Compile, true, &["a.dts"]),
@@ -351,7 +355,7 @@ fn words_that_are_a_command(rt: HostRuntime) {
     }
 }
 
-const NO_COMMANDS: [&str; 18] = [
+const NO_COMMANDS: [&str; 20] = [
     "",
     "dtool",
     "dtool compile",
@@ -364,6 +368,8 @@ const NO_COMMANDS: [&str; 18] = [
     "dtool apply --raw a.dtb",
     "dtool --raw apply a.dtb",
     "dtool build --hex",
+    "dtool print",
+    "dtool print --hex a.dtb",
     "dtool check",
     "dtool check --hex a.dtb",
     "dtool check a.dtb b.dtb",

@@ -2,9 +2,9 @@
 
 ghost use Rattle.std.specs.Prelude.{◌≡◌, None, OnOk, IfErr};
 ghost use Rattle.std.specs.Io.KnownBytes.{Appends};
+ghost use Rattle.dt_decompile.specs.Cut.{IsCutShort};
 ghost use Rattle.dt_names.specs.declared.fault.FaultKind.TheVariants.{WriteFault};
 ghost use Rattle.dtool.specs.Report.{joined};
-ghost use Rattle.dtool.specs.Written.{IsCutShort};
 
 use dt_names::{Fault, Sink, put_all};
 

@@ -25,6 +25,7 @@ ghost use Rattle.dtool.specs.Words.{
   hex_flag,
   overlay_command,
   overlay_word,
+  print_command,
   raw_flag,
   takes_overlays,
 };
@@ -146,6 +147,7 @@ fn job_of(command: &str, found: &ArgMatches<'_>) -> Option<(Job, bool)>
         "compile" => Some((compiling(found.get_flag("raw")), found.get_flag("hex"))),
         "apply" => Some((Job::Apply, found.get_flag("hex"))),
         "build" => Some((Job::Build, found.get_flag("hex"))),
+        "print" => Some((Job::Print, false)),
         "check" => Some((Job::Check, false)),
         _ => None,
     }
@@ -312,6 +314,17 @@ fn with_overlays<'a>(
         .arg(overlays(alloc, overlay_help))
 }
 
+/// `print FILE`.
+fn print<'a>(alloc: Global) -> Result<Command<'a>, AllocError>
+    ensures shape { IfOk result (λ command. app_of command ≡ print_command) }
+    ensures own { IfOk result (λ command. (out-Command command).has_globals ≡ false) }
+{
+    Command::new(alloc, "print")
+        .about("Prints a blob as the source that is compiled to its tree")
+        .after_help(STATUSES)
+        .arg(file(alloc, "The blob; the word stdin is standard input"))
+}
+
 /// `check FILE`.
 fn check<'a>(alloc: Global) -> Result<Command<'a>, AllocError>
     ensures shape { IfOk result (λ command. app_of command ≡ check_command) }
@@ -358,5 +371,6 @@ fn tool<'a>(alloc: Global) -> Result<Command<'a>, AllocError>
     let tool = with_command(without_commands(alloc), compile(alloc))?;
     let tool = with_command(tool, apply(alloc))?;
     let tool = with_command(tool, build(alloc))?;
+    let tool = with_command(tool, print(alloc))?;
     with_command(tool, check(alloc))
 }

@@ -1,6 +1,7 @@
 use Rattle.std.proofs.Common.{refl}
 use Rattle.std.proofs.KnownBytes.{Keeps-refl}
 use Rattle.std.proofs.lemmas.Result.{err_from_is_err_and}
+use Rattle.dtool.specs.declared.job.Job.TheVariants.{Check}
 use Rattle.dtool.proofs.Refusals.{no_blob}
 use Rattle.dtool.proofs.checking.check.Goals as goal
 
@@ -11,4 +12,4 @@ returns-in_err-blob-clause-refused g c =
     let (f, is, first) = c.in_err-blob.ensures.fault in
     let contents = g.S.Sink.contents c.args.out.now in
     let has_failed = g.S.Sink.has_failed c.args.out.now in
-    rw (p.1, p.2) (no_blob contents contents has_failed has_failed f fault.kind fault.at c.args.bytes.now is first (Keeps-refl contents, refl))
+    rw (p.1, p.2) (no_blob contents contents has_failed has_failed Check f fault.kind fault.at c.args.bytes.now tt is first (Keeps-refl contents, refl))

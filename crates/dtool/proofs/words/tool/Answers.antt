@@ -1,7 +1,7 @@
 use Rattle.std.proofs.Common.{◌≡◌, ◌∙◌, ap, subst, false, Result, Ok, Err, IfOk}
 use Rattle.clap.specs.declared.builder.command.Command.{Command, out-Command}
 use Rattle.clap.specs.Words.{App, Shape, app_of, with_subcommand}
-use Rattle.dtool.specs.Words.{apply_command, build_command, check_command, compile_command}
+use Rattle.dtool.specs.Words.{apply_command, build_command, check_command, compile_command, print_command}
 use Rattle.dtool.proofs.words.tool.Goals as goal
 
 module _ {E : Type 0} (r : Result Command E) where
@@ -25,7 +25,10 @@ returns c =
     c.in_ok-tool-2.ensures apply_command.top (top c.apply.result apply_command c.apply.ensures.shape c.apply.ensures.own) in
     let three : app_of c.in_ok-tool-3.tool ≡ with_subcommand (app_of c.in_ok-tool-2.tool) build_command.top =
     c.in_ok-tool-3.ensures build_command.top (top c.build.result build_command c.build.ensures.shape c.build.ensures.own) in
+    let four : app_of c.in_ok-tool-4.tool ≡ with_subcommand (app_of c.in_ok-tool-3.tool) print_command.top =
+    c.in_ok-tool-4.ensures print_command.top (top c.print.result print_command c.print.ensures.shape c.print.ensures.own) in
     let so_far =
-    three ∙ ap (λ (a : App). with_subcommand a build_command.top)
-    (two ∙ ap (λ (a : App). with_subcommand a apply_command.top) (one ∙ ap (λ (a : App). with_subcommand a compile_command.top) c.without_commands.ensures)) in
-    onto c.with_command-4.result _ _ check_command.top so_far (c.with_command-4.ensures check_command.top (top c.check.result check_command c.check.ensures.shape c.check.ensures.own))
+    four ∙ ap (λ (a : App). with_subcommand a print_command.top)
+    (three ∙ ap (λ (a : App). with_subcommand a build_command.top)
+    (two ∙ ap (λ (a : App). with_subcommand a apply_command.top) (one ∙ ap (λ (a : App). with_subcommand a compile_command.top) c.without_commands.ensures))) in
+    onto c.with_command-5.result _ _ check_command.top so_far (c.with_command-5.ensures check_command.top (top c.check.result check_command c.check.ensures.shape c.check.ensures.own))
