@@ -1,7 +1,9 @@
 //! The calls that a case can name.
 
 use crate::answer::{Answer, Stop};
-use crate::{blobs, chains, damage, expressions, grammar, names, numbers, tokens, trees};
+use crate::{
+    blobs, chains, damage, expressions, grammar, marks, names, numbers, printing, tokens, trees,
+};
 use std::alloc::Global;
 
 /// What a call answers to some bytes, and to the other inputs of the case where it takes more than one: its name and, behind a
@@ -22,6 +24,8 @@ pub fn call(alloc: Global, call: &str, input: &[u8], others: &[&[u8]]) -> Result
         "tree" | "tree-blob" => trees::call(alloc, name, words, input),
         "damage" => damage::call(alloc, input),
         "apply" | "build" => chains::call(alloc, name, input, others),
+        "print" | "printed" | "again" | "values" => printing::call(alloc, name, words, input),
+        "fixups" | "local-fixups" => marks::call(alloc, name, input),
         _ => blobs::call(alloc, name, words, input),
     }
 }
