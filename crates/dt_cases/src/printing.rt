@@ -6,9 +6,9 @@ use dt_chain::{compile, compile_raw, decompile};
 use dt_names::{Fault, FaultKind};
 use std::alloc::{AllocError, Global};
 
-/// `print` tells the text of a blob. A source is compiled as it stands, or to its object where it is an overlay's; then `printed`
-/// tells the text of the blob, and `again` whether the text is compiled to the same blob. `values SIZE` gives a source with each value of up to
-/// so many of the input's bytes.
+/// `print` tells the text of a blob. A source is compiled as it stands, or to its object where it is an overlay's; then
+/// `printed` tells the text of the blob, and `again` whether that text is compiled to the same blob. `values SIZE` gives a
+/// source that has each value of up to so many of the input's bytes.
 pub fn call(alloc: Global, name: &str, words: &str, input: &[u8]) -> Result<Answer, Stop> {
     match name {
         "print" => printed(alloc, input),
