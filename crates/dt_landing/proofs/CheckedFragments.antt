@@ -1,16 +1,15 @@
 -- What a look at all fragments tells: their sites, where it is passed, and else the first that can't land.
 use Rattle.std.proofs.Common.{◌≡◌, ◌≢◌, ℕ, Bool, true, false, List, [], ◌∷◌, ◌++◌, map, append_assoc, append-nil, refl, sym, ap, subst, ◌∙◌, ◌⊎◌, inl, inr, Option, Some, None, Result, Ok, Err}
 use Rattle.std.specs.Prelude.{if◌then◌else◌}
-use Rattle.std.specs.List.{AllByRecursion}
 use Rattle.dt_model.specs.Names.{Name}
 use Rattle.dt_model.specs.Path.{Path, is_bookkeeping}
 use Rattle.dt_model.specs.Lists.{IsIn}
 use Rattle.dt_model.specs.Overlay.{content}
 use Rattle.dt_model.specs.Merged.{Site}
 use Rattle.dt_model.specs.Numbers.{AreNewNumbers}
-use Rattle.dt_model.specs.Object.{is_fragment, fragment_names}
-use Rattle.dt_model.specs.Tree.{Forest, no_nodes, branch, Reading, node_at}
-use Rattle.dt_model.specs.Valid.{AreDistinct, names, IsValid}
+use Rattle.dt_model.specs.Object.{fragment_names}
+use Rattle.dt_model.specs.Tree.{Reading, node_at}
+use Rattle.dt_model.specs.Valid.{AreDistinct, IsValid}
 use Rattle.dt_model.specs.Applied.{Write}
 use Rattle.dt_names.specs.declared.fault.FaultKind.{FaultKind}
 use Rattle.dt_names.specs.declared.fault.FaultKind.TheVariants.{NoTarget, ReservedPlace}
@@ -20,24 +19,9 @@ use Rattle.dt_landing.proofs.KnownMoves.{content_moves, IsLanded, IsOther}
 use Rattle.dt_landing.proofs.KnownChecks.{Known, AreGood, IsStuck}
 use Rattle.dt_landing.proofs.KnownContent.{nothing_is_known, known_from, Passed, content_passed}
 use Rattle.dt_landing.proofs.CheckedSites.{target, target_stands, finds, site_found, finds_first}
+use Rattle.dt_landing.proofs.FoundSites.{fragments_distinct}
 
 -- ---- the names of fragments
-
-each_fragment : (P : Name → Type 0) (f : Forest) → AllByRecursion P (names f) → AllByRecursion P (fragment_names f)
-each_fragment P no_nodes h = tt
-each_fragment P (branch x ps c s) h = step (is_fragment x c) (each_fragment P s h.1)
-  where
-    step : (b : Bool) → AllByRecursion P (fragment_names s) → AllByRecursion P (if b then x ∷ fragment_names s else fragment_names s)
-    step true more = (h.0, more)
-    step false more = more
-
-pub fragments_distinct : (f : Forest) → AreDistinct (names f) → AreDistinct (fragment_names f)
-fragments_distinct no_nodes d = tt
-fragments_distinct (branch x ps c s) d = step (is_fragment x c) (each_fragment (λ y. y ≢ x) s d.0) (fragments_distinct s d.1)
-  where
-    step : (b : Bool) → AllByRecursion (λ y. y ≢ x) (fragment_names s) → AreDistinct (fragment_names s) → AreDistinct (if b then x ∷ fragment_names s else fragment_names s)
-    step true other more = (other, more)
-    step false other more = more
 
 abbrev pub site_names : List Site → List Name
 site_names sites = map (λ (x : Site). x.fragment) sites

@@ -20,7 +20,7 @@ use Rattle.dt_laws.proofs.Distinct.{apart}
 use Rattle.dt_laws.proofs.Listed.{stands_listed, listed_stands}
 use Rattle.dt_laws.proofs.Allowed.{single_from, single_to}
 use Rattle.dt_laws.proofs.Placed.{landing_from}
-use Rattle.dt_landing.specs.Laws.{AreAllowed, AreShallow, PassedIsAllowed, RefusedIsNotApplied, IsTooDeep, LimitIsDue}
+use Rattle.dt_landing.specs.Laws.{AreAllowed, AreShallow, PassedIsAllowed}
 use Rattle.dt_landing.proofs.KnownMoves.{Move, content_moves, IsLanded, IsOther, content_from, content_apart, content_lands, lands_still, not_landed}
 use Rattle.dt_landing.proofs.KnownChecks.{AreGood, IsSecond, Or, IsStuck, is_numbered}
 use Rattle.dt_landing.proofs.CheckedNumbers.{numbered_node, node_numbered, numbers_own, within_depth}
@@ -199,6 +199,19 @@ module _ (base object : Reading) (valid_base : IsValid base) (valid : IsValid ob
           | inr w ↦ not_second h.front h.back h.node w.0 h.split w.1 s.numbered w.2 w.3
         ]
 
+-- a landing that is too deep is there: of the fragments that are looked at first, one brings it
+pub record IsTooDeep (base object : Reading) (ws : List Write) (numbers : List (Path × ℕ)) : Type 0 where
+  pub front : List Name
+  pub back : List Name
+  pub sites : List Site
+  pub from : Path
+  pub to : Path
+  pub fragments : fragment_names object.children ≡ front ++ back
+  pub sited : find_sites base object ws numbers [] front ≡ Some sites
+  pub stands : stands_in object from ≡ true
+  pub lands : landing sites from ≡ Some to
+  pub deep : most_names < length to
+
 module _ (base object : Reading) (valid_base : IsValid base) (valid : IsValid object) (ws : List Write) (numbers : List (Path × ℕ)) (new : AreNewNumbers base object numbers) where
   abbrev Refused : FaultKind → Type 0
   Refused k = AreRefused base object valid_base valid ws numbers new [] (fragment_names object.children) k
@@ -294,14 +307,3 @@ refused_not_applied base object valid_base valid fixups numbers new kind refused
     step : (y : Option (List Site)) → find_sites base object ws numbers [] (fragment_names object.children) ≡ y → applied base object fixups numbers ≡ None
     step None k = ap (option_and_then (if_allowed base object fixups numbers)) k
     step (Some sites) k = ap (option_and_then (if_allowed base object fixups numbers)) k ∙ inner sites k (is_allowed base object fixups numbers sites) refl
-
-pub refused_is_not_applied : RefusedIsNotApplied
-refused_is_not_applied base object fixups numbers kind valid_base valid new e ne =
-    let ws = writes base object fixups numbers in
-    let refused = subst (Checked base object valid_base valid ws numbers new [] (fragment_names object.children)) e (all_checked base object valid_base valid ws numbers new) in
-    refused_not_applied base object valid_base valid fixups numbers new kind refused ne
-
-pub limit_is_due : LimitIsDue
-limit_is_due base object ws numbers valid_base valid new e =
-    refused_deep base object valid_base valid ws numbers new
-    (subst (Checked base object valid_base valid ws numbers new [] (fragment_names object.children)) e (all_checked base object valid_base valid ws numbers new))

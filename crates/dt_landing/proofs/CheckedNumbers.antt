@@ -1,5 +1,5 @@
 -- Which nodes of an object get a number, and how deep a tree is.
-use Rattle.std.proofs.Common.{◌≡◌, ℕ, ◌+◌, ◌≤◌, Bool, true, false, cond, List, [], ◌∷◌, ◌++◌, length, codes, refl, sym, ap, subst, ◌∙◌, inl, inr, true≢false, arith}
+use Rattle.std.proofs.Common.{◌≡◌, ℕ, ◌+◌, ◌≤◌, Bool, true, false, List, [], ◌∷◌, ◌++◌, length, codes, refl, sym, ap, subst, ◌∙◌, inl, inr, true≢false, arith}
 use Rattle.std.specs.Prelude.{is_some, option_and_then}
 use Rattle.std.specs.List.{filter}
 use Rattle.std.specs.Str.{bytes_eq}
@@ -12,7 +12,7 @@ use Rattle.dt_model.specs.Object.{fragment_names}
 use Rattle.dt_model.specs.Numbers.{AreNumbers, AreNewNumbers, numbers_of, is_brought, needs_number, new_paths}
 use Rattle.dt_model.specs.Tree.{Forest, no_nodes, branch, Reading, value_of, sibling, node_below, stands_in, value_in, Placed, nodes_of}
 use Rattle.dt_model.specs.Valid.{IsValid, IsNoDeeper, IsWithinLimits}
-use Rattle.dt_laws.proofs.Tests.{and_right, and_both, any_here, in_map, in_map_from}
+use Rattle.dt_laws.proofs.Tests.{and_right, and_both, any_here, in_map, in_map_from, in_filter, filter_in}
 use Rattle.dt_laws.proofs.Distinct.{distinct_filter}
 use Rattle.dt_laws.proofs.Lands.{below-append}
 use Rattle.dt_laws.proofs.Listed.{stands_listed, listed_stands, listed_value}
@@ -20,26 +20,6 @@ use Rattle.dt_laws.proofs.Preorder.{paths_distinct}
 use Rattle.dt_laws.proofs.Fresh.{number_some, AreOwn, own_numbers, number_listed}
 
 -- ---- numbers
-
-in_filter : {X : Type 0} (test : X → Bool) (xs : List X) (x : X) → IsIn x (filter test xs) → IsIn x xs × (test x ≡ true)
-in_filter test [] x i = absurd i
-in_filter {X} test (y ∷ xs) x i = step (λ k. in_filter test xs x k) (test y) refl
-  where
-    step : (IsIn x (filter test xs) → IsIn x xs × (test x ≡ true)) → (b : Bool) → test y ≡ b → IsIn x (y ∷ xs) × (test x ≡ true)
-    step more false e = let w = more (subst (λ b. IsIn x (cond b (y ∷ filter test xs) (filter test xs))) e i) in (inr w.0, w.1)
-    step more true e = elim (subst (λ b. IsIn x (cond b (y ∷ filter test xs) (filter test xs))) e i) [
-      | inl same ↦ (inl same, ap test same ∙ e)
-      | inr k ↦ let w = more k in (inr w.0, w.1)
-    ]
-
-filter_in : {X : Type 0} (test : X → Bool) (xs : List X) (x : X) → IsIn x xs → test x ≡ true → IsIn x (filter test xs)
-filter_in test [] x i h = absurd i
-filter_in test (y ∷ xs) x (inl same) h = subst (λ b. IsIn x (cond b (y ∷ filter test xs) (filter test xs))) (sym (ap test (sym same) ∙ h)) (inl same)
-filter_in test (y ∷ xs) x (inr i) h = step (filter_in test xs x i h) (test y)
-  where
-    step : IsIn x (filter test xs) → (b : Bool) → IsIn x (cond b (y ∷ filter test xs) (filter test xs))
-    step more true = inr more
-    step more false = more
 
 path_in : (taken : List ℕ) (paths : List Path) (numbers : List (Path × ℕ)) (p : Path) (n : ℕ) → AreNumbers taken paths numbers → IsIn (p, n) numbers → IsIn p paths
 path_in taken paths [] p n h i = absurd i

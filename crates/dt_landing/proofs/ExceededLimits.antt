@@ -20,10 +20,9 @@ use Rattle.dt_laws.proofs.Landing.{AreThere, there_from, stands-with_fragments}
 use Rattle.dt_laws.proofs.Lands.{source_of}
 use Rattle.dt_laws.proofs.LeastNumbers.{numbers_are_one}
 use Rattle.dt_laws.proofs.StandingNodes.{no_more, length-paths_of, stands_among}
-use Rattle.dt_landing.specs.Laws.{IsTooDeep}
 use Rattle.dt_landing.specs.Refusals.{IsCrowdedAt}
 use Rattle.dt_landing.specs.Outcomes.{LimitIsExceeded}
-use Rattle.dt_landing.proofs.CheckedLandings.{refused_deep}
+use Rattle.dt_landing.proofs.CheckedLandings.{refused_deep, IsTooDeep}
 use Rattle.dt_landing.proofs.CheckedNumbers.{within_depth}
 use Rattle.dt_landing.proofs.CheckedSites.{append_found}
 use Rattle.dt_landing.proofs.FoundSites.{content_stands, found_in_turn}

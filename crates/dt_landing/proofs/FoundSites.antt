@@ -1,35 +1,28 @@
 -- The sites that are found are those of the object's fragments, in order, and each is a node of the tree when its turn comes.
-use Rattle.std.proofs.Common.{◌≡◌, ◌≢◌, ℕ, Bool, true, false, cond, not, ◌||◌, List, [], ◌∷◌, ◌++◌, codes, refl, sym, ap, subst, ◌∙◌, ◌⊎◌, inl, inr, Option, Some, None}
+use Rattle.std.proofs.Common.{◌≡◌, ◌≢◌, ℕ, Bool, true, false, ◌||◌, List, [], ◌∷◌, ◌++◌, codes, refl, sym, ap, subst, ◌∙◌, ◌⊎◌, inl, inr, Option, Some, None}
 use Rattle.std.specs.Prelude.{is_some, option_map, option_and_then, if◌then◌else◌, nat_eq}
 use Rattle.std.specs.Option.{option_or}
 use Rattle.std.specs.List.{AllByRecursion, list_any, filter}
 use Rattle.std.specs.Str.{bytes_eq}
 use Rattle.dt_model.specs.Names.{Name}
-use Rattle.dt_model.specs.Path.{Path, below, path_value, is_bookkeeping, is_bookkeeping_name}
+use Rattle.dt_model.specs.Path.{Path, below, path_value, is_bookkeeping}
 use Rattle.dt_model.specs.Lists.{IsIn}
 use Rattle.dt_model.specs.Overlay.{content}
 use Rattle.dt_model.specs.Merged.{Site, moved, landing, sources}
 use Rattle.dt_model.specs.Object.{is_fragment, fragment_names}
 use Rattle.dt_model.specs.Numbers.{numbers_of, is_brought, needs_number, new_paths, AreNumbers, AreNewNumbers}
-use Rattle.dt_model.specs.Tree.{Forest, no_nodes, branch, Reading, Node, Placed, value_of, sibling, nodes_of, stands_in, value_in}
+use Rattle.dt_model.specs.Tree.{Forest, no_nodes, branch, Reading, Placed, value_of, nodes_of, stands_in, value_in}
 use Rattle.dt_model.specs.Valid.{AreDistinct, names, IsValid}
 use Rattle.dt_model.specs.Applied.{Write, is_cell, node_numbered, node_named, landed_with, landed_named, target_node, site_at, find_site, find_sites}
-use Rattle.dt_laws.proofs.Tests.{and_right, and_both, or_left, or_right, any_here, each_in, in_map, in_map_from, bytes_eq_refl, bytes_eq_other}
+use Rattle.dt_laws.proofs.Tests.{and_both, or_left, or_right, any_here, each_in, in_map, in_map_from, bytes_eq_other, in_filter, filter_in}
 use Rattle.dt_laws.proofs.Lands.{moved-append, below-append, source_of}
 use Rattle.dt_laws.proofs.Listed.{listed_stands}
 use Rattle.dt_laws.proofs.Placed.{site_names}
 use Rattle.dt_laws.proofs.Finding.{landed_named_from}
 use Rattle.dt_laws.proofs.Landing.{StandInTurn}
+use Rattle.dt_laws.proofs.FragmentOrder.{each_fragment, fragment_found}
 
 -- ---- the fragments of an object
-
-each_fragment : (P : Name → Type 0) (f : Forest) → AllByRecursion P (names f) → AllByRecursion P (fragment_names f)
-each_fragment P no_nodes h = tt
-each_fragment P (branch x ps c s) h = step (is_fragment x c) (each_fragment P s h.1)
-  where
-    step : (b : Bool) → AllByRecursion P (fragment_names s) → AllByRecursion P (if b then x ∷ fragment_names s else fragment_names s)
-    step true more = (h.0, more)
-    step false more = more
 
 pub fragments_distinct : (f : Forest) → AreDistinct (names f) → AreDistinct (fragment_names f)
 fragments_distinct no_nodes d = tt
@@ -38,29 +31,6 @@ fragments_distinct (branch x ps c s) d = step (is_fragment x c) (each_fragment (
     step : (b : Bool) → AllByRecursion (λ y. y ≢ x) (fragment_names s) → AreDistinct (fragment_names s) → AreDistinct (if b then x ∷ fragment_names s else fragment_names s)
     step true others more = (others, more)
     step false others more = more
-
--- the sibling has a child `__overlay__`
-abbrev has_content : Option Node → Bool
-has_content o = is_some (option_and_then (λ (n : Node). option_and_then (λ c. Some c) (sibling n.children (codes "__overlay__"))) o)
-
-some_content : (o : Option Node) → is_some o ≡ is_some (option_and_then (λ c. Some c) o)
-some_content None = refl
-some_content (Some n) = refl
-
-fragment_found : (f : Forest) (x : Name) → AreDistinct (names f) → IsIn x (fragment_names f) → has_content (sibling f x) ≡ true
-fragment_found no_nodes x d i = absurd i
-fragment_found (branch y ps c s) x d i = step (is_fragment y c) refl (fragment_found s x d.1) i
-  where
-    other : IsIn x (fragment_names s) → x ≢ y
-    other k = each_in (λ z. z ≢ y) (fragment_names s) x (each_fragment (λ z. z ≢ y) s d.0) k
-
-    step : (b : Bool) → is_fragment y c ≡ b → (IsIn x (fragment_names s) → has_content (sibling s x) ≡ true) → IsIn x (if b then y ∷ fragment_names s else fragment_names s)
-        → has_content (sibling (branch y ps c s) x) ≡ true
-    step true e more (inl same) =
-        let there : is_some (sibling c (codes "__overlay__")) ≡ true = and_right (not (is_bookkeeping_name y)) (is_some (sibling c (codes "__overlay__"))) e in
-        rw (same, bytes_eq_refl y) (sym (some_content (sibling c (codes "__overlay__"))) ∙ there)
-    step true e more (inr k) = rw (bytes_eq_other x y (other k)) (more k)
-    step false e more k = rw (bytes_eq_other x y (other k)) (more k)
 
 -- what a fragment brings is there
 pub content_stands : (object : Reading) (f : Name) → IsValid object → IsIn f (fragment_names object.children) → stands_in object (content f) ≡ true
@@ -82,30 +52,12 @@ lands_below (y ∷ sites) x rest d (inr i) =
 
 -- ---- the nodes that get numbers
 
-filter_from : {X : Type 0} (test : X → Bool) (xs : List X) (x : X) → IsIn x (filter test xs) → IsIn x xs
-filter_from test [] x i = absurd i
-filter_from {X} test (y ∷ xs) x i = step (filter_from test xs x) (test y) i
-  where
-    step : (IsIn x (filter test xs) → IsIn x xs) → (b : Bool) → IsIn x (cond b (y ∷ filter test xs) (filter test xs)) → IsIn x (y ∷ xs)
-    step more false i = inr (more i)
-    step more true (inl same) = inl same
-    step more true (inr k) = inr (more k)
-
-filter_in : {X : Type 0} (test : X → Bool) (xs : List X) (x : X) → IsIn x xs → test x ≡ true → IsIn x (filter test xs)
-filter_in test [] x i h = absurd i
-filter_in test (y ∷ xs) x (inl same) h = subst (λ b. IsIn x (cond b (y ∷ filter test xs) (filter test xs))) (sym (ap test (sym same) ∙ h)) (inl same)
-filter_in test (y ∷ xs) x (inr i) h = step (filter_in test xs x i h) (test y)
-  where
-    step : IsIn x (filter test xs) → (b : Bool) → IsIn x (cond b (y ∷ filter test xs) (filter test xs))
-    step more true = inr more
-    step more false = more
-
 -- a node that gets a number is one of the object's
 new_stands : (object : Reading) (p : Path) → IsValid object → IsIn p (new_paths object) → stands_in object p ≡ true
 new_stands object p valid i =
     let test : Placed → Bool = needs_number (fragment_names object.children) in
     let w = in_map_from (λ (n : Placed). n.path) (filter test (nodes_of object)) p i in
-    ap (stands_in object) w.2 ∙ listed_stands object w.0 valid (filter_from test (nodes_of object) w.0 w.1)
+    ap (stands_in object) w.2 ∙ listed_stands object w.0 valid (in_filter test (nodes_of object) w.0 w.1).0
 
 -- a node that a fragment brings gets a number, if it has one
 pub new_path : (object : Reading) (n : Placed) (f : Name) (rest : Path) → IsIn n (nodes_of object) → IsIn f (fragment_names object.children) → n.path ≡ content f ++ rest

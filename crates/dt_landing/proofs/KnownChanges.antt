@@ -5,22 +5,14 @@ use Rattle.std.specs.Option.{option_or}
 use Rattle.std.specs.Str.{bytes_eq}
 use Rattle.dt_model.specs.Names.{Name}
 use Rattle.dt_model.specs.Path.{Path, below}
-use Rattle.dt_model.specs.Tree.{no_nodes, branch, Reading, Node, node_below, sibling, root_of, node_at, stands_in, value_in}
+use Rattle.dt_model.specs.Tree.{no_nodes, branch, Reading, Node, node_below, root_of, node_at, stands_in, value_in}
 use Rattle.dt_model.specs.Changes.{with_child_at, with_property_at}
 use Rattle.dt_laws.proofs.Tests.{bytes_eq_refl, bytes_eq_true, or_cases, or_left, or_right}
 use Rattle.dt_laws.proofs.Lands.{below-append, append-below}
 use Rattle.dt_laws.proofs.Merging.{IsApart, nothing, value_below, stands_below}
 use Rattle.dt_laws.proofs.Changing.{value-changed, stands-changed}
+use Rattle.dt_laws.proofs.Brought.{none_below}
 use Rattle.dt_landing.specs.Checking.{with_places}
-
--- below what isn't there is nothing
-pub none_below : (p r : Path) (n : Node) → node_below n p ≡ None → node_below n (p ++ r) ≡ None
-none_below [] r n e = absurd (let z : Some n ≡ None = e in cc)
-none_below (x ∷ p) r n e = step (λ s k. none_below p r s k) (sibling n.children x) refl
-  where
-    step : ((s : Node) → node_below s p ≡ None → node_below s (p ++ r) ≡ None) → (y : Option Node) → sibling n.children x ≡ y → node_below n ((x ∷ p) ++ r) ≡ None
-    step more None k = rw k refl
-    step more (Some s) k = let z : node_below s p ≡ None = sym (ap (option_and_then (λ c. node_below c p)) k) ∙ e in rw k (more s z)
 
 nothing_below : (r : Path) (name : Name) → value_below nothing r name ≡ None
 nothing_below [] name = refl

@@ -10,7 +10,7 @@ use Rattle.dt_model.specs.Tree.{Property, Forest, no_nodes, branch, Reading, Nod
 use Rattle.dt_model.specs.Changes.{with_child_at, with_property_at}
 use Rattle.dt_names.specs.declared.fault.FaultKind.{FaultKind}
 use Rattle.dt_names.specs.declared.fault.FaultKind.TheVariants.{Limit, SecondPhandle, ReservedPlace}
-use Rattle.dt_laws.proofs.Tests.{or_cases, in_left, in_right, in_append}
+use Rattle.dt_laws.proofs.Tests.{or_cases, in_left, in_right, in_append, or_false_left, or_false_right}
 use Rattle.dt_landing.specs.Checking.{then_check, check_number, check_node, check_nodes, with_places, check_content}
 use Rattle.dt_landing.proofs.KnownChanges.{above_stands, child_keeps, child_stands, child_sound, child_value, property_stands, property_there, property_keeps, property_sound, places_keep, places_stand, places_sound, places_value}
 use Rattle.dt_landing.proofs.KnownMoves.{Move, has_number, moves, content_moves, content_moves-is}
@@ -211,17 +211,9 @@ module _ (base : Reading) (L : Move → Type 0) where
         step true e false e' =
             let yes : m.numbered ≡ true = sym same ∙ e in (
               known_last before m s (with_property_at m.to (codes "numbered") [] t) k (subst (IsAdded base s (with_property_at m.to (codes "numbered") [] t) m.to) (sym yes) (mark_added base s t m.to added)),
-              λ b g. good_last before m g (opens b g) (λ h. left_false (is_numbered base m.to) (is_marked t m.to) e')
-                  (λ n i l h at. true≢false (sym (added.marks m.to (ap (is_marked s) (sym at) ∙ k.marked n i l)) ∙ right_false (is_numbered base m.to) (is_marked t m.to) e')),
+              λ b g. good_last before m g (opens b g) (λ h. or_false_left (is_numbered base m.to) (is_marked t m.to) e')
+                  (λ n i l h at. true≢false (sym (added.marks m.to (ap (is_marked s) (sym at) ∙ k.marked n i l)) ∙ or_false_right (is_numbered base m.to) (is_marked t m.to) e')),
             )
-          where
-            left_false : (a b : Bool) → a || b ≡ false → a ≡ false
-            left_false true b h = absurd (true≢false h)
-            left_false false b h = refl
-
-            right_false : (a b : Bool) → a || b ≡ false → b ≡ false
-            right_false true b h = absurd (true≢false h)
-            right_false false b h = h
 
     node_checked : (before : List Move) (s : Reading) (p q : Path) (name : Name) (ps : List Property) → Known base (Or L before) s → stands_in s q ≡ true
         → Outcome before (record { from = p ++ name ∷ []; to = q ++ name ∷ []; numbered = has_number ps } ∷ []) (check_node base q name ps s)

@@ -17,7 +17,7 @@ use Rattle.dt_laws.proofs.Listed.{listed_found, found_listed}
 use Rattle.dt_laws.proofs.Changing.{below_both}
 use Rattle.dt_laws.proofs.Preorder.{paths_apart}
 use Rattle.dt_laws.proofs.KeptNames.{IsGoodNode, good_below}
-use Rattle.dt_landing.proofs.KnownChanges.{none_below}
+use Rattle.dt_laws.proofs.Brought.{none_below}
 
 -- a node of an object, and the path on which it lands
 pub record Move : Type 0 where

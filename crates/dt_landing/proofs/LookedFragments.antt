@@ -18,12 +18,12 @@ use Rattle.dt_names.specs.declared.fault.FaultKind.TheVariants.{ReservedPlace}
 use Rattle.dt_landing.specs.Checking.{nothing_landed, then_check, check_content, check_site, check_fragments, with_places}
 use Rattle.dt_landing.specs.Landings.{landing_at, has_phandle, landings, all_landings, site}
 use Rattle.dt_landing.specs.Laws.{LookIsPassed, LookStops}
-use Rattle.dt_landing.proofs.CheckedFragments.{site_names, other_fragment, distinct_next, fragments_distinct, none_good}
+use Rattle.dt_landing.proofs.CheckedFragments.{site_names, other_fragment, distinct_next, none_good}
 use Rattle.dt_landing.proofs.CheckedNumbers.{within_depth}
 use Rattle.dt_landing.proofs.CheckedSites.{target_stands}
 use Rattle.dt_landing.proofs.FirstStops.{Stops}
 use Rattle.dt_landing.proofs.FirstSites.{target, LandsAt, why_stops, Sited, NoneFor, none_not, none_one, sited_one, no_site_of, none_of}
-use Rattle.dt_landing.proofs.FoundSites.{content_stands}
+use Rattle.dt_landing.proofs.FoundSites.{content_stands, fragments_distinct}
 use Rattle.dt_landing.proofs.KnownChecks.{Known, AreGood, Or, IsAdded, is_marked, places_added}
 use Rattle.dt_landing.proofs.KnownContent.{nothing_is_known, known_from, known_same, some_of, Passed, content_passed}
 use Rattle.dt_landing.proofs.KnownMoves.{IsLanded, IsOther}

@@ -12,7 +12,7 @@ use Rattle.dt_model.specs.Tree.{Property, Forest, no_nodes, branch, Reading, Nod
 use Rattle.dt_model.specs.Changes.{with_child_at, with_property_at}
 use Rattle.dt_names.specs.declared.fault.FaultKind.{FaultKind}
 use Rattle.dt_names.specs.declared.fault.FaultKind.TheVariants.{Limit, SecondPhandle, ReservedPlace}
-use Rattle.dt_laws.proofs.Tests.{or_cases, in_left, in_right, in_append}
+use Rattle.dt_laws.proofs.Tests.{or_cases, in_left, in_right, in_append, or_false_left, or_false_right}
 use Rattle.dt_landing.specs.Checking.{then_check, check_number, check_node, check_nodes, with_places, check_content}
 use Rattle.dt_landing.specs.Landings.{landing_at, has_phandle, IsPhandleAt, MayAllLand}
 use Rattle.dt_landing.proofs.FirstStops.{Stops, stops_front, stops_behind, all_land}
@@ -86,17 +86,9 @@ module _ (base : Reading) where
       → Looked before (n ∷ []) (check_number base n.path n.properties t)
   number_looked before n s t k added plain low = step (has_phandle n) refl (is_numbered base n.path || is_marked t n.path) refl
     where
-      left_false : (a b : Bool) → a || b ≡ false → a ≡ false
-      left_false true b h = absurd (true≢false h)
-      left_false false b h = refl
-
-      right_false : (a b : Bool) → a || b ≡ false → b ≡ false
-      right_false true b h = absurd (true≢false h)
-      right_false false b h = h
-
       none : is_numbered base n.path || is_marked t n.path ≡ false → IsPhandleAt base before n.path → ⊥
-      none e (inl b) = true≢false (sym b ∙ left_false (is_numbered base n.path) (is_marked t n.path) e)
-      none e (inr w) = true≢false (sym (added.marks n.path (ap (is_marked s) (sym w.2) ∙ k.marked w.0 w.1 w.3)) ∙ right_false (is_numbered base n.path) (is_marked t n.path) e)
+      none e (inl b) = true≢false (sym b ∙ or_false_left (is_numbered base n.path) (is_marked t n.path) e)
+      none e (inr w) = true≢false (sym (added.marks n.path (ap (is_marked s) (sym w.2) ∙ k.marked w.0 w.1 w.3)) ∙ or_false_right (is_numbered base n.path) (is_marked t n.path) e)
 
       taken : is_numbered base n.path || is_marked t n.path ≡ true → IsPhandleAt base before n.path
       taken e = elim (or_cases (is_numbered base n.path) (is_marked t n.path) e) [

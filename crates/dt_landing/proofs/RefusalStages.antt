@@ -192,5 +192,5 @@ module _ (base object : Reading) where
   one_at_targets k k' (inr h) (inr h') = one_at_fixups k k' h.1 h'.1
 
 pub one_refusal : OneRefusal
-one_refusal base object kind other valid_base valid within why why' memory limit memory' limit' =
+one_refusal base object kind other why why' memory limit memory' limit' =
     one_at_targets base object kind other (stage_of base object kind why memory limit) (stage_of base object other why' memory' limit')

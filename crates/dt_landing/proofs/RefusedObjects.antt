@@ -20,9 +20,10 @@ use Rattle.dt_laws.proofs.ReferenceCells.{offset_within}
 use Rattle.dt_laws.proofs.Finding.{node_of_number, node_of_text}
 use Rattle.dt_laws.proofs.Given.{phandle_of, symbol_is, object_value_is, object_items, object_phandle}
 use Rattle.dt_laws.proofs.Inside.{each_at, plain_fragment}
-use Rattle.dt_laws.proofs.Numbered.{small_number}
+use Rattle.dt_laws.proofs.Numbered.{small_number, brought_from, brought_to}
 use Rattle.dt_laws.proofs.Facts.{given_each}
-use Rattle.dt_landing.proofs.RefusedValues.{names_differ, property_value, fixup_texts, cell_of, listed_cell, read_value, brought_from, brought_to}
+use Rattle.dt_laws.proofs.Writes.{read_value}
+use Rattle.dt_landing.proofs.RefusedValues.{names_differ, property_value, fixup_texts, cell_of, listed_cell}
 
 -- bytes without references
 plain_value : {R : Type 0} (f : R → ℕ) (bytes : List ℕ) → value_bytes f (map byte bytes) ≡ bytes

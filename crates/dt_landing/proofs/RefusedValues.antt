@@ -1,22 +1,15 @@
--- What the properties of a node hold, the cells that an object's bookkeeping nodes list, and the number in a reference's cell.
-use Rattle.std.proofs.Common.{◌≡◌, ◌≢◌, ℕ, suc, ◌+◌, ◌-◌, ◌^◌, ◌<◌, true, List, [], ◌∷◌, ◌++◌, map, codes, refl, sym, ap, subst, ◌∙◌, inl, inr, Option, Some, None, true≢false, arith}
-use Rattle.std.specs.Prelude.{is_some, option_and_then}
-use Rattle.std.proofs.lemmas.Nat.{from_be_bytes-to_be_bytes_4}
+-- What the properties of a node hold, and the cells that an object's bookkeeping nodes list.
+use Rattle.std.proofs.Common.{◌≡◌, ◌≢◌, ℕ, List, [], ◌∷◌, map, codes, refl, sym, ap, subst, inl, inr, Option, Some, None}
+use Rattle.std.specs.Prelude.{option_and_then}
 use Rattle.dt_model.specs.Names.{Name}
-use Rattle.dt_model.specs.Path.{Path, below}
+use Rattle.dt_model.specs.Path.{Path}
 use Rattle.dt_model.specs.Lists.{IsIn}
-use Rattle.dt_model.specs.Meaning.{Item, byte, reference, cell, value_bytes}
-use Rattle.dt_model.specs.Overlay.{Fragment, content}
-use Rattle.dt_model.specs.Object.{Cell, references_from, AreCellTexts, AreFixups, properties_of, words_of, cells_of, nodes_from, local_cells}
-use Rattle.dt_model.specs.Numbers.{is_brought}
+use Rattle.dt_model.specs.Object.{Cell, AreCellTexts, AreFixups, properties_of, words_of, cells_of, nodes_from, local_cells}
 use Rattle.dt_model.specs.Tree.{Property, Reading, Node, value_of, sibling, node_below, root_of, node_at, value_in}
 use Rattle.dt_model.specs.Valid.{AreDistinct, IsValid}
-use Rattle.dt_model.specs.Applied.{number_at}
-use Rattle.dt_laws.proofs.Tests.{bytes_eq_refl, bytes_eq_other, each_in, any_from, any_here, in_left, in_right, in_append, in_map, in_map_from}
+use Rattle.dt_laws.proofs.Tests.{bytes_eq_refl, bytes_eq_other, each_in, in_left, in_right, in_append, in_map, in_map_from}
 use Rattle.dt_laws.proofs.Distinct.{in_flat}
-use Rattle.dt_laws.proofs.Lands.{below-append, append-below}
 use Rattle.dt_laws.proofs.Listed.{found_listed}
-use Rattle.dt_laws.proofs.Cells.{bytes_from, plain_bytes, offset_from}
 use Rattle.dt_laws.proofs.KeptNames.{good_below}
 use Rattle.dt_laws.proofs.GoodResult.{good_root}
 
@@ -114,45 +107,3 @@ listed_cell t p x offset i j = step (node_at t (codes "__local_fixups__" ∷ p))
     step (Some n) e i =
         in_flat cells_of (nodes_from (node_at t (codes "__local_fixups__" ∷ []))) (record { path = p; properties = n.properties }) (cell_of p x.name offset) (node_listed (sibling t.children (codes "__local_fixups__")) p n e)
         (in_flat (λ (q : Property). map (cell_of p q.name) (words_of q.value)) n.properties x (cell_of p x.name offset) i (in_map (cell_of p x.name) (words_of x.value) offset j))
-
--- ---- the number in a reference's cell
-
-number_here : (n : ℕ) (rest : List ℕ) → n < 2 ^ 32 → number_at (cell n ++ rest) 0 ≡ n
-number_here n rest small = from_be_bytes-to_be_bytes_4 n small
-
-read_cell : {R : Type 0} (f : ℕ → R → ℕ) (k : ℕ) (items : List (Item R)) (o : ℕ) (r : R) → IsIn (o, r) (references_from k items) → f o r < 2 ^ 32 → number_at (bytes_from f k items) (o - k) ≡ f o r
-read_cell f k [] o r h small = absurd h
-read_cell f k (byte b ∷ items) o r h small =
-    let le = offset_from (k + 1) items o r h in
-    let e : o - k ≡ suc (o - (k + 1)) = omega arith in
-    ap (number_at (b ∷ bytes_from f (k + 1) items)) e ∙ read_cell f (k + 1) items o r h small
-read_cell f k (reference s ∷ items) o r (inl same) small =
-    let here : o ≡ k = ap (λ c. c.0) same in
-    let is : f o r ≡ f k s = ap (λ c. f c.0 c.1) same in
-    let zero_left : o - k ≡ 0 = omega arith in
-    ap (number_at (cell (f k s) ++ bytes_from f (k + 4) items)) zero_left ∙ number_here (f k s) (bytes_from f (k + 4) items) (subst (λ n. n < 2 ^ 32) is small) ∙ sym is
-read_cell f k (reference s ∷ items) o r (inr h) small =
-    let le = offset_from (k + 4) items o r h in
-    let e : o - k ≡ suc (suc (suc (suc (o - (k + 4))))) = omega arith in
-    ap (number_at (cell (f k s) ++ bytes_from f (k + 4) items)) e ∙ read_cell f (k + 4) items o r h small
-
-pub read_value : {R : Type 0} (g : R → ℕ) (items : List (Item R)) (o : ℕ) (r : R) → IsIn (o, r) (references_from 0 items) → g r < 2 ^ 32 → number_at (value_bytes g items) o ≡ g r
-read_value g items o r h small =
-    let e : o ≡ o - 0 = omega arith in
-    ap (λ bs. number_at bs o) (sym (plain_bytes g 0 items)) ∙ ap (number_at (bytes_from (λ _ s. g s) 0 items)) e ∙ read_cell (λ _ s. g s) 0 items o r h small
-
--- ---- what fragments bring
-
-pub brought_from : (fs : List Fragment) (p : Path) → is_brought (map (λ (f : Fragment). f.name) fs) p ≡ true → (f : Fragment) × (rest : Path) × IsIn f fs × (p ≡ content f.name ++ rest)
-brought_from fs p h =
-    let w = any_from (λ f. is_some (below (content f) p)) (map (λ (f : Fragment). f.name) fs) h in
-    let g = in_map_from (λ (f : Fragment). f.name) fs w.0 w.1 in
-    step (below (content w.0) p) refl w.2 g.0 g.1 g.2
-  where
-    step : {x : Name} (y : Option Path) → below (content x) p ≡ y → is_some (below (content x) p) ≡ true → (f : Fragment) → IsIn f fs → x ≡ f.name → (f : Fragment) × (rest : Path) × IsIn f fs × (p ≡ content f.name ++ rest)
-    step None e k f i same = absurd (true≢false (sym (rw e at k)))
-    step {x} (Some r) e k f i same = (f, r, i, append-below (content x) p r e ∙ ap (λ z. content z ++ r) same)
-
-pub brought_to : (fs : List Fragment) (f : Fragment) (rest : Path) → IsIn f fs → is_brought (map (λ (f : Fragment). f.name) fs) (content f.name ++ rest) ≡ true
-brought_to fs f rest i =
-    any_here (λ g. is_some (below (content g) (content f.name ++ rest))) (map (λ (f : Fragment). f.name) fs) f.name (in_map (λ (f : Fragment). f.name) fs f i) (ap is_some (below-append (content f.name) rest))

@@ -18,12 +18,12 @@ use Rattle.dt_names.specs.declared.fault.FaultKind.TheVariants.{ReservedPlace}
 use Rattle.dt_laws.proofs.Tests.{in_left, in_right, in_append, in_map, in_map_from}
 use Rattle.dt_laws.proofs.Distinct.{distinct_left}
 use Rattle.dt_landing.specs.Landings.{landing_at, landings, all_landings, has_phandle, IsPhandleAt, MayAllLand, WhyNotLands, site, HasNoSite}
-use Rattle.dt_landing.proofs.CheckedFragments.{site_names, other_fragment, fragments_distinct, finds_of, IsSiteFault, AreRefused}
+use Rattle.dt_landing.proofs.CheckedFragments.{site_names, other_fragment, finds_of, IsSiteFault, AreRefused}
 use Rattle.dt_landing.proofs.CheckedSites.{site_found, finds_first, found_names}
 use Rattle.dt_landing.proofs.FirstStops.{why_is, Stops, stops_one}
 use Rattle.dt_landing.proofs.FirstSites.{target, Sited}
 use Rattle.dt_landing.proofs.FirstSites as first
-use Rattle.dt_landing.proofs.FoundSites.{content_stands, lands_below}
+use Rattle.dt_landing.proofs.FoundSites.{content_stands, lands_below, fragments_distinct}
 use Rattle.dt_landing.proofs.KnownChecks.{Or, IsFault, IsStuck}
 use Rattle.dt_landing.proofs.KnownMoves.{Move, move, content_moves, IsLanded, IsOther, content_from}
 use Rattle.dt_landing.proofs.LookedFragments.{reserved_stops}

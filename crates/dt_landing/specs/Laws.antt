@@ -1,5 +1,5 @@
 -- What landing change by change comes to, and what a look at all of it beforehand tells.
-use Rattle.std.specs.Prelude.{◌≡◌, ◌↔◌, ◌≢◌, ℕ, ◌+◌, ◌<◌, ◌≤◌, true, false, ◌&&◌, ◌⊎◌, List, [], ◌∷◌, ◌++◌, length, Some, None, Ok, Err, codes}
+use Rattle.std.specs.Prelude.{◌≡◌, ◌↔◌, ◌≢◌, ℕ, ◌+◌, ◌≤◌, true, false, ◌&&◌, ◌⊎◌, List, [], ◌∷◌, ◌++◌, length, Some, Ok, Err, codes}
 use Rattle.std.specs.List.{list_all, AllByRecursion}
 use Rattle.dt_model.specs.Limits.{most_names}
 use Rattle.dt_model.specs.Names.{Name, IsPropertyName}
@@ -11,9 +11,8 @@ use Rattle.dt_model.specs.Merged.{Site, landing}
 use Rattle.dt_model.specs.Overlay.{content}
 use Rattle.dt_model.specs.Object.{Cell, fragment_names, properties_of}
 use Rattle.dt_model.specs.Numbers.{AreNewNumbers}
-use Rattle.dt_model.specs.Applied.{Write, writes, find_sites, is_allowed, is_plain, is_bare, are_single, with_fragments, landed_symbols, with_symbols_merged, applied}
+use Rattle.dt_model.specs.Applied.{Write, writes, find_sites, is_allowed, is_plain, is_bare, are_single, with_fragments, landed_symbols, with_symbols_merged}
 use Rattle.dt_names.specs.declared.fault.FaultKind.{FaultKind}
-use Rattle.dt_names.specs.declared.fault.FaultKind.TheVariants.{Limit}
 use Rattle.dt_landing.specs.Steps.{land_properties, land_nodes, land_node, land_fragments, MayLandFragments}
 use Rattle.dt_landing.specs.Landings.{AreSited, HasNoSite}
 use Rattle.dt_landing.specs.Checking.{nothing_landed, check_content, check_fragments, IsKnown}
@@ -123,29 +122,3 @@ LookStops = (base object : Reading) (ws : List Write) (numbers : List (Path × �
     → IsValid base → IsValid object → IsWithinLimits base → AreNewNumbers base object numbers
     → (check_fragments base object ws numbers [] (fragment_names object.children) nothing_landed ≡ Err kind)
     ↔ HasNoSite kind base object ws numbers
-
--- where it isn't passed, though no landing is too deep, the object isn't applied
-abbrev pub RefusedIsNotApplied : Type 0
-RefusedIsNotApplied = (base object : Reading) (fixups : List (Name × Cell)) (numbers : List (Path × ℕ)) (kind : FaultKind)
-    → IsValid base → IsValid object → AreNewNumbers base object numbers
-    → check_fragments base object (writes base object fixups numbers) numbers [] (fragment_names object.children) nothing_landed ≡ Err kind
-    → kind ≢ Limit → applied base object fixups numbers ≡ None
-
--- a landing that is too deep is there: of the fragments that are looked at first, one brings it
-pub record IsTooDeep (base object : Reading) (ws : List Write) (numbers : List (Path × ℕ)) : Type 0 where
-  pub front : List Name
-  pub back : List Name
-  pub sites : List Site
-  pub from : Path
-  pub to : Path
-  pub fragments : fragment_names object.children ≡ front ++ back
-  pub sited : find_sites base object ws numbers [] front ≡ Some sites
-  pub stands : stands_in object from ≡ true
-  pub lands : landing sites from ≡ Some to
-  pub deep : most_names < length to
-
-abbrev pub LimitIsDue : Type 0
-LimitIsDue = (base object : Reading) (ws : List Write) (numbers : List (Path × ℕ))
-    → IsValid base → IsValid object → AreNewNumbers base object numbers
-    → check_fragments base object ws numbers [] (fragment_names object.children) nothing_landed ≡ Err Limit
-    → IsTooDeep base object ws numbers

@@ -57,6 +57,5 @@ AppliedIsOne = (base object t u : Reading) → IsApplied base object t → IsApp
 
 -- and memory and limits aside it is refused for one reason
 abbrev pub OneRefusal : Type 0
-OneRefusal = (base object : Reading) (kind other : FaultKind) → IsValid base → IsValid object → IsWithinLimits base
-    → WhyNotApplied kind base object → WhyNotApplied other base object
+OneRefusal = (base object : Reading) (kind other : FaultKind) → WhyNotApplied kind base object → WhyNotApplied other base object
     → kind ≢ NoMemory → kind ≢ Limit → other ≢ NoMemory → other ≢ Limit → kind ≡ other

@@ -1,6 +1,6 @@
 //! A look at what fragments bring, before anything lands.
 
-ghost use Rattle.dt_landing.specs.Laws.{NothingIsKnown, ContentIsKnown, PassedIsAllowed, LookIsPassed, LookStops, RefusedIsNotApplied, LimitIsDue};
+ghost use Rattle.dt_landing.specs.Laws.{NothingIsKnown, ContentIsKnown, PassedIsAllowed, LookIsPassed, LookStops};
 
 /// What is known before anything lands.
 pub fn nothing_is_known()
@@ -25,14 +25,4 @@ pub fn look_is_passed()
 /// Where it isn't, it tells why the first fragment that gets no site has none.
 pub fn look_stops()
     ensures { LookStops }
-{}
-
-/// And the object isn't applied.
-pub fn refused_is_not_applied()
-    ensures { RefusedIsNotApplied }
-{}
-
-/// A landing that is too deep is there.
-pub fn limit_is_due()
-    ensures { LimitIsDue }
 {}

@@ -8,8 +8,7 @@ mod outcomes;
 mod writing;
 
 pub use checking::{
-    content_is_known, limit_is_due, look_is_passed, look_stops, nothing_is_known,
-    passed_is_allowed, refused_is_not_applied,
+    content_is_known, look_is_passed, look_stops, nothing_is_known, passed_is_allowed,
 };
 pub use landing::{
     allowed_may_land, child_is_added, fragments_are_merged, landing_is_merging, nodes_are_kept,

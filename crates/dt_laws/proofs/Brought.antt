@@ -102,7 +102,8 @@ apart_below (x ∷ p) n c h e = step (λ s a k. apart_below p s c a k) (sibling 
 pub root_apart : (t : Reading) → IsValid t → IsApart (root_of t)
 root_apart t valid = record { properties = valid.properties.distinct; children = nodes_apart t.children valid.nodes; names = valid.siblings }
 
-none_below : (p r : Path) (n : Node) → node_below n p ≡ None → node_below n (p ++ r) ≡ None
+-- below what isn't there is nothing
+pub none_below : (p r : Path) (n : Node) → node_below n p ≡ None → node_below n (p ++ r) ≡ None
 none_below [] r n e = absurd (let z : Some n ≡ None = e in cc)
 none_below (x ∷ p) r n e = step (λ s k. none_below p r s k) (sibling n.children x) refl
   where

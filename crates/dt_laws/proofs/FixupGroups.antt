@@ -1,5 +1,5 @@
 -- The properties of `__fixups__`, one for each label, list the cells that wait for it: every cell once, and none else.
-use Rattle.std.proofs.Common.{◌≡◌, ◌≢◌, ℕ, ◌<◌, ◌^◌, Bool, true, false, not, cond, List, [], ◌∷◌, ◌++◌, append_assoc, map, codes, decimal, refl, sym, ap, subst, ◌∙◌, inl, inr, true≢false}
+use Rattle.std.proofs.Common.{◌≡◌, ◌≢◌, ℕ, ◌<◌, ◌^◌, Bool, true, false, not, List, [], ◌∷◌, ◌++◌, append_assoc, map, codes, decimal, refl, sym, ap, subst, ◌∙◌, inl, inr, true≢false}
 use Rattle.std.specs.Prelude.{if◌then◌else◌}
 use Rattle.std.specs.List.{AllByRecursion, flat_map, filter}
 use Rattle.std.specs.Str.{bytes_eq}
@@ -11,31 +11,11 @@ use Rattle.dt_model.specs.Object.{Cell, IsCellText, AreCellTexts, AreFixups}
 use Rattle.dt_model.specs.Fixups.{cell_text, first_labels, text_for, fixup, fixups}
 use Rattle.dt_model.specs.Tree.{Property}
 use Rattle.dt_model.specs.Valid.{AreDistinct}
-use Rattle.dt_laws.proofs.Tests.{bytes_eq_refl, bytes_eq_true, each_from, in_map, in_map_from}
+use Rattle.dt_laws.proofs.Tests.{bytes_eq_refl, bytes_eq_true, each_from, in_map, in_map_from, in_filter, filter_in}
 use Rattle.dt_laws.proofs.Distinct.{distinct_filter, in_flat, not_twice}
 use Rattle.dt_laws.proofs.Flat.{from_flat, distinct_flat}
 
 -- ---- lists
-
-in_filter : {X : Type 0} (test : X → Bool) (xs : List X) (x : X) → IsIn x (filter test xs) → IsIn x xs × (test x ≡ true)
-in_filter test [] x i = absurd i
-in_filter {X} test (y ∷ xs) x i = step (λ k. in_filter test xs x k) (test y) refl
-  where
-    step : (IsIn x (filter test xs) → IsIn x xs × (test x ≡ true)) → (b : Bool) → test y ≡ b → IsIn x (y ∷ xs) × (test x ≡ true)
-    step more false e = let w = more (subst (λ b. IsIn x (cond b (y ∷ filter test xs) (filter test xs))) e i) in (inr w.0, w.1)
-    step more true e = elim (subst (λ b. IsIn x (cond b (y ∷ filter test xs) (filter test xs))) e i) [
-      | inl same ↦ (inl same, ap test same ∙ e)
-      | inr k ↦ let w = more k in (inr w.0, w.1)
-    ]
-
-filter_in : {X : Type 0} (test : X → Bool) (xs : List X) (x : X) → IsIn x xs → test x ≡ true → IsIn x (filter test xs)
-filter_in test [] x i h = absurd i
-filter_in test (y ∷ xs) x (inl same) h = subst (λ b. IsIn x (cond b (y ∷ filter test xs) (filter test xs))) (sym (ap test (sym same) ∙ h)) (inl same)
-filter_in test (y ∷ xs) x (inr i) h = step (filter_in test xs x i h) (test y)
-  where
-    step : IsIn x (filter test xs) → (b : Bool) → IsIn x (cond b (y ∷ filter test xs) (filter test xs))
-    step more true = inr more
-    step more false = more
 
 itself : {X : Type 0} (xs : List X) → map (λ x. x) xs ≡ xs
 itself [] = refl

@@ -15,7 +15,7 @@ use Rattle.dt_laws.proofs.Tests.{and_right, and_both, bytes_eq_refl, bytes_eq_tr
 
 -- ---- siblings that are fragments
 
-each_fragment : (P : Name → Type 0) (f : Forest) → AllByRecursion P (names f) → AllByRecursion P (fragment_names f)
+pub each_fragment : (P : Name → Type 0) (f : Forest) → AllByRecursion P (names f) → AllByRecursion P (fragment_names f)
 each_fragment P no_nodes h = tt
 each_fragment P (branch x ps c s) h = step (is_fragment x c) (each_fragment P s h.1)
   where
@@ -35,14 +35,14 @@ name_in : (f : Forest) (x : Name) → IsIn x (fragment_names f) → IsIn x (name
 name_in f x i = each_in (λ y. IsIn y (names f)) (fragment_names f) x (each_fragment (λ y. IsIn y (names f)) f (each_from (λ y. IsIn y (names f)) (names f) (λ y j. j))) i
 
 -- the sibling has a child `__overlay__`
-abbrev has_content : Option Node → Bool
+abbrev pub has_content : Option Node → Bool
 has_content o = is_some (option_and_then (λ (n : Node). option_and_then (λ c. Some c) (sibling n.children (codes "__overlay__"))) o)
 
 some_content : (o : Option Node) → is_some o ≡ is_some (option_and_then (λ c. Some c) o)
 some_content None = refl
 some_content (Some n) = refl
 
-fragment_found : (f : Forest) (x : Name) → AreDistinct (names f) → IsIn x (fragment_names f) → has_content (sibling f x) ≡ true
+pub fragment_found : (f : Forest) (x : Name) → AreDistinct (names f) → IsIn x (fragment_names f) → has_content (sibling f x) ≡ true
 fragment_found no_nodes x d i = absurd i
 fragment_found (branch y ps c s) x d i = step (is_fragment y c) refl (fragment_found s x d.1) i
   where

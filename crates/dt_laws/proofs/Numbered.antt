@@ -1,5 +1,5 @@
 -- The new numbers are those of the keyed nodes that fragments bring, and none of the base's.
-use Rattle.std.proofs.Common.{◌≡◌, ℕ, ◌≤◌, ◌<◌, ◌^◌, Bool, true, false, cond, List, [], ◌∷◌, ◌++◌, map, length, codes, refl, sym, ap, subst, ◌∙◌, inl, inr, Option, Some, None, true≢false, arith}
+use Rattle.std.proofs.Common.{◌≡◌, ℕ, ◌≤◌, ◌<◌, ◌^◌, Bool, true, false, cond, List, [], ◌∷◌, ◌++◌, map, length, codes, refl, sym, ap, subst, ◌∙◌, Option, Some, None, true≢false, arith}
 use Rattle.std.specs.Prelude.{is_some, if◌then◌else◌, nat_eq}
 use Rattle.std.specs.List.{list_any, filter}
 use Rattle.std.specs.Int.{w32, from_be_bytes}
@@ -16,7 +16,7 @@ use Rattle.dt_model.specs.Represents.{Represents}
 use Rattle.dt_model.specs.Numbers.{numbers_of, is_brought, needs_number, new_paths, AreNewNumbers, number_in}
 use Rattle.dt_model.specs.Tree.{Reading, Placed, value_of, nodes_of, value_in}
 use Rattle.dt_model.specs.Valid.{AreDistinct, IsValid, IsWithinLimits, phandle_values, phandles}
-use Rattle.dt_laws.proofs.Tests.{and_left, and_right, and_both, any_here, any_from, in_map, in_map_from}
+use Rattle.dt_laws.proofs.Tests.{and_left, and_right, and_both, any_here, any_from, in_map, in_map_from, in_filter, filter_in}
 use Rattle.dt_laws.proofs.Distinct.{in_flat, distinct_filter}
 use Rattle.dt_laws.proofs.Lands.{below-append, append-below}
 use Rattle.dt_laws.proofs.Listed.{listed_value, value_listed}
@@ -24,26 +24,6 @@ use Rattle.dt_laws.proofs.Preorder.{paths_distinct, phandle_list, all_phandles, 
 use Rattle.dt_laws.proofs.Inside.{IsInside, IsFresh, plain_brought}
 use Rattle.dt_laws.proofs.Given.{phandle_of, object_phandle}
 use Rattle.dt_laws.proofs.Fresh.{number_is_free, own_number, number_low, number_some, AreOwn, own_numbers}
-
-in_filter : {X : Type 0} (test : X → Bool) (xs : List X) (x : X) → IsIn x (filter test xs) → IsIn x xs × (test x ≡ true)
-in_filter test [] x i = absurd i
-in_filter {X} test (y ∷ xs) x i = step (λ k. in_filter test xs x k) (test y) refl
-  where
-    step : (IsIn x (filter test xs) → IsIn x xs × (test x ≡ true)) → (b : Bool) → test y ≡ b → IsIn x (y ∷ xs) × (test x ≡ true)
-    step more false e = let w = more (subst (λ b. IsIn x (cond b (y ∷ filter test xs) (filter test xs))) e i) in (inr w.0, w.1)
-    step more true e = elim (subst (λ b. IsIn x (cond b (y ∷ filter test xs) (filter test xs))) e i) [
-      | inl same ↦ (inl same, ap test same ∙ e)
-      | inr k ↦ let w = more k in (inr w.0, w.1)
-    ]
-
-filter_in : {X : Type 0} (test : X → Bool) (xs : List X) (x : X) → IsIn x xs → test x ≡ true → IsIn x (filter test xs)
-filter_in test [] x i h = absurd i
-filter_in test (y ∷ xs) x (inl same) h = subst (λ b. IsIn x (cond b (y ∷ filter test xs) (filter test xs))) (sym (ap test (sym same) ∙ h)) (inl same)
-filter_in test (y ∷ xs) x (inr i) h = step (filter_in test xs x i h) (test y)
-  where
-    step : IsIn x (filter test xs) → (b : Bool) → IsIn x (cond b (y ∷ filter test xs) (filter test xs))
-    step more true = inr more
-    step more false = more
 
 length-filter_le : {X : Type 0} (test : X → Bool) (xs : List X) → length (filter test xs) ≤ length xs
 length-filter_le test [] = omega arith
@@ -55,7 +35,7 @@ length-filter_le test (x ∷ xs) = step (length-filter_le test xs) (test x)
 
 -- ---- which nodes fragments bring
 
-brought_from : (fs : List Fragment) (p : Path) → is_brought (map (λ (f : Fragment). f.name) fs) p ≡ true → (f : Fragment) × (rest : Path) × IsIn f fs × (p ≡ content f.name ++ rest)
+pub brought_from : (fs : List Fragment) (p : Path) → is_brought (map (λ (f : Fragment). f.name) fs) p ≡ true → (f : Fragment) × (rest : Path) × IsIn f fs × (p ≡ content f.name ++ rest)
 brought_from fs p h =
     let w = any_from (λ f. is_some (below (content f) p)) (map (λ (f : Fragment). f.name) fs) h in
     let g = in_map_from (λ (f : Fragment). f.name) fs w.0 w.1 in
@@ -65,7 +45,7 @@ brought_from fs p h =
     step None e k f i same = absurd (true≢false (sym (rw e at k)))
     step {x} (Some r) e k f i same = (f, r, i, append-below (content x) p r e ∙ ap (λ z. content z ++ r) same)
 
-brought_to : (fs : List Fragment) (f : Fragment) (rest : Path) → IsIn f fs → is_brought (map (λ (f : Fragment). f.name) fs) (content f.name ++ rest) ≡ true
+pub brought_to : (fs : List Fragment) (f : Fragment) (rest : Path) → IsIn f fs → is_brought (map (λ (f : Fragment). f.name) fs) (content f.name ++ rest) ≡ true
 brought_to fs f rest i =
     any_here (λ g. is_some (below (content g) (content f.name ++ rest))) (map (λ (f : Fragment). f.name) fs) f.name (in_map (λ (f : Fragment). f.name) fs f i) (ap is_some (below-append (content f.name) rest))
 

@@ -1,6 +1,6 @@
 -- What tests say, and words for lists.
-use Rattle.std.proofs.Common.{◌≡◌, ◌≢◌, Bool, true, false, not, ◌&&◌, ◌||◌, List, [], ◌∷◌, ◌++◌, map, refl, sym, ap, subst, ◌∙◌, ◌⊎◌, inl, inr, true≢false}
-use Rattle.std.specs.List.{list_any, list_all, AllByRecursion}
+use Rattle.std.proofs.Common.{◌≡◌, ◌≢◌, Bool, true, false, not, cond, ◌&&◌, ◌||◌, List, [], ◌∷◌, ◌++◌, map, refl, sym, ap, subst, ◌∙◌, ◌⊎◌, inl, inr, true≢false}
+use Rattle.std.specs.List.{list_any, list_all, filter, AllByRecursion}
 use Rattle.std.proofs.lemmas.Slice.Eq.{bytes_eq-Decides}
 use Rattle.std.proofs.lemmas.Bool.Decides.{same_from_decides}
 use Rattle.std.specs.Str.{bytes_eq}
@@ -33,6 +33,14 @@ or_right false b h = h
 pub or_left : (a b : Bool) → a ≡ true → a || b ≡ true
 or_left true b h = refl
 or_left false b h = absurd (true≢false (sym h))
+
+pub or_false_left : (a b : Bool) → a || b ≡ false → a ≡ false
+or_false_left true b h = absurd (true≢false h)
+or_false_left false b h = refl
+
+pub or_false_right : (a b : Bool) → a || b ≡ false → b ≡ false
+or_false_right true b h = absurd (true≢false h)
+or_false_right false b h = h
 
 pub not_true : (b : Bool) → not b ≡ true → b ≡ false
 not_true true h = absurd (true≢false (sym h))
@@ -137,3 +145,24 @@ pub in_map_from : {X Y : Type 0} (f : X → Y) (xs : List X) (y : Y) → IsIn y 
 in_map_from f [] y i = absurd i
 in_map_from f (x ∷ xs) y (inl same) = (x, inl refl, same)
 in_map_from f (x ∷ xs) y (inr i) = let w = in_map_from f xs y i in (w.0, inr w.1, w.2)
+
+-- what a filter keeps
+pub in_filter : {X : Type 0} (test : X → Bool) (xs : List X) (x : X) → IsIn x (filter test xs) → IsIn x xs × (test x ≡ true)
+in_filter test [] x i = absurd i
+in_filter {X} test (y ∷ xs) x i = step (λ k. in_filter test xs x k) (test y) refl
+  where
+    step : (IsIn x (filter test xs) → IsIn x xs × (test x ≡ true)) → (b : Bool) → test y ≡ b → IsIn x (y ∷ xs) × (test x ≡ true)
+    step more false e = let w = more (subst (λ b. IsIn x (cond b (y ∷ filter test xs) (filter test xs))) e i) in (inr w.0, w.1)
+    step more true e = elim (subst (λ b. IsIn x (cond b (y ∷ filter test xs) (filter test xs))) e i) [
+      | inl same ↦ (inl same, ap test same ∙ e)
+      | inr k ↦ let w = more k in (inr w.0, w.1)
+    ]
+
+pub filter_in : {X : Type 0} (test : X → Bool) (xs : List X) (x : X) → IsIn x xs → test x ≡ true → IsIn x (filter test xs)
+filter_in test [] x i h = absurd i
+filter_in test (y ∷ xs) x (inl same) h = subst (λ b. IsIn x (cond b (y ∷ filter test xs) (filter test xs))) (sym (ap test (sym same) ∙ h)) (inl same)
+filter_in test (y ∷ xs) x (inr i) h = step (filter_in test xs x i h) (test y)
+  where
+    step : IsIn x (filter test xs) → (b : Bool) → IsIn x (cond b (y ∷ filter test xs) (filter test xs))
+    step more true = inr more
+    step more false = more

@@ -41,7 +41,7 @@ read_cell f k (reference s ∷ items) o r (inr h) small =
     let e : o - k ≡ suc (suc (suc (suc (o - (k + 4))))) = omega arith in
     ap (number_at (cell (f k s) ++ bytes_from f (k + 4) items)) e ∙ read_cell f (k + 4) items o r h small
 
-read_value : {R : Type 0} (g : R → ℕ) (items : List (Item R)) (o : ℕ) (r : R) → IsIn (o, r) (references_from 0 items) → g r < 2 ^ 32 → number_at (value_bytes g items) o ≡ g r
+pub read_value : {R : Type 0} (g : R → ℕ) (items : List (Item R)) (o : ℕ) (r : R) → IsIn (o, r) (references_from 0 items) → g r < 2 ^ 32 → number_at (value_bytes g items) o ≡ g r
 read_value g items o r h small =
     let e : o ≡ o - 0 = omega arith in
     ap (λ bs. number_at bs o) (sym (plain_bytes g 0 items)) ∙ ap (number_at (bytes_from (λ _ s. g s) 0 items)) e ∙ read_cell (λ _ s. g s) 0 items o r h small

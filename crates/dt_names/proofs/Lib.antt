@@ -1,3 +1,4 @@
 mod Names
+pub mod Faults
 mod PathTexts
 mod Streams

@@ -1,5 +1,6 @@
 -- The number and the name of each kind of fault, which a caller may show or compare; and what is true of the refusals of a call.
-use Rattle.std.specs.Prelude.{◌≡◌, ◌≢◌, ℕ, List, codes}
+use Rattle.std.specs.Prelude.{◌≡◌, ◌≢◌, ℕ, List, None, codes}
+use Rattle.dt_names.specs.declared.fault.Fault.{Fault}
 use Rattle.dt_names.specs.declared.fault.FaultKind.{FaultKind}
 use Rattle.dt_names.specs.declared.fault.FaultKind.TheVariants.{NoMemory, Limit, BadVersionTag, BadToken, Syntax, BadInteger, DivideByZero, OutOfRange, BadReferenceWidth, PropertyAfterNode, DuplicateProperty, DuplicateNode, DuplicateLabel, NoSuchTarget, UnresolvedReference, BadPhandle, DuplicatePhandle, ReservedName, OverlayDelete, OverlayPhandle, OverlayPathReference, OverlayReserve, OutsideContent, BadFragment, ShortHeader, BadMagic, BadTotal, BadVersion, Misaligned, BlockOutside, NoReservationEnd, BadTag, StructureCut, BadName, BadNameOffset, BadNesting, LateProperty, Duplicate, BadEnd, BlobPhandle, NoSymbol, BadSymbol, NoTarget, BadFixup, BadLocalFixup, SecondPhandle, NoFragmentTarget, ReservedPlace, WriteFault, ReadFault}
 
@@ -108,6 +109,10 @@ fault_name NoFragmentTarget = codes "NoFragmentTarget"
 fault_name ReservedPlace = codes "ReservedPlace"
 fault_name WriteFault = codes "WriteFault"
 fault_name ReadFault = codes "ReadFault"
+
+-- a fault without a place
+abbrev pub placeless : FaultKind → Fault
+placeless kind = record { kind = kind; at = None }
 
 -- what is answered isn't refused, unless memory is wanted
 abbrev pub IsExclusive : (answered : Type 0) (refused : FaultKind → Type 0) → Type 0

@@ -12,7 +12,7 @@ mod stream;
 
 pub use fault::{Fault, FaultKind};
 pub use laws::{one_outcome, one_path};
-pub use name::{Label, NodeName, PropName};
+pub use name::{Label, NodeName, PropName, is_bookkeeping_name};
 pub use path::{NodePath, Path, PathNames};
 pub use phandle::phandle_of;
 pub use stream::{Feed, In, Out, Sink, put_all};

@@ -2,6 +2,7 @@
 
 ghost use Rattle.std.specs.Prelude.{◌≡◌, ◌↔◌, ◌==◌, ◌||◌, None, IfOk, IfErr, IsOk, IsTrue};
 ghost use Rattle.dt_model.specs.Names.{is_name_byte, is_letter, is_digit, IsNodeName, IsPropertyName, IsLabel};
+ghost use Rattle.dt_model.specs.Path.{is_bookkeeping_name as is_bookkeeping};
 ghost use Rattle.dt_names.specs.declared.fault.FaultKind.TheVariants.{BadName};
 
 use crate::fault::{Fault, FaultKind};
@@ -58,6 +59,16 @@ impl<'a> Model for Label<'a> {
     ghost view = { λ l. l.label.now };
 
     ghost invariant = { λ l. IsLabel l.label.now };
+}
+
+/// Is it the name of a bookkeeping node, a child of the root in which an object, or a blob that takes one, keeps labels and
+/// references (dtc's notes on overlay objects)? Takes no memory.
+pub fn is_bookkeeping_name(name: &[u8]) -> bool
+    ensures { result ≡ is_bookkeeping name.now }
+{
+    name == b"__symbols__".as_slice()
+        || name == b"__fixups__".as_slice()
+        || name == b"__local_fixups__".as_slice()
 }
 
 fn may_stand_in_a_name(byte: u8) -> bool

@@ -2,7 +2,6 @@
 
 ghost use Rattle.std.specs.Prelude.{◌≡◌, ◌<◌, ◌≤◌, ◌-◌, ◌++◌, ◌∷◌, [], ℕ, false, Some, None, Ok, IfOk, OnOk, MatchResult, slice_get, length, map};
 ghost use Rattle.dt_model.specs.Event.{Stack};
-ghost use Rattle.dt_model.specs.Path.{is_bookkeeping_name};
 ghost use Rattle.dt_model.specs.Source.{SoFar, root, block, delete_node, child, property, delete_property, delete_child, close, is_reserved, nothing, read, read_all};
 ghost use Rattle.dt_model.specs.Source as model;
 ghost use Rattle.dt_names.specs.declared.fault.FaultKind.TheVariants.{Syntax};
@@ -15,7 +14,7 @@ ghost use Rattle.dt_source.specs.Refusals.{mode_said, Tells, WhyNotGrown};
 
 use crate::growing::{Growing, NameText};
 use dt_names::limits::MOST_NAMES;
-use dt_names::{Fault, FaultKind};
+use dt_names::{Fault, FaultKind, is_bookkeeping_name};
 use dt_parse::{Item, Reference, Value};
 use std::alloc::{AllocError, Global};
 
@@ -43,21 +42,12 @@ pub(crate) struct Reading<'s, 'a> {
     pub bodies: Vec<OpenBody>,
 }
 
-/// Whether it is the name of a node in which objects keep labels and references.
-fn is_bookkeeping(name: &[u8]) -> bool
-    ensures { result ≡ is_bookkeeping_name name.now }
-{
-    name == b"__symbols__".as_slice()
-        || name == b"__fixups__".as_slice()
-        || name == b"__local_fixups__".as_slice()
-}
-
 /// Whether a node whose path has so many names may not have a child of this name.
 fn is_kept_back(mode: Mode, depth: usize, name: &[u8]) -> bool
     ensures { (names : Stack) → depth ≡ length names → result ≡ is_reserved (mode_said mode) names name.now }
 {
     match mode {
-        Mode::Base => depth == 0 && is_bookkeeping(name),
+        Mode::Base => depth == 0 && is_bookkeeping_name(name),
         Mode::Raw => false,
     }
 }
