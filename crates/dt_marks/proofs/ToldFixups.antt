@@ -1,7 +1,8 @@
 -- What is told of `__fixups__` is what it lists.
 use Rattle.std.proofs.Common.{◌≡◌, ◌≢◌, ℕ, ◌==◌, Bool, true, false, cond, codes, List, [], ◌∷◌, ◌++◌, Option, Some, None, Err, refl, sym, ap, subst, ◌∙◌, true≢false, inl, inr}
 use Rattle.std.proofs.lemmas.Bool.{eqb-true, eqb-false}
-use Rattle.dt_names.specs.declared.fault.FaultKind.{FaultKind}
+use Rattle.dt_names.specs.Fault.{placeless}
+use Rattle.dt_names.specs.declared.fault.Fault.{Fault}
 use Rattle.dt_names.specs.declared.fault.FaultKind.TheVariants.{BadFixup}
 use Rattle.dt_model.specs.Names.{Name}
 use Rattle.dt_model.specs.Object.{properties_of}
@@ -35,11 +36,11 @@ other_ends_none (b ∷ bytes) e = let last = last_byte b bytes in none_of_other 
 -- ---- a step
 
 -- what is told of a property that isn't texts
-pub told_off : (t : PlacedTree) (p : Property) (ps : List Property) → ((xs : List (List ℕ)) → xs ≢ [] → ¬ AreTexts p.value xs) → told_of t (p ∷ ps) ≡ Err BadFixup ∷ []
+pub told_off : (t : PlacedTree) (p : Property) (ps : List Property) → ((xs : List (List ℕ)) → xs ≢ [] → ¬ AreTexts p.value xs) → told_of t (p ∷ ps) ≡ Err (placeless BadFixup) ∷ []
 unfolding told_of
 told_off t p ps none = step (ends_with_nul p.value) refl
   where
-    step : (b : Bool) → ends_with_nul p.value ≡ b → cond b (told_of_texts t p.name (texts_in p.value) (told_of t ps)) (Err BadFixup ∷ []) ≡ Err BadFixup ∷ []
+    step : (b : Bool) → ends_with_nul p.value ≡ b → cond b (told_of_texts t p.name (texts_in p.value) (told_of t ps)) (Err (placeless BadFixup) ∷ []) ≡ Err (placeless BadFixup) ∷ []
     step true e = let is = nul_ends_texts p.value e in absurd (none (texts_in p.value) is.1 is.0)
     step false e = refl
 
@@ -48,7 +49,7 @@ pub told_on : (t : PlacedTree) (p : Property) (ps : List Property) (xs : List (L
 unfolding told_of
 told_on t p ps xs are some = step (ends_with_nul p.value) refl
   where
-    step : (b : Bool) → ends_with_nul p.value ≡ b → cond b (told_of_texts t p.name (texts_in p.value) (told_of t ps)) (Err BadFixup ∷ []) ≡ told_of_texts t p.name xs (told_of t ps)
+    step : (b : Bool) → ends_with_nul p.value ≡ b → cond b (told_of_texts t p.name (texts_in p.value) (told_of t ps)) (Err (placeless BadFixup) ∷ []) ≡ told_of_texts t p.name xs (told_of t ps)
     step true e = ap (λ (ys : List (List ℕ)). told_of_texts t p.name ys (told_of t ps)) (texts_only xs p.value are)
     step false e = absurd (other_ends_none p.value e xs some are)
 
@@ -58,23 +59,23 @@ unfolding told_of_texts told_of
 nothing_left t rest label texts none last = ap (λ (xs : List (List ℕ)). told_of_texts t label xs (told_of t (behind_label rest))) none ∙ ap (told_of t) last
 
 -- a text of no cell is the last
-pub told_fault : (t : PlacedTree) (label : Name) (text : List ℕ) (more : List Fixup) (kind : FaultKind) (texts : List (List ℕ)) → cell_in t text ≡ None → kind ≡ BadFixup → texts ≡ []
-    → told_next label (cell_in t text) more ≡ Err kind ∷ fixups_left t None label texts
-told_fault t label text more kind texts none is last =
+pub told_fault : (t : PlacedTree) (label : Name) (text : List ℕ) (more : List Fixup) (fault : Fault) (texts : List (List ℕ)) → cell_in t text ≡ None → fault ≡ placeless BadFixup → texts ≡ []
+    → told_next label (cell_in t text) more ≡ Err fault ∷ fixups_left t None label texts
+told_fault t label text more fault texts none is last =
     ap (λ (o : Option ListedCell). told_next label o more) none
-    ∙ ap (λ (k : FaultKind). Err k ∷ []) (sym is)
-    ∙ ap (λ (r : List Fixup). Err kind ∷ r) (sym (nothing_left t None label texts last refl))
+    ∙ ap (λ (f : Fault). Err f ∷ []) (sym is)
+    ∙ ap (λ (r : List Fixup). Err fault ∷ r) (sym (nothing_left t None label texts last refl))
 
 -- so is a value that isn't texts
-pub value_fault : (t : PlacedTree) (rest : Option (List Property)) (p : Property) (ps : List Property) (label : Name) (kind : FaultKind) (texts : List (List ℕ)) → texts ≡ [] → behind_label rest ≡ p ∷ ps → kind ≡ BadFixup
-    → ((xs : List (List ℕ)) → xs ≢ [] → ¬ AreTexts p.value xs) → fixups_left t rest label texts ≡ Err kind ∷ fixups_left t None label texts
+pub value_fault : (t : PlacedTree) (rest : Option (List Property)) (p : Property) (ps : List Property) (label : Name) (fault : Fault) (texts : List (List ℕ)) → texts ≡ [] → behind_label rest ≡ p ∷ ps → fault ≡ placeless BadFixup
+    → ((xs : List (List ℕ)) → xs ≢ [] → ¬ AreTexts p.value xs) → fixups_left t rest label texts ≡ Err fault ∷ fixups_left t None label texts
 unfolding told_of_texts
-value_fault t rest p ps label kind texts last is kind_is none =
+value_fault t rest p ps label fault texts last is fault_is none =
     ap (λ (xs : List (List ℕ)). told_of_texts t label xs (told_of t (behind_label rest))) last
     ∙ ap (told_of t) is
     ∙ told_off t p ps none
-    ∙ ap (λ (k : FaultKind). Err k ∷ []) (sym kind_is)
-    ∙ ap (λ (r : List Fixup). Err kind ∷ r) (sym (nothing_left t None label texts last refl))
+    ∙ ap (λ (f : Fault). Err f ∷ []) (sym fault_is)
+    ∙ ap (λ (r : List Fixup). Err fault ∷ r) (sym (nothing_left t None label texts last refl))
 
 -- the first text of the next label
 pub next_told : (t : PlacedTree) (rest : Option (List Property)) (p : Property) (ps : List Property) (label : Name) (texts xs : List (List ℕ)) (text : List ℕ) (behind : List (List ℕ))
@@ -113,7 +114,7 @@ module _ (t : PlacedTree) (valid : IsValid (reading_of t)) where
   fixups_told [] = refl
   fixups_told (p ∷ ps) = step (fixups_told ps) (ends_with_nul p.value) refl
     where
-      step : AreFixups t ps (told_of t ps) → (b : Bool) → ends_with_nul p.value ≡ b → AreFixups t (p ∷ ps) (cond b (told_of_texts t p.name (texts_in p.value) (told_of t ps)) (Err BadFixup ∷ []))
+      step : AreFixups t ps (told_of t ps) → (b : Bool) → ends_with_nul p.value ≡ b → AreFixups t (p ∷ ps) (cond b (told_of_texts t p.name (texts_in p.value) (told_of t ps)) (Err (placeless BadFixup) ∷ []))
       step after true e = let is = nul_ends_texts p.value e in inl (texts_in p.value, is.0, is.1, texts_told p.name (texts_in p.value) (AreFixups t ps) (told_of t ps) after)
       step after false e = inr (other_ends_none p.value e, refl)
 

@@ -3,7 +3,8 @@ use Rattle.std.proofs.Common.{◌⊎◌, ◌≡◌, ℕ, ◌+◌, ◌≤◌, ◌
 use Rattle.std.specs.Prelude.{is_some}
 use Rattle.std.proofs.lemmas.Bool.{eqb-true, eqb-false, le-leb, leb-true, leb-false}
 use Rattle.std.proofs.lemmas.Option.{same_Some}
-use Rattle.dt_names.specs.declared.fault.FaultKind.{FaultKind}
+use Rattle.dt_names.specs.Fault.{placeless}
+use Rattle.dt_names.specs.declared.fault.Fault.{Fault}
 use Rattle.dt_names.specs.declared.fault.FaultKind.TheVariants.{BadLocalFixup}
 use Rattle.dt_model.specs.Names.{Name}
 use Rattle.dt_model.specs.Object.{words_of, nodes_from}
@@ -28,7 +29,7 @@ offsets_are k property value (offset ∷ offsets) more rest are =
     behind = offsets_told k property value offsets rest
 
     step : AreOffsets k property value offsets more behind → (b : Bool) → nat_le (offset + 4) (length value) ≡ b
-        → AreOffsets k property value (offset ∷ offsets) more (cond b (Ok (record { node = k; property = property; offset = offset }) ∷ behind) (Err BadLocalFixup ∷ []))
+        → AreOffsets k property value (offset ∷ offsets) more (cond b (Ok (record { node = k; property = property; offset = offset }) ∷ behind) (Err (placeless BadLocalFixup) ∷ []))
     step after true e = inl (leb-true (offset + 4) (length value) e, behind, refl, after)
     step after false e = inr (leb-false (offset + 4) (length value) e, refl)
 
@@ -38,19 +39,19 @@ abbrev Then : PlacedTree → List Placed → (List LocalFixup → Type 0) → Li
 Then t [] more told = more told
 Then t (n ∷ ns) more told =
     ((k : ℕ) × IsAt t n.path k × AreLocalProperties t n.path k n.properties (Then t ns more) told)
-    ⊎ ((stands_in (reading_of t) n.path ≡ false) × (told ≡ Err BadLocalFixup ∷ []))
+    ⊎ ((stands_in (reading_of t) n.path ≡ false) × (told ≡ Err (placeless BadLocalFixup) ∷ []))
 
 then_append : (t : PlacedTree) (xs ys : List Placed) (more : List LocalFixup → Type 0) → Then t (xs ++ ys) more ≡ Then t xs (Then t ys more)
 then_append t [] ys more = refl
 then_append t (n ∷ xs) ys more = ap (λ (later : List LocalFixup → Type 0). λ (told : List LocalFixup).
     ((k : ℕ) × IsAt t n.path k × AreLocalProperties t n.path k n.properties later told)
-    ⊎ ((stands_in (reading_of t) n.path ≡ false) × (told ≡ Err BadLocalFixup ∷ []))) (then_append t xs ys more)
+    ⊎ ((stands_in (reading_of t) n.path ≡ false) × (told ≡ Err (placeless BadLocalFixup) ∷ []))) (then_append t xs ys more)
 
 then_nothing : (t : PlacedTree) (ns : List Placed) → Then t ns (λ told. told ≡ []) ≡ AreLocalNodes t ns
 then_nothing t [] = refl
 then_nothing t (n ∷ ns) = ap (λ (later : List LocalFixup → Type 0). λ (told : List LocalFixup).
     ((k : ℕ) × IsAt t n.path k × AreLocalProperties t n.path k n.properties later told)
-    ⊎ ((stands_in (reading_of t) n.path ≡ false) × (told ≡ Err BadLocalFixup ∷ []))) (then_nothing t ns)
+    ⊎ ((stands_in (reading_of t) n.path ≡ false) × (told ≡ Err (placeless BadLocalFixup) ∷ []))) (then_nothing t ns)
 
 -- behind the walk nothing is told
 pub walk_ended : (t : PlacedTree) (steps : List Step) → walk_told t [] steps ≡ []
@@ -71,7 +72,7 @@ module _ (t : PlacedTree) (places : (p q : Path) (k : ℕ) → IsAt t p k → Is
       behind = walk_told t (k ∷ ks) (map holds xs ++ steps)
 
       whole : (v : List ℕ) → value_in (reading_of t) p x.name ≡ Some v → AreLocalProperties t p k xs more behind → (b : Bool) → (length x.value % 4 == 0) ≡ b
-          → AreLocalProperties t p k (x ∷ xs) more (cond b (offsets_told k x.name v (words_of x.value) behind) (Err BadLocalFixup ∷ []))
+          → AreLocalProperties t p k (x ∷ xs) more (cond b (offsets_told k x.name v (words_of x.value) behind) (Err (placeless BadLocalFixup) ∷ []))
       whole v e after true is = inl ((v, e, eqb-true (length x.value % 4) 0 is), offsets_are k x.name v (words_of x.value) (AreLocalProperties t p k xs more) behind after)
       whole v e after false is = inr (λ has. eqb-false (length x.value % 4) 0 is has.2, refl)
 
@@ -168,13 +169,13 @@ module _ (t : PlacedTree) where
       ap (λ (ws : List ℕ). offsets_told k property value ws (walk_told t open_nodes steps)) is ∙ rw (le-leb (offset + 4) (length value) less) refl
 
   -- or is outside the value
-  pub offset_off : (k : ℕ) (property : Name) (value offsets behind : List ℕ) (offset : ℕ) (open_nodes : List ℕ) (steps : List Step) (kind : FaultKind) (rest : List LocalFixup) → words_of offsets ≡ offset ∷ words_of behind → ¬ (offset + 4 ≤ length value)
-      → kind ≡ BadLocalFixup → rest ≡ [] → local_fixups_left t k property value offsets open_nodes steps ≡ Err kind ∷ rest
+  pub offset_off : (k : ℕ) (property : Name) (value offsets behind : List ℕ) (offset : ℕ) (open_nodes : List ℕ) (steps : List Step) (fault : Fault) (rest : List LocalFixup) → words_of offsets ≡ offset ∷ words_of behind → ¬ (offset + 4 ≤ length value)
+      → fault ≡ placeless BadLocalFixup → rest ≡ [] → local_fixups_left t k property value offsets open_nodes steps ≡ Err fault ∷ rest
   unfolding offsets_told
-  offset_off k property value offsets behind offset open_nodes steps kind rest is more fault none =
-      ap (λ (ws : List ℕ). offsets_told k property value ws (walk_told t open_nodes steps)) is ∙ outside (nat_le (offset + 4) (length value)) refl ∙ λ i. Err (sym fault i) ∷ sym none i
+  offset_off k property value offsets behind offset open_nodes steps fault rest is more is_fault none =
+      ap (λ (ws : List ℕ). offsets_told k property value ws (walk_told t open_nodes steps)) is ∙ outside (nat_le (offset + 4) (length value)) refl ∙ λ i. Err (sym is_fault i) ∷ sym none i
     where
       outside : (b : Bool) → nat_le (offset + 4) (length value) ≡ b
-          → cond b (Ok (record { node = k; property = property; offset = offset }) ∷ offsets_told k property value (words_of behind) (walk_told t open_nodes steps)) (Err BadLocalFixup ∷ []) ≡ Err BadLocalFixup ∷ []
+          → cond b (Ok (record { node = k; property = property; offset = offset }) ∷ offsets_told k property value (words_of behind) (walk_told t open_nodes steps)) (Err (placeless BadLocalFixup) ∷ []) ≡ Err (placeless BadLocalFixup) ∷ []
       outside true e = absurd (more (leb-true (offset + 4) (length value) e))
       outside false e = refl

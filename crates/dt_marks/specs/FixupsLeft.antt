@@ -7,6 +7,7 @@ use Rattle.dt_model.specs.Names.{Name, is_property_name}
 use Rattle.dt_model.specs.Path.{Path}
 use Rattle.dt_model.specs.Tree.{Property, nodes_of, value_in}
 use Rattle.dt_model.specs.Applied.{node_named}
+use Rattle.dt_names.specs.Fault.{placeless}
 use Rattle.dt_names.specs.declared.fault.FaultKind.TheVariants.{BadFixup}
 use Rattle.dt_read.specs.Placed.{PlacedTree, reading_of, place_of}
 use Rattle.dt_marks.specs.Cuts.{texts_in}
@@ -59,7 +60,7 @@ cell_in t text =
 
 -- a cell, and what is told behind it, or a fault, behind which nothing is told
 abbrev pub told_next : Name → Option ListedCell → List Fixup → List Fixup
-told_next label None rest = Err BadFixup ∷ []
+told_next label None rest = Err (placeless BadFixup) ∷ []
 told_next label (Some x) rest = Ok (label, x) ∷ rest
 
 -- of a label's texts, and then more
@@ -77,7 +78,7 @@ ends_with_nul (b ∷ c ∷ bytes) = ends_with_nul (c ∷ bytes)
 unfoldable pub told_of : PlacedTree → List Property → List Fixup
 told_of t [] = []
 told_of t (p ∷ ps) =
-    if ends_with_nul p.value then told_of_texts t p.name (texts_in p.value) (told_of t ps) else Err BadFixup ∷ []
+    if ends_with_nul p.value then told_of_texts t p.name (texts_in p.value) (told_of t ps) else Err (placeless BadFixup) ∷ []
 
 -- of a label's texts, and of the properties behind it, if any
 abbrev pub behind_label : Option (List Property) → List Property

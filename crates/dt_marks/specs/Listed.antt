@@ -5,7 +5,8 @@ use Rattle.dt_model.specs.Names.{Name}
 use Rattle.dt_model.specs.Path.{Path}
 use Rattle.dt_model.specs.Tree.{Property, Placed, node_at, stands_in, value_in}
 use Rattle.dt_model.specs.Object.{Cell, IsCellText, words_of, nodes_from, properties_of}
-use Rattle.dt_names.specs.declared.fault.FaultKind.{FaultKind}
+use Rattle.dt_names.specs.Fault.{placeless}
+use Rattle.dt_names.specs.declared.fault.Fault.{Fault}
 use Rattle.dt_names.specs.declared.fault.FaultKind.TheVariants.{BadFixup, BadLocalFixup}
 use Rattle.dt_read.specs.Placed.{PlacedTree, reading_of, IsAt}
 use Rattle.dt_landing.specs.Objects.{HasCell}
@@ -28,21 +29,21 @@ pub record IsListed (t : PlacedTree) (c : Cell) (x : ListedCell) : Type 0 where
 
 -- a cell that waits for a label, or that the list is off
 abbrev pub Fixup : Type 0
-Fixup = Result (Name × ListedCell) FaultKind
+Fixup = Result (Name × ListedCell) Fault
 
 -- what is told of a label's texts, and then more
 abbrev pub AreTold : PlacedTree → Name → List (List ℕ) → (List Fixup → Type 0) → List Fixup → Type 0
 AreTold t label [] more told = more told
 AreTold t label (text ∷ texts) more told =
     ((c : Cell) × (x : ListedCell) × (rest : List Fixup) × (told ≡ Ok (label, x) ∷ rest) × IsCellText text c × IsListed t c x × AreTold t label texts more rest)
-    ⊎ (((c : Cell) → IsCellText text c → ¬ HasCell (reading_of t) c) × (told ≡ Err BadFixup ∷ []))
+    ⊎ (((c : Cell) → IsCellText text c → ¬ HasCell (reading_of t) c) × (told ≡ Err (placeless BadFixup) ∷ []))
 
 -- what is told of properties: each is one or more texts of cells
 abbrev pub AreFixups : PlacedTree → List Property → List Fixup → Type 0
 AreFixups t [] told = told ≡ []
 AreFixups t (p ∷ ps) told =
     ((texts : List (List ℕ)) × AreTexts p.value texts × (texts ≢ []) × AreTold t p.name texts (AreFixups t ps) told)
-    ⊎ (((texts : List (List ℕ)) → texts ≢ [] → ¬ AreTexts p.value texts) × (told ≡ Err BadFixup ∷ []))
+    ⊎ (((texts : List (List ℕ)) → texts ≢ [] → ¬ AreTexts p.value texts) × (told ≡ Err (placeless BadFixup) ∷ []))
 
 -- of all of them
 abbrev pub AreFixupsOf : PlacedTree → List Fixup → Type 0
@@ -52,7 +53,7 @@ AreFixupsOf t told = AreFixups t (properties_of (node_at (reading_of t) (codes "
 
 -- a cell that holds the number of a node of the object, or that the list is off
 abbrev pub LocalFixup : Type 0
-LocalFixup = Result ListedCell FaultKind
+LocalFixup = Result ListedCell Fault
 
 -- what is told of some offsets of a value, and then more
 abbrev pub AreOffsets : ℕ → Name → List ℕ → List ℕ → (List LocalFixup → Type 0) → List LocalFixup → Type 0
@@ -60,7 +61,7 @@ AreOffsets node property value [] more told = more told
 AreOffsets node property value (offset ∷ offsets) more told =
     ((offset + 4 ≤ length value) × (rest : List LocalFixup) × (told ≡ Ok (record { node = node; property = property; offset = offset }) ∷ rest)
     × AreOffsets node property value offsets more rest)
-    ⊎ ((length value < offset + 4) × (told ≡ Err BadLocalFixup ∷ []))
+    ⊎ ((length value < offset + 4) × (told ≡ Err (placeless BadLocalFixup) ∷ []))
 
 -- the property's value is whole numbers, and its node's counterpart has one of that name
 abbrev pub HasCounterpart : PlacedTree → Path → Property → Type 0
@@ -71,14 +72,14 @@ abbrev pub AreLocalProperties : PlacedTree → Path → ℕ → List Property �
 AreLocalProperties t p node [] more told = more told
 AreLocalProperties t p node (x ∷ xs) more told =
     ((c : HasCounterpart t p x) × AreOffsets node x.name c.0 (words_of x.value) (AreLocalProperties t p node xs more) told)
-    ⊎ ((¬ HasCounterpart t p x) × (told ≡ Err BadLocalFixup ∷ []))
+    ⊎ ((¬ HasCounterpart t p x) × (told ≡ Err (placeless BadLocalFixup) ∷ []))
 
 -- what is told of mirrors: each has its counterpart
 abbrev pub AreLocalNodes : PlacedTree → List Placed → List LocalFixup → Type 0
 AreLocalNodes t [] told = told ≡ []
 AreLocalNodes t (n ∷ ns) told =
     ((node : ℕ) × IsAt t n.path node × AreLocalProperties t n.path node n.properties (AreLocalNodes t ns) told)
-    ⊎ ((stands_in (reading_of t) n.path ≡ false) × (told ≡ Err BadLocalFixup ∷ []))
+    ⊎ ((stands_in (reading_of t) n.path ≡ false) × (told ≡ Err (placeless BadLocalFixup) ∷ []))
 
 -- of all of them, in preorder
 abbrev pub AreLocalFixupsOf : PlacedTree → List LocalFixup → Type 0

@@ -9,12 +9,12 @@ use Rattle.dt_marks.specs.Listed.{ListedCell, Fixup, LocalFixup}
 abbrev pub listed_view : code.ListedCell → ListedCell
 listed_view c = record { node = c.node; property = c.property.now; offset = c.offset }
 
--- a cell with its label, or a fault's kind
+-- a cell with its label, or a fault
 abbrev pub fixup_view : Result (Bor (List ℕ) × code.ListedCell) Fault → Fixup
 fixup_view (Ok found) = Ok (found.0.now, listed_view found.1)
-fixup_view (Err fault) = Err fault.kind
+fixup_view (Err fault) = Err fault
 
--- a cell, or a fault's kind
+-- a cell, or a fault
 abbrev pub local_view : Result code.ListedCell Fault → LocalFixup
 local_view (Ok cell) = Ok (listed_view cell)
-local_view (Err fault) = Err fault.kind
+local_view (Err fault) = Err fault

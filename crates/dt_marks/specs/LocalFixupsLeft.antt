@@ -6,6 +6,7 @@ use Rattle.dt_model.specs.Names.{Name}
 use Rattle.dt_model.specs.Object.{words_of}
 use Rattle.dt_model.specs.Path.{Path}
 use Rattle.dt_model.specs.Tree.{Property, Placed, nodes_of, value_in}
+use Rattle.dt_names.specs.Fault.{placeless}
 use Rattle.dt_names.specs.declared.fault.FaultKind.TheVariants.{BadLocalFixup}
 use Rattle.dt_read.specs.Placed.{PlacedTree, reading_of, place_of, IsAt}
 use Rattle.dt_read.specs.Walked.{Step, opens, holds, closes}
@@ -34,17 +35,17 @@ offsets_told node property value [] more = more
 offsets_told node property value (offset ∷ offsets) more =
     if nat_le (offset + 4) (length value)
     then Ok (record { node = node; property = property; offset = offset }) ∷ offsets_told node property value offsets more
-    else Err BadLocalFixup ∷ []
+    else Err (placeless BadLocalFixup) ∷ []
 
 -- of a property of a mirror, by the value of its node's property of that name, and then more
 abbrev pub property_told : ℕ → Property → Option (List ℕ) → List LocalFixup → List LocalFixup
-property_told node x None more = Err BadLocalFixup ∷ []
+property_told node x None more = Err (placeless BadLocalFixup) ∷ []
 property_told node x (Some value) more =
-    if length x.value % 4 == 0 then offsets_told node x.name value (words_of x.value) more else Err BadLocalFixup ∷ []
+    if length x.value % 4 == 0 then offsets_told node x.name value (words_of x.value) more else Err (placeless BadLocalFixup) ∷ []
 
 -- behind a node of a mirror, which has that counterpart
 abbrev pub counterpart_told : Option ℕ → (ℕ → List LocalFixup) → List LocalFixup
-counterpart_told None later = Err BadLocalFixup ∷ []
+counterpart_told None later = Err (placeless BadLocalFixup) ∷ []
 counterpart_told (Some k) later = later k
 
 -- of a step, where the open nodes of the mirror have these counterparts, the innermost first, and of what comes later

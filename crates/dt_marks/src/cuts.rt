@@ -48,7 +48,7 @@ impl<'a> Iterator for Texts<'a> {
     }
 }
 
-/// The bytes before the first separator, and those behind it; None where there is none.
+/// The bytes before the first separator, and those behind it; None where there is none. Takes no memory.
 pub fn cut(bytes: &[u8], separator: u8) -> Option<(&[u8], &[u8])>
     ensures { MatchOption result (Lacks separator bytes.now) (λ parts. IsCut separator bytes.now parts.0.now parts.1.now) }
 {

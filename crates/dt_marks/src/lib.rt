@@ -17,9 +17,9 @@ mod reading;
 mod symbols;
 mod waiting;
 
-pub use cuts::Texts;
+pub use cuts::{Texts, cut};
 pub use laws::{cell_texts_are_texts, texts_are_one};
-pub use listed::ListedCell;
+pub use listed::{ListedCell, has_cell};
 pub use listed_fixups::Fixups;
 pub use listed_locals::LocalFixups;
 pub use objects::{fixups, local_fixups};

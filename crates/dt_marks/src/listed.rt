@@ -19,7 +19,7 @@ pub struct ListedCell<'a> {
     pub offset: usize,
 }
 
-// Are there four bytes at an offset?
+/// Are there four bytes at an offset of a value? Takes no memory.
 pub fn has_cell(value: &[u8], offset: usize) -> bool
     ensures { IsTrue result ↔ (offset + 4 ≤ length value.now) }
 {

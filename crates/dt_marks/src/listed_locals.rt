@@ -9,6 +9,7 @@ ghost use Rattle.dt_model.specs.Tree.{value_in};
 ghost use Rattle.dt_read.specs.Placed.{IsAt, place_of, reading_of};
 ghost use Rattle.dt_read.specs.StepsLeft.{step_view};
 ghost use Rattle.dt_read.specs.Walked.{opens, holds, closes};
+ghost use Rattle.dt_names.specs.Fault.{placeless};
 ghost use Rattle.dt_names.specs.declared.fault.FaultKind.TheVariants.{BadLocalFixup};
 ghost use Rattle.dt_marks.specs.ListedViews.{local_view};
 ghost use Rattle.dt_marks.specs.LocalFixupsLeft.{path_at, step_told, walk_told, MayWalk};
@@ -62,7 +63,7 @@ fn value_of<'a>(blob: &'a Blob<'a>, node: NodeId, name: &[u8]) -> Option<&'a [u8
 impl<'a> Mirror<'a> {
     // The list is off. Nothing comes any more.
     fn refuse(&mut self) -> Fault
-        ensures fault { result.kind ≡ BadLocalFixup }
+        ensures fault { result ≡ placeless BadLocalFixup }
         ensures nothing { mirror_left self.new ≡ [] }
         ensures steps { self.new.steps ≡ self.old.steps }
         ensures may { MayGoOn self.new }

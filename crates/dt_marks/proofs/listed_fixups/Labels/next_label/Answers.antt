@@ -1,4 +1,6 @@
 use Rattle.std.proofs.Common.{◌∷◌, Err, sym, ap, ◌∙◌}
+use Rattle.dt_names.specs.declared.fault.FaultKind.TheVariants.{BadFixup}
+use Rattle.dt_names.proofs.Faults.{is_placeless}
 use Rattle.dt_marks.specs.FixupsLeft.{behind_label, fixups_left}
 use Rattle.dt_marks.proofs.ToldFixups.{nothing_left, value_fault, next_told}
 use Rattle.dt_marks.proofs.listed_fixups.Labels.next_label.Goals as goal
@@ -22,9 +24,9 @@ returns-in_err-label c =
 pub returns-in_default : goal.returns-in_default
 returns-in_default c =
     let s = c.args.self.now in
-    value_fault s.blob.now s.rest (record { name = c.in_ok-label.label.now; value = c.in_ok-label.value.now }) c.next.new.self s.label.now c.of.result.kind s.texts c.requires
-    (ap behind_label (sym c.in_ok-rest.ensures.value) ∙ c.in_ok-label.ensures.steps) c.of.ensures.kind c.in_default.ensures
-    ∙ ap (λ rest. Err c.of.result.kind ∷ fixups_left s.blob.now rest s.label.now s.texts) (sym c.in_ok-rest.ensures.after)
+    value_fault s.blob.now s.rest (record { name = c.in_ok-label.label.now; value = c.in_ok-label.value.now }) c.next.new.self s.label.now c.of.result s.texts c.requires
+    (ap behind_label (sym c.in_ok-rest.ensures.value) ∙ c.in_ok-label.ensures.steps) (is_placeless c.of.result BadFixup c.of.ensures.kind c.of.ensures.at) c.in_default.ensures
+    ∙ ap (λ rest. Err c.of.result ∷ fixups_left s.blob.now rest s.label.now s.texts) (sym c.in_ok-rest.ensures.after)
 
 pub returns : goal.returns
 returns c =
