@@ -15,7 +15,7 @@ use Rattle.dt_model.specs.Tree.{Reading}
 use Rattle.dt_model.specs.Valid.{AreDistinct, IsValid}
 use Rattle.dt_flat.specs.Arena.{Arena, Slot, IsRooted, named_children, child_of, node_from, reading}
 use Rattle.dt_flat.proofs.Descent.{path-same, path-length, path-within}
-use Rattle.dt_laws.proofs.Tests.{each_in, each_from, in_append, in_left, in_right, path_eq_refl, path_eq_true, or_right}
+use Rattle.dt_laws.proofs.Tests.{each_in, each_from, in_append, in_left, in_right, path_eq_refl, path_eq_true, or_right, in_filter}
 use Rattle.dt_laws.proofs.Flat.{from_flat}
 use Rattle.dt_laws.proofs.Distinct.{apart, distinct_append, distinct_right}
 use Rattle.dt_laws.proofs.Lands.{below-append, append-below}
@@ -26,7 +26,7 @@ use Rattle.dt_overlay.specs.Plans.{IsFragmentOf, AreFragmentsOf, IsBroughtAt, Ar
 use Rattle.dt_overlay.specs.NumbersGiven.{walk, is_numbered, AreNext, with_numbers, with_fragment, with_fragments, contents, GivesNumbers, IsNumbering}
 use Rattle.dt_overlay.proofs.NumbersFree.{get-set_same, get-set_other, get_within, replicate-get}
 use Rattle.dt_overlay.proofs.NumbersWalk.{AreLed, led_walk, path_below, walks_apart, walk_distinct}
-use Rattle.dt_overlay.proofs.NumbersTurns.{AreLeft, in_filter, next_nodes, numbers_other, length-with_fragment}
+use Rattle.dt_overlay.proofs.NumbersTurns.{AreLeft, next_nodes, numbers_other, length-with_fragment}
 use Rattle.dt_overlay.proofs.NumbersPaths.{at, at_is, at_leads}
 use Rattle.dt_overlay.proofs.NumbersContents.{new_are}
 
@@ -243,7 +243,7 @@ distinct_filter test [] h = tt
 distinct_filter test (x ∷ xs) h = by (test x) (distinct_filter test xs h.1)
   where
     by : (b : Bool) → AreDistinct (filter test xs) → AreDistinct (cond b (x ∷ filter test xs) (filter test xs))
-    by true g = (each_from (λ y. y ≢ x) (filter test xs) (λ y i. each_in (λ y. y ≢ x) xs y h.0 (in_filter test xs y i)), g)
+    by true g = (each_from (λ y. y ≢ x) (filter test xs) (λ y i. each_in (λ y. y ≢ x) xs y h.0 (in_filter test xs y i).0), g)
     by false g = g
 
 module _ (slots : List Slot) (rooted : IsRooted slots) (led : AreLed slots) where
@@ -326,7 +326,7 @@ all_brought taken a xs first last valid rooted led listed start numbering gives 
     least = least_numbers taken (at a.slots led) first.last last.last ks gives.given [] gives.next (λ n one le. absurd (omega (arith, start.last))) (λ n above. refl)
 
     within : (j : ℕ) → IsIn j (map (λ x. x.0) gives.given) → j < length a.slots
-    within j i = contents_within a.slots rooted led (reading a) xs names listed j (in_filter (is_numbered a.slots) (contents a.slots xs) j (subst (IsIn j) nodes i))
+    within j i = contents_within a.slots rooted led (reading a) xs names listed j (in_filter (is_numbered a.slots) (contents a.slots xs) j (subst (IsIn j) nodes i)).0
 
     numbered : (p : Path) (k : ℕ) → node_from a.slots 0 p ≡ Some k → slice_get last.numbers.items k ≡ Some (number_in numbers p)
     numbered p k e =

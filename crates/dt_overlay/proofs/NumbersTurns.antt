@@ -1,5 +1,5 @@
 -- Numbers that are given one after another, and what is left.
-use Rattle.std.proofs.Common.{◌≡◌, ℕ, ◌+◌, ◌<◌, get_or, Bool, true, false, cond, List, [], ◌∷◌, ◌++◌, map, length, Option, Some, None, inl, inr, refl, sym, ap, subst, ◌∙◌}
+use Rattle.std.proofs.Common.{◌≡◌, ℕ, ◌+◌, ◌<◌, get_or, List, [], ◌∷◌, ◌++◌, map, length, Option, Some, None, inl, inr, refl, sym, ap, subst, ◌∙◌}
 use Rattle.std.specs.Prelude.{slice_get, slice_set}
 use Rattle.std.specs.List.{filter, flat_map}
 use Rattle.std.proofs.lemmas.List.Elements.{filter-append}
@@ -8,7 +8,7 @@ use Rattle.std.proofs.lemmas.Option.{slice_get-get_or}
 use Rattle.dt_model.specs.Lists.{IsIn}
 use Rattle.dt_model.specs.Valid.{AreDistinct}
 use Rattle.dt_flat.specs.Arena.{Slot, IsRooted, children}
-use Rattle.dt_laws.proofs.Tests.{each_in, each_from, in_left, in_right}
+use Rattle.dt_laws.proofs.Tests.{each_in, each_from, in_left, in_right, in_filter}
 use Rattle.dt_laws.proofs.Distinct.{apart, distinct_right}
 use Rattle.dt_overlay.specs.declared.fragments.Fragment.{Fragment}
 use Rattle.dt_overlay.specs.declared.numbers.Brought.{Brought}
@@ -55,15 +55,6 @@ pub numbers_other : (given : List (ℕ × ℕ)) (xs : List (Option ℕ)) (k : �
 numbers_other [] xs k none = refl
 numbers_other ((j, n) ∷ given) xs k none = numbers_other given (slice_set xs j (Some n)) k (λ i. none (inr i)) ∙ get-set_other xs j k (Some n) (λ e. none (inl e))
 
-pub in_filter : (test : ℕ → Bool) (xs : List ℕ) (x : ℕ) → IsIn x (filter test xs) → IsIn x xs
-in_filter test [] x i = absurd i
-in_filter test (y ∷ xs) x i = by (test y) i (in_filter test xs x)
-  where
-    by : (b : Bool) → IsIn x (cond b (y ∷ filter test xs) (filter test xs)) → (IsIn x (filter test xs) → IsIn x xs) → IsIn x (y ∷ xs)
-    by true (inl same) more = inl same
-    by true (inr k) more = inr (more k)
-    by false k more = inr (more k)
-
 -- nodes that aren't given numbers stay without
 pub unnumbered_after : (taken : List ℕ) (slots : List Slot) (ks rest : List ℕ) (old new : Brought) → AreDistinct (ks ++ rest) → AreUnnumbered (ks ++ rest) old → GivesNumbers taken slots ks old new → AreUnnumbered rest new
 unnumbered_after taken slots ks rest old new differ bare h = each_from (λ k. slice_get new.numbers.items k ≡ Some None) rest still
@@ -71,7 +62,7 @@ unnumbered_after taken slots ks rest old new differ bare h = each_from (λ k. sl
     still : (k : ℕ) → IsIn k rest → slice_get new.numbers.items k ≡ Some None
     still k i =
         let other : IsIn k (map (λ x. x.0) h.given) → ⊥ =
-        λ j. apart ks rest k differ (in_filter (is_numbered slots) ks k (subst (IsIn k) (next_nodes taken old.last new.last (filter (is_numbered slots) ks) h.given h.next) j)) i in
+        λ j. apart ks rest k differ (in_filter (is_numbered slots) ks k (subst (IsIn k) (next_nodes taken old.last new.last (filter (is_numbered slots) ks) h.given h.next) j)).0 i in
         ap (λ (xs : List (Option ℕ)). slice_get xs k) h.kept ∙ numbers_other h.given old.numbers.items k other ∙ each_in (λ k. slice_get old.numbers.items k ≡ Some None) (ks ++ rest) k bare (in_right k ks rest i)
 
 pub length-with_fragment : (i : ℕ) (ks : List ℕ) (xs : List (Option ℕ)) → length (with_fragment i ks xs) ≡ length xs

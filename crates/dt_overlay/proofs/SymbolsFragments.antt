@@ -15,20 +15,13 @@ use Rattle.dt_flat.proofs.Edges.{edge}
 use Rattle.dt_flat.proofs.ByPath.{has, sibling_below}
 use Rattle.dt_laws.proofs.Tests.{bytes_eq_refl, bytes_eq_true, bytes_eq_other, each_in}
 use Rattle.dt_laws.proofs.Texts.{node_name_has_no}
+use Rattle.dt_laws.proofs.FragmentOrder.{each_fragment}
 use Rattle.dt_marks.specs.Cuts.{Lacks, IsCut}
 use Rattle.dt_marks.proofs.TextCuts.{cut_once, never_cut}
 use Rattle.dt_landing.specs.Objects.{IsOfFragment}
 use Rattle.dt_overlay.specs.Symbols.{IsFirstName}
 
 -- ---- fragments among the root's children
-
-each_fragment : (P : Name → Type 0) (f : Forest) → AllByRecursion P (names f) → AllByRecursion P (fragment_names f)
-each_fragment P no_nodes h = tt
-each_fragment P (branch x ps c s) h = step (is_fragment x c) (each_fragment P s h.1)
-  where
-    step : (b : Bool) → AllByRecursion P (fragment_names s) → AllByRecursion P (if b then x ∷ fragment_names s else fragment_names s)
-    step true more = (h.0, more)
-    step false more = more
 
 -- a fragment is the sibling of its name
 fragment_found : (f : Forest) (x : Name) → AreDistinct (names f) → IsIn x (fragment_names f) → (n : Node) × (sibling f x ≡ Some n) × (is_fragment x n.children ≡ true)

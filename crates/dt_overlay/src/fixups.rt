@@ -17,11 +17,12 @@ ghost use Rattle.dt_overlay.specs.Plans.{ListsFixups};
 ghost use Rattle.dt_overlay.specs.Fixups.{cell_told, HasTold, ListsTold, ListsCells, ListsLabels, WhyNoNumber};
 
 use crate::Target;
-use crate::cuts::cut;
 use crate::texts::node_of;
-use crate::writes::{Write, has_cell};
+use crate::writes::Write;
 use dt_flat::FlatTree;
-use dt_marks::{CellText, cell_text, cell_texts_are_texts, symbol_path, texts, texts_are_one};
+use dt_marks::{
+    CellText, cell_text, cell_texts_are_texts, cut, has_cell, symbol_path, texts, texts_are_one,
+};
 use dt_names::{Fault, FaultKind, NodeId, NodePath, Path, phandle_of};
 use std::alloc::Global;
 

@@ -2,7 +2,6 @@
 
 ghost use Rattle.std.specs.Prelude.{◌≡◌, ◌<◌, ◌++◌, ◌∷◌, ◌⊎◌, [], ℕ, List, None, Some, true, false, length, codes, OnOk, IfOk, IfErr, MatchOption};
 ghost use Rattle.dt_model.specs.Names.{Name};
-ghost use Rattle.dt_model.specs.Path.{is_bookkeeping_name as is_bookkeeping};
 ghost use Rattle.dt_model.specs.Lists.{IsIn};
 ghost use Rattle.dt_model.specs.Object.{is_fragment, fragment_names};
 ghost use Rattle.dt_flat.specs.Arena.{reading, named_children, child_of, name_of, below, node_from};
@@ -12,7 +11,7 @@ ghost use Rattle.dt_overlay.specs.Plans.{IsTargetOf, AreFragmentsOf};
 
 use crate::texts::is_path_value;
 use dt_flat::FlatTree;
-use dt_names::{Fault, FaultKind, NodeId};
+use dt_names::{Fault, FaultKind, NodeId, is_bookkeeping_name};
 use std::alloc::Global;
 
 /// What a fragment tells of its target.
@@ -30,15 +29,6 @@ pub struct Fragment {
     pub node: NodeId,
     pub content: NodeId,
     pub target: FragmentTarget,
-}
-
-/// Is it the name of a child of the root in which an object keeps labels and references?
-pub fn is_bookkeeping_name(name: &[u8]) -> bool
-    ensures { result ≡ is_bookkeeping name.now }
-{
-    name == b"__symbols__".as_slice()
-        || name == b"__fixups__".as_slice()
-        || name == b"__local_fixups__".as_slice()
 }
 
 /// The node that a child of the root brings, if it is a fragment: no bookkeeping node, and with a child `__overlay__`.

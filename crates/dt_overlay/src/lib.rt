@@ -2,7 +2,6 @@
 #![tactic(auto)]
 
 mod applying;
-mod cuts;
 mod fixups;
 mod flat_target;
 mod fragments;

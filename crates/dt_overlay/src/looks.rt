@@ -14,10 +14,9 @@ ghost use Rattle.dt_names.specs.declared.fault.FaultKind.TheVariants.{NoMemory, 
 ghost use Rattle.dt_overlay.specs.Looked.{node_of, trees_of, AreLed, IsEntered, AreTooMany, IsReached, IsReachedFrom, IsOnWay, WhyNotEntered, WhyNotLooked};
 
 use crate::Target;
-use crate::fragments::is_bookkeeping_name;
 use crate::texts::child_path;
 use dt_flat::FlatTree;
-use dt_names::{Fault, FaultKind, NodeId, NodeName, Path, PropName};
+use dt_names::{Fault, FaultKind, NodeId, NodeName, Path, PropName, is_bookkeeping_name};
 use std::alloc::Global;
 
 /// Is the node a bookkeeping node, or below one?

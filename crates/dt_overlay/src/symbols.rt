@@ -10,10 +10,10 @@ ghost use Rattle.dt_landing.specs.Objects.{IsOfFragment, IsSymbol, symbols_in};
 ghost use Rattle.dt_overlay.specs.Plans.{ListsSymbols};
 ghost use Rattle.dt_overlay.specs.Symbols.{IsFirstName, IsNamed, ListsNamed};
 
-use crate::cuts::cut;
 use crate::fragments::content_of;
 use crate::texts::node_of;
 use dt_flat::FlatTree;
+use dt_marks::cut;
 use dt_names::{Fault, FaultKind, NodeId, NodePath};
 use memchr::memchr;
 use std::alloc::Global;

@@ -1,6 +1,6 @@
 //! What is written into the cells of an object.
 
-ghost use Rattle.std.specs.Prelude.{◌≡◌, ◌+◌, ◌<◌, ◌≤◌, ◌↔◌, IsTrue, None, length, OnOk, IfErr, codes};
+ghost use Rattle.std.specs.Prelude.{◌≡◌, ◌<◌, None, length, OnOk, IfErr, codes};
 ghost use Rattle.dt_names.specs.declared.fault.FaultKind.TheVariants.{NoMemory};
 ghost use Rattle.dt_overlay.specs.Writing.{IsWritable, AreWritable, with_write, with_writes};
 
@@ -14,13 +14,6 @@ pub struct Write {
     pub property: Vec<u8>,
     pub offset: usize,
     pub number: u32,
-}
-
-/// Are there four bytes at an offset?
-pub fn has_cell(value: &[u8], offset: usize) -> bool
-    ensures { IsTrue result ↔ (offset + 4 ≤ length value.now) }
-{
-    value.len() >= 4 && offset <= value.len() - 4
 }
 
 // Writes a number. A `phandle` keeps its value here: it gets its node's new number where it lands.
