@@ -10,7 +10,7 @@ use Rattle.dt_laws.specs.InTurn.{IsApplied}
 use Rattle.dt_landing.specs.Outcomes.{AppliedIsNotRefused, LimitIsExceeded, AppliedIsOne, OneRefusal}
 use Rattle.dt_landing.specs.Refusals.{WhyNotApplied}
 use Rattle.dt_write.specs.Written.{written}
-use Rattle.dt_chain.specs.Compiled.{told}
+use Rattle.dt_names.specs.Fault.{placeless}
 use Rattle.dt_chain.specs.Inputs as inputs
 use Rattle.dt_chain.specs.Inputs.{IsStep, AreSteps, IsOutcome, IsBlobOfAll, WhyNoStep, IsStopped, WhyNoneOfAll}
 
@@ -166,12 +166,12 @@ module _ (has_base has_object : List ℕ → Reading → Type 0) where
           step _ (inputs.not_applied object kind h other) w = absurd (wanted (object_not x object e h why))
       step_refused_once t x _ f fine (inputs.not_applied object kind h why) also wanted low wanted' low' = step f also wanted' low'
         where
-          step : (f : Fault) → WhyNoStep has_object lacks_object t x f → f.kind ≢ NoMemory → f.kind ≢ Limit → told kind ≡ f
+          step : (f : Fault) → WhyNoStep has_object lacks_object t x f → f.kind ≢ NoMemory → f.kind ≢ Limit → placeless kind ≡ f
           step _ inputs.no_memory w l = absurd (w refl)
           step _ (inputs.no_object g other) w l = absurd (w (object_not x object g h other))
           step _ (inputs.not_applied object' kind' h' other) w l =
               let same : object' ≡ object = object_one x object' object h' h in
-              ap told (refusal t object kind kind' fine.valid (object_fine x object h).valid fine.within why (subst (λ (o : Reading). WhyNotApplied kind' t o) same other) wanted low w l)
+              ap placeless (refusal t object kind kind' why (subst (λ (o : Reading). WhyNotApplied kind' t o) same other) wanted low w l)
 
       -- of two refusals after the first inputs neither comes first
       stops_once : (t : Reading) (front front' back back' : List (List ℕ)) (x x' : List ℕ) (before before' : Reading) (e f : Fault)

@@ -6,13 +6,13 @@ use Rattle.dt_names.specs.declared.fault.FaultKind.TheVariants.{NoMemory, Limit}
 use Rattle.dt_model.specs.Tree.{Reading}
 use Rattle.dt_write.specs.Written.{written}
 use Rattle.dt_write.specs.Refusals.{WhyNoBlob}
-use Rattle.dt_chain.specs.Compiled.{told}
+use Rattle.dt_names.specs.Fault.{placeless}
 use Rattle.dt_chain.specs.Inputs.{IsOutcome, WhyNoneOfAll, no_memory, big}
 use Rattle.dt_chain.proofs.Stages.{fault_is}
 
 module _ (has_base has_object : List ℕ → Reading → Type 0) (lacks_base lacks_object : List ℕ → Fault → Type 0) where
   unwritten : (base : List ℕ) (inputs : List (List ℕ)) (t : Reading) (kind : FaultKind) → IsOutcome has_base has_object base inputs t → WhyNoBlob kind (length (written t))
-      → WhyNoneOfAll has_base has_object lacks_base lacks_object base inputs (length inputs) (told kind)
+      → WhyNoneOfAll has_base has_object lacks_base lacks_object base inputs (length inputs) (placeless kind)
   unwritten base inputs t NoMemory o why = no_memory (length inputs) (omega arith)
   unwritten base inputs t Limit o why = big t o why
   unwritten base inputs t _ o why = absurd why

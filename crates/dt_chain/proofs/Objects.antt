@@ -10,7 +10,7 @@ use Rattle.dt_laws.specs.Blobs.{BlobHasNoFault}
 use Rattle.dt_landing.specs.Refusals.{WhyNotApplied}
 use Rattle.dt_grammar.specs.Grammar.{Says}
 use Rattle.dt_write.specs.Written.{written}
-use Rattle.dt_chain.specs.Compiled.{told}
+use Rattle.dt_names.specs.Fault.{placeless}
 use Rattle.dt_chain.specs.Inputs.{WhyNoStep, no_memory, no_base, no_object, not_applied}
 use Rattle.dt_chain.specs.Applied.{IsRead, IsNoBlob, WhyNoBlobApplied}
 use Rattle.dt_chain.specs.Built.{HasObject, WhyNoObject}
@@ -20,11 +20,11 @@ use Rattle.dt_chain.proofs.OverlayStages.{HasTree}
 use Rattle.dt_chain.proofs.Turns.{Goes}
 
 -- want of memory is told without a place
-pub memory_told : (fault : Fault) → (fault.kind ≡ NoMemory) × (fault.at ≡ None) → fault ≡ told NoMemory
-memory_told fault why = sym (ap told (sym why.0) ∙ fault_is fault None why.1)
+pub memory_told : (fault : Fault) → (fault.kind ≡ NoMemory) × (fault.at ≡ None) → fault ≡ placeless NoMemory
+memory_told fault why = sym (ap placeless (sym why.0) ∙ fault_is fault None why.1)
 
 -- a base that isn't read
-pub not_read : (base : List ℕ) (objects : List (List ℕ)) (fault : Fault) → (fault ≡ told NoMemory) ⊎ IsNoBlob base fault → WhyNoBlobApplied base objects 0 fault
+pub not_read : (base : List ℕ) (objects : List (List ℕ)) (fault : Fault) → (fault ≡ placeless NoMemory) ⊎ IsNoBlob base fault → WhyNoBlobApplied base objects 0 fault
 not_read base objects fault (inl e) = subst (WhyNoBlobApplied base objects 0) (sym e) (no_memory 0 (omega arith))
 not_read base objects fault (inr why) = no_base fault why
 

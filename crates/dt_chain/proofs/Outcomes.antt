@@ -18,7 +18,8 @@ use Rattle.dt_source.specs.Refusals.{WhyNotNamed, fault_of, place_of}
 use Rattle.dt_source.proofs.Outcomes.{Sorted, sorted}
 use Rattle.dt_write.specs.Written.{written}
 use Rattle.dt_chain.specs.Means.{TextHasTree}
-use Rattle.dt_chain.specs.Compiled.{IsCompiled, WhyNoTree, WhyNotCompiled, told, no_memory, unparsed, unnamed, many, no_tree, big}
+use Rattle.dt_chain.specs.Compiled.{IsCompiled, WhyNoTree, WhyNotCompiled, no_memory, unparsed, unnamed, many, no_tree, big}
+use Rattle.dt_names.specs.Fault.{placeless}
 use Rattle.dt_chain.specs.Laws.{OneMeaning, BaseRepresents, RawIsInstance}
 use Rattle.dt_chain.proofs.Stages.{one_more}
 
@@ -63,7 +64,7 @@ blob_once once one mode text blob other h k = h.is ∙ ap written (tree_once onc
 meant : (mode : Mode) (s : Says) (t : Reading) (h : IsTreeOf mode s.reservations s.places t) → SourceMeans mode s.reservations s.places h.instance.meaning
 meant mode s t h = h.instance.means
 
-pub limit_told : (kind : FaultKind) → kind ≡ Limit → record { kind = kind; at = place_of kind } ≡ told Limit
+pub limit_told : (kind : FaultKind) → kind ≡ Limit → record { kind = kind; at = place_of kind } ≡ placeless Limit
 limit_told kind e = ap (λ (k : FaultKind). let f : Fault = record { kind = k; at = place_of k } in f) e
 
 -- a text that has a tree is refused for nothing but the number of its nodes
@@ -145,7 +146,7 @@ of_kind k = record { kind = k; at = place_of k }
 
 module _ (once : SaidOnce) (only : SaidOnly) (fault : FaultOnce) (one : NamedOnce) (not : MeantIsNotRefused) where
   -- a text that has a tree has none within the limits only as too large
-  with_tree : (mode : Mode) (text : List ℕ) (t : Reading) (f : Fault) → TextHasTree mode text t → f.kind ≢ NoMemory → WhyNoTree mode text f → told Limit ≡ f
+  with_tree : (mode : Mode) (text : List ℕ) (t : Reading) (f : Fault) → TextHasTree mode text t → f.kind ≢ NoMemory → WhyNoTree mode text f → placeless Limit ≡ f
   with_tree mode text t _ h wanted no_memory = absurd (wanted refl)
   with_tree mode text t _ h wanted (unparsed f why) = absurd (wanted (only text h.says f h.parsed why))
   with_tree mode text t _ h wanted (unnamed s kind parsed why) = sym (limit_told kind (only_many once not mode text t s kind h parsed wanted why).0)
@@ -184,7 +185,7 @@ module _ (once : SaidOnce) (only : SaidOnly) (fault : FaultOnce) (one : NamedOnc
       step _ (big u h more) w = sym (with_tree mode text u e h wanted why)
   refused_once mode text _ f (big t h more) also wanted wanted' = step f also wanted'
     where
-      step : (f : Fault) → WhyNotCompiled mode text f → f.kind ≢ NoMemory → told Limit ≡ f
+      step : (f : Fault) → WhyNotCompiled mode text f → f.kind ≢ NoMemory → placeless Limit ≡ f
       step _ no_memory w = absurd (w refl)
       step _ (no_tree g other) w = with_tree mode text t g h w other
       step _ (big u k more) w = refl

@@ -1,5 +1,5 @@
 -- An overlay's source is compiled to one blob, or is refused for one reason.
-use Rattle.std.proofs.Common.{◌≡◌, ◌≢◌, ℕ, ◌<◌, ◌≤◌, ◌⊎◌, inl, inr, List, [], length, refl, sym, ap, subst, ◌∙◌, true, false, true≢false, arith}
+use Rattle.std.proofs.Common.{◌≡◌, ◌≢◌, ℕ, ◌<◌, ◌≤◌, inl, inr, List, [], length, refl, sym, ap, subst, ◌∙◌, true, false, true≢false, arith}
 use Rattle.dt_names.specs.declared.fault.Fault.{Fault}
 use Rattle.dt_names.specs.declared.fault.FaultKind.{FaultKind}
 use Rattle.dt_names.specs.declared.fault.FaultKind.TheVariants.{NoMemory, Limit}
@@ -18,7 +18,7 @@ use Rattle.dt_source.specs.Refusals.{WhyNoOverlay, overlay_fault_of}
 use Rattle.dt_source.proofs.OverlayOutcomes.{Sorted, sorted, overlay_refused_once}
 use Rattle.dt_write.specs.Written.{written}
 use Rattle.dt_chain.specs.Means.{OverlayTextHasTree}
-use Rattle.dt_chain.specs.Compiled.{told}
+use Rattle.dt_names.specs.Fault.{placeless}
 use Rattle.dt_chain.specs.CompiledOverlay.{IsCompiledOverlay, WhyNotCompiledOverlay, no_memory, refused, large, big}
 use Rattle.dt_chain.specs.Laws.{OneOverlayMeaning, OverlayIsObject}
 use Rattle.dt_chain.proofs.Outcomes.{SaidOnce, PlacesAre, WrittenReads, limit_told, no_boot_cpu, of_kind}
@@ -90,7 +90,7 @@ compiled_not_refused once one not text blob _ h (big t k more) =
 
 module _ (once : SaidOnce) (one : OverlayRefusalIsOne) (not : OverlayIsNotRefused) where
   -- a text that has a tree is refused only as too large
-  with_tree : (text : List ℕ) (t : Reading) (f : Fault) → OverlayTextHasTree text t → f.kind ≢ NoMemory → WhyNotCompiledOverlay text f → told Limit ≡ f
+  with_tree : (text : List ℕ) (t : Reading) (f : Fault) → OverlayTextHasTree text t → f.kind ≢ NoMemory → WhyNotCompiledOverlay text f → placeless Limit ≡ f
   with_tree text t _ h wanted no_memory = absurd (wanted refl)
   with_tree text t _ h wanted (refused s kind parsed why) = sym (limit_told kind (only_many once not text t s kind h parsed wanted why))
   with_tree text t _ h wanted (large u k more) = refl

@@ -27,7 +27,8 @@ use Rattle.dt_marks.specs.Refusals.{WhyNoFixups}
 use Rattle.dt_write.specs.Written.{written}
 use Rattle.dt_write.specs.Refusals.{WhyNoBlob}
 use Rattle.dt_chain.specs.Means.{OverlayTextHasTree}
-use Rattle.dt_chain.specs.Compiled.{IsCompilerFault, told}
+use Rattle.dt_chain.specs.Compiled.{IsCompilerFault}
+use Rattle.dt_names.specs.Fault.{placeless}
 use Rattle.dt_chain.specs.CompiledOverlay.{IsCompiledOverlay, WhyNotCompiledOverlay, no_memory, refused, large, big}
 use Rattle.dt_chain.specs.Steps.{OfEachText, HasOverlay, IsNumbered, WhyNotLabelled, HasRooms, IsMarked, WhyNotMarked}
 use Rattle.dt_chain.proofs.Stages.{fault_is, no_sibling, no_child, not_there, too_many}
@@ -130,7 +131,7 @@ pub not_built : (s : Says) (fault : Fault) → WhyNoOverlay fault.kind s × (fau
 not_built s fault why text parsed =
     subst (WhyNotCompiledOverlay text) (fault_is fault (place_of fault.kind) why.1) (refused s fault.kind parsed why.0)
 
-unmarked : (s : Says) (t : Named NodeReference) (kind : FaultKind) → HasOverlay s t → WhyNotMarked kind t → OfEachText s (λ text. WhyNotCompiledOverlay text (told kind))
+unmarked : (s : Says) (t : Named NodeReference) (kind : FaultKind) → HasOverlay s t → WhyNotMarked kind t → OfEachText s (λ text. WhyNotCompiledOverlay text (placeless kind))
 unmarked s t NoMemory h why text parsed = no_memory
 unmarked s t Limit h why text parsed =
     large (with_fixups t (with_symbols (symbols_of t) (instance_of why.0 t)))
@@ -143,7 +144,7 @@ not_whole s t fault h why text parsed = subst (WhyNotCompiledOverlay text) (faul
 
 -- ---- the blob
 
-unwritten : (text : List ℕ) (r : Reading) (kind : FaultKind) → OverlayTextHasTree text r → WhyNoBlob kind (length (written r)) → WhyNotCompiledOverlay text (told kind)
+unwritten : (text : List ℕ) (r : Reading) (kind : FaultKind) → OverlayTextHasTree text r → WhyNoBlob kind (length (written r)) → WhyNotCompiledOverlay text (placeless kind)
 unwritten text r NoMemory h why = no_memory
 unwritten text r Limit h why = big r h why
 unwritten text r _ h why = absurd why

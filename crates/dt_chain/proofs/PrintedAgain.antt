@@ -16,7 +16,8 @@ use Rattle.dt_printed.specs.Printed.{printed}
 use Rattle.dt_printed.specs.Said.{said, HasBytes}
 use Rattle.dt_write.specs.Written.{written}
 use Rattle.dt_chain.specs.Applied.{IsRead}
-use Rattle.dt_chain.specs.Compiled.{IsCompiled, WhyNotCompiled, told, no_memory, no_tree, big}
+use Rattle.dt_chain.specs.Compiled.{IsCompiled, WhyNotCompiled, no_memory, no_tree, big}
+use Rattle.dt_names.specs.Fault.{placeless}
 use Rattle.dt_chain.specs.Means.{TextHasTree}
 use Rattle.dt_chain.specs.Printing.{OneText, DecompiledIsNotRefused, OneRefusalToDecompile, without_boot_cpu, PrintedIsCompiledAgain}
 use Rattle.dt_chain.proofs.AppliedOutcomes.{OneReading, fault_once}
@@ -78,7 +79,7 @@ module _ (one : OneReading) (hold : ReadTreesHoldBytes) (parsed : TextIsParsed) 
 
     -- and only a blob that would be too long is refused
     refused_again : (text : List ℕ) (t : Reading) (e : Fault) → IsWithinLimits t → TextHasTree raw text t → WhyNotCompiled raw text e → e.kind ≢ NoMemory
-        → (e ≡ told Limit) × most_bytes < length (written t)
+        → (e ≡ placeless Limit) × most_bytes < length (written t)
     refused_again text t _ within has no_memory wanted = absurd (wanted refl)
     refused_again text t _ within has (no_tree e why) wanted = absurd (wanted (tree_not_refused once only one_tree not few raw text t e has within why))
     refused_again text t _ within has (big u h more) wanted =

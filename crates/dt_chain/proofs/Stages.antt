@@ -28,7 +28,8 @@ use Rattle.dt_marks.specs.Refusals.{WhyNoSymbols}
 use Rattle.dt_write.specs.Written.{written}
 use Rattle.dt_write.specs.Refusals.{WhyNoBlob}
 use Rattle.dt_chain.specs.Means.{TextHasTree}
-use Rattle.dt_chain.specs.Compiled.{IsCompiled, WhyNoTree, WhyNotCompiled, IsCompilerFault, told, no_memory, unparsed, unnamed, many, no_tree, big}
+use Rattle.dt_chain.specs.Compiled.{IsCompiled, WhyNoTree, WhyNotCompiled, IsCompilerFault, no_memory, unparsed, unnamed, many, no_tree, big}
+use Rattle.dt_names.specs.Fault.{placeless}
 use Rattle.dt_chain.specs.Steps.{OfEachText, HasNamed, IsNumbered, HasRoom, WhyNotLabelled}
 
 -- a fault is told by its kind and its place
@@ -133,7 +134,7 @@ no_labels t r slots Limit n e why = (why.0, subst (λ (k : ℕ). most_nodes ≤ 
 no_labels t r slots _ n e why = absurd why
 
 unlabelled : TreeIsMeant → (s : Says) (t : Named NodeReference) (kind : FaultKind) → HasNamed base s t → WhyNotLabelled kind t
-    → OfEachText s (λ text. WhyNoTree base text (told kind))
+    → OfEachText s (λ text. WhyNoTree base text (placeless kind))
 unlabelled meant s t NoMemory h why text parsed = no_memory
 unlabelled meant s t Limit h why text parsed =
     many (with_symbols (symbols_of t) (instance_of why.2 t))
@@ -146,11 +147,11 @@ not_labelled meant s t fault h why text parsed = subst (WhyNoTree base text) (fa
 
 pub not_numbered : (mode : Mode) (s : Says) (fault : Fault) → (fault.kind ≡ NoMemory) × (fault.at ≡ None) → OfEachText s (λ text. WhyNoTree mode text fault)
 not_numbered mode s fault why text parsed =
-    subst (WhyNoTree mode text) (ap told (sym why.0) ∙ fault_is fault None why.1) no_memory
+    subst (WhyNoTree mode text) (ap placeless (sym why.0) ∙ fault_is fault None why.1) no_memory
 
 -- ---- the blob
 
-unwritten : (mode : Mode) (text : List ℕ) (r : Reading) (kind : FaultKind) → TextHasTree mode text r → WhyNoBlob kind (length (written r)) → WhyNotCompiled mode text (told kind)
+unwritten : (mode : Mode) (text : List ℕ) (r : Reading) (kind : FaultKind) → TextHasTree mode text r → WhyNoBlob kind (length (written r)) → WhyNotCompiled mode text (placeless kind)
 unwritten mode text r NoMemory h why = no_memory
 unwritten mode text r Limit h why = big r h why
 unwritten mode text r _ h why = absurd why

@@ -5,7 +5,8 @@ use Rattle.dt_names.specs.declared.fault.Fault.{Fault}
 use Rattle.dt_names.specs.declared.fault.FaultKind.TheVariants.{NoMemory}
 use Rattle.dt_grammar.specs.Grammar.{Says}
 use Rattle.dt_parse.specs.Reading.{IsParsed, WhyNotParsed}
-use Rattle.dt_chain.specs.Compiled.{IsCompiled, WhyNotCompiled, told}
+use Rattle.dt_chain.specs.Compiled.{IsCompiled, WhyNotCompiled}
+use Rattle.dt_names.specs.Fault.{placeless}
 use Rattle.dt_chain.specs.CompiledOverlay.{IsCompiledOverlay, WhyNotCompiledOverlay}
 
 -- the blob of a base, or of an overlay
@@ -15,7 +16,7 @@ IsBlobOf text blob = IsCompiled base text blob ⊎ IsCompiledOverlay text blob
 -- Why a text has no blob.
 pub data WhyNoBlob (text : List ℕ) : Fault → Type 0 where
   -- memory may be refused at any time
-  no_memory : WhyNoBlob text (told NoMemory)
+  no_memory : WhyNoBlob text (placeless NoMemory)
   -- it isn't a source, by its first fault
   unparsed : (e : Fault) → WhyNotParsed text e → WhyNoBlob text e
   -- it is no overlay's, and isn't compiled as a base

@@ -11,7 +11,7 @@ use Rattle.dt_parse.specs.Reading.{IsParsed}
 use Rattle.dt_source.specs.Refusals.{WhyNoOverlay, place_of}
 use Rattle.dt_write.specs.Written.{written}
 use Rattle.dt_chain.specs.Means.{OverlayTextHasTree}
-use Rattle.dt_chain.specs.Compiled.{told}
+use Rattle.dt_names.specs.Fault.{placeless}
 
 -- the text is an overlay's source, and the blob is the writer's of the tree that it is compiled to; both are within the limits
 pub record IsCompiledOverlay (text blob : List ℕ) : Type 0 where
@@ -24,11 +24,11 @@ pub record IsCompiledOverlay (text blob : List ℕ) : Type 0 where
 -- Why an overlay's source isn't compiled.
 pub data WhyNotCompiledOverlay (text : List ℕ) : Fault → Type 0 where
   -- memory may be refused at any time
-  no_memory : WhyNotCompiledOverlay text (told NoMemory)
+  no_memory : WhyNotCompiledOverlay text (placeless NoMemory)
   -- it has reservations, or it means nothing, or too much
   refused : (s : Says) (kind : FaultKind) → IsParsed text s → WhyNoOverlay kind s →
       WhyNotCompiledOverlay text (record { kind = kind; at = place_of kind })
   -- with the nodes that tell its labels and its cells its tree has more than 65,536 nodes, or a path of more than 64 names
-  large : (t : Reading) → OverlayTextHasTree text t → ¬ IsWithinLimits t → WhyNotCompiledOverlay text (told Limit)
+  large : (t : Reading) → OverlayTextHasTree text t → ¬ IsWithinLimits t → WhyNotCompiledOverlay text (placeless Limit)
   -- the blob of its tree would be longer than 16 MiB
-  big : (t : Reading) → OverlayTextHasTree text t → most_bytes < length (written t) → WhyNotCompiledOverlay text (told Limit)
+  big : (t : Reading) → OverlayTextHasTree text t → most_bytes < length (written t) → WhyNotCompiledOverlay text (placeless Limit)

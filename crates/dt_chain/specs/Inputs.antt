@@ -10,7 +10,7 @@ use Rattle.dt_laws.specs.InTurn.{IsApplied}
 use Rattle.dt_landing.specs.Objects.{IsWellFormed}
 use Rattle.dt_landing.specs.Refusals.{WhyNotApplied}
 use Rattle.dt_write.specs.Written.{written}
-use Rattle.dt_chain.specs.Compiled.{told}
+use Rattle.dt_names.specs.Fault.{placeless}
 
 -- Both are by what an input's tree is, and why it has none: a base's, and that of an object, which is that of an overlay.
 
@@ -42,12 +42,12 @@ pub record IsBlobOfAll (has_base has_object : List ℕ → Reading → Type 0) (
 -- Why the object of an input isn't applied to a tree.
 pub data WhyNoStep (has_object : List ℕ → Reading → Type 0) (lacks_object : List ℕ → Fault → Type 0) (t : Reading) (input : List ℕ) : Fault → Type 0 where
   -- memory may be refused at any time
-  no_memory : WhyNoStep has_object lacks_object t input (told NoMemory)
+  no_memory : WhyNoStep has_object lacks_object t input (placeless NoMemory)
   -- the input has no object
   no_object : (e : Fault) → lacks_object input e → WhyNoStep has_object lacks_object t input e
   -- or it has one, which isn't applied
   not_applied : (object : Reading) (kind : FaultKind) → has_object input object → WhyNotApplied kind t object →
-      WhyNoStep has_object lacks_object t input (told kind)
+      WhyNoStep has_object lacks_object t input (placeless kind)
 
 -- of the inputs, counted from 1, it is this one that isn't applied, where all before it are
 pub record IsStopped (has_object : List ℕ → Reading → Type 0) (lacks_object : List ℕ → Fault → Type 0) (t : Reading) (inputs : List (List ℕ)) (k : ℕ) (e : Fault) : Type 0 where
@@ -63,7 +63,7 @@ pub record IsStopped (has_object : List ℕ → Reading → Type 0) (lacks_objec
 -- Why there is none: the number of the input at which it shows, where the base has number 0, and its fault.
 pub data WhyNoneOfAll (has_base has_object : List ℕ → Reading → Type 0) (lacks_base lacks_object : List ℕ → Fault → Type 0) (base : List ℕ) (inputs : List (List ℕ)) : ℕ → Fault → Type 0 where
   -- memory may be refused at any input
-  no_memory : (k : ℕ) → k ≤ length inputs → WhyNoneOfAll has_base has_object lacks_base lacks_object base inputs k (told NoMemory)
+  no_memory : (k : ℕ) → k ≤ length inputs → WhyNoneOfAll has_base has_object lacks_base lacks_object base inputs k (placeless NoMemory)
   -- the base has no tree
   no_base : (e : Fault) → lacks_base base e → WhyNoneOfAll has_base has_object lacks_base lacks_object base inputs 0 e
   -- an input's object isn't applied to what has come of those before it
@@ -71,4 +71,4 @@ pub data WhyNoneOfAll (has_base has_object : List ℕ → Reading → Type 0) (l
       → WhyNoneOfAll has_base has_object lacks_base lacks_object base inputs k e
   -- the blob of what comes of all would be longer than 16 MiB
   big : (t : Reading) → IsOutcome has_base has_object base inputs t → most_bytes < length (written t)
-      → WhyNoneOfAll has_base has_object lacks_base lacks_object base inputs (length inputs) (told Limit)
+      → WhyNoneOfAll has_base has_object lacks_base lacks_object base inputs (length inputs) (placeless Limit)

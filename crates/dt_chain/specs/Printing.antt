@@ -10,7 +10,8 @@ use Rattle.dt_names.specs.declared.fault.FaultKind.TheVariants.{NoMemory, Limit}
 use Rattle.dt_printed.specs.Printed.{printed}
 use Rattle.dt_write.specs.Written.{written}
 use Rattle.dt_chain.specs.Applied.{IsRead, IsNoBlob}
-use Rattle.dt_chain.specs.Compiled.{IsCompiled, WhyNotCompiled, told}
+use Rattle.dt_chain.specs.Compiled.{IsCompiled, WhyNotCompiled}
+use Rattle.dt_names.specs.Fault.{placeless}
 use Rattle.dt_chain.specs.Means.{TextHasTree}
 
 -- the bytes are a blob within the limits, and the text is that of its tree
@@ -21,7 +22,7 @@ pub record IsDecompiled (bytes text : List ℕ) : Type 0 where
 
 -- there is none: memory may be refused at any time, or the bytes are no blob
 abbrev pub WhyNotDecompiled : List ℕ → Fault → Type 0
-WhyNotDecompiled bytes e = (e ≡ told NoMemory) ⊎ IsNoBlob bytes e
+WhyNotDecompiled bytes e = (e ≡ placeless NoMemory) ⊎ IsNoBlob bytes e
 
 -- ---- one answer, or one refusal
 
@@ -48,7 +49,7 @@ without_boot_cpu t = record t { boot_cpu = 0 }
 pub record IsCompiledAgain (t : Reading) (text : List ℕ) : Type 0 where
   pub has_tree : TextHasTree raw text (without_boot_cpu t)
   pub reads : (blob : List ℕ) → IsCompiled raw text blob → Reads blob (without_boot_cpu t)
-  pub refused : (e : Fault) → WhyNotCompiled raw text e → e.kind ≢ NoMemory → (e ≡ told Limit) × most_bytes < length (written (without_boot_cpu t))
+  pub refused : (e : Fault) → WhyNotCompiled raw text e → e.kind ≢ NoMemory → (e ≡ placeless Limit) × most_bytes < length (written (without_boot_cpu t))
 
 -- so is each text of a blob that is no longer than a source may be
 abbrev pub PrintedIsCompiledAgain : Type 0

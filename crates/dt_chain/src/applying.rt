@@ -5,7 +5,7 @@ ghost use Rattle.dt_flat.specs.Arena.{reading};
 ghost use Rattle.dt_model.specs.Tree.{Reading};
 ghost use Rattle.dt_names.specs.declared.fault.FaultKind.TheVariants.{NoMemory};
 ghost use Rattle.dt_chain.specs.Applied.{IsRead, IsNoBlob, IsBlobApplied, WhyNoBlobApplied};
-ghost use Rattle.dt_chain.specs.Compiled.{told};
+ghost use Rattle.dt_names.specs.Fault.{placeless};
 ghost use Rattle.dt_chain.specs.Inputs.{IsStep, AreSteps, WhyNoStep, IsStopped};
 
 use dt_flat::FlatTree;
@@ -70,7 +70,7 @@ fn apply_and_write(
 // The tree of a blob.
 fn read(alloc: Global, bytes: &[u8]) -> Result<FlatTree, Fault>
     ensures read { IfOk result (λ tree. IsRead bytes.now (reading tree)) }
-    ensures refused { IfErr result (λ fault. (fault ≡ told NoMemory) ⊎ IsNoBlob bytes.now fault) }
+    ensures refused { IfErr result (λ fault. (fault ≡ placeless NoMemory) ⊎ IsNoBlob bytes.now fault) }
 {
     let blob = Blob::check(bytes)?;
     blob.to_flat(alloc)

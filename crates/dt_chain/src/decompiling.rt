@@ -4,7 +4,7 @@ ghost use Rattle.std.specs.Prelude.{◌≡◌, IfOk, IfErr};
 ghost use Rattle.dt_names.specs.declared.fault.FaultKind.TheVariants.{NoMemory};
 ghost use Rattle.dt_printed.specs.Printed.{printed};
 ghost use Rattle.dt_read.specs.Placed.{reading_of};
-ghost use Rattle.dt_chain.specs.Compiled.{told};
+ghost use Rattle.dt_names.specs.Fault.{placeless};
 ghost use Rattle.dt_chain.specs.Printing.{IsDecompiled, WhyNotDecompiled};
 
 use dt_decompile::text_of;
@@ -29,7 +29,7 @@ pub fn decompile(alloc: Global, bytes: &[u8]) -> Result<Vec<u8>, Fault>
 // The text of a blob. A vector takes all that there is memory for.
 fn text_in_memory(alloc: Global, blob: &Blob) -> Result<Vec<u8>, Fault>
     ensures printed { IfOk result (λ text. text.items ≡ printed (reading_of blob.now)) }
-    ensures refused { IfErr result (λ fault. fault ≡ told NoMemory) }
+    ensures refused { IfErr result (λ fault. fault ≡ placeless NoMemory) }
 {
     let mut out = Out::new(Vec::new(alloc));
     match text_of(blob, &mut out) {
