@@ -24,3 +24,4 @@ pub mod ToldFixups
 pub mod NodePlaces
 pub mod ToldLocalFixups
 pub mod MirrorWalks
+pub mod OneList

@@ -84,3 +84,12 @@ AreLocalNodes t (n ∷ ns) told =
 -- of all of them, in preorder
 abbrev pub AreLocalFixupsOf : PlacedTree → List LocalFixup → Type 0
 AreLocalFixupsOf t told = AreLocalNodes t (nodes_from (node_at (reading_of t) (codes "__local_fixups__" ∷ []))) told
+
+-- ---- one list
+
+-- what an object lists is one list
+abbrev pub FixupsAreOne : Type 0
+FixupsAreOne = (t : PlacedTree) (told other : List Fixup) → AreFixupsOf t told → AreFixupsOf t other → told ≡ other
+
+abbrev pub LocalFixupsAreOne : Type 0
+LocalFixupsAreOne = (t : PlacedTree) (told other : List LocalFixup) → AreLocalFixupsOf t told → AreLocalFixupsOf t other → told ≡ other

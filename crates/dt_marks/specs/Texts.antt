@@ -38,6 +38,10 @@ pub record IsPathValue (value : List ℕ) (p : Path) : Type 0 where
   pub text : value ≡ path_value p
   pub named : AllByRecursion IsNodeName p
 
+-- it is that of one path
+abbrev pub PathValueIsOne : Type 0
+PathValueIsOne = (value : List ℕ) (p q : Path) → IsPathValue value p → IsPathValue value q → p ≡ q
+
 -- the value of a symbol names no path that may be a node's
 abbrev pub WhyNoSymbolPath : FaultKind → List ℕ → Type 0
 WhyNoSymbolPath NoMemory value = (p : Path) × IsPathValue value p × (length p ≤ most_names)

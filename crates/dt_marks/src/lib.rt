@@ -18,7 +18,7 @@ mod symbols;
 mod waiting;
 
 pub use cuts::{Texts, cut};
-pub use laws::{cell_texts_are_texts, texts_are_one};
+pub use laws::{cell_texts_are_texts, one_list, one_symbol_path, texts_are_one};
 pub use listed::{ListedCell, has_cell};
 pub use listed_fixups::Fixups;
 pub use listed_locals::LocalFixups;
