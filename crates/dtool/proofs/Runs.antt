@@ -1,20 +1,13 @@
 -- What a run does.
-use Rattle.std.proofs.Common.{◌≡◌, ℕ, List, Bool, Option, Some, None, Result, Ok, Err, IfErr, refl, ap, ◌∙◌, sym, subst}
+use Rattle.std.proofs.Common.{◌≡◌, ℕ, List, Bool, Option, Some, None, Result, Ok, Err, IfErr, refl, sym, subst}
 use Rattle.dt_names.specs.declared.fault.Fault.{Fault}
-use Rattle.dt_names.specs.declared.fault.FaultKind.{FaultKind}
 use Rattle.dt_names.specs.declared.fault.FaultKind.TheVariants.{NoMemory}
 use Rattle.dtool.specs.Files.{Tells, AreLoaded, WhyNotLoaded}
 use Rattle.dtool.specs.Job.{WhyNotPerformed}
-use Rattle.dtool.specs.Run.{WhyNotDone, WhyNotMadeOf, names_of, placeless, no_memory, unperformed, unloaded, unmade}
+use Rattle.dt_names.proofs.Faults.{own_placeless, is_placeless}
+use Rattle.dtool.specs.Run.{WhyNotDone, WhyNotMadeOf, names_of, no_memory, unperformed, unloaded, unmade}
 use Rattle.dtool.specs.Written.{IsUntouched}
 use Rattle.dtool.specs.declared.line.Line.{Line}
-
--- a fault without a place and of this kind
-pub placeless_is : (fault : Fault) → fault.at ≡ None → fault ≡ placeless fault.kind
-placeless_is fault is = ap (λ at. record { kind = fault.kind; at = at }) is
-
-pub fault_is : (fault : Fault) (kind : FaultKind) → fault.kind ≡ kind → fault.at ≡ None → fault ≡ placeless kind
-fault_is fault kind is at = placeless_is fault at ∙ ap placeless is
 
 pub untouched : (known : Option (List ℕ)) (failed : Bool) → IsUntouched known known failed failed
 untouched None failed = (tt, refl)
@@ -30,7 +23,7 @@ unmade_of line inputs texts old new had has (Err e) same why =
 pub unmade_here : (line : Line) (texts : List (List ℕ)) (known : Option (List ℕ)) (failed : Bool) (fault : Fault) → fault.kind ≡ NoMemory → fault.at ≡ None →
     WhyNotMadeOf line texts known known failed failed 0 fault
 unmade_here line texts known failed fault kind at =
-    subst (λ (f : Fault). WhyNotMadeOf line texts known known failed failed 0 f) (sym (fault_is fault NoMemory kind at)) (no_memory (untouched known failed))
+    subst (λ (f : Fault). WhyNotMadeOf line texts known known failed failed 0 f) (sym (is_placeless fault NoMemory kind at)) (no_memory (untouched known failed))
 
 pub undone_of : {V : Type 0} (tells : Tells) (line : Line) (names given texts : List (List ℕ)) (old new : Option (List ℕ)) (had has : Bool) (result : Result V (ℕ × Fault)) →
     names ≡ names_of line → given ≡ texts → AreLoaded tells names texts → IfErr result (λ e. WhyNotMadeOf line given old new had has e.0 e.1) →
@@ -43,5 +36,5 @@ undone_of tells line names given texts old new had has (Err e) own same loaded w
 pub not_loaded : (tells : Tells) (line : Line) (names : List (List ℕ)) (known : Option (List ℕ)) (failed : Bool) (k : ℕ) (fault : Fault) → names ≡ names_of line →
     WhyNotLoaded tells names k fault.kind → fault.at ≡ None → WhyNotDone tells line known known failed failed k fault
 not_loaded tells line names known failed k fault own why at =
-    subst (λ (f : Fault). WhyNotDone tells line known known failed failed k f) (sym (placeless_is fault at))
+    subst (λ (f : Fault). WhyNotDone tells line known known failed failed k f) (sym (own_placeless fault at))
     (unloaded k fault.kind (subst (λ (ns : List (List ℕ)). WhyNotLoaded tells ns k fault.kind) own why) (untouched known failed))

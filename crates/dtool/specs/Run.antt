@@ -1,7 +1,8 @@
 -- What a run of the program does.
-use Rattle.std.specs.Prelude.{◌≡◌, ◌⊎◌, ℕ, Bool, List, Option, None, Result, Ok, Err, IfSome, map}
+use Rattle.std.specs.Prelude.{◌≡◌, ◌⊎◌, ℕ, Bool, List, Option, Result, Ok, Err, IfSome, map}
 use Rattle.std.specs.Io.KnownBytes.{Appends}
 use Rattle.clap.specs.declared.error.Error.{Error}
+use Rattle.dt_names.specs.Fault.{placeless}
 use Rattle.dt_names.specs.declared.fault.Fault.{Fault}
 use Rattle.dt_names.specs.declared.fault.FaultKind.{FaultKind}
 use Rattle.dt_names.specs.declared.fault.FaultKind.TheVariants.{NoMemory}
@@ -17,10 +18,6 @@ use Rattle.dtool.specs.declared.words.LineFault.TheVariants.{Memory, Words}
 -- the names of a line's files
 abbrev pub names_of : Line → List (List ℕ)
 names_of line = map (λ file. file.now) line.files.items
-
--- a fault without a place
-abbrev pub placeless : FaultKind → Fault
-placeless kind = record { kind = kind; at = None }
 
 -- what the line's job makes of these texts was written
 pub record IsMadeOf (line : Line) (texts : List (List ℕ)) (old new : Option (List ℕ)) (had_failed has_failed : Bool) : Type 0 where

@@ -1,6 +1,7 @@
 use Rattle.std.proofs.Common.{Err, ap, ◌∙◌, inl, inr, refl}
 use Rattle.dtool.specs.Run.{done, faulty, no_command}
-use Rattle.dtool.proofs.Runs.{fault_is, untouched}
+use Rattle.dt_names.proofs.Faults.{is_placeless}
+use Rattle.dtool.proofs.Runs.{untouched}
 use Rattle.dtool.proofs.run.run.Goals as goal
 
 pub returns-in-Ok-work : goal.returns-in-Ok-work
@@ -12,7 +13,7 @@ returns-in-Ok g c =
 
 pub returns-in-Err-Memory : goal.returns-in-Err-Memory
 returns-in-Err-Memory g c =
-    let fault = fault_is c.of.result _ c.of.ensures.kind c.of.ensures.at in
+    let fault = is_placeless c.of.result _ c.of.ensures.kind c.of.ensures.at in
     (faulty 0 c.of.result, c.tell-in-Err-Memory.ensures.status, inl (c.in-Err-Memory.is ∙ ap Err c.in-Err-Memory.field-0-is, refl, fault, untouched _ _), c.tell-in-Err-Memory.ensures.said)
 
 pub returns : goal.returns
