@@ -3,11 +3,12 @@
 
     python3 bench/refused_memory.py [--most N] [--step N] crates/dtool/out/dtool crates/dt_cases/out/dt_cases
 
-`dtool compile` of a small source, and `dtool check` of its blob, have to end with status 1, fault 1 and nothing written.
-`dt_cases`, on a folder with the cases that take little memory, has to end with status 1 and no other answer than fault 1 in
-the place of the right one (90 where the sink is memory that grows), or with status 2 where its own tables couldn't be read.
-The whole answer may come all the same only where the toolchain's library asked again, at once and for no more: `collect` asks
-for as much as its iterator hints at, and where that is refused for what it needs. A C compiler makes the shim that refuses."""
+Each command of `dtool`, on small sources of a base and of two overlays and on their blobs, has to end with status 1, fault 1
+of one of its inputs, and nothing written. `dt_cases`, on a folder with the cases that take little memory, has to end with
+status 1 and no other answer than fault 1 in the place of the right one (90 where the sink is memory that grows), or with
+status 2 where its own tables couldn't be read. The whole answer may come all the same only where the toolchain's library asked
+again, at once and for no more: `collect` asks for as much as its iterator hints at, and where that is refused for what it
+needs. A C compiler makes the shim that refuses."""
 import argparse
 import bisect
 import collections
@@ -73,9 +74,14 @@ int posix_memalign(void **to, size_t align, size_t size) {
     return is_refused(size) ? ENOMEM : (NEXT(posix_memalign))(to, align, size);
 }
 """
-SOURCE = b'/dts-v1/; / { a = <1>, "x"; n { b; }; m@1 { a = <2>; }; };'
+SOURCES = {
+    "base": b"""/dts-v1/; /memreserve/ 4096 8192; / { gic: ic@1 { phandle = <7>; }; u: uart@2 { irq = <&gic 1>; old; dead { x; }; }; };
+        &u { s = "on", [01 02], <(1 + 2) '!'>, &gic; /delete-property/ old; /delete-node/ dead; };""",
+    "first": b"""/dts-v1/; /plugin/; &u { new: dev@1 { irq = <&gic 2>, <&new 3>; }; }; &{/ic@1} { wide; };""",
+    "second": b"""/dts-v1/; /plugin/; &new { s = "x"; }; &{/} { n { p = <&new &gic>; }; };""",
+}
 LARGE = re.compile(r"^(\*x?) (\d+\.\.)?(\d+) ", re.M)
-NO_MEMORY = "dtool: input 0: fault 1 NoMemory\n"
+NO_MEMORY = re.compile(r"dtool: input [0-2]: fault 1 NoMemory\n")
 
 
 def small_tables(data, folder):
@@ -97,7 +103,8 @@ def run(words, given, shim, **told):
 
 
 def is_told_by_tool(answer):
-    return answer == (1, b"", NO_MEMORY)
+    status, out, said = answer
+    return status == 1 and out == b"" and bool(NO_MEMORY.fullmatch(said))
 
 
 def is_told_by_cases(answer):
@@ -123,6 +130,23 @@ def who_asked_again(words, given, shim, n):
     name = function_at(words[0], int(asker, 16))
     is_again = name == function_at(words[0], int(next_asker, 16)) and int(next_size) <= int(size)
     return name if is_again and name.startswith("std_alloc::") else None
+
+
+def jobs(dtool, room):
+    """The commands of the program, on files that are made in a folder, with what they read from standard input."""
+    sources = [os.path.join(room, f"{name}.dts") for name in SOURCES]
+    blobs = [os.path.join(room, f"{name}.dtb") for name in SOURCES]
+    for source, blob, text in zip(sources, blobs, SOURCES.values()):
+        with open(source, "wb") as to:
+            to.write(text)
+        with open(blob, "wb") as to:
+            subprocess.run([dtool, "compile", source], stdout=to, check=True)
+    yield [dtool, "compile", "stdin"], SOURCES["base"]
+    yield [dtool, "compile", "--hex", sources[1]], b""
+    yield [dtool, "apply", *blobs], b""
+    yield [dtool, "build", *sources], b""
+    yield [dtool, "print", blobs[0]], b""
+    yield [dtool, "check", blobs[1]], b""
 
 
 def sweep(title, words, given, shim, is_told, options):
@@ -160,12 +184,8 @@ def main():
         subprocess.run(["cc", "-shared", "-fPIC", "-O1", "-x", "c", "-", "-o", shim, "-ldl"], input=SHIM.encode(), check=True)
         os.mkdir(tables)
         small_tables(data, tables)
-        blob = subprocess.run([options.dtool, "compile", "stdin"], input=SOURCE, capture_output=True, check=True).stdout
-        right = [
-            sweep("compile", [options.dtool, "compile", "--hex", "stdin"], SOURCE, shim, is_told_by_tool, options),
-            sweep("check", [options.dtool, "check", "stdin"], blob, shim, is_told_by_tool, options),
-            sweep("cases", [options.dt_cases, tables], b"", shim, is_told_by_cases, options),
-        ]
+        right = [sweep(words[1], words, given, shim, is_told_by_tool, options) for words, given in jobs(options.dtool, room)]
+        right.append(sweep("cases", [options.dt_cases, tables], b"", shim, is_told_by_cases, options))
     sys.exit(0 if all(right) else 1)
 
 
