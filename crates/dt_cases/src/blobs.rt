@@ -1,9 +1,9 @@
 //! Sources, blobs, and what blobs hold.
 
-use crate::answer::{Answer, Stop, bytes, push_line};
 use crate::input::bytes_of;
 use crate::numbers::index;
-use crate::reading::{lines_of, push_property};
+use crate::outcome::{Lines, Outcome, Stop};
+use crate::reading::{put_property, put_tree};
 use dt_chain::{compile, compile_raw};
 use dt_flat::FlatTree;
 use dt_names::Fault;
@@ -15,20 +15,27 @@ use std::alloc::{AllocError, Global};
 /// gives the blob of its tree. Of any bytes, `size` tells how many they are, `first N` gives the first ones, and
 /// `change AT HEX` gives them with others at a place. `structure HEX` gives a blob with the bytes as its structure block, and with
 /// these ones as its strings block.
-pub fn call(alloc: Global, name: &str, words: &str, input: &[u8]) -> Result<Answer, Stop> {
+pub fn call(
+    alloc: Global,
+    name: &str,
+    words: &str,
+    input: &[u8],
+    out: &mut Outcome,
+) -> Result<(), Stop> {
     match name {
-        "compile" => bytes_of_blob(compile(alloc, input)),
-        "compile-raw" => bytes_of_blob(compile_raw(alloc, input)),
-        "check" => checked(alloc, input),
-        "read" => read(alloc, input),
-        "root" => root_of(alloc, input),
-        "rewrite" => rewritten(alloc, input),
-        "size" => size(alloc, input.len()),
-        "first" => front(alloc, words, input),
-        "change" => changed(alloc, words, input),
-        "structure" => structured(alloc, words, input),
-        _ => Err(Stop::Malformed),
+        "compile" => out.give(compile(alloc, input)?),
+        "compile-raw" => out.give(compile_raw(alloc, input)?),
+        "check" => tell_counts(&Blob::check(input)?, out),
+        "read" => put_tree(out.lines(), alloc, &tree_of(alloc, input)?),
+        "root" => put_blob(out.lines(), &Blob::check(input)?),
+        "rewrite" => out.give(rewritten(alloc, input)?),
+        "size" => out.tell(input.len()),
+        "first" => out.give(front(alloc, words, input)?),
+        "change" => out.give(changed(alloc, words, input)?),
+        "structure" => out.give(structured(alloc, words, input)?),
+        _ => return Err(Stop::Malformed),
     }
+    Ok(())
 }
 
 /// The tree of a blob, as one that can be changed.
@@ -36,91 +43,51 @@ pub fn tree_of(alloc: Global, input: &[u8]) -> Result<FlatTree, Fault> {
     Blob::check(input)?.to_flat(alloc)
 }
 
-fn read(alloc: Global, input: &[u8]) -> Result<Answer, Stop> {
+fn rewritten(alloc: Global, input: &[u8]) -> Result<Vec<u8>, Fault> {
     let tree = tree_of(alloc, input)?;
-    told_of(lines_of(alloc, &tree))
+    write_blob(alloc, &tree)
 }
 
-fn told_of(lines: Result<String, AllocError>) -> Result<Answer, Stop> {
-    Ok(Answer::Told(lines?))
-}
-
-fn rewritten(alloc: Global, input: &[u8]) -> Result<Answer, Stop> {
-    let tree = tree_of(alloc, input)?;
-    bytes_of_blob(write_blob(alloc, &tree))
-}
-
-fn bytes_of_blob(blob: Result<Vec<u8>, Fault>) -> Result<Answer, Stop> {
-    Ok(Answer::Bytes(blob?))
-}
-
-fn front(alloc: Global, words: &str, input: &[u8]) -> Result<Answer, Stop> {
+fn front(alloc: Global, words: &str, input: &[u8]) -> Result<Vec<u8>, Stop> {
     let size = index(words).ok_or(Stop::Malformed)?;
-    bytes(alloc, input.get(..size).ok_or(Stop::Malformed)?)
+    Ok(Vec::from_slice(alloc, input.get(..size).ok_or(Stop::Malformed)?)?)
 }
 
-fn size(alloc: Global, size: usize) -> Result<Answer, Stop> {
-    Ok(Answer::Told(format!(in alloc; "{size}\n")?))
-}
-
-fn checked(alloc: Global, input: &[u8]) -> Result<Answer, Stop> {
-    let counts = Blob::check(input)?.counts();
+fn tell_counts(blob: &Blob<'_>, out: &mut Outcome) {
+    let counts = blob.counts();
     let nodes = counts.nodes;
     let properties = counts.properties;
     let reservations = counts.reservations;
-    Ok(Answer::Told(format!(in alloc;
-        "{nodes} nodes, {properties} properties, {reservations} reservations\n"
-    )?))
+    out.tell(format_args!("{nodes} nodes, {properties} properties, {reservations} reservations"));
 }
 
-/// What the calls of a blob tell of it and of its root.
-fn root_of(alloc: Global, input: &[u8]) -> Result<Answer, Stop> {
-    let blob = Blob::check(input)?;
-    let mut lines = String::new(alloc);
-    push_blob(&mut lines, alloc, &blob)?;
-    Ok(Answer::Told(lines))
-}
-
-fn push_blob(lines: &mut String, alloc: Global, blob: &Blob<'_>) -> Result<(), AllocError> {
+/// Puts what the calls of a blob tell of it and of its root.
+fn put_blob(lines: &mut Lines, blob: &Blob<'_>) {
     let boot_cpu = blob.boot_cpu();
-    push_line(lines, format!(in alloc; "boot {boot_cpu}\n"))?;
-    push_reservations(lines, alloc, blob)?;
+    writeln!(lines, "boot {boot_cpu}");
+    for (address, size) in blob.reservations() {
+        writeln!(lines, "reserve {address:#x} {size:#x}");
+    }
     let root = blob.root();
     let size = blob.name(root).len();
-    push_line(
-        lines,
-        format!(in alloc; "root at {root}, its name {size} bytes\n"),
-    )?;
-    push_properties(lines, alloc, blob)?;
-    push_children(lines, alloc, blob)
-}
-
-fn push_reservations(lines: &mut String, alloc: Global, blob: &Blob<'_>) -> Result<(), AllocError> {
-    for (address, size) in blob.reservations() {
-        push_line(lines, format!(in alloc; "reserve {address:#x} {size:#x}\n"))?;
+    writeln!(lines, "root at {root}, its name {size} bytes");
+    put_properties(lines, blob);
+    for child in blob.children(blob.root()) {
+        writeln!(lines, "child at {child}");
     }
-    Ok(())
 }
 
-fn push_properties(lines: &mut String, alloc: Global, blob: &Blob<'_>) -> Result<(), AllocError> {
+fn put_properties(lines: &mut Lines, blob: &Blob<'_>) {
     let root = blob.root();
     for (name, value) in blob.props(root) {
-        push_property(lines, alloc, name, value)?;
+        put_property(lines, name, value);
         if blob.value(root, name) != Some(value) {
-            lines.push_str("  and another value by its name\n")?;
+            lines.put("  and another value by its name\n");
         }
     }
-    Ok(())
 }
 
-fn push_children(lines: &mut String, alloc: Global, blob: &Blob<'_>) -> Result<(), AllocError> {
-    for child in blob.children(blob.root()) {
-        push_line(lines, format!(in alloc; "child at {child}\n"))?;
-    }
-    Ok(())
-}
-
-fn changed(alloc: Global, words: &str, input: &[u8]) -> Result<Answer, Stop> {
+fn changed(alloc: Global, words: &str, input: &[u8]) -> Result<Vec<u8>, Stop> {
     let (at, digits) = words.split_once(' ').ok_or(Stop::Malformed)?;
     let at = index(at).ok_or(Stop::Malformed)?;
     let others = bytes_of(alloc, digits)?;
@@ -128,14 +95,14 @@ fn changed(alloc: Global, words: &str, input: &[u8]) -> Result<Answer, Stop> {
 }
 
 /// The input with other bytes at a place.
-fn replaced(alloc: Global, input: &[u8], at: usize, others: &[u8]) -> Result<Answer, Stop> {
+fn replaced(alloc: Global, input: &[u8], at: usize, others: &[u8]) -> Result<Vec<u8>, Stop> {
     let end = at.saturating_add(others.len());
     let (Some(front), Some(back)) = (input.get(..at), input.get(end..)) else {
         return Err(Stop::Malformed);
     };
     let mut changed = Vec::from_slice(alloc, front)?;
     push_both(&mut changed, others, back)?;
-    Ok(Answer::Bytes(changed))
+    Ok(changed)
 }
 
 fn push_both(bytes: &mut Vec<u8>, first: &[u8], second: &[u8]) -> Result<(), AllocError> {
@@ -144,13 +111,12 @@ fn push_both(bytes: &mut Vec<u8>, first: &[u8], second: &[u8]) -> Result<(), All
 }
 
 /// A blob without reservations whose header fits the two blocks.
-fn structured(alloc: Global, words: &str, structure: &[u8]) -> Result<Answer, Stop> {
+fn structured(alloc: Global, words: &str, structure: &[u8]) -> Result<Vec<u8>, Stop> {
     let strings = bytes_of(alloc, words)?;
-    let blob = with_header(alloc, &strings, structure);
-    bytes_of_blob(blob)
+    Ok(with_header(alloc, &strings, structure)?)
 }
 
-fn with_header(alloc: Global, strings: &[u8], structure: &[u8]) -> Result<Vec<u8>, Fault> {
+fn with_header(alloc: Global, strings: &[u8], structure: &[u8]) -> Result<Vec<u8>, AllocError> {
     let end = structure.len().saturating_add(56);
     let total = end.saturating_add(strings.len());
     let header = [

@@ -1,6 +1,6 @@
 //! The calls that a case can name.
 
-use crate::answer::{Answer, Stop};
+use crate::outcome::{Outcome, Stop};
 use crate::{
     blobs, chains, damage, expressions, grammar, marks, names, numbers, printing, tokens, trees,
 };
@@ -8,24 +8,30 @@ use std::alloc::Global;
 
 /// What a call answers to some bytes, and to the other inputs of the case where it takes more than one: its name and, behind a
 /// blank each, its words.
-pub fn call(alloc: Global, call: &str, input: &[u8], others: &[&[u8]]) -> Result<Answer, Stop> {
+pub fn call(
+    alloc: Global,
+    call: &str,
+    input: &[u8],
+    others: &[&[u8]],
+    out: &mut Outcome,
+) -> Result<(), Stop> {
     let (name, words) = call.split_once(' ').unwrap_or((call, ""));
     match name {
         "node-name" | "property-name" | "label" | "node-path" | "path" | "path-text" | "push" => {
-            names::call(alloc, name, words, input)
+            names::call(alloc, name, words, input, out)
         }
         "be32" | "be64" | "text-at" | "put32" | "fit" => {
-            numbers::call(alloc, name, words, input)
+            numbers::call(alloc, name, words, input, out)
         }
-        "phandle" => numbers::phandle(alloc, input),
-        "tokens" | "token-count" | "text" => tokens::call(alloc, name, input),
-        "expression" => expressions::call(alloc, input),
-        "parse" | "item-count" => grammar::call(alloc, name, input),
-        "tree" | "tree-blob" => trees::call(alloc, name, words, input),
-        "damage" => damage::call(alloc, input),
-        "apply" | "build" => chains::call(alloc, name, input, others),
-        "print" | "printed" | "again" | "values" => printing::call(alloc, name, words, input),
-        "fixups" | "local-fixups" => marks::call(alloc, name, input),
-        _ => blobs::call(alloc, name, words, input),
+        "phandle" => numbers::phandle(input, out),
+        "tokens" | "token-count" | "text" => tokens::call(alloc, name, input, out),
+        "expression" => expressions::call(alloc, input, out),
+        "parse" | "item-count" => grammar::call(alloc, name, input, out),
+        "tree" | "tree-blob" => trees::call(alloc, name, words, input, out),
+        "damage" => damage::call(alloc, input, out),
+        "apply" | "build" => chains::call(alloc, name, input, others, out),
+        "print" | "printed" | "again" | "values" => printing::call(alloc, name, words, input, out),
+        "fixups" | "local-fixups" => marks::call(alloc, name, input, out),
+        _ => blobs::call(alloc, name, words, input, out),
     }
 }

@@ -2,9 +2,9 @@
 
 ghost use Rattle.std.specs.Prelude.{◌≡◌, ◌↔◌, IsTrue};
 
-use crate::answer::{Answer, Stop, push_fault, push_hex, push_line};
 use crate::calls::call;
 use crate::input::{Other, input_of, others_of};
+use crate::outcome::{Outcome, Stop};
 use std::alloc::{AllocError, Global};
 
 /// A case's lines, and the lines of the table in which it stands.
@@ -31,69 +31,65 @@ pub fn wanted_of(alloc: Global, lines: &[&str]) -> Result<String, AllocError> {
     Ok(wanted)
 }
 
-/// What comes out of one call after another, on the first input with the others.
-fn called(alloc: Global, calls: &str, input: Vec<u8>, others: &[&[u8]]) -> Result<Answer, Stop> {
-    let mut bytes = input;
+/// Answers what comes out of one call after another, on the first input with the others.
+fn call_all(
+    alloc: Global,
+    calls: &str,
+    input: Vec<u8>,
+    others: &[&[u8]],
+    out: &mut Outcome,
+) -> Result<(), Stop> {
+    out.give(input);
     for name in calls.split(", ").filter(|name| !name.is_empty()) {
-        match call(alloc, name, &bytes, others)? {
-            Answer::Bytes(next) => bytes = next,
-            told => return Ok(told),
+        if !out.is_told() {
+            let bytes = out.taken();
+            call(alloc, name, &bytes, others, out)?;
         }
     }
-    Ok(Answer::Bytes(bytes))
+    Ok(())
 }
 
 /// The other inputs, behind the calls that each goes through first.
 fn made(alloc: Global, others: Vec<Other<'_>>) -> Result<Vec<Vec<u8>>, Stop> {
     let mut made = Vec::new(alloc);
     for other in others {
-        match called(alloc, other.calls, other.bytes, &[])? {
-            Answer::Bytes(bytes) => made.push(bytes)?,
-            Answer::Told(_) => return Err(Stop::Malformed),
-        }
+        made.push(made_of(alloc, other)?)?;
     }
     Ok(made)
 }
 
-fn hexadecimal(alloc: Global, bytes: &[u8]) -> Result<String, AllocError> {
-    let mut text = String::new(alloc);
-    push_hex(&mut text, alloc, bytes)?;
-    text.push('\n')?;
-    Ok(text)
+fn made_of(alloc: Global, other: Other<'_>) -> Result<Vec<u8>, Stop> {
+    let mut out = Outcome::new(alloc);
+    call_all(alloc, other.calls, other.bytes, &[], &mut out)?;
+    if out.is_told() {
+        return Err(Stop::Malformed);
+    }
+    Ok(out.taken())
 }
 
-/// What comes out of a case, or why nothing does.
-fn tried(alloc: Global, case: Case<'_>) -> Result<String, Stop> {
+/// Answers what comes out of a case.
+fn try_calls(alloc: Global, case: Case<'_>, out: &mut Outcome) -> Result<(), Stop> {
     let calls = head_of(case.lines).ok_or(Stop::Malformed)?;
     let others = made(alloc, others_of(alloc, case.lines, case.table)?)?;
     let others: Vec<&[u8]> = others.iter().map(|other| other.as_slice()).collect(alloc)?;
     let input = input_of(alloc, case.lines, case.table)?;
-    match called(alloc, calls, input, &others)? {
-        Answer::Bytes(bytes) => Ok(hexadecimal(alloc, &bytes)?),
-        Answer::Told(lines) => Ok(lines),
-    }
+    call_all(alloc, calls, input, &others, out)
+}
+
+fn tried(alloc: Global, case: Case<'_>) -> Result<String, Stop> {
+    let mut out = Outcome::new(alloc);
+    try_calls(alloc, case, &mut out)?;
+    out.into_text()
 }
 
 /// What comes out of a case, as lines.
 pub fn answer_of(alloc: Global, case: Case<'_>) -> Result<String, AllocError> {
     match tried(alloc, case) {
         Ok(lines) => Ok(lines),
-        Err(stop) => line_of(alloc, stop),
+        Err(Stop::Refused(fault)) => format!(in alloc; "{fault}\n"),
+        Err(Stop::RefusedInput(input, fault)) => format!(in alloc; "input {input}: {fault}\n"),
+        Err(Stop::Malformed) => String::from_str(alloc, "malformed\n"),
     }
-}
-
-fn line_of(alloc: Global, stop: Stop) -> Result<String, AllocError> {
-    let mut line = String::new(alloc);
-    match stop {
-        Stop::Refused(fault) => push_fault(&mut line, alloc, fault)?,
-        Stop::RefusedInput(input, fault) => {
-            push_line(&mut line, format!(in alloc; "input {input}: "))?;
-            push_fault(&mut line, alloc, fault)?;
-        }
-        Stop::Malformed => line.push_str("malformed")?,
-    }
-    line.push('\n')?;
-    Ok(line)
 }
 
 /// Whether what comes out of a case is what has to.

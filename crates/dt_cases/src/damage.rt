@@ -1,7 +1,7 @@
 //! Blobs that are cut, or have one wrong byte.
 
-use crate::answer::{Answer, Stop};
 use crate::blobs::tree_of;
+use crate::outcome::{Outcome, Stop};
 use dt_flat::FlatTree;
 use dt_names::{Fault, FaultKind};
 use dt_write::write_blob;
@@ -10,13 +10,14 @@ use std::alloc::Global;
 /// `damage` tries each proper front of a blob, and the blob with each byte changed to each other one, and tells how many it tried, and how many
 /// of them aren't as they have to be: a front is refused for its size; a changed blob is refused with a fault of blobs, or is
 /// written and read as the same tree.
-pub fn call(alloc: Global, input: &[u8]) -> Result<Answer, Stop> {
+pub fn call(alloc: Global, input: &[u8], out: &mut Outcome) -> Result<(), Stop> {
     let (fronts, bad_fronts) = try_fronts(alloc, input);
     let mut changed = Vec::from_slice(alloc, input)?;
     let (changes, bad_changes) = try_changes(alloc, &mut changed)?;
-    Ok(Answer::Told(format!(in alloc;
-        "{fronts} fronts, {bad_fronts} bad; {changes} changes, {bad_changes} bad\n"
-    )?))
+    out.tell(format_args!(
+        "{fronts} fronts, {bad_fronts} bad; {changes} changes, {bad_changes} bad"
+    ));
+    Ok(())
 }
 
 /// How many proper fronts there are, and how many of them aren't refused for their size.

@@ -1,28 +1,29 @@
 //! Expressions, as steps in postfix order.
 
-use crate::answer::{Answer, Stop, told};
 use crate::numbers::number;
+use crate::outcome::{Outcome, Stop};
 use dt_expr::{Binary, Expr, Step, Unary, eval};
 use std::alloc::Global;
 
 /// `expression` tells the value of the expression whose steps are given, or `none` where they are no expression's.
-pub fn call(alloc: Global, input: &[u8]) -> Result<Answer, Stop> {
+pub fn call(alloc: Global, input: &[u8], out: &mut Outcome) -> Result<(), Stop> {
     let text = str::from_utf8(input).map_err(|_| Stop::Malformed)?;
     let mut steps = Vec::new(alloc);
+    push_steps(text, &mut steps)?;
+    let size = steps.len();
+    match Expr::new(steps) {
+        Some(expression) if expression.steps().len() == size => out.tell(eval(&expression)?),
+        Some(_) => out.tell("other steps"),
+        None => out.tell("none"),
+    }
+    Ok(())
+}
+
+fn push_steps(text: &str, steps: &mut Vec<Step>) -> Result<(), Stop> {
     for word in text.split_whitespace() {
         steps.push(step(word).ok_or(Stop::Malformed)?)?;
     }
-    let size = steps.len();
-    match Expr::new(steps) {
-        Some(expression) if expression.steps().len() == size => value(alloc, &expression),
-        Some(_) => told(alloc, "other steps"),
-        None => told(alloc, "none"),
-    }
-}
-
-fn value(alloc: Global, expression: &Expr) -> Result<Answer, Stop> {
-    let value = eval(expression)?;
-    Ok(Answer::Told(format!(in alloc; "{value}\n")?))
+    Ok(())
 }
 
 /// A step: a number, `?:`, `neg`, `~` or `!`, or the mark of an operator with two sides.

@@ -1,7 +1,7 @@
 //! What goes into a case.
 
-use crate::answer::Stop;
 use crate::numbers::number;
+use crate::outcome::Stop;
 use hex::decode;
 use itoa::Buffer;
 use std::alloc::{AllocError, Global};

@@ -5,7 +5,6 @@
 //! its file and line. The exit status is 0 where each case holds, 1 where one doesn't, and 2 where the tables can't be read.
 #![tactic(auto)]
 
-mod answer;
 mod blobs;
 mod calls;
 mod case;
@@ -17,6 +16,7 @@ mod input;
 mod marks;
 mod names;
 mod numbers;
+mod outcome;
 mod printing;
 mod reading;
 mod table;

@@ -1,7 +1,7 @@
 //! The cells that objects list.
 
-use crate::answer::{Answer, Stop, push_fault, push_line, told};
-use dt_marks::{ListedCell, fixups, local_fixups};
+use crate::outcome::{Lines, Outcome, Stop};
+use dt_listed::{ListedCell, fixups, local_fixups};
 use dt_names::NodeId;
 use dt_read::{Blob, Step};
 use std::alloc::{AllocError, Global};
@@ -9,63 +9,63 @@ use std::alloc::{AllocError, Global};
 /// `fixups` tells the cells of an object that wait for labels, each behind its label, and `local-fixups` those that hold
 /// numbers of the object's own nodes: the path of the node, the property and the offset, in order, and last the fault where
 /// the list is off.
-pub fn call(alloc: Global, name: &str, input: &[u8]) -> Result<Answer, Stop> {
+pub fn call(alloc: Global, name: &str, input: &[u8], out: &mut Outcome) -> Result<(), Stop> {
     let blob = Blob::check(input)?;
-    let lines = match name {
-        "fixups" => fixup_lines(alloc, &blob)?,
-        _ => local_lines(alloc, &blob)?,
-    };
-    if lines.is_empty() {
-        told(alloc, "none")
-    } else {
-        Ok(Answer::Told(lines))
+    let lines = out.lines();
+    match name {
+        "fixups" => put_fixups(lines, alloc, &blob)?,
+        _ => put_local_fixups(lines, alloc, &blob)?,
     }
+    if lines.is_empty() {
+        lines.put("none\n");
+    }
+    Ok(())
 }
 
-fn fixup_lines(alloc: Global, blob: &Blob<'_>) -> Result<String, AllocError> {
-    let mut lines = String::new(alloc);
+fn put_fixups(lines: &mut Lines, alloc: Global, blob: &Blob<'_>) -> Result<(), AllocError> {
     for listed in fixups(blob) {
         match listed {
             Ok((label, cell)) => {
-                lines.push_str(str::from_utf8(label).unwrap_or("?"))?;
-                lines.push(' ')?;
-                push_cell(&mut lines, alloc, blob, cell)?;
+                lines.name(label);
+                lines.put(" ");
+                put_cell(lines, alloc, blob, cell)?;
             }
-            Err(fault) => push_fault(&mut lines, alloc, fault)?,
+            Err(fault) => write!(lines, "{fault}"),
         }
-        lines.push('\n')?;
+        lines.put("\n");
     }
-    Ok(lines)
+    Ok(())
 }
 
-fn local_lines(alloc: Global, blob: &Blob<'_>) -> Result<String, AllocError> {
-    let mut lines = String::new(alloc);
+fn put_local_fixups(lines: &mut Lines, alloc: Global, blob: &Blob<'_>) -> Result<(), AllocError> {
     for listed in local_fixups(blob) {
         match listed {
-            Ok(cell) => push_cell(&mut lines, alloc, blob, cell)?,
-            Err(fault) => push_fault(&mut lines, alloc, fault)?,
+            Ok(cell) => put_cell(lines, alloc, blob, cell)?,
+            Err(fault) => write!(lines, "{fault}"),
         }
-        lines.push('\n')?;
+        lines.put("\n");
     }
-    Ok(lines)
+    Ok(())
 }
 
-/// Appends the path of a cell's node, its property and its offset.
-fn push_cell(
-    lines: &mut String,
+/// Puts the path of a cell's node, its property and its offset.
+fn put_cell(
+    lines: &mut Lines,
     alloc: Global,
     blob: &Blob<'_>,
     cell: ListedCell<'_>,
 ) -> Result<(), AllocError> {
-    push_path(lines, alloc, blob, cell.node)?;
-    let property = str::from_utf8(cell.property).unwrap_or("?");
+    put_path(lines, alloc, blob, cell.node)?;
+    lines.put(" ");
+    lines.name(cell.property);
     let offset = cell.offset;
-    push_line(lines, format!(in alloc; " {property} {offset}"))
+    write!(lines, " {offset}");
+    Ok(())
 }
 
-/// Appends the path of the node at a place of a blob.
-fn push_path(
-    lines: &mut String,
+/// Puts the path of the node at a place of a blob.
+fn put_path(
+    lines: &mut Lines,
     alloc: Global,
     blob: &Blob<'_>,
     node: NodeId,
@@ -85,20 +85,17 @@ fn push_path(
             }
         }
     }
-    push_names(lines, &open_names)
+    put_names(lines, open_names.get(1..).unwrap_or(&[]));
+    Ok(())
 }
 
-/// Appends the path whose names these are, behind the root's.
-fn push_names(lines: &mut String, names: &[&[u8]]) -> Result<(), AllocError> {
-    match names {
-        [] => lines.push('?'),
-        [_] => lines.push('/'),
-        [_, below @ ..] => {
-            for name in below {
-                lines.push('/')?;
-                lines.push_str(str::from_utf8(name).unwrap_or("?"))?;
-            }
-            Ok(())
-        }
+/// Puts the path of these names.
+fn put_names(lines: &mut Lines, names: &[&[u8]]) {
+    if names.is_empty() {
+        lines.put("/");
+    }
+    for name in names {
+        lines.put("/");
+        lines.name(name);
     }
 }

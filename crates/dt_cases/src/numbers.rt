@@ -1,6 +1,6 @@
 //! Numbers and texts at a place of bytes, and numbers in elements.
 
-use crate::answer::{Answer, Stop, bytes, told};
+use crate::outcome::{Outcome, Stop};
 use dt_bytes::{be32, be64, put32, text_at};
 use dt_expr::fit;
 use dt_names::phandle_of;
@@ -28,45 +28,54 @@ pub fn index(word: &str) -> Option<usize> {
 
 /// `be32 AT`, `be64 AT` and `text-at AT` tell what stands at a place; `put32 AT NUMBER` gives the bytes with the number there;
 /// `fit NUMBER BITS` tells what an element of so many bits has for a number.
-pub fn call(alloc: Global, name: &str, words: &str, input: &[u8]) -> Result<Answer, Stop> {
+pub fn call(
+    alloc: Global,
+    name: &str,
+    words: &str,
+    input: &[u8],
+    out: &mut Outcome,
+) -> Result<(), Stop> {
     let (first, second) = words.split_once(' ').unwrap_or((words, "0"));
     let (Some(first), Some(second)) = (number(first), number(second)) else {
         return Err(Stop::Malformed);
     };
     match name {
-        "be32" => found(alloc, be32(input, first as usize).map(u64::from)),
-        "be64" => found(alloc, be64(input, first as usize)),
+        "be32" => tell_found(be32(input, first as usize).map(u64::from), out),
+        "be64" => tell_found(be64(input, first as usize), out),
         "text-at" => match text_at(input, first as usize) {
-            Some(text) => bytes(alloc, text),
-            None => told(alloc, "none"),
+            Some(text) => out.give(Vec::from_slice(alloc, text)?),
+            None => out.tell("none"),
         },
-        "put32" => put(alloc, input, first as usize, second),
-        _ => fitted(alloc, first, second),
+        "put32" => return put(alloc, input, first as usize, second, out),
+        _ => tell_found(Some(fitted(first, second)?), out),
     }
+    Ok(())
 }
 
 /// The number that a value of the property `phandle` gives its node.
-pub fn phandle(alloc: Global, value: &[u8]) -> Result<Answer, Stop> {
-    found(alloc, phandle_of(value).map(u64::from))
+pub fn phandle(value: &[u8], out: &mut Outcome) -> Result<(), Stop> {
+    tell_found(phandle_of(value).map(u64::from), out);
+    Ok(())
 }
 
-fn found(alloc: Global, number: Option<u64>) -> Result<Answer, Stop> {
+fn tell_found(number: Option<u64>, out: &mut Outcome) {
     match number {
-        Some(number) => Ok(Answer::Told(format!(in alloc; "{number:#x}\n")?)),
-        None => told(alloc, "none"),
+        Some(number) => out.tell(format_args!("{number:#x}")),
+        None => out.tell("none"),
     }
 }
 
-fn put(alloc: Global, input: &[u8], at: usize, number: u64) -> Result<Answer, Stop> {
+fn put(alloc: Global, input: &[u8], at: usize, number: u64, out: &mut Outcome) -> Result<(), Stop> {
     let Ok(number) = u32::try_from(number) else {
         return Err(Stop::Malformed);
     };
     let mut changed = Vec::from_slice(alloc, input)?;
     if is_put(&mut changed, at, number, input) {
-        Ok(Answer::Bytes(changed))
+        out.give(changed);
     } else {
-        told(alloc, "none")
+        out.tell("none");
     }
+    Ok(())
 }
 
 /// Whether a number was put at a place; where it wasn't, no byte may have changed.
@@ -74,13 +83,12 @@ fn is_put(bytes: &mut [u8], at: usize, number: u32, input: &[u8]) -> bool {
     put32(bytes, at, number) || *bytes != *input
 }
 
-fn fitted(alloc: Global, number: u64, bits: u64) -> Result<Answer, Stop> {
-    let fitted = match bits {
-        8 => fit(number, 8)?,
-        16 => fit(number, 16)?,
-        32 => fit(number, 32)?,
-        64 => fit(number, 64)?,
-        _ => return Err(Stop::Malformed),
-    };
-    found(alloc, Some(fitted))
+fn fitted(number: u64, bits: u64) -> Result<u64, Stop> {
+    match bits {
+        8 => Ok(fit(number, 8)?),
+        16 => Ok(fit(number, 16)?),
+        32 => Ok(fit(number, 32)?),
+        64 => Ok(fit(number, 64)?),
+        _ => Err(Stop::Malformed),
+    }
 }

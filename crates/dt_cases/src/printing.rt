@@ -1,7 +1,7 @@
 //! Blobs printed as sources.
 
-use crate::answer::{Answer, Stop, push_line, told};
 use crate::numbers::index;
+use crate::outcome::{Outcome, Stop};
 use dt_chain::{compile, compile_raw, decompile};
 use dt_names::{Fault, FaultKind};
 use std::alloc::{AllocError, Global};
@@ -9,16 +9,23 @@ use std::alloc::{AllocError, Global};
 /// `print` tells the text of a blob. A source is compiled as it stands, or to its object where it is an overlay's; then
 /// `printed` tells the text of the blob, and `again` whether that text is compiled to the same blob. `values SIZE` gives a
 /// source that has each value of up to so many of the input's bytes.
-pub fn call(alloc: Global, name: &str, words: &str, input: &[u8]) -> Result<Answer, Stop> {
+pub fn call(
+    alloc: Global,
+    name: &str,
+    words: &str,
+    input: &[u8],
+    out: &mut Outcome,
+) -> Result<(), Stop> {
     match name {
-        "print" => printed(alloc, input),
-        "printed" => printed(alloc, &blob_of(alloc, input)?),
-        "again" => compared(alloc, &blob_of(alloc, input)?),
+        "print" => out.lines().name(&decompile(alloc, input)?),
+        "printed" => out.lines().name(&printed(alloc, input)?),
+        "again" => tell_again(is_compiled_again(alloc, input)?, out),
         _ => {
             let most = index(words).ok_or(Stop::Malformed)?;
-            Ok(Answer::Bytes(source_of_values(alloc, input, most)?))
+            out.give(source_of_values(alloc, input, most)?);
         }
     }
+    Ok(())
 }
 
 /// The blob of a source as it stands, of an overlay's source its object.
@@ -29,25 +36,30 @@ fn blob_of(alloc: Global, source: &[u8]) -> Result<Vec<u8>, Fault> {
     }
 }
 
-fn printed(alloc: Global, blob: &[u8]) -> Result<Answer, Stop> {
-    match String::from_utf8(decompile(alloc, blob)?) {
-        Ok(lines) => Ok(Answer::Told(lines)),
-        Err(_) => told(alloc, "no text"),
-    }
+/// The text of a source's blob.
+fn printed(alloc: Global, source: &[u8]) -> Result<Vec<u8>, Fault> {
+    let blob = blob_of(alloc, source)?;
+    decompile(alloc, &blob)
 }
 
-/// Whether the text of a blob is compiled to the same blob.
-fn compared(alloc: Global, blob: &[u8]) -> Result<Answer, Stop> {
+/// Whether the text of a source's blob is compiled to the same blob.
+fn is_compiled_again(alloc: Global, source: &[u8]) -> Result<bool, Fault> {
+    let blob = blob_of(alloc, source)?;
+    is_text_of(alloc, &blob)
+}
+
+fn is_text_of(alloc: Global, blob: &[u8]) -> Result<bool, Fault> {
     let text = decompile(alloc, blob)?;
     let again = compile_raw(alloc, &text)?;
-    told(
-        alloc,
-        if again.as_slice() == blob {
-            "the same blob"
-        } else {
-            "another blob"
-        },
-    )
+    Ok(again.as_slice() == blob)
+}
+
+fn tell_again(is_same: bool, out: &mut Outcome) {
+    out.tell(if is_same {
+        "the same blob"
+    } else {
+        "another blob"
+    });
 }
 
 /// A source whose root has each value of up to so many of some bytes, named by its digits, the shorter ones first.
@@ -78,7 +90,7 @@ fn longer(alloc: Global, values: &[Vec<u8>], bytes: &[u8]) -> Result<Vec<Vec<u8>
 fn push_values(source: &mut String, alloc: Global, values: &[Vec<u8>]) -> Result<(), AllocError> {
     for value in values {
         let digits = hex::encode(alloc, value.as_slice())?;
-        push_line(source, format!(in alloc; " v{digits} = [{digits}];"))?;
+        write!(source, " v{digits} = [{digits}];")?;
     }
     Ok(())
 }

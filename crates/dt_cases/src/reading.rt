@@ -3,121 +3,51 @@
 
 ghost use Rattle.std.specs.Prelude.{◌<◌, length};
 
-use crate::answer::{push_hex, push_line};
+use crate::outcome::Lines;
 use dt_flat::FlatTree;
-use std::alloc::{AllocError, Global};
+use std::alloc::Global;
 
-/// The lines of a tree.
-pub fn lines_of(alloc: Global, tree: &FlatTree) -> Result<String, AllocError> {
-    let mut lines = String::new(alloc);
-    push_head(&mut lines, alloc, tree)?;
-    let mut paths: Vec<String> = Vec::new(alloc);
-    for _ in 0..tree.node_count() {
-        paths.push(String::new(alloc))?;
-    }
-    for node in 0..tree.node_count() {
-        push_node(&mut lines, alloc, tree, node, &mut paths)?;
-    }
-    Ok(lines)
-}
-
-fn push_head(lines: &mut String, alloc: Global, tree: &FlatTree) -> Result<(), AllocError> {
+/// Puts the lines of a tree.
+pub fn put_tree(lines: &mut Lines, alloc: Global, tree: &FlatTree) {
     let boot_cpu = tree.boot_cpu();
     if boot_cpu != 0 {
-        push_line(lines, format!(in alloc; "boot {boot_cpu}\n"))?;
+        writeln!(lines, "boot {boot_cpu}");
     }
     for (address, size) in tree.reservations() {
-        push_line(lines, format!(in alloc; "reserve {address:#x} {size:#x}\n"))?;
+        writeln!(lines, "reserve {address:#x} {size:#x}");
     }
-    Ok(())
+    for node in 0..tree.node_count() {
+        put_node(lines, alloc, tree, node);
+    }
 }
 
-/// Appends a node's path and properties, and keeps the paths of its children.
-fn push_node(
-    lines: &mut String,
-    alloc: Global,
-    tree: &FlatTree,
-    node: usize,
-    paths: &mut [String],
-) -> Result<(), AllocError>
+/// Puts a node's path and properties.
+fn put_node(lines: &mut Lines, alloc: Global, tree: &FlatTree, node: usize)
     requires { node < length tree.now.slots }
 {
-    let path = String::from_str(alloc, paths.get(node).map_or("", |path| path.as_str()))?;
-    push_names(tree, node, path.as_str(), paths)?;
-    push_own(lines, alloc, tree, node, path.as_str())
-}
-
-/// Appends a node's path and properties.
-fn push_own(
-    lines: &mut String,
-    alloc: Global,
-    tree: &FlatTree,
-    node: usize,
-    path: &str,
-) -> Result<(), AllocError>
-    requires { node < length tree.now.slots }
-{
-    lines.push_str(if path.is_empty() { "/" } else { path })?;
-    lines.push('\n')?;
+    lines.path(tree.path(alloc, node));
+    lines.put("\n");
     for (name, value) in tree.props(node) {
-        push_property(lines, alloc, name, value)?;
-    }
-    Ok(())
-}
-
-/// Keeps the paths of a node's children.
-fn push_names(
-    tree: &FlatTree,
-    node: usize,
-    path: &str,
-    paths: &mut [String],
-) -> Result<(), AllocError>
-    requires { node < length tree.now.slots }
-{
-    for child in tree.children(node) {
-        let name = name_of(tree, child);
-        if let Some(place) = paths.get_mut(child) {
-            push_path(place, path, name)?;
-        }
-    }
-    Ok(())
-}
-
-fn push_path(place: &mut String, path: &str, name: &str) -> Result<(), AllocError> {
-    place.push_str(path)?;
-    place.push('/')?;
-    place.push_str(name)
-}
-
-fn name_of(tree: &FlatTree, node: usize) -> &str {
-    if node < tree.node_count() {
-        str::from_utf8(tree.name(node)).unwrap_or("?")
-    } else {
-        "?"
+        put_property(lines, name, value);
     }
 }
 
-/// Appends a property's name and, if it isn't empty, its value.
-pub fn push_property(
-    lines: &mut String,
-    alloc: Global,
-    name: &[u8],
-    value: &[u8],
-) -> Result<(), AllocError> {
-    lines.push_str("  ")?;
-    lines.push_str(str::from_utf8(name).unwrap_or("?"))?;
+/// Puts a property's name and, if it isn't empty, its value.
+pub fn put_property(lines: &mut Lines, name: &[u8], value: &[u8]) {
+    lines.put("  ");
+    lines.name(name);
     if !value.is_empty() {
-        lines.push_str(" = ")?;
-        push_value(lines, alloc, value)?;
+        lines.put(" = ");
+        put_value(lines, value);
     }
-    lines.push('\n')
+    lines.put("\n");
 }
 
-/// Appends a value: as texts, or else in hexadecimal.
-pub fn push_value(lines: &mut String, alloc: Global, value: &[u8]) -> Result<(), AllocError> {
+/// Puts a value: as texts, or else in hexadecimal.
+pub fn put_value(lines: &mut Lines, value: &[u8]) {
     match texts_of(value) {
-        Some(texts) => push_texts(lines, texts),
-        None => push_hex(lines, alloc, value),
+        Some(texts) => put_texts(lines, texts),
+        None => lines.hexadecimal(value),
     }
 }
 
@@ -131,11 +61,10 @@ fn texts_of(value: &[u8]) -> Option<&str> {
     str::from_utf8(texts).ok()
 }
 
-fn push_texts(lines: &mut String, texts: &str) -> Result<(), AllocError> {
+fn put_texts(lines: &mut Lines, texts: &str) {
     for (at, text) in texts.split('\0').enumerate() {
-        lines.push_str(if at > 0 { ", \"" } else { "\"" })?;
-        lines.push_str(text)?;
-        lines.push('"')?;
+        lines.put(if at > 0 { ", \"" } else { "\"" });
+        lines.put(text);
+        lines.put("\"");
     }
-    Ok(())
 }

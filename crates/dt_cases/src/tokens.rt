@@ -1,101 +1,46 @@
 //! Tokens, and the bytes of texts.
 
-use crate::answer::{Answer, Stop, bytes, push_line};
-use dt_lex::{Keyword, Mark, Token, TokenKind, push_text, tokens};
-use std::alloc::{AllocError, Global};
+use crate::outcome::{Lines, Outcome, Stop};
+use dt_lex::{Token, TokenKind, keyword_bytes, mark_bytes, push_text, tokens};
+use std::alloc::Global;
 
 /// `tokens` tells each token, its first byte and the byte behind it; `token-count` how many there are; `text` gives the bytes
 /// of a text, behind a `>` that was there.
-pub fn call(alloc: Global, name: &str, input: &[u8]) -> Result<Answer, Stop> {
+pub fn call(alloc: Global, name: &str, input: &[u8], out: &mut Outcome) -> Result<(), Stop> {
     match name {
-        "tokens" => lines_of(alloc, &tokens(alloc, input)?),
-        "token-count" => {
-            let count = tokens(alloc, input)?.len();
-            Ok(Answer::Told(format!(in alloc; "{count}\n")?))
-        }
-        _ => text_of(alloc, input),
+        "tokens" => put_tokens(out.lines(), &tokens(alloc, input)?),
+        "token-count" => out.tell(tokens(alloc, input)?.len()),
+        _ => out.give(text_of(alloc, input)?),
     }
+    Ok(())
 }
 
-fn text_of(alloc: Global, token: &[u8]) -> Result<Answer, Stop> {
-    let mut out = Vec::from_slice(alloc, b">".as_slice())?;
-    push_text(token, &mut out)?;
-    bytes(alloc, &out)
+fn text_of(alloc: Global, token: &[u8]) -> Result<Vec<u8>, Stop> {
+    let mut text = Vec::from_slice(alloc, b">".as_slice())?;
+    push_text(token, &mut text)?;
+    Ok(text)
 }
 
-fn lines_of(alloc: Global, tokens: &[Token]) -> Result<Answer, Stop> {
-    let mut lines = String::new(alloc);
+fn put_tokens(lines: &mut Lines, tokens: &[Token]) {
     for token in tokens {
-        push_token(&mut lines, alloc, *token)?;
+        let Token { kind, start, end } = *token;
+        write!(lines, "{start} {end} ");
+        put_kind(lines, kind);
+        lines.put("\n");
     }
-    Ok(Answer::Told(lines))
 }
 
-fn push_token(lines: &mut String, alloc: Global, token: Token) -> Result<(), AllocError> {
-    let Token { kind, start, end } = token;
-    push_line(lines, format!(in alloc; "{start} {end} "))?;
-    push_kind(lines, alloc, kind)?;
-    lines.push('\n')
-}
-
-fn push_kind(lines: &mut String, alloc: Global, kind: TokenKind) -> Result<(), AllocError> {
+fn put_kind(lines: &mut Lines, kind: TokenKind) {
     match kind {
-        TokenKind::Label => lines.push_str("label"),
-        TokenKind::Keyword(keyword) => lines.push_str(keyword_text(keyword)),
-        TokenKind::LabelReference => lines.push_str("label reference"),
-        TokenKind::PathReference => lines.push_str("path reference"),
-        TokenKind::Name => lines.push_str("name"),
-        TokenKind::Byte(byte) => push_line(lines, format!(in alloc; "byte {byte}")),
-        TokenKind::Integer(number) => push_line(lines, format!(in alloc; "integer {number}")),
-        TokenKind::Character(code) => push_line(lines, format!(in alloc; "character {code}")),
-        TokenKind::Text => lines.push_str("text"),
-        TokenKind::Mark(mark) => lines.push_str(mark_text(mark)),
-    }
-}
-
-fn keyword_text(keyword: Keyword) -> &'static str {
-    match keyword {
-        Keyword::Version => "/dts-v1/",
-        Keyword::Plugin => "/plugin/",
-        Keyword::Memreserve => "/memreserve/",
-        Keyword::Bits => "/bits/",
-        Keyword::DeleteNode => "/delete-node/",
-        Keyword::DeleteProperty => "/delete-property/",
-    }
-}
-
-fn mark_text(mark: Mark) -> &'static str {
-    match mark {
-        Mark::ShiftLeft => "<<",
-        Mark::ShiftRight => ">>",
-        Mark::LessOrEqual => "<=",
-        Mark::GreaterOrEqual => ">=",
-        Mark::Equal => "==",
-        Mark::NotEqual => "!=",
-        Mark::And => "&&",
-        Mark::Or => "||",
-        Mark::OpenBrace => "{",
-        Mark::CloseBrace => "}",
-        Mark::OpenBracket => "[",
-        Mark::CloseBracket => "]",
-        Mark::OpenParenthesis => "(",
-        Mark::CloseParenthesis => ")",
-        Mark::Less => "<",
-        Mark::Greater => ">",
-        Mark::Semicolon => ";",
-        Mark::Equals => "=",
-        Mark::Comma => ",",
-        Mark::Colon => ":",
-        Mark::Question => "?",
-        Mark::Plus => "+",
-        Mark::Minus => "-",
-        Mark::Star => "*",
-        Mark::Slash => "/",
-        Mark::Percent => "%",
-        Mark::Ampersand => "&",
-        Mark::Bar => "|",
-        Mark::Caret => "^",
-        Mark::Tilde => "~",
-        Mark::Exclamation => "!",
+        TokenKind::Label => lines.put("label"),
+        TokenKind::Keyword(keyword) => lines.name(keyword_bytes(keyword)),
+        TokenKind::LabelReference => lines.put("label reference"),
+        TokenKind::PathReference => lines.put("path reference"),
+        TokenKind::Name => lines.put("name"),
+        TokenKind::Byte(byte) => write!(lines, "byte {byte}"),
+        TokenKind::Integer(number) => write!(lines, "integer {number}"),
+        TokenKind::Character(code) => write!(lines, "character {code}"),
+        TokenKind::Text => lines.put("text"),
+        TokenKind::Mark(mark) => lines.name(mark_bytes(mark)),
     }
 }

@@ -1,11 +1,11 @@
 //! Trees that are changed step by step.
 
-use crate::answer::{Answer, Stop, push_fault, push_line};
 use crate::input::bytes_of;
 use crate::numbers::{index, number};
-use crate::reading::{lines_of, push_value};
+use crate::outcome::{Lines, Outcome, Stop};
+use crate::reading::{put_tree, put_value};
 use dt_flat::FlatTree;
-use dt_names::{Fault, FaultKind, NodeName, PropName};
+use dt_names::{FaultKind, NodeName, PropName};
 use dt_write::write_blob;
 use std::alloc::Global;
 
@@ -13,11 +13,17 @@ use std::alloc::Global;
 /// are, and `value NODE NAME` a value. `tree-blob [CPU]` gives the blob of the tree behind the last step. Steps end with `;`. They are `reserve ADDRESS SIZE`,
 /// `node PARENT NAME`, `set NODE NAME [HEX]`, `set-number NODE NAME NUMBER` and `set-size NODE NAME SIZE`, of a value of so many bytes. A node is its number: 0 is
 /// the root's, and each new node has the next one.
-pub fn call(alloc: Global, name: &str, words: &str, input: &[u8]) -> Result<Answer, Stop> {
+pub fn call(
+    alloc: Global,
+    name: &str,
+    words: &str,
+    input: &[u8],
+    out: &mut Outcome,
+) -> Result<(), Stop> {
     let steps = str::from_utf8(input).map_err(|_| Stop::Malformed)?;
     let boot_cpu = boot_cpu_of(words).ok_or(Stop::Malformed)?;
     let mut tree = FlatTree::new(alloc, boot_cpu);
-    stepped(&mut tree, alloc, name, steps)
+    take_all(&mut tree, alloc, name, steps, out)
 }
 
 /// The boot CPU that the words say, 0 where they say none.
@@ -28,18 +34,27 @@ fn boot_cpu_of(words: &str) -> Option<u32> {
     }
 }
 
-fn stepped(tree: &mut FlatTree, alloc: Global, name: &str, steps: &str) -> Result<Answer, Stop> {
-    let mut lines = String::new(alloc);
-    take_all(tree, &mut lines, alloc, steps)?;
+fn take_all(
+    tree: &mut FlatTree,
+    alloc: Global,
+    name: &str,
+    steps: &str,
+    out: &mut Outcome,
+) -> Result<(), Stop> {
     match name {
-        "tree" => Ok(Answer::Told(lines)),
-        _ => Ok(Answer::Bytes(write_blob(alloc, tree)?)),
+        "tree" => tell_all(tree, out.lines(), alloc, steps),
+        _ => {
+            tell_all(tree, &mut Lines::new(alloc), alloc, steps)?;
+            out.give(write_blob(alloc, tree)?);
+            Ok(())
+        }
     }
 }
 
-fn take_all(
+/// Takes the steps, and puts what they tell.
+fn tell_all(
     tree: &mut FlatTree,
-    lines: &mut String,
+    lines: &mut Lines,
     alloc: Global,
     steps: &str,
 ) -> Result<(), Stop> {
@@ -47,8 +62,7 @@ fn take_all(
         match take(tree, lines, alloc, step.trim()) {
             Ok(()) => {}
             Err(Stop::Refused(fault)) if fault.kind != FaultKind::NoMemory => {
-                push_fault(lines, alloc, fault)?;
-                lines.push('\n')?;
+                writeln!(lines, "{fault}");
             }
             Err(stop) => return Err(stop),
         }
@@ -57,33 +71,38 @@ fn take_all(
 }
 
 /// Takes one step.
-fn take(tree: &mut FlatTree, lines: &mut String, alloc: Global, step: &str) -> Result<(), Stop> {
+fn take(tree: &mut FlatTree, lines: &mut Lines, alloc: Global, step: &str) -> Result<(), Stop> {
     let (verb, words) = step.split_once(' ').unwrap_or((step, ""));
     match verb {
-        "" => Ok(()),
-        "reserve" => {
-            let (address, size) = words.split_once(' ').ok_or(Stop::Malformed)?;
-            let address = number(address).ok_or(Stop::Malformed)?;
-            Ok(tree.reserve(address, number(size).ok_or(Stop::Malformed)?)?)
-        }
+        "" => {}
+        "reserve" => reserve(tree, words)?,
         "count" => {
             let count = tree.node_count();
-            Ok(push_line(lines, format!(in alloc; "{count}\n"))?)
+            writeln!(lines, "{count}");
         }
-        "read" => Ok(push_line(lines, lines_of(alloc, tree))?),
+        "read" => put_tree(lines, alloc, tree),
         _ => {
             let (node, words) = words.split_once(' ').ok_or(Stop::Malformed)?;
             let node = index(node).ok_or(Stop::Malformed)?;
             let (name, words) = words.split_once(' ').unwrap_or((words, ""));
-            at_node(tree, lines, alloc, verb, node, name.as_bytes(), words)
+            at_node(tree, lines, alloc, verb, node, name.as_bytes(), words)?;
         }
     }
+    Ok(())
+}
+
+fn reserve(tree: &mut FlatTree, words: &str) -> Result<(), Stop> {
+    let (address, size) = words.split_once(' ').ok_or(Stop::Malformed)?;
+    let (Some(address), Some(size)) = (number(address), number(size)) else {
+        return Err(Stop::Malformed);
+    };
+    Ok(tree.reserve(address, size)?)
 }
 
 /// Takes a step that speaks of a node and a name.
 fn at_node(
     tree: &mut FlatTree,
-    lines: &mut String,
+    lines: &mut Lines,
     alloc: Global,
     verb: &str,
     node: usize,
@@ -100,10 +119,11 @@ fn at_node(
         }
         "value" => {
             match tree.value(node, name) {
-                Some(value) => push_value(lines, alloc, value)?,
-                None => lines.push_str("none")?,
+                Some(value) => put_value(lines, value),
+                None => lines.put("none"),
             }
-            Ok(lines.push('\n')?)
+            lines.put("\n");
+            Ok(())
         }
         _ => {
             let value = value_of(alloc, verb, words)?;

@@ -9,7 +9,7 @@ use Rattle.dt_model.specs.Tree.{Reading}
 use Rattle.dt_model.specs.Valid.{IsValid, IsWithinLimits}
 use Rattle.dt_names.specs.declared.fault.Fault.{Fault}
 use Rattle.dt_names.specs.declared.fault.FaultKind.TheVariants.{NoMemory, Limit}
-use Rattle.dt_laws.specs.Blobs.{BlobHasNoFault}
+use Rattle.dt_format.specs.Laws.{BlobHasNoFault}
 use Rattle.dt_laws.specs.InTurn.{IsOf, IsObject, InTurnIsFold}
 use Rattle.dt_laws.specs.Merging.{SitesAreOne}
 use Rattle.dt_landing.specs.Outcomes.{RefusedIsUndefined}

@@ -2,7 +2,7 @@
 use Rattle.std.proofs.Common.{◌≡◌, ℕ, List, sym, ap, ◌∙◌}
 use Rattle.dt_model.specs.Format.{Reads}
 use Rattle.dt_model.specs.Tree.{Reading}
-use Rattle.dt_laws.specs.Blobs.{FirstFaultIsOne, BlobHasNoFault}
+use Rattle.dt_format.specs.Laws.{FirstFaultIsOne, BlobHasNoFault}
 use Rattle.dt_landing.specs.Outcomes as landing
 use Rattle.dt_landing.specs.Outcomes.{LimitIsExceeded, AppliedIsOne, OneRefusal}
 use Rattle.dt_read.specs.Kinds.{kind_of}

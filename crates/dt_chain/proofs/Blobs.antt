@@ -6,7 +6,7 @@ use Rattle.dt_model.specs.Source.{base}
 use Rattle.dt_laws.specs.CompiledTrees.{OneTree, MeantIsNotRefused, FewAreNotRefused}
 use Rattle.dt_laws.specs.OverlayTrees.{OneObject, OverlayRefusalIsOne, OverlayIsNotRefused, ObjectIsNotRefused}
 use Rattle.dt_grammar.specs.Grammar.{Says}
-use Rattle.dt_parse.specs.Reading.{IsParsed}
+use Rattle.dt_grammar.specs.Parsed.{IsParsed}
 use Rattle.dt_parse.proofs.Parsing.{source_kind}
 use Rattle.dt_chain.specs.Blobs.{WhyNoBlob, no_memory, unparsed, as_base, as_overlay}
 use Rattle.dt_chain.specs.Compiled.{IsCompilerFault}

@@ -6,7 +6,7 @@ use Rattle.dt_model.specs.Format.{Reads, IsWithin}
 use Rattle.dt_model.specs.Limits.{most_bytes}
 use Rattle.dt_model.specs.Tree.{Reading}
 use Rattle.dt_model.specs.Valid.{IsValid, IsWithinLimits}
-use Rattle.dt_laws.specs.Blobs.{BlobHasNoFault}
+use Rattle.dt_format.specs.Laws.{BlobHasNoFault}
 use Rattle.dt_landing.specs.Refusals.{WhyNotApplied}
 use Rattle.dt_grammar.specs.Grammar.{Says}
 use Rattle.dt_write.specs.Written.{written}

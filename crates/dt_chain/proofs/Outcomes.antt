@@ -13,7 +13,7 @@ use Rattle.dt_model.specs.Instance.{IsTreeOf, IsInstanceOf, with_symbols, added}
 use Rattle.dt_model.specs.Refused.{too_many, IsRefusedFor}
 use Rattle.dt_laws.specs.CompiledTrees.{OneTree, TreeIsValid, BaseTreeRepresents, MeantIsNotRefused, FewAreNotRefused}
 use Rattle.dt_grammar.specs.Grammar.{Says}
-use Rattle.dt_parse.specs.Reading.{IsParsed, WhyNotParsed}
+use Rattle.dt_grammar.specs.Parsed.{IsParsed, WhyNotParsed}
 use Rattle.dt_source.specs.Refusals.{WhyNotNamed, fault_of, place_of}
 use Rattle.dt_source.proofs.Outcomes.{Sorted, sorted}
 use Rattle.dt_write.specs.Written.{written}

@@ -13,7 +13,7 @@ use Rattle.dt_model.specs.Fixups.{IsObjectOf}
 use Rattle.dt_laws.specs.OverlayTrees.{OneOverlay, OneObject, OverlayRefusalIsOne, OverlayIsNotRefused, ObjectIsNotRefused, ObjectIsValid}
 use Rattle.dt_laws.specs.ShortValues.{ReadValuesAreShort, ShortObjectEncodes}
 use Rattle.dt_grammar.specs.Grammar.{Says}
-use Rattle.dt_parse.specs.Reading.{IsParsed}
+use Rattle.dt_grammar.specs.Parsed.{IsParsed}
 use Rattle.dt_source.specs.Refusals.{WhyNoOverlay, overlay_fault_of}
 use Rattle.dt_source.proofs.OverlayOutcomes.{Sorted, sorted, overlay_refused_once}
 use Rattle.dt_write.specs.Written.{written}

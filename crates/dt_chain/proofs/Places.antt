@@ -5,8 +5,8 @@ use Rattle.dt_names.specs.declared.fault.FaultKind.TheVariants.{NoMemory}
 use Rattle.dt_model.specs.Source.{Mode, base}
 use Rattle.dt_lex.specs.Lexing as lexing
 use Rattle.dt_lex.specs.Lexing.{WhyNotLexed}
-use Rattle.dt_parse.specs.Reading as reading
-use Rattle.dt_parse.specs.Reading.{WhyNotParsed}
+use Rattle.dt_grammar.specs.Parsed as grammar
+use Rattle.dt_grammar.specs.Parsed.{WhyNotParsed}
 use Rattle.dt_parse.proofs.Parsing.{never_memory}
 use Rattle.dt_source.specs.Refusals.{place_of}
 use Rattle.dt_chain.specs.Compiled as compiled
@@ -23,9 +23,9 @@ unlexed text e (lexing.bad_token place l x) h = cc
 unlexed text e (lexing.bad_integer place l x) h = cc
 
 unparsed : (text : List ℕ) (e : Fault) → WhyNotParsed text e → e.kind ≡ NoMemory → e.at ≡ None
-unparsed text e (reading.unlexed f why) h = unlexed text f why h
-unparsed text e (reading.untagged tokens l x n) h = cc
-unparsed text e (reading.broken tokens before left kind l x t s b) h = absurd (never_memory b h)
+unparsed text e (grammar.unlexed f why) h = unlexed text f why h
+unparsed text e (grammar.untagged tokens l x n) h = cc
+unparsed text e (grammar.broken tokens before left kind l x t s b) h = absurd (never_memory b h)
 
 tree_unplaced : (mode : Mode) (text : List ℕ) (e : Fault) → WhyNoTree mode text e → e.kind ≡ NoMemory → e.at ≡ None
 tree_unplaced mode text _ compiled.no_memory h = refl

@@ -6,13 +6,13 @@ use Rattle.dt_model.specs.Limits.{most_bytes}
 use Rattle.dt_model.specs.Source.{raw}
 use Rattle.dt_model.specs.Tree.{Reading}
 use Rattle.dt_model.specs.Valid.{IsValid, IsWithinLimits}
-use Rattle.dt_laws.specs.Blobs.{FirstFaultIsOne, BlobHasNoFault}
+use Rattle.dt_format.specs.Laws.{FirstFaultIsOne, BlobHasNoFault}
 use Rattle.dt_laws.specs.CompiledTrees.{OneTree, MeantIsNotRefused, FewAreNotRefused}
 use Rattle.dt_names.specs.declared.fault.Fault.{Fault}
 use Rattle.dt_names.specs.declared.fault.FaultKind.TheVariants.{NoMemory, Limit}
-use Rattle.dt_parse.specs.Reading.{IsParsed}
+use Rattle.dt_grammar.specs.Parsed.{IsParsed}
 use Rattle.dt_printed.specs.Laws.{TextIsParsed, TextIsTree, ReadTreesHoldBytes}
-use Rattle.dt_printed.specs.Printed.{printed}
+use Rattle.dt_model.specs.Printed.{printed}
 use Rattle.dt_printed.specs.Said.{said, HasBytes}
 use Rattle.dt_write.specs.Written.{written}
 use Rattle.dt_chain.specs.Applied.{IsRead}

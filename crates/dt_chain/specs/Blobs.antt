@@ -4,7 +4,7 @@ use Rattle.dt_model.specs.Source.{base}
 use Rattle.dt_names.specs.declared.fault.Fault.{Fault}
 use Rattle.dt_names.specs.declared.fault.FaultKind.TheVariants.{NoMemory}
 use Rattle.dt_grammar.specs.Grammar.{Says}
-use Rattle.dt_parse.specs.Reading.{IsParsed, WhyNotParsed}
+use Rattle.dt_grammar.specs.Parsed.{IsParsed, WhyNotParsed}
 use Rattle.dt_chain.specs.Compiled.{IsCompiled, WhyNotCompiled}
 use Rattle.dt_names.specs.Fault.{placeless}
 use Rattle.dt_chain.specs.CompiledOverlay.{IsCompiledOverlay, WhyNotCompiledOverlay}

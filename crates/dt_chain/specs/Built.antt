@@ -5,7 +5,7 @@ use Rattle.dt_model.specs.Source.{base}
 use Rattle.dt_model.specs.Tree.{Reading}
 use Rattle.dt_model.specs.Valid.{IsValid, IsWithinLimits}
 use Rattle.dt_names.specs.declared.fault.Fault.{Fault}
-use Rattle.dt_parse.specs.Reading.{WhyNotParsed}
+use Rattle.dt_grammar.specs.Parsed.{WhyNotParsed}
 use Rattle.dt_write.specs.Written.{written}
 use Rattle.dt_chain.specs.Compiled.{WhyNoTree}
 use Rattle.dt_chain.specs.CompiledOverlay.{WhyNotCompiledOverlay}

@@ -9,7 +9,8 @@ use Rattle.dt_names.specs.declared.fault.Fault.{Fault}
 use Rattle.dt_names.specs.declared.fault.FaultKind.{FaultKind}
 use Rattle.dt_names.specs.declared.fault.FaultKind.TheVariants as fault
 use Rattle.dt_grammar.specs.Grammar.{Says}
-use Rattle.dt_parse.specs.Reading.{IsParsed, WhyNotParsed, IsSourceFault}
+use Rattle.dt_parse.specs.Reading.{IsSourceFault}
+use Rattle.dt_grammar.specs.Parsed.{IsParsed, WhyNotParsed}
 use Rattle.dt_source.specs.Refusals.{WhyNotNamed, place_of}
 use Rattle.dt_write.specs.Written.{written}
 use Rattle.dt_chain.specs.Means.{TextHasTree}

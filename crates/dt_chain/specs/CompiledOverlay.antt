@@ -7,7 +7,7 @@ use Rattle.dt_names.specs.declared.fault.Fault.{Fault}
 use Rattle.dt_names.specs.declared.fault.FaultKind.{FaultKind}
 use Rattle.dt_names.specs.declared.fault.FaultKind.TheVariants.{NoMemory, Limit}
 use Rattle.dt_grammar.specs.Grammar.{Says}
-use Rattle.dt_parse.specs.Reading.{IsParsed}
+use Rattle.dt_grammar.specs.Parsed.{IsParsed}
 use Rattle.dt_source.specs.Refusals.{WhyNoOverlay, place_of}
 use Rattle.dt_write.specs.Written.{written}
 use Rattle.dt_chain.specs.Means.{OverlayTextHasTree}

@@ -8,7 +8,7 @@ use Rattle.dt_model.specs.OverlaySource.{OverlayMeans}
 use Rattle.dt_model.specs.Source.{Mode, SourceMeans}
 use Rattle.dt_model.specs.Tree.{Reading}
 use Rattle.dt_grammar.specs.Grammar.{Says}
-use Rattle.dt_parse.specs.Reading.{IsParsed}
+use Rattle.dt_grammar.specs.Parsed.{IsParsed}
 
 -- the text is a source that is no overlay's, and its places mean this
 pub record TextMeans (mode : Mode) (text : List ℕ) (m : Meaning) : Type 0 where

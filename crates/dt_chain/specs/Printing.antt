@@ -7,7 +7,7 @@ use Rattle.dt_model.specs.Source.{raw}
 use Rattle.dt_model.specs.Tree.{Reading}
 use Rattle.dt_names.specs.declared.fault.Fault.{Fault}
 use Rattle.dt_names.specs.declared.fault.FaultKind.TheVariants.{NoMemory, Limit}
-use Rattle.dt_printed.specs.Printed.{printed}
+use Rattle.dt_model.specs.Printed.{printed}
 use Rattle.dt_write.specs.Written.{written}
 use Rattle.dt_chain.specs.Applied.{IsRead, IsNoBlob}
 use Rattle.dt_chain.specs.Compiled.{IsCompiled, WhyNotCompiled}

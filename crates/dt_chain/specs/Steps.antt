@@ -14,7 +14,7 @@ use Rattle.dt_model.specs.Valid.{IsReservation, IsWithinLimits}
 use Rattle.dt_names.specs.declared.fault.FaultKind.{FaultKind}
 use Rattle.dt_names.specs.declared.fault.FaultKind.TheVariants.{NoMemory, Limit}
 use Rattle.dt_grammar.specs.Grammar.{Says}
-use Rattle.dt_parse.specs.Reading.{IsParsed}
+use Rattle.dt_grammar.specs.Parsed.{IsParsed}
 use Rattle.dt_source.specs.Building.{HasTree}
 
 -- what holds of each text that says this

@@ -12,7 +12,7 @@ ghost use Rattle.dt_chain.specs.Built.{HasBaseTree, HasObject, WhyNoObject, IsBl
 use crate::applying::apply_one;
 use crate::compiling::{base_tree, overlay_blob};
 use dt_flat::FlatTree;
-use dt_laws::blob_has_no_fault;
+use dt_format::blob_has_no_fault;
 use dt_model::one_reading;
 use dt_names::Fault;
 use dt_parse::parse;

@@ -1,7 +1,7 @@
 -- Cells and bytes, the first of them apart.
 use Rattle.std.proofs.Common.{◌≡◌, ℕ, ◌<◌, ◌≤◌, ◌%◌, List, [], ◌∷◌, ◌++◌, take, drop, length, refl, sym, ap, ◌∙◌, append_assoc, append-nil, arith}
 use Rattle.std.specs.Prelude.{codes}
-use Rattle.dt_printed.specs.Printed.{hexadecimal, significant, cells_text, bytes_text}
+use Rattle.dt_model.specs.Printed.{hexadecimal, significant, cells_text, bytes_text}
 use Rattle.dt_decompile.specs.Pieces.{cells_behind, bytes_behind}
 
 pub no_cells : (l : List ℕ) → length l < 4 → cells_behind l ≡ []

@@ -3,7 +3,7 @@ use Rattle.std.proofs.Common.{◌≡◌, ℕ, ◌/◌, ◌%◌, ◌≤◌, Bool,
 use Rattle.std.specs.Prelude.{Result, Ok, Err, IsOk, OnOk, slice_index}
 use Rattle.std.specs.Bool.{OnFalse}
 use Rattle.hex.specs.Hex.{encode_with, encode_lower, lower_digits}
-use Rattle.dt_printed.specs.Printed.{hexadecimal, significant}
+use Rattle.dt_model.specs.Printed.{hexadecimal, significant}
 
 -- the digits of the crate `hex` are those of the text
 pub encoded : (bytes : List ℕ) → encode_lower bytes ≡ hexadecimal bytes

@@ -3,7 +3,7 @@ use Rattle.std.proofs.Common.{◌≡◌, ℕ, zero, suc, ◌+◌, ◌<◌, ◌�
 use Rattle.std.proofs.lemmas.List.{at_drop_more}
 use Rattle.std.specs.Prelude.{if◌then◌else◌, codes}
 use Rattle.memchr.specs.Find.{Passes, Nowhere, NoneBefore, is_byte3}
-use Rattle.dt_printed.specs.Printed.{quoted, texts_from}
+use Rattle.dt_model.specs.Printed.{quoted, texts_from}
 
 by_tests : (x y z : Bool) (l : List ℕ) → ¬ ((x || y || z) ≡ true) → (if y then codes "\\\"" else (if z then codes "\\\\" else l)) ≡ l
 by_tests x true z l no_one = absurd (no_one (any_first x))

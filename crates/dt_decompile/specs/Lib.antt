@@ -1,3 +1,3 @@
-pub mod Cut
+pub mod Passed
 pub mod Lines
 pub mod Pieces

@@ -1,7 +1,7 @@
 -- The lines of a walk through a tree.
 use Rattle.std.specs.Prelude.{ℕ, zero, suc, pred, List, [], ◌∷◌, ◌++◌, codes}
 use Rattle.dt_model.specs.Names.{Name}
-use Rattle.dt_printed.specs.Printed.{tabs, property_line}
+use Rattle.dt_model.specs.Printed.{tabs, property_line}
 use Rattle.dt_read.specs.Walked.{Step, opens, holds, closes}
 
 -- the name of a node inside so many others; the root's is a slash

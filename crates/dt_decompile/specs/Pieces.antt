@@ -1,6 +1,6 @@
 -- The pieces of a value's text.
 use Rattle.std.specs.Prelude.{ℕ, List, [], ◌∷◌, ◌++◌, codes}
-use Rattle.dt_printed.specs.Printed.{hexadecimal, significant}
+use Rattle.dt_model.specs.Printed.{hexadecimal, significant}
 
 -- cells behind a cell, each with a blank before it
 abbrev pub cells_behind : List ℕ → List ℕ

@@ -2,7 +2,8 @@
 
 ghost use Rattle.std.specs.Prelude.{◌≡◌, ◌++◌, [], IfErr, OnOk};
 ghost use Rattle.std.specs.Bool.{OnTrue, OnFalse};
-ghost use Rattle.dt_decompile.specs.Cut.{IsPassed, IsRefused};
+ghost use Rattle.dt_names.specs.Sink.{IsRefused};
+ghost use Rattle.dt_decompile.specs.Passed.{IsPassed};
 
 use arrayvec::ArrayVec;
 use dt_names::{Fault, Sink, put_all};
@@ -45,9 +46,9 @@ impl Buffer {
 
     /// Puts some bytes behind those that wait.
     pub fn put<S: Sink>(&mut self, out: &mut S, bytes: &[u8]) -> Result<(), Fault>
-        ensures passed { OnOk result (IsPassed (S.contents out.old) (S.contents out.new) (S.has_failed out.old) (S.has_failed out.new)
+        ensures passed { OnOk result (IsPassed (S.taken out.old) (S.taken out.new)
             self.old bytes.now self.new) }
-        ensures refused { IfErr result (λ fault. IsRefused fault (self.old ++ bytes.now) (S.contents out.old) (S.contents out.new) (S.has_failed out.new)) }
+        ensures refused { IfErr result (λ fault. IsRefused fault (self.old ++ bytes.now) (S.taken out.old) (S.taken out.new)) }
     {
         if self.hold(bytes) {
             return Ok(());
@@ -61,10 +62,10 @@ impl Buffer {
 
     /// Hands the sink all that waits.
     pub fn flush<S: Sink>(&mut self, out: &mut S) -> Result<(), Fault>
-        ensures passed { OnOk result (IsPassed (S.contents out.old) (S.contents out.new) (S.has_failed out.old) (S.has_failed out.new)
+        ensures passed { OnOk result (IsPassed (S.taken out.old) (S.taken out.new)
             self.old [] self.new) }
         ensures empty { OnOk result (self.new ≡ []) }
-        ensures refused { IfErr result (λ fault. IsRefused fault self.old (S.contents out.old) (S.contents out.new) (S.has_failed out.new)) }
+        ensures refused { IfErr result (λ fault. IsRefused fault self.old (S.taken out.old) (S.taken out.new)) }
     {
         put_all(out, self.waiting.as_slice())?;
         self.waiting.clear();

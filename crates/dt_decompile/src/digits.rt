@@ -2,7 +2,7 @@
 
 ghost use Rattle.std.specs.Prelude.{◌≡◌, ◌<◌, ◌*◌, drop, length};
 ghost use Rattle.std.specs.Bool.{OnTrue, OnFalse};
-ghost use Rattle.dt_printed.specs.Printed.{hexadecimal, significant};
+ghost use Rattle.dt_model.specs.Printed.{hexadecimal, significant};
 
 /// Writes each byte as two digits.
 pub fn write_digits(bytes: &[u8], digits: &mut [u8])

@@ -2,8 +2,9 @@
 
 ghost use Rattle.std.specs.Prelude.{◌≡◌, ◌++◌, codes, OnOk, IfErr};
 ghost use Rattle.dt_model.specs.Tree.{Property};
-ghost use Rattle.dt_printed.specs.Printed.{tabs, property_line};
-ghost use Rattle.dt_decompile.specs.Cut.{IsPassed, IsRefused};
+ghost use Rattle.dt_model.specs.Printed.{tabs, property_line};
+ghost use Rattle.dt_names.specs.Sink.{IsRefused};
+ghost use Rattle.dt_decompile.specs.Passed.{IsPassed};
 ghost use Rattle.dt_decompile.specs.Lines.{shown_name, open_line, close_line};
 
 use crate::buffer::Buffer;
@@ -14,10 +15,10 @@ const TABS: &[u8; 8] = b"\t\t\t\t\t\t\t\t";
 
 // Writes so many tabs.
 fn put_tabs<S: Sink>(buffer: &mut Buffer, out: &mut S, count: usize) -> Result<(), Fault>
-    ensures passed { OnOk result (IsPassed (S.contents out.old) (S.contents out.new) (S.has_failed out.old) (S.has_failed out.new)
+    ensures passed { OnOk result (IsPassed (S.taken out.old) (S.taken out.new)
         buffer.old (tabs count) buffer.new) }
     ensures refused { IfErr result (λ fault. IsRefused fault (buffer.old ++ tabs count)
-        (S.contents out.old) (S.contents out.new) (S.has_failed out.new)) }
+        (S.taken out.old) (S.taken out.new)) }
 {
     // Eight at a time.
     let mut left = count;
@@ -42,10 +43,10 @@ pub fn put_open<S: Sink>(
     depth: usize,
     name: &[u8],
 ) -> Result<(), Fault>
-    ensures passed { OnOk result (IsPassed (S.contents out.old) (S.contents out.new) (S.has_failed out.old) (S.has_failed out.new)
+    ensures passed { OnOk result (IsPassed (S.taken out.old) (S.taken out.new)
         buffer.old (open_line depth name.now) buffer.new) }
     ensures refused { IfErr result (λ fault. IsRefused fault (buffer.old ++ open_line depth name.now)
-        (S.contents out.old) (S.contents out.new) (S.has_failed out.new)) }
+        (S.taken out.old) (S.taken out.new)) }
 {
     put_tabs(buffer, out, depth)?;
     buffer.put(out, shown(depth, name))?;
@@ -60,10 +61,10 @@ pub fn put_property<S: Sink>(
     name: &[u8],
     value: &[u8],
 ) -> Result<(), Fault>
-    ensures passed { OnOk result (IsPassed (S.contents out.old) (S.contents out.new) (S.has_failed out.old) (S.has_failed out.new)
+    ensures passed { OnOk result (IsPassed (S.taken out.old) (S.taken out.new)
         buffer.old (property_line depth (record { name = name.now; value = value.now })) buffer.new) }
     ensures refused { IfErr result (λ fault. IsRefused fault (buffer.old ++ property_line depth (record { name = name.now; value = value.now }))
-        (S.contents out.old) (S.contents out.new) (S.has_failed out.new)) }
+        (S.taken out.old) (S.taken out.new)) }
 {
     put_tabs(buffer, out, depth)?;
     buffer.put(out, name)?;
@@ -73,10 +74,10 @@ pub fn put_property<S: Sink>(
 
 /// Writes the line at which a node ends, inside so many others.
 pub fn put_close<S: Sink>(buffer: &mut Buffer, out: &mut S, depth: usize) -> Result<(), Fault>
-    ensures passed { OnOk result (IsPassed (S.contents out.old) (S.contents out.new) (S.has_failed out.old) (S.has_failed out.new)
+    ensures passed { OnOk result (IsPassed (S.taken out.old) (S.taken out.new)
         buffer.old (close_line depth) buffer.new) }
     ensures refused { IfErr result (λ fault. IsRefused fault (buffer.old ++ close_line depth)
-        (S.contents out.old) (S.contents out.new) (S.has_failed out.new)) }
+        (S.taken out.old) (S.taken out.new)) }
 {
     put_tabs(buffer, out, depth)?;
     buffer.put(out, b"};\n")

@@ -2,8 +2,9 @@
 
 ghost use Rattle.std.specs.Prelude.{◌++◌, codes, OnOk, IfErr};
 ghost use Rattle.std.specs.Int.{w64, to_be_bytes};
-ghost use Rattle.dt_printed.specs.Printed.{hexadecimal, reservation_line, reservation_lines};
-ghost use Rattle.dt_decompile.specs.Cut.{IsPassed, IsRefused};
+ghost use Rattle.dt_model.specs.Printed.{hexadecimal, reservation_line, reservation_lines};
+ghost use Rattle.dt_names.specs.Sink.{IsRefused};
+ghost use Rattle.dt_decompile.specs.Passed.{IsPassed};
 
 use crate::buffer::Buffer;
 use crate::digits::write_digits;
@@ -17,10 +18,10 @@ fn put_number<S: Sink>(
     lead: &[u8],
     number: u64,
 ) -> Result<(), Fault>
-    ensures passed { OnOk result (IsPassed (S.contents out.old) (S.contents out.new) (S.has_failed out.old) (S.has_failed out.new)
+    ensures passed { OnOk result (IsPassed (S.taken out.old) (S.taken out.new)
         buffer.old (lead.now ++ hexadecimal (to_be_bytes w64 number)) buffer.new) }
     ensures refused { IfErr result (λ fault. IsRefused fault (buffer.old ++ (lead.now ++ hexadecimal (to_be_bytes w64 number)))
-        (S.contents out.old) (S.contents out.new) (S.has_failed out.new)) }
+        (S.taken out.old) (S.taken out.new)) }
 {
     let mut digits = [0u8; 16];
     write_digits(&number.to_be_bytes(), &mut digits);
@@ -35,10 +36,10 @@ fn put_reservation<S: Sink>(
     address: u64,
     size: u64,
 ) -> Result<(), Fault>
-    ensures passed { OnOk result (IsPassed (S.contents out.old) (S.contents out.new) (S.has_failed out.old) (S.has_failed out.new)
+    ensures passed { OnOk result (IsPassed (S.taken out.old) (S.taken out.new)
         buffer.old (reservation_line (address, size)) buffer.new) }
     ensures refused { IfErr result (λ fault. IsRefused fault (buffer.old ++ reservation_line (address, size))
-        (S.contents out.old) (S.contents out.new) (S.has_failed out.new)) }
+        (S.taken out.old) (S.taken out.new)) }
 {
     put_number(buffer, out, b"/memreserve/ 0x", address)?;
     put_number(buffer, out, b" 0x", size)?;
@@ -51,10 +52,10 @@ pub fn put_reservations<S: Sink>(
     out: &mut S,
     reservations: Reservations,
 ) -> Result<(), Fault>
-    ensures passed { OnOk result (IsPassed (S.contents out.old) (S.contents out.new) (S.has_failed out.old) (S.has_failed out.new)
+    ensures passed { OnOk result (IsPassed (S.taken out.old) (S.taken out.new)
         buffer.old (reservation_lines reservations.entry) buffer.new) }
     ensures refused { IfErr result (λ fault. IsRefused fault (buffer.old ++ reservation_lines reservations.entry)
-        (S.contents out.old) (S.contents out.new) (S.has_failed out.new)) }
+        (S.taken out.old) (S.taken out.new)) }
 {
     for (address, size) in reservations {
         put_reservation(buffer, out, address, size)?;

@@ -2,7 +2,8 @@
 
 ghost use Rattle.std.specs.Prelude.{◌≡◌, ◌<◌, ◌^◌, ◌+◌, ◌++◌, OnOk, IfErr};
 ghost use Rattle.dt_read.specs.StepsLeft.{step_view};
-ghost use Rattle.dt_decompile.specs.Cut.{IsPassed, IsRefused};
+ghost use Rattle.dt_names.specs.Sink.{IsRefused};
+ghost use Rattle.dt_decompile.specs.Passed.{IsPassed};
 ghost use Rattle.dt_decompile.specs.Lines.{line_of, lines_of, depth_after, opened};
 
 use crate::buffer::Buffer;
@@ -17,10 +18,10 @@ fn put_step<S: Sink>(
     depth: usize,
     step: Step,
 ) -> Result<(), Fault>
-    ensures passed { OnOk result (IsPassed (S.contents out.old) (S.contents out.new) (S.has_failed out.old) (S.has_failed out.new)
+    ensures passed { OnOk result (IsPassed (S.taken out.old) (S.taken out.new)
         buffer.old (line_of depth (step_view step.entry)) buffer.new) }
     ensures refused { IfErr result (λ fault. IsRefused fault (buffer.old ++ line_of depth (step_view step.entry))
-        (S.contents out.old) (S.contents out.new) (S.has_failed out.new)) }
+        (S.taken out.old) (S.taken out.new)) }
 {
     match step {
         Step::Open { name, .. } => put_open(buffer, out, depth, name),
@@ -44,10 +45,10 @@ fn depth_behind(depth: usize, step: Step) -> usize
 /// Writes the lines of a walk that begins at the root.
 pub fn put_steps<S: Sink>(buffer: &mut Buffer, out: &mut S, steps: Steps) -> Result<(), Fault>
     requires { opened steps < 2 ^ 32 }
-    ensures passed { OnOk result (IsPassed (S.contents out.old) (S.contents out.new) (S.has_failed out.old) (S.has_failed out.new)
+    ensures passed { OnOk result (IsPassed (S.taken out.old) (S.taken out.new)
         buffer.old (lines_of 0 steps.entry) buffer.new) }
     ensures refused { IfErr result (λ fault. IsRefused fault (buffer.old ++ lines_of 0 steps.entry)
-        (S.contents out.old) (S.contents out.new) (S.has_failed out.new)) }
+        (S.taken out.old) (S.taken out.new)) }
 {
     let mut depth = 0usize;
     for step in steps {

@@ -1,11 +1,10 @@
 //! The text of a blob.
 
-ghost use Rattle.std.specs.Prelude.{◌≡◌, ◌++◌, None, OnOk, IfErr};
-ghost use Rattle.std.specs.Io.KnownBytes.{Appends};
-ghost use Rattle.dt_names.specs.declared.fault.FaultKind.TheVariants.{WriteFault};
+ghost use Rattle.std.specs.Prelude.{◌++◌, OnOk, IfErr};
+ghost use Rattle.dt_model.specs.Printed.{printed};
+ghost use Rattle.dt_names.specs.Sink.{Takes, IsRefused};
 ghost use Rattle.dt_read.specs.Placed.{reading_of};
-ghost use Rattle.dt_printed.specs.Printed.{printed};
-ghost use Rattle.dt_decompile.specs.Cut.{IsCutShort, IsPassed, IsRefused};
+ghost use Rattle.dt_decompile.specs.Passed.{IsPassed};
 
 use crate::buffer::Buffer;
 use crate::reservations::put_reservations;
@@ -15,10 +14,10 @@ use dt_read::Blob;
 
 // Writes a tree.
 fn put_text<S: Sink>(buffer: &mut Buffer, out: &mut S, blob: &Blob) -> Result<(), Fault>
-    ensures passed { OnOk result (IsPassed (S.contents out.old) (S.contents out.new) (S.has_failed out.old) (S.has_failed out.new)
+    ensures passed { OnOk result (IsPassed (S.taken out.old) (S.taken out.new)
         buffer.old (printed (reading_of blob.now)) buffer.new) }
     ensures refused { IfErr result (λ fault. IsRefused fault (buffer.old ++ printed (reading_of blob.now))
-        (S.contents out.old) (S.contents out.new) (S.has_failed out.new)) }
+        (S.taken out.old) (S.taken out.new)) }
 {
     // A blob has few enough nodes that their depth fits.
     blob.validity();
@@ -35,10 +34,8 @@ fn put_text<S: Sink>(buffer: &mut Buffer, out: &mut S, blob: &Blob) -> Result<()
 ///
 /// `WriteFault` where the sink fails: it took a front of the text.
 pub fn text_of<S: Sink>(blob: &Blob, out: &mut S) -> Result<(), Fault>
-    ensures written { OnOk result (Appends (S.contents out.old) (S.contents out.new) (printed (reading_of blob.now))) }
-    ensures sound { OnOk result (S.has_failed out.new ≡ S.has_failed out.old) }
-    ensures refused { IfErr result (λ fault. (fault.kind ≡ WriteFault) × (fault.at ≡ None)
-        × IsCutShort (printed (reading_of blob.now)) (S.contents out.old) (S.contents out.new) (S.has_failed out.new)) }
+    ensures written { OnOk result (Takes (printed (reading_of blob.now)) (S.taken out.old) (S.taken out.new)) }
+    ensures refused { IfErr result (λ fault. IsRefused fault (printed (reading_of blob.now)) (S.taken out.old) (S.taken out.new)) }
 {
     let mut buffer = Buffer::new();
     put_text(&mut buffer, out, blob)?;

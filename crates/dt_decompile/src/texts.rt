@@ -2,8 +2,9 @@
 
 ghost use Rattle.std.specs.Prelude.{◌≡◌, ◌<◌, ◌∷◌, ◌++◌, length, codes, true, MatchOption, OnOk, IfErr};
 ghost use Rattle.memchr.specs.Find.{is_byte3};
-ghost use Rattle.dt_printed.specs.Printed.{are_texts as are_texts_of, texts_from};
-ghost use Rattle.dt_decompile.specs.Cut.{IsPassed, IsRefused};
+ghost use Rattle.dt_model.specs.Printed.{are_texts as are_texts_of, texts_from};
+ghost use Rattle.dt_names.specs.Sink.{IsRefused};
+ghost use Rattle.dt_decompile.specs.Passed.{IsPassed};
 
 use crate::buffer::Buffer;
 use dt_names::{Fault, Sink};
@@ -53,10 +54,10 @@ fn next_mark(texts: &[u8]) -> Option<(&[u8], &'static [u8], &[u8])>
 
 // Writes texts from the inside of the first on.
 fn put_texts_from<S: Sink>(buffer: &mut Buffer, out: &mut S, texts: &[u8]) -> Result<(), Fault>
-    ensures passed { OnOk result (IsPassed (S.contents out.old) (S.contents out.new) (S.has_failed out.old) (S.has_failed out.new)
+    ensures passed { OnOk result (IsPassed (S.taken out.old) (S.taken out.new)
         buffer.old (texts_from texts.now) buffer.new) }
     ensures refused { IfErr result (λ fault. IsRefused fault (buffer.old ++ texts_from texts.now)
-        (S.contents out.old) (S.contents out.new) (S.has_failed out.new)) }
+        (S.taken out.old) (S.taken out.new)) }
 {
     let mut rest = texts;
     while let Some((plain, mark, behind)) = next_mark(rest) {
@@ -69,10 +70,10 @@ fn put_texts_from<S: Sink>(buffer: &mut Buffer, out: &mut S, texts: &[u8]) -> Re
 
 /// Writes texts between quotes.
 pub fn put_texts<S: Sink>(buffer: &mut Buffer, out: &mut S, texts: &[u8]) -> Result<(), Fault>
-    ensures passed { OnOk result (IsPassed (S.contents out.old) (S.contents out.new) (S.has_failed out.old) (S.has_failed out.new)
+    ensures passed { OnOk result (IsPassed (S.taken out.old) (S.taken out.new)
         buffer.old (codes " = \"" ++ texts_from texts.now) buffer.new) }
     ensures refused { IfErr result (λ fault. IsRefused fault (buffer.old ++ (codes " = \"" ++ texts_from texts.now))
-        (S.contents out.old) (S.contents out.new) (S.has_failed out.new)) }
+        (S.taken out.old) (S.taken out.new)) }
 {
     buffer.put(out, b" = \"")?;
     put_texts_from(buffer, out, texts)

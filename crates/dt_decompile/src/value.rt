@@ -1,8 +1,9 @@
 //! The text of a property's value.
 
 ghost use Rattle.std.specs.Prelude.{◌++◌, OnOk, IfErr};
-ghost use Rattle.dt_printed.specs.Printed.{value_text};
-ghost use Rattle.dt_decompile.specs.Cut.{IsPassed, IsRefused};
+ghost use Rattle.dt_model.specs.Printed.{value_text};
+ghost use Rattle.dt_names.specs.Sink.{IsRefused};
+ghost use Rattle.dt_decompile.specs.Passed.{IsPassed};
 
 use crate::buffer::Buffer;
 use crate::cells::{put_bytes, put_cells};
@@ -11,10 +12,10 @@ use dt_names::{Fault, Sink};
 
 /// Writes what stands behind a property's name: nothing for no bytes, else texts, cells or bytes, the first of these that fits.
 pub fn put_value<S: Sink>(buffer: &mut Buffer, out: &mut S, value: &[u8]) -> Result<(), Fault>
-    ensures passed { OnOk result (IsPassed (S.contents out.old) (S.contents out.new) (S.has_failed out.old) (S.has_failed out.new)
+    ensures passed { OnOk result (IsPassed (S.taken out.old) (S.taken out.new)
         buffer.old (value_text value.now) buffer.new) }
     ensures refused { IfErr result (λ fault. IsRefused fault (buffer.old ++ value_text value.now)
-        (S.contents out.old) (S.contents out.new) (S.has_failed out.new)) }
+        (S.taken out.old) (S.taken out.new)) }
 {
     if value.is_empty() {
         return Ok(());

@@ -16,3 +16,4 @@ pub mod ToRoot
 pub mod Descent
 pub mod Changing
 pub mod Counting
+pub mod PlainProperties

@@ -12,3 +12,4 @@ pub mod FaultSamples
 pub mod Strict
 pub mod Exactly
 pub mod Paths
+pub mod Parsed

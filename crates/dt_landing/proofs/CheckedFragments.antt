@@ -13,7 +13,7 @@ use Rattle.dt_model.specs.Valid.{AreDistinct, IsValid}
 use Rattle.dt_model.specs.Applied.{Write}
 use Rattle.dt_names.specs.declared.fault.FaultKind.{FaultKind}
 use Rattle.dt_names.specs.declared.fault.FaultKind.TheVariants.{NoTarget, ReservedPlace}
-use Rattle.dt_laws.proofs.Distinct.{apart}
+use Rattle.dt_model.proofs.Distinct.{apart}
 use Rattle.dt_landing.specs.Checking.{nothing_landed, then_check, check_content, check_site, check_fragments}
 use Rattle.dt_landing.proofs.KnownMoves.{content_moves, IsLanded, IsOther}
 use Rattle.dt_landing.proofs.KnownChecks.{Known, AreGood, IsStuck}

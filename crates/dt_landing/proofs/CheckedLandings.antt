@@ -15,9 +15,9 @@ use Rattle.dt_model.specs.Valid.{AreDistinct, IsValid, IsWithinLimits}
 use Rattle.dt_model.specs.Applied.{Write, writes, symbol, find_sites, is_plain, is_bare, are_single, is_allowed, if_allowed, applied}
 use Rattle.dt_names.specs.declared.fault.FaultKind.{FaultKind}
 use Rattle.dt_names.specs.declared.fault.FaultKind.TheVariants.{Limit, NoTarget, SecondPhandle, ReservedPlace}
-use Rattle.dt_laws.proofs.Tests.{and_left, and_right, and_both, all_at, all_from, in_map, in_right, in_left}
-use Rattle.dt_laws.proofs.Distinct.{apart}
-use Rattle.dt_laws.proofs.Listed.{stands_listed, listed_stands}
+use Rattle.dt_model.proofs.Tests.{and_left, and_right, and_both, all_at, all_from, in_map, in_right, in_left}
+use Rattle.dt_model.proofs.Distinct.{apart}
+use Rattle.dt_model.proofs.Listed.{stands_listed, listed_stands}
 use Rattle.dt_laws.proofs.Allowed.{single_from, single_to}
 use Rattle.dt_laws.proofs.Placed.{landing_from}
 use Rattle.dt_landing.specs.Laws.{AreAllowed, AreShallow, PassedIsAllowed}

@@ -12,11 +12,11 @@ use Rattle.dt_model.specs.Object.{fragment_names}
 use Rattle.dt_model.specs.Numbers.{AreNumbers, AreNewNumbers, numbers_of, is_brought, needs_number, new_paths}
 use Rattle.dt_model.specs.Tree.{Forest, no_nodes, branch, Reading, value_of, sibling, node_below, stands_in, value_in, Placed, nodes_of}
 use Rattle.dt_model.specs.Valid.{IsValid, IsNoDeeper, IsWithinLimits}
-use Rattle.dt_laws.proofs.Tests.{and_right, and_both, any_here, in_map, in_map_from, in_filter, filter_in}
-use Rattle.dt_laws.proofs.Distinct.{distinct_filter}
+use Rattle.dt_model.proofs.Tests.{and_right, and_both, any_here, in_map, in_map_from, in_filter, filter_in}
+use Rattle.dt_model.proofs.Distinct.{distinct_filter}
 use Rattle.dt_laws.proofs.Lands.{below-append}
-use Rattle.dt_laws.proofs.Listed.{stands_listed, listed_stands, listed_value}
-use Rattle.dt_laws.proofs.Preorder.{paths_distinct}
+use Rattle.dt_model.proofs.Listed.{stands_listed, listed_stands, listed_value}
+use Rattle.dt_model.proofs.Preorder.{paths_distinct}
 use Rattle.dt_laws.proofs.Fresh.{number_some, AreOwn, own_numbers, number_listed}
 
 -- ---- numbers

@@ -12,8 +12,8 @@ use Rattle.dt_model.specs.Tree.{Reading, stands_in, value_in, Placed, nodes_of}
 use Rattle.dt_model.specs.Valid.{IsValid}
 use Rattle.dt_model.specs.Meaning.{cell}
 use Rattle.dt_model.specs.Applied.{Write, number_at, written, node_numbered, node_named, landed_with, landed_named, target_node, site_at, find_site, find_sites}
-use Rattle.dt_laws.proofs.Listed.{listed_stands, value_stands}
-use Rattle.dt_laws.proofs.Finding.{number_of_node, landed_named_from}
+use Rattle.dt_model.proofs.Listed.{listed_stands, value_stands}
+use Rattle.dt_model.proofs.Finding.{number_of_node, landed_named_from}
 use Rattle.dt_landing.proofs.KnownMoves.{IsLanded}
 use Rattle.dt_landing.proofs.KnownChecks.{Known}
 use Rattle.dt_landing.proofs.CheckedNumbers.{numbered_node}

@@ -14,7 +14,7 @@ use Rattle.dt_model.specs.Changes.{with_child_at}
 use Rattle.dt_model.specs.Applied.{Write, writes, find_sites, is_allowed, if_allowed, with_fragments, landed_symbols, with_symbols_merged, applied_at, applied}
 use Rattle.dt_names.specs.declared.fault.FaultKind.TheVariants.{Limit}
 use Rattle.dt_laws.specs.InTurn.{IsApplied}
-use Rattle.dt_laws.proofs.Tests.{any_here, each_in, or_left, or_right}
+use Rattle.dt_model.proofs.Tests.{any_here, each_in, or_left, or_right}
 use Rattle.dt_laws.proofs.CellTexts.{one_fixups}
 use Rattle.dt_laws.proofs.Landing.{AreThere, there_from, stands-with_fragments}
 use Rattle.dt_laws.proofs.Lands.{source_of}

@@ -14,11 +14,11 @@ use Rattle.dt_model.specs.Numbers.{numbers_of, is_brought, needs_number, new_pat
 use Rattle.dt_model.specs.Tree.{Forest, no_nodes, branch, Reading, Placed, value_of, nodes_of, stands_in, value_in}
 use Rattle.dt_model.specs.Valid.{AreDistinct, names, IsValid}
 use Rattle.dt_model.specs.Applied.{Write, is_cell, node_numbered, node_named, landed_with, landed_named, target_node, site_at, find_site, find_sites}
-use Rattle.dt_laws.proofs.Tests.{and_both, or_left, or_right, any_here, each_in, in_map, in_map_from, bytes_eq_other, in_filter, filter_in}
+use Rattle.dt_model.proofs.Tests.{and_both, or_left, or_right, any_here, each_in, in_map, in_map_from, bytes_eq_other, in_filter, filter_in}
 use Rattle.dt_laws.proofs.Lands.{moved-append, below-append, source_of}
-use Rattle.dt_laws.proofs.Listed.{listed_stands}
+use Rattle.dt_model.proofs.Listed.{listed_stands}
 use Rattle.dt_laws.proofs.Placed.{site_names}
-use Rattle.dt_laws.proofs.Finding.{landed_named_from}
+use Rattle.dt_model.proofs.Finding.{landed_named_from}
 use Rattle.dt_laws.proofs.Landing.{StandInTurn}
 use Rattle.dt_laws.proofs.FragmentOrder.{each_fragment, fragment_found}
 

@@ -7,7 +7,7 @@ use Rattle.dt_model.specs.Names.{Name}
 use Rattle.dt_model.specs.Path.{Path, below}
 use Rattle.dt_model.specs.Tree.{no_nodes, branch, Reading, Node, node_below, root_of, node_at, stands_in, value_in}
 use Rattle.dt_model.specs.Changes.{with_child_at, with_property_at}
-use Rattle.dt_laws.proofs.Tests.{bytes_eq_refl, bytes_eq_true, or_cases, or_left, or_right}
+use Rattle.dt_model.proofs.Tests.{bytes_eq_refl, bytes_eq_true, or_cases, or_left, or_right}
 use Rattle.dt_laws.proofs.Lands.{below-append, append-below}
 use Rattle.dt_laws.proofs.Merging.{IsApart, nothing, value_below, stands_below}
 use Rattle.dt_laws.proofs.Changing.{value-changed, stands-changed}

@@ -10,7 +10,7 @@ use Rattle.dt_model.specs.Tree.{Property, Forest, no_nodes, branch, Reading, Nod
 use Rattle.dt_model.specs.Changes.{with_child_at, with_property_at}
 use Rattle.dt_names.specs.declared.fault.FaultKind.{FaultKind}
 use Rattle.dt_names.specs.declared.fault.FaultKind.TheVariants.{Limit, SecondPhandle, ReservedPlace}
-use Rattle.dt_laws.proofs.Tests.{or_cases, in_left, in_right, in_append, or_false_left, or_false_right}
+use Rattle.dt_model.proofs.Tests.{or_cases, in_left, in_right, in_append, or_false_left, or_false_right}
 use Rattle.dt_landing.specs.Checking.{then_check, check_number, check_node, check_nodes, with_places, check_content}
 use Rattle.dt_landing.proofs.KnownChanges.{above_stands, child_keeps, child_stands, child_sound, child_value, property_stands, property_there, property_keeps, property_sound, places_keep, places_stand, places_sound, places_value}
 use Rattle.dt_landing.proofs.KnownMoves.{Move, has_number, moves, content_moves, content_moves-is}

@@ -11,11 +11,11 @@ use Rattle.dt_model.specs.Valid.{AreDistinct, IsValid}
 use Rattle.dt_model.specs.Overlay.{content}
 use Rattle.dt_model.specs.Merged.{Site, moved, landing}
 use Rattle.dt_model.specs.Object.{nodes_from}
-use Rattle.dt_laws.proofs.Tests.{in_map, in_map_from}
+use Rattle.dt_model.proofs.Tests.{in_map, in_map_from}
 use Rattle.dt_laws.proofs.Lands.{below-append, moved_is, moved-append, other_content}
-use Rattle.dt_laws.proofs.Listed.{listed_found, found_listed}
+use Rattle.dt_model.proofs.Listed.{listed_found, found_listed}
 use Rattle.dt_laws.proofs.Changing.{below_both}
-use Rattle.dt_laws.proofs.Preorder.{paths_apart}
+use Rattle.dt_model.proofs.Preorder.{paths_apart}
 use Rattle.dt_laws.proofs.KeptNames.{IsGoodNode, good_below}
 use Rattle.dt_laws.proofs.Brought.{none_below}
 

@@ -9,7 +9,7 @@ use Rattle.dt_model.specs.Overlay.{content}
 use Rattle.dt_model.specs.Merged.{Site}
 use Rattle.dt_model.specs.Applied.{Write, brought, with_fragments, with_symbols_merged}
 use Rattle.dt_landing.specs.Steps.{land_properties, land_nodes, land_node, land_fragments}
-use Rattle.dt_laws.proofs.Tests.{bytes_eq_refl}
+use Rattle.dt_model.proofs.Tests.{bytes_eq_refl}
 
 -- ---- changes of one node after another
 

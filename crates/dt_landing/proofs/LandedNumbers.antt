@@ -16,10 +16,10 @@ use Rattle.dt_model.specs.Tree.{Property, Forest, no_nodes, branch, Reading, val
 use Rattle.dt_model.specs.Valid.{IsValid, IsWithinLimits, IsPhandle}
 use Rattle.dt_model.specs.Changes.{set_property, with_child, with_child_at, with_property_at}
 use Rattle.dt_landing.specs.Steps.{land_properties, land_nodes, MaySetValue, MayLandProperties, MayLandNodes}
-use Rattle.dt_laws.proofs.Tests.{bytes_eq_true}
+use Rattle.dt_model.proofs.Tests.{bytes_eq_true}
 use Rattle.dt_laws.proofs.Lands.{append-below}
 use Rattle.dt_laws.proofs.Merging.{value_below}
-use Rattle.dt_laws.proofs.Preorder.{own_phandle}
+use Rattle.dt_model.proofs.Preorder.{own_phandle}
 use Rattle.dt_laws.proofs.Fresh.{number_low, number_is_free, own_number}
 use Rattle.dt_laws.proofs.Numbered.{small_number, taken_all, few_taken, few_new}
 use Rattle.dt_landing.proofs.PlainSymbols.{phandle_there}

@@ -16,9 +16,9 @@ use Rattle.dt_model.specs.Valid.{AreDistinct, IsValid, IsWithinLimits}
 use Rattle.dt_model.specs.Applied.{Write, writes, written, written_property, written_forest, written_node, brought}
 use Rattle.dt_landing.specs.Steps.{land_properties, land_node, MayLandNode, MayLandFragments}
 use Rattle.dt_landing.specs.Laws.{AreShallow, AllowedMayLand}
-use Rattle.dt_laws.proofs.Tests.{bytes_eq_refl, in_left, in_right, in_map}
+use Rattle.dt_model.proofs.Tests.{bytes_eq_refl, in_left, in_right, in_map}
 use Rattle.dt_laws.proofs.Changing.{below_both}
-use Rattle.dt_laws.proofs.Listed.{listed_found, at_listed, listed_stands}
+use Rattle.dt_model.proofs.Listed.{listed_found, at_listed, listed_stands}
 use Rattle.dt_laws.proofs.KeptNames.{good_below}
 use Rattle.dt_laws.proofs.GoodResult.{good_root}
 use Rattle.dt_laws.proofs.Fresh.{number_some}

@@ -13,12 +13,12 @@ use Rattle.dt_model.specs.Tree.{Property, Reading, Node, Placed, value_of, root_
 use Rattle.dt_model.specs.Valid.{AreDistinct, IsValid, IsPhandle, phandle_values, phandles}
 use Rattle.dt_model.specs.Applied.{node_named, landed_symbol, landed_symbols}
 use Rattle.dt_landing.specs.Laws.{SymbolsArePlain}
-use Rattle.dt_laws.proofs.Tests.{bytes_eq_true, bytes_eq_differ, each_in}
-use Rattle.dt_laws.proofs.Distinct.{in_flat}
+use Rattle.dt_model.proofs.Tests.{bytes_eq_true, bytes_eq_differ, each_in}
+use Rattle.dt_model.proofs.Distinct.{in_flat}
 use Rattle.dt_laws.proofs.Merging.{no_value}
 use Rattle.dt_laws.proofs.Placed.{landing_from}
-use Rattle.dt_laws.proofs.Listed.{value_listed}
-use Rattle.dt_laws.proofs.Preorder.{phandle_list, all_phandles, value_in_list}
+use Rattle.dt_model.proofs.Listed.{value_listed}
+use Rattle.dt_model.proofs.Preorder.{phandle_list, all_phandles, value_in_list}
 use Rattle.dt_laws.proofs.KeptNames.{good_below}
 use Rattle.dt_laws.proofs.GoodResult.{good_root}
 

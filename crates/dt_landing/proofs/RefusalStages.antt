@@ -9,7 +9,7 @@ use Rattle.dt_model.specs.Tree.{Property, Reading, node_at, nodes_of, value_in}
 use Rattle.dt_model.specs.Applied.{writes, node_named}
 use Rattle.dt_names.specs.declared.fault.FaultKind.{FaultKind}
 use Rattle.dt_names.specs.declared.fault.FaultKind.TheVariants.{NoMemory, Limit, NoSymbol, BadSymbol, NoTarget, BadFixup, BadLocalFixup, SecondPhandle, NoFragmentTarget, ReservedPlace}
-use Rattle.dt_laws.proofs.Tests.{each_in}
+use Rattle.dt_model.proofs.Tests.{each_in}
 use Rattle.dt_laws.proofs.CellTexts.{one_fixups}
 use Rattle.dt_laws.proofs.LeastNumbers.{numbers_are_one}
 use Rattle.dt_landing.specs.Landings.{HasNoSite}

@@ -14,10 +14,10 @@ use Rattle.dt_model.specs.Valid.{IsValid}
 use Rattle.dt_model.specs.Applied.{node_named, node_numbered}
 use Rattle.dt_laws.specs.Applying.{AreOf}
 use Rattle.dt_landing.specs.Objects.{HasTarget, fixups_in, HasCell, AreCellsOf, SymbolHasNumber, IsFixup, IsLocalCell, IsLocalFixup, IsMirror, symbols_in, IsSymbol, IsWellFormed}
-use Rattle.dt_laws.proofs.Tests.{each_from, in_map_from}
-use Rattle.dt_laws.proofs.Texts.{path_text_has_no}
+use Rattle.dt_model.proofs.Tests.{each_from, in_map_from}
+use Rattle.dt_model.proofs.Texts.{path_text_has_no}
 use Rattle.dt_laws.proofs.ReferenceCells.{offset_within}
-use Rattle.dt_laws.proofs.Finding.{node_of_number, node_of_text}
+use Rattle.dt_model.proofs.Finding.{node_of_number, node_of_text}
 use Rattle.dt_laws.proofs.Given.{phandle_of, symbol_is, object_value_is, object_items, object_phandle}
 use Rattle.dt_laws.proofs.Inside.{each_at, plain_fragment}
 use Rattle.dt_laws.proofs.Numbered.{small_number, brought_from, brought_to}

@@ -7,9 +7,9 @@ use Rattle.dt_model.specs.Lists.{IsIn}
 use Rattle.dt_model.specs.Object.{Cell, AreCellTexts, AreFixups, properties_of, words_of, cells_of, nodes_from, local_cells}
 use Rattle.dt_model.specs.Tree.{Property, Reading, Node, value_of, sibling, node_below, root_of, node_at, value_in}
 use Rattle.dt_model.specs.Valid.{AreDistinct, IsValid}
-use Rattle.dt_laws.proofs.Tests.{bytes_eq_refl, bytes_eq_other, each_in, in_left, in_right, in_append, in_map, in_map_from}
-use Rattle.dt_laws.proofs.Distinct.{in_flat}
-use Rattle.dt_laws.proofs.Listed.{found_listed}
+use Rattle.dt_model.proofs.Tests.{bytes_eq_refl, bytes_eq_other, each_in, in_left, in_right, in_append, in_map, in_map_from}
+use Rattle.dt_model.proofs.Distinct.{in_flat}
+use Rattle.dt_model.proofs.Listed.{found_listed}
 use Rattle.dt_laws.proofs.KeptNames.{good_below}
 use Rattle.dt_laws.proofs.GoodResult.{good_root}
 

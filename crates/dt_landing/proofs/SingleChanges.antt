@@ -9,7 +9,7 @@ use Rattle.dt_model.specs.Tree.{Property, Forest, no_nodes, branch, Reading, Nod
 use Rattle.dt_model.specs.Valid.{node_count}
 use Rattle.dt_model.specs.Changes.{set_properties, with_child, changed_sibling, changed_below, with_root, changed_at, with_child_at, with_property_at}
 use Rattle.dt_landing.specs.Steps.{land_properties, land_nodes}
-use Rattle.dt_laws.proofs.Tests.{bytes_eq_refl, or_right, or_left}
+use Rattle.dt_model.proofs.Tests.{bytes_eq_refl, or_right, or_left}
 use Rattle.dt_laws.proofs.Lands.{below-append}
 use Rattle.dt_laws.proofs.Merging.{IsApart, value_below}
 use Rattle.dt_laws.proofs.Changing.{below_both, value-changed, stands-changed}

@@ -15,8 +15,8 @@ use Rattle.dt_model.specs.Valid.{AreDistinct, IsValid}
 use Rattle.dt_model.specs.Applied.{Write}
 use Rattle.dt_names.specs.declared.fault.FaultKind.{FaultKind}
 use Rattle.dt_names.specs.declared.fault.FaultKind.TheVariants.{ReservedPlace}
-use Rattle.dt_laws.proofs.Tests.{in_left, in_right, in_append, in_map, in_map_from}
-use Rattle.dt_laws.proofs.Distinct.{distinct_left}
+use Rattle.dt_model.proofs.Tests.{in_left, in_right, in_append, in_map, in_map_from}
+use Rattle.dt_model.proofs.Distinct.{distinct_left}
 use Rattle.dt_landing.specs.Landings.{landing_at, landings, all_landings, has_phandle, IsPhandleAt, MayAllLand, WhyNotLands, site, HasNoSite}
 use Rattle.dt_landing.proofs.CheckedFragments.{site_names, other_fragment, finds_of, IsSiteFault, AreRefused}
 use Rattle.dt_landing.proofs.CheckedSites.{site_found, finds_first, found_names}

@@ -11,7 +11,7 @@ use Rattle.dt_model.specs.Changes.{with_child_at}
 use Rattle.dt_model.specs.Applied.{Write, written, written_property, written_forest, brought}
 use Rattle.dt_landing.specs.Checking.{then_check, check_number, check_node, check_nodes, check_content, with_places}
 use Rattle.dt_landing.specs.Writing.{with_cells_of, cells_written, with_cells, landed_property, landed_forest, landed}
-use Rattle.dt_laws.proofs.Tests.{bytes_eq_true}
+use Rattle.dt_model.proofs.Tests.{bytes_eq_true}
 
 -- a value with its cells written
 abbrev pub value_with_cells : List Write → Path → Name → List ℕ → List ℕ

@@ -11,8 +11,8 @@ use Rattle.dt_model.specs.Tree.{Property, Forest, no_nodes, branch, Reading, Nod
 use Rattle.dt_model.specs.Valid.{AreDistinct, AreProperties, AreNodes, IsPhandle, IsValid, names, phandle_values, phandles}
 use Rattle.dt_model.specs.Instance.{followed_by, with_symbols}
 use Rattle.dt_laws.proofs.CheckedNames.{node_name}
-use Rattle.dt_laws.proofs.Distinct.{distinct_append}
-use Rattle.dt_laws.proofs.Tests.{bytes_eq_refl}
+use Rattle.dt_model.proofs.Distinct.{distinct_append}
+use Rattle.dt_model.proofs.Tests.{bytes_eq_refl}
 
 -- ---- siblings behind others
 

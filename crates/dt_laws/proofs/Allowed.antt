@@ -13,8 +13,8 @@ use Rattle.dt_model.specs.Numbers.{AreNewNumbers, number_in}
 use Rattle.dt_model.specs.Tree.{Reading, Placed, nodes_of, value_in}
 use Rattle.dt_model.specs.Applied.{symbol, is_plain, is_bare, is_apart, are_single, is_allowed}
 use Rattle.dt_laws.specs.Applying.{AreOf}
-use Rattle.dt_laws.proofs.Tests.{and_left, and_right, and_both, not_true, all_at, all_from, path_eq_refl, path_eq_true}
-use Rattle.dt_laws.proofs.Listed.{stands_listed, listed_stands}
+use Rattle.dt_model.proofs.Tests.{and_left, and_right, and_both, not_true, all_at, all_from, path_eq_refl, path_eq_true}
+use Rattle.dt_model.proofs.Listed.{stands_listed, listed_stands}
 use Rattle.dt_laws.proofs.Inside.{each_from_references, plain_brought}
 use Rattle.dt_laws.proofs.Given.{symbol_is, not_keyed, no_phandle}
 use Rattle.dt_laws.proofs.Fresh.{AreOwn, number_listed, listed_number}

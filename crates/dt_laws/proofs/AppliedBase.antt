@@ -11,9 +11,9 @@ use Rattle.dt_model.specs.Represents.{Represents}
 use Rattle.dt_model.specs.Tree.{Reading, Placed, Node, value_of, sibling, node_below, root_of, node_at, nodes_of, stands_in, value_in}
 use Rattle.dt_model.specs.Valid.{IsValid, IsWithinLimits}
 use Rattle.dt_laws.specs.AppliedSample.{sample_base, sample_meaning}
-use Rattle.dt_laws.proofs.Tests.{and_left, and_right, and_both, not_true, all_at, each_in, each_from, bytes_eq_true, bytes_eq_differ, path_eq_true}
-use Rattle.dt_laws.proofs.Listed.{stands_listed, at_listed}
-use Rattle.dt_laws.proofs.Preorder.{listed_named}
+use Rattle.dt_model.proofs.Tests.{and_left, and_right, and_both, not_true, all_at, each_in, each_from, bytes_eq_true, bytes_eq_differ, path_eq_true}
+use Rattle.dt_model.proofs.Listed.{stands_listed, at_listed}
+use Rattle.dt_model.proofs.Preorder.{listed_named}
 
 -- ---- names, by tests that compute
 

@@ -11,8 +11,8 @@ use Rattle.dt_model.specs.Overlay.{object_number, OverlayReference, inside, outs
 use Rattle.dt_model.specs.Object.{Cell, references_from, IsCellOf, HasFixups, local_cells, object_value, Encodes}
 use Rattle.dt_model.specs.Tree.{no_nodes, branch, Reading, Node, Placed, value_of, nodes_of, stands_in, value_in}
 use Rattle.dt_laws.specs.AppliedSample.{led, sample_object, sample_overlay, sample_fixups, SampleIsApplied}
-use Rattle.dt_laws.proofs.Tests.{and_left, each_in, bytes_eq_true, bytes_eq_differ, path_eq_true}
-use Rattle.dt_laws.proofs.Listed.{stands_listed, value_listed}
+use Rattle.dt_model.proofs.Tests.{and_left, each_in, bytes_eq_true, bytes_eq_differ, path_eq_true}
+use Rattle.dt_model.proofs.Listed.{stands_listed, value_listed}
 use Rattle.dt_laws.proofs.AppliedBase.{plain_nodes, plain_is, by_node, not_there, base_valid, sample_is_meaning, sample_is_plain, sample_represented, few_in_base}
 use Rattle.dt_laws.proofs.AppliedOverlay.{f_name, led_name, x_name, object_valid, few_in_object, Value, of_target, of_x, value_cases, sample_is_overlay}
 use Rattle.dt_laws.proofs.FragmentNames.{target_named}

@@ -12,8 +12,8 @@ use Rattle.dt_model.specs.Overlay.{OverlayReference, inside, outside, Target, at
 use Rattle.dt_model.specs.Tree.{Placed, nodes_of, stands_in}
 use Rattle.dt_model.specs.Valid.{IsValid, IsWithinLimits}
 use Rattle.dt_laws.specs.AppliedSample.{led, sample_object, sample_overlay}
-use Rattle.dt_laws.proofs.Tests.{and_left, and_right, bytes_eq_true, bytes_eq_differ, path_eq_true}
-use Rattle.dt_laws.proofs.Listed.{stands_listed}
+use Rattle.dt_model.proofs.Tests.{and_left, and_right, bytes_eq_true, bytes_eq_differ, path_eq_true}
+use Rattle.dt_model.proofs.Listed.{stands_listed}
 use Rattle.dt_laws.proofs.AppliedBase.{node_name, property_name, label_name, plain_nodes, plain_stands, plain_parents, plain_named}
 
 -- ---- the tree

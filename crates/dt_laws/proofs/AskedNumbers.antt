@@ -9,9 +9,9 @@ use Rattle.dt_model.specs.Numbering.{IsNumberFor, written_numbers, IsNumbering}
 use Rattle.dt_model.specs.Named.{NodeReference, Content, NamedForest, no_nodes, branch, Named, NamedPlaced, value_of, number_of, written_in, node_count, preorder, nodes_of}
 use Rattle.dt_model.specs.NamedOf.{IsNamed, IsContent, AreNamedNodes, asked, asked_from, contents_of, asked_in}
 use Rattle.dt_model.specs.Instance.{number_at}
-use Rattle.dt_laws.proofs.Cases.{then_some}
-use Rattle.dt_laws.proofs.Tests.{in_append}
-use Rattle.dt_laws.proofs.Flat.{from_flat}
+use Rattle.dt_model.proofs.Cases.{then_some}
+use Rattle.dt_model.proofs.Tests.{in_append}
+use Rattle.dt_model.proofs.Flat.{from_flat}
 use Rattle.dt_laws.proofs.NamedListed.{AreApart, IsApart, length-nodes}
 use Rattle.dt_laws.proofs.NumberedProperties.{number_range}
 use Rattle.dt_laws.proofs.Places.{HasAt, at_map, numbers_given, number_given}

@@ -13,8 +13,8 @@ use Rattle.dt_model.specs.Meaning.{Item, byte, reference, AreBytes, EachReferenc
 use Rattle.dt_model.specs.Event.{Stack}
 use Rattle.dt_model.specs.Source.{Reference, Part, one, number_of, text_of, IsPart, Mode, Place, root, block, delete_node, child, label, property, delete_property, delete_child, close, IsPlace, Events, referent, bound, all_bound, refers, in_range, written}
 use Rattle.dt_model.proofs.EventSteps.{path_eq-refl}
-use Rattle.dt_laws.proofs.Cases.{map_some, then_some, either_left, either_right}
-use Rattle.dt_laws.proofs.Tests.{each_append}
+use Rattle.dt_model.proofs.Cases.{map_some, then_some, either_left, either_right}
+use Rattle.dt_model.proofs.Tests.{each_append}
 use Rattle.dt_laws.proofs.Holding.{Rules, Obeys}
 use Rattle.dt_laws.proofs.Bytes.{path_bytes, are_bytes-append, are_bytes-map, each-append, each-map}
 

@@ -10,7 +10,7 @@ use Rattle.dt_model.specs.Numbers.{number_in}
 use Rattle.dt_model.specs.Tree.{Property, Forest, no_nodes, branch, Reading, value_of, Node, sibling, node_below, root_of, node_at, stands_in, value_in}
 use Rattle.dt_model.specs.Valid.{AreDistinct, names, AreNodes, IsValid}
 use Rattle.dt_model.specs.Applied.{Write, written, written_property, written_forest, written_node, brought}
-use Rattle.dt_laws.proofs.Tests.{bytes_eq_true}
+use Rattle.dt_model.proofs.Tests.{bytes_eq_true}
 use Rattle.dt_laws.proofs.Merging.{AreApart, IsApart, apart_sibling, nothing, value_below, stands_below}
 use Rattle.dt_laws.proofs.Changing.{below_both}
 

@@ -7,8 +7,8 @@ use Rattle.std.proofs.lemmas.List.Elements.{recursion_from_All}
 use Rattle.dt_model.specs.Names.{Name, IsNodeName, is_name_byte}
 use Rattle.dt_model.specs.Path.{Path, path_text, path_value}
 use Rattle.dt_model.specs.Meaning.{Item, byte, reference, AreBytes, EachReference}
-use Rattle.dt_laws.proofs.Cases.{all_map}
-use Rattle.dt_laws.proofs.Tests.{each_append}
+use Rattle.dt_model.proofs.Cases.{all_map}
+use Rattle.dt_model.proofs.Tests.{each_append}
 
 abbrev pub IsByte : ℕ → Type 0
 IsByte b = b < 256

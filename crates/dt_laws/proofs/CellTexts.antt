@@ -6,8 +6,8 @@ use Rattle.dt_model.specs.Names.{Name}
 use Rattle.dt_model.specs.Path.{path_text}
 use Rattle.dt_model.specs.Object.{Cell, IsCellText, AreCellTexts, AreFixups}
 use Rattle.dt_model.specs.Tree.{Property}
-use Rattle.dt_laws.proofs.Tests.{each_append}
-use Rattle.dt_laws.proofs.Texts.{HasNo, first_part, property_name_has_no, path_text_has_no, one_text}
+use Rattle.dt_model.proofs.Tests.{each_append}
+use Rattle.dt_model.proofs.Texts.{HasNo, first_part, property_name_has_no, path_text_has_no, one_text}
 
 digits_text : (digits : List ℕ) → AllDigits 10 digits → HasNo 0 digits
 digits_text [] h = tt

@@ -11,9 +11,9 @@ use Rattle.dt_model.specs.Source.{Events}
 use Rattle.dt_model.specs.Fixups.{outside_cells}
 use Rattle.dt_model.specs.Named.{NodeReference, NamedProperty, Named, NamedPlaced, content_in, value_of, node_count, nodes_of, paths_of}
 use Rattle.dt_model.specs.NamedOf.{IsBelow, IsNamedBy, IsNamed, path_among, meant}
-use Rattle.dt_laws.proofs.Cases.{map_some}
-use Rattle.dt_laws.proofs.Tests.{each_in, in_map, in_map_from}
-use Rattle.dt_laws.proofs.Flat.{from_flat}
+use Rattle.dt_model.proofs.Cases.{map_some}
+use Rattle.dt_model.proofs.Tests.{each_in, in_map, in_map_from}
+use Rattle.dt_model.proofs.Flat.{from_flat}
 use Rattle.dt_laws.proofs.Inside.{each_at}
 use Rattle.dt_laws.proofs.AskedNumbers.{named_apart, content_is}
 use Rattle.dt_laws.proofs.ReferenceCells.{renamed_references, cell_at, cells_of_property, cells_of_node, cells_in, HaveOneEach, cell_from, cell_in}

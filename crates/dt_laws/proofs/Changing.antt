@@ -7,7 +7,7 @@ use Rattle.dt_model.specs.Names.{Name}
 use Rattle.dt_model.specs.Path.{Path, below}
 use Rattle.dt_model.specs.Tree.{Forest, no_nodes, branch, Reading, value_of, Node, sibling, node_below, root_of, node_at, stands_in, value_in}
 use Rattle.dt_model.specs.Changes.{merged_node, changed_sibling, changed_below, changed_at}
-use Rattle.dt_laws.proofs.Tests.{bytes_eq_true, bytes_eq_sym}
+use Rattle.dt_model.proofs.Tests.{bytes_eq_true, bytes_eq_sym}
 use Rattle.dt_laws.proofs.Lands.{append-below}
 use Rattle.dt_laws.proofs.Merging.{IsApart, value_below, stands_below, value-merged, stands-merged}
 

@@ -6,7 +6,7 @@ use Rattle.dt_model.specs.Path.{Path, path_eq, is_bookkeeping}
 use Rattle.dt_model.specs.Meaning.{Meaning}
 use Rattle.dt_model.specs.Overlay.{OverlayReference, inside, outside, Overlay}
 use Rattle.dt_model.specs.Merged.{Site, landing, AreSites, IsGiven, Applies}
-use Rattle.dt_laws.proofs.Tests.{not_true, all_at, and_both, path_eq_refl, path_eq_true}
+use Rattle.dt_model.proofs.Tests.{not_true, all_at, and_both, path_eq_refl, path_eq_true}
 use Rattle.dt_laws.proofs.CheckedWords.{implies, implied}
 use Rattle.dt_laws.proofs.CheckedInstances.{IsWithin}
 use Rattle.dt_laws.proofs.CheckedReferences.{references_pass, each_reference}

@@ -19,12 +19,12 @@ use Rattle.dt_model.specs.Instance.{IsInstance, IsTreeOf, AreSymbols, with_symbo
 use Rattle.dt_model.specs.Rows.{events, events_of}
 use Rattle.dt_laws.specs.Premises.{numbering, Base, base_meaning}
 use Rattle.dt_laws.proofs.AddedNode.{stands_elsewhere, value_elsewhere}
-use Rattle.dt_laws.proofs.Cases.{some_there, then_some}
+use Rattle.dt_model.proofs.Cases.{some_there, then_some}
 use Rattle.dt_laws.proofs.CheckedCases.{IsCheckedBase, base_means, base_is}
 use Rattle.dt_laws.proofs.CheckedOrders.{is_ordered, ordered, listed_by, are_labels, symbols_listed}
 use Rattle.dt_laws.proofs.CheckedSources.{read_meaning, read_plain}
 use Rattle.dt_laws.proofs.CheckedTrees.{IsChecked, checked_valid}
-use Rattle.dt_laws.proofs.Tests.{all_at, not_true, bytes_eq_true}
+use Rattle.dt_model.proofs.Tests.{all_at, not_true, bytes_eq_true}
 
 -- ---- the instance of a plain meaning, from a tree that represents it
 

@@ -8,7 +8,7 @@ use Rattle.dt_model.specs.Names.{Name, is_node_name, is_property_name}
 use Rattle.dt_model.specs.Path.{path_eq, path_text}
 use Rattle.dt_model.specs.Tree.{Property, Reading, node_at}
 use Rattle.dt_model.specs.Object.{Cell, IsCellText, AreCellTexts, AreFixups, properties_of, HasFixups}
-use Rattle.dt_laws.proofs.Tests.{and_left, and_right, and_both}
+use Rattle.dt_model.proofs.Tests.{and_left, and_right, and_both}
 use Rattle.dt_laws.proofs.CheckedWords.{IsEquality, same_names, same_paths, same_numbers}
 use Rattle.dt_laws.proofs.CheckedNames.{below, property_name, path_names}
 

@@ -9,8 +9,8 @@ use Rattle.dt_model.specs.Path.{Path, path_value, is_bookkeeping}
 use Rattle.dt_model.specs.Lists.{IsIn}
 use Rattle.dt_model.specs.Meaning.{Item, cell, value_bytes}
 use Rattle.dt_model.specs.Tree.{Reading, stands_in, value_in}
-use Rattle.dt_laws.proofs.Tests.{all_at, bytes_eq_true}
-use Rattle.dt_laws.proofs.Cases.{map_some}
+use Rattle.dt_model.proofs.Tests.{all_at, bytes_eq_true}
+use Rattle.dt_model.proofs.Cases.{map_some}
 use Rattle.dt_laws.proofs.CheckedWords.{agree, implies, implied, agree_bytes, same_answer, same_bytes, has, has_in, same_names}
 use Rattle.dt_laws.proofs.CheckedEvents.{covers_tree, node_placed, value_placed}
 use Rattle.dt_laws.proofs.CheckedNumbers.{are_numbers}

@@ -11,8 +11,8 @@ use Rattle.dt_model.specs.Event.{value_at}
 use Rattle.dt_model.specs.Source.{Place, Events, labelled, all_bound, meaning_of}
 use Rattle.dt_model.specs.Tree.{Reading}
 use Rattle.dt_model.specs.Represents.{Represents}
-use Rattle.dt_laws.proofs.Tests.{all_at}
-use Rattle.dt_laws.proofs.Cases.{cond_none, map_some, then_some}
+use Rattle.dt_model.proofs.Tests.{all_at}
+use Rattle.dt_model.proofs.Cases.{cond_none, map_some, then_some}
 use Rattle.dt_laws.proofs.CheckedWords.{number_same}
 use Rattle.dt_laws.proofs.CheckedEvents.{covers_events, node_covered, value_covered, label_covered, turned_back}
 use Rattle.dt_laws.proofs.CheckedNumbers.{low_number, high_number, own_number}

@@ -9,7 +9,7 @@ use Rattle.dt_model.specs.Source.{Place, base, SoFar, nothing, read_all, all_bou
 use Rattle.dt_model.specs.Named.{NodeReference, Named}
 use Rattle.dt_model.specs.Overlay.{inside}
 use Rattle.dt_model.specs.NamedOf.{bound_values, IsNamedOf}
-use Rattle.dt_laws.proofs.Cases.{map_some, then_some}
+use Rattle.dt_model.proofs.Cases.{map_some, then_some}
 use Rattle.dt_laws.proofs.CheckedNamedBy.{AreDefined, IsCheckedBy, checked_by}
 use Rattle.dt_laws.proofs.CheckedSources.{IsRead, read_means}
 

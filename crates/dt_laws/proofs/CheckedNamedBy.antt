@@ -14,8 +14,8 @@ use Rattle.dt_model.specs.Named as named
 use Rattle.dt_model.specs.Named.{NodeReference, NamedProperty, Named, NamedNode, NamedPlaced, node_at, content_in, value_of, node_count, nodes_of}
 use Rattle.dt_model.specs.NamedOf.{IsNamedBy, RefersBelow, contents_of, meant}
 use Rattle.dt_model.specs.Ordered.{IsNamedInOrder}
-use Rattle.dt_laws.proofs.Tests.{and_left, and_right, all_at, each_in}
-use Rattle.dt_laws.proofs.Cases.{map_some, some_there}
+use Rattle.dt_model.proofs.Tests.{and_left, and_right, all_at, each_in}
+use Rattle.dt_model.proofs.Cases.{map_some, some_there}
 use Rattle.dt_laws.proofs.InOrder.{opens_among, defines_among, gives_among, falls, children_in_order, properties_in_order, labels_in_order}
 use Rattle.dt_laws.proofs.CheckedWords.{agree, same_answer, has, has_in, same_names, same_paths}
 use Rattle.dt_laws.proofs.CheckedEvents.{covers_events, node_covered, value_covered, turned_back}

@@ -10,7 +10,7 @@ use Rattle.dt_model.specs.OverlaySource.{OverlaySoFar, root_children, overlay_st
 use Rattle.dt_model.specs.Named.{NodeReference, Named, paths_of}
 use Rattle.dt_model.specs.NamedOf.{IsNamedBy}
 use Rattle.dt_model.specs.NamedOverlay.{NamedFragment, AreFragmentsOf, IsNamedOverlayOf}
-use Rattle.dt_laws.proofs.Cases.{map_some}
+use Rattle.dt_model.proofs.Cases.{map_some}
 use Rattle.dt_laws.proofs.CheckedNamedBy.{Values, AreDefined, IsCheckedBy, checked_by}
 use Rattle.dt_laws.proofs.CheckedOverlays.{IsOverlayRead, overlay_means}
 use Rattle.dt_laws.proofs.OneOverlay.{one_end}

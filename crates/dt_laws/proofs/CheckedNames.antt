@@ -9,7 +9,7 @@ use Rattle.dt_model.specs.Names.{Name, is_letter, is_digit, IsPropertyName, IsNo
 use Rattle.dt_model.specs.Path.{Path}
 use Rattle.dt_model.specs.Source.{Reference, by_label, by_path, IsReference, Part, one, number_of, text_of, IsPart, Place, root, block, delete_node, child, label, property, delete_property, delete_child, close, IsPlace}
 use Rattle.dt_model.proofs.NameTests.{node_tests, property_tests}
-use Rattle.dt_laws.proofs.Tests.{and_left, and_right, not_true, bytes_eq_differ}
+use Rattle.dt_model.proofs.Tests.{and_left, and_right, not_true, bytes_eq_differ}
 use Rattle.dt_laws.proofs.CheckedWords.{each_by}
 
 pub below : (m n : ℕ) → nat_lt m n ≡ true → m < n

@@ -4,7 +4,7 @@ use Rattle.std.specs.Prelude.{nat_le, nat_eq}
 use Rattle.std.specs.List.{list_all}
 use Rattle.dt_model.specs.Path.{Path, path_eq}
 use Rattle.dt_model.specs.Lists.{IsIn}
-use Rattle.dt_laws.proofs.Tests.{and_left, and_right, and_both, all_at, path_eq_true}
+use Rattle.dt_model.proofs.Tests.{and_left, and_right, and_both, all_at, path_eq_true}
 use Rattle.dt_laws.proofs.CheckedWords.{implies, implied, same_numbers}
 use Rattle.dt_laws.proofs.CheckedNames.{at_most}
 

@@ -11,9 +11,9 @@ use Rattle.dt_model.specs.Meaning.{Item}
 use Rattle.dt_model.specs.Overlay.{object_number, OverlayReference, inside, outside, Fragment, Overlay}
 use Rattle.dt_model.specs.Tree.{Property, Reading, Node, Placed, value_of, node_at, nodes_of, stands_in, value_in}
 use Rattle.dt_model.specs.Object.{Cell, references_from, IsCellOf, properties_of, local_cells, fragment_names, Encodes}
-use Rattle.dt_laws.proofs.Tests.{and_left, and_right, all_at, any_from, bytes_eq_true}
-use Rattle.dt_laws.proofs.Cases.{some_there}
-use Rattle.dt_laws.proofs.Listed.{stands_listed, value_listed}
+use Rattle.dt_model.proofs.Tests.{and_left, and_right, all_at, any_from, bytes_eq_true}
+use Rattle.dt_model.proofs.Cases.{some_there}
+use Rattle.dt_model.proofs.Listed.{stands_listed, value_listed}
 use Rattle.dt_laws.proofs.CheckedWords.{implies, has, has_in, in_same, are_distinct, distinct_by, number_same}
 use Rattle.dt_laws.proofs.CheckedEvents.{property_of}
 use Rattle.dt_laws.proofs.CheckedNumbers.{low_number, high_number, own_number}

@@ -17,7 +17,7 @@ use Rattle.dt_model.specs.Ordered.{IsInOrder, AreChildrenInOrder, unwritten}
 use Rattle.dt_model.specs.Instance.{symbol, AreSymbols}
 use Rattle.dt_laws.proofs.InOrder.{opens_among, defines_among, gives_among, falls, children_in_order, properties_in_order, labels_in_order}
 use Rattle.dt_laws.proofs.StandingNodes.{stands_among}
-use Rattle.dt_laws.proofs.Tests.{and_left, and_right, all_at, path_eq_true}
+use Rattle.dt_model.proofs.Tests.{and_left, and_right, all_at, path_eq_true}
 
 -- ---- children and properties
 

@@ -11,9 +11,9 @@ use Rattle.dt_model.specs.Event.{age, value_at}
 use Rattle.dt_model.specs.Overlay.{OverlayReference, Target, at_reference, at_path, Fragment, Overlay, content, IsContained, HoldsTarget, IsOverlay}
 use Rattle.dt_model.specs.Source.{Place, Events, labelled}
 use Rattle.dt_model.specs.OverlaySource.{OverlaySoFar, OverlayRefusal, overlay_start, root_children, read_overlays, overlay_items, overlay_of, OverlayMeans}
-use Rattle.dt_laws.proofs.Tests.{and_left, and_right, all_at}
-use Rattle.dt_laws.proofs.Cases.{map_some}
-use Rattle.dt_laws.proofs.Tests.{each_in}
+use Rattle.dt_model.proofs.Tests.{and_left, and_right, all_at}
+use Rattle.dt_model.proofs.Cases.{map_some}
+use Rattle.dt_model.proofs.Tests.{each_in}
 use Rattle.dt_laws.proofs.Overlays.{source_overlay}
 use Rattle.dt_laws.proofs.CheckedWords.{implies, implied, has, has_in, same_names, each_by}
 use Rattle.dt_laws.proofs.CheckedNames.{below, is_place, places_are}

@@ -8,8 +8,8 @@ use Rattle.dt_model.specs.Lists.{IsIn}
 use Rattle.dt_model.specs.Meaning.{Item, byte, reference, EachReference}
 use Rattle.dt_model.specs.Object.{references_from}
 use Rattle.dt_model.specs.Overlay.{OverlayReference, inside, outside, Fragment, Overlay, content, IsContained}
-use Rattle.dt_laws.proofs.Tests.{all_at, any_from}
-use Rattle.dt_laws.proofs.Cases.{some_there}
+use Rattle.dt_model.proofs.Tests.{all_at, any_from}
+use Rattle.dt_model.proofs.Cases.{some_there}
 use Rattle.dt_laws.proofs.Lands.{append-below}
 
 -- the references of a value with their offsets, where there is a value

@@ -4,10 +4,10 @@ use Rattle.std.specs.List.{list_all}
 use Rattle.std.specs.Str.{bytes_eq}
 use Rattle.dt_model.specs.Event.{Event, opening, giving, definition, undefinition, deletion, defines, drops}
 use Rattle.dt_model.specs.Source.{Part, Events, all_bound, written, HasUnresolved, HasBadPhandle}
-use Rattle.dt_laws.proofs.Cases.{all_pass}
+use Rattle.dt_model.proofs.Cases.{all_pass}
 use Rattle.dt_laws.proofs.CheckedWords.{implies, implied}
 use Rattle.dt_laws.proofs.Lasts.{last_each, value_by}
-use Rattle.dt_laws.proofs.Tests.{bytes_eq_refl}
+use Rattle.dt_model.proofs.Tests.{bytes_eq_refl}
 
 -- the references of a definition's value name nodes
 abbrev pub is_bound : Events → Event (List Part) → Bool

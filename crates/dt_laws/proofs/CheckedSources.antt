@@ -10,8 +10,8 @@ use Rattle.dt_model.specs.Lists.{IsIn}
 use Rattle.dt_model.specs.Meaning.{IsMeaning, IsPlain}
 use Rattle.dt_model.specs.Event.{Stack, Event, opening, giving, definition, undefinition, deletion, defines, drops, value_at}
 use Rattle.dt_model.specs.Source.{Part, Place, base, Events, Refusal, SoFar, nothing, read_all, all_bound, written, written_number, meaning_of, IsResolved, SourceMeans}
-use Rattle.dt_laws.proofs.Tests.{and_left, and_right, all_at, bytes_eq_refl, path_eq_true}
-use Rattle.dt_laws.proofs.Cases.{then_some}
+use Rattle.dt_model.proofs.Tests.{and_left, and_right, all_at, bytes_eq_refl, path_eq_true}
+use Rattle.dt_model.proofs.Cases.{then_some}
 use Rattle.dt_laws.proofs.Lasts.{last_each, value_by}
 use Rattle.dt_laws.proofs.Meanings.{source_meaning, no_twice}
 use Rattle.dt_laws.proofs.Plain.{source_plain}

@@ -7,7 +7,7 @@ use Rattle.std.specs.Str.{bytes_eq}
 use Rattle.dt_model.specs.Names.{is_property_name, is_node_name, IsPropertyName}
 use Rattle.dt_model.specs.Tree.{Property, Forest, no_nodes, branch, Reading}
 use Rattle.dt_model.specs.Valid.{AreProperties, names, AreNodes, phandle_values, phandles, IsPhandle, IsValid, node_count, IsNoDeeper, IsWithinLimits}
-use Rattle.dt_laws.proofs.Tests.{and_left, and_right}
+use Rattle.dt_model.proofs.Tests.{and_left, and_right}
 use Rattle.dt_laws.proofs.CheckedWords.{are_distinct, distinct_by, same_names, number_same, each_by}
 use Rattle.dt_laws.proofs.CheckedNames.{property_name, node_name, at_most}
 

@@ -9,7 +9,7 @@ use Rattle.dt_model.specs.Names.{Name}
 use Rattle.dt_model.specs.Path.{Path, path_eq}
 use Rattle.dt_model.specs.Lists.{IsIn}
 use Rattle.dt_model.specs.Valid.{AreDistinct}
-use Rattle.dt_laws.proofs.Tests.{and_left, and_right, not_true, any_from, all_at, each_from, bytes_eq_refl, bytes_eq_true, path_eq_refl, path_eq_true}
+use Rattle.dt_model.proofs.Tests.{and_left, and_right, not_true, any_from, all_at, each_from, bytes_eq_refl, bytes_eq_true, path_eq_refl, path_eq_true}
 
 -- ---- answers
 

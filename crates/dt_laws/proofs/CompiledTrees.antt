@@ -13,14 +13,14 @@ use Rattle.dt_model.specs.Numbers.{paths_of}
 use Rattle.dt_model.specs.Represents.{Represents}
 use Rattle.dt_model.specs.Instance.{IsInstanceOf, AreSymbols, with_symbols}
 use Rattle.dt_laws.specs.CompiledTrees.{TreeIsValid, BaseTreeRepresents}
-use Rattle.dt_laws.proofs.Cases.{all_map}
+use Rattle.dt_model.proofs.Cases.{all_map}
 use Rattle.dt_laws.proofs.AddedNode.{value_of_label, stands_elsewhere, value_elsewhere, valid_with_symbols}
 use Rattle.dt_laws.proofs.Bound.{named_rules, named_obeys}
 use Rattle.dt_laws.proofs.Holding.{Obeys, label_follows}
 use Rattle.dt_laws.proofs.LabelSymbols.{symbols_are, symbol_value, no_phandle}
 use Rattle.dt_laws.proofs.OneTree.{is_meant, meant_sound}
 use Rattle.dt_laws.proofs.Plain.{source_plain}
-use Rattle.dt_laws.proofs.Preorder.{paths_distinct}
+use Rattle.dt_model.proofs.Preorder.{paths_distinct}
 use Rattle.dt_laws.proofs.ReadAll.{holds-source}
 use Rattle.dt_laws.proofs.Sound.{Sound}
 use Rattle.dt_laws.proofs.StandingNodes.{stands_among}

@@ -7,7 +7,7 @@ use Rattle.dt_model.specs.Event.{Stack, Event, opening, giving, definition, unde
 use Rattle.dt_model.specs.Source.{Part, Place, root, block, delete_node, child, label, property, delete_property, delete_child, close, Mode, reserved_name, duplicate_node, too_deep, Events, SoFar, nothing, is_reserved, is_among, enter, open_child, read, read_all}
 use Rattle.dt_model.proofs.EventSteps.{stands-push}
 use Rattle.dt_laws.specs.NamedTrees.{NodesAreShallow}
-use Rattle.dt_laws.proofs.Cases.{not_refused}
+use Rattle.dt_model.proofs.Cases.{not_refused}
 use Rattle.dt_laws.proofs.Stands.{opened, deleted}
 use Rattle.dt_laws.proofs.Making.{Makes, makes, inside_ok, with_child}
 use Rattle.dt_laws.proofs.Holding.{Holds, holds-read, referent_stands}

@@ -11,9 +11,9 @@ use Rattle.dt_model.specs.Object.{Cell, IsCellText, AreCellTexts, AreFixups}
 use Rattle.dt_model.specs.Fixups.{cell_text, first_labels, text_for, fixup, fixups}
 use Rattle.dt_model.specs.Tree.{Property}
 use Rattle.dt_model.specs.Valid.{AreDistinct}
-use Rattle.dt_laws.proofs.Tests.{bytes_eq_refl, bytes_eq_true, each_from, in_map, in_map_from, in_filter, filter_in}
-use Rattle.dt_laws.proofs.Distinct.{distinct_filter, in_flat, not_twice}
-use Rattle.dt_laws.proofs.Flat.{from_flat, distinct_flat}
+use Rattle.dt_model.proofs.Tests.{bytes_eq_refl, bytes_eq_true, each_from, in_map, in_map_from, in_filter, filter_in}
+use Rattle.dt_model.proofs.Distinct.{distinct_filter, in_flat, not_twice}
+use Rattle.dt_model.proofs.Flat.{from_flat, distinct_flat}
 
 -- ---- lists
 

@@ -12,7 +12,7 @@ use Rattle.dt_model.specs.Valid.{IsWithinLimits}
 use Rattle.dt_model.specs.Applied.{applied}
 use Rattle.dt_laws.specs.Applying.{AreOf, IsResult}
 use Rattle.dt_laws.specs.InTurn.{IsOf, IsObject, IsApplied, InTurnIsFold, FoldIsInTurn}
-use Rattle.dt_laws.proofs.Tests.{or_right}
+use Rattle.dt_model.proofs.Tests.{or_right}
 use Rattle.dt_laws.proofs.Exactly.{applying_is_merging}
 use Rattle.dt_laws.proofs.MergedMeaning.{merged_is_a_meaning, sites_are_one}
 use Rattle.dt_laws.proofs.ValidResult.{applied_is_valid}

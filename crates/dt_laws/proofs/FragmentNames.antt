@@ -9,8 +9,8 @@ use Rattle.std.proofs.lemmas.List.Sums.{sum_by-append, sum_by-cons}
 use Rattle.dt_model.specs.Names.{IsNodeName, IsPropertyName, is_name_byte}
 use Rattle.dt_model.specs.Path.{is_bookkeeping_name}
 use Rattle.dt_model.specs.OverlaySource.{fragment_name}
-use Rattle.dt_laws.proofs.Cases.{all_map, all_pass}
-use Rattle.dt_laws.proofs.Tests.{each_append}
+use Rattle.dt_model.proofs.Cases.{all_map, all_pass}
+use Rattle.dt_model.proofs.Tests.{each_append}
 
 -- ---- digits
 

@@ -11,7 +11,7 @@ use Rattle.dt_model.specs.Overlay.{Fragment, Overlay, IsOverlay, content}
 use Rattle.dt_model.specs.Tree.{Forest, no_nodes, branch, Reading, Node, sibling, stands_in}
 use Rattle.dt_model.specs.Valid.{AreDistinct, names}
 use Rattle.dt_laws.proofs.Orders.{falls_distinct, one_order}
-use Rattle.dt_laws.proofs.Tests.{and_right, and_both, bytes_eq_refl, bytes_eq_true, bytes_eq_other, each_in, each_from}
+use Rattle.dt_model.proofs.Tests.{and_right, and_both, bytes_eq_refl, bytes_eq_true, bytes_eq_other, each_in, each_from}
 
 -- ---- siblings that are fragments
 

@@ -10,7 +10,7 @@ use Rattle.dt_model.specs.Merged.{Site, landing}
 use Rattle.dt_model.specs.Numbers.{IsLeastFree, AreNumbers, number_in}
 use Rattle.dt_model.specs.Valid.{AreDistinct}
 use Rattle.dt_model.specs.Applied.{landed_with}
-use Rattle.dt_laws.proofs.Tests.{path_eq_refl, path_eq_true, or_right, each_in}
+use Rattle.dt_model.proofs.Tests.{path_eq_refl, path_eq_true, or_right, each_in}
 
 -- where each number from 1 up to n is taken, as many are taken
 pub few_below : (taken : List ℕ) (n : ℕ) → ((k : ℕ) → 1 ≤ k → k < n → list_any (nat_eq k) taken ≡ true) → n ≤ length taken + 1

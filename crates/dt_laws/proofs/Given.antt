@@ -11,7 +11,7 @@ use Rattle.dt_model.specs.Represents.{Represents}
 use Rattle.dt_model.specs.Tree.{Reading, nodes_of, value_in}
 use Rattle.dt_model.specs.Valid.{IsValid}
 use Rattle.dt_model.specs.Applied.{node_named, symbol}
-use Rattle.dt_laws.proofs.Finding.{node_of_text}
+use Rattle.dt_model.proofs.Finding.{node_of_text}
 
 module _ (t : Reading) (m : Meaning) (number : Path → ℕ) (holds : Represents t m number) (meaning : IsMeaning m) (plain : IsPlain m) where
   pub base_value : (p : Path) (name : Name) → is_bookkeeping p ≡ false → bytes_eq name (codes "phandle") ≡ false → value_in t p name ≡ option_map (value_bytes number) (m.value p name)

@@ -8,8 +8,8 @@ use Rattle.dt_model.specs.Valid.{AreDistinct}
 use Rattle.dt_model.specs.Numbers.{IsLeastFree}
 use Rattle.dt_model.specs.Numbering.{Asked, IsNumberFor, AreNumbersFor, written_numbers, IsNumbering}
 use Rattle.dt_model.specs.Instance.{number_at}
-use Rattle.dt_laws.proofs.Tests.{or_right, any_here, each_from, in_left, in_right, in_append}
-use Rattle.dt_laws.proofs.Distinct.{apart, distinct_right}
+use Rattle.dt_model.proofs.Tests.{or_right, any_here, each_from, in_left, in_right, in_append}
+use Rattle.dt_model.proofs.Distinct.{apart, distinct_right}
 use Rattle.dt_laws.proofs.Fresh.{small}
 use Rattle.dt_laws.proofs.Places.{HasAt, numbers_given}
 

@@ -7,7 +7,7 @@ use Rattle.dt_model.specs.Path.{path_eq}
 use Rattle.dt_model.specs.Event.{Stack, Event, opening, giving, definition, undefinition, deletion, opens, takes, defines, drops, gives, stands, value_at, names}
 use Rattle.dt_model.specs.Source.{Reference, by_label, by_path, Part, Place, root, block, delete_node, child, label, property, delete_property, delete_child, close, Mode, Events, Body, SoFar, is_reserved, labelled, referent, and_then, enter, read}
 use Rattle.dt_model.proofs.EventSteps.{stands-push, path_eq-is}
-use Rattle.dt_laws.proofs.Tests.{each_append}
+use Rattle.dt_model.proofs.Tests.{each_append}
 use Rattle.dt_laws.proofs.Stands.{child_not_within, opened_itself, not_deleted}
 use Rattle.dt_laws.proofs.Lasts.{last_each, stands_by, names_by, value_by}
 use Rattle.dt_laws.proofs.Labels.{labelled_names, labelled_none, some_label, by_path_stands}

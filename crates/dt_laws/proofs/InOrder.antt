@@ -9,8 +9,8 @@ use Rattle.dt_model.specs.Path.{path_eq}
 use Rattle.dt_model.specs.Lists.{IsIn, FallBy, AreInOrder}
 use Rattle.dt_model.specs.Event.{Stack, Event, opening, giving, definition, undefinition, deletion, stands, value_at, names, age, property_age, label_age, opens, takes, gives, defines, drops}
 use Rattle.dt_model.specs.Source.{Events, Part}
-use Rattle.dt_laws.proofs.Tests.{and_left, and_right, all_at, each_from, bytes_eq_true, path_eq_refl}
-use Rattle.dt_laws.proofs.Cases.{some_there}
+use Rattle.dt_model.proofs.Tests.{and_left, and_right, all_at, each_from, bytes_eq_true, path_eq_refl}
+use Rattle.dt_model.proofs.Cases.{some_there}
 use Rattle.dt_laws.proofs.CheckedWords.{implies, implied}
 use Rattle.dt_laws.proofs.Lasts.{stands_by, names_by, value_by, last_each}
 

@@ -21,10 +21,10 @@ use Rattle.dt_model.specs.Overlay.{inside, outside, object_number, reference_ren
 use Rattle.dt_model.specs.NamedOf.{IsBelow, bound_values, IsNamedOf, IsNamed, path_among, meant, has_reference_to, asked, asked_from, contents_of, asked_in}
 use Rattle.dt_model.specs.Instance.{number_for, number_at, numbered_properties, instance_of, IsInstance, IsInstanceOf}
 use Rattle.dt_laws.specs.NamedTrees.{InstanceIsMeant}
-use Rattle.dt_laws.proofs.Cases.{some_there}
-use Rattle.dt_laws.proofs.Tests.{bytes_eq_true, each_in}
+use Rattle.dt_model.proofs.Cases.{some_there}
+use Rattle.dt_model.proofs.Tests.{bytes_eq_true, each_in}
 use Rattle.dt_laws.proofs.Meanings.{source_meaning}
-use Rattle.dt_laws.proofs.Listed as listed
+use Rattle.dt_model.proofs.Listed as listed
 use Rattle.dt_laws.proofs.NamedListed.{listed_at, at_listed, length-nodes}
 use Rattle.dt_laws.proofs.NamedPaths.{paths_distinct}
 use Rattle.dt_laws.proofs.NamedValues.{property_names, value_listed}

@@ -13,11 +13,11 @@ use Rattle.dt_model.specs.Named.{NodeReference, Named, NamedPlaced, node_count, 
 use Rattle.dt_model.specs.NamedOf.{IsNamed, asked_in}
 use Rattle.dt_model.specs.Instance.{number_at, instance_of}
 use Rattle.dt_laws.specs.NamedTrees.{InstanceIsValid}
-use Rattle.dt_laws.proofs.Tests.{each_from, in_map, in_map_from}
-use Rattle.dt_laws.proofs.Distinct.{not_twice}
-use Rattle.dt_laws.proofs.Flat.{from_flat, map_flat, distinct_flat}
+use Rattle.dt_model.proofs.Tests.{each_from, in_map, in_map_from}
+use Rattle.dt_model.proofs.Distinct.{not_twice}
+use Rattle.dt_model.proofs.Flat.{from_flat, map_flat, distinct_flat}
 use Rattle.dt_laws.proofs.NamedPaths.{paths_distinct}
-use Rattle.dt_laws.proofs.Preorder.{phandle_list, all_phandles}
+use Rattle.dt_model.proofs.Preorder.{phandle_list, all_phandles}
 use Rattle.dt_laws.proofs.Places.{HasAt, at_in, same_at, one_place}
 use Rattle.dt_laws.proofs.AskedNumbers.{named_apart, content_is, distinct_numbers, in_range, written_is}
 use Rattle.dt_laws.proofs.NumberedProperties.{are_properties, are_phandles, cell_back, cell_phandle}

@@ -9,7 +9,7 @@ use Rattle.dt_model.specs.Tree.{Property, Forest, no_nodes, branch, Node, siblin
 use Rattle.dt_model.specs.Valid.{AreDistinct, names, AreProperties, AreNodes}
 use Rattle.dt_model.specs.Changes.{set_property, set_properties, with_child, merged_forest, merged_node, changed_sibling, changed_below}
 use Rattle.dt_model.specs.Applied.{Write, written_property, written_forest, written_node}
-use Rattle.dt_laws.proofs.Tests.{bytes_eq_differ}
+use Rattle.dt_model.proofs.Tests.{bytes_eq_differ}
 
 -- ---- properties
 

@@ -16,8 +16,8 @@ use Rattle.dt_model.specs.OverlaySource.{overlay_reference, overlay_items, overl
 use Rattle.dt_model.specs.Named as named
 use Rattle.dt_model.specs.Named.{NodeReference, NamedProperty, Content, Named, NamedNode, NamedPlaced, node_at, node_count, nodes_of, paths_of, value_of}
 use Rattle.dt_model.specs.NamedOf.{IsNamedBy, IsBelow, RefersBelow, path_among, meant, refers_to, has_reference_to, asked, contents_of}
-use Rattle.dt_laws.proofs.Cases.{map_some, map_or_true}
-use Rattle.dt_laws.proofs.Tests.{any_from, any_here, each_in, in_append, in_map, in_map_from}
+use Rattle.dt_model.proofs.Cases.{map_some, map_or_true}
+use Rattle.dt_model.proofs.Tests.{any_from, any_here, each_in, in_append, in_map, in_map_from}
 use Rattle.dt_laws.proofs.Lasts.{last_any, names_by}
 use Rattle.dt_laws.proofs.Sound.{Sound}
 use Rattle.dt_laws.proofs.Labels.{some_label}

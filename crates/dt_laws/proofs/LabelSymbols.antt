@@ -13,14 +13,14 @@ use Rattle.dt_model.specs.Source.{Events, labelled}
 use Rattle.dt_model.specs.Tree.{Property, value_of}
 use Rattle.dt_model.specs.Valid.{AreDistinct, AreProperties}
 use Rattle.dt_model.specs.Instance.{symbol, AreSymbols}
-use Rattle.dt_laws.proofs.Cases.{all_map}
-use Rattle.dt_laws.proofs.Distinct.{distinct_append}
+use Rattle.dt_model.proofs.Cases.{all_map}
+use Rattle.dt_model.proofs.Distinct.{distinct_append}
 use Rattle.dt_laws.proofs.Labels.{labelled_names, labelled_none}
 use Rattle.dt_laws.proofs.Meanings.{at_path, no_twice}
 use Rattle.dt_laws.proofs.Merging.{no_value}
 use Rattle.dt_laws.proofs.Orders.{falls_distinct}
 use Rattle.dt_laws.proofs.Sound.{Sound}
-use Rattle.dt_laws.proofs.Tests.{each_in, each_from, in_left, in_right, in_append, in_map, bytes_eq_refl, bytes_eq_other}
+use Rattle.dt_model.proofs.Tests.{each_in, each_from, in_left, in_right, in_append, in_map, bytes_eq_refl, bytes_eq_other}
 
 -- a label is a property's name
 byte_is : (b : ℕ) → IsTrue (is_letter b || is_digit b || (b == 95)) → IsTrue (is_name_byte b)

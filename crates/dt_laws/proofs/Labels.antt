@@ -9,7 +9,7 @@ use Rattle.dt_model.specs.Names.{Name}
 use Rattle.dt_model.specs.Event.{Stack, Event, opening, giving, definition, undefinition, deletion, takes, gives, last_where, stands, names}
 use Rattle.dt_model.specs.Source.{Part, Events, gives_label, node_of, labelled, labels_there}
 use Rattle.dt_model.proofs.EventSteps.{bytes_eq-is, bytes_eq-refl}
-use Rattle.dt_laws.proofs.Cases.{map_some}
+use Rattle.dt_model.proofs.Cases.{map_some}
 use Rattle.dt_laws.proofs.Lasts.{last_passes, last_each, last_any, last_none, names_by}
 
 -- the event that a label's node is read off

@@ -10,7 +10,7 @@ use Rattle.dt_model.specs.Names.{Name}
 use Rattle.dt_model.specs.Path.{path_eq}
 use Rattle.dt_model.specs.Event.{Stack, Event, opening, giving, definition, undefinition, deletion, opens, takes, gives, defines, drops, last_where, is_opening, is_giving, defined, stands, value_at, names}
 use Rattle.dt_model.proofs.EventSteps.{bytes_eq-is, path_eq-is}
-use Rattle.dt_laws.proofs.Cases.{either_false, either_left, either_right}
+use Rattle.dt_model.proofs.Cases.{either_false, either_left, either_right}
 
 or_some : {A : Type 0} (o p : Option A) (x : A) → option_or o p ≡ Some x → (o ≡ Some x) ⊎ (p ≡ Some x)
 or_some None p x h = inr h

@@ -7,7 +7,7 @@ use Rattle.dt_model.specs.Path.{Path}
 use Rattle.dt_model.specs.Lists.{IsIn}
 use Rattle.dt_model.specs.Named.{NamedForest, no_nodes, branch, Named, NamedNode, NamedPlaced, Listed, node_at, node_count, preorder, nodes_of, paths_of, listed, list_of}
 use Rattle.dt_model.specs.NamedOf.{path_among}
-use Rattle.dt_laws.proofs.Flat.{map_append}
+use Rattle.dt_model.proofs.Flat.{map_append}
 use Rattle.dt_laws.proofs.NamedListed.{IsApart, listed_at, at_listed, length-preorder}
 
 pub after_zero : (j : ℕ) → nat_eq (suc j) 0 ≡ false

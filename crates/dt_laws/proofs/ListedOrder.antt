@@ -9,8 +9,8 @@ use Rattle.dt_model.specs.Lists.{IsIn, FallBy}
 use Rattle.dt_model.specs.Valid.{AreDistinct}
 use Rattle.dt_model.specs.Named.{NodeReference, NamedForest, no_nodes, branch, Content, Named, Listed, names, node_count, listed, list_of}
 use Rattle.dt_laws.specs.OverlayChecks.{is_first, is_content, fragments_among}
-use Rattle.dt_laws.proofs.Tests.{bytes_eq_true, bytes_eq_other, each_in}
-use Rattle.dt_laws.proofs.Cases.{all_map}
+use Rattle.dt_model.proofs.Tests.{bytes_eq_true, bytes_eq_other, each_in}
+use Rattle.dt_model.proofs.Cases.{all_map}
 use Rattle.dt_laws.proofs.NamedListed.{AreApart, IsApart}
 use Rattle.dt_laws.proofs.ListedNodes.{after_zero, path_of, path_listed}
 

@@ -9,7 +9,7 @@ use Rattle.dt_model.specs.Lists.{IsIn}
 use Rattle.dt_model.specs.Overlay.{content}
 use Rattle.dt_model.specs.Named.{NodeReference, Named, Listed, list_of}
 use Rattle.dt_laws.specs.OverlayChecks.{is_first, is_second, is_content, fragments_among, is_marked, is_brought, AreBrought, ListedAreBehind}
-use Rattle.dt_laws.proofs.Tests.{bytes_eq_refl, bytes_eq_true, and_left, and_right, and_both}
+use Rattle.dt_model.proofs.Tests.{bytes_eq_refl, bytes_eq_true, and_left, and_right, and_both}
 use Rattle.dt_laws.proofs.ListedNodes.{after_zero, path_of, path_listed, parent_listed, path_is_listed}
 
 -- the path is that of a fragment's content, or of a node below one

@@ -5,7 +5,7 @@ use Rattle.dt_model.specs.Names.{Name}
 use Rattle.dt_model.specs.Path.{path_eq}
 use Rattle.dt_model.specs.Event.{Stack, giving, definition, undefinition, deletion}
 use Rattle.dt_model.specs.Source.{Place, root, block, delete_node, child, label, property, delete_property, delete_child, close, Mode, Refusal, reserved_name, duplicate_node, too_deep, duplicate_property, duplicate_label, no_such_target, Body, SoFar, is_reserved, is_among, labelled, referent, and_then, enter, outside, inside, delete_at, define, open_child, read}
-use Rattle.dt_laws.proofs.Cases.{not_refused, is_granted, map_or_ok}
+use Rattle.dt_model.proofs.Cases.{not_refused, is_granted, map_or_ok}
 
 -- a body with one more name
 abbrev pub with_child : Name → Body → Body

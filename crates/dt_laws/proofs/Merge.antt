@@ -18,7 +18,7 @@ use Rattle.dt_model.specs.Tree.{Reading, node_at, value_in}
 use Rattle.dt_model.specs.Applied.{writes, with_fragments, landed_symbols, applied_at}
 use Rattle.dt_laws.specs.Applying.{AreOf}
 use Rattle.dt_laws.specs.Joining.{IsJoinedResult, JoiningIsMerging}
-use Rattle.dt_laws.proofs.Tests.{bytes_eq_true, any_from, any_here}
+use Rattle.dt_model.proofs.Tests.{bytes_eq_true, any_from, any_here}
 use Rattle.dt_laws.proofs.Lands.{landing_of, last_from, last_one, last_map}
 use Rattle.dt_laws.proofs.Landing.{reservations_stay, boot_cpu_stays}
 use Rattle.dt_laws.proofs.Inside.{IsInside, final_number, each_more, each_both, referred_inside}

@@ -7,7 +7,7 @@ use Rattle.dt_model.specs.Lists.{IsIn}
 use Rattle.dt_model.specs.Meaning.{Meaning, IsMeaning}
 use Rattle.dt_model.specs.Overlay.{Overlay, IsOverlay, Fragment, content}
 use Rattle.dt_model.specs.Merged.{Site, moved, with_first, sources, AreSites}
-use Rattle.dt_laws.proofs.Tests.{or_cases, or_left, or_right, any_from, any_here, each_append}
+use Rattle.dt_model.proofs.Tests.{or_cases, or_left, or_right, any_from, any_here, each_append}
 use Rattle.dt_laws.proofs.Lands.{moved_is, moved-append}
 
 -- a path is the root, or below a node

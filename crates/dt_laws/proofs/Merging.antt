@@ -9,8 +9,8 @@ use Rattle.dt_model.specs.Path.{Path}
 use Rattle.dt_model.specs.Tree.{Property, Forest, no_nodes, branch, value_of, Node, sibling, node_below}
 use Rattle.dt_model.specs.Valid.{AreDistinct, names}
 use Rattle.dt_model.specs.Changes.{set_property, set_properties, with_child, merged_forest, merged_node}
-use Rattle.dt_laws.proofs.Tests.{bytes_eq_refl, bytes_eq_true, bytes_eq_other}
-use Rattle.dt_laws.proofs.Listed.{other_sibling}
+use Rattle.dt_model.proofs.Tests.{bytes_eq_refl, bytes_eq_true, bytes_eq_other}
+use Rattle.dt_model.proofs.Listed.{other_sibling}
 
 -- ---- properties
 

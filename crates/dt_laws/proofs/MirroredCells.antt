@@ -14,7 +14,7 @@ use Rattle.dt_model.specs.Fixups.{inside_offset, offsets_as, local_properties, u
 use Rattle.dt_model.specs.Tree as tree
 use Rattle.dt_model.specs.Tree.{Property, Forest}
 use Rattle.dt_model.specs.Named.{NodeReference, NamedProperty, Content, NamedForest, no_nodes, branch, NamedPlaced, preorder}
-use Rattle.dt_laws.proofs.Tests.{in_left, in_right}
+use Rattle.dt_model.proofs.Tests.{in_left, in_right}
 use Rattle.dt_laws.proofs.ReferenceCells.{flat_of_flat, flat_same, cell_at, cells_of_property, cells_of_node}
 use Rattle.dt_laws.proofs.ObjectCells.{inside_of}
 

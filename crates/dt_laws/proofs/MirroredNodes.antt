@@ -14,8 +14,8 @@ use Rattle.dt_model.specs.Valid as valid
 use Rattle.dt_model.specs.Valid.{AreDistinct, AreProperties, AreNodes, phandles}
 use Rattle.dt_model.specs.Named.{NodeReference, NamedProperty, Content, NamedForest, no_nodes, branch, NamedNode, NamedPlaced, sibling, node_below, value_of, names, preorder}
 use Rattle.dt_model.specs.NamedOf.{IsContent, AreNamedNodes}
-use Rattle.dt_laws.proofs.Tests.{bytes_eq_refl, bytes_eq_true, each_in, in_left, in_right}
-use Rattle.dt_laws.proofs.Flat.{from_flat}
+use Rattle.dt_model.proofs.Tests.{bytes_eq_refl, bytes_eq_true, each_in, in_left, in_right}
+use Rattle.dt_model.proofs.Flat.{from_flat}
 use Rattle.dt_laws.proofs.NamedListed.{AreApart, IsSibling, found_sibling}
 use Rattle.dt_laws.proofs.NamedValues.{property_names}
 use Rattle.dt_laws.proofs.MirroredCells.{four_each}

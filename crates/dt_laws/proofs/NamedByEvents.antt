@@ -16,12 +16,12 @@ use Rattle.dt_model.specs.Named.{NodeReference, NamedForest, no_nodes, branch, N
 use Rattle.dt_model.specs.Overlay.{OverlayReference, reference_renamed}
 use Rattle.dt_model.specs.NamedOf.{IsNamedBy, IsNamed, IsContent, AreNamedNodes, RefersBelow, path_among, meant, contents_of}
 use Rattle.dt_model.specs.Refused.{StandMany}
-use Rattle.dt_laws.proofs.Cases.{all_map, some_there}
-use Rattle.dt_laws.proofs.Tests.{each_in, each_from, in_map, in_map_from}
+use Rattle.dt_model.proofs.Cases.{all_map, some_there}
+use Rattle.dt_model.proofs.Tests.{each_in, each_from, in_map, in_map_from}
 use Rattle.dt_laws.proofs.Orders.{falls_distinct}
 use Rattle.dt_laws.proofs.Bound.{path_named}
 use Rattle.dt_laws.proofs.GivenNumbers.{option_in}
-use Rattle.dt_laws.proofs.Flat.{flat_of_map, distinct_flat}
+use Rattle.dt_model.proofs.Flat.{flat_of_map, distinct_flat}
 use Rattle.dt_laws.proofs.Meanings.{no_twice}
 use Rattle.dt_laws.proofs.NamedListed.{IsSibling, sibling_found, child_at, listed_at, at_listed, length-nodes}
 use Rattle.dt_laws.proofs.NamedPaths.{paths_distinct}

@@ -8,7 +8,7 @@ use Rattle.dt_model.specs.Path.{Path}
 use Rattle.dt_model.specs.Lists.{IsIn}
 use Rattle.dt_model.specs.Valid.{AreDistinct}
 use Rattle.dt_model.specs.Named.{NamedForest, no_nodes, branch, Named, NamedNode, NamedPlaced, sibling, node_below, root_of, node_at, names, node_count, preorder, nodes_of}
-use Rattle.dt_laws.proofs.Tests.{bytes_eq_refl, bytes_eq_true, bytes_eq_other, each_in, in_left, in_right, in_append}
+use Rattle.dt_model.proofs.Tests.{bytes_eq_refl, bytes_eq_true, bytes_eq_other, each_in, in_left, in_right, in_append}
 
 module _ {R : Type 0} where
   -- siblings differ in their names at each node below

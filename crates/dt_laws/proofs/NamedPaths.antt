@@ -7,9 +7,9 @@ use Rattle.dt_model.specs.Path.{Path}
 use Rattle.dt_model.specs.Lists.{IsIn}
 use Rattle.dt_model.specs.Valid.{AreDistinct}
 use Rattle.dt_model.specs.Named.{NamedForest, no_nodes, branch, Named, NamedPlaced, names, preorder, paths_of}
-use Rattle.dt_laws.proofs.Tests.{each_in, each_from, each_append, in_append, in_map_from}
-use Rattle.dt_laws.proofs.Distinct.{distinct_append}
-use Rattle.dt_laws.proofs.Flat.{map_append}
+use Rattle.dt_model.proofs.Tests.{each_in, each_from, each_append, in_append, in_map_from}
+use Rattle.dt_model.proofs.Distinct.{distinct_append}
+use Rattle.dt_model.proofs.Flat.{map_append}
 use Rattle.dt_laws.proofs.NamedListed.{AreApart, IsApart}
 
 module _ {R : Type 0} where

@@ -11,7 +11,7 @@ use Rattle.dt_model.specs.Valid.{AreDistinct}
 use Rattle.dt_model.specs.Named.{NodeReference, NamedForest, no_nodes, branch, Named, NamedNode, root_of, node_at, value_of, number_of, written_in, names, paths_of}
 use Rattle.dt_model.specs.NamedOf.{IsNamedBy, IsNamedOf, bound_values, meant, path_among}
 use Rattle.dt_model.specs.Overlay.{OverlayReference, inside, reference_renamed}
-use Rattle.dt_laws.proofs.Cases.{map_some, then_some, some_there, all_map}
+use Rattle.dt_model.proofs.Cases.{map_some, then_some, some_there, all_map}
 use Rattle.dt_laws.proofs.Orders.{falls_distinct}
 use Rattle.dt_laws.proofs.Bound.{named_rules, named_obeys}
 use Rattle.dt_laws.proofs.Holding.{Holds, Obeys}

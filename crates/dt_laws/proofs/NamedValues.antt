@@ -10,7 +10,7 @@ use Rattle.dt_model.specs.Overlay.{OverlayReference, inside}
 use Rattle.dt_model.specs.Source.{Part, one, Events, all_bound, written}
 use Rattle.dt_model.specs.Valid.{AreDistinct}
 use Rattle.dt_model.specs.Named.{NamedProperty, value_of, number_of}
-use Rattle.dt_laws.proofs.Tests.{bytes_eq_refl, bytes_eq_true, bytes_eq_other, each_in, in_map}
+use Rattle.dt_model.proofs.Tests.{bytes_eq_refl, bytes_eq_true, bytes_eq_other, each_in, in_map}
 
 pub all_of_map : {X Y : Type 0} (f : X → Y) (P : Y → Type 0) (xs : List X) → AllByRecursion P (map f xs) → AllByRecursion (λ x. P (f x)) xs
 all_of_map f P [] h = tt

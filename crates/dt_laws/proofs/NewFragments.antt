@@ -11,8 +11,8 @@ use Rattle.dt_model.specs.Source.{by_label, by_path, Part, Place, root, block, d
 use Rattle.dt_model.specs.OverlaySource.{root_children, fragment_name, OverlaySoFar, overlay_start, read_overlay, read_overlays}
 use Rattle.dt_model.proofs.EventSteps.{bytes_eq-refl}
 use Rattle.dt_laws.specs.Fragments.{NewFragment}
-use Rattle.dt_laws.proofs.Cases.{all_map, either_left, either_right}
-use Rattle.dt_laws.proofs.Tests.{each_append}
+use Rattle.dt_model.proofs.Cases.{all_map, either_left, either_right}
+use Rattle.dt_model.proofs.Tests.{each_append}
 use Rattle.dt_laws.proofs.Lasts.{last_each, stands_by}
 use Rattle.dt_laws.proofs.Labels.{labelled_names}
 use Rattle.dt_laws.proofs.Holding.{Holds}

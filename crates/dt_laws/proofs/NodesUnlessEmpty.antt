@@ -10,7 +10,7 @@ use Rattle.dt_model.specs.Object.{cells_of, properties_of, nodes_from}
 use Rattle.dt_model.specs.Fixups.{unless_empty}
 use Rattle.dt_model.specs.Tree.{Property, Forest, no_nodes, branch, Node, sibling, node_below, value_of, preorder}
 use Rattle.dt_model.specs.Valid.{AreDistinct, AreProperties, AreNodes, names, phandles}
-use Rattle.dt_laws.proofs.Tests.{bytes_eq_refl}
+use Rattle.dt_model.proofs.Tests.{bytes_eq_refl}
 
 abbrev pub node_of : List Property → Forest → Node
 node_of ps children = record { properties = ps; children = children }

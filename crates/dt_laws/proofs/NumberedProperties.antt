@@ -16,13 +16,13 @@ use Rattle.dt_model.specs.Named as named
 use Rattle.dt_model.specs.Named.{NodeReference, NamedProperty, Content, number_of, written_in}
 use Rattle.dt_model.specs.NamedOf.{IsContent}
 use Rattle.dt_model.specs.Instance.{number_at, number_for, numbered, phandle_of, numbered_properties}
-use Rattle.dt_laws.proofs.Tests.{each_in, each_from, each_append, in_map_from}
-use Rattle.dt_laws.proofs.Cases.{some_there}
-use Rattle.dt_laws.proofs.Distinct.{distinct_append}
+use Rattle.dt_model.proofs.Tests.{each_in, each_from, each_append, in_map_from}
+use Rattle.dt_model.proofs.Cases.{some_there}
+use Rattle.dt_model.proofs.Distinct.{distinct_append}
 use Rattle.dt_laws.proofs.Bound.{written_range}
 use Rattle.dt_laws.proofs.CheckedNames.{property_name}
 use Rattle.dt_laws.proofs.Numbered.{small_number}
-use Rattle.dt_laws.proofs.Flat.{map_append}
+use Rattle.dt_model.proofs.Flat.{map_append}
 use Rattle.dt_laws.proofs.NamedValues.{property_names, value_listed, listed_value}
 
 -- the bytes of a value under the nodes' numbers

@@ -10,8 +10,8 @@ use Rattle.dt_model.specs.Overlay.{inside, outside}
 use Rattle.dt_model.specs.Valid.{AreDistinct}
 use Rattle.dt_model.specs.Fixups.{outside_cell, outside_cells_of, outside_cells}
 use Rattle.dt_model.specs.Named.{NodeReference, NamedProperty, Named, NamedPlaced, nodes_of}
-use Rattle.dt_laws.proofs.Distinct.{in_flat}
-use Rattle.dt_laws.proofs.Flat.{from_flat, distinct_flat}
+use Rattle.dt_model.proofs.Distinct.{in_flat}
+use Rattle.dt_model.proofs.Flat.{from_flat, distinct_flat}
 use Rattle.dt_laws.proofs.ReferenceCells.{flat_of_flat, flat_same, cell_at, cells_of_property, cells_of_node, cells_in, only_cell}
 
 abbrev outside_of : Cell × NodeReference → List (Name × Cell)

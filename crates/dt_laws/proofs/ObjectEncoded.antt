@@ -21,8 +21,8 @@ use Rattle.dt_model.specs.Valid.{AreDistinct}
 use Rattle.dt_model.specs.Named as named
 use Rattle.dt_model.specs.Named.{NodeReference, Named, NamedNode, NamedPlaced, root_of, node_at, nodes_of, preorder}
 use Rattle.dt_model.specs.NamedOf.{IsNamedBy, IsNamed, meant}
-use Rattle.dt_laws.proofs.Cases.{some_there, then_some}
-use Rattle.dt_laws.proofs.Tests.{bytes_eq_true, each_from}
+use Rattle.dt_model.proofs.Cases.{some_there, then_some}
+use Rattle.dt_model.proofs.Tests.{bytes_eq_true, each_from}
 use Rattle.dt_laws.proofs.NamedSources.{value_same}
 use Rattle.dt_laws.proofs.AskedNumbers.{named_apart}
 use Rattle.dt_laws.proofs.ReferenceCells.{only_cell, cells_of_node, cells_in, cells_once}

@@ -20,9 +20,9 @@ use Rattle.dt_model.specs.Named as named
 use Rattle.dt_model.specs.Named.{NodeReference, Content, Named, NamedNode, NamedPlaced, NamedProperty, node_at, node_count, nodes_of, paths_of, written_in}
 use Rattle.dt_model.specs.NamedOf.{IsBelow, IsNamed, path_among, meant, has_reference_to, asked, contents_of, asked_in}
 use Rattle.dt_model.specs.Instance.{number_for, number_at, numbered_properties, instance_of}
-use Rattle.dt_laws.proofs.Cases.{some_there}
-use Rattle.dt_laws.proofs.Tests.{bytes_eq_true, each_in}
-use Rattle.dt_laws.proofs.Listed as listed
+use Rattle.dt_model.proofs.Cases.{some_there}
+use Rattle.dt_model.proofs.Tests.{bytes_eq_true, each_in}
+use Rattle.dt_model.proofs.Listed as listed
 use Rattle.dt_laws.proofs.NamedListed.{listed_at, at_listed, length-nodes}
 use Rattle.dt_laws.proofs.NamedPaths.{paths_distinct}
 use Rattle.dt_laws.proofs.NamedValues.{value_listed}

@@ -23,7 +23,7 @@ use Rattle.dt_model.specs.Named.{NodeReference, Named, NamedPlaced, root_of, nod
 use Rattle.dt_model.specs.NamedOf.{IsNamedBy, IsNamed, path_among, meant}
 use Rattle.dt_laws.specs.OverlayTrees.{ObjectIsValid}
 use Rattle.dt_laws.specs.ShortValues.{HasShortValues, ShortObjectEncodes}
-use Rattle.dt_laws.proofs.Tests.{in_map}
+use Rattle.dt_model.proofs.Tests.{in_map}
 use Rattle.dt_laws.proofs.Holding.{Holds, label_follows}
 use Rattle.dt_laws.proofs.OverlayHolding.{overlay_rules, holds-overlay_start, holds-overlay}
 use Rattle.dt_laws.proofs.Overlays.{source_overlay}

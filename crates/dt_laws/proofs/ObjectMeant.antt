@@ -20,7 +20,7 @@ use Rattle.dt_model.specs.Named as named
 use Rattle.dt_model.specs.Named.{NodeReference, Content, Named, NamedPlaced, node_count, nodes_of, paths_of}
 use Rattle.dt_model.specs.NamedOf.{IsNamed, asked_in}
 use Rattle.dt_model.specs.Instance.{symbol, AreSymbols, symbols_of, instance_of}
-use Rattle.dt_laws.proofs.Tests.{each_from, in_map}
+use Rattle.dt_model.proofs.Tests.{each_from, in_map}
 use Rattle.dt_laws.proofs.Merging.{no_value}
 use Rattle.dt_laws.proofs.LabelSymbols as labels
 use Rattle.dt_laws.proofs.LabelSymbols.{label_is_name, symbol_value}

@@ -14,8 +14,8 @@ use Rattle.dt_model.specs.Named.{NodeReference, Named}
 use Rattle.dt_model.specs.Tree.{Property, Forest, no_nodes, branch, Reading, Node, sibling, node_below, value_of, node_at, stands_in, value_in}
 use Rattle.dt_model.specs.Valid.{AreDistinct, AreProperties, AreNodes, IsPhandle, IsValid, names, phandle_values, phandles}
 use Rattle.dt_laws.proofs.CheckedNames.{node_name}
-use Rattle.dt_laws.proofs.Distinct.{distinct_append}
-use Rattle.dt_laws.proofs.Tests.{each_in, bytes_eq_refl, bytes_eq_true}
+use Rattle.dt_model.proofs.Distinct.{distinct_append}
+use Rattle.dt_model.proofs.Tests.{each_in, bytes_eq_refl, bytes_eq_true}
 use Rattle.dt_laws.proofs.NodesUnlessEmpty.{IsUnlessEmpty, found_here, found_other, nodes_unless_empty, each_name, distinct_unless_empty, phandles_unless_empty}
 
 -- ---- siblings behind others

@@ -12,8 +12,8 @@ use Rattle.dt_model.specs.Valid.{AreDistinct}
 use Rattle.dt_model.specs.Named.{NodeReference, NamedForest, no_nodes, branch, Named, NamedNode, NamedPlaced, NamedProperty, Content, root_of, node_at, names, node_count, preorder, nodes_of, paths_of}
 use Rattle.dt_model.specs.Overlay.{OverlayReference, inside, outside, reference_renamed}
 use Rattle.dt_model.specs.NamedOf.{IsNamedBy, IsBelow, RefersBelow, path_among, meant, contents_of}
-use Rattle.dt_laws.proofs.Tests.{each_in, in_map}
-use Rattle.dt_laws.proofs.Flat.{map_append}
+use Rattle.dt_model.proofs.Tests.{each_in, in_map}
+use Rattle.dt_model.proofs.Flat.{map_append}
 use Rattle.dt_laws.proofs.Orders.{one_order, falls_distinct}
 use Rattle.dt_laws.proofs.Places.{HasAt, at_path, one_at}
 use Rattle.dt_laws.proofs.NamedListed.{IsSibling, sibling_found, child_at, at_listed, length-nodes}

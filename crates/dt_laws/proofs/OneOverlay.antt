@@ -10,7 +10,7 @@ use Rattle.dt_model.specs.Source.{Events, Place}
 use Rattle.dt_model.specs.OverlaySource.{OverlaySoFar, OverlayRefusal, overlay_of, OverlayMeans}
 use Rattle.dt_laws.specs.OverlayTrees.{OneOverlay}
 use Rattle.dt_laws.proofs.Orders.{one_order}
-use Rattle.dt_laws.proofs.Texts.{one_value}
+use Rattle.dt_model.proofs.Texts.{one_value}
 
 pub one_end : {o : Result OverlaySoFar OverlayRefusal} (s t : OverlaySoFar) → o ≡ Ok s → o ≡ Ok t → s ≡ t
 one_end s t h k = let z : ◌≡◌ {A = Result OverlaySoFar OverlayRefusal} (Ok s) (Ok t) = sym h ∙ k in cc

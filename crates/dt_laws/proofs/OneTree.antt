@@ -17,7 +17,7 @@ use Rattle.dt_model.specs.Numbering.{asked_by, numbers_by, written_numbers, IsNu
 use Rattle.dt_model.specs.Ordered.{IsInOrder, unwritten}
 use Rattle.dt_model.specs.Instance.{IsInstance, IsInstanceOf, symbol, AreSymbols, added}
 use Rattle.dt_laws.specs.CompiledTrees.{OneTree}
-use Rattle.dt_laws.proofs.Cases.{all_from, then_some, either_right}
+use Rattle.dt_model.proofs.Cases.{all_from, then_some, either_right}
 use Rattle.dt_laws.proofs.Orders.{one_order}
 use Rattle.dt_laws.proofs.Bound.{all_each_bound}
 use Rattle.dt_laws.proofs.Brought.{apart_below, root_apart}

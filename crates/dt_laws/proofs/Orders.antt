@@ -3,8 +3,8 @@ use Rattle.std.proofs.Common.{◌≡◌, ◌≢◌, ℕ, ◌<◌, Bool, true, Li
 use Rattle.std.specs.List.{AllByRecursion}
 use Rattle.dt_model.specs.Lists.{IsIn, FallBy, AreInOrder}
 use Rattle.dt_model.specs.Valid.{AreDistinct}
-use Rattle.dt_laws.proofs.Cases.{all_map}
-use Rattle.dt_laws.proofs.Tests.{each_in}
+use Rattle.dt_model.proofs.Cases.{all_map}
+use Rattle.dt_model.proofs.Tests.{each_in}
 
 module _ {X : Type 0} (age : X → ℕ) where
   not_itself : (x : X) (xs : List X) → AllByRecursion (λ y. age y < age x) xs → IsIn x xs → ⊥

@@ -18,8 +18,8 @@ use Rattle.dt_model.specs.Named.{NodeReference, NamedProperty, Content, Named, N
 use Rattle.dt_model.specs.NamedOf.{IsNamedBy, IsBelow, RefersBelow, path_among, meant, contents_of}
 use Rattle.dt_model.specs.NamedOverlay.{NamedTarget, to_reference, to_text, NamedFragment, IsTargetOf, AreFragmentsOf, IsNamedOverlayOf}
 use Rattle.dt_laws.specs.OverlayChecks.{fragments_among, HoldTarget, properties_at, AreFragmentsAmong, HasUntargeted, is_marked, AreBrought, is_within, refers_within, refer_within, is_target_within, AreContained, AreTargetsContained, HasUncontained, AreChecked, AreUncontained, IsTreeAfter, CheckedIsMeant, UntargetedIsRefused, UncontainedIsRefused}
-use Rattle.dt_laws.proofs.Cases.{map_some, then_some}
-use Rattle.dt_laws.proofs.Tests.{and_left, and_right, and_both, bytes_eq_true, bytes_eq_refl, each_in, each_from, all_at, in_map, in_map_from}
+use Rattle.dt_model.proofs.Cases.{map_some, then_some}
+use Rattle.dt_model.proofs.Tests.{and_left, and_right, and_both, bytes_eq_true, bytes_eq_refl, each_in, each_from, all_at, in_map, in_map_from}
 use Rattle.dt_laws.proofs.Orders.{falls_distinct}
 use Rattle.dt_laws.proofs.NamedListed.{IsApart, at_listed, length-nodes}
 use Rattle.dt_laws.proofs.NamedValues.{property_names, value_listed, listed_value}

@@ -10,7 +10,7 @@ use Rattle.dt_model.specs.Source.{by_label, by_path, Part, one, number_of, Place
 use Rattle.dt_model.specs.OverlaySource.{root_children, fragment_name, OverlaySoFar, overlay_start, overlay_phandle, overlay_path, with_next, is_overlay_part, read_overlay, read_overlays}
 use Rattle.dt_model.proofs.EventSteps.{stands-push}
 use Rattle.dt_laws.specs.OverlayTrees.{OverlayNodesAreShallow, OverlayRootStands}
-use Rattle.dt_laws.proofs.Cases.{not_refused}
+use Rattle.dt_model.proofs.Cases.{not_refused}
 use Rattle.dt_laws.proofs.Depths.{AreShallow, shallow-opening, shallow-read}
 use Rattle.dt_laws.proofs.Holding.{Holds, holds-again, holds-made}
 use Rattle.dt_laws.proofs.Labels.{labelled_names}

@@ -8,7 +8,7 @@ use Rattle.dt_model.specs.Path.{path_value}
 use Rattle.dt_model.specs.Event.{Stack, Event}
 use Rattle.dt_model.specs.Source.{by_label, by_path, Part, one, number_of, Place, root, block, delete_node, child, label, property, delete_property, delete_child, close, base, Refusal, Events, SoFar, labelled, enter, outside, read}
 use Rattle.dt_model.specs.OverlaySource.{fragment_name, free_from, OverlaySoFar, OverlayRefusal, overlay_phandle, overlay_path, with_next, open_fragment, new_fragment, is_overlay_part, read_overlay}
-use Rattle.dt_laws.proofs.Cases.{not_refused}
+use Rattle.dt_model.proofs.Cases.{not_refused}
 use Rattle.dt_laws.proofs.Making.{Makes, makes, outside_ok, same_ok}
 
 -- the number of the next new fragment

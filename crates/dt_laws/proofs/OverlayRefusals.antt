@@ -10,7 +10,7 @@ use Rattle.dt_model.specs.Source.{Events, Place}
 use Rattle.dt_model.specs.OverlaySource.{OverlaySoFar, OverlayRefusal, overlay_of, OverlayMeans, LateOverlayRefusal, bad_fragment, outside_content, HasOutsideContent, IsLateOverlayRefusal}
 use Rattle.dt_model.specs.Refused.{at_place, at_end, too_many}
 use Rattle.dt_laws.specs.OverlayTrees.{OverlayRefusalIsOne, OverlayIsNotRefused}
-use Rattle.dt_laws.proofs.Tests.{each_in}
+use Rattle.dt_model.proofs.Tests.{each_in}
 use Rattle.dt_laws.proofs.Overlays.{in_names, of_name}
 use Rattle.dt_laws.proofs.OneOverlay.{one_end, one_target, holds_as}
 

@@ -13,8 +13,8 @@ use Rattle.dt_model.specs.Overlay.{OverlayReference, inside, outside, Target, at
 use Rattle.dt_model.specs.Source.{by_label, by_path, Part, one, number_of, text_of, IsPart, Place, IsPlace, Events, labelled, labels_there, refers_there, refers}
 use Rattle.dt_model.specs.OverlaySource.{root_children, overlay_start, overlay_reference, overlay_items, overlay_of, OverlayMeans}
 use Rattle.dt_model.proofs.EventSteps.{path_eq-refl}
-use Rattle.dt_laws.proofs.Cases.{map_some, some_there, either_left, either_right}
-use Rattle.dt_laws.proofs.Tests.{each_in}
+use Rattle.dt_model.proofs.Cases.{map_some, some_there, either_left, either_right}
+use Rattle.dt_model.proofs.Tests.{each_in}
 use Rattle.dt_laws.proofs.Orders.{falls_distinct}
 use Rattle.dt_laws.proofs.Labels.{labelled_names, labelled_there, some_label}
 use Rattle.dt_laws.proofs.Sound.{Sound}

@@ -6,7 +6,7 @@ use Rattle.dt_model.specs.Names.{Name}
 use Rattle.dt_model.specs.Lists.{IsIn}
 use Rattle.dt_model.specs.Source.{Part, Place, root, block, delete_node, child, label, property, delete_property, delete_child, close, Body, is_among}
 use Rattle.dt_model.proofs.EventSteps.{bytes_eq-is, bytes_eq-refl}
-use Rattle.dt_laws.proofs.Cases.{either_left, either_right}
+use Rattle.dt_model.proofs.Cases.{either_left, either_right}
 use Rattle.dt_laws.proofs.Making.{with_child, with_property}
 
 -- the body after one of its own places, and after all of them

@@ -9,8 +9,8 @@ use Rattle.dt_model.specs.Meaning.{Meaning, IsMeaning}
 use Rattle.dt_model.specs.Overlay.{Overlay, IsOverlay, Fragment, content, IsBrought}
 use Rattle.dt_model.specs.Merged.{Site, AreSites, moved, landing, sources}
 use Rattle.dt_model.specs.Valid.{AreDistinct}
-use Rattle.dt_laws.proofs.Tests.{each_append, in_left, in_map, in_map_from, or_cases, any_from}
-use Rattle.dt_laws.proofs.Distinct.{distinct_left}
+use Rattle.dt_model.proofs.Tests.{each_append, in_left, in_map, in_map_from, or_cases, any_from}
+use Rattle.dt_model.proofs.Distinct.{distinct_left}
 use Rattle.dt_laws.proofs.Lands.{moved_is, moved-append, landing_of}
 
 abbrev pub site_names : List Site → List Name

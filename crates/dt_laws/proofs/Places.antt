@@ -7,8 +7,8 @@ use Rattle.dt_model.specs.Lists.{IsIn}
 use Rattle.dt_model.specs.Valid.{AreDistinct}
 use Rattle.dt_model.specs.NamedOf.{path_among}
 use Rattle.dt_model.specs.Instance.{number_at}
-use Rattle.dt_laws.proofs.Tests.{path_eq_refl, path_eq_true, in_left, in_right}
-use Rattle.dt_laws.proofs.Distinct.{not_twice, apart, distinct_right}
+use Rattle.dt_model.proofs.Tests.{path_eq_refl, path_eq_true, in_left, in_right}
+use Rattle.dt_model.proofs.Distinct.{not_twice, apart, distinct_right}
 
 -- the list has the element at this place
 abbrev pub HasAt : {X : Type 0} → ℕ → X → List X → Type 0

@@ -7,7 +7,7 @@ use Rattle.dt_model.specs.Path.{Path, is_bookkeeping}
 use Rattle.dt_model.specs.Meaning.{Meaning, IsPlain}
 use Rattle.dt_model.specs.Event.{Stack, stands}
 use Rattle.dt_model.specs.Source.{Place, root, block, delete_node, child, label, property, delete_property, delete_child, close, base, SoFar, is_reserved, meaning_of, SourceMeans}
-use Rattle.dt_laws.proofs.Cases.{all_from}
+use Rattle.dt_model.proofs.Cases.{all_from}
 use Rattle.dt_laws.proofs.Holding.{Rules, Obeys, node_follows}
 use Rattle.dt_laws.proofs.ReadAll.{holds-source}
 

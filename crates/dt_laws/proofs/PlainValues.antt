@@ -4,7 +4,7 @@ use Rattle.std.specs.List.{AllByRecursion, list_any}
 use Rattle.dt_model.specs.OverlaySource.{root_children, overlay_start, is_overlay_part}
 use Rattle.dt_model.specs.Source.{Part, IsPart}
 use Rattle.dt_laws.specs.OverlayChecks.{OverlayValuesArePlain}
-use Rattle.dt_laws.proofs.Cases.{neither}
+use Rattle.dt_model.proofs.Cases.{neither}
 use Rattle.dt_laws.proofs.Holding.{value_follows}
 use Rattle.dt_laws.proofs.OverlayHolding.{overlay_rules, holds-overlay_start, holds-overlay}
 use Rattle.dt_laws.proofs.OverlayParts.{AreOverlayParts, parts_left}

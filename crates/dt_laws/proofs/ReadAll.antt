@@ -5,7 +5,7 @@ use Rattle.dt_model.specs.Names.{Name}
 use Rattle.dt_model.specs.Event.{Stack, names}
 use Rattle.dt_model.specs.Source.{by_label, by_path, Place, root, block, delete_node, child, label, property, delete_property, delete_child, close, Mode, Refusal, SoFar, nothing, enter, and_if_read, read, read_all}
 use Rattle.dt_laws.specs.NamedTrees.{RootStands}
-use Rattle.dt_laws.proofs.Cases.{all_from}
+use Rattle.dt_model.proofs.Cases.{all_from}
 use Rattle.dt_laws.proofs.Sound.{sound-start}
 use Rattle.dt_laws.proofs.Making.{Makes, makes}
 use Rattle.dt_laws.proofs.Holding.{Rules, Obeys, Holds, holds-read}

@@ -11,9 +11,9 @@ use Rattle.dt_model.specs.Meaning.{Item, byte, reference, item_renamed, cell, va
 use Rattle.dt_model.specs.Object.{Cell, references_from}
 use Rattle.dt_model.specs.Valid.{AreDistinct}
 use Rattle.dt_model.specs.Named.{NamedProperty, Content, Named, NamedNode, NamedPlaced, value_of, node_at, content_in, nodes_of}
-use Rattle.dt_laws.proofs.Tests.{each_from, in_map, in_map_from}
-use Rattle.dt_laws.proofs.Distinct.{in_flat, not_twice}
-use Rattle.dt_laws.proofs.Flat.{map_flat, from_flat, distinct_flat}
+use Rattle.dt_model.proofs.Tests.{each_from, in_map, in_map_from}
+use Rattle.dt_model.proofs.Distinct.{in_flat, not_twice}
+use Rattle.dt_model.proofs.Flat.{map_flat, from_flat, distinct_flat}
 use Rattle.dt_laws.proofs.Cells.{offset_from}
 use Rattle.dt_laws.proofs.NamedListed.{IsApart, listed_at, at_listed}
 use Rattle.dt_laws.proofs.NamedPaths.{paths_distinct}

@@ -17,9 +17,9 @@ use Rattle.dt_model.specs.Tree.{Property, Reading, Node, value_of, root_of, node
 use Rattle.dt_model.specs.Valid.{AreDistinct}
 use Rattle.dt_model.specs.Applied.{node_named, writes, written, with_fragments, landed_symbols, applied_at}
 use Rattle.dt_laws.specs.Applying.{AreOf, KeepsBookkeeping}
-use Rattle.dt_laws.proofs.Tests.{any_from, any_same}
+use Rattle.dt_model.proofs.Tests.{any_from, any_same}
 use Rattle.dt_laws.proofs.Lands.{landing_of, last_same, last_none}
-use Rattle.dt_laws.proofs.Listed.{value_stands}
+use Rattle.dt_model.proofs.Listed.{value_stands}
 use Rattle.dt_laws.proofs.Brought.{written_value, apart_below, root_apart}
 use Rattle.dt_laws.proofs.Landing.{AreThere, value-with_fragments, stands-with_fragments}
 use Rattle.dt_laws.proofs.Inside.{final_number, plain_brought, referred_inside}

@@ -6,7 +6,7 @@ use Rattle.dt_model.specs.Lists.{IsIn}
 use Rattle.dt_model.specs.Event.{Stack, Event, opening, giving, definition, undefinition, deletion}
 use Rattle.dt_model.specs.Source.{Part, Place, child, close, Body, SoFar, enter}
 use Rattle.dt_model.specs.OverlaySource.{root_children, fragment_name, OverlaySoFar}
-use Rattle.dt_laws.proofs.Tests.{each_append}
+use Rattle.dt_model.proofs.Tests.{each_append}
 use Rattle.dt_laws.proofs.Making.{with_child}
 use Rattle.dt_laws.proofs.Holding.{Holds}
 use Rattle.dt_laws.proofs.OverlayHolding.{overlay_rules}

@@ -7,9 +7,9 @@ use Rattle.dt_model.specs.Names.{Name}
 use Rattle.dt_model.specs.Path.{Path}
 use Rattle.dt_model.specs.Tree.{Property, Forest, no_nodes, branch, value_of, Node, Placed, preorder}
 use Rattle.dt_model.specs.Valid.{AreDistinct, names, AreNodes}
-use Rattle.dt_laws.proofs.Tests.{bytes_eq_refl, bytes_eq_true}
+use Rattle.dt_model.proofs.Tests.{bytes_eq_refl, bytes_eq_true}
 use Rattle.dt_laws.proofs.Merging.{no_value}
-use Rattle.dt_laws.proofs.Listed.{found, other_sibling, found_some}
+use Rattle.dt_model.proofs.Listed.{found, other_sibling, found_some}
 
 -- ---- properties
 

@@ -16,8 +16,8 @@ use Rattle.dt_model.specs.Overlay.{OverlayReference, inside, outside, at_referen
 use Rattle.dt_model.specs.OverlaySource.{OverlaySoFar, overlay_start, OverlayRefusal, root_children, read_overlays, overlay_items, overlay_of}
 use Rattle.dt_model.proofs.EventSteps.{bytes_eq-is}
 use Rattle.dt_laws.specs.SampleSources.{sample_overlay, sample_fragments, sample_node, IsSampleOverlay}
-use Rattle.dt_laws.proofs.Cases.{map_some, all_pass}
-use Rattle.dt_laws.proofs.Tests.{each_in}
+use Rattle.dt_model.proofs.Cases.{map_some, all_pass}
+use Rattle.dt_model.proofs.Tests.{each_in}
 use Rattle.dt_laws.proofs.Lasts.{last_each, stands_by, value_by}
 
 abbrev read_or_start : Result OverlaySoFar OverlayRefusal → OverlaySoFar

@@ -9,7 +9,7 @@ use Rattle.dt_model.specs.Event.{Stack, Event, opening, giving, definition, unde
 use Rattle.dt_model.specs.Source.{Part, Refusal, Events, SoFar, base, nothing, read_all, all_bound, written, written_number, meaning_of, IsResolved}
 use Rattle.dt_model.proofs.EventSteps.{path_eq-is}
 use Rattle.dt_laws.specs.SampleSources.{sample_source, IsSampleMeaning}
-use Rattle.dt_laws.proofs.Cases.{then_some, all_pass}
+use Rattle.dt_model.proofs.Cases.{then_some, all_pass}
 use Rattle.dt_laws.proofs.Lasts.{last_each, value_by}
 
 -- a test of the definitions

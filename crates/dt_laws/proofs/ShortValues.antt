@@ -7,7 +7,7 @@ use Rattle.dt_model.specs.Path.{Path}
 use Rattle.dt_model.specs.Format.{Token, begin_node, end_node, prop, nop, end_tree, Spells, SpellsAll, SpellsTree, tokens_of_forest, tokens_of, without_nops}
 use Rattle.dt_model.specs.Tree.{Property, Forest, no_nodes, branch, Reading, Node, sibling, node_below, root_of, node_at, value_of}
 use Rattle.dt_laws.specs.ShortValues.{ReadValuesAreShort}
-use Rattle.dt_laws.proofs.Cases.{then_some}
+use Rattle.dt_model.proofs.Cases.{then_some}
 
 -- a property's value is short
 abbrev IsShort : Token → Type 0

@@ -14,11 +14,11 @@ use Rattle.dt_model.specs.Numbers.{AreNewNumbers, numbers_of, new_paths, number_
 use Rattle.dt_model.specs.Tree.{Reading, nodes_of, stands_in, value_in}
 use Rattle.dt_model.specs.Applied.{number_at, node_numbered, node_named, writes, written, landed_with, landed_named, target_node}
 use Rattle.dt_laws.specs.Applying.{AreOf}
-use Rattle.dt_laws.proofs.Tests.{or_left, or_right, or_cases, any_from, any_here}
+use Rattle.dt_model.proofs.Tests.{or_left, or_right, or_cases, any_from, any_here}
 use Rattle.dt_laws.proofs.Lands.{source_of, landing_of}
-use Rattle.dt_laws.proofs.Texts.{one_value}
-use Rattle.dt_laws.proofs.Listed.{stands_listed, listed_stands}
-use Rattle.dt_laws.proofs.Finding.{node_of_number, number_of_node, node_of_text, text_of_node, landed_named_from, landed_named_some}
+use Rattle.dt_model.proofs.Texts.{one_value}
+use Rattle.dt_model.proofs.Listed.{stands_listed, listed_stands}
+use Rattle.dt_model.proofs.Finding.{node_of_number, number_of_node, node_of_text, text_of_node, landed_named_from, landed_named_some}
 use Rattle.dt_laws.proofs.Inside.{IsInside, final_number, plain_brought, plain_fragment, target_inside}
 use Rattle.dt_laws.proofs.Given.{phandle_of, object_value_is}
 use Rattle.dt_laws.proofs.Fresh.{landed_is}

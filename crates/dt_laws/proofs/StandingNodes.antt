@@ -12,9 +12,9 @@ use Rattle.dt_model.specs.Valid.{AreDistinct, node_count}
 use Rattle.dt_model.specs.Numbers.{paths_of}
 use Rattle.dt_model.specs.Refused.{StandMany}
 use Rattle.dt_laws.specs.CompiledTrees.{FewAreNotRefused}
-use Rattle.dt_laws.proofs.Tests.{each_in, in_map}
-use Rattle.dt_laws.proofs.Listed.{stands_listed}
-use Rattle.dt_laws.proofs.Preorder.{length-preorder}
+use Rattle.dt_model.proofs.Tests.{each_in, in_map}
+use Rattle.dt_model.proofs.Listed.{stands_listed}
+use Rattle.dt_model.proofs.Preorder.{length-preorder}
 use Rattle.dt_laws.proofs.SourceRefusals.{one_end}
 
 -- ---- distinct elements of a list are no more than the list has

@@ -6,7 +6,7 @@ use Rattle.dt_model.specs.Names.{Name}
 use Rattle.dt_model.specs.Path.{path_eq}
 use Rattle.dt_model.specs.Event.{Stack, Event, opening, giving, definition, undefinition, deletion, is_within, stands, value_at, names}
 use Rattle.dt_model.proofs.EventSteps.{bytes_eq-is, path_eq-is, path_eq-refl, stands-push, value_at-push, names-push}
-use Rattle.dt_laws.proofs.Cases.{cond_true, cond_false, cond_none, cond_some_or, either_false, neither}
+use Rattle.dt_model.proofs.Cases.{cond_true, cond_false, cond_none, cond_some_or, either_false, neither}
 
 -- ---- nodes within nodes
 

@@ -10,7 +10,7 @@ use Rattle.dt_model.specs.Merged.{Site, landing}
 use Rattle.dt_model.specs.Tree.{Property, no_nodes, branch, Reading, value_of, Node, node_below, nodes_of, stands_in, value_in}
 use Rattle.dt_model.specs.Valid.{AreDistinct}
 use Rattle.dt_model.specs.Applied.{node_named, landed_symbol, landed_symbols, with_symbols_merged}
-use Rattle.dt_laws.proofs.Tests.{bytes_eq_true}
+use Rattle.dt_model.proofs.Tests.{bytes_eq_true}
 use Rattle.dt_laws.proofs.Merging.{IsApart, no_value, value_below}
 use Rattle.dt_laws.proofs.Changing.{value-changed, stands-changed}
 

@@ -9,7 +9,7 @@ use Rattle.dt_model.specs.Merged.{Site, moved, sources, AreSites}
 use Rattle.dt_model.specs.Tree.{Reading, stands_in}
 use Rattle.dt_model.specs.Applied.{Write}
 use Rattle.dt_laws.specs.Applying.{AreOf}
-use Rattle.dt_laws.proofs.Tests.{any_same, in_map, in_map_from}
+use Rattle.dt_model.proofs.Tests.{any_same, in_map, in_map_from}
 use Rattle.dt_laws.proofs.Lands.{moved_is}
 use Rattle.dt_laws.proofs.Landing.{StandInTurn, AreThere, there_from}
 use Rattle.dt_laws.proofs.Inside.{plain_fragment}

@@ -19,11 +19,11 @@ use Rattle.dt_model.specs.Valid.{AreDistinct, IsValid, IsReservation, IsPhandle,
 use Rattle.dt_model.specs.Applied.{writes, find_sites, is_allowed, if_allowed, applied_at, applied}
 use Rattle.dt_laws.specs.Applying.{AreOf, IsResult}
 use Rattle.dt_laws.specs.Again.{AppliedIsValid}
-use Rattle.dt_laws.proofs.Tests.{or_cases, any_from, each_in, each_from, path_eq_true, path_eq_refl, in_append, in_map}
-use Rattle.dt_laws.proofs.Distinct.{in_flat, distinct_append, not_twice}
+use Rattle.dt_model.proofs.Tests.{or_cases, any_from, each_in, each_from, path_eq_true, path_eq_refl, in_append, in_map}
+use Rattle.dt_model.proofs.Distinct.{in_flat, distinct_append, not_twice}
 use Rattle.dt_laws.proofs.Lands.{landing_of}
-use Rattle.dt_laws.proofs.Listed.{listed_in, value_is_listed, value_listed}
-use Rattle.dt_laws.proofs.Preorder.{paths_of, paths_apart, phandle_list, all_phandles, value_in_list, own_phandle}
+use Rattle.dt_model.proofs.Listed.{listed_in, value_is_listed, value_listed}
+use Rattle.dt_model.proofs.Preorder.{paths_of, paths_apart, phandle_list, all_phandles, value_in_list, own_phandle}
 use Rattle.dt_laws.proofs.KeptNames.{IsGoodNode}
 use Rattle.dt_laws.proofs.GoodResult.{result_good}
 use Rattle.dt_laws.proofs.Numbered.{small_number}

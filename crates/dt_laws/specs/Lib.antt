@@ -1,5 +1,3 @@
-pub mod Blobs
-pub mod Samples
 pub mod Applying
 pub mod Merging
 pub mod Again

@@ -1,9 +1,8 @@
 //! Theorems about the definitions of dt_model alone: what is true of each meaning that a source has, that applying an object to
-//! a tree is merging what the two mean, and of the faults of bytes that are no blob. They stand apart from dt_model so that
-//! they aren't checked again with each crate that uses the definitions.
+//! a tree is merging what the two mean. They stand apart from dt_model so that they aren't checked again with each crate that
+//! uses the definitions.
 #![tactic(auto)]
 
-mod blobs;
 mod compiled;
 mod joining;
 mod laws;
@@ -17,7 +16,6 @@ mod premises;
 mod samples;
 mod sources;
 
-pub use blobs::{blob_has_no_fault, first_fault_is_one};
 pub use compiled::{
     compiled_base_represents, compiled_is_not_refused, compiled_tree_is_one,
     compiled_tree_is_valid, refusal_is_one,

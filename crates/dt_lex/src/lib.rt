@@ -23,4 +23,4 @@ mod word;
 pub use laws::{one_answer, one_outcome, texts_are_read};
 pub use letter::push_text;
 pub use lexer::tokens;
-pub use token::{Keyword, Mark, Token, TokenKind};
+pub use token::{Keyword, Mark, Token, TokenKind, keyword_bytes, mark_bytes};

@@ -17,11 +17,3 @@ pub mod Outside
 pub mod Counting
 pub mod LastChildren
 pub mod ObjectNodes
-pub mod TextCuts
-pub mod CellTexts
-pub mod ListedCells
-pub mod ToldFixups
-pub mod NodePlaces
-pub mod ToldLocalFixups
-pub mod MirrorWalks
-pub mod OneList

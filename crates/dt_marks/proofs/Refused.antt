@@ -1,14 +1,14 @@
 -- Why there are no labels, or no cells.
-use Rattle.std.proofs.Common.{◌≡◌, ◌≢◌, ℕ, zero, suc, ◌+◌, ◌<◌, ◌≤◌, List, [], ◌∷◌, ◌++◌, length, None, refl, inl, inr, codes, arith}
+use Rattle.std.proofs.Common.{◌≡◌, ℕ, zero, suc, ◌+◌, ◌<◌, ◌≤◌, List, [], ◌∷◌, ◌++◌, length, None, inl, inr, arith}
 use Rattle.std.specs.List.{AllByRecursion}
 use Rattle.std.proofs.lemmas.List.{length-append}
 use Rattle.dt_model.specs.Names.{Name}
 use Rattle.dt_model.specs.Tree.{Property}
 use Rattle.dt_names.specs.declared.fault.FaultKind.{FaultKind}
-use Rattle.dt_names.specs.declared.fault.FaultKind.TheVariants.{NoMemory, Limit, Duplicate, BlobPhandle}
+use Rattle.dt_names.specs.declared.fault.FaultKind.TheVariants.{NoMemory, Limit, Duplicate}
 use Rattle.dt_flat.specs.Arena.{Slot, named_children, child_of, depth_of, with_child, with_property}
 use Rattle.dt_flat.specs.Planted.{with_properties}
-use Rattle.dt_flat.specs.Refusals.{WhyNoNode, WhyNotSet}
+use Rattle.dt_flat.specs.Refusals.{WhyNoNode}
 use Rattle.dt_flat.proofs.Distinctness.{all-front, all-back}
 use Rattle.dt_flat.proofs.AfterProperty.{length-with_property}
 use Rattle.dt_marks.specs.Refusals.{WhyFull, WhyNoSymbols, AreWithin, WhyNotPlanted}
@@ -17,12 +17,6 @@ pub why_no_symbols : (kind : FaultKind) (slots : List Slot) (symbols : List Prop
 why_no_symbols NoMemory slots symbols some why = tt
 why_no_symbols Limit slots symbols some why = (some, why)
 why_no_symbols _ slots symbols some why = absurd why
-
--- a property that isn't a phandle is set unless memory is refused
-pub plain_refused : (kind : FaultKind) (slots : List Slot) (p : ℕ) (name value : List ℕ) → name ≢ codes "phandle" → WhyNotSet kind slots p name value → kind ≡ NoMemory
-plain_refused NoMemory slots p name value plain why = refl
-plain_refused BlobPhandle slots p name value plain why = absurd (why (record { valid = λ e. absurd (plain e); own = λ e. absurd (plain e) }))
-plain_refused _ slots p name value plain why = absurd why
 
 -- ---- nodes within the limits
 

@@ -3,10 +3,3 @@ pub mod Refusals
 pub mod Waiting
 pub mod Mirrored
 pub mod Cells
-pub mod Texts
-pub mod Cuts
-pub mod Listed
-pub mod FixupsLeft
-pub mod ListedViews
-pub mod LocalFixupsLeft
-pub mod MirrorViews

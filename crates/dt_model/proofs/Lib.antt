@@ -7,3 +7,11 @@ pub mod Blobs
 pub mod SampleBlobs
 pub mod NameTests
 pub mod Nested
+pub mod Tests
+pub mod Cases
+pub mod Listed
+pub mod Distinct
+pub mod Flat
+pub mod Preorder
+pub mod Finding
+pub mod Texts

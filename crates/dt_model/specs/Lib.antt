@@ -31,3 +31,4 @@ pub mod Fixups
 pub mod Checks
 pub mod Joined
 pub mod Rows
+pub mod Printed

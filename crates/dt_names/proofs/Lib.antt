@@ -2,3 +2,4 @@ mod Names
 pub mod Faults
 mod PathTexts
 mod Streams
+pub mod Sinks

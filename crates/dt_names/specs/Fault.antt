@@ -1,5 +1,5 @@
--- The number and the name of each kind of fault, which a caller may show or compare; and what is true of the refusals of a call.
-use Rattle.std.specs.Prelude.{◌≡◌, ◌≢◌, ℕ, List, None, codes}
+-- The number and the name of each kind of fault, and the text of a fault; and what is true of the refusals of a call.
+use Rattle.std.specs.Prelude.{◌≡◌, ◌≢◌, ℕ, List, [], ◌++◌, Option, None, Some, codes, decimal}
 use Rattle.dt_names.specs.declared.fault.Fault.{Fault}
 use Rattle.dt_names.specs.declared.fault.FaultKind.{FaultKind}
 use Rattle.dt_names.specs.declared.fault.FaultKind.TheVariants.{NoMemory, Limit, BadVersionTag, BadToken, Syntax, BadInteger, DivideByZero, OutOfRange, BadReferenceWidth, PropertyAfterNode, DuplicateProperty, DuplicateNode, DuplicateLabel, NoSuchTarget, UnresolvedReference, BadPhandle, DuplicatePhandle, ReservedName, OverlayDelete, OverlayPhandle, OverlayPathReference, OverlayReserve, OutsideContent, BadFragment, ShortHeader, BadMagic, BadTotal, BadVersion, Misaligned, BlockOutside, NoReservationEnd, BadTag, StructureCut, BadName, BadNameOffset, BadNesting, LateProperty, Duplicate, BadEnd, BlobPhandle, NoSymbol, BadSymbol, NoTarget, BadFixup, BadLocalFixup, SecondPhandle, NoFragmentTarget, ReservedPlace, WriteFault, ReadFault}
@@ -109,6 +109,19 @@ fault_name NoFragmentTarget = codes "NoFragmentTarget"
 fault_name ReservedPlace = codes "ReservedPlace"
 fault_name WriteFault = codes "WriteFault"
 fault_name ReadFault = codes "ReadFault"
+
+-- `fault N Name`
+abbrev pub kind_text : FaultKind → List ℕ
+kind_text kind = codes "fault " ++ (decimal (fault_number kind) ++ (codes " " ++ fault_name kind))
+
+-- ` at P` where there is a place, in bytes from the start of the input
+abbrev pub place_text : Option ℕ → List ℕ
+place_text None = []
+place_text (Some place) = codes " at " ++ decimal place
+
+-- `fault N Name`, and ` at P` where the fault has a place
+abbrev pub fault_text : Fault → List ℕ
+fault_text fault = kind_text fault.kind ++ place_text fault.at
 
 -- a fault without a place
 abbrev pub placeless : FaultKind → Fault

@@ -1,10 +1,12 @@
 //! Why a call was refused.
 
 ghost use Rattle.std.specs.Prelude.{◌≡◌, None, Some};
-ghost use Rattle.dt_names.specs.Fault.{fault_number, fault_name};
+ghost use Rattle.dt_names.specs.Fault.{fault_number, fault_name, fault_text, kind_text};
 ghost use Rattle.dt_names.specs.declared.fault.FaultKind.TheVariants.{NoMemory};
 
 use std::alloc::{AllocError, AllocFailed};
+use std::error::Error;
+use std::fmt;
 
 /// What kind of fault it is.
 #[derive(Clone, Copy, PartialEq, Eq)]
@@ -229,8 +231,28 @@ impl FaultKind {
     }
 }
 
+impl fmt::Debug for FaultKind {
+    ghost debug_output = { λ kind. Some (fault_name kind) };
+
+    fn fmt<W: fmt::Write>(&self, f: &mut fmt::Formatter<W>) -> fmt::Result {
+        f.write_str(self.name())
+    }
+}
+
+/// `fault N Name`: the number and the name of the kind.
+impl fmt::Display for FaultKind {
+    ghost output = { λ kind. Some (kind_text kind) };
+
+    fn fmt<W: fmt::Write>(&self, f: &mut fmt::Formatter<W>) -> fmt::Result {
+        let number = self.number();
+        write!(f, "fault {number} {self:?}")
+    }
+}
+
+impl Error for FaultKind {}
+
 /// A refusal, and the place in the input, in bytes from its start, where one is told.
-#[derive(Clone, Copy, PartialEq, Eq)]
+#[derive(Clone, Copy, Debug, PartialEq, Eq)]
 pub struct Fault {
     pub kind: FaultKind,
     pub at: Option<usize>,
@@ -270,6 +292,22 @@ impl Fault {
         self.kind.name()
     }
 }
+
+/// `fault N Name at P`, or without a place `fault N Name`.
+impl fmt::Display for Fault {
+    ghost output = { λ fault. Some (fault_text fault) };
+
+    fn fmt<W: fmt::Write>(&self, f: &mut fmt::Formatter<W>) -> fmt::Result {
+        let kind = self.kind;
+        write!(f, "{kind}")?;
+        match self.at {
+            Some(place) => write!(f, " at {place}"),
+            None => Ok(()),
+        }
+    }
+}
+
+impl Error for Fault {}
 
 impl From<AllocError> for Fault {
     ghost from_gives = { λ _ f. (f.kind ≡ NoMemory) × (f.at ≡ None) };

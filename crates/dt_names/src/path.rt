@@ -4,13 +4,12 @@ ghost use Rattle.std.specs.Prelude.{◌≡◌, ℕ, ◌<◌, ◌≤◌, ◌++◌
 ghost use Rattle.std.specs.Iterator.{YieldsFirstRef, item_count};
 ghost use Rattle.std.specs.List.{AllByRecursion};
 ghost use Rattle.std.specs.Option.{option_copied};
-ghost use Rattle.std.specs.Io.KnownBytes.{Appends};
 ghost use Rattle.dt_model.specs.Limits.{most_names};
 ghost use Rattle.dt_model.specs.Names.{IsNodeName};
 ghost use Rattle.dt_model.specs.Path.{path_text};
 ghost use Rattle.dt_model.specs.Path.{Path as Names};
+ghost use Rattle.dt_names.specs.Sink.{Takes, IsRefused};
 ghost use Rattle.dt_names.specs.Paths.{parts, parts_left, names_in, AreNames, IsPathOf, WhyNoPath, WhyNotPushed};
-ghost use Rattle.dt_names.specs.declared.fault.FaultKind.TheVariants.{WriteFault};
 
 use crate::fault::{Fault, FaultKind};
 use crate::limits::MOST_NAMES;
@@ -65,6 +64,7 @@ pub struct PathNames<'a> {
 
 impl<'a> Model for PathNames<'a> {
     ghost use Rattle.std.specs.Prelude.{List, ℕ};
+    ghost use Rattle.dt_names.specs.Sink.{Takes, IsRefused};
     ghost use Rattle.dt_names.specs.Paths.{parts_left};
 
     ghost Value = { List (List ℕ) };
@@ -281,15 +281,15 @@ impl Path {
     }
 
     /// Gives a sink the text of the path: `/` for the root, or else each name with a `/` before it (Devicetree
-    /// Specification v0.4, 2.2.3). At a fault, of the kind `WriteFault` and without a place, the sink took a front of the
-    /// text and has failed.
+    /// Specification v0.4, 2.2.3).
+    ///
+    /// # Errors
+    ///
+    /// `WriteFault`, without a place, where the sink fails: it took a front of the text.
     pub fn write_to<S: Sink>(&self, sink: &mut S) -> Result<(), Fault>
-        ensures ok { OnOk result (Appends (S.contents sink.old) (S.contents sink.new) (path_text self.now)) }
-        ensures sound { OnOk result (S.has_failed sink.new ≡ false) }
-        ensures err { IfErr result (λ fault. (fault.kind ≡ WriteFault) × (fault.at ≡ None)
-            × (S.has_failed sink.new ≡ true)
-            × ((n : ℕ) × (n < length (path_text self.now))
-            × Appends (S.contents sink.old) (S.contents sink.new) (take n (path_text self.now)))) }
+        ensures written { OnOk result (Takes (path_text self.now) (S.taken sink.old) (S.taken sink.new)) }
+        ensures works { OnOk result ((S.taken sink.new).has_failed ≡ false) }
+        ensures refused { IfErr result (λ fault. IsRefused fault (path_text self.now) (S.taken sink.old) (S.taken sink.new)) }
     {
         put_all(sink, self.text())
     }

@@ -2,27 +2,24 @@
 
 ghost use Rattle.std.specs.Prelude.{◌≡◌, ℕ, ◌<◌, ◌≤◌, true, false, Bool, List, length, take, None, IfSome, IfErr, OnOk, Option, MatchOption, is_none};
 ghost use Rattle.std.specs.Io.KnownBytes.{Keeps, Appends, Consumes, IsAtEnd};
-ghost use Rattle.dt_names.specs.declared.fault.FaultKind.TheVariants.{WriteFault};
+ghost use Rattle.dt_names.specs.Sink.{Taken, Takes, IsRefused};
 
 use crate::fault::{Fault, FaultKind};
 use std::io::{ErrorKind, Read, Write};
 
 /// Takes bytes in order, as std's `Write` does, until it fails, and then for good.
 pub trait Sink {
-    // The bytes that it holds, where they are known.
-    ghost contents: { Self → Option (List ℕ) };
-
-    // Whether it has failed.
-    ghost has_failed: { Self → Bool };
+    // The bytes that it holds, where they are known, and whether it has failed.
+    ghost taken: { Self → Taken };
 
     /// Takes a front of the bytes, at least one where there is one, and answers how many; None where it has failed.
     fn put(&mut self, bytes: &[u8]) -> Option<usize>
         ensures bound { IfSome result (λ n. n ≤ length bytes.now) }
         ensures progress { IfSome result (λ n. 0 < length bytes.now → 0 < n) }
-        ensures bytes { MatchOption result (Keeps (contents self.old) (contents self.new))
-            (λ n. Appends (contents self.old) (contents self.new) (take n bytes.now)) }
-        ensures failed { has_failed self.new ≡ is_none result }
-        ensures for_good { has_failed self.old ≡ true → result ≡ None };
+        ensures bytes { MatchOption result (Keeps (taken self.old).contents (taken self.new).contents)
+            (λ n. Appends (taken self.old).contents (taken self.new).contents (take n bytes.now)) }
+        ensures failed { (taken self.new).has_failed ≡ is_none result }
+        ensures for_good { (taken self.old).has_failed ≡ true → result ≡ None };
 }
 
 /// Gives bytes in order, as std's `Read` does, until it fails, and then for good.
@@ -55,8 +52,8 @@ pub struct Out<W> {
 impl<W: Write> Out<W> {
     /// A sink that holds what the writer holds, and hasn't failed.
     pub fn new(writer: W) -> Self
-        ensures contents { ⟦<Out<W> as Sink>⟧.contents result ≡ W.contents writer }
-        ensures failed { ⟦<Out<W> as Sink>⟧.has_failed result ≡ false }
+        ensures contents { (⟦<Out<W> as Sink>⟧.taken result).contents ≡ W.contents writer }
+        ensures failed { (⟦<Out<W> as Sink>⟧.taken result).has_failed ≡ false }
     {
         Out {
             writer,
@@ -66,16 +63,14 @@ impl<W: Write> Out<W> {
 
     /// The writer, with what the sink holds.
     pub fn into_inner(self) -> W
-        ensures { W.contents result ≡ ⟦<Out<W> as Sink>⟧.contents self }
+        ensures { W.contents result ≡ (⟦<Out<W> as Sink>⟧.taken self).contents }
     {
         self.writer
     }
 }
 
 impl<W: Write> Sink for Out<W> {
-    ghost contents = { λ s. W.contents s.writer };
-
-    ghost has_failed = { λ s. s.has_failed };
+    ghost taken = { λ s. record { contents = W.contents s.writer; has_failed = s.has_failed } };
 
     fn put(&mut self, bytes: &[u8]) -> Option<usize> {
         if self.has_failed {
@@ -164,15 +159,15 @@ fn read_once<R: Read>(reader: &mut R, buffer: &mut [u8]) -> Option<usize>
     None
 }
 
-/// Gives a sink all of some bytes. At a fault, of the kind `WriteFault` and without a place, the sink took a front of
-/// them and has failed.
+/// Gives a sink all of some bytes.
+///
+/// # Errors
+///
+/// `WriteFault`, without a place, where the sink fails: it took a front of the bytes.
 pub fn put_all<S: Sink>(sink: &mut S, bytes: &[u8]) -> Result<(), Fault>
-    ensures ok { OnOk result (Appends (S.contents sink.old) (S.contents sink.new) bytes.now) }
-    ensures sound { OnOk result ((S.has_failed sink.new ≡ S.has_failed sink.old)
-        × (0 < length bytes.now → S.has_failed sink.new ≡ false)) }
-    ensures err { IfErr result (λ fault. (fault.kind ≡ WriteFault) × (fault.at ≡ None)
-        × (S.has_failed sink.new ≡ true)
-        × ((n : ℕ) × (n < length bytes.now) × Appends (S.contents sink.old) (S.contents sink.new) (take n bytes.now))) }
+    ensures written { OnOk result (Takes bytes.now (S.taken sink.old) (S.taken sink.new)) }
+    ensures works { OnOk result (0 < length bytes.now → (S.taken sink.new).has_failed ≡ false) }
+    ensures refused { IfErr result (λ fault. IsRefused fault bytes.now (S.taken sink.old) (S.taken sink.new)) }
 {
     let mut rest = bytes;
     while !rest.is_empty() {

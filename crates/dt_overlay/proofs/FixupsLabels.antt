@@ -14,7 +14,7 @@ use Rattle.dt_names.specs.declared.fault.FaultKind.{FaultKind}
 use Rattle.dt_names.specs.declared.fault.FaultKind.TheVariants.{NoMemory, NoSymbol, BadSymbol, BadFixup}
 use Rattle.dt_flat.specs.Arena.{Arena, reading, node_from, child_of, named_children, properties}
 use Rattle.dt_flat.proofs.ByPath.{has, reading_at}
-use Rattle.dt_laws.proofs.Tests.{each_append}
+use Rattle.dt_model.proofs.Tests.{each_append}
 use Rattle.dt_landing.specs.Objects.{HasCell, AreCellsOf, SymbolHasNumber, IsFixup, fixups_in}
 use Rattle.dt_landing.specs.Refusals.{WhyNoFixup, HasNoFixup}
 use Rattle.dt_overlay.specs.declared.writes.Write.{Write as KeptWrite}

@@ -11,12 +11,12 @@ use Rattle.dt_model.specs.Path.{Path, path_value}
 use Rattle.dt_model.specs.Tree.{Reading, Placed, nodes_of, stands_in, value_in}
 use Rattle.dt_model.specs.Valid.{IsValid, IsWithinLimits}
 use Rattle.dt_model.specs.Applied.{node_named, symbol}
-use Rattle.dt_laws.proofs.Tests.{bytes_eq_true}
-use Rattle.dt_laws.proofs.Texts.{one_value}
-use Rattle.dt_laws.proofs.Listed.{listed_stands, value_stands}
-use Rattle.dt_laws.proofs.Preorder.{listed_named}
-use Rattle.dt_laws.proofs.Finding.{node_of_text}
-use Rattle.dt_marks.specs.Texts.{IsPathValue}
+use Rattle.dt_model.proofs.Tests.{bytes_eq_true}
+use Rattle.dt_model.proofs.Texts.{one_value}
+use Rattle.dt_model.proofs.Listed.{listed_stands, value_stands}
+use Rattle.dt_model.proofs.Preorder.{listed_named}
+use Rattle.dt_model.proofs.Finding.{node_of_text}
+use Rattle.dt_listed.specs.Texts.{IsPathValue}
 use Rattle.dt_landing.specs.Objects.{SymbolHasNumber}
 use Rattle.dt_landing.proofs.CheckedNumbers.{within_depth}
 

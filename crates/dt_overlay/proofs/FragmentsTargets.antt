@@ -6,7 +6,7 @@ use Rattle.dt_model.specs.Names.{Name, IsNodeName}
 use Rattle.dt_model.specs.Path.{Path, path_value}
 use Rattle.dt_model.specs.Tree.{value_of, value_in}
 use Rattle.dt_flat.specs.Arena.{Arena, properties, node_from, reading}
-use Rattle.dt_marks.specs.Texts.{IsPathValue}
+use Rattle.dt_listed.specs.Texts.{IsPathValue}
 use Rattle.dt_landing.specs.Objects.{HoldsNumber, HasTarget}
 use Rattle.dt_overlay.proofs.Reached.{value-led}
 

@@ -9,7 +9,7 @@ use Rattle.dt_model.specs.Tree.{Property, value_of, nodes_of}
 use Rattle.dt_model.specs.Object.{Cell, words_of}
 use Rattle.dt_model.specs.Numbers.{number_in}
 use Rattle.dt_model.specs.Applied.{Write, local_write, node_numbered, number_at}
-use Rattle.dt_laws.proofs.Tests.{each_append}
+use Rattle.dt_model.proofs.Tests.{each_append}
 use Rattle.dt_flat.specs.Arena.{Arena, Slot, reading, properties, node_from}
 use Rattle.dt_names.specs.declared.fault.Fault.{Fault}
 use Rattle.dt_landing.specs.Objects.{HasCell, IsLocalCell, IsLocalFixup}

@@ -12,7 +12,7 @@ use Rattle.dt_model.specs.Path.{Path}
 use Rattle.dt_model.specs.Lists.{IsIn}
 use Rattle.dt_model.specs.Tree.{Property, Forest, branch, preorder, Node, node_at, stands_in}
 use Rattle.dt_model.specs.Object.{Cell, cells_of, properties_of, nodes_from, local_cells}
-use Rattle.dt_laws.proofs.Tests.{each_from, each_in}
+use Rattle.dt_model.proofs.Tests.{each_from, each_in}
 use Rattle.dt_flat.specs.Arena.{Arena, Slot, children_among, children, Child, named_children, child_of, properties, parent_of, name_of, node_from, forest_among, reading}
 use Rattle.dt_flat.proofs.ByPath.{has, reading_at}
 use Rattle.dt_flat.proofs.Descent.{path-further}

@@ -11,8 +11,8 @@ use Rattle.dt_model.specs.Numbers.{is_brought, number_in}
 use Rattle.dt_model.specs.Applied.{number_at, node_numbered}
 use Rattle.dt_model.specs.Tree.{nodes_of}
 use Rattle.dt_model.specs.Valid.{IsValid}
-use Rattle.dt_laws.proofs.Finding.{node_of_number, number_of_node}
-use Rattle.dt_laws.proofs.Tests.{any_from, any_here}
+use Rattle.dt_model.proofs.Finding.{node_of_number, number_of_node}
+use Rattle.dt_model.proofs.Tests.{any_from, any_here}
 use Rattle.dt_flat.specs.Arena.{Arena, Slot, reading, node_from, phandle_at}
 use Rattle.dt_flat.specs.Sound.{AreCells}
 use Rattle.dt_landing.specs.Objects.{IsLocalCell}

@@ -10,9 +10,9 @@ use Rattle.dt_model.specs.Valid.{IsValid}
 use Rattle.dt_names.specs.declared.fault.FaultKind.{FaultKind}
 use Rattle.dt_flat.specs.Arena.{Arena, IsRooted, reading}
 use Rattle.dt_flat.proofs.Counting.{nodes-counted}
-use Rattle.dt_laws.proofs.Tests.{each_from, in_map_from}
-use Rattle.dt_laws.proofs.Listed.{listed_stands}
-use Rattle.dt_laws.proofs.Preorder.{paths_distinct}
+use Rattle.dt_model.proofs.Tests.{each_from, in_map_from}
+use Rattle.dt_model.proofs.Listed.{listed_stands}
+use Rattle.dt_model.proofs.Preorder.{paths_distinct}
 use Rattle.dt_laws.proofs.StandingNodes.{length-paths_of}
 use Rattle.dt_overlay.specs.Looked.{AreTooMany, WhyNotLooked}
 

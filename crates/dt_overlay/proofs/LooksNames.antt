@@ -10,8 +10,8 @@ use Rattle.dt_flat.specs.Arena.{Arena, reading, name_of, named_children, child_o
 use Rattle.dt_flat.proofs.Descent.{path-further}
 use Rattle.dt_flat.proofs.Distinctness.{all-back}
 use Rattle.dt_flat.proofs.Edges.{edge}
-use Rattle.dt_laws.proofs.Listed.{stands_listed}
-use Rattle.dt_laws.proofs.Preorder.{listed_named}
+use Rattle.dt_model.proofs.Listed.{stands_listed}
+use Rattle.dt_model.proofs.Preorder.{listed_named}
 use Rattle.dt_overlay.proofs.Reached.{stands-led}
 
 -- the names of a path that stands are names of nodes

@@ -17,7 +17,7 @@ use Rattle.dt_flat.proofs.AfterProperty.{children-with_property}
 use Rattle.dt_flat.proofs.Changing.{child_by_path}
 use Rattle.dt_flat.proofs.Descent.{path-length, path-further}
 use Rattle.dt_flat.proofs.Edges.{edge}
-use Rattle.dt_laws.proofs.Tests.{bytes_eq_refl, bytes_eq_true}
+use Rattle.dt_model.proofs.Tests.{bytes_eq_refl, bytes_eq_true}
 use Rattle.dt_landing.specs.Checking.{with_places}
 use Rattle.dt_landing.proofs.SingleChanges.{child_there}
 use Rattle.dt_landing.proofs.KnownChanges.{child_sound}

@@ -15,9 +15,9 @@ use Rattle.dt_model.specs.Tree.{Reading}
 use Rattle.dt_model.specs.Valid.{AreDistinct, IsValid}
 use Rattle.dt_flat.specs.Arena.{Arena, Slot, IsRooted, named_children, child_of, node_from, reading}
 use Rattle.dt_flat.proofs.Descent.{path-same, path-length, path-within}
-use Rattle.dt_laws.proofs.Tests.{each_in, each_from, in_append, in_left, in_right, path_eq_refl, path_eq_true, or_right, in_filter}
-use Rattle.dt_laws.proofs.Flat.{from_flat}
-use Rattle.dt_laws.proofs.Distinct.{apart, distinct_append, distinct_right}
+use Rattle.dt_model.proofs.Tests.{each_in, each_from, in_append, in_left, in_right, path_eq_refl, path_eq_true, or_right, in_filter}
+use Rattle.dt_model.proofs.Flat.{from_flat}
+use Rattle.dt_model.proofs.Distinct.{apart, distinct_append, distinct_right}
 use Rattle.dt_laws.proofs.Lands.{below-append, append-below}
 use Rattle.dt_landing.proofs.FoundSites.{fragments_distinct}
 use Rattle.dt_overlay.specs.declared.fragments.Fragment.{Fragment}

@@ -17,9 +17,9 @@ use Rattle.dt_flat.proofs.ByPath.{first_slot}
 use Rattle.dt_flat.proofs.Descent.{path-within}
 use Rattle.dt_flat.proofs.Edges.{edge}
 use Rattle.dt_flat.proofs.Linking.{named-among}
-use Rattle.dt_laws.proofs.Tests.{any_from, any_here, each_in, bytes_eq_refl, bytes_eq_true}
-use Rattle.dt_laws.proofs.Flat.{from_flat}
-use Rattle.dt_laws.proofs.Distinct.{in_flat}
+use Rattle.dt_model.proofs.Tests.{any_from, any_here, each_in, bytes_eq_refl, bytes_eq_true}
+use Rattle.dt_model.proofs.Flat.{from_flat}
+use Rattle.dt_model.proofs.Distinct.{in_flat}
 use Rattle.dt_overlay.specs.Plans.{AreFragmentsOf}
 use Rattle.dt_overlay.specs.declared.fragments.Fragment.{Fragment}
 use Rattle.dt_overlay.specs.NumbersGiven.{walk, is_numbered, contents}

@@ -15,11 +15,11 @@ use Rattle.dt_model.specs.Path.{Path}
 use Rattle.dt_model.specs.Tree.{Reading, value_of, nodes_of}
 use Rattle.dt_model.specs.Numbers.{numbers_of}
 use Rattle.dt_model.specs.Valid.{IsValid, phandle_values, phandles}
-use Rattle.dt_laws.proofs.Tests.{any_from, any_here, in_map, in_map_from, or_left, in_append, in_right}
-use Rattle.dt_laws.proofs.Flat.{from_flat}
-use Rattle.dt_laws.proofs.Distinct.{in_flat}
-use Rattle.dt_laws.proofs.Listed.{listed_value}
-use Rattle.dt_laws.proofs.Preorder.{all_phandles, phandle_list}
+use Rattle.dt_model.proofs.Tests.{any_from, any_here, in_map, in_map_from, or_left, in_append, in_right}
+use Rattle.dt_model.proofs.Flat.{from_flat}
+use Rattle.dt_model.proofs.Distinct.{in_flat}
+use Rattle.dt_model.proofs.Listed.{listed_value}
+use Rattle.dt_model.proofs.Preorder.{all_phandles, phandle_list}
 use Rattle.dt_laws.proofs.Fresh.{few_below}
 use Rattle.dt_laws.proofs.Numbered.{taken_all}
 use Rattle.dt_flat.specs.Arena.{Slot}

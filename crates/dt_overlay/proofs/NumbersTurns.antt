@@ -8,8 +8,8 @@ use Rattle.std.proofs.lemmas.Option.{slice_get-get_or}
 use Rattle.dt_model.specs.Lists.{IsIn}
 use Rattle.dt_model.specs.Valid.{AreDistinct}
 use Rattle.dt_flat.specs.Arena.{Slot, IsRooted, children}
-use Rattle.dt_laws.proofs.Tests.{each_in, each_from, in_left, in_right, in_filter}
-use Rattle.dt_laws.proofs.Distinct.{apart, distinct_right}
+use Rattle.dt_model.proofs.Tests.{each_in, each_from, in_left, in_right, in_filter}
+use Rattle.dt_model.proofs.Distinct.{apart, distinct_right}
 use Rattle.dt_overlay.specs.declared.fragments.Fragment.{Fragment}
 use Rattle.dt_overlay.specs.declared.numbers.Brought.{Brought}
 use Rattle.dt_overlay.specs.NumbersGiven.{walk, is_numbered, AreNext, with_numbers, with_fragment, with_fragments, GivesNumbers, AreUnnumbered}

@@ -14,9 +14,9 @@ use Rattle.dt_flat.proofs.ByPath.{first_slot}
 use Rattle.dt_flat.proofs.Edges.{edge, parent-drop}
 use Rattle.dt_flat.proofs.Descent.{path-leads, leads-one}
 use Rattle.dt_flat.proofs.Linking.{named-among}
-use Rattle.dt_laws.proofs.Tests.{each_in, each_from, in_append}
-use Rattle.dt_laws.proofs.Flat.{from_flat}
-use Rattle.dt_laws.proofs.Distinct.{in_flat, distinct_append}
+use Rattle.dt_model.proofs.Tests.{each_in, each_from, in_append}
+use Rattle.dt_model.proofs.Flat.{from_flat}
+use Rattle.dt_model.proofs.Distinct.{in_flat, distinct_append}
 use Rattle.dt_overlay.specs.NumbersGiven.{walk_among, walk}
 
 -- ---- a node's walk is itself and the walks of its children

@@ -14,7 +14,7 @@ use Rattle.dt_names.specs.declared.fault.FaultKind.{FaultKind}
 use Rattle.dt_names.specs.declared.fault.FaultKind.TheVariants.{NoMemory, Limit}
 use Rattle.dt_flat.specs.Arena.{Arena, reading, below}
 use Rattle.dt_flat.proofs.ByPath.{has, reading_at}
-use Rattle.dt_laws.proofs.Tests.{or_cases, any_from, in_left, in_right}
+use Rattle.dt_model.proofs.Tests.{or_cases, any_from, in_left, in_right}
 use Rattle.dt_laws.proofs.Lands.{landing_of}
 use Rattle.dt_landing.specs.Checking.{then_check, check_content, check_site}
 use Rattle.dt_landing.proofs.FoundSites.{target_so_far}

@@ -18,8 +18,8 @@ use Rattle.dt_names.specs.declared.fault.FaultKind.TheVariants.{NoMemory, Limit,
 use Rattle.dt_flat.specs.Arena.{Arena, Slot, reading}
 use Rattle.dt_flat.proofs.Descent.{path-within}
 use Rattle.dt_flat.proofs.Linking.{drop_item}
-use Rattle.dt_laws.proofs.Distinct.{apart}
-use Rattle.dt_laws.proofs.Tests.{each_from, in_map}
+use Rattle.dt_model.proofs.Distinct.{apart}
+use Rattle.dt_model.proofs.Tests.{each_from, in_map}
 use Rattle.dt_landing.specs.Checking.{then_check, check_content, check_site, check_fragments, nothing_landed, IsKnown}
 use Rattle.dt_landing.proofs.FoundSites.{fragments_distinct}
 use Rattle.dt_landing.proofs.KnownContent.{nothing_is_known, content_is_known}

@@ -17,7 +17,7 @@ use Rattle.dt_names.specs.declared.fault.FaultKind.{FaultKind}
 use Rattle.dt_names.specs.declared.fault.FaultKind.TheVariants.{NoMemory, Limit}
 use Rattle.dt_flat.specs.Arena.{Arena, Slot, IsRooted, node_from}
 use Rattle.dt_flat.proofs.Descent.{path-same}
-use Rattle.dt_laws.proofs.Distinct.{distinct_left}
+use Rattle.dt_model.proofs.Distinct.{distinct_left}
 use Rattle.dt_laws.proofs.Lands.{append-below, below-append}
 use Rattle.dt_laws.proofs.Placed.{site_names, landing_from}
 use Rattle.dt_landing.proofs.FoundSites.{fragments_distinct, lands_below}

@@ -14,11 +14,11 @@ use Rattle.dt_model.specs.Merged.{Site, landing}
 use Rattle.dt_model.specs.Applied.{node_named, landed_named}
 use Rattle.dt_names.specs.declared.fault.FaultKind.{FaultKind}
 use Rattle.dt_names.specs.declared.fault.FaultKind.TheVariants.{NoMemory, Limit, BadSymbol}
-use Rattle.dt_marks.specs.Texts.{IsPathValue, WhyNoSymbolPath}
-use Rattle.dt_laws.proofs.Tests.{or_cases}
-use Rattle.dt_laws.proofs.Texts.{one_value}
-use Rattle.dt_laws.proofs.Listed.{stands_listed, listed_stands}
-use Rattle.dt_laws.proofs.Finding.{node_of_text, landed_named_from, landed_named_some}
+use Rattle.dt_listed.specs.Texts.{IsPathValue, WhyNoSymbolPath}
+use Rattle.dt_model.proofs.Tests.{or_cases}
+use Rattle.dt_model.proofs.Texts.{one_value}
+use Rattle.dt_model.proofs.Listed.{stands_listed, listed_stands}
+use Rattle.dt_model.proofs.Finding.{node_of_text, landed_named_from, landed_named_some}
 use Rattle.dt_landing.specs.Checking.{IsKnown}
 use Rattle.dt_landing.proofs.PlainSymbols.{named_text}
 use Rattle.dt_landing.proofs.CheckedNumbers.{within_depth}

@@ -16,7 +16,7 @@ use Rattle.dt_flat.specs.Arena.{Arena, reading, node_from}
 use Rattle.dt_names.specs.declared.fault.FaultKind.{FaultKind}
 use Rattle.dt_names.specs.declared.fault.FaultKind.TheVariants.{NoMemory, Limit}
 use Rattle.dt_laws.proofs.Fresh.{landed_is, listed_number}
-use Rattle.dt_laws.proofs.Finding.{node_of_number, number_of_node}
+use Rattle.dt_model.proofs.Finding.{node_of_number, number_of_node}
 use Rattle.dt_landing.specs.Objects.{HasNumber}
 use Rattle.dt_landing.proofs.CheckedNumbers.{numbered_node, numbers_own}
 use Rattle.dt_overlay.specs.declared.numbers.Brought.{Brought}

@@ -18,7 +18,7 @@ use Rattle.dt_model.specs.Applied.{Write, node_named, landed_symbol, landed_symb
 use Rattle.dt_names.specs.declared.fault.FaultKind.{FaultKind}
 use Rattle.dt_names.specs.declared.fault.FaultKind.TheVariants.{NoMemory, Limit}
 use Rattle.dt_flat.specs.Arena.{Arena}
-use Rattle.dt_laws.proofs.Listed.{listed_stands}
+use Rattle.dt_model.proofs.Listed.{listed_stands}
 use Rattle.dt_landing.specs.Laws.{AreShallow}
 use Rattle.dt_landing.specs.Objects.{symbols_in}
 use Rattle.dt_landing.proofs.PlainSymbols.{symbols_are_plain}

@@ -13,11 +13,11 @@ use Rattle.dt_model.specs.Valid.{AreDistinct, AreNodes, IsValid, names}
 use Rattle.dt_flat.specs.Arena.{Arena, Slot, reading, below as forest_below, named_children, child_of, name_of}
 use Rattle.dt_flat.proofs.Edges.{edge}
 use Rattle.dt_flat.proofs.ByPath.{has, sibling_below}
-use Rattle.dt_laws.proofs.Tests.{bytes_eq_refl, bytes_eq_true, bytes_eq_other, each_in}
-use Rattle.dt_laws.proofs.Texts.{node_name_has_no}
+use Rattle.dt_model.proofs.Tests.{bytes_eq_refl, bytes_eq_true, bytes_eq_other, each_in}
+use Rattle.dt_model.proofs.Texts.{node_name_has_no}
 use Rattle.dt_laws.proofs.FragmentOrder.{each_fragment}
-use Rattle.dt_marks.specs.Cuts.{Lacks, IsCut}
-use Rattle.dt_marks.proofs.TextCuts.{cut_once, never_cut}
+use Rattle.dt_listed.specs.Cuts.{Lacks, IsCut}
+use Rattle.dt_listed.proofs.TextCuts.{cut_once, never_cut}
 use Rattle.dt_landing.specs.Objects.{IsOfFragment}
 use Rattle.dt_overlay.specs.Symbols.{IsFirstName}
 

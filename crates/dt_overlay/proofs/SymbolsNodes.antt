@@ -13,12 +13,12 @@ use Rattle.dt_model.specs.Valid.{IsValid}
 use Rattle.dt_model.specs.Applied.{node_named}
 use Rattle.dt_names.specs.Paths.{IsPathOf}
 use Rattle.dt_flat.specs.Arena.{Arena, reading, node_from}
-use Rattle.dt_laws.proofs.Finding.{node_of_text}
+use Rattle.dt_model.proofs.Finding.{node_of_text}
 use Rattle.dt_laws.proofs.Lands.{below-append, append-below}
-use Rattle.dt_laws.proofs.Tests.{any_from, any_here}
-use Rattle.dt_laws.proofs.Texts.{one_text, node_name_has_no}
-use Rattle.dt_marks.specs.Cuts.{Lacks}
-use Rattle.dt_marks.proofs.TextCuts.{cut_once, never_cut}
+use Rattle.dt_model.proofs.Tests.{any_from, any_here}
+use Rattle.dt_model.proofs.Texts.{one_text, node_name_has_no}
+use Rattle.dt_listed.specs.Cuts.{Lacks}
+use Rattle.dt_listed.proofs.TextCuts.{cut_once, never_cut}
 use Rattle.dt_landing.specs.Objects.{IsOfFragment}
 use Rattle.dt_overlay.proofs.Reached.{stands-led}
 use Rattle.dt_overlay.proofs.FixupsNumbers.{found_by_text}

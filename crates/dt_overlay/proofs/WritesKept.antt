@@ -8,7 +8,7 @@ use Rattle.dt_model.specs.Applied.{with_cell}
 use Rattle.dt_model.specs.Meaning.{cell}
 use Rattle.dt_model.specs.Names.{Name}
 use Rattle.dt_model.specs.Tree.{value_of}
-use Rattle.dt_laws.proofs.Tests.{bytes_eq_true}
+use Rattle.dt_model.proofs.Tests.{bytes_eq_true}
 use Rattle.dt_flat.specs.Arena.{Arena, Slot, named_children, properties, name_of, with_property}
 use Rattle.dt_flat.proofs.AfterProperty.{length-with_property, children-with_property, value-with_property}
 use Rattle.dt_overlay.specs.Writing.{IsWritable, AreWritable, with_write, with_writes}

@@ -10,7 +10,7 @@ use Rattle.dt_model.specs.Path.{Path}
 use Rattle.dt_model.specs.Tree.{Property, Reading, root_of, value_of}
 use Rattle.dt_model.specs.Valid.{IsValid}
 use Rattle.dt_laws.proofs.KeptNames.{good_below}
-use Rattle.dt_laws.proofs.Tests.{bytes_eq_true}
+use Rattle.dt_model.proofs.Tests.{bytes_eq_true}
 use Rattle.dt_flat.specs.Arena.{Arena, Slot, IsRooted, named_children, child_of, properties, node_from, reading}
 use Rattle.dt_flat.proofs.ByPath.{has, reading_at}
 use Rattle.dt_flat.proofs.Descent.{path-within}

@@ -11,7 +11,7 @@ use Rattle.dt_model.specs.Path.{Path, path_eq}
 use Rattle.dt_model.specs.Tree.{Property, branch, root_of, value_of}
 use Rattle.dt_model.specs.Valid.{IsValid, AreDistinct}
 use Rattle.dt_laws.proofs.KeptNames.{good_below}
-use Rattle.dt_laws.proofs.Tests.{bytes_eq_true, bytes_eq_other, bytes_eq_differ, path_eq_refl, path_eq_true}
+use Rattle.dt_model.proofs.Tests.{bytes_eq_true, bytes_eq_other, bytes_eq_differ, path_eq_refl, path_eq_true}
 use Rattle.dt_flat.specs.Arena.{Arena, Slot, IsRooted, properties, with_property, forest_among, node_from, reading}
 use Rattle.dt_flat.proofs.AfterChild.{tested}
 use Rattle.dt_flat.proofs.AfterProperty.{SameShape, same_with, same_drop, properties-same, properties-other}

@@ -12,7 +12,7 @@ use Rattle.dt_model.specs.Object.{Cell, HasFixups, fragment_names, local_cells}
 use Rattle.dt_model.specs.Numbers.{number_in, is_brought}
 use Rattle.dt_model.specs.Applied.{Write, label_write, local_write, node_named}
 use Rattle.dt_flat.specs.Arena.{Arena, Slot, reading, node_from}
-use Rattle.dt_marks.specs.Texts.{IsPathValue}
+use Rattle.dt_listed.specs.Texts.{IsPathValue}
 use Rattle.dt_overlay.specs.declared.fragments.Fragment.{Fragment}
 use Rattle.dt_overlay.specs.declared.fragments.FragmentTarget.{FragmentTarget}
 use Rattle.dt_overlay.specs.declared.fragments.FragmentTarget.TheVariants.{Number, Path as TargetPath}

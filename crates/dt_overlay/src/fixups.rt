@@ -10,7 +10,7 @@ ghost use Rattle.dt_model.specs.Tree.{value_in};
 ghost use Rattle.dt_model.specs.Valid.{IsPhandle};
 ghost use Rattle.dt_names.specs.declared.fault.FaultKind.TheVariants.{NoMemory, BadSymbol, BadFixup};
 ghost use Rattle.dt_flat.specs.Arena.{reading, node_from};
-ghost use Rattle.dt_marks.specs.Texts.{IsPathValue};
+ghost use Rattle.dt_listed.specs.Texts.{IsPathValue};
 ghost use Rattle.dt_landing.specs.Objects.{AreCellsOf, SymbolHasNumber};
 ghost use Rattle.dt_landing.specs.Refusals.{WhyNoFixup, HasNoFixup};
 ghost use Rattle.dt_overlay.specs.Plans.{ListsFixups};
@@ -20,7 +20,7 @@ use crate::Target;
 use crate::texts::node_of;
 use crate::writes::Write;
 use dt_flat::FlatTree;
-use dt_marks::{
+use dt_listed::{
     CellText, cell_text, cell_texts_are_texts, cut, has_cell, symbol_path, texts, texts_are_one,
 };
 use dt_names::{Fault, FaultKind, NodeId, NodePath, Path, phandle_of};

@@ -15,7 +15,7 @@ ghost use Rattle.dt_overlay.specs.Plans.{AreBrought, ListsLocalFixups};
 use crate::numbers::Brought;
 use crate::writes::Write;
 use dt_flat::{FlatTree, Props};
-use dt_marks::has_cell;
+use dt_listed::has_cell;
 use dt_names::{Fault, FaultKind, NodeId};
 use std::alloc::Global;
 

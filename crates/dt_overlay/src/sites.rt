@@ -28,7 +28,7 @@ use crate::numbers::Brought;
 use crate::texts::join;
 use dt_flat::FlatTree;
 use dt_landing::look_stops;
-use dt_marks::symbol_path;
+use dt_listed::symbol_path;
 use dt_names::{Fault, FaultKind, NodeId, Path};
 use std::alloc::Global;
 

@@ -10,7 +10,7 @@ use Rattle.dt_grammar.specs.Words.{Words, word_of, words_of}
 use Rattle.dt_grammar.specs.Wanted.{Whole}
 use Rattle.dt_grammar.specs.Faults.{outside, Breaks}
 use Rattle.dt_grammar.specs.Grammar.{Says, SpellsSource, SpellsHeaders, base_header, plugin_header, more_headers}
-use Rattle.dt_parse.specs.Reading.{IsTagged, place_of, told_at, IsParsed, WhyNotParsed, unlexed, untagged, broken}
+use Rattle.dt_grammar.specs.Parsed.{IsTagged, place_of, told_at, IsParsed, WhyNotParsed, unlexed, untagged, broken}
 use Rattle.dt_lex.proofs.OneOutcome.{lexed_or_not, one_fault}
 use Rattle.dt_grammar.proofs.OneSource.{one_source}
 use Rattle.dt_grammar.proofs.UnbrokenSources.{no_fault}

@@ -22,8 +22,10 @@ use Rattle.dt_grammar.specs.Strict.{IsReserve, IsStrict}
 use Rattle.dt_grammar.specs.Wanted.{Made, made_places, made_behind, made_source, Wanted, SomeCells, AfterMemberLabels, AfterName, Prim, StatementThen, Top, AfterAddress, Whole}
 use Rattle.dt_grammar.specs.Descent.{after, found, stuck, Descends}
 use Rattle.dt_grammar.specs.Faults.{Around, outside, Shows, unwanted, unnamed, unplaced, misplaced, NumberBreaks, cut_off, unended, too_long, valueless, too_large, Breaks, shows, in_number, in_part, behind_part}
-use Rattle.dt_parse.specs.Reading.{IsRead, IsBroken, IsTagged, IsInside, place_of, told_at, WhyNotParsed, IsGrammarFault, IsSourceFault}
+use Rattle.dt_parse.specs.Reading.{IsRead, IsBroken, IsInside, IsGrammarFault, IsSourceFault}
+use Rattle.dt_grammar.specs.Parsed.{IsTagged, place_of, told_at, WhyNotParsed}
 use Rattle.dt_parse.specs.Reading as reading
+use Rattle.dt_grammar.specs.Parsed as grammar
 use Rattle.dt_grammar.proofs.Descent.{local}
 use Rattle.dt_grammar.proofs.Sound.{source_read}
 use Rattle.dt_grammar.proofs.CheckedSources.{source_back}
@@ -146,20 +148,20 @@ pub record Tells (text : List ℕ) (tokens : List Token) (stop : Stop) (e : Faul
 
 pub why_broken : (text : List ℕ) (tokens : List Token) (stop : Stop) (e : Fault) → length text ≤ most_bytes → IsLexed text (Ok tokens) → IsTagged (words_of text tokens) →
     IsBroken outside Whole (words_of text tokens) stop → Tells text tokens stop e → WhyNotParsed text e
-why_broken text tokens stop e size lexed tagged (reading.no_memory k) tells = subst (WhyNotParsed text) (sym (tells.memory k)) (reading.unlexed _ no_memory)
+why_broken text tokens stop e size lexed tagged (reading.no_memory k) tells = subst (WhyNotParsed text) (sym (tells.memory k)) (grammar.unlexed _ no_memory)
 why_broken text tokens stop e size lexed tagged (reading.broken left many b) tells =
     let n = length tokens - stop.left in
     let split = (broken_behind b).split in
     let same : words_of text (drop n tokens) ≡ left = ap (λ (m : ℕ). words_of text (drop (length tokens - m) tokens)) (sym many) ∙ last_words text tokens (broken_behind b).front left split in
     subst (WhyNotParsed text) (sym (tells.told (never_memory b)))
-    (reading.broken tokens (take n tokens) (drop n tokens) stop.kind size lexed tagged (sym (take-append-drop n tokens))
+    (grammar.broken tokens (take n tokens) (drop n tokens) stop.kind size lexed tagged (sym (take-append-drop n tokens))
     (subst (λ (x : Words). Breaks outside Whole (words_of text tokens) stop.kind x) (sym same) b))
 
 pub why_untagged : (text : List ℕ) (tokens : List Token) (e : Fault) → length text ≤ most_bytes → IsLexed text (Ok tokens) → ¬ IsTagged (words_of text tokens) →
     e.kind ≡ fault.BadVersionTag → e.at ≡ Some 0 → WhyNotParsed text e
 why_untagged text tokens e size lexed h k a =
     let same : e ≡ record { kind = fault.BadVersionTag; at = Some 0 } = λ i. record { kind = k i; at = a i } in
-    subst (WhyNotParsed text) (sym same) (reading.untagged tokens size lexed h)
+    subst (WhyNotParsed text) (sym same) (grammar.untagged tokens size lexed h)
 
 -- ---- kinds of faults
 
@@ -180,6 +182,6 @@ lexer_kind text _ (bad_token at h l) = tt
 lexer_kind text _ (bad_integer at h l) = tt
 
 pub source_kind : (text : List ℕ) (e : Fault) → WhyNotParsed text e → IsSourceFault e.kind
-source_kind text _ (reading.unlexed e w) = lexer_kind text e w
-source_kind text _ (reading.untagged tokens size l n) = tt
-source_kind text _ (reading.broken tokens before left k size l t split b) = grammar_of_source k (broken_shown b)
+source_kind text _ (grammar.unlexed e w) = lexer_kind text e w
+source_kind text _ (grammar.untagged tokens size l n) = tt
+source_kind text _ (grammar.broken tokens before left k size l t split b) = grammar_of_source k (broken_shown b)

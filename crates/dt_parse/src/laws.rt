@@ -6,7 +6,7 @@ ghost use Rattle.dt_model.specs.Source.{IsPlace};
 ghost use Rattle.dt_names.specs.declared.fault.Fault.{Fault};
 ghost use Rattle.dt_names.specs.declared.fault.FaultKind.TheVariants.{NoMemory};
 ghost use Rattle.dt_grammar.specs.Grammar.{Says};
-ghost use Rattle.dt_parse.specs.Reading.{IsParsed, WhyNotParsed};
+ghost use Rattle.dt_grammar.specs.Parsed.{IsParsed, WhyNotParsed};
 
 use dt_grammar::{source_has_places, source_is_nested};
 use dt_lex::one_answer;

@@ -15,7 +15,8 @@ ghost use Rattle.dt_grammar.specs.Wanted.{Made, kind_at, made_places, made_behin
 ghost use Rattle.dt_grammar.specs.Moves.{source_with};
 ghost use Rattle.dt_grammar.specs.Descent.{first, found, Descends};
 ghost use Rattle.dt_grammar.specs.Faults.{outside, Breaks};
-ghost use Rattle.dt_parse.specs.Reading.{IsRead, IsBroken, IsTagged, place_of, told_at, IsParsed, WhyNotParsed, IsSourceFault};
+ghost use Rattle.dt_parse.specs.Reading.{IsRead, IsBroken, IsSourceFault};
+ghost use Rattle.dt_grammar.specs.Parsed.{IsTagged, place_of, told_at, IsParsed, WhyNotParsed};
 ghost use Rattle.dt_parse.specs.Leading.{Leads, Reserves};
 ghost use Rattle.dt_parse.specs.Said.{reservation_said};
 

@@ -5,7 +5,7 @@ use Rattle.std.specs.Int.{w64, to_be_bytes}
 use Rattle.std.specs.List.{AllByRecursion}
 use Rattle.std.proofs.lemmas.List.Elements.{recursion_from_All}
 use Rattle.std.proofs.lemmas.Bool.{false_from_ne_true}
-use Rattle.dt_laws.proofs.Cases.{either_left}
+use Rattle.dt_model.proofs.Cases.{either_left}
 use Rattle.dt_model.specs.Names.{IsPropertyName, is_name_byte}
 use Rattle.dt_model.specs.Tree.{Property, Forest, no_nodes, branch, Reading}
 use Rattle.dt_model.specs.Valid.{AreNodes, IsReservation, IsValid}
@@ -19,7 +19,7 @@ use Rattle.dt_lex.specs.Lexing.{ends_line}
 use Rattle.dt_grammar.specs.Words.{Words}
 use Rattle.dt_printed.specs.Laws.{TextHasTokens}
 use Rattle.dt_printed.specs.Said.{HoldBytes, NodesHoldBytes, HasBytes}
-use Rattle.dt_printed.specs.Printed.{hexadecimal, value_text, tabs, property_line, property_lines, node_lines, reservation_line, reservation_lines, printed}
+use Rattle.dt_model.specs.Printed.{hexadecimal, value_text, tabs, property_line, property_lines, node_lines, reservation_line, reservation_lines, printed}
 use Rattle.dt_printed.specs.Words.{mark_word, keyword_word, name_word, long_word, value_words, property_words, node_words, reservation_words, words_of_tree}
 use Rattle.dt_printed.proofs.CutWords.{Cuts, end_cut, cut_tokens}
 use Rattle.dt_printed.proofs.MissedRules.{CutsOn, mark_on, keyword_on, blanks_on}

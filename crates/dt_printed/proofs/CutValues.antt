@@ -10,7 +10,7 @@ use Rattle.dt_lex.specs.declared.token.TokenKind.TheVariants as kind
 use Rattle.dt_lex.specs.Bytes.{is_in}
 use Rattle.dt_lex.specs.Words.{Stops}
 use Rattle.dt_grammar.specs.Words.{Words}
-use Rattle.dt_printed.specs.Printed.{hexadecimal, significant, are_texts, texts_from, cells_text, bytes_text, value_text}
+use Rattle.dt_model.specs.Printed.{hexadecimal, significant, are_texts, texts_from, cells_text, bytes_text, value_text}
 use Rattle.dt_printed.specs.Words.{mark_word, cell_word, cell_words, byte_words, text_words, value_words}
 use Rattle.dt_printed.proofs.CutWords.{Cuts}
 use Rattle.dt_printed.proofs.MissedRules.{CutsOn, mark_on, blanks_on}

@@ -5,7 +5,7 @@ use Rattle.std.specs.List.{list_all, AllByRecursion}
 use Rattle.std.proofs.lemmas.Bool.{eqb-true, or_cases, or_parts, not-true, both_ways, and_parts}
 use Rattle.std.proofs.lemmas.Bool.Decides.{nat_tests}
 use Rattle.std.proofs.lemmas.List.{append-nil}
-use Rattle.dt_laws.proofs.Tests.{each_append}
+use Rattle.dt_model.proofs.Tests.{each_append}
 use Rattle.dt_lex.specs.declared.byte.Class.TheVariants as class
 use Rattle.dt_lex.specs.declared.leader.Leader.{Leader}
 use Rattle.dt_lex.specs.declared.leader.Leader.TheVariants as leader

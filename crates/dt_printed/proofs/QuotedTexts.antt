@@ -17,7 +17,7 @@ use Rattle.dt_lex.proofs.WordLemmas.{then_word}
 use Rattle.dt_lex.proofs.QuotedLemmas.{same_front, simple_longest}
 use Rattle.dt_lex.proofs.LetterLemmas.{letter_itself, closed_here, closed_go, skips_same, text_to, text_from}
 use Rattle.dt_grammar.specs.Words.{Words}
-use Rattle.dt_printed.specs.Printed.{ends_texts, quoted, texts_from}
+use Rattle.dt_model.specs.Printed.{ends_texts, quoted, texts_from}
 use Rattle.dt_printed.specs.Words.{text_words}
 use Rattle.dt_printed.proofs.CutWords.{Cuts, word_cut}
 use Rattle.dt_printed.proofs.MissedRules.{cut_at, CutsOn, mark_on, blanks_on}

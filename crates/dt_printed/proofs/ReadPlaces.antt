@@ -10,7 +10,7 @@ use Rattle.dt_model.specs.Event.{Stack, opening, definition}
 use Rattle.dt_model.specs.Source.{one, Place, raw, child, property, close, Events, SoFar, Body, nothing, is_among, read, read_all, and_if_read}
 use Rattle.dt_model.specs.Tree.{Property, Forest, no_nodes, branch, Reading}
 use Rattle.dt_model.specs.Valid.{AreDistinct, names, AreNodes, IsNoDeeper, IsValid, IsWithinLimits}
-use Rattle.dt_laws.proofs.Tests.{bytes_eq_other}
+use Rattle.dt_model.proofs.Tests.{bytes_eq_other}
 use Rattle.dt_printed.specs.Said.{property_places, node_places, places_of}
 
 -- ---- the events

@@ -15,9 +15,9 @@ use Rattle.dt_expr.specs.Fits.{element}
 use Rattle.dt_grammar.specs.Words.{Word, Words}
 use Rattle.dt_grammar.specs.WordBytes.{AreBytes}
 use Rattle.dt_grammar.specs.Grammar.{no_labels, integer, SpellsNumber, SpellsCells, no_cells, cell_number, SpellsBytes, no_bytes, one_byte, no_bits, SpellsItem, cells, string, bytes as byte_string, SpellsComponent, SpellsValue, last, more, SpellsAssigned, empty, assigned}
-use Rattle.dt_laws.proofs.Flat.{map_append}
-use Rattle.dt_laws.proofs.Tests.{and_right}
-use Rattle.dt_printed.specs.Printed.{ends_texts, are_texts, quoted}
+use Rattle.dt_model.proofs.Flat.{map_append}
+use Rattle.dt_model.proofs.Tests.{and_right}
+use Rattle.dt_model.specs.Printed.{ends_texts, are_texts, quoted}
 use Rattle.dt_printed.specs.Words.{mark_word, text_words, cell_word, cell_words, byte_words, value_words}
 
 -- ---- components

@@ -21,12 +21,12 @@ use Rattle.dt_model.specs.Tree.{Property, Forest, no_nodes, branch, Reading, val
 use Rattle.dt_model.specs.Valid.{IsPhandle, IsValid, IsWithinLimits, phandle_values, phandles}
 use Rattle.dt_grammar.specs.WordBytes.{AreBytes}
 use Rattle.dt_laws.proofs.Bound.{written_range}
-use Rattle.dt_laws.proofs.Cases.{then_some, some_there}
-use Rattle.dt_laws.proofs.Distinct.{in_flat}
-use Rattle.dt_laws.proofs.Listed.{value_listed}
+use Rattle.dt_model.proofs.Cases.{then_some, some_there}
+use Rattle.dt_model.proofs.Distinct.{in_flat}
+use Rattle.dt_model.proofs.Listed.{value_listed}
 use Rattle.dt_laws.proofs.Meanings.{no_twice}
-use Rattle.dt_laws.proofs.Preorder.{phandle_list, all_phandles, value_in_list, own_phandle}
-use Rattle.dt_laws.proofs.Tests.{each_in, in_append, bytes_eq_true}
+use Rattle.dt_model.proofs.Preorder.{phandle_list, all_phandles, value_in_list, own_phandle}
+use Rattle.dt_model.proofs.Tests.{each_in, in_append, bytes_eq_true}
 use Rattle.dt_printed.specs.Laws.{TextIsTree}
 use Rattle.dt_printed.specs.Said.{places_of, HoldBytes, NodesHoldBytes, HasBytes}
 use Rattle.dt_printed.proofs.ReadPlaces.{state, tree_read}

@@ -10,8 +10,8 @@ use Rattle.dt_model.specs.Source.{Part, one, Events}
 use Rattle.dt_model.specs.Tree.{Property, Placed}
 use Rattle.dt_model.specs.Valid.{AreDistinct}
 use Rattle.dt_laws.proofs.Meanings.{no_twice}
-use Rattle.dt_laws.proofs.Preorder.{paths_of}
-use Rattle.dt_laws.proofs.Tests.{each_in, each_from, in_map, bytes_eq_refl, bytes_eq_other, path_eq_refl, path_eq_true}
+use Rattle.dt_model.proofs.Preorder.{paths_of}
+use Rattle.dt_model.proofs.Tests.{each_in, each_from, in_map, bytes_eq_refl, bytes_eq_other, path_eq_refl, path_eq_true}
 use Rattle.dt_printed.proofs.ReadPlaces.{property_events}
 use Rattle.dt_printed.proofs.TreeEvents.{own}
 

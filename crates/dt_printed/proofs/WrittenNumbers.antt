@@ -10,7 +10,7 @@ use Rattle.dt_lex.specs.Bytes.{is_in}
 use Rattle.dt_lex.specs.Numbers.{digit_of, digits, number_behind, all_below, integer_of}
 use Rattle.dt_lex.specs.Words.{Each}
 use Rattle.dt_grammar.proofs.TextBytes.{digit_small}
-use Rattle.dt_printed.specs.Printed.{hexadecimal, significant}
+use Rattle.dt_model.specs.Printed.{hexadecimal, significant}
 
 -- the digit of a number below 16
 abbrev pub figure : ℕ → ℕ

@@ -11,8 +11,8 @@ use Rattle.dt_lex.specs.declared.token.Token.{Token}
 use Rattle.dt_lex.specs.Lexing.{IsLexed}
 use Rattle.dt_grammar.specs.Grammar.{SpellsSource}
 use Rattle.dt_grammar.specs.Words.{words_of}
-use Rattle.dt_parse.specs.Reading.{IsParsed}
-use Rattle.dt_printed.specs.Printed.{printed}
+use Rattle.dt_grammar.specs.Parsed.{IsParsed}
+use Rattle.dt_model.specs.Printed.{printed}
 use Rattle.dt_printed.specs.Said.{said, places_of, HasBytes}
 use Rattle.dt_printed.specs.Words.{words_of_tree}
 

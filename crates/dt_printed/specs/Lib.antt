@@ -1,4 +1,3 @@
 pub mod Laws
-pub mod Printed
 pub mod Said
 pub mod Words

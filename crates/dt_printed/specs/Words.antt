@@ -9,7 +9,7 @@ use Rattle.dt_lex.specs.declared.token.Mark.TheVariants as mark
 use Rattle.dt_lex.specs.declared.token.TokenKind.TheVariants as kind
 use Rattle.dt_lex.specs.Modes.{mark_bytes, keyword_bytes}
 use Rattle.dt_grammar.specs.Words.{Word, Words}
-use Rattle.dt_printed.specs.Printed.{hexadecimal, significant, are_texts, quoted}
+use Rattle.dt_model.specs.Printed.{hexadecimal, significant, are_texts, quoted}
 
 abbrev pub mark_word : Mark → Word
 mark_word m = record { kind = kind.Mark m; bytes = mark_bytes m }

@@ -1,4 +1,4 @@
-//! The text of a tree, as it is printed, and laws about it: it is a source, which is compiled to the tree. No code.
+//! Theorems about the text of a tree, as it is printed: it is a source, which is compiled to the tree. No code.
 #![tactic(auto)]
 
 mod lexing;

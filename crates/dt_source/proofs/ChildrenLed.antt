@@ -5,7 +5,7 @@ use Rattle.std.proofs.lemmas.Option.{slice_get-map, slice_get_within}
 use Rattle.dt_model.specs.Names.{Name}
 use Rattle.dt_model.specs.Event.{Stack}
 use Rattle.dt_model.specs.Lists.{IsIn}
-use Rattle.dt_laws.proofs.Cases.{map_some}
+use Rattle.dt_model.proofs.Cases.{map_some}
 use Rattle.dt_source.specs.declared.growing.Node.{Node}
 use Rattle.dt_source.specs.Grown.{name_said, Leads}
 use Rattle.dt_source.specs.Owned.{AreOwned, AreRising}

@@ -9,7 +9,7 @@ use Rattle.dt_model.specs.Source.{Events}
 use Rattle.dt_model.specs.Lists.{IsIn}
 use Rattle.dt_model.specs.Named as model
 use Rattle.dt_model.specs.Named.{NodeReference}
-use Rattle.dt_laws.proofs.Tests.{in_append}
+use Rattle.dt_model.proofs.Tests.{in_append}
 use Rattle.dt_names.specs.declared.fault.Fault.{Fault}
 use Rattle.dt_names.specs.declared.fault.FaultKind.{FaultKind}
 use Rattle.dt_names.specs.declared.fault.FaultKind.TheVariants as fault

@@ -14,8 +14,8 @@ use Rattle.dt_model.specs.NamedOf.{bound_values}
 use Rattle.dt_model.specs.Source.{Part, one, number_of, text_of, Events, all_bound, written, written_number, IsResolved, HasUnresolved, HasBadPhandle, HasDuplicatePhandle}
 use Rattle.dt_model.specs.Lists.{IsIn}
 use Rattle.dt_model.specs.Named.{NodeReference, Content, Listed, Named, nodes_of}
-use Rattle.dt_laws.proofs.Tests.{and_left, and_right, and_both, bytes_eq_true, bytes_eq_refl, in_map}
-use Rattle.dt_laws.proofs.Cases.{map_some, then_some, some_there}
+use Rattle.dt_model.proofs.Tests.{and_left, and_right, and_both, bytes_eq_true, bytes_eq_refl, in_map}
+use Rattle.dt_model.proofs.Cases.{map_some, then_some, some_there}
 use Rattle.dt_names.specs.declared.fault.Fault.{Fault}
 use Rattle.dt_names.specs.declared.fault.FaultKind.{FaultKind}
 use Rattle.dt_names.specs.declared.fault.FaultKind.TheVariants as fault

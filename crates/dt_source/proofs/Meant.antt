@@ -16,7 +16,7 @@ use Rattle.dt_model.specs.Lists.{IsIn}
 use Rattle.dt_model.specs.Named.{NodeReference, Content, NamedProperty, Named, NamedNode, NamedPlaced, Listed, node_at, content_in, value_of, node_count, nodes_of, paths_of, list_of}
 use Rattle.dt_model.specs.NamedOf.{path_among, meant, IsBelow, RefersBelow, IsNamedBy}
 use Rattle.dt_model.specs.Ordered.{ArePropertiesInOrder, AreLabelsInOrder}
-use Rattle.dt_laws.proofs.Tests.{bytes_eq_true, bytes_eq_differ, in_map_from}
+use Rattle.dt_model.proofs.Tests.{bytes_eq_true, bytes_eq_differ, in_map_from}
 use Rattle.dt_source.specs.declared.growing.Node.{Node}
 use Rattle.dt_source.specs.declared.growing.Property.{Property}
 use Rattle.dt_source.specs.declared.growing.Giving.{Giving}

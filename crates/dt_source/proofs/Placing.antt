@@ -8,8 +8,8 @@ use Rattle.dt_model.specs.Path.{Path}
 use Rattle.dt_model.specs.Event.{Stack}
 use Rattle.dt_model.specs.Lists.{IsIn}
 use Rattle.dt_model.specs.Named.{NodeReference, Content, NamedForest, NamedNode, NamedPlaced, preorder, sibling, node_below}
-use Rattle.dt_laws.proofs.Tests.{bytes_eq_true, bytes_eq_differ}
-use Rattle.dt_laws.proofs.Cases.{then_some}
+use Rattle.dt_model.proofs.Tests.{bytes_eq_true, bytes_eq_differ}
+use Rattle.dt_model.proofs.Cases.{then_some}
 use Rattle.dt_source.specs.declared.growing.Node.{Node}
 use Rattle.dt_source.specs.Grown.{Leads}
 use Rattle.dt_source.specs.Listing.{trees_of, forest_below, name_of}

@@ -10,7 +10,7 @@ use Rattle.dt_model.specs.Source.{Events}
 use Rattle.dt_model.specs.Lists.{IsIn, FallBy}
 use Rattle.dt_model.specs.Named.{NodeReference, Content, Named, NamedForest, NamedNode, node_at, names}
 use Rattle.dt_model.specs.Ordered.{AreChildrenInOrder}
-use Rattle.dt_laws.proofs.Tests.{each_from, in_map, in_map_from}
+use Rattle.dt_model.proofs.Tests.{each_from, in_map, in_map_from}
 use Rattle.dt_source.specs.declared.growing.Node.{Node}
 use Rattle.dt_source.specs.declared.growing.Property.{Property}
 use Rattle.dt_source.specs.declared.growing.Giving.{Giving}

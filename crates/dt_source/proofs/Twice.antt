@@ -3,8 +3,8 @@ use Rattle.std.proofs.Common.{◌≡◌, ℕ, ◌+◌, ◌<◌, ◌≤◌, true,
 use Rattle.std.proofs.lemmas.Bool.{cases_lt}
 use Rattle.std.specs.Option.{option_map_or}
 use Rattle.std.proofs.lemmas.Option.{slice_get_within, slice_get-get_or}
-use Rattle.dt_laws.proofs.Tests.{or_cases, or_left, or_right}
-use Rattle.dt_laws.proofs.Cases.{map_or_true}
+use Rattle.dt_model.proofs.Tests.{or_cases, or_left, or_right}
+use Rattle.dt_model.proofs.Cases.{map_or_true}
 use Rattle.dt_source.specs.declared.growing.Property.{Property}
 use Rattle.dt_source.specs.Phandles.{Set, has, number_written, AreOwn, HasTwice}
 

@@ -4,7 +4,7 @@ use Rattle.std.proofs.lemmas.List.{map-append, length-append, length-map}
 use Rattle.dt_model.specs.Names.{Name}
 use Rattle.dt_model.specs.Lists.{IsIn}
 use Rattle.dt_model.specs.Named.{NodeReference, Content, NamedForest, Listed, node_count, listed}
-use Rattle.dt_laws.proofs.Tests.{in_left, in_right}
+use Rattle.dt_model.proofs.Tests.{in_left, in_right}
 use Rattle.dt_source.specs.declared.listing.Row.{Row}
 use Rattle.dt_source.specs.Listing.{rows_each, rows_below, trees_of, forest_below, listed_row}
 

@@ -1,9 +1,9 @@
 //! The nodes of a tree under construction, in preorder.
 
-ghost use Rattle.std.specs.Prelude.{◌≡◌, ◌∷◌, [], ◌++◌, length, slice_set, IfOk, OnOk};
+ghost use Rattle.std.specs.Prelude.{◌≡◌, ◌==◌, ◌∷◌, [], ◌++◌, None, length, slice_set, if◌then◌else◌, IfOk, OnOk};
 ghost use Rattle.dt_model.specs.Limits.{most_names};
 ghost use Rattle.dt_source.specs.Owned.{group_of, AreOwned};
-ghost use Rattle.dt_source.specs.Listing.{parents_of, rows_of, AreRows, AreNumbers};
+ghost use Rattle.dt_source.specs.Listing.{parent_of, parents_of, rows_of, AreRows, AreNumbers};
 
 use crate::groups::Groups;
 use crate::growing::Node;
@@ -44,18 +44,24 @@ fn add(rows: &mut Vec<Row>, children: &Groups, row: Row, depth: usize) -> Result
     Ok(())
 }
 
+/// The node to which the node of this number belongs as a child; none for the root, and where it was deleted.
+fn parent(number: usize, node: &Node<'_, '_>) -> Option<usize>
+    ensures { result ≡ (if number == 0 then None else parent_of node.now) }
+{
+    if number > 0 && node.stands {
+        Some(node.parent)
+    } else {
+        None
+    }
+}
+
 /// The node to which each node belongs as a child; none for the root, and for those that were deleted.
 fn parents(alloc: Global, nodes: &[Node<'_, '_>]) -> Result<Vec<Option<usize>>, AllocError>
     ensures { IfOk result (λ v. v.items ≡ parents_of nodes.now) }
 {
     let mut parents = Vec::with_capacity(alloc, nodes.len())?;
     for (number, node) in nodes.iter().enumerate() {
-        let parent = if number > 0 && node.stands {
-            Some(node.parent)
-        } else {
-            None
-        };
-        parents.push(parent)?;
+        parents.push(parent(number, node))?;
     }
     Ok(parents)
 }

@@ -1,8 +1,9 @@
 //! The nodes of the named tree that a tree under construction stands for.
 
-ghost use Rattle.std.specs.Prelude.{◌≡◌, [], map, MatchResult};
+ghost use Rattle.std.specs.Prelude.{◌≡◌, [], length, map, MatchResult};
 ghost use Rattle.dt_source.specs.Said.{node_said};
 ghost use Rattle.dt_source.specs.Growing.{IsSound};
+ghost use Rattle.dt_source.specs.Listing.{AreRows, AreNumbers};
 ghost use Rattle.dt_source.specs.Resolving.{Belong};
 ghost use Rattle.dt_source.specs.Nodes.{AreFilled, IsUnfilled, AreListed, IsUnlisted, AreKept, IsUnkept};
 
@@ -34,6 +35,42 @@ fn fill<'a>(
     check_phandles(alloc, &growing.properties, &belongings.numbers)
 }
 
+/// The nodes of the rows, each with what it has, where this is what belongs to them.
+fn filled_nodes<'a>(
+    alloc: Global,
+    growing: &Growing<'_, 'a>,
+    belongings: &Belongings,
+    rows: &[Row],
+) -> Result<Vec<NamedNode<'a>>, Fault>
+    requires sound { IsSound growing.now }
+    requires rows { AreRows growing.now.nodes.items rows.now }
+    requires belong { Belong growing.now belongings.now }
+    requires numbers { AreNumbers rows.now (length growing.now.nodes.items) belongings.now.numbers.items }
+    ensures { MatchResult result
+        (λ nodes. AreListed growing.now (map node_said nodes.items))
+        (λ fault. IsUnlisted growing.now fault) }
+{
+    let mut nodes = Vec::with_capacity(alloc, rows.len())?;
+    fill(alloc, growing, belongings, rows, &mut nodes)?;
+    Ok(nodes)
+}
+
+/// The same, where nothing is known but the rows.
+fn nodes_of_rows<'a>(
+    alloc: Global,
+    growing: &Growing<'_, 'a>,
+    rows: &[Row],
+) -> Result<Vec<NamedNode<'a>>, Fault>
+    requires sound { IsSound growing.now }
+    requires rows { AreRows growing.now.nodes.items rows.now }
+    ensures { MatchResult result
+        (λ nodes. AreListed growing.now (map node_said nodes.items))
+        (λ fault. IsUnlisted growing.now fault) }
+{
+    let belongings = Belongings::new(alloc, growing, rows)?;
+    filled_nodes(alloc, growing, &belongings, rows)
+}
+
 /// The nodes that stand in preorder, each with what it has. `UnresolvedReference` where a reference names no node; else
 /// `BadPhandle` where a `phandle` writes no number; else `DuplicatePhandle` where two nodes write one number.
 pub(crate) fn named_nodes<'a>(
@@ -46,10 +83,43 @@ pub(crate) fn named_nodes<'a>(
         (λ fault. IsUnlisted growing.now fault) }
 {
     let rows = rows(alloc, &growing.nodes)?;
-    let belongings = Belongings::new(alloc, growing, &rows)?;
-    let mut nodes = Vec::with_capacity(alloc, rows.len())?;
-    fill(alloc, growing, &belongings, &rows, &mut nodes)?;
+    nodes_of_rows(alloc, growing, &rows)
+}
+
+/// The nodes of the rows of an overlay's tree, each with what it has, where this is what belongs to them.
+fn kept_nodes<'a>(
+    alloc: Global,
+    growing: &Growing<'_, 'a>,
+    belongings: &Belongings,
+    rows: &[Row],
+) -> Result<Vec<NamedNode<'a>>, Fault>
+    requires sound { IsSound growing.now }
+    requires rows { AreRows growing.now.nodes.items rows.now }
+    requires belong { Belong growing.now belongings.now }
+    requires numbers { AreNumbers rows.now (length growing.now.nodes.items) belongings.now.numbers.items }
+    ensures { MatchResult result
+        (λ nodes. AreKept growing.now (map node_said nodes.items))
+        (λ fault. IsUnkept growing.now fault) }
+{
+    let mut nodes = Vec::new(alloc);
+    add_nodes(alloc, growing, belongings, Unnamed::Kept, rows, &mut nodes)?;
     Ok(nodes)
+}
+
+/// The same, where nothing is known but the rows.
+fn overlay_nodes_of_rows<'a>(
+    alloc: Global,
+    growing: &Growing<'_, 'a>,
+    rows: &[Row],
+) -> Result<Vec<NamedNode<'a>>, Fault>
+    requires sound { IsSound growing.now }
+    requires rows { AreRows growing.now.nodes.items rows.now }
+    ensures { MatchResult result
+        (λ nodes. AreKept growing.now (map node_said nodes.items))
+        (λ fault. IsUnkept growing.now fault) }
+{
+    let belongings = Belongings::new(alloc, growing, rows)?;
+    kept_nodes(alloc, growing, &belongings, rows)
 }
 
 /// The nodes that stand in an overlay's tree in preorder, each with what it has: a label that names none of them is kept.
@@ -63,15 +133,5 @@ pub(crate) fn overlay_nodes<'a>(
         (λ fault. IsUnkept growing.now fault) }
 {
     let rows = rows(alloc, &growing.nodes)?;
-    let belongings = Belongings::new(alloc, growing, &rows)?;
-    let mut nodes = Vec::new(alloc);
-    add_nodes(
-        alloc,
-        growing,
-        &belongings,
-        Unnamed::Kept,
-        &rows,
-        &mut nodes,
-    )?;
-    Ok(nodes)
+    overlay_nodes_of_rows(alloc, growing, &rows)
 }

@@ -8,27 +8,11 @@
 //! command line aren't a command.
 #![tactic(auto)]
 
-mod applying;
-mod checking;
-mod compiling;
-mod files;
-mod job;
-mod line;
-mod printing;
-mod prompt;
-mod report;
-mod run;
-mod showing;
 #[cfg(test)]
 mod tests;
-mod text;
-mod words;
 
-use crate::files::SystemFiles;
-use crate::prompt::Prompt;
-use crate::run::run;
-use crate::words::{LineFault, line};
 use dt_names::Out;
+use dt_run::{LineFault, Prompt, SystemFiles, line, run};
 use std::io::ErrorKind;
 use std::process::ExitCode;
 use std::{env, io};

@@ -2,16 +2,11 @@
 //! function that borrows what is large, since a test that fails lets go of all that it holds.
 
 ghost use Rattle.std.specs.Prelude.{⊤, length};
-ghost use Rattle.dtool.specs.Job.{IsAsked};
+ghost use Rattle.dt_run.specs.Job.{IsAsked};
 
-use crate::files::{Files, SystemFiles, load_all};
-use crate::job::{Job, perform};
-use crate::prompt::Prompt;
-use crate::report::report;
-use crate::run::run;
-use crate::words::{LineFault, line};
 use dt_chain::read_all;
 use dt_names::{Fault, FaultKind, Feed, In, Out, Path, Sink, put_all};
+use dt_run::{Files, Job, LineFault, Prompt, SystemFiles, line, load_all, perform, report, run};
 use hex::decode;
 use std::alloc::Global;
 use std::fs;

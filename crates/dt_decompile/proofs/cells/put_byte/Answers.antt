@@ -4,8 +4,8 @@ use Rattle.dt_decompile.proofs.cells.put_byte.Goals as goal
 
 pub returns-clause-passed : goal.returns-clause-passed
 returns-clause-passed g c =
-    passed_last _ _ _ _ _ _ (ap (λ (l : List ℕ). c.args.lead.now ++ l) (sym c.write_digits.ensures)) c.in_ok-put.ensures.passed c.put-2.ensures.passed
+    passed_last _ _ _ _ _ (ap (λ (l : List ℕ). c.args.lead.now ++ l) (sym c.write_digits.ensures)) c.in_ok-put.ensures.passed c.put-2.ensures.passed
 
 pub returns-clause-refused : goal.returns-clause-refused
 returns-clause-refused g c =
-    refused_last _ _ _ _ _ (ap (λ (l : List ℕ). c.args.lead.now ++ l) (sym c.write_digits.ensures)) c.in_ok-put.ensures.passed c.put-2.ensures.refused
+    refused_last _ _ _ _ (ap (λ (l : List ℕ). c.args.lead.now ++ l) (sym c.write_digits.ensures)) c.in_ok-put.ensures.passed c.put-2.ensures.refused

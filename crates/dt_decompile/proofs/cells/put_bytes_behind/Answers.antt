@@ -1,7 +1,7 @@
 use Rattle.std.proofs.Common.{◌++◌, ◌∙◌, ◌+◌, [], ◌∷◌, List, ℕ, get_or, drop, ap}
 use Rattle.std.specs.Prelude.{codes}
 use Rattle.std.proofs.lemmas.List.{at_drop_more}
-use Rattle.dt_printed.specs.Printed.{hexadecimal}
+use Rattle.dt_model.specs.Printed.{hexadecimal}
 use Rattle.dt_decompile.specs.Pieces.{bytes_behind}
 use Rattle.dt_decompile.proofs.Passing.{passed_then, exits_at, turned}
 use Rattle.dt_decompile.proofs.cells.put_bytes_behind.Goals as goal

@@ -1,6 +1,6 @@
 use Rattle.std.proofs.Common.{◌++◌, ◌∙◌, List, ℕ, refl, ap}
 use Rattle.std.specs.Prelude.{codes}
-use Rattle.dt_printed.specs.Printed.{hexadecimal, significant}
+use Rattle.dt_model.specs.Printed.{hexadecimal, significant}
 use Rattle.dt_decompile.specs.Pieces.{cells_behind}
 use Rattle.dt_decompile.proofs.CellTexts.{cell_step}
 use Rattle.dt_decompile.proofs.Passing.{passed_then, exits_at, turned}

@@ -1,6 +1,6 @@
 -- What is left has the digits that are left of all.
 use Rattle.std.proofs.Common.{◌≡◌, length}
-use Rattle.dt_printed.specs.Printed.{significant}
+use Rattle.dt_model.specs.Printed.{significant}
 use Rattle.dt_decompile.proofs.digits.without_zeros.Given as goal
 
 abbrev pub invariant-loop-rest : goal.invariant-loop-rest

@@ -1,6 +1,6 @@
 use Rattle.std.proofs.Common.{◌≡◌, ◌++◌, List, ℕ, refl, sym, ap}
 use Rattle.std.specs.Prelude.{codes}
-use Rattle.dt_printed.specs.Printed.{tabs}
+use Rattle.dt_model.specs.Printed.{tabs}
 use Rattle.dt_decompile.specs.Lines.{shown_name, open_line}
 use Rattle.dt_decompile.proofs.Passing.{passed_then, exits_first, exits_at, passed_last, refused_last, turned}
 use Rattle.dt_decompile.proofs.lines.put_open.Goals as goal
@@ -18,10 +18,10 @@ returns-in_err-put-clause-refused g c =
 
 pub returns-clause-passed : goal.returns-clause-passed
 returns-clause-passed g c =
-    passed_last _ _ _ _ _ _ (turned (tabs c.args.depth) c.shown.result.now (codes " {\n") (opening c.args.depth c.args.name.now c.shown.result.now c.shown.ensures))
+    passed_last _ _ _ _ _ (turned (tabs c.args.depth) c.shown.result.now (codes " {\n") (opening c.args.depth c.args.name.now c.shown.result.now c.shown.ensures))
     (passed_then c.in_ok-put_tabs.ensures.passed c.in_ok-put.ensures.passed) c.put-2.ensures.passed
 
 pub returns-clause-refused : goal.returns-clause-refused
 returns-clause-refused g c =
-    refused_last _ _ _ _ _ (turned (tabs c.args.depth) c.shown.result.now (codes " {\n") (opening c.args.depth c.args.name.now c.shown.result.now c.shown.ensures))
+    refused_last _ _ _ _ (turned (tabs c.args.depth) c.shown.result.now (codes " {\n") (opening c.args.depth c.args.name.now c.shown.result.now c.shown.ensures))
     (passed_then c.in_ok-put_tabs.ensures.passed c.in_ok-put.ensures.passed) c.put-2.ensures.refused

@@ -1,6 +1,6 @@
 use Rattle.std.proofs.Common.{◌++◌, refl}
 use Rattle.std.specs.Prelude.{codes}
-use Rattle.dt_printed.specs.Printed.{tabs, value_text}
+use Rattle.dt_model.specs.Printed.{tabs, value_text}
 use Rattle.dt_decompile.proofs.Passing.{passed_then, exits_first, exits_at, passed_last, refused_last, turned}
 use Rattle.dt_decompile.proofs.lines.put_property.Goals as goal
 
@@ -18,12 +18,12 @@ returns-in_err-put_value-clause-refused g c =
 
 pub returns-clause-passed : goal.returns-clause-passed
 returns-clause-passed g c =
-    passed_last _ _ _ _ _ _
+    passed_last _ _ _ _ _
     (turned (tabs c.args.depth ++ c.args.name.now) (value_text c.args.value.now) (codes ";\n") (turned (tabs c.args.depth) c.args.name.now (value_text c.args.value.now ++ codes ";\n") refl))
     (passed_then (passed_then c.in_ok-put_tabs.ensures.passed c.in_ok-put.ensures.passed) c.in_ok-put_value.ensures.passed) c.put-2.ensures.passed
 
 pub returns-clause-refused : goal.returns-clause-refused
 returns-clause-refused g c =
-    refused_last _ _ _ _ _
+    refused_last _ _ _ _
     (turned (tabs c.args.depth ++ c.args.name.now) (value_text c.args.value.now) (codes ";\n") (turned (tabs c.args.depth) c.args.name.now (value_text c.args.value.now ++ codes ";\n") refl))
     (passed_then (passed_then c.in_ok-put_tabs.ensures.passed c.in_ok-put.ensures.passed) c.in_ok-put_value.ensures.passed) c.put-2.ensures.refused

@@ -1,6 +1,6 @@
 use Rattle.std.proofs.Common.{◌++◌, ◌∙◌, ◌-◌, List, ℕ, ap}
 use Rattle.std.specs.Prelude.{codes}
-use Rattle.dt_printed.specs.Printed.{tabs}
+use Rattle.dt_model.specs.Printed.{tabs}
 use Rattle.dt_decompile.proofs.LineTexts.{tabs_more, tabs_last}
 use Rattle.dt_decompile.proofs.Passing.{passed_then, exits_at, passed_last, refused_last, turned}
 use Rattle.dt_decompile.proofs.lines.put_tabs.Goals as goal
@@ -22,9 +22,9 @@ loop-left-preserved g c =
 pub returns-clause-passed : goal.returns-clause-passed
 returns-clause-passed g c =
     let (front, split, passed) = c.loop-left.invariant in
-    passed_last _ _ _ _ _ _ (split ∙ ap (λ (l : List ℕ). front ++ l) (tabs_last c.loop-left.left c.loop-left-test.false)) passed c.put-2.ensures.passed
+    passed_last _ _ _ _ _ (split ∙ ap (λ (l : List ℕ). front ++ l) (tabs_last c.loop-left.left c.loop-left-test.false)) passed c.put-2.ensures.passed
 
 pub returns-clause-refused : goal.returns-clause-refused
 returns-clause-refused g c =
     let (front, split, passed) = c.loop-left.invariant in
-    refused_last _ _ _ _ _ (split ∙ ap (λ (l : List ℕ). front ++ l) (tabs_last c.loop-left.left c.loop-left-test.false)) passed c.put-2.ensures.refused
+    refused_last _ _ _ _ (split ∙ ap (λ (l : List ℕ). front ++ l) (tabs_last c.loop-left.left c.loop-left-test.false)) passed c.put-2.ensures.refused

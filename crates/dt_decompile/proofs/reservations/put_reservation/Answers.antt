@@ -1,7 +1,7 @@
 use Rattle.std.proofs.Common.{◌≡◌, ◌++◌, ℕ, refl}
 use Rattle.std.specs.Prelude.{codes}
 use Rattle.std.specs.Int.{w64, to_be_bytes}
-use Rattle.dt_printed.specs.Printed.{hexadecimal, reservation_line}
+use Rattle.dt_model.specs.Printed.{hexadecimal, reservation_line}
 use Rattle.dt_decompile.proofs.Passing.{passed_then, exits_first, exits_at, passed_last, refused_last, turned}
 use Rattle.dt_decompile.proofs.reservations.put_reservation.Goals as goal
 
@@ -19,12 +19,12 @@ returns-in_err-put_number-2-clause-refused g c =
 
 pub returns-clause-passed : goal.returns-clause-passed
 returns-clause-passed g c =
-    passed_last _ _ _ _ _ _
+    passed_last _ _ _ _ _
     (turned (codes "/memreserve/ 0x" ++ hexadecimal (to_be_bytes w64 c.args.address)) (codes " 0x" ++ hexadecimal (to_be_bytes w64 c.args.size)) (codes ";\n") (regrouped c.args.address c.args.size))
     (passed_then c.in_ok-put_number.ensures.passed c.in_ok-put_number-2.ensures.passed) c.put.ensures.passed
 
 pub returns-clause-refused : goal.returns-clause-refused
 returns-clause-refused g c =
-    refused_last _ _ _ _ _
+    refused_last _ _ _ _
     (turned (codes "/memreserve/ 0x" ++ hexadecimal (to_be_bytes w64 c.args.address)) (codes " 0x" ++ hexadecimal (to_be_bytes w64 c.args.size)) (codes ";\n") (regrouped c.args.address c.args.size))
     (passed_then c.in_ok-put_number.ensures.passed c.in_ok-put_number-2.ensures.passed) c.put.ensures.refused

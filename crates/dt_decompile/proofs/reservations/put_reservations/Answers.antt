@@ -1,5 +1,5 @@
 use Rattle.std.proofs.Common.{◌++◌, ◌∙◌, List, ℕ, ap, rules}
-use Rattle.dt_printed.specs.Printed.{reservation_line, reservation_lines}
+use Rattle.dt_model.specs.Printed.{reservation_line, reservation_lines}
 use Rattle.dt_decompile.proofs.Passing.{passed_then, exits_at, turned}
 use Rattle.dt_decompile.proofs.reservations.put_reservations.Goals as goal
 

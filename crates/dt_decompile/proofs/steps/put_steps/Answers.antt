@@ -30,4 +30,4 @@ loop-step-preserved g c =
 pub loop-step-init : goal.loop-step-init
 loop-step-init g c =
     let same = c.into_iter-step-iterator.ensures.into_iter_gives in
-    (tt, tt, omega (arith, ap opened same), [], ap (lines_of 0) (sym same), passed_none _ _ _)
+    (tt, tt, omega (arith, ap opened same), [], ap (lines_of 0) (sym same), passed_none _ _)

@@ -1,6 +1,6 @@
 use Rattle.std.proofs.Common.{refl}
 use Rattle.std.specs.Prelude.{codes}
-use Rattle.dt_printed.specs.Printed.{reservation_lines}
+use Rattle.dt_model.specs.Printed.{reservation_lines}
 use Rattle.dt_decompile.specs.Lines.{lines_of}
 use Rattle.dt_decompile.proofs.LineTexts.{printed_pieces, few_opened}
 use Rattle.dt_decompile.proofs.Passing.{passed_then, exits_first, exits_at, passed_last, refused_last, turned}
@@ -20,14 +20,14 @@ put_steps-requires g c = few_opened c.args.blob.now c.steps.result c.steps.ensur
 
 pub returns-clause-passed : goal.returns-clause-passed
 returns-clause-passed g c =
-    passed_last _ _ _ _ _ _
+    passed_last _ _ _ _ _
     (turned (codes "/dts-v1/;\n") (reservation_lines c.reservations.result) (lines_of 0 c.steps.result)
     (printed_pieces c.args.blob.now c.reservations.result c.steps.result c.reservations.ensures c.steps.ensures))
     (passed_then c.in_ok-put.ensures.passed c.in_ok-put_reservations.ensures.passed) c.put_steps.ensures.passed
 
 pub returns-clause-refused : goal.returns-clause-refused
 returns-clause-refused g c =
-    refused_last _ _ _ _ _
+    refused_last _ _ _ _
     (turned (codes "/dts-v1/;\n") (reservation_lines c.reservations.result) (lines_of 0 c.steps.result)
     (printed_pieces c.args.blob.now c.reservations.result c.steps.result c.reservations.ensures c.steps.ensures))
     (passed_then c.in_ok-put.ensures.passed c.in_ok-put_reservations.ensures.passed) c.put_steps.ensures.refused

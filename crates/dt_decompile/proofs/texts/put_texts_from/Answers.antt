@@ -1,5 +1,5 @@
 use Rattle.std.proofs.Common.{◌++◌, ◌∙◌, List, ℕ, ap}
-use Rattle.dt_printed.specs.Printed.{texts_from}
+use Rattle.dt_model.specs.Printed.{texts_from}
 use Rattle.dt_decompile.proofs.Passing.{passed_then, exits_at, passed_last, refused_last, turned}
 use Rattle.dt_decompile.proofs.texts.put_texts_from.Goals as goal
 
@@ -29,9 +29,9 @@ loop-plain-preserved g c =
 pub returns-clause-passed : goal.returns-clause-passed
 returns-clause-passed g c =
     let (front, split, passed) = c.loop-plain.invariant in
-    passed_last _ _ _ _ _ _ (split ∙ ap (λ (l : List ℕ). front ++ l) c.in_default.ensures) passed c.put-2.ensures.passed
+    passed_last _ _ _ _ _ (split ∙ ap (λ (l : List ℕ). front ++ l) c.in_default.ensures) passed c.put-2.ensures.passed
 
 pub returns-clause-refused : goal.returns-clause-refused
 returns-clause-refused g c =
     let (front, split, passed) = c.loop-plain.invariant in
-    refused_last _ _ _ _ _ (split ∙ ap (λ (l : List ℕ). front ++ l) c.in_default.ensures) passed c.put-2.ensures.refused
+    refused_last _ _ _ _ (split ∙ ap (λ (l : List ℕ). front ++ l) c.in_default.ensures) passed c.put-2.ensures.refused

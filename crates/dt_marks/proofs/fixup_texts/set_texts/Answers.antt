@@ -4,7 +4,7 @@ use Rattle.std.proofs.lemmas.Result.{err_from_is_err_and}
 use Rattle.dt_model.specs.Names.{IsLabel}
 use Rattle.dt_model.specs.Tree.{Property}
 use Rattle.dt_flat.proofs.Linking.{drop_item}
-use Rattle.dt_marks.proofs.Refused.{plain_refused}
+use Rattle.dt_flat.proofs.PlainProperties.{plain_refused}
 use Rattle.dt_marks.proofs.Setting.{label_is_name, property_turn_left}
 use Rattle.dt_marks.proofs.fixup_texts.set_texts.Goals as goal
 

@@ -4,10 +4,10 @@ use Rattle.dt_model.specs.Applied.{with_cell}
 use Rattle.dt_model.specs.Tree.{value_of}
 use Rattle.dt_names.specs.declared.fault.Fault.{Fault}
 use Rattle.dt_names.specs.declared.fault.FaultKind.TheVariants.{NoMemory}
-use Rattle.dt_laws.proofs.Tests.{bytes_eq_differ}
+use Rattle.dt_model.proofs.Tests.{bytes_eq_differ}
 use Rattle.dt_flat.specs.Arena.{properties}
 use Rattle.dt_flat.specs.Refusals.{WhyNotSet}
-use Rattle.dt_marks.proofs.Refused.{plain_refused}
+use Rattle.dt_flat.proofs.PlainProperties.{plain_refused}
 use Rattle.dt_overlay.proofs.writes.write_cell.Goals as goal
 
 pub returns-clause-refused : goal.returns-clause-refused

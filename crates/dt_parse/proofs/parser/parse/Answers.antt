@@ -5,7 +5,8 @@ use Rattle.dt_grammar.specs.Words.{Words, words_of}
 use Rattle.dt_grammar.specs.Wanted.{made_source, Whole}
 use Rattle.dt_grammar.specs.Descent.{found, Descends}
 use Rattle.dt_grammar.specs.Faults.{outside}
-use Rattle.dt_parse.specs.Reading.{IsInside, IsBroken, IsBroken, IsTagged, place_of, told_at, unlexed}
+use Rattle.dt_parse.specs.Reading.{IsInside, IsBroken, IsBroken}
+use Rattle.dt_grammar.specs.Parsed.{IsTagged, place_of, told_at, unlexed}
 use Rattle.dt_parse.proofs.parser.parse.Goals as goal
 use Rattle.dt_lex.specs.declared.token.Token.{Token}
 use Rattle.dt_lex.specs.Lexing.{WhyNotLexed}

@@ -1,0 +1,9 @@
+pub mod Fronts
+pub mod Stops
+pub mod FirstFaults
+pub mod Leads
+pub mod NoFaults
+pub mod DamagedHeaders
+pub mod DamagedTokens
+pub mod DamagedNesting
+pub mod DamagedTrees

@@ -1,0 +1,7 @@
+pub mod Texts
+pub mod Cuts
+pub mod Listed
+pub mod FixupsLeft
+pub mod ListedViews
+pub mod LocalFixupsLeft
+pub mod MirrorViews

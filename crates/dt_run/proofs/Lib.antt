@@ -1,0 +1,6 @@
+pub mod InputFaults
+pub mod Loading
+pub mod Pieces
+pub mod Performing
+pub mod Runs
+pub mod WordLemmas

@@ -1,0 +1,175 @@
+-- What a job writes, and why it doesn't.
+use Rattle.std.proofs.Common.{◌≡◌, ◌-◌, ◌<◌, ◌≤◌, ℕ, List, ◌∷◌, [], length, map, take, drop, get_or, take_all, Bor, Bool, Option, Result, Ok, Err, OnOk, IfOk, IfErr, MatchResult, Vec, Global, refl, sym, ap, subst, arith}
+use Rattle.dt_model.specs.Checks as checks
+use Rattle.dt_model.specs.Checks.{BlobFault, IsFirstFault}
+use Rattle.dt_model.specs.Source.{raw}
+use Rattle.dt_names.specs.Sink.{Taken, Takes, IsUntouched, IsRefused}
+use Rattle.dt_names.specs.declared.fault.Fault.{Fault}
+use Rattle.dt_names.specs.declared.fault.FaultKind.{FaultKind}
+use Rattle.dt_names.specs.declared.fault.FaultKind.TheVariants.{NoMemory, WriteFault}
+use Rattle.dt_read.specs.Kinds.{kind_of}
+use Rattle.dt_chain.specs.Applied.{IsBlobApplied, WhyNoBlobApplied}
+use Rattle.dt_chain.specs.Blobs as blobs
+use Rattle.dt_chain.specs.Built.{IsBlobBuilt, WhyNoBlobBuilt}
+use Rattle.dt_chain.specs.Compiled.{IsCompiled, WhyNotCompiled, IsCompilerFault}
+use Rattle.dt_chain.proofs.Places.{memory_unplaced, blob_unplaced}
+use Rattle.dt_run.specs.Job.{IsWritten, TakesMemory, WhyNoBlob, WhyNotMade, WhyNotPerformed, encoded}
+use Rattle.dt_run.specs.Showing.{WhyNotShown}
+use Rattle.dt_run.specs.Telling.{WhyNotTold, no_blob, cut}
+use Rattle.dt_run.specs.declared.job.Job.{Job}
+use Rattle.dt_run.specs.declared.job.Job.TheVariants.{Compile, CompileRaw, Apply, Build, Print, Check}
+use Rattle.dt_run.proofs.InputFaults.{IsOfInput, blob_not_applied, compiler_only, inside, text_not_built}
+
+-- ---- a fault of the first input
+
+module _ {T : Type 0} (done : Result T Fault) (made : Result T (ℕ × Fault)) where
+  pub first_made : (P : T → Type 0) → MatchResult done (λ x. made ≡ Ok x) (λ fault. made ≡ Err (0, fault)) → IfOk done P → IfOk made P
+  first_made P same is = made_of done made same is where
+    made_of : (done : Result T Fault) (made : Result T (ℕ × Fault)) → MatchResult done (λ x. made ≡ Ok x) (λ fault. made ≡ Err (0, fault)) → IfOk done P → IfOk made P
+    made_of (Ok x) made same is = subst (λ (r : Result T (ℕ × Fault)). IfOk r P) (sym same) is
+    made_of (Err fault) made same is = subst (λ (r : Result T (ℕ × Fault)). IfOk r P) (sym same) tt
+
+  pub first_refused : (Q : ℕ → Fault → Type 0) → MatchResult done (λ x. made ≡ Ok x) (λ fault. made ≡ Err (0, fault)) → IfErr done (λ fault. Q 0 fault) →
+      IfErr made (λ e. Q e.0 e.1)
+  first_refused Q same why = why_of done made same why where
+    why_of : (done : Result T Fault) (made : Result T (ℕ × Fault)) → MatchResult done (λ x. made ≡ Ok x) (λ fault. made ≡ Err (0, fault)) →
+        IfErr done (λ fault. Q 0 fault) → IfErr made (λ e. Q e.0 e.1)
+    why_of (Ok x) made same why = subst (λ (r : Result T (ℕ × Fault)). IfErr r (λ e. Q e.0 e.1)) (sym same) tt
+    why_of (Err fault) made same why = subst (λ (r : Result T (ℕ × Fault)). IfErr r (λ e. Q e.0 e.1)) (sym same) why
+
+-- ---- a blob
+
+module _ (job : Job) (hex : Bool) (inputs : List (List ℕ)) where
+  abbrev pub IsMade : Result (Vec ℕ Global) (ℕ × Fault) → Type 0
+  IsMade made = IfOk made (λ blob. IsWritten job hex inputs (encoded hex blob.items))
+
+  -- why such an input is refused, where the job takes memory
+  abbrev pub IsInput : ℕ → Fault → Type 0
+  IsInput k fault = (k < length inputs) × IsOfInput fault × WhyNotMade k fault.kind fault.at job inputs
+
+  module _ (old new : Taken) where
+    -- what is said of a blob that was made, and of one that wasn't
+    abbrev Shown : Result (Vec ℕ Global) (ℕ × Fault) → Result (Unit {0}) (ℕ × Fault) → Type 0
+    Shown made r = IfOk made
+        (λ blob. MatchResult r (λ _. Takes (encoded hex blob.items) old new)
+        (λ e. (e.0 ≡ 0) × WhyNotShown e.1.kind e.1.at (encoded hex blob.items) old new))
+
+    abbrev Refused : Result (Vec ℕ Global) (ℕ × Fault) → Result (Unit {0}) (ℕ × Fault) → Type 0
+    Refused made r = IfErr made (λ e. (r ≡ Err e) × IsUntouched old new)
+
+    not_shown : (k : ℕ) (kind : FaultKind) (at : Option ℕ) (blob : List ℕ) → k ≡ 0 → TakesMemory job → 0 < length inputs →
+        IsWritten job hex inputs (encoded hex blob) → WhyNotShown kind at (encoded hex blob) old new → WhyNotPerformed k kind at job hex inputs old new
+    not_shown k NoMemory at blob here takes some written why = (takes, omega (arith, here, some), why.0, why.1)
+    not_shown k WriteFault at blob here takes some written why = (here, why.0, encoded hex blob, written, why.1)
+    not_shown k _ at blob here takes some written why = absurd why
+
+    not_made : (k : ℕ) (kind : FaultKind) (at : Option ℕ) → TakesMemory job → k < length inputs → IsOfInput (record { kind = kind; at = at }) →
+        WhyNotMade k kind at job inputs → IsUntouched old new → WhyNotPerformed k kind at job hex inputs old new
+    not_made k NoMemory at takes inside own made same = (takes, inside, own.1 refl, same)
+    not_made k WriteFault at takes inside own made same = absurd own.0
+    not_made k _ at takes inside own made same = (made, same)
+
+    pub blob_refused : (made : Result (Vec ℕ Global) (ℕ × Fault)) (r : Result (Unit {0}) (ℕ × Fault)) → TakesMemory job → 0 < length inputs → IsMade made →
+        IfErr made (λ e. IsInput e.0 e.1) → Shown made r → Refused made r → IfErr r (λ e. WhyNotPerformed e.0 e.1.kind e.1.at job hex inputs old new)
+    blob_refused (Ok blob) (Ok done) takes some is why shown refused = tt
+    blob_refused (Ok blob) (Err e) takes some is why shown refused = not_shown e.0 e.1.kind e.1.at blob.items shown.0 takes some is shown.1
+    blob_refused (Err e) r takes some is why shown refused =
+        subst (λ (r : Result (Unit {0}) (ℕ × Fault)). IfErr r (λ e. WhyNotPerformed e.0 e.1.kind e.1.at job hex inputs old new)) (sym refused.0)
+        (not_made e.0 e.1.kind e.1.at takes why.0 why.1 why.2 refused.1)
+
+-- ---- what is told of a blob
+
+-- the job tells of a blob
+abbrev TakesBlob : Job → Type 0
+TakesBlob Print = Unit {0}
+TakesBlob Check = Unit {0}
+TakesBlob _ = ⊥
+
+made : (blob : List ℕ) (job : Job) (f : BlobFault) (at : Option ℕ) → TakesBlob job → IsFirstFault blob f at → WhyNotMade 0 (kind_of f) at job (blob ∷ [])
+made blob Print f at takes first = (refl, (f, refl, first))
+made blob Check f at takes first = (refl, (f, refl, first))
+made blob _ f at takes first = absurd takes
+
+module _ (old new : Taken) (hex : Bool) (blob : List ℕ) where
+  of_fault : (job : Job) (f : BlobFault) (at : Option ℕ) → TakesBlob job → IsFirstFault blob f at → IsUntouched old new →
+      WhyNotPerformed 0 (kind_of f) at job hex (blob ∷ []) old new
+  of_fault job checks.short_header at takes first same = (made blob job checks.short_header at takes first, same)
+  of_fault job f at takes first same = (made blob job f at takes first, same)
+
+  of_kind : (job : Job) (kind : FaultKind) (at : Option ℕ) → TakesBlob job → WhyNoBlob kind at blob → IsUntouched old new →
+      WhyNotPerformed 0 kind at job hex (blob ∷ []) old new
+  of_kind job kind at takes why same =
+      let (f, is, first) = why in
+      subst (λ (k : FaultKind). WhyNotPerformed 0 k at job hex (blob ∷ []) old new) (sym is) (of_fault job f at takes first same)
+
+  pub not_told : (job : Job) (Is : List ℕ → Type 0) (fault : Fault) → TakesBlob job → ((text : List ℕ) → Is text → IsWritten job hex (blob ∷ []) text) →
+      WhyNotTold fault blob Is old new → WhyNotPerformed 0 fault.kind fault.at job hex (blob ∷ []) old new
+  not_told job Is fault takes written (no_blob why same) = of_kind job fault.kind fault.at takes why same
+  not_told job Is fault takes written (cut text is refused) =
+      subst (λ (kind : FaultKind). WhyNotPerformed 0 kind fault.at job hex (blob ∷ []) old new) (sym refused.kind)
+      (refl, refused.nowhere, text, written text is, refused.cut)
+
+-- ---- a text that tells of it
+
+module _ (bytes text : List ℕ) (Is : List ℕ → Type 0) (is : Is text) (old new : Taken) where
+  pub told : (r : Result (Unit {0}) Fault) → OnOk r (Takes text old new) → OnOk r ((t : List ℕ) × Is t × Takes t old new)
+  told (Ok done) taken = (text, is, taken)
+  told (Err fault) taken = tt
+
+  pub untold : (r : Result (Unit {0}) Fault) → IfErr r (λ fault. IsRefused fault text old new) → IfErr r (λ fault. WhyNotTold fault bytes Is old new)
+  untold (Ok done) refused = tt
+  untold (Err fault) refused = cut text is refused
+
+-- ---- the inputs
+
+pub only_first : (d : Bor (List ℕ)) (xs : List (Bor (List ℕ))) → length xs ≡ 1 → map (λ x. x.now) xs ≡ (get_or xs 0 d).now ∷ []
+only_first d [] one = cc
+only_first d (x ∷ []) one = refl
+only_first d (x ∷ y ∷ xs) one = absurd (omega (arith, one))
+
+pub first_and_others : (d : Bor (List ℕ)) (xs : List (Bor (List ℕ))) → 1 ≤ length xs →
+    map (λ x. x.now) xs ≡ (get_or xs 0 d).now ∷ map (λ x. x.now) (take (length xs - 1) (drop 1 xs))
+first_and_others d [] some = absurd (omega (arith, some))
+first_and_others d (x ∷ xs) some = ap (λ (ys : List (Bor (List ℕ))). x.now ∷ map (λ y. y.now) ys) (sym (take_all (length (x ∷ xs) - 1) xs (omega arith)))
+
+-- ---- the blobs of the jobs
+
+module _ (hex : Bool) (text : List ℕ) where
+  pub compiled : (r : Result (Vec ℕ Global) Fault) → IfOk r (λ blob. blobs.IsBlobOf text blob.items) →
+      IfOk r (λ blob. IsWritten Compile hex (text ∷ []) (encoded hex blob.items))
+  compiled (Ok blob) is = (blob.items, is, refl)
+  compiled (Err e) is = tt
+
+  pub not_compiled : (r : Result (Vec ℕ Global) Fault) → IfErr r (λ e. blobs.WhyNoBlob text e) → IfErr r (λ e. IsCompilerFault e.kind) →
+      IfErr r (λ e. IsInput Compile hex (text ∷ []) 0 e)
+  not_compiled (Ok blob) why own = tt
+  not_compiled (Err e) why own = (omega arith, (compiler_only e.kind own, blob_unplaced text e why), (refl, why, own))
+
+  pub compiled_raw : (r : Result (Vec ℕ Global) Fault) → IfOk r (λ blob. IsCompiled raw text blob.items) →
+      IfOk r (λ blob. IsWritten CompileRaw hex (text ∷ []) (encoded hex blob.items))
+  compiled_raw (Ok blob) is = (blob.items, is, refl)
+  compiled_raw (Err e) is = tt
+
+  pub not_compiled_raw : (r : Result (Vec ℕ Global) Fault) → IfErr r (λ e. WhyNotCompiled raw text e) → IfErr r (λ e. IsCompilerFault e.kind) →
+      IfErr r (λ e. IsInput CompileRaw hex (text ∷ []) 0 e)
+  not_compiled_raw (Ok blob) why own = tt
+  not_compiled_raw (Err e) why own = (omega arith, (compiler_only e.kind own, memory_unplaced raw text e why), (refl, why, own))
+
+module _ (hex : Bool) (first : List ℕ) (others : List (List ℕ)) where
+  pub applied : (r : Result (Vec ℕ Global) (ℕ × Fault)) → IfOk r (λ blob. IsBlobApplied first others blob.items) → IsMade Apply hex (first ∷ others) r
+  applied (Ok blob) is = (blob.items, is, refl)
+  applied (Err e) is = tt
+
+  pub not_applied : (r : Result (Vec ℕ Global) (ℕ × Fault)) → IfErr r (λ e. WhyNoBlobApplied first others e.0 e.1) →
+      IfErr r (λ e. IsInput Apply hex (first ∷ others) e.0 e.1)
+  not_applied (Ok blob) why = tt
+  not_applied (Err e) why = (omega (arith, inside first others e.0 e.1 why), blob_not_applied first others e.0 e.1 why, why)
+
+  pub built : (r : Result (Vec ℕ Global) (ℕ × Fault)) → IfOk r (λ blob. IsBlobBuilt first others blob.items) → IsMade Build hex (first ∷ others) r
+  built (Ok blob) is = (blob.items, is, refl)
+  built (Err e) is = tt
+
+  pub not_built : (r : Result (Vec ℕ Global) (ℕ × Fault)) → IfErr r (λ e. WhyNoBlobBuilt first others e.0 e.1) →
+      IfErr r (λ e. IsInput Build hex (first ∷ others) e.0 e.1)
+  not_built (Ok blob) why = tt
+  not_built (Err e) why = (omega (arith, inside first others e.0 e.1 why), text_not_built first others e.0 e.1 why, why)

@@ -1,0 +1,36 @@
+-- What a run does.
+use Rattle.std.proofs.Common.{◌≡◌, ℕ, List, None, Result, Ok, Err, IfErr, refl, sym, subst}
+use Rattle.dt_names.specs.declared.fault.Fault.{Fault}
+use Rattle.dt_names.specs.declared.fault.FaultKind.TheVariants.{NoMemory}
+use Rattle.dt_names.specs.Sink.{Taken}
+use Rattle.dt_names.proofs.Faults.{own_placeless, is_placeless}
+use Rattle.dt_run.specs.Files.{Tells, AreLoaded, WhyNotLoaded}
+use Rattle.dt_run.specs.Job.{WhyNotPerformed}
+use Rattle.dt_run.specs.Run.{WhyNotDone, WhyNotMadeOf, names_of, no_memory, unperformed, unloaded, unmade}
+use Rattle.dt_run.specs.declared.command_line.Line.{Line}
+
+-- what isn't made of inputs isn't made of the same texts
+pub unmade_of : {V : Type 0} (line : Line) (inputs texts : List (List ℕ)) (old new : Taken) (result : Result V (ℕ × Fault)) → inputs ≡ texts →
+    IfErr result (λ e. WhyNotPerformed e.0 e.1.kind e.1.at line.job line.hex inputs old new) → IfErr result (λ e. WhyNotMadeOf line texts old new e.0 e.1)
+unmade_of line inputs texts old new (Ok v) same why = why
+unmade_of line inputs texts old new (Err e) same why =
+    unperformed e.0 e.1 (subst (λ (xs : List (List ℕ)). WhyNotPerformed e.0 e.1.kind e.1.at line.job line.hex xs old new) same why)
+
+pub unmade_here : (line : Line) (texts : List (List ℕ)) (sink : Taken) (fault : Fault) → fault.kind ≡ NoMemory → fault.at ≡ None →
+    WhyNotMadeOf line texts sink sink 0 fault
+unmade_here line texts sink fault kind at =
+    subst (λ (f : Fault). WhyNotMadeOf line texts sink sink 0 f) (sym (is_placeless fault NoMemory kind at)) (no_memory refl)
+
+pub undone_of : {V : Type 0} (tells : Tells) (line : Line) (names given texts : List (List ℕ)) (old new : Taken) (result : Result V (ℕ × Fault)) →
+    names ≡ names_of line → given ≡ texts → AreLoaded tells names texts → IfErr result (λ e. WhyNotMadeOf line given old new e.0 e.1) →
+    IfErr result (λ e. WhyNotDone tells line old new e.0 e.1)
+undone_of tells line names given texts old new (Ok v) own same loaded why = why
+undone_of tells line names given texts old new (Err e) own same loaded why =
+    unmade texts e.0 e.1 (subst (λ (ns : List (List ℕ)). AreLoaded tells ns texts) own loaded)
+    (subst (λ (ts : List (List ℕ)). WhyNotMadeOf line ts old new e.0 e.1) same why)
+
+pub not_loaded : (tells : Tells) (line : Line) (names : List (List ℕ)) (sink : Taken) (k : ℕ) (fault : Fault) → names ≡ names_of line →
+    WhyNotLoaded tells names k fault.kind → fault.at ≡ None → WhyNotDone tells line sink sink k fault
+not_loaded tells line names sink k fault own why at =
+    subst (λ (f : Fault). WhyNotDone tells line sink sink k f) (sym (own_placeless fault at))
+    (unloaded k fault.kind (subst (λ (ns : List (List ℕ)). WhyNotLoaded tells ns k fault.kind) own why) refl)

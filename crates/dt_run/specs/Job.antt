@@ -1,0 +1,105 @@
+-- What a job writes of its inputs, and why it doesn't.
+use Rattle.std.specs.Prelude.{◌≡◌, ◌≤◌, ◌<◌, ◌++◌, ◌∷◌, [], ℕ, List, Bool, Option, None, length, codes, decimal, if◌then◌else◌}
+use Rattle.std.specs.List.{sum_by}
+use Rattle.hex.specs.Hex.{encode_lower}
+use Rattle.dt_model.specs.Source.{raw}
+use Rattle.dt_model.specs.Tree.{Reading, nodes_of}
+use Rattle.dt_model.specs.Format.{Reads, IsWithin}
+use Rattle.dt_model.specs.Checks.{BlobFault, IsFirstFault}
+use Rattle.dt_names.specs.Sink.{Taken, IsUntouched, IsCutShort}
+use Rattle.dt_names.specs.declared.fault.FaultKind.{FaultKind}
+use Rattle.dt_names.specs.declared.fault.FaultKind.TheVariants.{NoMemory, WriteFault}
+use Rattle.dt_model.specs.Printed.{printed}
+use Rattle.dt_read.specs.Kinds.{kind_of}
+use Rattle.dt_chain.specs.Applied.{IsBlobApplied, WhyNoBlobApplied}
+use Rattle.dt_chain.specs.Blobs as blobs
+use Rattle.dt_chain.specs.Built.{IsBlobBuilt, WhyNoBlobBuilt}
+use Rattle.dt_chain.specs.Compiled.{IsCompiled, WhyNotCompiled, IsCompilerFault}
+use Rattle.dt_run.specs.declared.job.Job.{Job}
+use Rattle.dt_run.specs.declared.job.Job.TheVariants.{Compile, CompileRaw, Apply, Build, Print, Check}
+
+-- a job takes so many inputs
+abbrev pub IsAsked : Job → ℕ → Type 0
+IsAsked Compile count = count ≡ 1
+IsAsked CompileRaw count = count ≡ 1
+IsAsked Apply count = 1 ≤ count
+IsAsked Build count = 1 ≤ count
+IsAsked Print count = count ≡ 1
+IsAsked Check count = count ≡ 1
+
+-- how a blob is written: as it is, or as hexadecimal and a line feed
+abbrev pub encoded : Bool → List ℕ → List ℕ
+encoded hex blob = if hex then encode_lower blob ++ 10 ∷ [] else blob
+
+-- the source of a blob's tree
+pub record IsPrinted (blob text : List ℕ) : Type 0 where
+  pub tree : Reading
+  pub reads : Reads blob tree
+  pub within : IsWithin blob tree
+  pub is : text ≡ printed tree
+
+-- `ok nodes N properties P reservations R`, and a line feed
+abbrev pub counts_line : Reading → List ℕ
+counts_line t =
+    codes "ok nodes " ++ decimal (length (nodes_of t)) ++ codes " properties "
+    ++ decimal (sum_by (λ n. length n.properties) (nodes_of t)) ++ codes " reservations " ++ decimal (length t.reservations) ++ 10 ∷ []
+
+-- the line of a blob's tree
+pub record IsCounted (blob bytes : List ℕ) : Type 0 where
+  pub tree : Reading
+  pub reads : Reads blob tree
+  pub within : IsWithin blob tree
+  pub line : bytes ≡ counts_line tree
+
+-- What the job writes of the inputs: the blob of a base or of an overlay; that of a source as it stands; that of a base with
+-- objects applied, or with the overlays of sources; the source of a blob; or a line.
+abbrev pub IsWritten : Job → Bool → List (List ℕ) → List ℕ → Type 0
+IsWritten Compile hex (text ∷ []) bytes = (blob : List ℕ) × blobs.IsBlobOf text blob × (bytes ≡ encoded hex blob)
+IsWritten Compile hex _ bytes = ⊥
+IsWritten CompileRaw hex (text ∷ []) bytes = (blob : List ℕ) × IsCompiled raw text blob × (bytes ≡ encoded hex blob)
+IsWritten CompileRaw hex _ bytes = ⊥
+IsWritten Apply hex (base ∷ objects) bytes = (blob : List ℕ) × IsBlobApplied base objects blob × (bytes ≡ encoded hex blob)
+IsWritten Apply hex _ bytes = ⊥
+IsWritten Build hex (text ∷ overlays) bytes = (blob : List ℕ) × IsBlobBuilt text overlays blob × (bytes ≡ encoded hex blob)
+IsWritten Build hex _ bytes = ⊥
+IsWritten Print hex (blob ∷ []) bytes = IsPrinted blob bytes
+IsWritten Print hex _ bytes = ⊥
+IsWritten Check hex (blob ∷ []) bytes = IsCounted blob bytes
+IsWritten Check hex _ bytes = ⊥
+
+-- the fault is the first one of bytes that are no blob
+abbrev pub WhyNoBlob : FaultKind → Option ℕ → List ℕ → Type 0
+WhyNoBlob kind at bytes = (f : BlobFault) × (kind ≡ kind_of f) × IsFirstFault bytes f at
+
+-- why an input, counted from 0, is refused
+abbrev pub WhyNotMade : ℕ → FaultKind → Option ℕ → Job → List (List ℕ) → Type 0
+WhyNotMade k kind at Compile (text ∷ []) = (k ≡ 0) × blobs.WhyNoBlob text (record { kind = kind; at = at }) × IsCompilerFault kind
+WhyNotMade k kind at Compile _ = ⊥
+WhyNotMade k kind at CompileRaw (text ∷ []) = (k ≡ 0) × WhyNotCompiled raw text (record { kind = kind; at = at }) × IsCompilerFault kind
+WhyNotMade k kind at CompileRaw _ = ⊥
+WhyNotMade k kind at Apply (base ∷ objects) = WhyNoBlobApplied base objects k (record { kind = kind; at = at })
+WhyNotMade k kind at Apply _ = ⊥
+WhyNotMade k kind at Build (text ∷ overlays) = WhyNoBlobBuilt text overlays k (record { kind = kind; at = at })
+WhyNotMade k kind at Build _ = ⊥
+WhyNotMade k kind at Print (blob ∷ []) = (k ≡ 0) × WhyNoBlob kind at blob
+WhyNotMade k kind at Print _ = ⊥
+WhyNotMade k kind at Check (blob ∷ []) = (k ≡ 0) × WhyNoBlob kind at blob
+WhyNotMade k kind at Check _ = ⊥
+
+-- the job takes memory
+abbrev pub TakesMemory : Job → Type 0
+TakesMemory Compile = Unit {0}
+TakesMemory CompileRaw = Unit {0}
+TakesMemory Apply = Unit {0}
+TakesMemory Build = Unit {0}
+TakesMemory Print = ⊥
+TakesMemory Check = ⊥
+
+-- Why a job's output wasn't written, and of which input: memory was refused at one, to a job that takes some, or while hexadecimal is
+-- made, which is of input 0, and nothing was written; or the sink failed, and took a front of it, which is of input 0; or an input is
+-- refused, and nothing was written. Only the last of these may have a place.
+abbrev pub WhyNotPerformed : ℕ → FaultKind → Option ℕ → Job → Bool → List (List ℕ) → (old new : Taken) → Type 0
+WhyNotPerformed k NoMemory at job hex inputs old new = TakesMemory job × (k < length inputs) × (at ≡ None) × IsUntouched old new
+WhyNotPerformed k WriteFault at job hex inputs old new =
+    (k ≡ 0) × (at ≡ None) × (bytes : List ℕ) × IsWritten job hex inputs bytes × IsCutShort bytes old new
+WhyNotPerformed k kind at job hex inputs old new = WhyNotMade k kind at job inputs × IsUntouched old new

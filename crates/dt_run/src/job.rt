@@ -1,0 +1,61 @@
+//! What the tool does with its inputs.
+
+ghost use Rattle.std.specs.Prelude.{List, ℕ, length, map, OnOk, IfErr};
+ghost use Rattle.dt_names.specs.Sink.{Takes};
+ghost use Rattle.dt_run.specs.Job.{IsAsked, IsWritten, WhyNotPerformed};
+
+use crate::checking::check;
+use crate::printing::print;
+use crate::showing::{of_first, show};
+use dt_chain::{apply_list, build, compile, compile_raw};
+use dt_names::{Fault, Sink};
+use std::alloc::Global;
+
+/// What the tool can be asked for.
+#[derive(Clone, Copy, PartialEq, Eq)]
+pub enum Job {
+    /// A blob of one devicetree source: of a base, or of an overlay, which is its object.
+    Compile,
+    /// A blob of a source that is no overlay's, as it stands: bookkeeping nodes may be written, and nothing is added.
+    CompileRaw,
+    /// The blob of a base, which is the first input, with the objects of overlays applied, which are the others.
+    Apply,
+    /// The blob of a base's source, which is the first input, with the overlays of other sources applied.
+    Build,
+    /// The source of a blob.
+    Print,
+    /// A line that tells how many nodes, properties and reservations a blob has.
+    Check,
+}
+
+/// Does a job on its inputs, and writes what it makes: a blob as bytes, or with `hex` as lower-case hexadecimal and a
+/// line feed; or text, whatever `hex`.
+///
+/// # Errors
+///
+/// A refusal names the input, counted from 0. A sink that fails, and memory that is refused while hexadecimal is made, are of
+/// input 0, without a place.
+/// Nothing is written but at `WriteFault`, where the sink took a front of what was to be written.
+pub fn perform<S: Sink>(
+    alloc: Global,
+    job: Job,
+    hex: bool,
+    inputs: &[&[u8]],
+    out: &mut S,
+) -> Result<(), (usize, Fault)>
+    requires { IsAsked job (length inputs.now) }
+    ensures written { OnOk result ((bytes : List ℕ) × IsWritten job hex (map (λ input. input.now) inputs.now) bytes
+        × Takes bytes (S.taken out.old) (S.taken out.new)) }
+    ensures refused { IfErr result (λ e. WhyNotPerformed e.0 e.1.kind e.1.at job hex (map (λ input. input.now) inputs.now)
+        (S.taken out.old) (S.taken out.new)) }
+{
+    let (first, others) = (inputs[0], &inputs[1..]);
+    match job {
+        Job::Compile => show(alloc, hex, of_first(compile(alloc, first)), out),
+        Job::CompileRaw => show(alloc, hex, of_first(compile_raw(alloc, first)), out),
+        Job::Apply => show(alloc, hex, apply_list(alloc, first, others), out),
+        Job::Build => show(alloc, hex, build(alloc, first, others), out),
+        Job::Print => of_first(print(first, out)),
+        Job::Check => of_first(check(first, out)),
+    }
+}

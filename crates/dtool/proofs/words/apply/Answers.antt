@@ -1,5 +1,0 @@
-use Rattle.std.proofs.Common.{rules, codes}
-use Rattle.dtool.proofs.words.apply.Goals as goal
-
-pub returns-clause-shape : goal.returns-clause-shape
-returns-clause-shape c = c.with_overlays.ensures.shape (codes "apply") (search rules)
