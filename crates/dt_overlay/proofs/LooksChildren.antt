@@ -9,7 +9,7 @@ use Rattle.dt_names.specs.declared.fault.FaultKind.{FaultKind}
 use Rattle.dt_flat.specs.Arena.{Slot, name_of, properties, children, children_among, below, forest_among}
 use Rattle.dt_landing.specs.Checking.{then_check, check_number, check_nodes}
 use Rattle.dt_landing.proofs.KnownChanges.{child_sound, child_stands}
-use Rattle.dt_overlay.specs.Looked.{trees_of, AreLed, IsAmong, IsReached, WhyNotEntered, WhyNotLooked}
+use Rattle.dt_overlay.specs.Looked.{trees_of, AreLed, IsAmong, IsBegun, IsReached, WhyNotEntered, WhyNotLooked}
 use Rattle.dt_overlay.proofs.LooksCrowded.{too_many-of, why_not_looked-of}
 use Rattle.dt_overlay.proofs.LooksNodes.{nodes_grown, number_stands, node_first, node_passed}
 
@@ -130,7 +130,7 @@ module _ (base : Reading) (q path : Path) (slots : List Slot) (k : ℕ) (name : 
 
       module _ (u : Reading) (ok : check_number base path (properties slots k) t ≡ Ok u) where
         -- its children are next
-        pub node_inside : node_look ≡ check_nodes base path (below slots k) u
+        node_inside : node_look ≡ check_nodes base path (below slots k) u
         node_inside = passed ∙ ap (λ o. then_check o (check_nodes base path (below slots k))) ok
 
         reach_inside : (r : Path) → IsReached u path (below slots k) r → node_reach r
@@ -143,6 +143,13 @@ module _ (base : Reading) (q path : Path) (slots : List Slot) (k : ℕ) (name : 
             ]
         reach_inside r (inr among) = inr (inr (inl (subst (λ p. IsAmong p (below slots k) r) whole among)))
 
-        -- one of them may not land
-        pub no_children : (kind : FaultKind) → WhyNotLooked kind (check_nodes base path (below slots k) u) (IsReached u path (below slots k)) → WhyNotLooked kind node_look node_reach
-        no_children kind why = why_not_looked-of kind (check_nodes base path (below slots k) u) node_look (IsReached u path (below slots k)) node_reach (λ failed. node_inside ∙ failed) reach_inside why
+        pub begun : IsBegun base s u q path slots k
+        begun = record { inside = node_inside; reach = reach_inside }
+
+-- one of its children may not land
+pub begun_failed : (base s u : Reading) (q path : Path) (slots : List Slot) (k : ℕ) → IsBegun base s u q path slots k → (kind : FaultKind)
+    → WhyNotLooked kind (check_nodes base path (below slots k) u) (IsReached u path (below slots k))
+    → WhyNotLooked kind (check_nodes base q (trees_of slots (k ∷ [])) s) (IsReached s q (trees_of slots (k ∷ [])))
+begun_failed base s u q path slots k w kind why =
+    why_not_looked-of kind (check_nodes base path (below slots k) u) (check_nodes base q (trees_of slots (k ∷ [])) s)
+    (IsReached u path (below slots k)) (IsReached s q (trees_of slots (k ∷ []))) (λ failed. w.inside ∙ failed) w.reach why

@@ -14,7 +14,7 @@ use Rattle.dt_model.specs.Applied.{Write, find_site}
 use Rattle.dt_names.specs.declared.fault.FaultKind.{FaultKind}
 use Rattle.dt_names.specs.declared.fault.FaultKind.TheVariants.{NoMemory, Limit}
 use Rattle.dt_flat.specs.Arena.{Arena, Slot, reading, node_from, name_of, properties, below}
-use Rattle.dt_landing.specs.Checking.{IsKnown}
+use Rattle.dt_landing.specs.Checking.{IsKnown, check_nodes}
 use Rattle.dt_overlay.specs.declared.fragments.Fragment.{Fragment}
 use Rattle.dt_overlay.specs.declared.numbers.Brought.{Brought}
 use Rattle.dt_overlay.specs.Plans.{IsReady, IsFragmentOf}
@@ -65,6 +65,11 @@ IsAmong q (branch name properties children siblings) r =
 -- the path stands, or one of these nodes lands there
 abbrev pub IsReached : Reading → Path → Forest → Path → Type 0
 IsReached s q f r = (stands_in s r ≡ true) ⊎ IsAmong q f r
+
+-- A node that lands below q lands on this path, what is below it aside: the look at it goes on with its children, by what is known then.
+pub record IsBegun (base s u : Reading) (q path : Path) (slots : List Slot) (k : ℕ) : Type 0 where
+  pub inside : check_nodes base q (trees_of slots (k ∷ [])) s ≡ check_nodes base path (below slots k) u
+  pub reach : (r : Path) → IsReached u path (below slots k) r → IsReached s q (trees_of slots (k ∷ [])) r
 
 -- or it is on the way to where they land
 abbrev pub IsReachedFrom : Reading → Path → Forest → Path → Type 0

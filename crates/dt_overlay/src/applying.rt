@@ -10,6 +10,7 @@ ghost use Rattle.dt_model.specs.Tree.{Reading};
 ghost use Rattle.dt_names.specs.declared.fault.FaultKind.TheVariants.{NoMemory, Limit};
 ghost use Rattle.dt_overlay.specs.Plans.{IsUnbrought};
 ghost use Rattle.dt_overlay.specs.Applying.{IsEmptyPlan, IsReadAs, IsSitedAs, IsLeftBy};
+ghost use Rattle.dt_overlay.specs.Writing.{AreWritable, with_writes};
 
 use crate::Target;
 use crate::fixups::list_fixups;
@@ -66,6 +67,18 @@ fn symbols_path(alloc: Global) -> Result<Path, Fault>
     Ok(path)
 }
 
+// Writes the numbers into the object's cells.
+fn write_numbers(object: &mut FlatTree, plan: &Plan) -> Result<(), Fault>
+    requires own { AreWritable object.old.slots plan.now.local_writes.items }
+    requires labelled { AreWritable (with_writes plan.now.local_writes.items object.old.slots) plan.now.label_writes.items }
+    ensures written { OnOk result (object.new ≡ record object.old
+        { slots = with_writes plan.now.label_writes.items (with_writes plan.now.local_writes.items object.old.slots) }) }
+    ensures refused { IfErr result (λ fault. (fault.kind ≡ NoMemory) × (fault.at ≡ None)) }
+{
+    write_cells(object, &plan.local_writes)?;
+    write_cells(object, &plan.label_writes)
+}
+
 // Reads the object, and writes the numbers into its cells.
 fn read<T: Target>(
     alloc: Global,
@@ -90,8 +103,7 @@ fn read<T: Target>(
     number_all(alloc, target, object, &plan.fragments, brought)?;
     list_local_fixups(alloc, object, brought, &mut plan.local_writes)?;
     list_symbols(alloc, object, &mut plan.symbols)?;
-    write_cells(object, &plan.local_writes)?;
-    write_cells(object, &plan.label_writes)
+    write_numbers(object, plan)
 }
 
 // Lands what the fragments bring on their sites, and then the labels.

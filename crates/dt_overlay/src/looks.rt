@@ -11,7 +11,7 @@ ghost use Rattle.dt_model.specs.Tree.{stands_in, value_in};
 ghost use Rattle.dt_flat.specs.Arena.{reading, properties, below, node_from};
 ghost use Rattle.dt_landing.specs.Checking.{check_number as number_checked, check_nodes, check_content as content_checked, with_places};
 ghost use Rattle.dt_names.specs.declared.fault.FaultKind.TheVariants.{NoMemory, Limit};
-ghost use Rattle.dt_overlay.specs.Looked.{node_of, trees_of, AreLed, IsEntered, AreTooMany, IsReached, IsReachedFrom, IsOnWay, WhyNotEntered, WhyNotLooked};
+ghost use Rattle.dt_overlay.specs.Looked.{node_of, trees_of, AreLed, IsBegun, IsEntered, AreTooMany, IsReached, IsReachedFrom, IsOnWay, WhyNotEntered, WhyNotLooked};
 
 use crate::Target;
 use crate::texts::child_path;
@@ -98,6 +98,38 @@ fn check_number<T: Target>(
     known.set_prop(place, &PropName::new(b"numbered".as_slice())?, &[])
 }
 
+// A child of a node lands, what is below it aside. Answers the path on which it does, and its place.
+fn begin_child<T: Target>(
+    alloc: Global,
+    target: &T,
+    object: &FlatTree,
+    node: NodeId,
+    parent: &Path,
+    known: &mut FlatTree,
+    place: NodeId,
+) -> Result<(Path, NodeId), Fault>
+    requires node { node < length object.now.slots }
+    requires below { 0 < node }
+    requires place { node_from known.old.slots 0 parent.now ≡ Some place }
+    ensures begun { IfOk result (λ begun. IsBegun (T.reading target.now) (reading known.old) (reading known.new) parent.now begun.0 object.now.slots node) }
+    ensures place { IfOk result (λ begun. node_from known.new.slots 0 begun.0 ≡ Some begun.1) }
+    ensures led { OnOk result (AreLed known.old.slots known.new.slots) }
+    ensures refused { IfErr result (λ fault. (fault.at ≡ None) × WhyNotLooked fault.kind
+        (check_nodes (T.reading target.now) parent.now (trees_of object.now.slots (node ∷ [])) (reading known.old))
+        (IsReached (reading known.old) parent.now (trees_of object.now.slots (node ∷ [])))) }
+{
+    object.validity();
+    known.validity();
+    let name = object.name(node);
+    let path = child_path(alloc, parent, name)?;
+    if is_bookkeeping(&path) {
+        return Err(Fault::of(FaultKind::ReservedPlace));
+    }
+    let place = enter_child(known, place, name)?;
+    check_number(target, object, node, &path, known, place)?;
+    Ok((path, place))
+}
+
 // A child of a node lands with what is below it.
 #[cycle(looks)]
 fn check_child<T: Target>(
@@ -118,15 +150,7 @@ fn check_child<T: Target>(
         (check_nodes (T.reading target.now) parent.now (trees_of object.now.slots (node ∷ [])) (reading known.old))
         (IsReached (reading known.old) parent.now (trees_of object.now.slots (node ∷ [])))) }
 {
-    object.validity();
-    known.validity();
-    let name = object.name(node);
-    let path = child_path(alloc, parent, name)?;
-    if is_bookkeeping(&path) {
-        return Err(Fault::of(FaultKind::ReservedPlace));
-    }
-    let place = enter_child(known, place, name)?;
-    check_number(target, object, node, &path, known, place)?;
+    let (path, place) = begin_child(alloc, target, object, node, parent, known, place)?;
     check_children(alloc, target, object, node, &path, known, place)
 }
 

@@ -1,9 +1,8 @@
-use Rattle.std.proofs.Common.{◌≡◌, List, sym, ap, subst, ◌∙◌}
+use Rattle.std.proofs.Common.{List, subst}
 use Rattle.std.proofs.lemmas.Result.{err_from_is_err_and}
 use Rattle.dt_model.specs.Object.{fragment_names}
-use Rattle.dt_flat.specs.Arena.{Arena, reading}
+use Rattle.dt_flat.specs.Arena.{reading}
 use Rattle.dt_overlay.specs.Plans.{ListsFixups, ListsLocalFixups, ListsSymbols}
-use Rattle.dt_overlay.specs.Writing.{AreWritable, with_writes}
 use Rattle.dt_overlay.specs.declared.applying.Plan.{Plan}
 use Rattle.dt_overlay.specs.declared.symbols.Symbol.{Symbol}
 use Rattle.dt_overlay.specs.declared.writes.Write.{Write}
@@ -39,26 +38,22 @@ returns-in_err-list_symbols-clause-refused g c =
     (all_held a.slots (reading a) c.list_fragments.new.out.items (fragment_names (reading a).children) c.in_ok-list_fragments.ensures.listed) c.in_ok-list_fixups.ensures.listed.well locals.well
     c.in_err-list_symbols.ensures.refused)
 
-pub write_cells-requires : goal.write_cells-requires
-write_cells-requires g c =
+pub write_numbers-requires-clause-own : goal.write_numbers-requires-clause-own
+write_numbers-requires-clause-own g c =
     let a = c.args.object.now in
     let base = g.T.Target.reading c.args.target.now in
     let numbers = c.in_ok-number_all.ensures.brought in
     let locals = subst (λ (xs : List Write). ListsLocalFixups a numbers.0 xs c.list_local_fixups.new.out.items) c.requires.empty.local_writes (c.in_ok-list_local_fixups.ensures.listed numbers.0 numbers.2) in
-    subst (λ (xs : List Write). AreWritable a.slots xs) (sym c.deref-2.ensures.value)
-    (locals_writable base a c.validity.ensures.valid c.validity.ensures.within c.validity.ensures.rooted c.validity.ensures.paths numbers.0 c.list_local_fixups.new.out.items locals)
+    locals_writable base a c.validity.ensures.valid c.validity.ensures.within c.validity.ensures.rooted c.validity.ensures.paths numbers.0 c.list_local_fixups.new.out.items locals
 
-pub write_cells-requires-2 : goal.write_cells-requires-2
-write_cells-requires-2 g c =
+pub write_numbers-requires-clause-labelled : goal.write_numbers-requires-clause-labelled
+write_numbers-requires-clause-labelled g c =
     let a = c.args.object.now in
     let base = g.T.Target.reading c.args.target.now in
     let numbers = c.in_ok-number_all.ensures.brought in
     let locals = subst (λ (xs : List Write). ListsLocalFixups a numbers.0 xs c.list_local_fixups.new.out.items) c.requires.empty.local_writes (c.in_ok-list_local_fixups.ensures.listed numbers.0 numbers.2) in
     let labels = subst (λ (xs : List Write). ListsFixups base a xs c.list_fixups.new.out.items) c.requires.empty.label_writes c.in_ok-list_fixups.ensures.listed in
-    let can = labels_writable base a c.validity.ensures.valid c.validity.ensures.within c.validity.ensures.rooted c.validity.ensures.paths numbers.0 c.list_local_fixups.new.out.items c.list_fixups.new.out.items locals labels in
-    let same : c.write_cells.new.object ≡ record a { slots = with_writes c.deref-2.result.now a.slots } = c.in_ok-write_cells.ensures.written in
-    subst (λ (xs : List Write). AreWritable c.write_cells.new.object.slots xs) (sym c.deref-3.ensures.value)
-    (subst (λ (t : Arena). AreWritable t.slots c.list_fixups.new.out.items) (sym (same ∙ ap (λ (xs : List Write). record a { slots = with_writes xs a.slots }) c.deref-2.ensures.value)) can)
+    labels_writable base a c.validity.ensures.valid c.validity.ensures.within c.validity.ensures.rooted c.validity.ensures.paths numbers.0 c.list_local_fixups.new.out.items c.list_fixups.new.out.items locals labels
 
 pub returns-clause-read : goal.returns-clause-read
 returns-clause-read g c =
@@ -68,9 +63,6 @@ returns-clause-read g c =
     let locals = subst (λ (xs : List Write). ListsLocalFixups a numbers.0 xs c.list_local_fixups.new.out.items) c.requires.empty.local_writes (c.in_ok-list_local_fixups.ensures.listed numbers.0 numbers.2) in
     let labels = subst (λ (xs : List Write). ListsFixups base a xs c.list_fixups.new.out.items) c.requires.empty.label_writes c.in_ok-list_fixups.ensures.listed in
     let symbols = subst (λ (xs : List Symbol). ListsSymbols a xs c.list_symbols.new.out.items) c.requires.empty.symbols c.in_ok-list_symbols.ensures.listed in
-    let same : c.write_cells.new.object ≡ record a { slots = with_writes c.deref-2.result.now a.slots } = c.in_ok-write_cells.ensures.written in
-    let first : c.write_cells.new.object ≡ record a { slots = with_writes c.list_local_fixups.new.out.items a.slots } =
-    same ∙ ap (λ (xs : List Write). record a { slots = with_writes xs a.slots }) c.deref-2.ensures.value in
     let p : Plan = record {
       fragments = c.list_fragments.new.out;
       local_writes = c.list_local_fixups.new.out;
@@ -80,9 +72,7 @@ returns-clause-read g c =
       known = c.args.plan.now.known;
       value = c.args.plan.now.value;
     } in
-    on_ok c.write_cells-2.result
-    (λ h. read_as base a c.validity.ensures.valid c.validity.ensures.within c.validity.ensures.rooted c.validity.ensures.paths c.write_cells-2.new.object c.number_all.new.brought p numbers.0
-    c.in_ok-list_fragments.ensures.listed labels numbers.1 numbers.2 locals symbols
-    (h ∙ ap (λ (xs : List Write). record c.write_cells.new.object { slots = with_writes xs c.write_cells.new.object.slots }) c.deref-3.ensures.value
-    ∙ ap (λ (t : Arena). record t { slots = with_writes c.list_fixups.new.out.items t.slots }) first))
-    c.write_cells-2.ensures.written
+    on_ok c.write_numbers.result
+    (λ h. read_as base a c.validity.ensures.valid c.validity.ensures.within c.validity.ensures.rooted c.validity.ensures.paths c.write_numbers.new.object c.number_all.new.brought p numbers.0
+    c.in_ok-list_fragments.ensures.listed labels numbers.1 numbers.2 locals symbols h)
+    c.write_numbers.ensures.written
