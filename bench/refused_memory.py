@@ -81,6 +81,7 @@ SOURCES = {
     "second": b"""/dts-v1/; /plugin/; &new { s = "x"; }; &{/} { n { p = <&new &gic>; }; };""",
 }
 LARGE = re.compile(r"^(\*x?) (\d+\.\.)?(\d+) ", re.M)
+REFUSED = re.compile(r"(input \d+: )?fault 1 NoMemory|fault 90 WriteFault")
 NO_MEMORY = re.compile(r"dtool: input [0-2]: fault 1 NoMemory\n")
 
 
@@ -110,7 +111,7 @@ def is_told_by_tool(answer):
 def is_told_by_cases(answer):
     status, out, said = answer
     answers = re.findall(r": the answer is\n(.*?)\nand not\n", said, re.S)
-    return status == 2 or status == 1 and bool(answers) and all(it in ("fault 1 NoMemory", "fault 90 WriteFault") for it in answers)
+    return status == 2 or status == 1 and bool(answers) and all(REFUSED.fullmatch(it) for it in answers)
 
 
 def function_at(program, offset):
