@@ -23,11 +23,17 @@ use Rattle.dt_run.proofs.InputFaults.{IsOfInput, blob_not_applied, compiler_only
 -- ---- a fault of the first input
 
 module _ {T : Type 0} (done : Result T Fault) (made : Result T (ℕ × Fault)) where
-  pub first_made : (P : T → Type 0) → MatchResult done (λ x. made ≡ Ok x) (λ fault. made ≡ Err (0, fault)) → IfOk done P → IfOk made P
+  first_made : (P : T → Type 0) → MatchResult done (λ x. made ≡ Ok x) (λ fault. made ≡ Err (0, fault)) → IfOk done P → IfOk made P
   first_made P same is = made_of done made same is where
     made_of : (done : Result T Fault) (made : Result T (ℕ × Fault)) → MatchResult done (λ x. made ≡ Ok x) (λ fault. made ≡ Err (0, fault)) → IfOk done P → IfOk made P
     made_of (Ok x) made same is = subst (λ (r : Result T (ℕ × Fault)). IfOk r P) (sym same) is
     made_of (Err fault) made same is = subst (λ (r : Result T (ℕ × Fault)). IfOk r P) (sym same) tt
+
+  pub first_done : (P : Type 0) → MatchResult done (λ x. made ≡ Ok x) (λ fault. made ≡ Err (0, fault)) → OnOk done P → OnOk made P
+  first_done P same is = done_of done made same is where
+    done_of : (done : Result T Fault) (made : Result T (ℕ × Fault)) → MatchResult done (λ x. made ≡ Ok x) (λ fault. made ≡ Err (0, fault)) → OnOk done P → OnOk made P
+    done_of (Ok x) made same is = subst (λ (r : Result T (ℕ × Fault)). OnOk r P) (sym same) is
+    done_of (Err fault) made same is = subst (λ (r : Result T (ℕ × Fault)). OnOk r P) (sym same) tt
 
   pub first_refused : (Q : ℕ → Fault → Type 0) → MatchResult done (λ x. made ≡ Ok x) (λ fault. made ≡ Err (0, fault)) → IfErr done (λ fault. Q 0 fault) →
       IfErr made (λ e. Q e.0 e.1)
@@ -56,6 +62,13 @@ module _ (job : Job) (hex : Bool) (inputs : List (List ℕ)) where
 
     abbrev Refused : Result (Vec ℕ Global) (ℕ × Fault) → Result (Unit {0}) (ℕ × Fault) → Type 0
     Refused made r = IfErr made (λ e. (r ≡ Err e) × IsUntouched old new)
+
+    pub blob_written : (made : Result (Vec ℕ Global) (ℕ × Fault)) (r : Result (Unit {0}) (ℕ × Fault)) → IsMade made → Shown made r → Refused made r →
+        OnOk r ((bytes : List ℕ) × IsWritten job hex inputs bytes × Takes bytes old new)
+    blob_written (Ok blob) (Ok done) is shown refused = (encoded hex blob.items, is, shown)
+    blob_written (Ok blob) (Err e) is shown refused = tt
+    blob_written (Err e) r is shown refused =
+        subst (λ (r : Result (Unit {0}) (ℕ × Fault)). OnOk r ((bytes : List ℕ) × IsWritten job hex inputs bytes × Takes bytes old new)) (sym refused.0) tt
 
     not_shown : (k : ℕ) (kind : FaultKind) (at : Option ℕ) (blob : List ℕ) → k ≡ 0 → TakesMemory job → 0 < length inputs →
         IsWritten job hex inputs (encoded hex blob) → WhyNotShown kind at (encoded hex blob) old new → WhyNotPerformed k kind at job hex inputs old new
@@ -134,26 +147,40 @@ first_and_others d (x ∷ xs) some = ap (λ (ys : List (Bor (List ℕ))). x.now 
 
 -- ---- the blobs of the jobs
 
-module _ (hex : Bool) (text : List ℕ) where
-  pub compiled : (r : Result (Vec ℕ Global) Fault) → IfOk r (λ blob. blobs.IsBlobOf text blob.items) →
-      IfOk r (λ blob. IsWritten Compile hex (text ∷ []) (encoded hex blob.items))
-  compiled (Ok blob) is = (blob.items, is, refl)
-  compiled (Err e) is = tt
+module _ (hex : Bool) (text : List ℕ) (done : Result (Vec ℕ Global) Fault) (made : Result (Vec ℕ Global) (ℕ × Fault)) where
+  -- the first input's blob, or its refusal
+  abbrev OfFirst : Type 0
+  OfFirst = MatchResult done (λ x. made ≡ Ok x) (λ fault. made ≡ Err (0, fault))
 
-  pub not_compiled : (r : Result (Vec ℕ Global) Fault) → IfErr r (λ e. blobs.WhyNoBlob text e) → IfErr r (λ e. IsCompilerFault e.kind) →
-      IfErr r (λ e. IsInput Compile hex (text ∷ []) 0 e)
-  not_compiled (Ok blob) why own = tt
-  not_compiled (Err e) why own = (omega arith, (compiler_only e.kind own, blob_unplaced text e why), (refl, why, own))
+  pub compiled : OfFirst → IfOk done (λ blob. blobs.IsBlobOf text blob.items) → IsMade Compile hex (text ∷ []) made
+  compiled same is = first_made done made (λ blob. IsWritten Compile hex (text ∷ []) (encoded hex blob.items)) same (go done is) where
+    go : (r : Result (Vec ℕ Global) Fault) → IfOk r (λ blob. blobs.IsBlobOf text blob.items) →
+        IfOk r (λ blob. IsWritten Compile hex (text ∷ []) (encoded hex blob.items))
+    go (Ok blob) is = (blob.items, is, refl)
+    go (Err e) is = tt
 
-  pub compiled_raw : (r : Result (Vec ℕ Global) Fault) → IfOk r (λ blob. IsCompiled raw text blob.items) →
-      IfOk r (λ blob. IsWritten CompileRaw hex (text ∷ []) (encoded hex blob.items))
-  compiled_raw (Ok blob) is = (blob.items, is, refl)
-  compiled_raw (Err e) is = tt
+  pub not_compiled : OfFirst → IfErr done (λ e. blobs.WhyNoBlob text e) → IfErr done (λ e. IsCompilerFault e.kind) →
+      IfErr made (λ e. IsInput Compile hex (text ∷ []) e.0 e.1)
+  not_compiled same why own = first_refused done made (IsInput Compile hex (text ∷ [])) same (go done why own) where
+    go : (r : Result (Vec ℕ Global) Fault) → IfErr r (λ e. blobs.WhyNoBlob text e) → IfErr r (λ e. IsCompilerFault e.kind) →
+        IfErr r (λ e. IsInput Compile hex (text ∷ []) 0 e)
+    go (Ok blob) why own = tt
+    go (Err e) why own = (omega arith, (compiler_only e.kind own, blob_unplaced text e why), (refl, why, own))
 
-  pub not_compiled_raw : (r : Result (Vec ℕ Global) Fault) → IfErr r (λ e. WhyNotCompiled raw text e) → IfErr r (λ e. IsCompilerFault e.kind) →
-      IfErr r (λ e. IsInput CompileRaw hex (text ∷ []) 0 e)
-  not_compiled_raw (Ok blob) why own = tt
-  not_compiled_raw (Err e) why own = (omega arith, (compiler_only e.kind own, memory_unplaced raw text e why), (refl, why, own))
+  pub compiled_raw : OfFirst → IfOk done (λ blob. IsCompiled raw text blob.items) → IsMade CompileRaw hex (text ∷ []) made
+  compiled_raw same is = first_made done made (λ blob. IsWritten CompileRaw hex (text ∷ []) (encoded hex blob.items)) same (go done is) where
+    go : (r : Result (Vec ℕ Global) Fault) → IfOk r (λ blob. IsCompiled raw text blob.items) →
+        IfOk r (λ blob. IsWritten CompileRaw hex (text ∷ []) (encoded hex blob.items))
+    go (Ok blob) is = (blob.items, is, refl)
+    go (Err e) is = tt
+
+  pub not_compiled_raw : OfFirst → IfErr done (λ e. WhyNotCompiled raw text e) → IfErr done (λ e. IsCompilerFault e.kind) →
+      IfErr made (λ e. IsInput CompileRaw hex (text ∷ []) e.0 e.1)
+  not_compiled_raw same why own = first_refused done made (IsInput CompileRaw hex (text ∷ [])) same (go done why own) where
+    go : (r : Result (Vec ℕ Global) Fault) → IfErr r (λ e. WhyNotCompiled raw text e) → IfErr r (λ e. IsCompilerFault e.kind) →
+        IfErr r (λ e. IsInput CompileRaw hex (text ∷ []) 0 e)
+    go (Ok blob) why own = tt
+    go (Err e) why own = (omega arith, (compiler_only e.kind own, memory_unplaced raw text e why), (refl, why, own))
 
 module _ (hex : Bool) (first : List ℕ) (others : List (List ℕ)) where
   pub applied : (r : Result (Vec ℕ Global) (ℕ × Fault)) → IfOk r (λ blob. IsBlobApplied first others blob.items) → IsMade Apply hex (first ∷ others) r

@@ -1,6 +1,7 @@
 -- What the words of a command line ask for, as clap reads them.
 use Rattle.std.specs.Prelude.{◌≡◌, ◌≢◌, ◌⊎◌, [], ◌∷◌, List, Bool, Option, Some, true, false, codes, map, unwrap_or, if◌then◌else◌}
-use Rattle.clap.specs.Words.{App, Row, Rule, Text, IsAmong, all_of, fault_of, first_of, kind_of, new_app, new_rule, one_of, subcommand_of, with_rule, with_subcommand}
+use Rattle.clap.specs.declared.builder.command.Command.{Command, out-Command}
+use Rattle.clap.specs.Words.{App, Row, Rule, Text, IsAmong, all_of, app_of, fault_of, first_of, kind_of, new_app, new_rule, one_of, subcommand_of, with_rule, with_subcommand}
 use Rattle.clap.specs.declared.builder.action.ArgAction.TheVariants.{Append, SetTrue}
 use Rattle.clap.specs.declared.error.kind.ErrorKind.TheVariants.{MissingSubcommand, OutOfMemory}
 use Rattle.clap.specs.declared.error.Error.{Error}
@@ -29,6 +30,10 @@ base_word = record (new_rule (codes "BASE")) { required = true }
 -- `OVERLAY`, as often as there are overlays
 abbrev pub overlay_word : Rule
 overlay_word = record (new_rule (codes "OVERLAY")) { action = Some Append }
+
+-- a command of this shape, of which no word is one of the commands below it too
+abbrev pub IsCommand : App → Command → Type 0
+IsCommand app command = (app_of command ≡ app) × ((out-Command command).has_globals ≡ false)
 
 -- `compile [--hex] [--raw] FILE`
 abbrev pub compile_command : App

@@ -1,11 +1,11 @@
 //! The words of the command line.
 
 ghost use Rattle.std.specs.Prelude.{◌≡◌, ◌∷◌, None, Some, false, Bool, List, codes, map, option_map, IfOk, IfErr, MatchOption};
-ghost use Rattle.clap.specs.declared.builder.command.Command.{out-Command};
-ghost use Rattle.clap.specs.Words.{Row, Shape, Text, app_of, first_of, found_of, new_app, rows_of, rule_of, subcommand_of, subcommand_rows_of, with_subcommand};
+ghost use Rattle.clap.specs.Words.{App, Row, Rule, Text, app_of, first_of, found_of, new_app, rows_of, rule_of, subcommand_of, subcommand_rows_of, with_rule, with_subcommand};
 ghost use Rattle.dt_run.specs.Words.{
   AreFiles,
   HasFlags,
+  IsCommand,
   IsFlag,
   IsLine,
   Names,
@@ -253,23 +253,43 @@ fn raw<'a>(alloc: Global) -> Arg<'a>
         )
 }
 
+/// The command with one more word.
+fn with_word<'a>(
+    command: Result<Command<'a>, AllocError>,
+    word: Arg<'a>,
+) -> Result<Command<'a>, AllocError>
+    requires { word.global ≡ false }
+    ensures { (app : App) (rule : Rule) → IfOk command.entry (IsCommand app) → rule_of word.entry ≡ rule
+        → IfOk result (IsCommand (with_rule app rule)) }
+{
+    match command {
+        Ok(command) => command.arg(word),
+        Err(error) => {
+            // Let go of by hand: what goes at an exit by itself is proved there field by field.
+            drop(word);
+            Err(error)
+        }
+    }
+}
+
 /// `compile [--hex] [--raw] FILE`.
 fn compile<'a>(alloc: Global) -> Result<Command<'a>, AllocError>
-    ensures shape { IfOk result (λ command. app_of command ≡ compile_command) }
-    ensures own { IfOk result (λ command. (out-Command command).has_globals ≡ false) }
+    ensures { IfOk result (IsCommand compile_command) }
 {
-    Command::new(alloc, "compile")
+    let command = Command::new(alloc, "compile")
         .about("Makes a blob of a devicetree source; of an overlay's, the object that is applied")
-        .after_help(STATUSES)
-        .arg(hex(alloc))?
-        .arg(raw(alloc))?
-        .arg(file(alloc, "The source; the word stdin is standard input"))
+        .after_help(STATUSES);
+    let command = with_word(Ok(command), hex(alloc));
+    let command = with_word(command, raw(alloc));
+    with_word(
+        command,
+        file(alloc, "The source; the word stdin is standard input"),
+    )
 }
 
 /// `apply [--hex] BASE [OVERLAY..]`.
 fn apply<'a>(alloc: Global) -> Result<Command<'a>, AllocError>
-    ensures shape { IfOk result (λ command. app_of command ≡ apply_command) }
-    ensures own { IfOk result (λ command. (out-Command command).has_globals ≡ false) }
+    ensures { IfOk result (IsCommand apply_command) }
 {
     with_overlays(
         alloc,
@@ -283,8 +303,7 @@ fn apply<'a>(alloc: Global) -> Result<Command<'a>, AllocError>
 
 /// `build [--hex] BASE [OVERLAY..]`.
 fn build<'a>(alloc: Global) -> Result<Command<'a>, AllocError>
-    ensures shape { IfOk result (λ command. app_of command ≡ build_command) }
-    ensures own { IfOk result (λ command. (out-Command command).has_globals ≡ false) }
+    ensures { IfOk result (IsCommand build_command) }
 {
     with_overlays(
         alloc,
@@ -303,21 +322,16 @@ fn with_overlays<'a>(
     base_help: &'a str,
     overlay_help: &'a str,
 ) -> Result<Command<'a>, AllocError>
-    requires { (out-Command command).has_globals ≡ false }
-    ensures shape { (name : Text) → app_of command.entry ≡ new_app name → IfOk result (λ whole. app_of whole ≡ overlay_command name) }
-    ensures own { IfOk result (λ whole. (out-Command whole).has_globals ≡ false) }
+    ensures { (name : Text) → IsCommand (new_app name) command.entry → IfOk result (IsCommand (overlay_command name)) }
 {
-    command
-        .after_help(STATUSES)
-        .arg(hex(alloc))?
-        .arg(base(alloc, base_help))?
-        .arg(overlays(alloc, overlay_help))
+    let command = with_word(Ok(command.after_help(STATUSES)), hex(alloc));
+    let command = with_word(command, base(alloc, base_help));
+    with_word(command, overlays(alloc, overlay_help))
 }
 
 /// `print FILE`.
 fn print<'a>(alloc: Global) -> Result<Command<'a>, AllocError>
-    ensures shape { IfOk result (λ command. app_of command ≡ print_command) }
-    ensures own { IfOk result (λ command. (out-Command command).has_globals ≡ false) }
+    ensures { IfOk result (IsCommand print_command) }
 {
     Command::new(alloc, "print")
         .about("Prints a blob as the source that is compiled to its tree")
@@ -327,8 +341,7 @@ fn print<'a>(alloc: Global) -> Result<Command<'a>, AllocError>
 
 /// `check FILE`.
 fn check<'a>(alloc: Global) -> Result<Command<'a>, AllocError>
-    ensures shape { IfOk result (λ command. app_of command ≡ check_command) }
-    ensures own { IfOk result (λ command. (out-Command command).has_globals ≡ false) }
+    ensures { IfOk result (IsCommand check_command) }
 {
     Command::new(alloc, "check")
         .about("Checks a blob, and counts what it holds")
@@ -346,19 +359,35 @@ fn without_commands<'a>(alloc: Global) -> Command<'a>
         .subcommand_required(true)
 }
 
-/// The tool with one more command.
+/// The tool with one more command, where there is one.
 fn with_command<'a>(
     tool: Command<'a>,
     command: Result<Command<'a>, AllocError>,
 ) -> Result<Command<'a>, AllocError>
-    ensures { (shape : Shape) → IfOk command.entry (λ command. ((app_of command).top ≡ shape) × ((out-Command command).has_globals ≡ false))
-        → IfOk result (λ whole. app_of whole ≡ with_subcommand (app_of tool.entry) shape) }
+    ensures { (part : App) → IfOk command.entry (IsCommand part)
+        → IfOk result (λ whole. app_of whole ≡ with_subcommand (app_of tool.entry) part.top) }
 {
     match command {
         Ok(command) => tool.subcommand(command),
         Err(error) => {
-            // Let go of by hand: what goes at an exit by itself is proved there field by field.
             drop(tool);
+            Err(error)
+        }
+    }
+}
+
+/// The same, where there is a tool.
+fn and_command<'a>(
+    tool: Result<Command<'a>, AllocError>,
+    command: Result<Command<'a>, AllocError>,
+) -> Result<Command<'a>, AllocError>
+    ensures { (whole part : App) → IfOk tool.entry (λ tool. app_of tool ≡ whole) → IfOk command.entry (IsCommand part)
+        → IfOk result (λ both. app_of both ≡ with_subcommand whole part.top) }
+{
+    match tool {
+        Ok(tool) => with_command(tool, command),
+        Err(error) => {
+            drop(command);
             Err(error)
         }
     }
@@ -368,9 +397,9 @@ fn with_command<'a>(
 fn tool<'a>(alloc: Global) -> Result<Command<'a>, AllocError>
     ensures { IfOk result (λ command. app_of command ≡ dtool) }
 {
-    let tool = with_command(without_commands(alloc), compile(alloc))?;
-    let tool = with_command(tool, apply(alloc))?;
-    let tool = with_command(tool, build(alloc))?;
-    let tool = with_command(tool, print(alloc))?;
-    with_command(tool, check(alloc))
+    let tool = with_command(without_commands(alloc), compile(alloc));
+    let tool = and_command(tool, apply(alloc));
+    let tool = and_command(tool, build(alloc));
+    let tool = and_command(tool, print(alloc));
+    and_command(tool, check(alloc))
 }

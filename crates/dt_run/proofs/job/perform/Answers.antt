@@ -1,8 +1,9 @@
 use Rattle.std.proofs.Common.{◌≡◌, ◌≤◌, ◌-◌, ℕ, List, ◌∷◌, [], length, map, take, drop, get_or, subst, arith, Bor}
-use Rattle.dt_run.specs.Job.{IsAsked, IsCounted, IsPrinted, IsWritten, WhyNotPerformed, encoded}
+use Rattle.dt_names.specs.Sink.{Takes}
+use Rattle.dt_run.specs.Job.{IsAsked, IsCounted, IsPrinted, WhyNotPerformed}
 use Rattle.dt_run.specs.declared.job.Job.{Job}
 use Rattle.dt_run.specs.declared.job.Job.TheVariants.{Compile, CompileRaw, Apply, Build, Print, Check}
-use Rattle.dt_run.proofs.Performing.{IsInput, applied, blob_refused, built, compiled, compiled_raw, first_and_others, first_made, first_refused, not_applied, not_built, not_compiled, not_compiled_raw, not_told, only_first}
+use Rattle.dt_run.proofs.Performing.{applied, blob_refused, blob_written, built, compiled, compiled_raw, first_and_others, first_done, first_refused, not_applied, not_built, not_compiled, not_compiled_raw, not_told, only_first}
 use Rattle.std.proofs.lemmas.Result.{IfErr-weaker}
 use Rattle.dt_run.proofs.job.perform.Goals as goal
 
@@ -16,55 +17,91 @@ first_of xs = (get_or xs 0 none).now
 abbrev others_of : List (Bor (List ℕ)) → List (List ℕ)
 others_of xs = map (λ x. x.now) (take (length xs - 1) (drop 1 xs))
 
+pub returns-in-Compile-clause-written : goal.returns-in-Compile-clause-written
+returns-in-Compile-clause-written g c =
+    let xs = c.args.inputs.now in
+    let asked : length xs ≡ 1 = subst (λ (job : Job). IsAsked job (length xs)) c.in-Compile.is c.requires in
+    rw (c.in-Compile.is, only_first none xs asked)
+    (blob_written Compile c.args.hex (first_of xs ∷ []) _ _ c.of_first.result c.show.result
+    (compiled c.args.hex (first_of xs) c.compile.result c.of_first.result c.of_first.ensures c.compile.ensures.blob)
+    c.show.ensures.shown c.show.ensures.refused)
+
 pub returns-in-Compile-clause-refused : goal.returns-in-Compile-clause-refused
 returns-in-Compile-clause-refused g c =
     let xs = c.args.inputs.now in
-    let hex = c.args.hex in
-    let text = first_of xs in
     let asked : length xs ≡ 1 = subst (λ (job : Job). IsAsked job (length xs)) c.in-Compile.is c.requires in
     rw (c.in-Compile.is, only_first none xs asked)
-    (blob_refused Compile hex (text ∷ []) _ _ c.of_first.result c.show.result tt (omega arith)
-    (first_made c.compile.result c.of_first.result (λ blob. IsWritten Compile hex (text ∷ []) (encoded hex blob.items)) c.of_first.ensures
-    (compiled hex text c.compile.result c.compile.ensures.blob))
-    (first_refused c.compile.result c.of_first.result (IsInput Compile hex (text ∷ [])) c.of_first.ensures
-    (not_compiled hex text c.compile.result c.compile.ensures.refused c.compile.ensures.kinds))
+    (blob_refused Compile c.args.hex (first_of xs ∷ []) _ _ c.of_first.result c.show.result tt (omega arith)
+    (compiled c.args.hex (first_of xs) c.compile.result c.of_first.result c.of_first.ensures c.compile.ensures.blob)
+    (not_compiled c.args.hex (first_of xs) c.compile.result c.of_first.result c.of_first.ensures c.compile.ensures.refused c.compile.ensures.kinds)
     c.show.ensures.shown c.show.ensures.refused)
+
+pub returns-in-CompileRaw-clause-written : goal.returns-in-CompileRaw-clause-written
+returns-in-CompileRaw-clause-written g c =
+    let xs = c.args.inputs.now in
+    let asked : length xs ≡ 1 = subst (λ (job : Job). IsAsked job (length xs)) c.in-CompileRaw.is c.requires in
+    rw (c.in-CompileRaw.is, only_first none xs asked)
+    (blob_written CompileRaw c.args.hex (first_of xs ∷ []) _ _ c.of_first-in-CompileRaw.result c.show-in-CompileRaw.result
+    (compiled_raw c.args.hex (first_of xs) c.compile_raw.result c.of_first-in-CompileRaw.result c.of_first-in-CompileRaw.ensures c.compile_raw.ensures.blob)
+    c.show-in-CompileRaw.ensures.shown c.show-in-CompileRaw.ensures.refused)
 
 pub returns-in-CompileRaw-clause-refused : goal.returns-in-CompileRaw-clause-refused
 returns-in-CompileRaw-clause-refused g c =
     let xs = c.args.inputs.now in
-    let hex = c.args.hex in
-    let text = first_of xs in
     let asked : length xs ≡ 1 = subst (λ (job : Job). IsAsked job (length xs)) c.in-CompileRaw.is c.requires in
     rw (c.in-CompileRaw.is, only_first none xs asked)
-    (blob_refused CompileRaw hex (text ∷ []) _ _ c.of_first-in-CompileRaw.result c.show-in-CompileRaw.result tt (omega arith)
-    (first_made c.compile_raw.result c.of_first-in-CompileRaw.result (λ blob. IsWritten CompileRaw hex (text ∷ []) (encoded hex blob.items)) c.of_first-in-CompileRaw.ensures
-    (compiled_raw hex text c.compile_raw.result c.compile_raw.ensures.blob))
-    (first_refused c.compile_raw.result c.of_first-in-CompileRaw.result (IsInput CompileRaw hex (text ∷ [])) c.of_first-in-CompileRaw.ensures
-    (not_compiled_raw hex text c.compile_raw.result c.compile_raw.ensures.refused c.compile_raw.ensures.kinds))
+    (blob_refused CompileRaw c.args.hex (first_of xs ∷ []) _ _ c.of_first-in-CompileRaw.result c.show-in-CompileRaw.result tt (omega arith)
+    (compiled_raw c.args.hex (first_of xs) c.compile_raw.result c.of_first-in-CompileRaw.result c.of_first-in-CompileRaw.ensures c.compile_raw.ensures.blob)
+    (not_compiled_raw c.args.hex (first_of xs) c.compile_raw.result c.of_first-in-CompileRaw.result c.of_first-in-CompileRaw.ensures c.compile_raw.ensures.refused c.compile_raw.ensures.kinds)
     c.show-in-CompileRaw.ensures.shown c.show-in-CompileRaw.ensures.refused)
+
+pub returns-in-Apply-clause-written : goal.returns-in-Apply-clause-written
+returns-in-Apply-clause-written g c =
+    let xs = c.args.inputs.now in
+    let asked : 1 ≤ length xs = subst (λ (job : Job). IsAsked job (length xs)) c.in-Apply.is c.requires in
+    rw (c.in-Apply.is, first_and_others none xs asked)
+    (blob_written Apply c.args.hex (first_of xs ∷ others_of xs) _ _ c.apply_list.result c.show-in-Apply.result
+    (applied c.args.hex (first_of xs) (others_of xs) c.apply_list.result c.apply_list.ensures.blob)
+    c.show-in-Apply.ensures.shown c.show-in-Apply.ensures.refused)
 
 pub returns-in-Apply-clause-refused : goal.returns-in-Apply-clause-refused
 returns-in-Apply-clause-refused g c =
     let xs = c.args.inputs.now in
-    let hex = c.args.hex in
     let asked : 1 ≤ length xs = subst (λ (job : Job). IsAsked job (length xs)) c.in-Apply.is c.requires in
     rw (c.in-Apply.is, first_and_others none xs asked)
-    (blob_refused Apply hex (first_of xs ∷ others_of xs) _ _ c.apply_list.result c.show-in-Apply.result tt (omega arith)
-    (applied hex (first_of xs) (others_of xs) c.apply_list.result c.apply_list.ensures.blob)
-    (not_applied hex (first_of xs) (others_of xs) c.apply_list.result c.apply_list.ensures.refused)
+    (blob_refused Apply c.args.hex (first_of xs ∷ others_of xs) _ _ c.apply_list.result c.show-in-Apply.result tt (omega arith)
+    (applied c.args.hex (first_of xs) (others_of xs) c.apply_list.result c.apply_list.ensures.blob)
+    (not_applied c.args.hex (first_of xs) (others_of xs) c.apply_list.result c.apply_list.ensures.refused)
     c.show-in-Apply.ensures.shown c.show-in-Apply.ensures.refused)
+
+pub returns-in-Build-clause-written : goal.returns-in-Build-clause-written
+returns-in-Build-clause-written g c =
+    let xs = c.args.inputs.now in
+    let asked : 1 ≤ length xs = subst (λ (job : Job). IsAsked job (length xs)) c.in-Build.is c.requires in
+    rw (c.in-Build.is, first_and_others none xs asked)
+    (blob_written Build c.args.hex (first_of xs ∷ others_of xs) _ _ c.build.result c.show-in-Build.result
+    (built c.args.hex (first_of xs) (others_of xs) c.build.result c.build.ensures.blob)
+    c.show-in-Build.ensures.shown c.show-in-Build.ensures.refused)
 
 pub returns-in-Build-clause-refused : goal.returns-in-Build-clause-refused
 returns-in-Build-clause-refused g c =
     let xs = c.args.inputs.now in
-    let hex = c.args.hex in
     let asked : 1 ≤ length xs = subst (λ (job : Job). IsAsked job (length xs)) c.in-Build.is c.requires in
     rw (c.in-Build.is, first_and_others none xs asked)
-    (blob_refused Build hex (first_of xs ∷ others_of xs) _ _ c.build.result c.show-in-Build.result tt (omega arith)
-    (built hex (first_of xs) (others_of xs) c.build.result c.build.ensures.blob)
-    (not_built hex (first_of xs) (others_of xs) c.build.result c.build.ensures.refused)
+    (blob_refused Build c.args.hex (first_of xs ∷ others_of xs) _ _ c.build.result c.show-in-Build.result tt (omega arith)
+    (built c.args.hex (first_of xs) (others_of xs) c.build.result c.build.ensures.blob)
+    (not_built c.args.hex (first_of xs) (others_of xs) c.build.result c.build.ensures.refused)
     c.show-in-Build.ensures.shown c.show-in-Build.ensures.refused)
+
+pub returns-in-Print-clause-written : goal.returns-in-Print-clause-written
+returns-in-Print-clause-written g c =
+    let xs = c.args.inputs.now in
+    let blob = first_of xs in
+    let asked : length xs ≡ 1 = subst (λ (job : Job). IsAsked job (length xs)) c.in-Print.is c.requires in
+    rw (c.in-Print.is, only_first none xs asked)
+    (first_done c.print.result c.of_first-in-Print.result
+    ((bytes : List ℕ) × IsPrinted blob bytes × Takes bytes (g.S.Sink.taken c.args.out.now) (g.S.Sink.taken c.print.new.out))
+    c.of_first-in-Print.ensures c.print.ensures.written)
 
 pub returns-in-Print-clause-refused : goal.returns-in-Print-clause-refused
 returns-in-Print-clause-refused g c =
@@ -76,6 +113,16 @@ returns-in-Print-clause-refused g c =
     (λ k fault. WhyNotPerformed k fault.kind fault.at Print c.args.hex (blob ∷ []) (g.S.Sink.taken c.args.out.now) (g.S.Sink.taken c.print.new.out))
     c.of_first-in-Print.ensures
     (IfErr-weaker c.print.result _ _ (λ fault why. not_told _ _ c.args.hex blob Print (IsPrinted blob) fault tt (λ text is. is) why) c.print.ensures.refused))
+
+pub returns-in-Check-clause-written : goal.returns-in-Check-clause-written
+returns-in-Check-clause-written g c =
+    let xs = c.args.inputs.now in
+    let blob = first_of xs in
+    let asked : length xs ≡ 1 = subst (λ (job : Job). IsAsked job (length xs)) c.in-Check.is c.requires in
+    rw (c.in-Check.is, only_first none xs asked)
+    (first_done c.check.result c.of_first-in-Check.result
+    ((bytes : List ℕ) × IsCounted blob bytes × Takes bytes (g.S.Sink.taken c.args.out.now) (g.S.Sink.taken c.check.new.out))
+    c.of_first-in-Check.ensures c.check.ensures.written)
 
 pub returns-in-Check-clause-refused : goal.returns-in-Check-clause-refused
 returns-in-Check-clause-refused g c =

@@ -1,5 +1,5 @@
 use Rattle.std.proofs.Common.{rules, codes}
 use Rattle.dt_run.proofs.words.apply.Goals as goal
 
-pub returns-clause-shape : goal.returns-clause-shape
-returns-clause-shape c = c.with_overlays.ensures.shape (codes "apply") (search rules)
+pub returns : goal.returns
+returns c = c.with_overlays.ensures (codes "apply") (search rules)
