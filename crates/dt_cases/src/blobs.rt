@@ -23,19 +23,42 @@ pub fn call(
     out: &mut Outcome,
 ) -> Result<(), Stop> {
     match name {
-        "compile" => out.give(compile(alloc, input)?),
-        "compile-raw" => out.give(compile_raw(alloc, input)?),
-        "check" => tell_counts(&Blob::check(input)?, out),
-        "read" => put_tree(out.lines(), alloc, &tree_of(alloc, input)?),
-        "root" => put_blob(out.lines(), &Blob::check(input)?),
-        "rewrite" => out.give(rewritten(alloc, input)?),
-        "size" => out.tell(input.len()),
-        "first" => out.give(front(alloc, words, input)?),
-        "change" => out.give(changed(alloc, words, input)?),
-        "structure" => out.give(structured(alloc, words, input)?),
-        _ => return Err(Stop::Malformed),
+        "size" => {
+            out.tell(input.len());
+            Ok(())
+        }
+        "check" | "root" | "read" => tell_blob(alloc, name, &Blob::check(input)?, out),
+        _ => {
+            out.give(made(alloc, name, words, input)?);
+            Ok(())
+        }
+    }
+}
+
+/// Tells what a blob holds.
+fn tell_blob(alloc: Global, name: &str, blob: &Blob<'_>, out: &mut Outcome) -> Result<(), Stop> {
+    match name {
+        "check" => tell_counts(blob, out),
+        "root" => put_blob(out.lines(), blob),
+        _ => {
+            let tree = blob.to_flat(alloc)?;
+            put_tree(out.lines(), alloc, &tree);
+        }
     }
     Ok(())
+}
+
+/// The bytes that a call gives.
+fn made(alloc: Global, name: &str, words: &str, input: &[u8]) -> Result<Vec<u8>, Stop> {
+    match name {
+        "compile" => Ok(compile(alloc, input)?),
+        "compile-raw" => Ok(compile_raw(alloc, input)?),
+        "rewrite" => Ok(rewritten(alloc, input)?),
+        "first" => front(alloc, words, input),
+        "change" => changed(alloc, words, input),
+        "structure" => structured(alloc, words, input),
+        _ => Err(Stop::Malformed),
+    }
 }
 
 /// The tree of a blob, as one that can be changed.
@@ -65,13 +88,21 @@ fn tell_counts(blob: &Blob<'_>, out: &mut Outcome) {
 fn put_blob(lines: &mut Lines, blob: &Blob<'_>) {
     let boot_cpu = blob.boot_cpu();
     writeln!(lines, "boot {boot_cpu}");
-    for (address, size) in blob.reservations() {
-        writeln!(lines, "reserve {address:#x} {size:#x}");
-    }
+    put_reservations(lines, blob);
     let root = blob.root();
     let size = blob.name(root).len();
     writeln!(lines, "root at {root}, its name {size} bytes");
     put_properties(lines, blob);
+    put_children(lines, blob);
+}
+
+fn put_reservations(lines: &mut Lines, blob: &Blob<'_>) {
+    for (address, size) in blob.reservations() {
+        writeln!(lines, "reserve {address:#x} {size:#x}");
+    }
+}
+
+fn put_children(lines: &mut Lines, blob: &Blob<'_>) {
     for child in blob.children(blob.root()) {
         writeln!(lines, "child at {child}");
     }

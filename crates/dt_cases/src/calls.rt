@@ -26,6 +26,20 @@ pub fn call(
         "phandle" => numbers::phandle(input, out),
         "tokens" | "token-count" | "text" => tokens::call(alloc, name, input, out),
         "expression" => expressions::call(alloc, input, out),
+        _ => call_on_trees(alloc, name, words, input, others, out),
+    }
+}
+
+/// The same of a call that reads or makes a tree.
+fn call_on_trees(
+    alloc: Global,
+    name: &str,
+    words: &str,
+    input: &[u8],
+    others: &[&[u8]],
+    out: &mut Outcome,
+) -> Result<(), Stop> {
+    match name {
         "parse" | "item-count" => grammar::call(alloc, name, input, out),
         "tree" | "tree-blob" => trees::call(alloc, name, words, input, out),
         "damage" => damage::call(alloc, input, out),

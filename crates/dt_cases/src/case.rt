@@ -69,8 +69,17 @@ fn made_of(alloc: Global, other: Other<'_>) -> Result<Vec<u8>, Stop> {
 
 /// Answers what comes out of a case.
 fn try_calls(alloc: Global, case: Case<'_>, out: &mut Outcome) -> Result<(), Stop> {
-    let calls = head_of(case.lines).ok_or(Stop::Malformed)?;
     let others = made(alloc, others_of(alloc, case.lines, case.table)?)?;
+    try_with_others(alloc, case, &others, out)
+}
+
+fn try_with_others(
+    alloc: Global,
+    case: Case<'_>,
+    others: &[Vec<u8>],
+    out: &mut Outcome,
+) -> Result<(), Stop> {
+    let calls = head_of(case.lines).ok_or(Stop::Malformed)?;
     let others: Vec<&[u8]> = others.iter().map(|other| other.as_slice()).collect(alloc)?;
     let input = input_of(alloc, case.lines, case.table)?;
     call_all(alloc, calls, input, &others, out)

@@ -19,14 +19,18 @@ fn put_source(lines: &mut Lines, source: &Source<'_>) {
     if source.is_overlay() {
         lines.put("/plugin/\n");
     }
+    put_reservations(lines, source);
+    for item in source.items() {
+        put_item(lines, item);
+        lines.put("\n");
+    }
+}
+
+fn put_reservations(lines: &mut Lines, source: &Source<'_>) {
     for reservation in source.reservations() {
         let address = reservation.address;
         let size = reservation.size;
         writeln!(lines, "/memreserve/ {address:#x} {size:#x}");
-    }
-    for item in source.items() {
-        put_item(lines, item);
-        lines.put("\n");
     }
 }
 

@@ -17,15 +17,25 @@ pub struct Other<'a> {
 /// The bytes that the lines of a case spell, one line's behind the other's, up to the first line that begins another input.
 pub fn input_of(alloc: Global, lines: &[&str], table: &[&str]) -> Result<Vec<u8>, Stop> {
     let mut input = Vec::new(alloc);
+    push_input(&mut input, alloc, lines, table)?;
+    Ok(input)
+}
+
+fn push_input(
+    input: &mut Vec<u8>,
+    alloc: Global,
+    lines: &[&str],
+    table: &[&str],
+) -> Result<(), Stop> {
     for line in lines
         .iter()
         .skip_while(|line| line.starts_with('#'))
         .skip(1)
         .take_while(|line| !line.starts_with("--"))
     {
-        push_line(&mut input, alloc, line, table)?;
+        push_line(input, alloc, line, table)?;
     }
-    Ok(input)
+    Ok(())
 }
 
 /// The other inputs, each behind a line `--` with the calls that it goes through first.
@@ -35,16 +45,26 @@ pub fn others_of<'a>(
     table: &[&str],
 ) -> Result<Vec<Other<'a>>, Stop> {
     let mut others = Vec::new(alloc);
+    push_others(&mut others, alloc, lines, table)?;
+    Ok(others)
+}
+
+fn push_others<'a>(
+    others: &mut Vec<Other<'a>>,
+    alloc: Global,
+    lines: &[&'a str],
+    table: &[&str],
+) -> Result<(), Stop> {
     for line in lines.iter().skip_while(|line| !line.starts_with("--")) {
         match line.strip_prefix("--") {
             Some(calls) => others.push(Other {
                 calls: calls.trim_start(),
                 bytes: Vec::new(alloc),
             })?,
-            None => push_to_last(&mut others, alloc, line, table)?,
+            None => push_to_last(others, alloc, line, table)?,
         }
     }
-    Ok(others)
+    Ok(())
 }
 
 fn push_to_last(
@@ -86,10 +106,7 @@ fn push_piece(input: &mut Vec<u8>, alloc: Global, line: &str) -> Result<(), Stop
     match line.split_once(' ') {
         Some(("|", text)) => Ok(input.extend_from_slice(text.as_bytes())?),
         Some(("x", digits)) => push_bytes(input, alloc, 0, 1, digits),
-        Some(("*", text)) => {
-            let (first, end, piece) = repetition(text).ok_or(Stop::Malformed)?;
-            Ok(push_numbered(input, first, end, piece)?)
-        }
+        Some(("*", text)) => push_texts(input, text),
         Some(("*x", text)) => {
             let (first, end, digits) = repetition(text).ok_or(Stop::Malformed)?;
             push_bytes(input, alloc, first, end, digits)
@@ -97,6 +114,12 @@ fn push_piece(input: &mut Vec<u8>, alloc: Global, line: &str) -> Result<(), Stop
         Some(("=" | "#", _)) => Ok(()),
         _ => Err(Stop::Malformed),
     }
+}
+
+/// Appends a text once for each number that is said before it.
+fn push_texts(input: &mut Vec<u8>, text: &str) -> Result<(), Stop> {
+    let (first, end, piece) = repetition(text).ok_or(Stop::Malformed)?;
+    Ok(push_numbered(input, first, end, piece)?)
 }
 
 /// Appends the bytes that hexadecimal digits spell, once for each number.

@@ -75,6 +75,11 @@ fn run_table<R: Files + Print + Eprint + AllocGlobal>(
     let path = format!(in rt.alloc(); "{folder}/{name}")?;
     let text = fs::read_to_string(rt, path.as_str())?;
     let tally = try_table(rt, name, text.as_str())?;
+    tell(rt, name, tally)
+}
+
+/// Tells how many cases of a table hold; whether all do.
+fn tell<R: Print>(rt: &R, name: &str, tally: Tally) -> IoResult<bool> {
     let Tally { all, held } = tally;
     if held == all {
         println!(rt; "{name}: {held} cases hold")?;
@@ -87,10 +92,25 @@ fn run_table<R: Files + Print + Eprint + AllocGlobal>(
 /// Tries the cases of all tables; whether each holds.
 fn run<R: Files + Env + Print + Eprint + AllocGlobal + Clone + Drop>(rt: &R) -> IoResult<bool> {
     let folder = folder_of(rt)?;
-    let names = tables_of(rt, folder.as_str())?;
+    run_folder(rt, folder.as_str())
+}
+
+fn run_folder<R: Files + Print + Eprint + AllocGlobal + Clone + Drop>(
+    rt: &R,
+    folder: &str,
+) -> IoResult<bool> {
+    let names = tables_of(rt, folder)?;
+    run_tables(rt, folder, &names)
+}
+
+fn run_tables<R: Files + Print + Eprint + AllocGlobal>(
+    rt: &R,
+    folder: &str,
+    names: &[String],
+) -> IoResult<bool> {
     let mut all_hold = true;
-    for name in &names {
-        if !run_table(rt, folder.as_str(), name.as_str())? {
+    for name in names {
+        if !run_table(rt, folder, name.as_str())? {
             all_hold = false;
         }
     }

@@ -14,6 +14,11 @@ pub struct Tally {
 /// Tries the cases of a table, which are parted by empty lines, and tells each that fails.
 pub fn try_table<R: Eprint + AllocGlobal>(rt: &R, name: &str, text: &str) -> IoResult<Tally> {
     let lines: Vec<&str> = text.lines().collect(rt.alloc())?;
+    try_lines(rt, name, &lines)
+}
+
+/// Tries the cases that stand in the lines of a table.
+fn try_lines<R: Eprint + AllocGlobal>(rt: &R, name: &str, lines: &[&str]) -> IoResult<Tally> {
     let mut tally = Tally { all: 0, held: 0 };
     let mut first = 0usize;
     for at in 0..=lines.len() {
@@ -22,7 +27,7 @@ pub fn try_table<R: Eprint + AllocGlobal>(rt: &R, name: &str, text: &str) -> IoR
             None => true,
         };
         if is_end {
-            try_block(rt, &mut tally, name, first, at, &lines)?;
+            try_block(rt, &mut tally, name, first, at, lines)?;
             first = at.saturating_add(1);
         }
     }
@@ -62,7 +67,18 @@ fn try_case<R: Eprint + AllocGlobal>(
 ) -> IoResult<bool> {
     let wanted = wanted_of(rt.alloc(), case.lines)?;
     let answer = answer_of(rt.alloc(), case)?;
-    if holds(answer.as_str(), wanted.as_str()) {
+    compare(rt, name, first, answer.as_str(), wanted.as_str())
+}
+
+/// Whether an answer is the wanted one; it is told where it isn't.
+fn compare<R: Eprint>(
+    rt: &R,
+    name: &str,
+    first: usize,
+    answer: &str,
+    wanted: &str,
+) -> IoResult<bool> {
+    if holds(answer, wanted) {
         return Ok(true);
     }
     let line = first.saturating_add(1);

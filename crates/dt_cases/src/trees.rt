@@ -23,7 +23,10 @@ pub fn call(
     let steps = str::from_utf8(input).map_err(|_| Stop::Malformed)?;
     let boot_cpu = boot_cpu_of(words).ok_or(Stop::Malformed)?;
     let mut tree = FlatTree::new(alloc, boot_cpu);
-    take_all(&mut tree, alloc, name, steps, out)
+    let taken = take_all(&mut tree, alloc, name, steps, out);
+    // Let go of by hand: what goes at an exit by itself is proved there field by field.
+    drop(tree);
+    taken
 }
 
 /// The boot CPU that the words say, 0 where they say none.
@@ -74,21 +77,33 @@ fn tell_all(
 fn take(tree: &mut FlatTree, lines: &mut Lines, alloc: Global, step: &str) -> Result<(), Stop> {
     let (verb, words) = step.split_once(' ').unwrap_or((step, ""));
     match verb {
-        "" => {}
-        "reserve" => reserve(tree, words)?,
+        "" => Ok(()),
+        "reserve" => reserve(tree, words),
         "count" => {
             let count = tree.node_count();
             writeln!(lines, "{count}");
+            Ok(())
         }
-        "read" => put_tree(lines, alloc, tree),
-        _ => {
-            let (node, words) = words.split_once(' ').ok_or(Stop::Malformed)?;
-            let node = index(node).ok_or(Stop::Malformed)?;
-            let (name, words) = words.split_once(' ').unwrap_or((words, ""));
-            at_node(tree, lines, alloc, verb, node, name.as_bytes(), words)?;
+        "read" => {
+            put_tree(lines, alloc, tree);
+            Ok(())
         }
+        _ => take_at_node(tree, lines, alloc, verb, words),
     }
-    Ok(())
+}
+
+/// Takes a step whose words are a node's number, a name and others.
+fn take_at_node(
+    tree: &mut FlatTree,
+    lines: &mut Lines,
+    alloc: Global,
+    verb: &str,
+    words: &str,
+) -> Result<(), Stop> {
+    let (node, words) = words.split_once(' ').ok_or(Stop::Malformed)?;
+    let node = index(node).ok_or(Stop::Malformed)?;
+    let (name, words) = words.split_once(' ').unwrap_or((words, ""));
+    at_node(tree, lines, alloc, verb, node, name.as_bytes(), words)
 }
 
 fn reserve(tree: &mut FlatTree, words: &str) -> Result<(), Stop> {
