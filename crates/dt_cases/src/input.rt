@@ -103,17 +103,21 @@ fn push_sample(input: &mut Vec<u8>, alloc: Global, table: &[&str], name: &str) -
 
 /// Appends the bytes that a line spells.
 fn push_piece(input: &mut Vec<u8>, alloc: Global, line: &str) -> Result<(), Stop> {
-    match line.split_once(' ') {
-        Some(("|", text)) => Ok(input.extend_from_slice(text.as_bytes())?),
-        Some(("x", digits)) => push_bytes(input, alloc, 0, 1, digits),
-        Some(("*", text)) => push_texts(input, text),
-        Some(("*x", text)) => {
-            let (first, end, digits) = repetition(text).ok_or(Stop::Malformed)?;
-            push_bytes(input, alloc, first, end, digits)
-        }
-        Some(("=" | "#", _)) => Ok(()),
+    let (sign, text) = line.split_once(' ').ok_or(Stop::Malformed)?;
+    match sign {
+        "|" => Ok(input.extend_from_slice(text.as_bytes())?),
+        "x" => push_bytes(input, alloc, 0, 1, text),
+        "*" => push_texts(input, text),
+        "*x" => push_many_bytes(input, alloc, text),
+        "=" | "#" => Ok(()),
         _ => Err(Stop::Malformed),
     }
+}
+
+/// Appends the bytes that hexadecimal digits spell, once for each number that is said before them.
+fn push_many_bytes(input: &mut Vec<u8>, alloc: Global, text: &str) -> Result<(), Stop> {
+    let (first, end, digits) = repetition(text).ok_or(Stop::Malformed)?;
+    push_bytes(input, alloc, first, end, digits)
 }
 
 /// Appends a text once for each number that is said before it.
