@@ -27,10 +27,11 @@ ghost use Rattle.dt_chain.specs.Steps.{
 use dt_flat::FlatTree;
 use dt_laws::{overlay_source_is_an_overlay, source_is_a_meaning, tree_is_meant};
 use dt_marks::{add_fixups, add_symbols};
+use dt_named::NamedTree;
 use dt_names::Fault;
 use dt_parse::{Source, parse};
 use dt_phandle::{instance, number};
-use dt_source::{Mode, NamedTree, build_base, build_overlay};
+use dt_source::{Mode, build_base, build_overlay};
 use dt_write::write_blob;
 use std::alloc::Global;
 

@@ -5,8 +5,6 @@ pub use Rattle.dt_grammar.specs.Strict
 pub use Rattle.dt_grammar.specs.Wanted
 pub use Rattle.dt_grammar.specs.Descent
 pub use Rattle.dt_grammar.specs.Faults
-pub mod Said
-pub mod Spelled
 pub mod Reading
 pub mod Machine
 pub mod Turns

@@ -16,15 +16,15 @@ ghost use Rattle.dt_grammar.specs.Wanted.{AfterMemberLabels, AfterName, BlockOpe
 ghost use Rattle.dt_grammar.specs.Descent.{first, after, found, Descends};
 ghost use Rattle.dt_grammar.specs.Faults.{outside};
 ghost use Rattle.dt_parse.specs.Reading.{IsRead, IsBroken};
-ghost use Rattle.dt_parse.specs.Said.{value_said, places_said};
+ghost use Rattle.dt_items.specs.Said.{value_said, places_said};
 ghost use Rattle.dt_parse.specs.declared.body.Front.TheVariants as front;
 ghost use Rattle.dt_parse.specs.declared.body.Behind.TheVariants as behind;
 ghost use Rattle.dt_parse.specs.Nested.{front_of, behind_of, in_body, Closes, IsMember, BreaksIn, Goes, IsUnclosed};
 
 use crate::cursor::Cursor;
-use crate::source::{Item, Value};
 use crate::stop::Stop;
-use crate::value::{labels, value};
+use crate::value::{empty, labels, value};
+use dt_items::{Item, Value};
 use dt_lex::{Keyword, Mark, TokenKind};
 use dt_names::limits::MOST_BODIES;
 use dt_names::{FaultKind, Label, NodeName, PropName};
@@ -116,7 +116,7 @@ fn assigned<'a>(alloc: Global, cursor: &mut Cursor<'a, '_>) -> Result<Value<'a>,
     match behind_of(cursor.kind()) {
         Behind::End => {
             cursor.advance();
-            Ok(Value::new(alloc))
+            Ok(empty(alloc))
         }
         _ => {
             cursor.advance();

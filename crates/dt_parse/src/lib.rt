@@ -7,11 +7,11 @@ mod expression;
 mod laws;
 mod number;
 mod parser;
-mod source;
+mod referring;
 mod statement;
 mod stop;
 mod value;
 
+pub use dt_items::{Form, Item, Piece, Reference, Reservation, Source, Value};
 pub use laws::{one_outcome, parsed_has_places};
 pub use parser::parse;
-pub use source::{Form, Item, Piece, Reference, Reservation, Source, Value};

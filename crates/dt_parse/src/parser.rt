@@ -18,14 +18,14 @@ ghost use Rattle.dt_grammar.specs.Faults.{outside, Breaks};
 ghost use Rattle.dt_parse.specs.Reading.{IsRead, IsBroken, IsSourceFault};
 ghost use Rattle.dt_grammar.specs.Parsed.{IsTagged, place_of, told_at, IsParsed, WhyNotParsed};
 ghost use Rattle.dt_parse.specs.Leading.{Leads, Reserves};
-ghost use Rattle.dt_parse.specs.Said.{reservation_said};
+ghost use Rattle.dt_items.specs.Said.{reservation_said};
 
 use crate::cursor::Cursor;
 use crate::number::number;
-use crate::source::{Item, Reservation, Source};
 use crate::statement::statements;
 use crate::stop::Stop;
 use crate::value::labels;
+use dt_items::{Item, Reservation, Source};
 use dt_lex::{Keyword, Mark, Token, TokenKind, tokens};
 use dt_names::{Fault, FaultKind, Label};
 use std::alloc::Global;

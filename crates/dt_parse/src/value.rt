@@ -16,12 +16,13 @@ ghost use Rattle.dt_parse.specs.declared.value.Opening.TheVariants as opening;
 ghost use Rattle.dt_parse.specs.Openings.{opening_of, cell_opening, byte_opening};
 ghost use Rattle.dt_grammar.specs.Faults.{Around, in_elements};
 ghost use Rattle.dt_parse.specs.Reading.{IsRead, IsBroken};
-ghost use Rattle.dt_parse.specs.Said.{value_said, reference_of, referring};
+ghost use Rattle.dt_items.specs.Said.{value_said, reference_of, referring};
 
 use crate::cursor::Cursor;
 use crate::number::number;
-use crate::source::{Form, Piece, Reference, Value, referred_path};
+use crate::referring::referred_path;
 use crate::stop::Stop;
+use dt_items::{Form, Piece, Reference, Value};
 use dt_lex::{Keyword, Mark, TokenKind, push_text};
 use dt_names::{FaultKind, Label};
 use std::alloc::{AllocError, Global};
@@ -96,70 +97,68 @@ fn byte_opening(next: Option<TokenKind>) -> ByteOpening
     }
 }
 
-impl<'a> Value<'a> {
-    /// No bytes. Takes no memory.
-    pub(crate) fn new(alloc: Global) -> Value<'a>
-        ensures { value_said result ≡ [] }
-    {
-        Value {
-            pieces: Vec::new(alloc),
-            bytes: Vec::new(alloc),
-        }
+/// No bytes. Takes no memory.
+pub fn empty<'a>(alloc: Global) -> Value<'a>
+    ensures { value_said result ≡ [] }
+{
+    Value {
+        pieces: Vec::new(alloc),
+        bytes: Vec::new(alloc),
     }
+}
 
-    /// Appends an element of so many bits, big-endian.
-    fn push_element(&mut self, bits: u32, element: u64) -> Result<(), AllocError>
-        requires width { IsWidth bits }
-        requires fits { element < 2 ^ bits }
-        ensures { OnOk result (value_said self.new ≡ value_said self.old ++ map one (to_be_bytes (width_of bits) element)) }
-    {
-        match bits {
-            8 => self.bytes.push(element as u8)?,
-            16 => self
-                .bytes
-                .extend_from_slice(&(element as u16).to_be_bytes())?,
-            32 => self
-                .bytes
-                .extend_from_slice(&(element as u32).to_be_bytes())?,
-            _ => self.bytes.extend_from_slice(&element.to_be_bytes())?,
-        }
-        Ok(())
+/// Appends an element of so many bits, big-endian.
+fn push_element(value: &mut Value<'_>, bits: u32, element: u64) -> Result<(), AllocError>
+    requires width { IsWidth bits }
+    requires fits { element < 2 ^ bits }
+    ensures { OnOk result (value_said value.new ≡ value_said value.old ++ map one (to_be_bytes (width_of bits) element)) }
+{
+    match bits {
+        8 => value.bytes.push(element as u8)?,
+        16 => value
+            .bytes
+            .extend_from_slice(&(element as u16).to_be_bytes())?,
+        32 => value
+            .bytes
+            .extend_from_slice(&(element as u32).to_be_bytes())?,
+        _ => value.bytes.extend_from_slice(&element.to_be_bytes())?,
     }
+    Ok(())
+}
 
-    /// Appends a byte.
-    fn push_byte(&mut self, byte: u8) -> Result<(), AllocError>
-        ensures { OnOk result (value_said self.new ≡ value_said self.old ++ one byte ∷ []) }
-    {
-        self.bytes.push(byte)?;
-        Ok(())
-    }
+/// Appends a byte.
+fn push_byte(value: &mut Value<'_>, byte: u8) -> Result<(), AllocError>
+    ensures { OnOk result (value_said value.new ≡ value_said value.old ++ one byte ∷ []) }
+{
+    value.bytes.push(byte)?;
+    Ok(())
+}
 
-    /// Appends the bytes of a text, with a NUL.
-    fn push_string(&mut self, token: &[u8]) -> Result<(), AllocError>
-        ensures { OnOk result (value_said self.new ≡ value_said self.old ++ map one (text_bytes token.now ++ 0 ∷ [])) }
-    {
-        push_text(token, &mut self.bytes)?;
-        self.bytes.push(0)?;
-        Ok(())
-    }
+/// Appends the bytes of a text, with a NUL.
+fn push_string(value: &mut Value<'_>, token: &[u8]) -> Result<(), AllocError>
+    ensures { OnOk result (value_said value.new ≡ value_said value.old ++ map one (text_bytes token.now ++ 0 ∷ [])) }
+{
+    push_text(token, &mut value.bytes)?;
+    value.bytes.push(0)?;
+    Ok(())
+}
 
-    /// Appends a reference.
-    fn push_reference(
-        &mut self,
-        alloc: Global,
-        form: Form,
-        reference: Reference<'a>,
-    ) -> Result<(), AllocError>
-        ensures { OnOk result (value_said self.new ≡ value_said self.old ++ referring form (reference_of reference.entry) ∷ []) }
-    {
-        let before = std::mem::replace(&mut self.bytes, Vec::new(alloc));
-        self.pieces.push(Piece {
-            before,
-            form,
-            reference,
-        })?;
-        Ok(())
-    }
+/// Appends a reference.
+fn push_reference<'a>(
+    value: &mut Value<'a>,
+    alloc: Global,
+    form: Form,
+    reference: Reference<'a>,
+) -> Result<(), AllocError>
+    ensures { OnOk result (value_said value.new ≡ value_said value.old ++ referring form (reference_of reference.entry) ∷ []) }
+{
+    let before = std::mem::replace(&mut value.bytes, Vec::new(alloc));
+    value.pieces.push(Piece {
+        before,
+        form,
+        reference,
+    })?;
+    Ok(())
 }
 
 /// The label that the next token is; `BadName` where it isn't one.
@@ -258,11 +257,11 @@ fn cells<'a>(
                     return Err(cursor.stop(FaultKind::BadReferenceWidth));
                 }
                 cursor.advance();
-                value.push_reference(alloc, Form::Cell, target)?;
+                push_reference(value, alloc, Form::Cell, target)?;
             }
             CellOpening::Number => {
                 let element = number(alloc, bits, cursor)?;
-                value.push_element(bits, element)?;
+                push_element(value, bits, element)?;
             }
             CellOpening::Nothing => return Ok(()),
         }
@@ -283,7 +282,7 @@ fn bytes<'a>(cursor: &mut Cursor<'a, '_>, value: &mut Value<'a>) -> Result<(), S
             }
             ByteOpening::Byte(byte) => {
                 cursor.advance();
-                value.push_byte(byte)?;
+                push_byte(value, byte)?;
             }
             ByteOpening::Nothing => return Ok(()),
         }
@@ -344,7 +343,7 @@ fn text<'a>(cursor: &mut Cursor<'a, '_>, value: &mut Value<'a>) -> Result<(), St
         × (value_said value.new ≡ value_said value.old ++ item_parts i)) }
     ensures err { IfErr result (λ stop. (a : Around) → IsBroken a OneItem cursor.old stop) }
 {
-    value.push_string(cursor.bytes())?;
+    push_string(value, cursor.bytes())?;
     cursor.advance();
     Ok(())
 }
@@ -374,7 +373,7 @@ fn path_text<'a>(
 {
     let target = reference(cursor)?;
     cursor.advance();
-    value.push_reference(alloc, Form::Text, target)?;
+    push_reference(value, alloc, Form::Text, target)?;
     Ok(())
 }
 
@@ -423,7 +422,7 @@ pub(crate) fn value<'a>(alloc: Global, cursor: &mut Cursor<'a, '_>) -> Result<Va
     ensures ok { IfOk result (λ v. (cs : List RawComponent) × ((a : Around) → IsRead a OneValue cursor.old (made_value cs) cursor.new) × (value_said v ≡ value_parts cs)) }
     ensures err { IfErr result (λ stop. (a : Around) → IsBroken a OneValue cursor.old stop) }
 {
-    let mut value = Value::new(alloc);
+    let mut value = empty(alloc);
     components(alloc, cursor, &mut value)?;
     Ok(value)
 }

@@ -9,8 +9,8 @@ use Rattle.dt_model.specs.Named.{NodeReference, Content, NamedForest, no_nodes, 
 use Rattle.dt_model.specs.NamedOf.{contents_of, asked_from, asked_in, RefersBelow, AreNamedNodes, IsNamed}
 use Rattle.dt_laws.proofs.NamedListed.{length-nodes}
 use Rattle.dt_flat.proofs.Distinctness.{all-append}
-use Rattle.dt_source.specs.Said.{node_said}
-use Rattle.dt_source.specs.declared.named.NamedNode.{NamedNode}
+use Rattle.dt_named.specs.Said.{node_said}
+use Rattle.dt_named.specs.declared.named.NamedNode.{NamedNode}
 use Rattle.dt_phandle.specs.declared.asked.Asked.{Asked}
 use Rattle.dt_phandle.specs.Asking.{asked_said, content_said}
 

@@ -3,4 +3,3 @@ pub mod Loading
 pub mod Pieces
 pub mod Performing
 pub mod Runs
-pub mod WordLemmas

@@ -16,8 +16,8 @@ use Rattle.dt_chain.proofs.Places.{memory_unplaced, blob_unplaced}
 use Rattle.dt_run.specs.Job.{IsWritten, TakesMemory, WhyNoBlob, WhyNotMade, WhyNotPerformed, encoded}
 use Rattle.dt_run.specs.Showing.{WhyNotShown}
 use Rattle.dt_run.specs.Telling.{WhyNotTold, no_blob, cut}
-use Rattle.dt_run.specs.declared.job.Job.{Job}
-use Rattle.dt_run.specs.declared.job.Job.TheVariants.{Compile, CompileRaw, Apply, Build, Print, Check}
+use Rattle.dt_words.specs.declared.command_line.Job.{Job}
+use Rattle.dt_words.specs.declared.command_line.Job.TheVariants.{Compile, CompileRaw, Apply, Build, Print, Check}
 use Rattle.dt_run.proofs.InputFaults.{IsOfInput, blob_not_applied, compiler_only, inside, text_not_built}
 
 -- ---- a fault of the first input

@@ -7,7 +7,7 @@ use Rattle.dt_names.proofs.Faults.{own_placeless, is_placeless}
 use Rattle.dt_run.specs.Files.{Tells, AreLoaded, WhyNotLoaded}
 use Rattle.dt_run.specs.Job.{WhyNotPerformed}
 use Rattle.dt_run.specs.Run.{WhyNotDone, WhyNotMadeOf, names_of, no_memory, unperformed, unloaded, unmade}
-use Rattle.dt_run.specs.declared.command_line.Line.{Line}
+use Rattle.dt_words.specs.declared.command_line.Line.{Line}
 
 -- what isn't made of inputs isn't made of the same texts
 pub unmade_of : {V : Type 0} (line : Line) (inputs texts : List (List ℕ)) (old new : Taken) (result : Result V (ℕ × Fault)) → inputs ≡ texts →

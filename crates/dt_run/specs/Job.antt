@@ -1,5 +1,5 @@
 -- What a job writes of its inputs, and why it doesn't.
-use Rattle.std.specs.Prelude.{◌≡◌, ◌≤◌, ◌<◌, ◌++◌, ◌∷◌, [], ℕ, List, Bool, Option, None, length, codes, decimal, if◌then◌else◌}
+use Rattle.std.specs.Prelude.{◌≡◌, ◌<◌, ◌++◌, ◌∷◌, [], ℕ, List, Bool, Option, None, length, codes, decimal, if◌then◌else◌}
 use Rattle.std.specs.List.{sum_by}
 use Rattle.hex.specs.Hex.{encode_lower}
 use Rattle.dt_model.specs.Source.{raw}
@@ -15,17 +15,8 @@ use Rattle.dt_chain.specs.Applied.{IsBlobApplied, WhyNoBlobApplied}
 use Rattle.dt_chain.specs.Blobs as blobs
 use Rattle.dt_chain.specs.Built.{IsBlobBuilt, WhyNoBlobBuilt}
 use Rattle.dt_chain.specs.Compiled.{IsCompiled, WhyNotCompiled, IsCompilerFault}
-use Rattle.dt_run.specs.declared.job.Job.{Job}
-use Rattle.dt_run.specs.declared.job.Job.TheVariants.{Compile, CompileRaw, Apply, Build, Print, Check}
-
--- a job takes so many inputs
-abbrev pub IsAsked : Job → ℕ → Type 0
-IsAsked Compile count = count ≡ 1
-IsAsked CompileRaw count = count ≡ 1
-IsAsked Apply count = 1 ≤ count
-IsAsked Build count = 1 ≤ count
-IsAsked Print count = count ≡ 1
-IsAsked Check count = count ≡ 1
+use Rattle.dt_words.specs.declared.command_line.Job.{Job}
+use Rattle.dt_words.specs.declared.command_line.Job.TheVariants.{Compile, CompileRaw, Apply, Build, Print, Check}
 
 -- how a blob is written: as it is, or as hexadecimal and a line feed
 abbrev pub encoded : Bool → List ℕ → List ℕ

@@ -1,9 +1,7 @@
 pub mod Files
 pub mod Job
-pub mod Asked
 pub mod Checking
 pub mod Showing
 pub mod Run
 pub mod Report
-pub mod Words
 pub mod Telling

@@ -9,9 +9,9 @@ use Rattle.dt_names.specs.declared.fault.FaultKind.TheVariants.{NoMemory}
 use Rattle.dt_run.specs.Files.{Tells, AreLoaded, WhyNotLoaded}
 use Rattle.dt_run.specs.Job.{IsWritten, WhyNotPerformed}
 use Rattle.dt_run.specs.Report.{fault_line}
-use Rattle.dt_run.specs.declared.command_line.Line.{Line}
-use Rattle.dt_run.specs.declared.words.LineFault.{LineFault}
-use Rattle.dt_run.specs.declared.words.LineFault.TheVariants.{Memory, Words}
+use Rattle.dt_words.specs.declared.command_line.Line.{Line}
+use Rattle.dt_words.specs.declared.words.LineFault.{LineFault}
+use Rattle.dt_words.specs.declared.words.LineFault.TheVariants.{Memory, Words}
 
 -- the names of a line's files
 abbrev pub names_of : Line → List (List ℕ)

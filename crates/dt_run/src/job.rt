@@ -2,31 +2,16 @@
 
 ghost use Rattle.std.specs.Prelude.{List, ℕ, length, map, OnOk, IfErr};
 ghost use Rattle.dt_names.specs.Sink.{Takes};
-ghost use Rattle.dt_run.specs.Job.{IsAsked, IsWritten, WhyNotPerformed};
+ghost use Rattle.dt_run.specs.Job.{IsWritten, WhyNotPerformed};
+ghost use Rattle.dt_words.specs.Asked.{IsAsked};
 
 use crate::checking::check;
 use crate::printing::print;
 use crate::showing::{of_first, show};
 use dt_chain::{apply_list, build, compile, compile_raw};
 use dt_names::{Fault, Sink};
+use dt_words::Job;
 use std::alloc::Global;
-
-/// What the tool can be asked for.
-#[derive(Clone, Copy, PartialEq, Eq)]
-pub enum Job {
-    /// A blob of one devicetree source: of a base, or of an overlay, which is its object.
-    Compile,
-    /// A blob of a source that is no overlay's, as it stands: bookkeeping nodes may be written, and nothing is added.
-    CompileRaw,
-    /// The blob of a base, which is the first input, with the objects of overlays applied, which are the others.
-    Apply,
-    /// The blob of a base's source, which is the first input, with the overlays of other sources applied.
-    Build,
-    /// The source of a blob.
-    Print,
-    /// A line that tells how many nodes, properties and reservations a blob has.
-    Check,
-}
 
 /// Does a job on its inputs, and writes what it makes: a blob as bytes, or with `hex` as lower-case hexadecimal and a
 /// line feed; or text, whatever `hex`.

@@ -3,7 +3,6 @@
 #![tactic(auto)]
 
 mod checking;
-mod command_line;
 mod files;
 mod job;
 mod printing;
@@ -12,12 +11,9 @@ mod reporting;
 mod running;
 mod showing;
 mod text;
-mod words;
 
-pub use command_line::Line;
 pub use files::{Files, SystemFiles, load_all};
-pub use job::{Job, perform};
+pub use job::perform;
 pub use prompt::Prompt;
 pub use reporting::report;
 pub use running::run;
-pub use words::{LineFault, line};

@@ -4,13 +4,12 @@ ghost use Rattle.std.specs.Prelude.{◌≡◌, OnOk, IfErr, length, map};
 ghost use Rattle.dt_run.specs.Run.{Ending, Ends, IsDone, IsMadeOf, IsReported, IsSaid, WhyNotDone, WhyNotMadeOf, faulty, names_of, no_command, status_of};
 ghost use Rattle.dt_run.specs.Report.{fault_line};
 
-use crate::command_line::Line;
 use crate::files::{Files, load_all, slices};
 use crate::job::perform;
 use crate::reporting::report;
-use crate::words::LineFault;
 use clap::Error;
 use dt_names::{Fault, FaultKind, Sink, put_all};
+use dt_words::{Line, LineFault};
 use std::alloc::Global;
 use std::fmt::Display;
 

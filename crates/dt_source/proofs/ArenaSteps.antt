@@ -1,18 +1,20 @@
 -- What is left of the names and the values for new fragments.
 use Rattle.std.proofs.Common.{◌≡◌, ℕ, zero, suc, ◌+◌, Bool, true, false, cond, List, [], ◌∷◌, map, length, drop, None, Some, slice_get, Result, Ok, Err, inl, inr, refl, sym, ◌∙◌, ap, subst, arith}
 use Rattle.std.specs.Global.{Vec}
+use Rattle.std.proofs.lemmas.List.{length-map}
 use Rattle.dt_model.specs.Names.{Name}
 use Rattle.dt_model.specs.Source.{Reference, Place, root, block, delete_node, child, label, property, delete_property, delete_child, close}
 use Rattle.dt_model.specs.OverlaySource.{root_children, fragment_name, free_from, OverlayRefusal, OverlaySoFar, read_overlay, and_if_read, read_overlays}
 use Rattle.dt_names.specs.declared.fault.Fault.{Fault}
-use Rattle.dt_parse.specs.Said.{value_said}
-use Rattle.dt_parse.specs.declared.source.Value.{Value}
+use Rattle.dt_items.specs.Said.{value_said}
+use Rattle.dt_items.specs.declared.source.Value.{Value}
 use Rattle.dt_source.specs.declared.arena.Arena.{Arena}
 use Rattle.dt_source.specs.declared.arena.Used.{Used}
 use Rattle.dt_source.specs.declared.reading.Reading.{Reading}
 use Rattle.dt_source.specs.Reading.{Holds}
 use Rattle.dt_source.specs.OverlayReading.{OverlayTells, OverlayGoesOn, IsNoBlock, free_number, target_value}
-use Rattle.dt_source.specs.Arena.{block_references, made_names, IsArena, IsLeft, GoesOnWith}
+use Rattle.dt_fragments.specs.FragmentNames.{made_names}
+use Rattle.dt_source.specs.Arena.{block_references, IsArena, IsLeft, GoesOnWith}
 
 -- what is behind some elements begins with one
 past : {A B : Type 0} (f : A → B) (xs : List A) (i : ℕ) (ys : List B) → drop (suc i) (map f xs) ≡ ys → drop (i + 1) (map f xs) ≡ ys
@@ -131,3 +133,7 @@ all_left places arena h = record {
   names = h.names ∙ ap (λ (k : ℕ). made_names (root_children None places) k 0) (let e : length (block_references places) ≡ length (block_references places) + 0 = omega arith in e);
   values = h.values;
 }
+
+-- there are as many values as blocks
+pub as_many : (values : List Value) (references : List Reference) → map value_said values ≡ map target_value references → length values ≡ length references
+as_many values references same = sym (length-map values value_said) ∙ (ap length same ∙ length-map references target_value)

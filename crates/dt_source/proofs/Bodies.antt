@@ -11,7 +11,8 @@ use Rattle.dt_model.proofs.EventSteps.{path_eq-is, bytes_eq-is, bytes_eq-refl}
 use Rattle.dt_source.specs.Shape.{Shape, node_at, Shows}
 use Rattle.dt_source.specs.Reading.{is_behind, IsBody, AreOpen, StandsFor}
 use Rattle.dt_source.specs.declared.reading.OpenBody.{OpenBody}
-use Rattle.dt_source.proofs.TableLemmas.{bool_cases, key_is, key-refl}
+use Rattle.dt_fragments.proofs.NamesMade.{bool_cases}
+use Rattle.dt_source.proofs.TableLemmas.{key_is, key-refl}
 use Rattle.dt_source.proofs.Numbering.{stands-after}
 
 abbrev pub View : Type 0

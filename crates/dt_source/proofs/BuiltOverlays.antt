@@ -27,7 +27,8 @@ use Rattle.dt_grammar.specs.Grammar.{Says}
 use Rattle.dt_source.specs.Arena.{all_overlay}
 use Rattle.dt_source.specs.Building.{MayBeWhole}
 use Rattle.dt_source.specs.Contents.{named_part, named_parts, all_read, read_values, IsLabelledPart, AreLabelled}
-use Rattle.dt_source.specs.Fragments.{AreOverlayNodes, WhyUnchecked, IsUnchecked}
+use Rattle.dt_fragments.specs.Fragments.{WhyUnchecked, IsUnchecked}
+use Rattle.dt_source.specs.Fragments.{AreOverlayNodes}
 use Rattle.dt_source.specs.Nodes.{AreNodesBy, HasUnread}
 use Rattle.dt_source.specs.OverlayReading.{OverlayTells}
 use Rattle.dt_source.specs.Refusals.{overlay_kind, overlay_fault_of, WhyNoOverlayRead, IsOverlayFaultOf, WhyNoOverlay, place_of}

@@ -13,15 +13,15 @@ use Rattle.dt_model.proofs.Tests.{in_append}
 use Rattle.dt_names.specs.declared.fault.Fault.{Fault}
 use Rattle.dt_names.specs.declared.fault.FaultKind.{FaultKind}
 use Rattle.dt_names.specs.declared.fault.FaultKind.TheVariants as fault
-use Rattle.dt_parse.specs.Said as source
+use Rattle.dt_items.specs.Said as source
 use Rattle.dt_source.specs.declared.growing.Property.{Property}
 use Rattle.dt_source.specs.declared.growing.Growing.{Growing}
-use Rattle.dt_source.specs.declared.named.NamedProperty.{NamedProperty}
-use Rattle.dt_source.specs.declared.named.NamedValue.{NamedValue}
-use Rattle.dt_source.specs.declared.named.NamedNode.{NamedNode}
+use Rattle.dt_named.specs.declared.named.NamedProperty.{NamedProperty}
+use Rattle.dt_named.specs.declared.named.NamedValue.{NamedValue}
+use Rattle.dt_named.specs.declared.named.NamedNode.{NamedNode}
 use Rattle.dt_source.specs.declared.listing.Row.{Row}
 use Rattle.dt_source.specs.declared.contents.Belongings.{Belongings}
-use Rattle.dt_source.specs.Said.{value_said, property_said, node_said}
+use Rattle.dt_named.specs.Said.{value_said, property_said, node_said}
 use Rattle.dt_source.specs.Owned.{group_of}
 use Rattle.dt_source.specs.Listing.{name_of, listed_row}
 use Rattle.dt_source.specs.declared.referring.Unnamed.{Unnamed}

@@ -19,7 +19,7 @@ use Rattle.dt_model.proofs.Cases.{map_some, then_some, some_there}
 use Rattle.dt_names.specs.declared.fault.Fault.{Fault}
 use Rattle.dt_names.specs.declared.fault.FaultKind.{FaultKind}
 use Rattle.dt_names.specs.declared.fault.FaultKind.TheVariants as fault
-use Rattle.dt_parse.specs.Said.{value_said}
+use Rattle.dt_items.specs.Said.{value_said}
 use Rattle.dt_source.specs.declared.growing.Node.{Node}
 use Rattle.dt_source.specs.declared.growing.Property.{Property}
 use Rattle.dt_source.specs.declared.growing.Growing.{Growing}

@@ -15,7 +15,7 @@ use Rattle.dt_model.specs.Named.{NodeReference, Content, NamedProperty, value_of
 use Rattle.dt_model.specs.Ordered.{ArePropertiesInOrder, AreLabelsInOrder}
 use Rattle.dt_model.proofs.Tests.{bytes_eq_true, bytes_eq_differ, each_from, in_map, in_map_from}
 use Rattle.dt_model.proofs.Cases.{map_some, some_there}
-use Rattle.dt_parse.specs.Said.{value_said}
+use Rattle.dt_items.specs.Said.{value_said}
 use Rattle.dt_source.specs.declared.growing.Node.{Node}
 use Rattle.dt_source.specs.declared.growing.Property.{Property}
 use Rattle.dt_source.specs.declared.growing.Giving.{Giving}

@@ -6,7 +6,7 @@ use Rattle.dt_model.specs.Limits.{most_names}
 use Rattle.dt_model.specs.Names.{Name}
 use Rattle.dt_model.specs.Event.{Stack, stands}
 use Rattle.dt_model.specs.Source.{Part, Events}
-use Rattle.dt_parse.specs.Said.{value_said}
+use Rattle.dt_items.specs.Said.{value_said}
 use Rattle.dt_source.specs.Shape.{node_at, place_at, given_at, Shows}
 use Rattle.dt_source.specs.Grown.{HasValue, HasLabel, IsGrown}
 use Rattle.dt_source.specs.Growing.{properties_listed, shape, IsSound}

@@ -6,7 +6,7 @@ use Rattle.std.proofs.lemmas.Option.{slice_get_within}
 use Rattle.std.proofs.lemmas.Bool.{eqb-true, eq-eqb}
 use Rattle.dt_model.specs.Names.{Name}
 use Rattle.dt_model.specs.Source.{Part}
-use Rattle.dt_parse.specs.Said.{value_said}
+use Rattle.dt_items.specs.Said.{value_said}
 use Rattle.dt_source.specs.Grown.{name_said}
 use Rattle.dt_source.specs.Table.{Key, entry, Puts, name_entry, PutsName}
 use Rattle.dt_source.specs.Shape.{Shape, begun, MakesRoot, AddsChild, OpensChild, Cuts, Defines, Undefines, Gives}
@@ -15,7 +15,8 @@ use Rattle.dt_source.specs.declared.table.Last.{Last}
 use Rattle.dt_source.specs.declared.growing.Node.{Node}
 use Rattle.dt_source.specs.declared.growing.Property.{Property}
 use Rattle.dt_source.specs.declared.growing.Giving.{Giving}
-use Rattle.dt_source.proofs.TableLemmas.{bool_cases, key_is, key-refl}
+use Rattle.dt_fragments.proofs.NamesMade.{bool_cases}
+use Rattle.dt_source.proofs.TableLemmas.{key_is, key-refl}
 use Rattle.dt_source.proofs.Walks.{option_cases}
 use Rattle.dt_source.proofs.Numbering.{begun-keeps, begun-not}
 use Rattle.dt_source.proofs.Listings.{found_none, found-added, found-dropped, found-kept, listed-push, listed-drop, listed-again, listed-written, slice_get-push_old, slice_get-push_new, slice_get-set_same, slice_get-set_other, length-set}

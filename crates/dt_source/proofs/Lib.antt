@@ -40,7 +40,4 @@ pub mod NewFragments
 pub mod OverlaySteps
 pub mod ArenaSteps
 pub mod BuiltOverlays
-pub mod NamesMade
-pub mod Marks
-pub mod FragmentSteps
 pub mod OverlayOutcomes

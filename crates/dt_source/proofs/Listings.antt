@@ -8,7 +8,8 @@ use Rattle.dt_model.specs.Names.{Name}
 use Rattle.dt_source.specs.Table.{Key, entry, Puts}
 use Rattle.dt_source.specs.Growing.{Listing, kept, found, IsIndexed, Adds, Drops, Keeps, listed}
 use Rattle.dt_source.specs.declared.table.Last.{Last}
-use Rattle.dt_source.proofs.TableLemmas.{bool_cases, key_is, key-refl}
+use Rattle.dt_fragments.proofs.NamesMade.{bool_cases}
+use Rattle.dt_source.proofs.TableLemmas.{key_is, key-refl}
 use Rattle.dt_source.proofs.Walks.{option_cases}
 
 -- what was found after a put was put there, or was found before

@@ -11,7 +11,7 @@ use Rattle.dt_model.proofs.EventSteps.{path_eq-refl}
 use Rattle.dt_source.specs.Shape.{node_at, IsForest, Shows, MakesRoot, AddsChild, OpensChild, Defines}
 use Rattle.dt_source.specs.Reading.{StandsFor}
 use Rattle.dt_source.specs.declared.reading.OpenBody.{OpenBody}
-use Rattle.dt_source.proofs.TableLemmas.{bool_cases}
+use Rattle.dt_fragments.proofs.NamesMade.{bool_cases}
 use Rattle.dt_source.proofs.Walks.{node_at-same, node_at-added, root_there}
 use Rattle.dt_source.proofs.Steps.{shows-root, shows-child, shows-again, shows-define}
 use Rattle.dt_source.proofs.Bodies.{View, AreShallow, none_open, unmarked, marked_before, outside-goes, shallow-opening, shallow-definition, enters_with}

@@ -8,8 +8,8 @@ use Rattle.dt_model.specs.Event.{Stack}
 use Rattle.dt_model.specs.Source.{by_label, Part, one, number_of, Place, block, property, base, Refusal, no_such_target, SoFar, labelled, enter, read, outside}
 use Rattle.dt_model.specs.OverlaySource.{fragment_name, is_overlay_part, open_fragment, OverlayRefusal, as_any, overlay_phandle, overlay_path, OverlaySoFar, with_next, read_overlay}
 use Rattle.dt_names.specs.declared.fault.Fault.{Fault}
-use Rattle.dt_parse.specs.declared.source.Piece.{Piece}
-use Rattle.dt_parse.specs.Said.{reference_of, referring, piece_parts, pieces_parts}
+use Rattle.dt_items.specs.declared.source.Piece.{Piece}
+use Rattle.dt_items.specs.Said.{reference_of, referring, piece_parts, pieces_parts}
 use Rattle.dt_source.specs.Reading.{GoesOn}
 use Rattle.dt_source.specs.Refusals.{Tells}
 use Rattle.dt_source.specs.OverlayReading.{OverlayTells, OverlayGoesOn, free_number}

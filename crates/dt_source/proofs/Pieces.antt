@@ -2,9 +2,9 @@
 use Rattle.std.proofs.Common.{◌≡◌, ℕ, List, [], ◌∷◌, ◌++◌, map, refl, sym, ap, ◌∙◌, append_assoc, append-nil}
 use Rattle.dt_model.specs.Meaning.{Item, byte, reference}
 use Rattle.dt_model.specs.Named.{NodeReference}
-use Rattle.dt_source.specs.declared.named.NamedPiece.{NamedPiece}
-use Rattle.dt_source.specs.declared.named.NamedValue.{NamedValue}
-use Rattle.dt_source.specs.Said.{reference_said, pieces_said, value_said}
+use Rattle.dt_named.specs.declared.named.NamedPiece.{NamedPiece}
+use Rattle.dt_named.specs.declared.named.NamedValue.{NamedValue}
+use Rattle.dt_named.specs.Said.{reference_said, pieces_said, value_said}
 
 pieces_said-push : (ps : List NamedPiece) (p : NamedPiece) → pieces_said (ps ++ p ∷ []) ≡ pieces_said ps ++ (map byte p.before.items ++ reference (reference_said p.reference) ∷ [])
 pieces_said-push [] p = refl

@@ -11,7 +11,7 @@ use Rattle.dt_source.specs.Growing.{shape, IsSound}
 use Rattle.dt_source.specs.Table.{name_entry}
 use Rattle.dt_source.specs.declared.growing.Giving.{Giving}
 use Rattle.dt_source.specs.declared.growing.Growing.{Growing}
-use Rattle.dt_source.proofs.TableLemmas.{bool_cases}
+use Rattle.dt_fragments.proofs.NamesMade.{bool_cases}
 use Rattle.dt_source.proofs.Walks.{option_cases, node_at_once}
 use Rattle.dt_source.proofs.Soundness.{forest}
 use Rattle.dt_source.proofs.Leading.{leads_to}

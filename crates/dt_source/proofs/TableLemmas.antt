@@ -5,6 +5,7 @@ use Rattle.std.specs.Map.{KeepsOthers}
 use Rattle.std.specs.Str.{bytes_eq}
 use Rattle.std.proofs.lemmas.Bool.{eqb-true, eq-eqb}
 use Rattle.std.proofs.lemmas.Slice.Eq.{bytes_eq-Decides}
+use Rattle.dt_fragments.proofs.NamesMade.{bool_cases}
 use Rattle.dt_model.proofs.EventSteps.{bytes_eq-refl}
 use Rattle.dt_model.specs.Names.{Name}
 use Rattle.dt_source.specs.Table.{Key, Puts, PutsName}
@@ -14,10 +15,6 @@ pub both : (a b : Bool) → (a && b) ≡ true → (a ≡ true) × (b ≡ true)
 both true true h = (refl, refl)
 both true false h = cc
 both false b h = cc
-
-pub bool_cases : (b : Bool) (P : Type 0) → (b ≡ true → P) → (b ≡ false → P) → P
-bool_cases true P f g = f refl
-bool_cases false P f g = g refl
 
 -- the test of a number and a name is passed by exactly one key's content
 pub key_is : (i j : ℕ) (x y : Name) → (nat_eq i j && bytes_eq x y) ≡ true → (i ≡ j) × (x ≡ y)

@@ -7,9 +7,9 @@ use Rattle.dt_model.specs.Named.{NodeReference}
 use Rattle.dt_names.specs.declared.fault.Fault.{Fault}
 use Rattle.dt_names.specs.declared.fault.FaultKind.{FaultKind}
 use Rattle.dt_names.specs.declared.fault.FaultKind.TheVariants as fault
-use Rattle.dt_parse.specs.declared.source.Piece.{Piece}
-use Rattle.dt_parse.specs.declared.source.Value.{Value}
-use Rattle.dt_parse.specs.Said.{piece_parts, pieces_parts, value_said}
+use Rattle.dt_items.specs.declared.source.Piece.{Piece}
+use Rattle.dt_items.specs.declared.source.Value.{Value}
+use Rattle.dt_items.specs.Said.{piece_parts, pieces_parts, value_said}
 use Rattle.dt_source.specs.declared.growing.Growing.{Growing}
 use Rattle.dt_source.specs.declared.referring.Unnamed.{Unnamed}
 use Rattle.dt_source.specs.Contents.{named_part, named_parts, all_read}

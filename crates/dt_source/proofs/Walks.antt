@@ -9,7 +9,8 @@ use Rattle.dt_model.specs.Path.{path_eq}
 use Rattle.dt_model.specs.Event.{Stack, is_within}
 use Rattle.dt_model.proofs.EventSteps.{path_eq-is, path_eq-refl}
 use Rattle.dt_source.specs.Shape.{Shape, root_of, node_at, IsForest, MakesRoot, AddsChild, Cuts}
-use Rattle.dt_source.proofs.TableLemmas.{bool_cases, key_is, key-refl}
+use Rattle.dt_fragments.proofs.NamesMade.{bool_cases}
+use Rattle.dt_source.proofs.TableLemmas.{key_is, key-refl}
 
 pub root_is : (n i : ℕ) → root_of n ≡ Some i → (i ≡ 0) × (0 < n)
 root_is n i h = bool_cases (nat_eq n 0) _ (λ yes. let e : cond true None (Some 0) ≡ Some i = rw yes at h in cc)

@@ -5,8 +5,8 @@ use Rattle.std.specs.Option.{option_and_then}
 use Rattle.dt_model.specs.Names.{Name}
 use Rattle.dt_model.specs.Event.{Stack, Event, opens, takes, gives, defines, drops, age_by, age, property_age, label_age}
 use Rattle.dt_model.specs.Source.{Mode, Place, Refusal, SoFar, nothing, read, and_if_read, read_all}
-use Rattle.dt_parse.specs.Said.{place_said}
-use Rattle.dt_parse.specs.declared.source.Item.{Item}
+use Rattle.dt_items.specs.Said.{place_said}
+use Rattle.dt_items.specs.declared.source.Item.{Item}
 use Rattle.std.proofs.lemmas.List.{take_more, map-append, take-append-drop}
 use Rattle.dt_names.specs.declared.fault.Fault.{Fault}
 use Rattle.dt_source.specs.Shape.{AreAged, node_at, place_at, given_at, Shows}

@@ -2,11 +2,11 @@
 use Rattle.std.proofs.Common.{◌≡◌, ℕ, ◌<◌, List, [], ◌∷◌, ◌++◌, map, length, None, refl, ap, ◌∙◌, arith, append_assoc}
 use Rattle.dt_model.specs.Source.{Part, one, number_of, text_of, written}
 use Rattle.dt_model.specs.Source as model
-use Rattle.dt_parse.specs.declared.source.Form.{Form}
-use Rattle.dt_parse.specs.declared.source.Form.TheVariants as form
-use Rattle.dt_parse.specs.declared.source.Piece.{Piece}
-use Rattle.dt_parse.specs.declared.source.Value.{Value}
-use Rattle.dt_parse.specs.Said.{referring, reference_of, piece_parts, pieces_parts, value_said}
+use Rattle.dt_items.specs.declared.source.Form.{Form}
+use Rattle.dt_items.specs.declared.source.Form.TheVariants as form
+use Rattle.dt_items.specs.declared.source.Piece.{Piece}
+use Rattle.dt_items.specs.declared.source.Value.{Value}
+use Rattle.dt_items.specs.Said.{referring, reference_of, piece_parts, pieces_parts, value_said}
 
 -- a value with a reference writes none
 unwritten_behind : (bs : List ℕ) (f : Form) (r : model.Reference) (rest : List Part) → written (map one bs ++ referring f r ∷ rest) ≡ None

@@ -5,7 +5,8 @@ use Rattle.dt_model.specs.Names.{Name}
 use Rattle.dt_model.specs.Source.{Reference, Place, root, block, delete_node, child, label, property, delete_property, delete_child, close}
 use Rattle.dt_model.specs.OverlaySource.{root_children, fragment_name, free_from, OverlayRefusal, OverlaySoFar, read_overlay, read_overlays, overlay_start}
 use Rattle.dt_names.specs.declared.fault.Fault.{Fault}
-use Rattle.dt_parse.specs.Said.{value_said}
+use Rattle.dt_items.specs.Said.{value_said}
+use Rattle.dt_fragments.specs.FragmentNames.{made_names, texts}
 use Rattle.dt_source.specs.OverlayReading.{OverlayTells, target_value}
 use Rattle.dt_source.specs.Reading.{Holds}
 use Rattle.dt_source.specs.declared.arena.Arena.{Arena}
@@ -24,15 +25,6 @@ block_references (property n v ∷ places) = block_references places
 block_references (delete_property n ∷ places) = block_references places
 block_references (delete_child n ∷ places) = block_references places
 block_references (close ∷ places) = block_references places
-
--- the names that so many new fragments get from a number on
-abbrev pub made_names : List Name → (count next : ℕ) → List Name
-made_names written zero next = []
-made_names written (suc count) next =
-    fragment_name (free_from written (length written) next) ∷ made_names written count (free_from written (length written) next + 1)
-
-abbrev pub texts : List (Vec ℕ) → List Name
-texts names = map (λ (v : Vec ℕ). v.items) names
 
 -- there is a name for each block, in the order in which new fragments get them, and a value
 pub record IsArena (places : List Place) (arena : Arena) : Type 0 where

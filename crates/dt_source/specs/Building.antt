@@ -6,7 +6,7 @@ use Rattle.dt_model.specs.NamedOf.{IsNamed, IsNamedOf}
 use Rattle.dt_model.specs.Source.{Place, Mode, SoFar, nothing, read_all}
 use Rattle.dt_grammar.specs.Grammar.{Says}
 use Rattle.dt_source.specs.Nodes.{AreNodesAfter}
-use Rattle.dt_source.specs.Said.{IsTree}
+use Rattle.dt_named.specs.Said.{IsTree}
 
 -- the places are all read, and the nodes are those of a tree that has what stands after them
 pub record AreNodesOf (mode : Mode) (places : List Place) (ns : List (Listed NodeReference)) : Type 0 where

@@ -9,7 +9,7 @@ use Rattle.dt_model.specs.Event.{Stack, value_at}
 use Rattle.dt_model.specs.Overlay.{ReferenceBy, inside, outside, OverlayReference}
 use Rattle.dt_model.specs.Source.{Part, one, number_of, text_of, Reference, by_label, by_path, Events, referent}
 use Rattle.dt_model.specs.Named.{NodeReference, Content, NamedProperty}
-use Rattle.dt_parse.specs.Said.{value_said}
+use Rattle.dt_items.specs.Said.{value_said}
 use Rattle.dt_source.specs.declared.growing.Node.{Node}
 use Rattle.dt_source.specs.declared.growing.Property.{Property}
 use Rattle.dt_source.specs.declared.growing.Giving.{Giving}

@@ -6,7 +6,7 @@ use Rattle.std.specs.Str.{bytes_eq}
 use Rattle.dt_model.specs.Names.{Name}
 use Rattle.dt_model.specs.Event.{Stack}
 use Rattle.dt_model.specs.Source.{Part}
-use Rattle.dt_parse.specs.Said.{value_said}
+use Rattle.dt_items.specs.Said.{value_said}
 use Rattle.dt_source.specs.Grown.{AreAbove, name_said}
 use Rattle.dt_source.specs.Shape.{Shape, node_at}
 use Rattle.dt_source.specs.Table.{Key, entry, name_entry}

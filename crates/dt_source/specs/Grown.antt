@@ -4,7 +4,7 @@ use Rattle.dt_model.specs.Limits.{most_names}
 use Rattle.dt_model.specs.Names.{Name}
 use Rattle.dt_model.specs.Event.{Stack, stands, value_at, names, age, property_age, label_age}
 use Rattle.dt_model.specs.Source.{Part, Events}
-use Rattle.dt_parse.specs.Said.{value_said}
+use Rattle.dt_items.specs.Said.{value_said}
 use Rattle.dt_source.specs.declared.growing.NameText.{NameText}
 use Rattle.dt_source.specs.declared.growing.NameText.TheVariants.{Written, Made}
 use Rattle.dt_source.specs.declared.growing.Node.{Node}

@@ -1,4 +1,3 @@
-pub mod Said
 pub mod Grown
 pub mod Growing
 pub mod Table
@@ -15,4 +14,3 @@ pub mod Building
 pub mod OverlayReading
 pub mod Arena
 pub mod Fragments
-pub mod FragmentNames

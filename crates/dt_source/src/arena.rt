@@ -3,13 +3,13 @@
 ghost use Rattle.std.specs.Prelude.{◌≡◌, ◌∷◌, [], map, IfOk};
 ghost use Rattle.dt_model.specs.Path.{path_value};
 ghost use Rattle.dt_model.specs.Source.{by_label, number_of, one};
-ghost use Rattle.dt_parse.specs.Said.{place_said, reference_of, value_said};
+ghost use Rattle.dt_items.specs.Said.{place_said, reference_of, value_said};
 ghost use Rattle.dt_source.specs.Arena.{block_references, IsArena};
 ghost use Rattle.dt_source.specs.OverlayReading.{target_value};
 
-use crate::fragment_names::fragment_names;
+use dt_fragments::fragment_names;
+use dt_items::{Form, Item, Piece, Reference, Value};
 use dt_names::{Label, NodePath};
-use dt_parse::{Form, Item, Piece, Reference, Value};
 use std::alloc::{AllocError, Global};
 
 /// Names for new fragments, in the order in which they get them, and what the target of each block holds.

@@ -4,19 +4,19 @@ ghost use Rattle.std.specs.Prelude.{◌≡◌, ◌<◌, None, map, length, IfOk,
 ghost use Rattle.dt_model.specs.Limits.{most_nodes};
 ghost use Rattle.dt_model.specs.Named.{tree_of};
 ghost use Rattle.dt_names.specs.declared.fault.FaultKind.TheVariants.{Limit};
-ghost use Rattle.dt_parse.specs.Said.{place_said, reservation_said};
+ghost use Rattle.dt_items.specs.Said.{place_said, reservation_said};
 ghost use Rattle.dt_source.specs.Building.{AreNodesOf, MayBeWhole, HasTree};
 ghost use Rattle.dt_source.specs.Refusals.{mode_said, WhyNotNamed, WhyNotRead, place_of};
-ghost use Rattle.dt_source.specs.Said.{IsTree, list_said, node_said};
+ghost use Rattle.dt_named.specs.Said.{IsTree, list_said, node_said};
 
-use crate::named::{NamedNode, NamedTree};
 use crate::nodes::named_nodes;
 use crate::reading::{Mode, grow};
+use dt_items::{Item, Reservation, Source};
 use dt_laws::{list_is_of_its_tree, many_stand, meant_is_named, root_stands};
 use dt_model::nested_places;
+use dt_named::{NamedNode, NamedTree};
 use dt_names::limits::MOST_NODES;
 use dt_names::{Fault, FaultKind};
-use dt_parse::{Item, Reservation, Source};
 use std::alloc::{AllocError, Global};
 
 // The nodes of a source's items.

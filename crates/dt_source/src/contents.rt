@@ -4,7 +4,7 @@ ghost use Rattle.std.specs.Prelude.{◌≡◌, ℕ, ◌<◌, ◌∷◌, [], leng
 ghost use Rattle.std.specs.Cow.{cow_slice_items};
 ghost use Rattle.dt_model.specs.Lists.{IsIn};
 ghost use Rattle.dt_source.specs.Grown.{name_said};
-ghost use Rattle.dt_source.specs.Said.{property_said, node_said};
+ghost use Rattle.dt_named.specs.Said.{property_said, node_said};
 ghost use Rattle.dt_source.specs.Growing.{IsSound};
 ghost use Rattle.dt_source.specs.Owned.{group_of, AreOwned};
 ghost use Rattle.dt_source.specs.Listing.{name_of, AreNumbers};
@@ -14,9 +14,9 @@ ghost use Rattle.dt_source.specs.Resolving.{EachNaming, IsUnreadAmong, IsPropert
 use crate::groups::Groups;
 use crate::growing::{Giving, Growing, NameText, Node, Property};
 use crate::listing::{Row, numbers};
-use crate::named::{NamedNode, NamedProperty};
 use crate::referring::Unnamed;
 use crate::values::named_value;
+use dt_named::{NamedNode, NamedProperty};
 use dt_names::Fault;
 use std::alloc::{AllocError, Global};
 use std::borrow::CowSlice;

@@ -2,13 +2,13 @@
 
 ghost use Rattle.std.specs.Prelude.{◌≡◌, ◌<◌, ◌⊎◌, [], true, length, slice_set, Some, None, IfOk, OnOk};
 ghost use Rattle.dt_model.specs.Event.{Stack};
-ghost use Rattle.dt_parse.specs.Said.{value_said};
+ghost use Rattle.dt_items.specs.Said.{value_said};
 ghost use Rattle.dt_source.specs.Shape.{given_at, MakesRoot, AddsChild, OpensChild, Cuts, Defines, Undefines, Gives};
 ghost use Rattle.dt_source.specs.Grown.{name_said};
 ghost use Rattle.dt_source.specs.Growing.{shape, nodes_listed, properties_listed, IsSound};
 
 use crate::table::{Last, NameTable, Table};
-use dt_parse::Value;
+use dt_items::Value;
 use std::alloc::{AllocError, Global};
 
 /// The name of a node: as it is written in the text, or made for a new fragment.

@@ -1,7 +1,7 @@
 //! The nodes of the named tree that a tree under construction stands for.
 
 ghost use Rattle.std.specs.Prelude.{◌≡◌, [], length, map, MatchResult};
-ghost use Rattle.dt_source.specs.Said.{node_said};
+ghost use Rattle.dt_named.specs.Said.{node_said};
 ghost use Rattle.dt_source.specs.Growing.{IsSound};
 ghost use Rattle.dt_source.specs.Listing.{AreRows, AreNumbers};
 ghost use Rattle.dt_source.specs.Resolving.{Belong};
@@ -10,9 +10,9 @@ ghost use Rattle.dt_source.specs.Nodes.{AreFilled, IsUnfilled, AreListed, IsUnli
 use crate::contents::{Belongings, add_nodes};
 use crate::growing::Growing;
 use crate::listing::{Row, rows};
-use crate::named::NamedNode;
 use crate::phandles::check_phandles;
 use crate::referring::Unnamed;
+use dt_named::NamedNode;
 use dt_names::Fault;
 use std::alloc::{AllocError, Global};
 

@@ -4,7 +4,7 @@ ghost use Rattle.std.specs.Prelude.{◌≡◌, ◌≤◌, ◌<◌, ◌+◌, ◌^
 ghost use Rattle.std.specs.List.{list_any};
 ghost use Rattle.dt_model.specs.OverlaySource.{OverlaySoFar, is_overlay_part, overlay_start};
 ghost use Rattle.dt_model.specs.Source.{block, property, by_label, nothing};
-ghost use Rattle.dt_parse.specs.Said.{place_said, reference_of, referring, value_said};
+ghost use Rattle.dt_items.specs.Said.{place_said, reference_of, referring, value_said};
 ghost use Rattle.dt_source.specs.Arena.{IsArena, IsSomeLeft, ItemFollows, all_overlay};
 ghost use Rattle.dt_source.specs.Grown.{IsGrown};
 ghost use Rattle.dt_source.specs.Growing.{IsSound};
@@ -14,8 +14,8 @@ ghost use Rattle.dt_source.specs.OverlayReading.{OverlayFollows, OverlayTells, B
 use crate::arena::{Arena, Used};
 use crate::growing::Growing;
 use crate::reading::{Mode, Reading};
+use dt_items::{Form, Item, Piece, Reference, Value};
 use dt_names::{Fault, FaultKind};
-use dt_parse::{Form, Item, Piece, Reference, Value};
 use std::alloc::{AllocError, Global};
 
 /// Whether a piece ends with a reference by a label in a cell list.

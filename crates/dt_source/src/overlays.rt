@@ -7,25 +7,25 @@ ghost use Rattle.dt_model.specs.Named.{tree_of};
 ghost use Rattle.dt_model.specs.NamedOverlay.{IsNamedOverlayOf};
 ghost use Rattle.dt_model.specs.Source.{IsPlace};
 ghost use Rattle.dt_names.specs.declared.fault.FaultKind.TheVariants.{Limit};
-ghost use Rattle.dt_parse.specs.Said.{place_said};
+ghost use Rattle.dt_items.specs.Said.{place_said};
 ghost use Rattle.dt_source.specs.Building.{MayBeWhole};
-ghost use Rattle.dt_source.specs.Fragments.{ListedOverlay, AreOverlayNodes, fragment_said};
+ghost use Rattle.dt_fragments.specs.Fragments.{fragment_said};
+ghost use Rattle.dt_source.specs.Fragments.{ListedOverlay, AreOverlayNodes};
 ghost use Rattle.dt_source.specs.Refusals.{WhyNoOverlay, WhyNoOverlayRead, place_of};
-ghost use Rattle.dt_source.specs.Said.{IsTree, list_said, node_said};
+ghost use Rattle.dt_named.specs.Said.{IsTree, list_said, node_said};
 
 use crate::arena::Arena;
-use crate::brought::checked_fragments;
 use crate::building::whole;
-use crate::fragments::Fragment;
-use crate::named::{NamedNode, NamedTree};
 use crate::nodes::overlay_nodes;
 use crate::overlaying::grow_overlay;
+use dt_fragments::{Fragment, checked_fragments};
+use dt_items::{Item, Source};
 use dt_laws::{
     checked_overlay_is_meant, list_is_of_its_tree, nodes_are_behind, overlay_is_named,
     overlay_is_placed, overlay_nodes_are_shallow, overlay_values_are_plain,
 };
+use dt_named::{NamedNode, NamedTree};
 use dt_names::{Fault, FaultKind};
-use dt_parse::{Item, Source};
 use std::alloc::Global;
 use std::marker::Model;
 
@@ -38,7 +38,8 @@ pub struct NamedOverlay<'a> {
 
 impl<'a> Model for NamedOverlay<'a> {
     ghost use Rattle.std.specs.Prelude.{map};
-    ghost use Rattle.dt_source.specs.Fragments.{ListedOverlay, fragment_said};
+    ghost use Rattle.dt_fragments.specs.Fragments.{fragment_said};
+    ghost use Rattle.dt_source.specs.Fragments.{ListedOverlay};
 
     ghost Value = { ListedOverlay };
 

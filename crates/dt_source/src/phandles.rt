@@ -3,12 +3,12 @@
 ghost use Rattle.std.specs.Prelude.{◌≡◌, ℕ, false, OnOk, IfOk, MatchResult, not, nat_eq, ◌||◌};
 ghost use Rattle.std.specs.Option.{option_map_or};
 ghost use Rattle.dt_model.specs.Source.{written};
-ghost use Rattle.dt_parse.specs.Said.{value_said};
+ghost use Rattle.dt_items.specs.Said.{value_said};
 ghost use Rattle.dt_source.specs.Phandles.{is_numbered, is_phandle, is_unwritten, number_written, has, AreWritten, AreOwn, WhyNotWritten, WhyNotOwn, WhyNotNumbered};
 
 use crate::growing::Property;
+use dt_items::Value;
 use dt_names::{Fault, FaultKind, phandle_of};
-use dt_parse::Value;
 use std::alloc::{AllocError, Global};
 use std::collections::HashSet;
 

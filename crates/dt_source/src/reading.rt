@@ -5,7 +5,7 @@ ghost use Rattle.dt_model.specs.Event.{Stack};
 ghost use Rattle.dt_model.specs.Source.{SoFar, root, block, delete_node, child, property, delete_property, delete_child, close, is_reserved, nothing, read, read_all};
 ghost use Rattle.dt_model.specs.Source as model;
 ghost use Rattle.dt_names.specs.declared.fault.FaultKind.TheVariants.{Syntax};
-ghost use Rattle.dt_parse.specs.Said.{place_said, reference_of, value_said};
+ghost use Rattle.dt_items.specs.Said.{place_said, reference_of, value_said};
 ghost use Rattle.dt_source.specs.Grown.{Leads, IsGrown};
 ghost use Rattle.dt_source.specs.Growing.{IsSound};
 ghost use Rattle.dt_model.specs.OverlaySource.{open_fragment};
@@ -13,9 +13,9 @@ ghost use Rattle.dt_source.specs.Reading.{is_behind, Does, Follows, GoesOn, HasT
 ghost use Rattle.dt_source.specs.Refusals.{mode_said, Tells, WhyNotGrown};
 
 use crate::growing::{Growing, NameText};
+use dt_items::{Item, Reference, Value};
 use dt_names::limits::MOST_NAMES;
 use dt_names::{Fault, FaultKind, is_bookkeeping_name};
-use dt_parse::{Item, Reference, Value};
 use std::alloc::{AllocError, Global};
 
 /// Of what kind a source is.

@@ -3,14 +3,14 @@
 ghost use Rattle.std.specs.Prelude.{◌≡◌, ◌<◌, ℕ, reverse, length, None, Some, IfSome, IfNone, MatchOption};
 ghost use Rattle.dt_model.specs.Event.{Stack};
 ghost use Rattle.dt_model.specs.Source.{Events, labelled, referent};
-ghost use Rattle.dt_parse.specs.Said.{reference_of};
+ghost use Rattle.dt_items.specs.Said.{reference_of};
 ghost use Rattle.dt_source.specs.Grown.{Leads, IsGrown};
 ghost use Rattle.dt_source.specs.Growing.{shape, IsSound};
 ghost use Rattle.dt_source.specs.Shape.{given_at};
 
 use crate::growing::Growing;
+use dt_items::Reference;
 use dt_names::NodePath;
-use dt_parse::Reference;
 
 /// How a cell's reference by a label that names no node is read.
 #[derive(Clone, Copy)]

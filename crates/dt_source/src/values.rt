@@ -5,19 +5,19 @@ ghost use Rattle.dt_model.specs.Path.{path_text, path_value};
 ghost use Rattle.dt_model.specs.Meaning.{byte, reference};
 ghost use Rattle.dt_model.specs.Event.{Stack};
 ghost use Rattle.dt_model.specs.Source.{Events, number_of, text_of};
-ghost use Rattle.dt_parse.specs.Said.{reference_of, referring, piece_parts};
-ghost use Rattle.dt_parse.specs.Said as source_said;
-ghost use Rattle.dt_source.specs.Said.{reference_said, value_said};
+ghost use Rattle.dt_items.specs.Said.{reference_of, referring, piece_parts};
+ghost use Rattle.dt_items.specs.Said as source_said;
+ghost use Rattle.dt_named.specs.Said.{reference_said, value_said};
 ghost use Rattle.dt_source.specs.Grown.{AreAbove, Leads};
 ghost use Rattle.dt_source.specs.Growing.{IsSound};
 ghost use Rattle.dt_source.specs.Contents.{names_text, kept_label, named_cell, named_part, named_parts};
 ghost use Rattle.dt_source.specs.Resolving.{IsOf, EachNaming, IsAdded, IsUnread};
 
 use crate::growing::{Growing, Node};
-use crate::named::{NamedPiece, NamedReference, NamedValue};
 use crate::referring::Unnamed;
+use dt_items::{Form, Piece, Reference, Value};
+use dt_named::{NamedPiece, NamedReference, NamedValue};
 use dt_names::{Fault, FaultKind};
-use dt_parse::{Form, Piece, Reference, Value};
 use std::alloc::{AllocError, Global};
 use std::mem;
 

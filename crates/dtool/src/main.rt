@@ -12,7 +12,8 @@
 mod tests;
 
 use dt_names::Out;
-use dt_run::{LineFault, Prompt, SystemFiles, line, run};
+use dt_run::{Prompt, SystemFiles, run};
+use dt_words::{LineFault, line};
 use std::io::ErrorKind;
 use std::process::ExitCode;
 use std::{env, io};

@@ -2,11 +2,12 @@
 //! function that borrows what is large, since a test that fails lets go of all that it holds.
 
 ghost use Rattle.std.specs.Prelude.{⊤, length};
-ghost use Rattle.dt_run.specs.Job.{IsAsked};
+ghost use Rattle.dt_words.specs.Asked.{IsAsked};
 
 use dt_chain::read_all;
 use dt_names::{Fault, FaultKind, Feed, In, Out, Path, Sink, put_all};
-use dt_run::{Files, Job, LineFault, Prompt, SystemFiles, line, load_all, perform, report, run};
+use dt_run::{Files, Prompt, SystemFiles, load_all, perform, report, run};
+use dt_words::{Job, LineFault, line};
 use hex::decode;
 use std::alloc::Global;
 use std::fs;

@@ -36,7 +36,7 @@ returns-in-End-clause-ok c =
     let e : behind_of (kind_at (first c.args.cursor.now)) ≡ behind.End = sym (c.behind_of.ensures ∙ ap behind_of c.kind.ensures) ∙ c.in-End.is in (
       [],
       tt,
-      c.new.ensures,
+      c.empty.ensures,
       subst (λ (x : Words). length x < length c.args.cursor.now) (sym c.advance.ensures) (flag_shorter c.args.cursor.now e),
       λ ls n. subst (λ (x : Words). Descends (AfterName ls n) c.args.cursor.now (found (made_places (raw_property ls n [] ∷ [])) x)) (sym c.advance.ensures) (flag_read ls n c.args.cursor.now e),
     )

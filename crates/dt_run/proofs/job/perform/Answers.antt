@@ -1,8 +1,9 @@
 use Rattle.std.proofs.Common.{◌≡◌, ◌≤◌, ◌-◌, ℕ, List, ◌∷◌, [], length, map, take, drop, get_or, subst, arith, Bor}
 use Rattle.dt_names.specs.Sink.{Takes}
-use Rattle.dt_run.specs.Job.{IsAsked, IsCounted, IsPrinted, WhyNotPerformed}
-use Rattle.dt_run.specs.declared.job.Job.{Job}
-use Rattle.dt_run.specs.declared.job.Job.TheVariants.{Compile, CompileRaw, Apply, Build, Print, Check}
+use Rattle.dt_run.specs.Job.{IsCounted, IsPrinted, WhyNotPerformed}
+use Rattle.dt_words.specs.Asked.{IsAsked}
+use Rattle.dt_words.specs.declared.command_line.Job.{Job}
+use Rattle.dt_words.specs.declared.command_line.Job.TheVariants.{Compile, CompileRaw, Apply, Build, Print, Check}
 use Rattle.dt_run.proofs.Performing.{applied, blob_refused, blob_written, built, compiled, compiled_raw, first_and_others, first_done, first_refused, not_applied, not_built, not_compiled, not_compiled_raw, not_told, only_first}
 use Rattle.std.proofs.lemmas.Result.{IfErr-weaker}
 use Rattle.dt_run.proofs.job.perform.Goals as goal

@@ -1,6 +1,6 @@
 -- The values so far, and those that are left.
 use Rattle.std.proofs.Common.{◌≡◌, ◌++◌, map, drop}
-use Rattle.dt_parse.specs.Said.{place_said, value_said}
+use Rattle.dt_items.specs.Said.{place_said, value_said}
 use Rattle.dt_source.specs.Arena.{block_references}
 use Rattle.dt_source.specs.OverlayReading.{target_value}
 use Rattle.dt_source.proofs.arena.targets.Given as goal

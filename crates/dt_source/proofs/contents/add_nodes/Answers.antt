@@ -3,7 +3,7 @@ use Rattle.std.proofs.lemmas.Result.{err_from_is_err_and}
 use Rattle.std.proofs.lemmas.List.{take_all}
 use Rattle.dt_source.specs.declared.listing.Row.{Row}
 use Rattle.dt_source.specs.Owned.{group_of}
-use Rattle.dt_source.specs.Said.{node_said}
+use Rattle.dt_named.specs.Said.{node_said}
 use Rattle.dt_source.specs.Resolving.{EachNaming, AreRowsRead}
 use Rattle.dt_source.proofs.ContentSteps.{rows_more, unread_row, unread_for_memory}
 use Rattle.dt_source.proofs.contents.add_nodes.Goals as goal

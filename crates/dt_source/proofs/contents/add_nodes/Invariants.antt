@@ -1,5 +1,5 @@
 use Rattle.std.proofs.Common.{map, take}
-use Rattle.dt_source.specs.Said.{node_said}
+use Rattle.dt_named.specs.Said.{node_said}
 use Rattle.dt_source.specs.Resolving.{EachNaming, AreRowsRead}
 use Rattle.dt_source.proofs.contents.add_nodes.Given as goal
 

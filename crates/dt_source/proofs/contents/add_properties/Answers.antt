@@ -1,7 +1,7 @@
 use Rattle.std.proofs.Common.{◌≡◌, ℕ, List, map, take, get_or, subst}
 use Rattle.std.proofs.lemmas.Result.{err_from_is_err_and}
 use Rattle.std.proofs.lemmas.List.{take_all}
-use Rattle.dt_source.specs.Said.{property_said}
+use Rattle.dt_named.specs.Said.{property_said}
 use Rattle.dt_source.specs.Resolving.{EachNaming, ArePropertiesRead}
 use Rattle.dt_source.proofs.ContentSteps.{in_read, unread_among, properties_more}
 use Rattle.dt_source.proofs.contents.add_properties.Goals as goal

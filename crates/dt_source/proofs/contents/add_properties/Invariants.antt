@@ -1,5 +1,5 @@
 use Rattle.std.proofs.Common.{map, take}
-use Rattle.dt_source.specs.Said.{property_said}
+use Rattle.dt_named.specs.Said.{property_said}
 use Rattle.dt_source.specs.Resolving.{EachNaming, ArePropertiesRead}
 use Rattle.dt_source.proofs.contents.add_properties.Given as goal
 

@@ -3,8 +3,8 @@ use Rattle.std.specs.Cow.{cow_slice_items}
 use Rattle.dt_model.specs.Lists.{IsIn}
 use Rattle.dt_source.specs.declared.growing.Giving.{Giving}
 use Rattle.dt_source.specs.declared.growing.Node.{Node}
-use Rattle.dt_source.specs.declared.named.NamedNode.{NamedNode}
-use Rattle.dt_source.specs.Said.{property_said}
+use Rattle.dt_named.specs.declared.named.NamedNode.{NamedNode}
+use Rattle.dt_named.specs.Said.{property_said}
 use Rattle.dt_source.specs.Owned.{group_of}
 use Rattle.dt_source.specs.Listing.{name_of}
 use Rattle.dt_source.specs.Resolving.{EachNaming, ArePropertiesRead}

@@ -1,6 +1,6 @@
 use Rattle.std.proofs.Common.{ℕ, Option, List, map, inr, subst}
 use Rattle.dt_source.specs.declared.growing.Property.{Property}
-use Rattle.dt_source.specs.Said.{node_said}
+use Rattle.dt_named.specs.Said.{node_said}
 use Rattle.dt_source.specs.Phandles.{AreWritten, AreOwn, WhyNotNumbered}
 use Rattle.dt_source.specs.Nodes.{AreFilled, IsUnfilled}
 use Rattle.dt_source.proofs.ValueSteps.{result_map}

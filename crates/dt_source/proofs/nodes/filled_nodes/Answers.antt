@@ -1,6 +1,6 @@
 use Rattle.std.proofs.Common.{map}
 use Rattle.std.proofs.lemmas.Result.{err_from_is_err_and}
-use Rattle.dt_source.specs.Said.{node_said}
+use Rattle.dt_named.specs.Said.{node_said}
 use Rattle.dt_source.proofs.Ending.{listed_after, unlisted_after, unplaced}
 use Rattle.dt_source.proofs.nodes.filled_nodes.Goals as goal
 

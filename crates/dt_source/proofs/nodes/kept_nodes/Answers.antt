@@ -1,7 +1,7 @@
 use Rattle.std.proofs.Common.{map}
 use Rattle.std.proofs.lemmas.Result.{err_from_is_err_and}
 use Rattle.dt_source.specs.declared.referring.Unnamed.TheVariants.{Kept}
-use Rattle.dt_source.specs.Said.{node_said}
+use Rattle.dt_named.specs.Said.{node_said}
 use Rattle.dt_source.proofs.Ending.{listed_by, unread_there}
 use Rattle.dt_source.proofs.nodes.kept_nodes.Goals as goal
 

@@ -3,8 +3,8 @@ use Rattle.std.specs.List.{list_any}
 use Rattle.std.proofs.lemmas.List.{drop_more, drop_all}
 use Rattle.dt_model.specs.Source.{one}
 use Rattle.dt_model.specs.OverlaySource.{is_overlay_part}
-use Rattle.dt_parse.specs.declared.source.Piece.{Piece}
-use Rattle.dt_parse.specs.Said.{referring, reference_of, pieces_parts, value_said}
+use Rattle.dt_items.specs.declared.source.Piece.{Piece}
+use Rattle.dt_items.specs.Said.{referring, reference_of, pieces_parts, value_said}
 use Rattle.dt_source.proofs.OverlaySteps.{piece_first, bytes_fine}
 use Rattle.dt_source.proofs.overlaying.is_overlay_value.Goals as goal
 

@@ -3,7 +3,7 @@ use Rattle.std.proofs.Common.{◌≡◌, not, ◌++◌, map, drop}
 use Rattle.std.specs.List.{list_any}
 use Rattle.dt_model.specs.Source.{one}
 use Rattle.dt_model.specs.OverlaySource.{is_overlay_part}
-use Rattle.dt_parse.specs.Said.{pieces_parts, value_said}
+use Rattle.dt_items.specs.Said.{pieces_parts, value_said}
 use Rattle.dt_source.proofs.overlaying.is_overlay_value.Given as goal
 
 abbrev pub invariant-loop-piece : goal.invariant-loop-piece

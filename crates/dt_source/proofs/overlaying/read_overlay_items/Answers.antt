@@ -3,8 +3,8 @@ use Rattle.std.proofs.lemmas.List.{drop_more, drop_all}
 use Rattle.std.proofs.lemmas.Result.{err_from_is_err_and}
 use Rattle.dt_model.specs.Source.{Place}
 use Rattle.dt_model.specs.OverlaySource.{OverlaySoFar, OverlayRefusal, root_children, overlay_start, read_overlay, read_overlays}
-use Rattle.dt_parse.specs.Said.{place_said}
-use Rattle.dt_parse.specs.declared.source.Item.{Item}
+use Rattle.dt_items.specs.Said.{place_said}
+use Rattle.dt_items.specs.declared.source.Item.{Item}
 use Rattle.dt_source.specs.OverlayReading.{OverlayTells}
 use Rattle.dt_source.specs.Arena.{IsLeft, all_overlay}
 use Rattle.dt_source.specs.Reading.{Holds}

@@ -2,7 +2,7 @@
 use Rattle.std.proofs.Common.{◌≡◌, ◌<◌, None, List, map, drop, length}
 use Rattle.dt_model.specs.Source.{Place}
 use Rattle.dt_model.specs.OverlaySource.{OverlaySoFar, root_children, read_overlays}
-use Rattle.dt_parse.specs.Said.{place_said}
+use Rattle.dt_items.specs.Said.{place_said}
 use Rattle.dt_source.specs.Arena.{IsLeft, all_overlay}
 use Rattle.dt_source.specs.Reading.{Holds, IsWhole}
 use Rattle.dt_source.proofs.overlaying.read_overlay_items.Given as goal

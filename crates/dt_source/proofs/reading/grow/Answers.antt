@@ -1,6 +1,6 @@
 use Rattle.std.proofs.Common.{map, length}
 use Rattle.dt_model.specs.Source.{read_all, nothing}
-use Rattle.dt_parse.specs.Said.{place_said}
+use Rattle.dt_items.specs.Said.{place_said}
 use Rattle.dt_source.specs.Refusals.{mode_said}
 use Rattle.dt_source.specs.declared.reading.Reading.{Reading}
 use Rattle.dt_source.proofs.Targets.{grown_so_far}

@@ -1,7 +1,7 @@
 use Rattle.std.proofs.Common.{◌+◌, sym, subst, take, map}
 use Rattle.std.proofs.lemmas.Result.{err_from_is_err_and}
 use Rattle.dt_model.specs.Source.{read_all, nothing}
-use Rattle.dt_parse.specs.Said.{place_said}
+use Rattle.dt_items.specs.Said.{place_said}
 use Rattle.dt_source.specs.Reading.{GoesOn}
 use Rattle.dt_source.specs.Refusals.{mode_said}
 use Rattle.dt_source.proofs.Wholes.{goes_on-is, read_more, told}

@@ -1,7 +1,7 @@
 -- What was read of the items is what the definition reads of as many.
 use Rattle.std.proofs.Common.{map, take}
 use Rattle.dt_model.specs.Source.{read_all, nothing}
-use Rattle.dt_parse.specs.Said.{place_said}
+use Rattle.dt_items.specs.Said.{place_said}
 use Rattle.dt_source.specs.Reading.{IsWhole, GoesOn}
 use Rattle.dt_source.specs.Refusals.{mode_said}
 use Rattle.dt_source.proofs.reading.read_items.Given as goal

@@ -1,7 +1,7 @@
 use Rattle.std.proofs.Common.{◌≡◌, ℕ, List, ◌++◌, map, refl, ap, ◌∙◌}
 use Rattle.dt_model.specs.Meaning.{byte}
-use Rattle.dt_parse.specs.Said.{reference_of, referring}
-use Rattle.dt_source.specs.Said.{value_said}
+use Rattle.dt_items.specs.Said.{reference_of, referring}
+use Rattle.dt_named.specs.Said.{value_said}
 use Rattle.dt_source.proofs.ValueSteps.{result_map, unread_piece, piece_added}
 use Rattle.dt_source.proofs.values.add_piece.Goals as goal
 

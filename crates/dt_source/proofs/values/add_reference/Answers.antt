@@ -1,8 +1,8 @@
 use Rattle.std.proofs.Common.{ℕ, [], ◌∷◌}
 use Rattle.dt_model.specs.Event.{Stack}
 use Rattle.dt_model.specs.Source.{Events, text_of}
-use Rattle.dt_parse.specs.Said.{reference_of}
-use Rattle.dt_source.specs.Said.{value_said}
+use Rattle.dt_items.specs.Said.{reference_of}
+use Rattle.dt_named.specs.Said.{value_said}
 use Rattle.dt_source.specs.Contents.{named_part}
 use Rattle.dt_source.specs.Resolving.{IsOf, EachNaming, IsAdded, IsUnread}
 use Rattle.dt_source.proofs.ValueSteps.{result_map}

@@ -1,9 +1,9 @@
 use Rattle.std.proofs.Common.{◌≡◌, ◌<◌, ◌≤◌, ℕ, List, ◌++◌, length, take, Some, get_or, map, subst, ap, ◌∙◌, arith}
 use Rattle.std.proofs.lemmas.Result.{err_from_is_err_and}
 use Rattle.dt_model.specs.Meaning.{byte}
-use Rattle.dt_parse.specs.declared.source.Piece.{Piece}
-use Rattle.dt_parse.specs.Said.{piece_parts, pieces_parts}
-use Rattle.dt_source.specs.Said.{value_said}
+use Rattle.dt_items.specs.declared.source.Piece.{Piece}
+use Rattle.dt_items.specs.Said.{piece_parts, pieces_parts}
+use Rattle.dt_named.specs.Said.{value_said}
 use Rattle.dt_source.specs.Resolving.{EachNaming, IsAdded, IsUnread}
 use Rattle.dt_source.specs.Contents.{named_parts}
 use Rattle.dt_source.proofs.ValueSteps.{unread_value, pieces_more, value_read}

@@ -1,6 +1,6 @@
 use Rattle.std.proofs.Common.{◌≡◌, Some, take}
-use Rattle.dt_parse.specs.Said.{pieces_parts}
-use Rattle.dt_source.specs.Said.{value_said}
+use Rattle.dt_items.specs.Said.{pieces_parts}
+use Rattle.dt_named.specs.Said.{value_said}
 use Rattle.dt_source.specs.Contents.{named_parts}
 use Rattle.dt_source.specs.Resolving.{EachNaming}
 use Rattle.dt_source.proofs.values.add_value.Given as goal

@@ -1,8 +1,9 @@
 use Rattle.std.proofs.Common.{◌≡◌, ℕ, None, map, length, ap, ◌∙◌}
 use Rattle.dt_model.specs.OverlaySource.{root_children}
-use Rattle.dt_parse.specs.Said.{place_said}
-use Rattle.dt_source.specs.Arena.{block_references, made_names}
-use Rattle.dt_source.proofs.NamesMade.{as_many}
+use Rattle.dt_items.specs.Said.{place_said}
+use Rattle.dt_fragments.specs.FragmentNames.{made_names}
+use Rattle.dt_source.specs.Arena.{block_references}
+use Rattle.dt_source.proofs.ArenaSteps.{as_many}
 use Rattle.dt_source.proofs.arena.Arena.new.Goals as goal
 
 pub returns : goal.returns

@@ -1,7 +1,7 @@
 use Rattle.std.proofs.Common.{◌+◌, arith}
 use Rattle.std.proofs.lemmas.Result.{err_from_is_err_and}
 use Rattle.dt_model.specs.Source.{read, block}
-use Rattle.dt_parse.specs.Said.{reference_of}
+use Rattle.dt_items.specs.Said.{reference_of}
 use Rattle.dt_source.specs.Growing.{shape}
 use Rattle.dt_source.specs.declared.reading.Reading.{Reading}
 use Rattle.dt_source.proofs.Items.{block-goes}

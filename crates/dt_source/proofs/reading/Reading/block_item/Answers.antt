@@ -3,7 +3,7 @@ use Rattle.std.proofs.lemmas.Option.{slice_get_within, slice_get_read}
 use Rattle.std.proofs.lemmas.Result.{err_from_is_err_and}
 use Rattle.dt_model.specs.Source.{block}
 use Rattle.dt_model.specs.OverlaySource.{read_overlay}
-use Rattle.dt_parse.specs.Said.{reference_of, value_said}
+use Rattle.dt_items.specs.Said.{reference_of, value_said}
 use Rattle.dt_source.specs.declared.arena.Used.{Used}
 use Rattle.dt_source.specs.Arena.{GoesOnWith}
 use Rattle.dt_source.proofs.ArenaSteps.{next_made, next_name, block_goes}

@@ -1,6 +1,6 @@
 use Rattle.std.proofs.Common.{◌≡◌, ◌+◌, true, false, refl, sym, ◌∙◌, ap, arith}
 use Rattle.dt_model.specs.Source.{read, property, duplicate_property}
-use Rattle.dt_parse.specs.Said.{value_said}
+use Rattle.dt_items.specs.Said.{value_said}
 use Rattle.dt_source.specs.Growing.{shape}
 use Rattle.dt_source.specs.Reading.{is_behind}
 use Rattle.dt_source.specs.declared.reading.Reading.{Reading}

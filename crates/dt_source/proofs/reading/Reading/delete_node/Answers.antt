@@ -1,7 +1,7 @@
 use Rattle.std.proofs.Common.{◌+◌, Some, refl, ◌∙◌, ap, arith}
 use Rattle.std.proofs.lemmas.Result.{err_from_is_err_and}
 use Rattle.dt_model.specs.Source.{read, delete_node, no_such_target}
-use Rattle.dt_parse.specs.Said.{reference_of}
+use Rattle.dt_items.specs.Said.{reference_of}
 use Rattle.dt_source.specs.Growing.{shape, nodes_listed}
 use Rattle.dt_source.specs.Shape.{Cuts}
 use Rattle.dt_source.specs.declared.reading.Reading.{Reading}

@@ -2,7 +2,7 @@ use Rattle.std.proofs.Common.{◌≡◌, ◌+◌, ◌∷◌, [], Ok, Result, cod
 use Rattle.std.proofs.lemmas.Result.{err_from_is_err_and}
 use Rattle.dt_model.specs.Source.{base, block, by_label, number_of, read, outside, Reference}
 use Rattle.dt_model.specs.OverlaySource.{open_fragment, fragment_name, read_overlay, with_next, OverlaySoFar, OverlayRefusal}
-use Rattle.dt_parse.specs.Said.{reference_of, value_said}
+use Rattle.dt_items.specs.Said.{reference_of, value_said}
 use Rattle.dt_source.specs.OverlayReading.{OverlayTells, OverlayGoesOn, free_number, target_value}
 use Rattle.dt_source.specs.Reading.{GoesOn}
 use Rattle.dt_source.specs.Refusals.{Tells}

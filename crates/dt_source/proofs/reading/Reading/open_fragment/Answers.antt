@@ -1,7 +1,7 @@
 use Rattle.std.proofs.Common.{◌≡◌, ◌+◌, ◌≤◌, Ok, codes, length, arith}
 use Rattle.dt_model.specs.OverlaySource.{open_fragment}
 use Rattle.dt_model.specs.Source.{outside}
-use Rattle.dt_parse.specs.Said.{value_said}
+use Rattle.dt_items.specs.Said.{value_said}
 use Rattle.dt_source.specs.Growing.{shape}
 use Rattle.dt_source.specs.declared.growing.Growing.{Growing}
 use Rattle.dt_source.specs.declared.reading.Reading.{Reading}

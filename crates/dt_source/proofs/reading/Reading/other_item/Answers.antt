@@ -1,7 +1,7 @@
 use Rattle.std.proofs.Common.{◌+◌}
 use Rattle.std.proofs.lemmas.Result.{err_from_is_err_and}
 use Rattle.dt_model.specs.OverlaySource.{read_overlay}
-use Rattle.dt_parse.specs.Said.{place_said}
+use Rattle.dt_items.specs.Said.{place_said}
 use Rattle.dt_source.proofs.ArenaSteps.{other_goes}
 use Rattle.dt_source.proofs.reading.Reading.other_item.Goals as goal
 

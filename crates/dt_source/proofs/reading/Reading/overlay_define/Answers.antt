@@ -4,7 +4,7 @@ use Rattle.std.specs.Str.{bytes_eq}
 use Rattle.dt_model.specs.Names.{Name}
 use Rattle.dt_model.specs.Source.{base, property}
 use Rattle.dt_model.specs.OverlaySource.{is_overlay_part}
-use Rattle.dt_parse.specs.Said.{value_said}
+use Rattle.dt_items.specs.Said.{value_said}
 use Rattle.dt_source.proofs.OverlaySteps.{step_result, plain_property}
 use Rattle.dt_source.proofs.reading.Reading.overlay_define.Goals as goal
 

@@ -1,7 +1,7 @@
 use Rattle.std.proofs.Common.{◌+◌, refl, sym, ap, ◌∙◌}
 use Rattle.dt_model.specs.Names.{Name}
 use Rattle.dt_model.specs.Source.{base, root, child, label, close}
-use Rattle.dt_parse.specs.Said.{place_said}
+use Rattle.dt_items.specs.Said.{place_said}
 use Rattle.dt_source.proofs.OverlaySteps.{step_result}
 use Rattle.dt_source.proofs.reading.Reading.overlay_step.Goals as goal
 

@@ -1,0 +1,3 @@
+pub mod NamesMade
+pub mod Marks
+pub mod FragmentSteps

@@ -1,0 +1,2 @@
+pub mod Fragments
+pub mod FragmentNames

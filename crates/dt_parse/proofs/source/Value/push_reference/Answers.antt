@@ -1,8 +1,0 @@
-use Rattle.std.proofs.Common.{rules}
-use Rattle.dt_parse.proofs.Pieces.{referred}
-use Rattle.dt_parse.proofs.source.Value.push_reference.Goals as goal
-
-pub returns : goal.returns
-returns c =
-    referred c.args.self.now.pieces.items c.push.new.self.items _ c.args.self.now.bytes.items c.replace-before.new.dest.items c.in_ok-push.ensures.items
-    (search rules) (search rules)

@@ -1,0 +1,141 @@
+-- What the words of a command line ask for, as clap reads them.
+use Rattle.std.specs.Prelude.{◌≡◌, ◌≢◌, ◌⊎◌, [], ◌∷◌, List, Bool, Option, Some, true, false, codes, map, unwrap_or, if◌then◌else◌}
+use Rattle.clap.specs.declared.builder.command.Command.{Command, out-Command}
+use Rattle.clap.specs.Words.{App, Row, Rule, Text, IsAmong, all_of, app_of, fault_of, first_of, kind_of, new_app, new_rule, one_of, subcommand_of, with_rule, with_subcommand}
+use Rattle.clap.specs.declared.builder.action.ArgAction.TheVariants.{Append, SetTrue}
+use Rattle.clap.specs.declared.error.kind.ErrorKind.TheVariants.{MissingSubcommand, OutOfMemory}
+use Rattle.clap.specs.declared.error.Error.{Error}
+use Rattle.dt_words.specs.declared.command_line.Job.{Job}
+use Rattle.dt_words.specs.declared.command_line.Job.TheVariants.{Compile, CompileRaw, Apply, Build, Print, Check}
+use Rattle.dt_words.specs.declared.command_line.Line.{Line}
+use Rattle.dt_words.specs.declared.words.LineFault.{LineFault}
+use Rattle.dt_words.specs.declared.words.LineFault.TheVariants.{Memory, Words}
+
+-- `--hex`
+abbrev pub hex_flag : Rule
+hex_flag = record (new_rule (codes "hex")) { long = Some (codes "hex"); action = Some SetTrue }
+
+-- `--raw`
+abbrev pub raw_flag : Rule
+raw_flag = record (new_rule (codes "raw")) { long = Some (codes "raw"); action = Some SetTrue }
+
+-- `FILE`, which must be there
+abbrev pub file_word : Rule
+file_word = record (new_rule (codes "FILE")) { required = true }
+
+-- `BASE`, which must be there
+abbrev pub base_word : Rule
+base_word = record (new_rule (codes "BASE")) { required = true }
+
+-- `OVERLAY`, as often as there are overlays
+abbrev pub overlay_word : Rule
+overlay_word = record (new_rule (codes "OVERLAY")) { action = Some Append }
+
+-- a command of this shape, of which no word is one of the commands below it too
+abbrev pub IsCommand : App → Command → Type 0
+IsCommand app command = (app_of command ≡ app) × ((out-Command command).has_globals ≡ false)
+
+-- `compile [--hex] [--raw] FILE`
+abbrev pub compile_command : App
+compile_command = with_rule (with_rule (with_rule (new_app (codes "compile")) hex_flag) raw_flag) file_word
+
+-- a command of this name with `[--hex] BASE [OVERLAY..]`
+abbrev pub overlay_command : Text → App
+overlay_command name = with_rule (with_rule (with_rule (new_app name) hex_flag) base_word) overlay_word
+
+-- `apply [--hex] BASE [OVERLAY..]`
+abbrev pub apply_command : App
+apply_command = overlay_command (codes "apply")
+
+-- `build [--hex] BASE [OVERLAY..]`
+abbrev pub build_command : App
+build_command = overlay_command (codes "build")
+
+-- `print FILE`
+abbrev pub print_command : App
+print_command = with_rule (new_app (codes "print")) file_word
+
+-- `check FILE`
+abbrev pub check_command : App
+check_command = with_rule (new_app (codes "check")) file_word
+
+-- `dtool` without its commands, of which it wants one
+abbrev pub bare : App
+bare = let new = new_app (codes "dtool") in record new { top = record new.top { subcommand_required = true } }
+
+-- `dtool`, with one of its commands
+abbrev pub dtool : App
+dtool =
+    with_subcommand (with_subcommand (with_subcommand (with_subcommand (with_subcommand bare compile_command.top) apply_command.top) build_command.top)
+    print_command.top) check_command.top
+
+-- a job's command
+abbrev pub command_of : Job → Text
+command_of Compile = codes "compile"
+command_of CompileRaw = codes "compile"
+command_of Apply = codes "apply"
+command_of Build = codes "build"
+command_of Print = codes "print"
+command_of Check = codes "check"
+
+-- a flag is there or not, as this says
+pub record IsFlag (flag : Text) (rows : List Row) (is : Bool) : Type 0 where
+  pub there : one_of flag rows ≡ Some (codes "true") → is ≡ true
+  pub not_there : one_of flag rows ≡ Some (codes "false") → is ≡ false
+
+-- the flags are there or not, as the job and its line say; a job that writes no blob has none
+abbrev pub HasFlags : Job → List Row → Bool → Type 0
+HasFlags Compile rows hex = IsFlag (codes "hex") rows hex × IsFlag (codes "raw") rows false
+HasFlags CompileRaw rows hex = IsFlag (codes "hex") rows hex × IsFlag (codes "raw") rows true
+HasFlags Apply rows hex = IsFlag (codes "hex") rows hex
+HasFlags Build rows hex = IsFlag (codes "hex") rows hex
+HasFlags Print rows hex = hex ≡ false
+HasFlags Check rows hex = hex ≡ false
+
+-- the job takes overlays, beside a base
+abbrev pub takes_overlays : Job → Bool
+takes_overlays Apply = true
+takes_overlays Build = true
+takes_overlays _ = false
+
+-- the word for its first file
+abbrev pub first_word : Job → Text
+first_word job = if takes_overlays job then codes "BASE" else codes "FILE"
+
+-- its other files: all that are given for `OVERLAY`, where it takes any
+abbrev pub other_files : Job → List Row → List Text
+other_files job rows = if takes_overlays job then unwrap_or (all_of (codes "OVERLAY") rows) [] else []
+
+-- these are the job's files, in the order of the words
+pub record AreFiles (job : Job) (rows : List Row) (files : List Text) : Type 0 where
+  pub first : Text
+  pub is_first : first_of (first_word job) rows ≡ Some first
+  pub are : files ≡ first ∷ other_files job rows
+
+-- a command that was found is the job's, with its files, and with its flags
+pub record Names (found : Option (Text × List Row)) (line : Line) : Type 0 where
+  pub rows : List Row
+  pub command : found ≡ Some (command_of line.job, rows)
+  pub files : AreFiles line.job rows (map (λ file. file.now) line.files.items)
+  pub flags : HasFlags line.job rows line.hex
+
+-- it is no job's, or has no first file
+abbrev pub NamesNone : Option (Text × List Row) → Type 0
+NamesNone found =
+    (job : Job) (rows : List Row) (file : Text) → found ≡ Some (command_of job, rows) → first_of (first_word job) rows ≡ Some file → ⊥
+
+-- clap finds no fault in the words, and they ask for the line
+abbrev pub IsLine : List Text → Line → Type 0
+IsLine words line = (fault_of dtool words ≡ []) × Names (subcommand_of dtool words) line
+
+-- clap finds such a fault in the words, or no file
+abbrev pub WhyNoLine : List Text → LineFault → Type 0
+WhyNoLine words Memory = Unit {0}
+WhyNoLine words (Words error) =
+    IsAmong (kind_of error) (fault_of dtool words)
+    ⊎ ((kind_of error ≡ MissingSubcommand) × NamesNone (subcommand_of dtool words))
+
+-- how clap's error is passed on
+abbrev pub Tells : Error → LineFault → Type 0
+Tells error Memory = kind_of error ≡ OutOfMemory
+Tells error (Words same) = (same ≡ error) × (kind_of error ≢ OutOfMemory)

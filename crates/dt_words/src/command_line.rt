@@ -1,0 +1,33 @@
+//! What is asked of the tool.
+
+ghost use Rattle.std.specs.Prelude.{length};
+ghost use Rattle.dt_words.specs.Asked.{IsAsked, IsAsked-prop};
+
+/// What the tool can be asked for.
+#[derive(Clone, Copy, PartialEq, Eq)]
+pub enum Job {
+    /// A blob of one devicetree source: of a base, or of an overlay, which is its object.
+    Compile,
+    /// A blob of a source that is no overlay's, as it stands: bookkeeping nodes may be written, and nothing is added.
+    CompileRaw,
+    /// The blob of a base, which is the first input, with the objects of overlays applied, which are the others.
+    Apply,
+    /// The blob of a base's source, which is the first input, with the overlays of other sources applied.
+    Build,
+    /// The source of a blob.
+    Print,
+    /// A line that tells how many nodes, properties and reservations a blob has.
+    Check,
+}
+
+/// What the words of a command line ask for.
+#[derive(Drop)]
+pub struct Line<'a> {
+    /// What to do.
+    pub job: Job,
+    /// Whether a blob is written as hexadecimal; false where none is written.
+    pub hex: bool,
+    /// The names of the inputs' files, in order.
+    pub files: Vec<&'a str>,
+    ghost as_asked: { IsAsked job (length files.items) } by { IsAsked-prop job (length files.items) },
+}

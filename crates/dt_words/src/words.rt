@@ -1,0 +1,404 @@
+//! The words of the command line.
+
+ghost use Rattle.std.specs.Prelude.{◌≡◌, ◌∷◌, None, Some, false, Bool, List, codes, map, option_map, IfOk, IfErr, MatchOption};
+ghost use Rattle.clap.specs.Words.{App, Row, Rule, Text, app_of, first_of, found_of, new_app, rows_of, rule_of, subcommand_of, subcommand_rows_of, with_rule, with_subcommand};
+ghost use Rattle.dt_words.specs.Words.{
+  AreFiles,
+  HasFlags,
+  IsCommand,
+  IsFlag,
+  IsLine,
+  Names,
+  NamesNone,
+  Tells,
+  WhyNoLine,
+  apply_command,
+  bare,
+  base_word,
+  build_command,
+  check_command,
+  command_of,
+  compile_command,
+  dtool,
+  file_word,
+  first_word,
+  hex_flag,
+  overlay_command,
+  overlay_word,
+  print_command,
+  raw_flag,
+  takes_overlays,
+};
+ghost use Rattle.dt_words.specs.declared.words.LineFault.TheVariants.{Memory};
+
+use crate::command_line::{Job, Line};
+use clap::error::ErrorKind;
+use clap::{Arg, ArgAction, ArgMatches, Command};
+use std::alloc::{AllocError, Global};
+use std::convert::AsStr;
+use thiserror::Error;
+
+/// Why words ask for nothing. Its `Display` is the text for the user.
+#[derive(Debug, Drop, Error)]
+pub enum LineFault {
+    /// Memory was refused.
+    #[error("dtool: out of memory\n")]
+    Memory,
+    /// The words are no command, or ask for help.
+    #[error("{0}")]
+    Words(clap::Error),
+}
+
+/// What the exit status tells, at the end of each help.
+const STATUSES: &str = "\
+Each FILE, BASE and OVERLAY is the name of a file; the word stdin is standard input, which is read once.
+A fault is told on standard error, as `dtool: input K: fault N Name at P`: inputs are counted from 0, and P is a byte's place.
+
+Exit status:
+  0  all was done
+  1  an input has a fault, or can't be read, or the output can't be written
+  2  the words are no command, or ask for help";
+
+impl From<AllocError> for LineFault {
+    ghost from_gives = { λ _ fault. fault ≡ Memory };
+
+    fn from(_error: AllocError) -> LineFault {
+        LineFault::Memory
+    }
+}
+
+impl From<clap::Error> for LineFault {
+    ghost from_gives = { Tells };
+
+    fn from(error: clap::Error) -> LineFault {
+        match error.kind() {
+            ErrorKind::OutOfMemory => LineFault::Memory,
+            _ => LineFault::Words(error),
+        }
+    }
+}
+
+/// What the words of a command line ask for, of which the first is the program's name.
+///
+/// # Errors
+///
+/// `Words` where they are no command that the tool has, or ask for help; and `Memory`.
+pub fn line<'a, S: AsStr>(alloc: Global, words: &'a [S]) -> Result<Line<'a>, LineFault>
+    ensures line { IfOk result (IsLine (map S.text words.entry.now)) }
+    ensures refused { IfErr result (WhyNoLine (map S.text words.entry.now)) }
+{
+    let mut command = tool(alloc)?;
+    asked(alloc, &mut command, words)
+}
+
+/// What the words ask of the tool's command.
+fn asked<'a, S: AsStr>(
+    alloc: Global,
+    command: &mut Command<'a>,
+    words: &'a [S],
+) -> Result<Line<'a>, LineFault>
+    requires { app_of command.old ≡ dtool }
+    ensures line { IfOk result (IsLine (map S.text words.entry.now)) }
+    ensures refused { IfErr result (WhyNoLine (map S.text words.entry.now)) }
+{
+    let matches = command.try_get_matches_from_mut(words)?;
+    match line_in(alloc, &matches)? {
+        Some(line) => Ok(line),
+        None => Err(no_line(command)),
+    }
+}
+
+/// That a command or a file is missing, in clap's words.
+fn no_line(command: &mut Command<'_>) -> LineFault
+    ensures { (words : List Text) → NamesNone (subcommand_of dtool words) → WhyNoLine words result }
+{
+    match command.error(
+        ErrorKind::MissingSubcommand,
+        "a command and a file are wanted",
+    ) {
+        Ok(error) => LineFault::Words(error),
+        Err(_) => LineFault::Memory,
+    }
+}
+
+/// What is asked for, where there are a command and its first file.
+fn line_in<'a>(alloc: Global, matches: &ArgMatches<'a>) -> Result<Option<Line<'a>>, AllocError>
+    ensures { IfOk result (λ line. MatchOption line (NamesNone (subcommand_rows_of matches.now)) (Names (subcommand_rows_of matches.now))) }
+{
+    let Some((command, found)) = matches.subcommand() else {
+        return Ok(None);
+    };
+    let Some((job, hex)) = job_of(command, found) else {
+        return Ok(None);
+    };
+    match files_of(alloc, job, found)? {
+        Some(files) => Ok(Some(Line { job, hex, files })),
+        None => Ok(None),
+    }
+}
+
+/// The job of a command, and whether its blob is written as hexadecimal.
+fn job_of(command: &str, found: &ArgMatches<'_>) -> Option<(Job, bool)>
+    ensures { MatchOption result ((job : Job) → command.now ≡ command_of job → ⊥)
+        (λ asked. (command.now ≡ command_of asked.0) × HasFlags asked.0 (rows_of (found_of found.now)) asked.1) }
+{
+    match command {
+        "compile" => Some((compiling(found.get_flag("raw")), found.get_flag("hex"))),
+        "apply" => Some((Job::Apply, found.get_flag("hex"))),
+        "build" => Some((Job::Build, found.get_flag("hex"))),
+        "print" => Some((Job::Print, false)),
+        "check" => Some((Job::Check, false)),
+        _ => None,
+    }
+}
+
+/// The files of a job, where there is the first.
+fn files_of<'a>(
+    alloc: Global,
+    job: Job,
+    found: &ArgMatches<'a>,
+) -> Result<Option<Vec<&'a str>>, AllocError>
+    ensures { IfOk result (λ files. MatchOption files (first_of (first_word job) (rows_of (found_of found.now)) ≡ None)
+        (λ files. AreFiles job (rows_of (found_of found.now)) (map (λ file. file.now) files.items))) }
+{
+    if takes_overlays(job) {
+        let overlays = found.get_strs("OVERLAY").unwrap_or(&[]);
+        in_order(alloc, found.get_str("BASE"), overlays)
+    } else {
+        in_order(alloc, found.get_str("FILE"), &[])
+    }
+}
+
+/// Whether a job takes overlays, beside a base.
+fn takes_overlays(job: Job) -> bool
+    ensures { result ≡ takes_overlays job }
+{
+    matches!(job, Job::Apply | Job::Build)
+}
+
+/// The first file, where there is one, and the others behind it.
+fn in_order<'a>(
+    alloc: Global,
+    first: Option<&'a str>,
+    others: &[&'a str],
+) -> Result<Option<Vec<&'a str>>, AllocError>
+    ensures { IfOk result (λ files. MatchOption files (option_map (λ file. file.now) first.entry ≡ None) (λ files. (file : Text)
+        × (option_map (λ file. file.now) first.entry ≡ Some file) × (map (λ file. file.now) files.items ≡ file ∷ map (λ file. file.now) others.now))) }
+{
+    let Some(first) = first else {
+        return Ok(None);
+    };
+    let mut files = Vec::new(alloc);
+    files.push(first)?;
+    files.extend_from_slice(others)?;
+    Ok(Some(files))
+}
+
+/// The job of a source: the flag `--raw` is there or not.
+fn compiling(raw: bool) -> Job
+    ensures { (rows : List Row) (hex : Bool) → IsFlag (codes "hex") rows hex → IsFlag (codes "raw") rows raw →
+        (command_of result ≡ codes "compile") × HasFlags result rows hex }
+{
+    if raw { Job::CompileRaw } else { Job::Compile }
+}
+
+/// The word for an input's file.
+fn file<'a>(alloc: Global, help: &'a str) -> Arg<'a>
+    ensures rule { rule_of result ≡ file_word }
+    ensures own { result.global ≡ false }
+{
+    Arg::new(alloc, "FILE").required(true).help(help)
+}
+
+/// The word for a base's file.
+fn base<'a>(alloc: Global, help: &'a str) -> Arg<'a>
+    ensures rule { rule_of result ≡ base_word }
+    ensures own { result.global ≡ false }
+{
+    Arg::new(alloc, "BASE").required(true).help(help)
+}
+
+/// The words for the overlays' files.
+fn overlays<'a>(alloc: Global, help: &'a str) -> Arg<'a>
+    ensures rule { rule_of result ≡ overlay_word }
+    ensures own { result.global ≡ false }
+{
+    Arg::new(alloc, "OVERLAY")
+        .action(ArgAction::Append)
+        .help(help)
+}
+
+/// The flag for hexadecimal.
+fn hex<'a>(alloc: Global) -> Arg<'a>
+    ensures rule { rule_of result ≡ hex_flag }
+    ensures own { result.global ≡ false }
+{
+    Arg::new(alloc, "hex")
+        .long("hex")
+        .action(ArgAction::SetTrue)
+        .help("Write the blob as lower-case hexadecimal and a line feed")
+}
+
+/// The flag for a source that is taken as it stands.
+fn raw<'a>(alloc: Global) -> Arg<'a>
+    ensures rule { rule_of result ≡ raw_flag }
+    ensures own { result.global ≡ false }
+{
+    Arg::new(alloc, "raw")
+        .long("raw")
+        .action(ArgAction::SetTrue)
+        .help(
+            "Take the source, no overlay's, as it stands: bookkeeping nodes may be written, and none is added",
+        )
+}
+
+/// The command with one more word.
+fn with_word<'a>(
+    command: Result<Command<'a>, AllocError>,
+    word: Arg<'a>,
+) -> Result<Command<'a>, AllocError>
+    requires { word.global ≡ false }
+    ensures { (app : App) (rule : Rule) → IfOk command.entry (IsCommand app) → rule_of word.entry ≡ rule
+        → IfOk result (IsCommand (with_rule app rule)) }
+{
+    match command {
+        Ok(command) => command.arg(word),
+        Err(error) => {
+            // Let go of by hand: what goes at an exit by itself is proved there field by field.
+            drop(word);
+            Err(error)
+        }
+    }
+}
+
+/// `compile [--hex] [--raw] FILE`.
+fn compile<'a>(alloc: Global) -> Result<Command<'a>, AllocError>
+    ensures { IfOk result (IsCommand compile_command) }
+{
+    let command = Command::new(alloc, "compile")
+        .about("Makes a blob of a devicetree source; of an overlay's, the object that is applied")
+        .after_help(STATUSES);
+    let command = with_word(Ok(command), hex(alloc));
+    let command = with_word(command, raw(alloc));
+    with_word(
+        command,
+        file(alloc, "The source; the word stdin is standard input"),
+    )
+}
+
+/// `apply [--hex] BASE [OVERLAY..]`.
+fn apply<'a>(alloc: Global) -> Result<Command<'a>, AllocError>
+    ensures { IfOk result (IsCommand apply_command) }
+{
+    with_overlays(
+        alloc,
+        Command::new(alloc, "apply").about(
+            "Applies the objects of overlays to a base's blob, one after another",
+        ),
+        "The blob of the base; the word stdin is standard input",
+        "The blobs of the overlays' objects, in order",
+    )
+}
+
+/// `build [--hex] BASE [OVERLAY..]`.
+fn build<'a>(alloc: Global) -> Result<Command<'a>, AllocError>
+    ensures { IfOk result (IsCommand build_command) }
+{
+    with_overlays(
+        alloc,
+        Command::new(alloc, "build").about(
+            "Makes a blob of a base's source with the overlays of other sources applied",
+        ),
+        "The source of the base; the word stdin is standard input",
+        "The sources of the overlays, in order",
+    )
+}
+
+/// A command with `[--hex] BASE [OVERLAY..]`.
+fn with_overlays<'a>(
+    alloc: Global,
+    command: Command<'a>,
+    base_help: &'a str,
+    overlay_help: &'a str,
+) -> Result<Command<'a>, AllocError>
+    ensures { (name : Text) → IsCommand (new_app name) command.entry → IfOk result (IsCommand (overlay_command name)) }
+{
+    let command = with_word(Ok(command.after_help(STATUSES)), hex(alloc));
+    let command = with_word(command, base(alloc, base_help));
+    with_word(command, overlays(alloc, overlay_help))
+}
+
+/// `print FILE`.
+fn print<'a>(alloc: Global) -> Result<Command<'a>, AllocError>
+    ensures { IfOk result (IsCommand print_command) }
+{
+    Command::new(alloc, "print")
+        .about("Prints a blob as the source that is compiled to its tree")
+        .after_help(STATUSES)
+        .arg(file(alloc, "The blob; the word stdin is standard input"))
+}
+
+/// `check FILE`.
+fn check<'a>(alloc: Global) -> Result<Command<'a>, AllocError>
+    ensures { IfOk result (IsCommand check_command) }
+{
+    Command::new(alloc, "check")
+        .about("Checks a blob, and counts what it holds")
+        .after_help(STATUSES)
+        .arg(file(alloc, "The blob; the word stdin is standard input"))
+}
+
+/// The tool without its commands.
+fn without_commands<'a>(alloc: Global) -> Command<'a>
+    ensures { app_of result ≡ bare }
+{
+    Command::new(alloc, "dtool")
+        .about("Compiles devicetree sources, applies overlays, and checks and prints blobs")
+        .after_help(STATUSES)
+        .subcommand_required(true)
+}
+
+/// The tool with one more command, where there is one.
+fn with_command<'a>(
+    tool: Command<'a>,
+    command: Result<Command<'a>, AllocError>,
+) -> Result<Command<'a>, AllocError>
+    ensures { (part : App) → IfOk command.entry (IsCommand part)
+        → IfOk result (λ whole. app_of whole ≡ with_subcommand (app_of tool.entry) part.top) }
+{
+    match command {
+        Ok(command) => tool.subcommand(command),
+        Err(error) => {
+            drop(tool);
+            Err(error)
+        }
+    }
+}
+
+/// The same, where there is a tool.
+fn and_command<'a>(
+    tool: Result<Command<'a>, AllocError>,
+    command: Result<Command<'a>, AllocError>,
+) -> Result<Command<'a>, AllocError>
+    ensures { (whole part : App) → IfOk tool.entry (λ tool. app_of tool ≡ whole) → IfOk command.entry (IsCommand part)
+        → IfOk result (λ both. app_of both ≡ with_subcommand whole part.top) }
+{
+    match tool {
+        Ok(tool) => with_command(tool, command),
+        Err(error) => {
+            drop(command);
+            Err(error)
+        }
+    }
+}
+
+/// The commands that the tool has.
+fn tool<'a>(alloc: Global) -> Result<Command<'a>, AllocError>
+    ensures { IfOk result (λ command. app_of command ≡ dtool) }
+{
+    let tool = with_command(without_commands(alloc), compile(alloc));
+    let tool = and_command(tool, apply(alloc));
+    let tool = and_command(tool, build(alloc));
+    let tool = and_command(tool, print(alloc));
+    and_command(tool, check(alloc))
+}
