@@ -2,7 +2,7 @@
 use Rattle.std.specs.Prelude.{◌≡◌, ◌≢◌, ℕ, List, [], ◌++◌, Option, None, Some, codes, decimal}
 use Rattle.dt_names.specs.declared.fault.Fault.{Fault}
 use Rattle.dt_names.specs.declared.fault.FaultKind.{FaultKind}
-use Rattle.dt_names.specs.declared.fault.FaultKind.TheVariants.{NoMemory, Limit, BadVersionTag, BadToken, Syntax, BadInteger, DivideByZero, OutOfRange, BadReferenceWidth, PropertyAfterNode, DuplicateProperty, DuplicateNode, DuplicateLabel, NoSuchTarget, UnresolvedReference, BadPhandle, DuplicatePhandle, ReservedName, OverlayDelete, OverlayPhandle, OverlayPathReference, OverlayReserve, OutsideContent, BadFragment, ShortHeader, BadMagic, BadTotal, BadVersion, Misaligned, BlockOutside, NoReservationEnd, BadTag, StructureCut, BadName, BadNameOffset, BadNesting, LateProperty, Duplicate, BadEnd, BlobPhandle, NoSymbol, BadSymbol, NoTarget, BadFixup, BadLocalFixup, SecondPhandle, NoFragmentTarget, ReservedPlace, WriteFault, ReadFault}
+use Rattle.dt_names.specs.declared.fault.FaultKind.TheVariants.{NoMemory, Limit, BadVersionTag, BadToken, Syntax, BadInteger, DivideByZero, OutOfRange, BadReferenceWidth, PropertyAfterNode, DuplicateProperty, DuplicateNode, DuplicateLabel, NoSuchTarget, UnresolvedReference, BadPhandle, DuplicatePhandle, ReservedName, OverlayDelete, OverlayPhandle, OverlayPathReference, OverlayReserve, OutsideContent, BadFragment, ShortHeader, BadMagic, BadTotal, BadVersion, Misaligned, BlockOutside, NoReservationEnd, BadTag, StructureCut, BadName, BadNameOffset, BadNesting, LateProperty, Duplicate, BadEnd, BlobPhandle, NoSymbol, BadSymbol, NoTarget, BadFixup, BadLocalFixup, SecondPhandle, NoFragmentTarget, ReservedPlace, NoNode, NoReg, BadCells, NotMapped, NoRanges, PciBus, Overflow, NoInterrupts, NoParent, Loop, BadMap, NoMapEntry, NoUnitAddress, UnknownPhandle, WriteFault, ReadFault}
 
 -- the number of a kind
 abbrev pub fault_number : FaultKind → ℕ
@@ -54,6 +54,20 @@ fault_number BadLocalFixup = 64
 fault_number SecondPhandle = 65
 fault_number NoFragmentTarget = 66
 fault_number ReservedPlace = 67
+fault_number NoNode = 70
+fault_number NoReg = 71
+fault_number BadCells = 72
+fault_number NotMapped = 73
+fault_number NoRanges = 74
+fault_number PciBus = 75
+fault_number Overflow = 76
+fault_number NoInterrupts = 80
+fault_number NoParent = 81
+fault_number Loop = 82
+fault_number BadMap = 83
+fault_number NoMapEntry = 84
+fault_number NoUnitAddress = 85
+fault_number UnknownPhandle = 86
 fault_number WriteFault = 90
 fault_number ReadFault = 91
 
@@ -107,6 +121,20 @@ fault_name BadLocalFixup = codes "BadLocalFixup"
 fault_name SecondPhandle = codes "SecondPhandle"
 fault_name NoFragmentTarget = codes "NoFragmentTarget"
 fault_name ReservedPlace = codes "ReservedPlace"
+fault_name NoNode = codes "NoNode"
+fault_name NoReg = codes "NoReg"
+fault_name BadCells = codes "BadCells"
+fault_name NotMapped = codes "NotMapped"
+fault_name NoRanges = codes "NoRanges"
+fault_name PciBus = codes "PciBus"
+fault_name Overflow = codes "Overflow"
+fault_name NoInterrupts = codes "NoInterrupts"
+fault_name NoParent = codes "NoParent"
+fault_name Loop = codes "Loop"
+fault_name BadMap = codes "BadMap"
+fault_name NoMapEntry = codes "NoMapEntry"
+fault_name NoUnitAddress = codes "NoUnitAddress"
+fault_name UnknownPhandle = codes "UnknownPhandle"
 fault_name WriteFault = codes "WriteFault"
 fault_name ReadFault = codes "ReadFault"
 

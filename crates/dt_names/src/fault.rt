@@ -107,6 +107,34 @@ pub enum FaultKind {
     NoFragmentTarget,
     /// A fragment that lands in a bookkeeping node.
     ReservedPlace,
+    /// A path that names no node.
+    NoNode,
+    /// A node without that entry of `reg`.
+    NoReg,
+    /// A count of cells, or a value that is cut into cells, of another form than the standard's.
+    BadCells,
+    /// An address that no range of a bus holds.
+    NotMapped,
+    /// A bus whose addresses aren't mapped to the bus above.
+    NoRanges,
+    /// A bus of PCI, whose addresses need rules of their own.
+    PciBus,
+    /// An address that the bus above has no cells for.
+    Overflow,
+    /// A node without that interrupt.
+    NoInterrupts,
+    /// A node without an interrupt parent.
+    NoParent,
+    /// Interrupt parents, or maps, that lead round.
+    Loop,
+    /// An interrupt map, or its mask, that is cut, or isn't there.
+    BadMap,
+    /// An interrupt that no row of a map is for.
+    NoMapEntry,
+    /// A node whose unit address is too short for a map.
+    NoUnitAddress,
+    /// A phandle that no node has.
+    UnknownPhandle,
     /// The output refused bytes.
     WriteFault,
     /// The input couldn't be read.
@@ -167,6 +195,20 @@ impl FaultKind {
             FaultKind::SecondPhandle => 65,
             FaultKind::NoFragmentTarget => 66,
             FaultKind::ReservedPlace => 67,
+            FaultKind::NoNode => 70,
+            FaultKind::NoReg => 71,
+            FaultKind::BadCells => 72,
+            FaultKind::NotMapped => 73,
+            FaultKind::NoRanges => 74,
+            FaultKind::PciBus => 75,
+            FaultKind::Overflow => 76,
+            FaultKind::NoInterrupts => 80,
+            FaultKind::NoParent => 81,
+            FaultKind::Loop => 82,
+            FaultKind::BadMap => 83,
+            FaultKind::NoMapEntry => 84,
+            FaultKind::NoUnitAddress => 85,
+            FaultKind::UnknownPhandle => 86,
             FaultKind::WriteFault => 90,
             FaultKind::ReadFault => 91,
         }
@@ -225,6 +267,20 @@ impl FaultKind {
             FaultKind::SecondPhandle => "SecondPhandle",
             FaultKind::NoFragmentTarget => "NoFragmentTarget",
             FaultKind::ReservedPlace => "ReservedPlace",
+            FaultKind::NoNode => "NoNode",
+            FaultKind::NoReg => "NoReg",
+            FaultKind::BadCells => "BadCells",
+            FaultKind::NotMapped => "NotMapped",
+            FaultKind::NoRanges => "NoRanges",
+            FaultKind::PciBus => "PciBus",
+            FaultKind::Overflow => "Overflow",
+            FaultKind::NoInterrupts => "NoInterrupts",
+            FaultKind::NoParent => "NoParent",
+            FaultKind::Loop => "Loop",
+            FaultKind::BadMap => "BadMap",
+            FaultKind::NoMapEntry => "NoMapEntry",
+            FaultKind::NoUnitAddress => "NoUnitAddress",
+            FaultKind::UnknownPhandle => "UnknownPhandle",
             FaultKind::WriteFault => "WriteFault",
             FaultKind::ReadFault => "ReadFault",
         }

@@ -1,0 +1,30 @@
+-- What a meaning determines of addresses and of interrupt routes is so in each blob that represents it.
+use Rattle.std.specs.Prelude.{◌≡◌, ℕ, List}
+use Rattle.dt_model.specs.Path.{Path}
+use Rattle.dt_model.specs.Meaning.{Meaning}
+use Rattle.dt_model.specs.Tree.{Reading}
+use Rattle.dt_laws.specs.InTurn.{IsOf}
+use Rattle.dt_worlds.specs.declared.regions.Region.{Region}
+use Rattle.dt_worlds.specs.Answers.{Answer, Agrees}
+use Rattle.dt_worlds.specs.World.{World, tree_world, meaning_world}
+use Rattle.dt_worlds.specs.Regions.{region}
+use Rattle.dt_worlds.specs.Interrupts.{Route, IsInterruptParent, IsRoute}
+
+-- Whatever of a region or of a route the meaning determines, an answer or a fault, the tree's is the same. In the list there may be any of
+-- the meaning's nodes: the more there are, the more written numbers find theirs.
+pub record IsResolvedIn (t : Reading) (m : Meaning) : Type 0 where
+  pub regions : (nodes : List Path) (p : Path) (index : ℕ) → Agrees (λ (a b : Region). a ≡ b) (region (meaning_world m nodes) p index) (region (tree_world t) p index)
+  pub routes : (nodes : List Path) (p : Path) (index : ℕ) (meant told : Answer Route) → IsRoute (meaning_world m nodes) p index meant → IsRoute (tree_world t) p index told
+      → Agrees (λ (a b : Route). a ≡ b) meant told
+
+-- a tree of a meaning, by whatever numbers, resolves what the meaning determines
+abbrev pub MeaningIsResolved : Type 0
+MeaningIsResolved = (t : Reading) (m : Meaning) (number : Path → ℕ) → IsOf t m number → IsResolvedIn t m
+
+-- a node has one interrupt parent
+abbrev pub ParentIsOne : Type 0
+ParentIsOne = (w : World) (p : Path) (q r : Answer Path) → IsInterruptParent w p q → IsInterruptParent w p r → q ≡ r
+
+-- an index names one route
+abbrev pub RouteIsOne : Type 0
+RouteIsOne = (w : World) (p : Path) (index : ℕ) (a b : Answer Route) → IsRoute w p index a → IsRoute w p index b → a ≡ b

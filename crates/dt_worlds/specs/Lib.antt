@@ -1,0 +1,7 @@
+pub mod Answers
+pub mod Above
+pub mod World
+pub mod Regions
+pub mod Interrupts
+pub mod Laws
+pub mod Rows

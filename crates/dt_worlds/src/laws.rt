@@ -1,0 +1,18 @@
+//! What a meaning determines of addresses and routes, each blob of it has.
+
+ghost use Rattle.dt_worlds.specs.Laws.{MeaningIsResolved, ParentIsOne, RouteIsOne};
+
+/// Whatever a meaning determines of a region or a route, an answer or a fault, is so in the tree of each blob that represents it.
+pub fn meaning_is_resolved()
+    ensures { MeaningIsResolved }
+{}
+
+/// A node has one interrupt parent.
+pub fn parent_is_one()
+    ensures { ParentIsOne }
+{}
+
+/// An index names one route of a tree's node, or is refused for one reason, and not both.
+pub fn route_is_one()
+    ensures { RouteIsOne }
+{}

@@ -1,0 +1,14 @@
+//! Addresses and interrupt routes, in the standard's words (Devicetree Specification v0.4, 2.3 and 2.4): what they are in a blob's tree, what
+//! a source's meaning determines of them, and that each blob of the meaning has it so. No code but the parts that contracts share.
+#![tactic(auto)]
+
+mod laws;
+mod regions;
+mod rows;
+
+pub use laws::{meaning_is_resolved, parent_is_one, route_is_one};
+pub use regions::{BusAddress, BusCells, RangeCells, Region};
+pub use rows::{
+    addresses_at_the_end, addresses_of_a_board, numbers_used_as_phandles, parents_in_circles,
+    routes_through_a_nexus, specifiers_compared_late,
+};

@@ -1,0 +1,95 @@
+//! The rules on small sources and their trees.
+
+ghost use Rattle.std.specs.Prelude.{◌≡◌, false, true, List, ℕ, [], ◌∷◌, ◌++◌, codes};
+ghost use Rattle.dt_model.specs.Rows.{number, phandle_of};
+ghost use Rattle.dt_model.specs.Source.{property};
+ghost use Rattle.dt_names.specs.declared.fault.FaultKind.TheVariants.{
+  BadCells,
+  BadMap,
+  Loop,
+  NoRanges,
+  NotMapped,
+  Overflow,
+  PciBus,
+};
+ghost use Rattle.dt_worlds.specs.Answers.{answer, refuse, undetermined};
+ghost use Rattle.dt_worlds.specs.World.{World, tree_world, meaning_world};
+ghost use Rattle.dt_worlds.specs.Regions.{region};
+ghost use Rattle.dt_worlds.specs.Interrupts.{IsRoute};
+ghost use Rattle.dt_worlds.specs.Rows.{
+  below_root,
+  board,
+  board_tree,
+  circle,
+  circle_of_root,
+  circle_of_root_tree,
+  circle_tree,
+  controller,
+  device,
+  high_tree,
+  named_specifier,
+  nexus,
+  nexus_tree,
+  pci,
+  processor,
+  raw_parent,
+  raw_parent_tree,
+  wide_tree,
+  world_of,
+};
+
+/// Addresses through a bus that maps and one that doesn't, whole, cut and not mapped; the same in the source.
+pub fn addresses_of_a_board()
+    ensures whole { region (tree_world board_tree) device 0 ≡ answer (record { address = 0x40001f00; size = 0x100; whole = true }) }
+    ensures cut { region (tree_world board_tree) device 1 ≡ answer (record { address = 0x40001fff; size = 2; whole = false }) }
+    ensures not_mapped { region (tree_world board_tree) device 2 ≡ refuse NotMapped }
+    ensures no_ranges { region (tree_world board_tree) processor 0 ≡ refuse NoRanges }
+    ensures whole_meant { region (world_of board board_tree) device 0 ≡ answer (record { address = 0x40001f00; size = 0x100; whole = true }) }
+    ensures cut_meant { region (world_of board board_tree) device 1 ≡ answer (record { address = 0x40001fff; size = 2; whole = false }) }
+    ensures not_mapped_meant { region (world_of board board_tree) device 2 ≡ refuse NotMapped }
+    ensures no_ranges_meant { region (world_of board board_tree) processor 0 ≡ refuse NoRanges }
+{}
+
+/// An address past the cells of the bus above, one just below, a `reg` of no whole entry, a bus of PCI, and an address of 128 bits.
+pub fn addresses_at_the_end()
+    ensures past { region (tree_world (high_tree [])) (codes "b" ∷ codes "u" ∷ []) 0 ≡ refuse Overflow }
+    ensures below { region (tree_world (high_tree [])) (codes "b" ∷ codes "v" ∷ []) 0 ≡ answer (record { address = 0xffffffff; size = 4; whole = true }) }
+    ensures ragged { region (tree_world (high_tree [])) (below_root (codes "x")) 0 ≡ refuse BadCells }
+    ensures pci_past { region (tree_world (high_tree (pci ∷ []))) (codes "b" ∷ codes "u" ∷ []) 0 ≡ refuse PciBus }
+    ensures pci_below { region (tree_world (high_tree (pci ∷ []))) (codes "b" ∷ codes "v" ∷ []) 0 ≡ refuse PciBus }
+    ensures wide { region (tree_world wide_tree) (below_root (codes "u")) 0
+        ≡ answer (record { address = 0xffffffffffffffffffffffffffffffff; size = 1; whole = true }) }
+{}
+
+/// Routes through a map with a mask, from a node without `interrupt-parent`, and by `interrupts-extended`, which wins; the same in the source.
+pub fn routes_through_a_nexus()
+    ensures mapped { IsRoute (tree_world nexus_tree) (below_root (codes "d@1234")) 0 (answer (record { controller = controller; cells = 0 ∷ 5 ∷ 4 ∷ []; hops = 1 })) }
+    ensures direct { IsRoute (tree_world nexus_tree) (below_root (codes "e")) 0 (answer (record { controller = controller; cells = 0 ∷ 1 ∷ 4 ∷ []; hops = 0 })) }
+    ensures extended { IsRoute (tree_world nexus_tree) (below_root (codes "f")) 0 (answer (record { controller = controller; cells = 1 ∷ 2 ∷ 3 ∷ []; hops = 0 })) }
+    ensures mapped_meant { IsRoute (world_of nexus nexus_tree) (below_root (codes "d@1234")) 0 (answer (record { controller = controller; cells = 0 ∷ 5 ∷ 4 ∷ []; hops = 1 })) }
+    ensures direct_meant { IsRoute (world_of nexus nexus_tree) (below_root (codes "e")) 0 (answer (record { controller = controller; cells = 0 ∷ 1 ∷ 4 ∷ []; hops = 0 })) }
+    ensures extended_meant { IsRoute (world_of nexus nexus_tree) (below_root (codes "f")) 0 (answer (record { controller = controller; cells = 1 ∷ 2 ∷ 3 ∷ []; hops = 0 })) }
+{}
+
+/// Interrupt parents in a circle, of two nodes or of the root's own child.
+pub fn parents_in_circles()
+    ensures two { IsRoute (tree_world circle_tree) (below_root (codes "c")) 0 (refuse Loop) }
+    ensures root { IsRoute (tree_world circle_of_root_tree) (below_root (codes "c")) 0 (refuse Loop) }
+    ensures two_meant { IsRoute (world_of circle circle_tree) (below_root (codes "c")) 0 (refuse Loop) }
+    ensures root_meant { IsRoute (world_of circle_of_root circle_of_root_tree) (below_root (codes "c")) 0 (refuse Loop) }
+{}
+
+/// A number that is no reference names a node of a blob's tree. What it means in the source is left open, unless it is written in a node.
+pub fn numbers_used_as_phandles()
+    ensures tree { IsRoute (tree_world raw_parent_tree) (below_root (codes "d")) 0 (answer (record { controller = controller; cells = 7 ∷ []; hops = 0 })) }
+    ensures open { IsRoute (world_of (raw_parent []) raw_parent_tree) (below_root (codes "d")) 0 undetermined }
+    ensures written { IsRoute (world_of (raw_parent (property (codes "phandle") (number 1) ∷ [])) raw_parent_tree) (below_root (codes "d")) 0
+        (answer (record { controller = controller; cells = 7 ∷ []; hops = 0 })) }
+{}
+
+/// A specifier that is a reference: where the map's first row is cut, nothing is compared and the fault is determined; where it isn't, what comes
+/// of the route hangs on the number.
+pub fn specifiers_compared_late()
+    ensures cut { IsRoute (world_of (named_specifier []) raw_parent_tree) (below_root (codes "d")) 0 (refuse BadMap) }
+    ensures compared { IsRoute (world_of (named_specifier (phandle_of (codes "n") ++ number 1)) raw_parent_tree) (below_root (codes "d")) 0 undetermined }
+{}
