@@ -1,5 +1,5 @@
 -- The world of a blob's tree refines the world of each meaning that it represents.
-use Rattle.std.proofs.Common.{◌≡◌, ℕ, suc, ◌^◌, ◌<◌, ◌≤◌, Bool, true, false, not, ◌&&◌, ◌||◌, ◌==◌, List, [], ◌∷◌, ◌++◌, length, refl, sym, ap, ◌∙◌, subst, Option, Some, None, true≢false, arith}
+use Rattle.std.proofs.Common.{◌≡◌, ℕ, suc, ◌^◌, ◌<◌, ◌≤◌, Bool, true, false, not, ◌&&◌, ◌||◌, ◌==◌, List, [], ◌∷◌, ◌++◌, length, map, inl, inr, refl, sym, ap, ◌∙◌, subst, Option, Some, None, true≢false, arith}
 use Rattle.std.specs.Prelude.{if◌then◌else◌, codes, option_map}
 use Rattle.std.specs.Int.{w32, from_be_bytes}
 use Rattle.std.specs.Str.{bytes_eq}
@@ -15,9 +15,9 @@ use Rattle.dt_model.specs.Tree.{Reading, nodes_of, value_in}
 use Rattle.dt_model.specs.Valid.{IsValid, IsPhandle, phandle_values, phandles}
 use Rattle.dt_model.proofs.Distinct.{in_flat}
 use Rattle.dt_model.proofs.Finding.{node_of_number, number_of_node}
-use Rattle.dt_model.proofs.Listed.{value_listed}
+use Rattle.dt_model.proofs.Listed.{stands_listed, value_listed}
 use Rattle.dt_model.proofs.Preorder.{phandle_list, all_phandles, value_in_list}
-use Rattle.dt_model.proofs.Tests.{and_left, and_right, not_true, each_in}
+use Rattle.dt_model.proofs.Tests.{and_left, and_right, not_true, each_in, in_map}
 use Rattle.dt_laws.specs.InTurn.{IsOf}
 use Rattle.dt_laws.proofs.Inside.{each_more}
 use Rattle.dt_worlds.specs.Answers.{undetermined, answer, refuse, Agrees}
@@ -139,17 +139,36 @@ value_agrees t m r nodes of p n = step (m.stands p && not (bytes_eq n (codes "ph
         ∙ ap (λ (b : Bool). if b then (if m.keyed p then Some (cell (r p)) else None) else option_map (value_bytes r) (m.value p n)) other in
         (option_map value_of_bytes (option_map (value_bytes r) (m.value p n)), ap (λ (o : Option (List ℕ)). answer (option_map value_of_bytes o)) same, value_seen t m r of p n (m.value p n) refl)
 
+written_is : (n : ℕ) (o : Option ℕ) → is_written n o ≡ true → o ≡ Some n
+written_is n None k = absurd (true≢false (sym k))
+written_is n (Some k) h = ap (λ (i : ℕ). Some i) (sym ((Decides-eqb n k).0 h))
+
 node_has : (m : Meaning) (nodes : List Path) (n : ℕ) (p : Path) → node_written m nodes n ≡ Some p → m.number p ≡ Some n
 node_has m [] n p e = absurd (let z : None ≡ Some p = e in cc)
 node_has m (q ∷ nodes) n p e = step (λ k. node_has m nodes n p k) (is_written n (m.number q)) refl
   where
-    own : (o : Option ℕ) → is_written n o ≡ true → o ≡ Some n
-    own None k = absurd (true≢false (sym k))
-    own (Some k) h = ap (λ (i : ℕ). Some i) (sym ((Decides-eqb n k).0 h))
-
     step : (node_written m nodes n ≡ Some p → m.number p ≡ Some n) → (b : Bool) → is_written n (m.number q) ≡ b → m.number p ≡ Some n
-    step more true h = let z : Some q ≡ Some p = rw h at e in let same : q ≡ p = cc in ap m.number (sym same) ∙ own (m.number q) h
+    step more true h = let z : Some q ≡ Some p = rw h at e in let same : q ≡ p = cc in ap m.number (sym same) ∙ written_is n (m.number q) h
     step more false h = more (rw h at e)
+
+node_there : (m : Meaning) (nodes : List Path) (n : ℕ) (p : Path) → IsIn p nodes → m.number p ≡ Some n → ((q : Path) → m.number q ≡ Some n → q ≡ p) → node_written m nodes n ≡ Some p
+node_there m [] n p i e one = absurd i
+node_there m (q ∷ nodes) n p i e one = step (λ j. node_there m nodes n p j e one) (is_written n (m.number q)) refl
+  where
+    step : (IsIn p nodes → node_written m nodes n ≡ Some p) → (b : Bool) → is_written n (m.number q) ≡ b → node_written m (q ∷ nodes) n ≡ Some p
+    step more true h = rw h (ap Some (one q (written_is n (m.number q) h)))
+    step more false h = rw h (elim i [
+      | inl same ↦ absurd (true≢false (sym (ap (λ (z : Path). is_written n (m.number z)) (sym same) ∙ ap (is_written n) e ∙ (Decides-eqb n n).1 refl) ∙ h))
+      | inr j ↦ more j
+    ])
+
+pub written_found : (t : Reading) (m : Meaning) (number : Path → ℕ) (p : Path) (n : ℕ) → IsOf t m number → m.number p ≡ Some n → node_written m (map (λ x. x.path) (nodes_of t)) n ≡ Some p
+written_found t m number p n of e =
+    let stands = of.meaning.keyed_stand p (of.meaning.numbered p n e).0 in
+    let w = stands_listed t p (of.represents.nodes p (of.plain.plain p stands) ∙ stands) in
+    node_there m (map (λ x. x.path) (nodes_of t)) n p
+    (subst (λ q. IsIn q (map (λ x. x.path) (nodes_of t))) w.2 (in_map (λ x. x.path) (nodes_of t) w.0 w.1)) e
+    (λ q f. of.meaning.own q p n f e)
 
 -- the phandle of a tree's node is one
 is_phandle : (t : Reading) (q : Path) (n : ℕ) → IsValid t → node_numbered (nodes_of t) n ≡ Some q → IsPhandle (cell n)

@@ -1,12 +1,12 @@
 -- What a meaning determines of addresses and of interrupt routes is so in each blob that represents it.
-use Rattle.std.specs.Prelude.{◌≡◌, ℕ, List}
+use Rattle.std.specs.Prelude.{◌≡◌, ℕ, List, Some, map}
 use Rattle.dt_model.specs.Path.{Path}
 use Rattle.dt_model.specs.Meaning.{Meaning}
-use Rattle.dt_model.specs.Tree.{Reading}
+use Rattle.dt_model.specs.Tree.{Reading, nodes_of}
 use Rattle.dt_laws.specs.InTurn.{IsOf}
 use Rattle.dt_worlds.specs.declared.regions.Region.{Region}
 use Rattle.dt_worlds.specs.Answers.{Answer, Agrees}
-use Rattle.dt_worlds.specs.World.{World, tree_world, meaning_world}
+use Rattle.dt_worlds.specs.World.{World, tree_world, node_written, meaning_world}
 use Rattle.dt_worlds.specs.Regions.{region}
 use Rattle.dt_worlds.specs.Interrupts.{Route, IsInterruptParent, IsRoute}
 
@@ -20,6 +20,10 @@ pub record IsResolvedIn (t : Reading) (m : Meaning) : Type 0 where
 -- a tree of a meaning, by whatever numbers, resolves what the meaning determines
 abbrev pub MeaningIsResolved : Type 0
 MeaningIsResolved = (t : Reading) (m : Meaning) (number : Path → ℕ) → IsOf t m number → IsResolvedIn t m
+
+-- each number that a meaning writes finds its node among the nodes of a tree of it
+abbrev pub WrittenNumbersAreFound : Type 0
+WrittenNumbersAreFound = (t : Reading) (m : Meaning) (number : Path → ℕ) (p : Path) (n : ℕ) → IsOf t m number → m.number p ≡ Some n → node_written m (map (λ x. x.path) (nodes_of t)) n ≡ Some p
 
 -- a node has one interrupt parent
 abbrev pub ParentIsOne : Type 0

@@ -1,10 +1,15 @@
 //! What a meaning determines of addresses and routes, each blob of it has.
 
-ghost use Rattle.dt_worlds.specs.Laws.{MeaningIsResolved, ParentIsOne, RouteIsOne};
+ghost use Rattle.dt_worlds.specs.Laws.{MeaningIsResolved, ParentIsOne, RouteIsOne, WrittenNumbersAreFound};
 
 /// Whatever a meaning determines of a region or a route, an answer or a fault, is so in the tree of each blob that represents it.
 pub fn meaning_is_resolved()
     ensures { MeaningIsResolved }
+{}
+
+/// Each number that a meaning writes finds its node among the nodes of the tree of each blob that represents it.
+pub fn written_numbers_are_found()
+    ensures { WrittenNumbersAreFound }
 {}
 
 /// A node has one interrupt parent.
