@@ -2,7 +2,6 @@ pub mod TextCuts
 pub mod CellTexts
 pub mod ListedCells
 pub mod ToldFixups
-pub mod NodePlaces
 pub mod ToldLocalFixups
 pub mod MirrorWalks
 pub mod OneList

@@ -23,6 +23,7 @@ use Rattle.dt_model.proofs.Preorder.{listed_named}
 use Rattle.dt_model.proofs.Tests.{and_both, and_left, and_right, bytes_eq_true}
 use Rattle.dt_names.specs.Paths.{IsPathOf}
 use Rattle.dt_read.specs.Placed.{Nodes, no_nodes, node, forest_of, PlacedTree, reading_of, place_below, place_of}
+use Rattle.dt_read.proofs.NodePlaces.{stands_place}
 use Rattle.dt_landing.specs.Objects.{HasCell}
 use Rattle.dt_listed.specs.Cuts.{Lacks, IsCut, IsNumeralOf}
 use Rattle.dt_listed.specs.Texts.{IsPathValue}
@@ -110,23 +111,6 @@ pub cell_in_value : (k offset : ℕ) (property : Name) (value digits : List ℕ)
 cell_in_value k offset property value digits is less = ap (cell_within k property value) (number_there digits offset is) ∙ rw (le-leb (offset + 4) (length value) less) refl
 
 -- ---- nodes by paths and by texts
-
--- a path stands exactly where it has a place
-stands_below : (nodes : Nodes) (at : ℕ) (ps : List Property) (p : Path) → is_some (place_below at nodes p) ≡ is_some (node_below (record { properties = ps; children = forest_of nodes }) p)
-stands_below nodes at ps [] = refl
-stands_below no_nodes at ps (x ∷ p) = refl
-stands_below (node place name properties children siblings) at ps (x ∷ p) =
-    step (stands_below children place properties p) (stands_below siblings at ps (x ∷ p)) (bytes_eq x name) refl
-  where
-    step : is_some (place_below place children p) ≡ is_some (node_below (record { properties = properties; children = forest_of children }) p)
-        → is_some (place_below at siblings (x ∷ p)) ≡ is_some (node_below (record { properties = ps; children = forest_of siblings }) (x ∷ p))
-        → (b : Bool) → bytes_eq x name ≡ b
-        → is_some (place_below at (node place name properties children siblings) (x ∷ p)) ≡ is_some (node_below (record { properties = ps; children = forest_of (node place name properties children siblings) }) (x ∷ p))
-    step inside after true e = rw e inside
-    step inside after false e = rw e after
-
-pub stands_place : (t : PlacedTree) (p : Path) → is_some (place_of t p) ≡ stands_in (reading_of t) p
-stands_place t p = stands_below t.children t.place t.properties p
 
 -- a path without a place has no properties
 pub unplaced : (t : PlacedTree) (p : Path) → place_of t p ≡ None → node_at (reading_of t) p ≡ None

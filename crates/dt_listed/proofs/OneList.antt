@@ -14,7 +14,7 @@ use Rattle.dt_names.specs.declared.fault.FaultKind.TheVariants.{NoMemory, Limit,
 use Rattle.dt_read.specs.Placed.{PlacedTree, reading_of, place_of, IsAt}
 use Rattle.dt_listed.specs.Texts.{TextsAreOne, CellIsOne, IsPathValue, PathValueIsOne, WhyNoSymbolPath}
 use Rattle.dt_listed.specs.Listed.{ListedCell, IsListed, Fixup, LocalFixup, AreTold, AreFixups, AreOffsets, AreLocalProperties, AreLocalNodes}
-use Rattle.dt_listed.proofs.ListedCells.{stands_place}
+use Rattle.dt_read.proofs.NodePlaces.{stands_place}
 
 -- no two things are so
 abbrev IsOne : (X : Type 0) → (X → Type 0) → Type 0

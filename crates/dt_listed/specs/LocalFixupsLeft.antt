@@ -1,31 +1,16 @@
 -- What a reader of `__local_fixups__` still tells, as a function of what it has still to read.
-use Rattle.std.specs.Prelude.{ℕ, suc, zero, ◌+◌, ◌<◌, ◌%◌, ◌==◌, Bool, false, nat_le, List, [], ◌∷◌, ◌++◌, length, Option, Some, None, Ok, Err, if◌then◌else◌}
+use Rattle.std.specs.Prelude.{ℕ, suc, zero, ◌+◌, ◌<◌, ◌%◌, ◌==◌, nat_le, List, [], ◌∷◌, ◌++◌, length, Option, Some, None, Ok, Err, if◌then◌else◌}
 use Rattle.std.specs.List.{AllByRecursion}
 use Rattle.dt_model.specs.Limits.{most_bodies}
 use Rattle.dt_model.specs.Names.{Name}
 use Rattle.dt_model.specs.Object.{words_of}
 use Rattle.dt_model.specs.Path.{Path}
-use Rattle.dt_model.specs.Tree.{Property, Placed, nodes_of, value_in}
+use Rattle.dt_model.specs.Tree.{Property, value_in}
 use Rattle.dt_names.specs.Fault.{placeless}
 use Rattle.dt_names.specs.declared.fault.FaultKind.TheVariants.{BadLocalFixup}
-use Rattle.dt_read.specs.Placed.{PlacedTree, reading_of, place_of, IsAt}
+use Rattle.dt_read.specs.Placed.{PlacedTree, reading_of, place_of, path_at, IsAt}
 use Rattle.dt_read.specs.Walked.{Step, opens, holds, closes}
 use Rattle.dt_listed.specs.Listed.{LocalFixup}
-
--- ---- nodes by their places
-
-abbrev pub is_place : Option ℕ → ℕ → Bool
-is_place None k = false
-is_place (Some j) k = j == k
-
--- the path of the first of some nodes that has the place
-abbrev pub path_among : PlacedTree → List Placed → ℕ → Path
-path_among t [] k = []
-path_among t (n ∷ ns) k = if is_place (place_of t n.path) k then n.path else path_among t ns k
-
--- the path of a node
-unfoldable pub path_at : PlacedTree → ℕ → Path
-path_at t k = path_among t (nodes_of (reading_of t)) k
 
 -- ---- what is told
 

@@ -12,7 +12,8 @@ ghost use Rattle.dt_read.specs.Walked.{opens, holds, closes};
 ghost use Rattle.dt_names.specs.Fault.{placeless};
 ghost use Rattle.dt_names.specs.declared.fault.FaultKind.TheVariants.{BadLocalFixup};
 ghost use Rattle.dt_listed.specs.ListedViews.{local_view};
-ghost use Rattle.dt_listed.specs.LocalFixupsLeft.{path_at, step_told, walk_told, MayWalk};
+ghost use Rattle.dt_read.specs.Placed.{path_at};
+ghost use Rattle.dt_listed.specs.LocalFixupsLeft.{step_told, walk_told, MayWalk};
 ghost use Rattle.dt_listed.specs.MirrorViews.{mirror_left, steps_left, MayGoOn, IsTaken};
 
 use crate::listed::{ListedCell, has_cell};

@@ -23,3 +23,4 @@ pub mod KeyCounts
 pub mod Novelty
 pub mod PhandleKeys
 pub mod NameKeys
+pub mod NodePlaces

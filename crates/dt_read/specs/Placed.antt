@@ -1,10 +1,10 @@
 -- Trees each of whose nodes has its place in the blob, by which a reader names it.
-use Rattle.std.specs.Prelude.{◌≡◌, ℕ, List, [], ◌∷◌, Option, Some, None, if◌then◌else◌}
+use Rattle.std.specs.Prelude.{◌≡◌, ◌==◌, ℕ, Bool, false, List, [], ◌∷◌, Option, Some, None, if◌then◌else◌}
 use Rattle.std.specs.Str.{bytes_eq}
 use Rattle.dt_model.specs.Names.{Name}
 use Rattle.dt_model.specs.Path.{Path}
 use Rattle.dt_model.specs.Tree as tree
-use Rattle.dt_model.specs.Tree.{Property, Forest, branch, Reading, Node, node_at}
+use Rattle.dt_model.specs.Tree.{Property, Forest, branch, Reading, Node, Placed, node_at, nodes_of}
 use Rattle.dt_model.specs.Valid.{names}
 
 -- A tree each of whose nodes has its place: the offset of its BEGIN_NODE in the blob.
@@ -40,6 +40,25 @@ place_of t path = place_below t.place t.children path
 -- the node has this path
 abbrev pub IsAt : PlacedTree → Path → ℕ → Type 0
 IsAt t path place = place_of t path ≡ Some place
+
+-- ---- nodes by their places
+
+abbrev pub is_place : Option ℕ → ℕ → Bool
+is_place None k = false
+is_place (Some j) k = j == k
+
+-- the path of the first of some nodes that has the place
+abbrev pub path_among : PlacedTree → List Placed → ℕ → Path
+path_among t [] k = []
+path_among t (n ∷ ns) k = if is_place (place_of t n.path) k then n.path else path_among t ns k
+
+-- the path of a node, and the root's of what is no node's place
+unfoldable pub path_at : PlacedTree → ℕ → Path
+path_at t k = path_among t (nodes_of (reading_of t)) k
+
+-- a place that is a node's
+abbrev pub IsNode : PlacedTree → ℕ → Type 0
+IsNode t k = IsAt t (path_at t k) k
 
 -- ---- what a node has, by its path
 

@@ -3,12 +3,29 @@ use Rattle.std.proofs.Common.{◌≡◌, ℕ, Bool, true, false, cond, List, [],
 use Rattle.std.proofs.lemmas.Bool.{eqb-true, eq-eqb}
 use Rattle.dt_model.specs.Lists.{IsIn}
 use Rattle.dt_model.specs.Path.{Path}
-use Rattle.dt_model.specs.Tree.{Placed, nodes_of}
+use Rattle.dt_model.specs.Names.{Name}
+use Rattle.dt_model.specs.Tree.{Property, Placed, node_below, nodes_of, stands_in}
 use Rattle.dt_model.proofs.Listed.{stands_listed}
-use Rattle.dt_read.specs.Placed.{PlacedTree, reading_of, place_of, IsAt}
-use Rattle.dt_listed.specs.LocalFixupsLeft.{is_place, path_among, path_at}
-use Rattle.dt_listed.proofs.ListedCells.{stands_place}
+use Rattle.dt_read.specs.Placed.{Nodes, no_nodes, node, forest_of, PlacedTree, reading_of, place_below, place_of, is_place, path_among, path_at, IsAt, IsNode}
 use Rattle.std.specs.Prelude.{is_some}
+use Rattle.std.specs.Str.{bytes_eq}
+
+-- a path stands exactly where it has a place
+pub stands_below : (nodes : Nodes) (at : ℕ) (ps : List Property) (p : Path) → is_some (place_below at nodes p) ≡ is_some (node_below (record { properties = ps; children = forest_of nodes }) p)
+stands_below nodes at ps [] = refl
+stands_below no_nodes at ps (x ∷ p) = refl
+stands_below (node place name properties children siblings) at ps (x ∷ p) =
+    step (stands_below children place properties p) (stands_below siblings at ps (x ∷ p)) (bytes_eq x name) refl
+  where
+    step : is_some (place_below place children p) ≡ is_some (node_below (record { properties = properties; children = forest_of children }) p)
+        → is_some (place_below at siblings (x ∷ p)) ≡ is_some (node_below (record { properties = ps; children = forest_of siblings }) (x ∷ p))
+        → (b : Bool) → bytes_eq x name ≡ b
+        → is_some (place_below at (node place name properties children siblings) (x ∷ p)) ≡ is_some (node_below (record { properties = ps; children = forest_of (node place name properties children siblings) }) (x ∷ p))
+    step inside after true e = rw e inside
+    step inside after false e = rw e after
+
+pub stands_place : (t : PlacedTree) (p : Path) → is_some (place_of t p) ≡ stands_in (reading_of t) p
+stands_place t p = stands_below t.children t.place t.properties p
 
 place_passed : (o : Option ℕ) (k : ℕ) → is_place o k ≡ true → o ≡ Some k
 place_passed None k e = absurd (true≢false (sym e))
@@ -34,3 +51,7 @@ unfolding path_at
 path_is t places p k at =
     let n = stands_listed (reading_of t) p (sym (stands_place t p) ∙ ap is_some at) in
     places (path_among t (nodes_of (reading_of t)) k) p k (among t (nodes_of (reading_of t)) k n.0 n.1 (ap (place_of t) n.2 ∙ at)) at
+
+-- so it is its node's
+pub at_node : (t : PlacedTree) → ((p q : Path) (k : ℕ) → IsAt t p k → IsAt t q k → p ≡ q) → (p : Path) (k : ℕ) → IsAt t p k → IsNode t k
+at_node t places p k at = ap (place_of t) (path_is t places p k at) ∙ at

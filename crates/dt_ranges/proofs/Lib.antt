@@ -1,0 +1,5 @@
+pub mod Faults
+pub mod CellsOfBytes
+pub mod RangesMap
+pub mod Rising
+pub mod Listed

@@ -1,0 +1,187 @@
+//! Addresses through the buses above a node (Devicetree Specification v0.4, 2.3).
+
+ghost use Rattle.std.specs.Prelude.{◌≡◌, ℕ, ◌+◌, ◌*◌, ◌^◌, ◌≤◌, ◌&&◌, nat_le, nat_lt, true, length};
+ghost use Rattle.dt_read.specs.Placed.{path_at, reading_of, IsNode};
+ghost use Rattle.dt_worlds.specs.Answers.{Answer, told};
+ghost use Rattle.dt_worlds.specs.World.{tree_world, value_of_bytes, quads_of};
+ghost use Rattle.dt_worlds.specs.Regions.{entries, fitting, fitted, mapped_by, mapped, risen, finished, translated, region_at, region};
+
+use crate::cells::{after, part_at};
+use dt_names::{Fault, FaultKind, NodeId};
+use dt_view::{TreeView, cells, is_pci};
+use dt_worlds::{BusAddress, RangeCells, Region};
+
+/// Whether an address is one of that many cells.
+fn fits(address: u128, cells: u32) -> bool
+    requires { cells ≤ 4 }
+    ensures { result ≡ nat_lt address (2 ^ (32 * cells)) }
+{
+    match cells {
+        0 => address == 0,
+        1 => address < 0x1_0000_0000,
+        2 => address < 0x1_0000_0000_0000_0000,
+        3 => address < 0x1_0000_0000_0000_0000_0000_0000,
+        _ => true,
+    }
+}
+
+/// A place at a distance from a range's begin.
+fn raised(begin: u128, distance: u128, whole: bool, cells: u32) -> Result<BusAddress, Fault>
+    requires { cells ≤ 4 }
+    ensures { told result ≡ fitting cells (record { address = begin + distance; whole = whole }) }
+{
+    match begin.checked_add(distance) {
+        Some(address) => {
+            if fits(address, cells) {
+                Ok(BusAddress { address, whole })
+            } else {
+                Err(Fault::of(FaultKind::Overflow))
+            }
+        }
+        None => Err(Fault::of(FaultKind::Overflow)),
+    }
+}
+
+/// Whether a size is mapped as a whole by what is left of a range.
+fn stays_whole(whole: bool, size: u128, left: u128) -> bool
+    ensures { result ≡ (whole && nat_le size left) }
+{
+    whole && size <= left
+}
+
+/// Maps an address by the first of some ranges that holds it.
+fn by_ranges(
+    widths: RangeCells,
+    size: u128,
+    at: BusAddress,
+    ranges: &[u8],
+    count: usize,
+) -> Result<BusAddress, Fault>
+    requires child { widths.child ≤ 4 }
+    requires above { widths.above ≤ 4 }
+    requires long { widths.length ≤ 4 }
+    requires whole { length ranges.now ≡ count * (4 * (widths.child + widths.above + widths.length)) }
+    ensures { told result ≡ fitted widths.above (mapped_by widths size at (entries count (widths.child + widths.above + widths.length) (quads_of ranges.now))) }
+{
+    let width = widths.child + widths.above + widths.length;
+    let mut rest = ranges;
+    for done in 0..count {
+        let begin = part_at(rest, 0, widths.child);
+        let length = part_at(rest, widths.child + widths.above, widths.length);
+        if begin <= at.address && at.address - begin < length {
+            let distance = at.address - begin;
+            let target = part_at(rest, widths.child, widths.above);
+            let whole = stays_whole(at.whole, size, length - distance);
+            return raised(target, distance, whole, widths.above);
+        }
+        rest = after(rest, width as usize);
+    }
+    Err(Fault::of(FaultKind::NotMapped))
+}
+
+/// Maps an address by the ranges of a bus, which are identity where there are none.
+fn mapped(
+    widths: RangeCells,
+    size: u128,
+    at: BusAddress,
+    ranges: &[u8],
+) -> Result<BusAddress, Fault>
+    requires child { widths.child ≤ 4 }
+    requires above { widths.above ≤ 4 }
+    requires long { widths.length ≤ 4 }
+    ensures { told result ≡ fitted widths.above (mapped widths size at (value_of_bytes ranges.now)) }
+{
+    if ranges.is_empty() {
+        return raised(at.address, 0, at.whole, widths.above);
+    }
+    let width = 4 * (widths.child + widths.above + widths.length) as usize;
+    if width == 0 || ranges.len() % width != 0 {
+        return Err(Fault::of(FaultKind::BadCells));
+    }
+    by_ranges(widths, size, at, ranges, ranges.len() / width)
+}
+
+/// Maps an address of a bus to one of the bus above.
+fn risen<V: TreeView>(
+    view: &V,
+    name: &[u8],
+    above: NodeId,
+    bus: NodeId,
+    size: u128,
+    at: BusAddress,
+) -> Result<BusAddress, Fault>
+    requires upper { IsNode (V.tree view.now) above }
+    requires lower { IsNode (V.tree view.now) bus }
+    ensures { told result ≡ risen (tree_world (reading_of (V.tree view.now))) name.now (path_at (V.tree view.now) above) (path_at (V.tree view.now) bus) size at }
+{
+    if is_pci(view, bus) {
+        return Err(Fault::of(FaultKind::PciBus));
+    }
+    let Some(ranges) = view.value(bus, name) else {
+        return Err(Fault::of(FaultKind::NoRanges));
+    };
+    let own = cells(view, bus)?;
+    let up = cells(view, above)?;
+    let widths = RangeCells {
+        child: own.address,
+        above: up.address,
+        length: own.size,
+    };
+    mapped(widths, size, at, ranges)
+}
+
+/// The region of an address and a size on a bus.
+fn region_at<V: TreeView>(
+    view: &V,
+    name: &[u8],
+    bus: NodeId,
+    address: u128,
+    size: u128,
+) -> Result<Region, Fault>
+    requires { IsNode (V.tree view.now) bus }
+    ensures { told result ≡ region_at (tree_world (reading_of (V.tree view.now))) name.now (path_at (V.tree view.now) bus) address size }
+{
+    let mut at = BusAddress {
+        address,
+        whole: true,
+    };
+    let mut here = bus;
+    while let Some(above) = view.parent(here) {
+        at = risen(view, name, above, here, size, at)?;
+        here = above;
+    }
+    if is_pci(view, here) {
+        return Err(Fault::of(FaultKind::PciBus));
+    }
+    Ok(Region {
+        address: at.address,
+        size,
+        whole: at.whole,
+    })
+}
+
+/// The region that an entry of a node's `reg` is.
+pub fn region<V: TreeView>(view: &V, node: NodeId, index: u64) -> Result<Region, Fault>
+    requires { IsNode (V.tree view.now) node }
+    ensures { told result ≡ region (tree_world (reading_of (V.tree view.now))) (path_at (V.tree view.now) node) index }
+{
+    let Some(bus) = view.parent(node) else {
+        return Err(Fault::of(FaultKind::NoReg));
+    };
+    let Some(reg) = view.value(node, b"reg") else {
+        return Err(Fault::of(FaultKind::NoReg));
+    };
+    let own = cells(view, bus)?;
+    let width = (own.address + own.size) as usize;
+    if width == 0 || reg.len() % (4 * width) != 0 {
+        return Err(Fault::of(FaultKind::BadCells));
+    }
+    let count = reg.len() / (4 * width);
+    if index >= count as u64 {
+        return Err(Fault::of(FaultKind::NoReg));
+    }
+    let entry = after(reg, index as usize * width);
+    let address = part_at(entry, 0, own.address);
+    let size = part_at(entry, own.address, own.size);
+    region_at(view, b"ranges", bus, address, size)
+}

@@ -1,0 +1,3 @@
+pub mod Shallow
+pub mod Parents
+pub mod ParentSteps

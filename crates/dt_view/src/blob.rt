@@ -1,0 +1,53 @@
+//! A blob as a view: each question about what stands above or elsewhere is a walk through it.
+
+ghost use Rattle.std.specs.Prelude.{◌≡◌, ℕ};
+ghost use Rattle.std.specs.Option.{option_copied};
+ghost use Rattle.dt_model.specs.Tree.{value_in};
+ghost use Rattle.dt_read.specs.Placed.{PlacedTree, path_at, reading_of, IsNode};
+ghost use Rattle.dt_view.specs.Views.{IsAbove};
+
+use crate::view::TreeView;
+use dt_names::NodeId;
+use dt_read::{Blob, OpenNodes, Step};
+
+// The node above a node, by a walk up to it.
+fn parent_of(blob: &Blob<'_>, node: NodeId) -> Option<NodeId>
+    requires { IsNode blob.now node }
+    ensures { IsAbove blob.now node result }
+{
+    blob.validity();
+    let mut open_nodes = OpenNodes::new();
+    for step in blob.steps() {
+        match step {
+            Step::Open { node: here, .. } => {
+                if here == node {
+                    return open_nodes.innermost();
+                }
+                open_nodes.push(here);
+            }
+            Step::Property { .. } => {}
+            Step::Close => open_nodes.pop(),
+        }
+    }
+    None
+}
+
+// The value of a node's property.
+fn value_of<'b>(blob: &'b Blob<'_>, node: NodeId, name: &[u8]) -> Option<&'b [u8]>
+    requires { IsNode blob.now node }
+    ensures { option_copied result ≡ value_in (reading_of blob.now) (path_at blob.now node) name.now }
+{
+    blob.value(node, name)
+}
+
+impl<'a> TreeView for Blob<'a> {
+    ghost tree = { λ blob. blob };
+
+    fn parent(&self, node: NodeId) -> Option<NodeId> {
+        parent_of(self, node)
+    }
+
+    fn value(&self, node: NodeId, name: &[u8]) -> Option<&[u8]> {
+        value_of(self, node, name)
+    }
+}

@@ -1,0 +1,24 @@
+//! A view of a tree.
+
+ghost use Rattle.std.specs.Prelude.{◌≡◌, ℕ};
+ghost use Rattle.std.specs.Option.{option_copied};
+ghost use Rattle.dt_model.specs.Tree.{value_in};
+ghost use Rattle.dt_read.specs.Placed.{PlacedTree, path_at, reading_of, IsNode};
+ghost use Rattle.dt_view.specs.Views.{IsAbove};
+
+use dt_names::NodeId;
+
+/// A tree whose nodes go by numbers of the view's own, seen as the tree with these as its nodes' places.
+pub trait TreeView {
+    ghost tree: { Self → PlacedTree };
+
+    /// The node above a node, None above the root.
+    fn parent(&self, node: NodeId) -> Option<NodeId>
+        requires { IsNode (tree self.now) node }
+        ensures { IsAbove (tree self.now) node result };
+
+    /// The value of a property of a node, None where it has no property of that name.
+    fn value(&self, node: NodeId, name: &[u8]) -> Option<&[u8]>
+        requires { IsNode (tree self.now) node }
+        ensures { option_copied result ≡ value_in (reading_of (tree self.now)) (path_at (tree self.now) node) name.now };
+}
