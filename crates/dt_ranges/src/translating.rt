@@ -25,7 +25,7 @@ fn fits(address: u128, cells: u32) -> bool
     }
 }
 
-/// A place at a distance from a range's begin.
+/// The address at a distance from a range's begin; `Overflow` where that many cells don't hold it.
 fn raised(begin: u128, distance: u128, whole: bool, cells: u32) -> Result<BusAddress, Fault>
     requires { cells ≤ 4 }
     ensures { told result ≡ fitting cells (record { address = begin + distance; whole = whole }) }
@@ -160,7 +160,15 @@ fn region_at<V: TreeView>(
     })
 }
 
-/// The region that an entry of a node's `reg` is.
+/// The region of the root's bus that an entry of a node's `reg` is (Devicetree Specification v0.4, 2.3.6 and 2.3.8): the address that the CPU
+/// uses and the size, both in bytes, and whether the whole of it is mapped there without a break. The address goes up bus by bus, each time by
+/// the first entry of `ranges` that holds it. Takes no memory; of a `Blob` each bus costs a walk up to it.
+///
+/// # Errors
+///
+/// `NoReg`: the root, a node without `reg`, or without that entry. `BadCells`: the counts of a bus, or the length of `reg` or of `ranges`. And of
+/// each bus on the way up `PciBus`, which comes first, `NoRanges`, `NotMapped`, and `Overflow`, where the bus above has no cells for the address.
+/// The first of these on the way; none has a place.
 pub fn region<V: TreeView>(view: &V, node: NodeId, index: u64) -> Result<Region, Fault>
     requires { IsNode (V.tree view.now) node }
     ensures { told result ≡ region (tree_world (reading_of (V.tree view.now))) (path_at (V.tree view.now) node) index }

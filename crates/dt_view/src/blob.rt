@@ -1,4 +1,5 @@
-//! A blob as a view: each question about what stands above or elsewhere is a walk through it.
+//! A blob as a view. A blob's tokens tell no parent, so the node above a node is told by a walk from the root up to it: for a boot loader, which
+//! asks seldom and has no memory to spend.
 
 ghost use Rattle.std.specs.Prelude.{◌≡◌, ℕ};
 ghost use Rattle.std.specs.Option.{option_copied};

@@ -8,7 +8,8 @@ ghost use Rattle.dt_view.specs.Views.{IsAbove};
 
 use dt_names::NodeId;
 
-/// A tree whose nodes go by numbers of the view's own, seen as the tree with these as its nodes' places.
+/// A tree as the resolvers of addresses and interrupts see it, whatever holds it. Its nodes go by numbers of the view's own; it is seen as the tree
+/// with these as its nodes' places. None of its calls takes memory.
 pub trait TreeView {
     ghost tree: { Self → PlacedTree };
 
