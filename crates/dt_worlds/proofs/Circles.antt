@@ -1,7 +1,7 @@
 -- Interrupt parents that lead round: no number of steps ends.
 use Rattle.std.proofs.Common.{◌≡◌, ℕ, zero, suc, refl, None}
-use Rattle.std.specs.Prelude.{[], ◌∷◌, codes}
-use Rattle.dt_worlds.specs.World.{World, tree_world}
+use Rattle.std.specs.Prelude.{[], codes}
+use Rattle.dt_worlds.specs.World.{tree_world}
 use Rattle.dt_worlds.specs.Interrupts.{ended}
 use Rattle.dt_worlds.specs.Rows.{below_root, circle, circle_of_root, circle_of_root_tree, circle_tree, world_of}
 

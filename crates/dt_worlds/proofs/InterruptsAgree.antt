@@ -9,7 +9,7 @@ use Rattle.dt_worlds.specs.World.{Quad, Value, World}
 use Rattle.dt_worlds.specs.Regions.{figure_of, only_cell, address_count, entries_of, entry_at}
 use Rattle.dt_worlds.specs.Interrupts.{step_by, step_of, Lead, nowhere, arrived, onward, step_to, steps_from, after_step, ended, IsInterruptParent, specifier_size, specifier_count_of, specifier_count, Sent, Entry, entry_of, first_entry, entry_sent, is_ragged, listed_at, IsSentBy, Interrupt, RowCells, MapRow, map_row_of, map_row_at_parent, map_row, interrupt_row_cells, as_numbers, equal_under, matches, first_match, mask_of, led, hop, Route, at_node, arrival, routed, unit_of, most_hops, route_of_sent, IsRoute}
 use Rattle.dt_worlds.proofs.Agreeing.{Same, agree_bind, agree_refl, agree_same, IsSeen, AreSeen, IsValueSeen, IsMaybeSeen, Refines, seen_figure, seen_take, seen_drop, seen_length, seen_append}
-use Rattle.dt_worlds.proofs.RegionsAgree.{agree_if, only_cell_agrees, only_number_agrees, address_count_agrees, AreAllSeen, entries_of_agree, entry_agrees}
+use Rattle.dt_worlds.proofs.RegionsAgree.{only_cell_agrees, only_number_agrees, address_count_agrees, AreAllSeen, entries_of_agree, entry_agrees}
 
 cell_node_agrees : (v w : World) → Refines v w → (a b : Value) → IsValueSeen w a b → Agrees (Same Path) (only_cell a >>= v.node) (only_cell b >>= w.node)
 cell_node_agrees v w r a b h = agree_bind (IsSeen w) (Same Path) (only_cell a) (only_cell b) v.node w.node (only_cell_agrees w a b h) r.node

@@ -1,5 +1,5 @@
 -- The world of a blob's tree refines the world of each meaning that it represents.
-use Rattle.std.proofs.Common.{◌≡◌, ℕ, suc, ◌^◌, ◌<◌, ◌≤◌, Bool, true, false, not, ◌&&◌, ◌||◌, ◌==◌, List, [], ◌∷◌, ◌++◌, length, map, inl, inr, refl, sym, ap, ◌∙◌, subst, Option, Some, None, true≢false, arith}
+use Rattle.std.proofs.Common.{◌≡◌, ℕ, suc, ◌^◌, ◌<◌, Bool, true, false, not, ◌&&◌, ◌||◌, ◌==◌, List, [], ◌∷◌, ◌++◌, length, map, inl, inr, refl, sym, ap, ◌∙◌, subst, Option, Some, None, true≢false, arith}
 use Rattle.std.specs.Prelude.{if◌then◌else◌, codes, option_map}
 use Rattle.std.specs.Int.{w32, from_be_bytes}
 use Rattle.std.specs.Str.{bytes_eq}
@@ -8,7 +8,7 @@ use Rattle.std.proofs.lemmas.Bool.Decides.{Decides-eqb}
 use Rattle.dt_names.specs.declared.fault.FaultKind.TheVariants.{UnknownPhandle}
 use Rattle.dt_model.specs.Applied.{node_numbered}
 use Rattle.dt_model.specs.Lists.{IsIn}
-use Rattle.dt_model.specs.Meaning.{Item, byte, reference, cell, value_bytes, EachReference, Meaning, instance_value}
+use Rattle.dt_model.specs.Meaning.{Item, byte, reference, cell, value_bytes, EachReference, Meaning}
 use Rattle.dt_model.specs.Names.{Name}
 use Rattle.dt_model.specs.Path.{Path, is_bookkeeping}
 use Rattle.dt_model.specs.Tree.{Reading, nodes_of, value_in}

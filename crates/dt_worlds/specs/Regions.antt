@@ -9,7 +9,7 @@ use Rattle.dt_worlds.specs.declared.regions.RangeCells.{RangeCells}
 use Rattle.dt_model.specs.Names.{Name}
 use Rattle.dt_model.specs.Path.{Path}
 use Rattle.dt_worlds.specs.Above.{front}
-use Rattle.dt_worlds.specs.Answers.{Answer, undetermined, refused, answer, refuse, ◌>>=◌}
+use Rattle.dt_worlds.specs.Answers.{Answer, undetermined, answer, refuse, ◌>>=◌}
 use Rattle.dt_worlds.specs.World.{Quad, figure, pointer, torn, Value, World}
 
 -- a cell used as a number

@@ -7,8 +7,8 @@ use Rattle.dt_model.specs.Path.{Path}
 use Rattle.dt_model.specs.Meaning.{cell}
 use Rattle.dt_model.specs.Rows.{number, phandle_of, meaning, set, tree}
 use Rattle.dt_model.specs.Source.{Part, Place, root, child, label, property, close}
-use Rattle.dt_model.specs.Tree.{Property, Forest, no_nodes, branch, Reading, nodes_of}
-use Rattle.dt_worlds.specs.World.{World, tree_world, meaning_world}
+use Rattle.dt_model.specs.Tree.{Property, no_nodes, branch, Reading, nodes_of}
+use Rattle.dt_worlds.specs.World.{World, meaning_world}
 
 -- ---- words
 

@@ -1,9 +1,7 @@
-use Rattle.std.proofs.Common.{ℕ, refl, inl, inr}
-use Rattle.dt_names.specs.declared.fault.FaultKind.TheVariants.{Loop}
-use Rattle.dt_worlds.specs.Answers.{answer, refuse, undetermined}
+use Rattle.std.proofs.Common.{refl, inl}
+use Rattle.dt_worlds.specs.Answers.{answer, undetermined}
 use Rattle.dt_worlds.specs.Interrupts.{routed}
-use Rattle.dt_worlds.specs.Rows.{controller, below_root}
-use Rattle.std.specs.Prelude.{codes}
+use Rattle.dt_worlds.specs.Rows.{controller}
 use Rattle.dt_worlds.proofs.rows.numbers_used_as_phandles.Goals as goal
 
 pub returns-clause-tree : goal.returns-clause-tree

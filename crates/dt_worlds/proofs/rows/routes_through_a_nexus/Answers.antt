@@ -1,6 +1,5 @@
-use Rattle.std.proofs.Common.{ℕ, refl, inl, inr}
-use Rattle.dt_names.specs.declared.fault.FaultKind.TheVariants.{Loop}
-use Rattle.dt_worlds.specs.Answers.{answer, refuse, undetermined}
+use Rattle.std.proofs.Common.{refl, inl}
+use Rattle.dt_worlds.specs.Answers.{answer}
 use Rattle.dt_worlds.specs.Interrupts.{routed}
 use Rattle.dt_worlds.specs.Rows.{controller, below_root}
 use Rattle.std.specs.Prelude.{codes}
