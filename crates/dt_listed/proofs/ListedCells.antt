@@ -12,7 +12,7 @@ use Rattle.dt_model.specs.Names.{Name, IsNodeName, IsPropertyName, is_property_n
 use Rattle.dt_model.specs.Path.{Path, path_text, path_value}
 use Rattle.dt_model.specs.Lists.{IsIn}
 use Rattle.dt_model.specs.Object.{Cell, IsCellText, properties_of}
-use Rattle.dt_model.specs.Tree.{Property, Node, Reading, Placed, node_below, node_at, stands_in, value_in, nodes_of}
+use Rattle.dt_model.specs.Tree.{Node, Reading, Placed, node_at, stands_in, value_in, nodes_of}
 use Rattle.dt_model.specs.Valid.{IsValid}
 use Rattle.dt_model.specs.Applied.{node_named}
 use Rattle.dt_model.proofs.NameTests.{property_tests}
@@ -22,7 +22,7 @@ use Rattle.dt_model.proofs.Listed.{listed_stands, value_stands}
 use Rattle.dt_model.proofs.Preorder.{listed_named}
 use Rattle.dt_model.proofs.Tests.{and_both, and_left, and_right, bytes_eq_true}
 use Rattle.dt_names.specs.Paths.{IsPathOf}
-use Rattle.dt_read.specs.Placed.{Nodes, no_nodes, node, forest_of, PlacedTree, reading_of, place_below, place_of}
+use Rattle.dt_read.specs.Placed.{Nodes, no_nodes, node, PlacedTree, reading_of, place_below, place_of}
 use Rattle.dt_read.proofs.NodePlaces.{stands_place}
 use Rattle.dt_landing.specs.Objects.{HasCell}
 use Rattle.dt_listed.specs.Cuts.{Lacks, IsCut, IsNumeralOf}
