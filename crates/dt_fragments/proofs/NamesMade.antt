@@ -5,12 +5,12 @@ use Rattle.std.specs.HashSet.{HashSet, contains_by, UpdatesBy}
 use Rattle.std.specs.Option.{IfSome}
 use Rattle.std.specs.Str.{bytes_eq}
 use Rattle.std.proofs.lemmas.Bool.{both_ways, false_from_ne_true}
-use Rattle.std.proofs.lemmas.List.{drop_more, length-map}
+use Rattle.std.proofs.lemmas.List.{drop_more}
 use Rattle.std.proofs.lemmas.Nat.{mul-le}
 use Rattle.dt_model.proofs.EventSteps.{bytes_eq-refl, bytes_eq-is}
 use Rattle.dt_model.specs.Names.{Name}
 use Rattle.dt_model.specs.OverlaySource.{root_children, fragment_name, free_from}
-use Rattle.dt_model.specs.Source.{Place, Reference, root, block, delete_node, child, label, property, delete_property, delete_child, close, is_among}
+use Rattle.dt_model.specs.Source.{Place, root, block, delete_node, child, label, property, delete_property, delete_child, close, is_among}
 use Rattle.dt_items.specs.Said.{place_said}
 use Rattle.dt_items.specs.declared.source.Item.{Item}
 use Rattle.dt_fragments.specs.FragmentNames.{borrowed, depth_behind, has_name, made_names, root_child, NameSet}

@@ -1,9 +1,8 @@
 -- What the tree of an overlay borrows: names of new fragments, and what the blocks' targets hold.
-use Rattle.std.specs.Prelude.{◌≡◌, ℕ, zero, suc, ◌+◌, List, [], ◌∷◌, map, length, drop, None, Result, Ok, Err, MatchResult}
-use Rattle.std.specs.Global.{Vec}
+use Rattle.std.specs.Prelude.{◌≡◌, ℕ, ◌+◌, List, [], ◌∷◌, map, length, drop, None, Result, Ok, Err, MatchResult}
 use Rattle.dt_model.specs.Names.{Name}
 use Rattle.dt_model.specs.Source.{Reference, Place, root, block, delete_node, child, label, property, delete_property, delete_child, close}
-use Rattle.dt_model.specs.OverlaySource.{root_children, fragment_name, free_from, OverlayRefusal, OverlaySoFar, read_overlay, read_overlays, overlay_start}
+use Rattle.dt_model.specs.OverlaySource.{root_children, OverlayRefusal, OverlaySoFar, read_overlay, read_overlays, overlay_start}
 use Rattle.dt_names.specs.declared.fault.Fault.{Fault}
 use Rattle.dt_items.specs.Said.{value_said}
 use Rattle.dt_fragments.specs.FragmentNames.{made_names, texts}
