@@ -1,3 +1,5 @@
 pub mod Shallow
 pub mod Parents
 pub mod ParentSteps
+pub mod Openings
+pub mod Numbered

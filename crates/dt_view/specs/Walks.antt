@@ -1,6 +1,8 @@
 -- What a walk through a tree tells of a node.
-use Rattle.std.specs.Prelude.{◌<◌, ◌-◌, ◌==◌, ℕ, suc, List, [], ◌∷◌, drop, Option, Some, None, if◌then◌else◌}
+use Rattle.std.specs.Prelude.{◌≡◌, ◌<◌, ◌-◌, ◌==◌, ℕ, suc, List, [], ◌∷◌, ◌++◌, drop, map, Option, Some, None, if◌then◌else◌}
 use Rattle.dt_model.specs.Limits.{most_bodies}
+use Rattle.dt_model.specs.Tree.{Placed, nodes_of}
+use Rattle.dt_read.specs.Placed.{PlacedTree, reading_of, place_of}
 use Rattle.dt_read.specs.Walked.{Step, opens, holds, closes}
 
 abbrev pub innermost : List ℕ → Option ℕ
@@ -20,3 +22,16 @@ AreFew count [] = Unit {0}
 AreFew count (opens place name ∷ steps) = (count < most_bodies) × AreFew (suc count) steps
 AreFew count (holds p ∷ steps) = AreFew count steps
 AreFew count (closes ∷ steps) = AreFew (count - 1) steps
+
+-- the places of the nodes that steps open
+abbrev pub opened : List Step → List ℕ
+opened [] = []
+opened (opens place name ∷ steps) = place ∷ opened steps
+opened (holds p ∷ steps) = opened steps
+opened (closes ∷ steps) = opened steps
+
+-- the steps open these nodes, which are the tree's last ones in preorder
+pub record AreOpened (t : PlacedTree) (nodes : List Placed) (steps : List Step) : Type 0 where
+  pub before : List Placed
+  pub whole : nodes_of (reading_of t) ≡ before ++ nodes
+  pub places : map (λ n. place_of t n.path) nodes ≡ map (λ k. Some k) (opened steps)

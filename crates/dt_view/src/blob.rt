@@ -1,9 +1,10 @@
 //! A blob as a view. A blob's tokens tell no parent, so the node above a node is told by a walk from the root up to it: for a boot loader, which
 //! asks seldom and has no memory to spend.
 
-ghost use Rattle.std.specs.Prelude.{◌≡◌, ℕ};
+ghost use Rattle.std.specs.Prelude.{◌≡◌, ℕ, IfSome, option_map};
 ghost use Rattle.std.specs.Option.{option_copied};
-ghost use Rattle.dt_model.specs.Tree.{value_in};
+ghost use Rattle.dt_model.specs.Applied.{is_cell, node_numbered};
+ghost use Rattle.dt_model.specs.Tree.{nodes_of, value_in};
 ghost use Rattle.dt_read.specs.Placed.{PlacedTree, path_at, reading_of, IsNode};
 ghost use Rattle.dt_view.specs.Views.{IsAbove};
 
@@ -41,6 +42,32 @@ fn value_of<'b>(blob: &'b Blob<'_>, node: NodeId, name: &[u8]) -> Option<&'b [u8
     blob.value(node, name)
 }
 
+// Whether the value of a `phandle` is this number.
+pub fn is_number(value: Option<&[u8]>, number: u32) -> bool
+    ensures { result ≡ is_cell number (option_copied value.entry) }
+{
+    match value {
+        Some(value) => value == number.to_be_bytes().as_slice(),
+        None => false,
+    }
+}
+
+// The node that has a number, by a walk up to it.
+fn numbered(blob: &Blob<'_>, number: u32) -> Option<NodeId>
+    ensures finds { option_map (path_at blob.now) result ≡ node_numbered (nodes_of (reading_of blob.now)) number }
+    ensures node { IfSome result (IsNode blob.now) }
+{
+    blob.validity();
+    for step in blob.steps() {
+        if let Step::Open { node, .. } = step {
+            if is_number(value_of(blob, node, b"phandle"), number) {
+                return Some(node);
+            }
+        }
+    }
+    None
+}
+
 impl<'a> TreeView for Blob<'a> {
     ghost tree = { λ blob. blob };
 
@@ -50,5 +77,13 @@ impl<'a> TreeView for Blob<'a> {
 
     fn value(&self, node: NodeId, name: &[u8]) -> Option<&[u8]> {
         value_of(self, node, name)
+    }
+
+    fn by_phandle(&self, number: u32) -> Option<NodeId> {
+        numbered(self, number)
+    }
+
+    fn node_count(&self) -> usize {
+        self.counts().nodes
     }
 }

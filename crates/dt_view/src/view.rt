@@ -1,8 +1,9 @@
 //! A view of a tree.
 
-ghost use Rattle.std.specs.Prelude.{◌≡◌, ℕ};
+ghost use Rattle.std.specs.Prelude.{◌≡◌, ℕ, length, IfSome, option_map};
 ghost use Rattle.std.specs.Option.{option_copied};
-ghost use Rattle.dt_model.specs.Tree.{value_in};
+ghost use Rattle.dt_model.specs.Applied.{node_numbered};
+ghost use Rattle.dt_model.specs.Tree.{nodes_of, value_in};
 ghost use Rattle.dt_read.specs.Placed.{PlacedTree, path_at, reading_of, IsNode};
 ghost use Rattle.dt_view.specs.Views.{IsAbove};
 
@@ -22,4 +23,13 @@ pub trait TreeView {
     fn value(&self, node: NodeId, name: &[u8]) -> Option<&[u8]>
         requires { IsNode (tree self.now) node }
         ensures { option_copied result ≡ value_in (reading_of (tree self.now)) (path_at (tree self.now) node) name.now };
+
+    /// The node that has a number as its phandle, None where no node has it (Devicetree Specification v0.4, 2.3.3).
+    fn by_phandle(&self, number: u32) -> Option<NodeId>
+        ensures finds { option_map (path_at (tree self.now)) result ≡ node_numbered (nodes_of (reading_of (tree self.now))) number }
+        ensures node { IfSome result (IsNode (tree self.now)) };
+
+    /// How many nodes there are, the root among them.
+    fn node_count(&self) -> usize
+        ensures { result ≡ length (nodes_of (reading_of (tree self.now))) };
 }
