@@ -1,31 +1,19 @@
 -- The entry of `reg` that an index names.
-use Rattle.std.proofs.Common.{◌≡◌, ◌≢◌, ℕ, ◌+◌, ◌*◌, ◌/◌, ◌%◌, ◌<◌, ◌≤◌, Bool, true, false, not, ◌||◌, ◌==◌, List, [], ◌∷◌, take, drop, length, Option, Some, refl, sym, ap, ◌∙◌, arith}
-use Rattle.std.specs.Prelude.{if◌then◌else◌, codes, option_map}
-use Rattle.std.proofs.lemmas.Bool.Decides.{Decides-eqb}
+use Rattle.std.proofs.Common.{◌≡◌, ◌≢◌, ℕ, ◌+◌, ◌*◌, ◌/◌, ◌%◌, ◌<◌, ◌≤◌, List, [], ◌∷◌, take, drop, length, Option, Some, refl, sym, ap, ◌∙◌, arith}
+use Rattle.std.specs.Prelude.{codes, option_map}
 use Rattle.dt_names.specs.declared.fault.Fault.{Fault}
-use Rattle.dt_names.specs.declared.fault.FaultKind.TheVariants.{NoReg, BadCells}
+use Rattle.dt_names.specs.declared.fault.FaultKind.TheVariants.{NoReg}
 use Rattle.dt_worlds.specs.declared.regions.Region.{Region}
 use Rattle.dt_worlds.specs.declared.regions.BusCells.{BusCells}
 use Rattle.dt_model.specs.Path.{Path}
 use Rattle.dt_worlds.specs.Above.{front}
 use Rattle.dt_model.specs.Tree.{Reading, value_in}
 use Rattle.dt_worlds.specs.Answers.{Answer, refused, refuse, answer, ◌>>=◌}
-use Rattle.dt_worlds.specs.World.{Quad, Value, World, quads_of, value_of_bytes, tree_world}
+use Rattle.dt_worlds.specs.World.{Quad, World, quads_of, value_of_bytes, tree_world}
 use Rattle.dt_worlds.specs.Regions.{joined, cells_at, bus_cells, entries, entries_of, entry_at, region_at, listed, region}
-use Rattle.dt_ranges.proofs.CellsOfBytes.{numbers_drop}
-use Rattle.dt_ranges.proofs.RangesMap.{part_of, entry_there, entry_past}
-
-eq_false : (m n : ℕ) → m ≢ n → (m == n) ≡ false
-eq_false m n ne = step (m == n) refl
-  where
-    step : (b : Bool) → (m == n) ≡ b → b ≡ false
-    step true e = absurd (ne ((Decides-eqb m n).0 e))
-    step false e = refl
-
-entries_whole : (width : ℕ) (v : Value) → width ≢ 0 → v.size % (4 * width) ≡ 0 → entries_of width v ≡ answer (entries (v.size / (4 * width)) width v.cells)
-entries_whole width v some even =
-    ap (λ (b : Bool). if b || not (v.size % (4 * width) == 0) then refuse BadCells else answer (entries (v.size / (4 * width)) width v.cells)) (eq_false width 0 some)
-    ∙ ap (λ (b : Bool). if not b then refuse BadCells else answer (entries (v.size / (4 * width)) width v.cells)) ((Decides-eqb (v.size % (4 * width)) 0).1 even)
+use Rattle.dt_worlds.proofs.QuadsOfBytes.{quads_drop}
+use Rattle.dt_worlds.proofs.Entries.{entries_whole, entry_there, entry_past}
+use Rattle.dt_ranges.proofs.RangesMap.{part_of}
 
 -- the region of an entry_at that is there
 abbrev pub region_of : World → Path → BusCells → List Quad → Answer Region
@@ -64,7 +52,7 @@ pub region_there : (t : Reading) (p q : Path) (i : ℕ) (reg rest : List ℕ) (o
     → region (tree_world t) p i ≡ region_at (tree_world t) (codes "ranges") q address size
 region_there t p q i reg rest own address size some is there has width even lt from at long =
     let w = own.address + own.size in
-    let cells : quads_of rest ≡ drop (i * w) (quads_of reg) = ap quads_of from ∙ numbers_drop (i * w) reg in
+    let cells : quads_of rest ≡ drop (i * w) (quads_of reg) = ap quads_of from ∙ quads_drop (i * w) reg in
     let at' : joined (cells_at 0 own.address (take w (drop (i * w) (quads_of reg)))) ≡ answer address = ap joined (part_of w 0 own.address (drop (i * w) (quads_of reg)) (omega arith) ∙ ap (cells_at 0 own.address) (sym cells)) ∙ at in
     let long' : joined (cells_at own.address own.size (take w (drop (i * w) (quads_of reg)))) ≡ answer size = ap joined (part_of w own.address own.size (drop (i * w) (quads_of reg)) (omega arith) ∙ ap (cells_at own.address own.size) (sym cells)) ∙ long in
     region_listed t p q i reg own some is there has width even

@@ -1,16 +1,14 @@
 -- Steps through the ranges of a bus.
-use Rattle.std.proofs.Common.{◌≡◌, ℕ, suc, zero, ◌+◌, ◌-◌, ◌*◌, ◌^◌, ◌<◌, ◌≤◌, Bool, true, false, ◌&&◌, List, [], ◌∷◌, take, drop, refl, sym, ap, ◌∙◌, arith}
+use Rattle.std.proofs.Common.{◌≡◌, ℕ, suc, zero, ◌+◌, ◌-◌, ◌*◌, ◌^◌, ◌<◌, ◌≤◌, Bool, true, false, ◌&&◌, List, [], ◌∷◌, take, drop, refl, ap, ◌∙◌, arith}
 use Rattle.std.specs.Prelude.{if◌then◌else◌, nat_le, nat_lt}
 use Rattle.std.proofs.lemmas.Bool.Decides.{Decides-ltb}
-use Rattle.std.proofs.lemmas.List.{drop-drop}
 use Rattle.std.proofs.lemmas.Bool.{le-leb, leb-true}
-use Rattle.dt_names.specs.declared.fault.FaultKind.{FaultKind}
 use Rattle.dt_names.specs.declared.fault.FaultKind.TheVariants.{Overflow}
 use Rattle.dt_worlds.specs.declared.regions.BusAddress.{BusAddress}
 use Rattle.dt_worlds.specs.declared.regions.RangeCells.{RangeCells}
 use Rattle.dt_worlds.specs.Answers.{Answer, refuse, answer, ◌>>=◌}
 use Rattle.dt_worlds.specs.World.{Quad}
-use Rattle.dt_worlds.specs.Regions.{joined, cells_at, entry_at, entries, mapped_by, fitting}
+use Rattle.dt_worlds.specs.Regions.{joined, cells_at, entries, mapped_by, fitting}
 
 not_below : (x n : ℕ) → n ≤ x → nat_lt x n ≡ false
 not_below x n h = step (nat_lt x n) refl
@@ -91,15 +89,10 @@ mapped_here widths size at w left cells begin len target is h k e l =
     ∙ ap (λ (b : Bool). if b then (joined (cells_at widths.child widths.above (take w cells)) >>= λ (above : ℕ). answer (record { address = above + (at.address - begin); whole = at.whole && nat_le size (len - (at.address - begin)) })) else mapped_by widths size at (entries left w (drop w cells))) e
     ∙ ap (λ (x : Answer ℕ). x >>= λ (above : ℕ). answer (record { address = above + (at.address - begin); whole = at.whole && nat_le size (len - (at.address - begin)) })) l'
 
-pub entry_there : (kind : FaultKind) (i n w : ℕ) (cells : List Quad) → i < n → entry_at kind i (entries n w cells) ≡ answer (take w (drop (i * w) cells))
-entry_there kind i zero w cells lt = absurd (omega arith)
-entry_there kind zero (suc n) w cells lt = let none : 0 ≡ 0 * w = omega arith in ap (λ (k : ℕ). answer (take w (drop k cells))) none
-entry_there kind (suc i) (suc n) w cells lt =
-    let more : suc i * w ≡ w + i * w = grind arith in
-    entry_there kind i n w (drop w cells) (omega arith)
-    ∙ ap (λ (c : List Quad). answer (take w c)) (drop-drop (i * w) w cells ∙ ap (λ (k : ℕ). drop k cells) (sym more))
-
-pub entry_past : (kind : FaultKind) (i n w : ℕ) (cells : List Quad) → n ≤ i → entry_at kind i (entries n w cells) ≡ refuse kind
-entry_past kind i zero w cells le = refl
-entry_past kind zero (suc n) w cells le = absurd (omega arith)
-entry_past kind (suc i) (suc n) w cells le = entry_past kind i n w (drop w cells) (omega arith)
+-- one cell more after a number of at most three
+pub more_low : (i n c : ℕ) → i ≤ 3 → n < 2 ^ (32 * i) → c < 2 ^ 32 → (n * 2 ^ 32 + c < 2 ^ (32 * (i + 1))) × (n * 2 ^ 32 + c < 2 ^ 128)
+more_low zero n c le low h = (omega arith, omega arith)
+more_low (suc zero) n c le low h = (omega arith, omega arith)
+more_low (suc (suc zero)) n c le low h = (omega arith, omega arith)
+more_low (suc (suc (suc zero))) n c le low h = (omega arith, omega arith)
+more_low (suc (suc (suc (suc i)))) n c le low h = absurd (omega arith)

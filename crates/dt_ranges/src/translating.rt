@@ -6,9 +6,9 @@ ghost use Rattle.dt_worlds.specs.Answers.{Answer, told};
 ghost use Rattle.dt_worlds.specs.World.{tree_world, value_of_bytes, quads_of};
 ghost use Rattle.dt_worlds.specs.Regions.{entries, fitting, fitted, mapped_by, mapped, risen, finished, translated, region_at, region};
 
-use crate::cells::{after, part_at};
+use crate::cells::part_at;
 use dt_names::{Fault, FaultKind, NodeId};
-use dt_view::{TreeView, cells, is_pci};
+use dt_view::{TreeView, cells, cells_after, is_pci};
 use dt_worlds::{BusAddress, RangeCells, Region};
 
 /// Whether an address is one of that many cells.
@@ -74,7 +74,7 @@ fn by_ranges(
             let whole = stays_whole(at.whole, size, length - distance);
             return raised(target, distance, whole, widths.above);
         }
-        rest = after(rest, width as usize);
+        rest = cells_after(rest, width as usize);
     }
     Err(Fault::of(FaultKind::NotMapped))
 }
@@ -188,7 +188,7 @@ pub fn region<V: TreeView>(view: &V, node: NodeId, index: u64) -> Result<Region,
     if index >= count as u64 {
         return Err(Fault::of(FaultKind::NoReg));
     }
-    let entry = after(reg, index as usize * width);
+    let entry = cells_after(reg, index as usize * width);
     let address = part_at(entry, 0, own.address);
     let size = part_at(entry, own.address, own.size);
     region_at(view, b"ranges", bus, address, size)

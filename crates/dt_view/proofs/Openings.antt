@@ -1,5 +1,5 @@
 -- A walk through a tree opens its nodes in preorder.
-use Rattle.std.proofs.Common.{◌≡◌, ℕ, Bool, true, false, List, [], ◌∷◌, ◌++◌, map, Option, Some, None, refl, sym, ap, subst, ◌∙◌, append_assoc, true≢false, inl, inr}
+use Rattle.std.proofs.Common.{◌≡◌, ℕ, true, false, List, [], ◌∷◌, ◌++◌, map, Option, Some, None, refl, sym, ap, subst, ◌∙◌, append_assoc, true≢false, inl}
 use Rattle.std.proofs.lemmas.List.{append-nil, map-append}
 use Rattle.std.specs.Prelude.{is_some, option_and_then}
 use Rattle.std.specs.Str.{bytes_eq}
@@ -30,11 +30,11 @@ opened_in (node place name ps children siblings) rest =
     let inside = opened_in children (closes ∷ (steps_of_nodes siblings ++ rest)) in
     let after = opened_in siblings rest in
     ap (λ ks. place ∷ ks) (
-      ap opened regroup
-      ∙ past_properties ps (steps_of_nodes children ++ closes ∷ (steps_of_nodes siblings ++ rest))
-      ∙ inside
-      ∙ ap (λ ks. places_in children ++ ks) after
-      ∙ sym (append_assoc (places_in children) (places_in siblings) (opened rest))
+    ap opened regroup
+    ∙ past_properties ps (steps_of_nodes children ++ closes ∷ (steps_of_nodes siblings ++ rest))
+    ∙ inside
+    ∙ ap (λ ks. places_in children ++ ks) after
+    ∙ sym (append_assoc (places_in children) (places_in siblings) (opened rest))
     )
 
 -- a node that is found among later siblings isn't the first of them

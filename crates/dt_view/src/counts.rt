@@ -5,7 +5,7 @@ ghost use Rattle.dt_model.specs.Tree.{value_in};
 ghost use Rattle.dt_read.specs.Placed.{path_at, reading_of, IsNode};
 ghost use Rattle.dt_worlds.specs.Answers.{answer, told};
 ghost use Rattle.dt_worlds.specs.World.{tree_world, value_of_bytes};
-ghost use Rattle.dt_worlds.specs.Regions.{bus_cells, count_of, is_pci, only_number};
+ghost use Rattle.dt_worlds.specs.Regions.{address_count, bus_cells, count_of, is_pci, only_number};
 
 use crate::view::TreeView;
 use dt_bytes::be32;
@@ -45,6 +45,20 @@ fn count<V: TreeView>(view: &V, node: NodeId, name: &[u8], absent: u32) -> Resul
     Ok(count)
 }
 
+/// The cells of an address at a node, or what an absent `#address-cells` is (Devicetree Specification v0.4, 2.3.5).
+///
+/// # Errors
+///
+/// `BadCells` where `#address-cells` isn't four bytes of at most 4.
+pub fn address_cells<V: TreeView>(view: &V, node: NodeId, absent: u32) -> Result<u32, Fault>
+    requires node { IsNode (V.tree view.now) node }
+    requires absent { absent ≤ 4 }
+    ensures is { told result ≡ address_count (tree_world (reading_of (V.tree view.now))) (path_at (V.tree view.now) node) absent }
+    ensures few { IfOk result (λ n. n ≤ 4) }
+{
+    count(view, node, b"#address-cells", absent)
+}
+
 /// The cells of an address and of a size on a bus (Devicetree Specification v0.4, 2.3.5): 2 and 1 where they aren't written.
 ///
 /// # Errors
@@ -55,7 +69,7 @@ pub fn cells<V: TreeView>(view: &V, bus: NodeId) -> Result<BusCells, Fault>
     ensures is { told result ≡ bus_cells (tree_world (reading_of (V.tree view.now))) (path_at (V.tree view.now) bus) }
     ensures few { IfOk result (λ c. (c.address ≤ 4) × (c.size ≤ 4)) }
 {
-    let address = count(view, bus, b"#address-cells", 2)?;
+    let address = address_cells(view, bus, 2)?;
     let size = count(view, bus, b"#size-cells", 1)?;
     Ok(BusCells { address, size })
 }

@@ -3,7 +3,9 @@
 
 mod blob;
 mod counts;
+mod values;
 mod view;
 
-pub use counts::{cells, is_pci, one_cell};
+pub use counts::{address_cells, cells, is_pci, one_cell};
+pub use values::{cell_at, cells_after, first_cells};
 pub use view::TreeView;

@@ -5,3 +5,6 @@ pub mod Worlds
 pub mod OneRoute
 pub mod Ending
 pub mod Circles
+pub mod Told
+pub mod QuadsOfBytes
+pub mod Entries

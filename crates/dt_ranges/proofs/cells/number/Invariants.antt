@@ -7,5 +7,5 @@ use Rattle.dt_ranges.proofs.cells.number.Given as goal
 abbrev pub invariant-loop-i : goal.invariant-loop-i
 invariant-loop-i l = record {
   low : l.number < 2 ^ (32 * l.i);
-  rest : joined_to l.number (quads_of (drop (4 * l.i) l.bytes)) ≡ joined (quads_of l.bytes);
+  rest : joined_to l.number (drop l.i (quads_of l.bytes)) ≡ joined (quads_of l.bytes);
 }

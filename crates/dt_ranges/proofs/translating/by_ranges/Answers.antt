@@ -3,7 +3,7 @@ use Rattle.std.specs.Prelude.{nat_le, nat_lt}
 use Rattle.std.proofs.lemmas.List.{length-drop}
 use Rattle.dt_worlds.specs.World.{Quad, quads_of}
 use Rattle.dt_worlds.specs.Regions.{entries, mapped_by, fitting, fitted}
-use Rattle.dt_ranges.proofs.CellsOfBytes.{numbers_drop}
+use Rattle.dt_worlds.proofs.QuadsOfBytes.{quads_drop}
 use Rattle.dt_ranges.proofs.RangesMap.{mapped_here, mapped_later, is_held, is_past, is_before, entry_left}
 use Rattle.dt_ranges.proofs.translating.by_ranges.Goals as goal
 use Rattle.dt_ranges.proofs.translating.by_ranges.Goals.{else-begin-at-via-then-begin-at+else-at-begin, else-begin-at-via-else-begin-at}
@@ -39,12 +39,12 @@ loop-done-preserved c =
       | else-begin-at-via-else-begin-at v ↦ is_before begin c.args.at.address len v.if-begin-at.false
     ] in
     let later_octet = mapped_later widths c.args.size c.args.at w left (quads_of rest) begin len refl c.part_at-begin.ensures c.part_at-length.ensures test in
-    let after : c.after-rest.result.now ≡ drop (4 * w) rest = c.after-rest.ensures in
+    let after : c.cells_after-rest.result.now ≡ drop (4 * w) rest = c.cells_after-rest.ensures.bytes in
     record {
-      long = entry_left c.args.count c.loop-done.done (4 * w) (length rest) (length c.after-rest.result.now) (omega arith) c.loop-done.invariant.long (ap length after ∙ length-drop (4 * w) rest);
+      long = entry_left c.args.count c.loop-done.done (4 * w) (length rest) (length c.cells_after-rest.result.now) (omega arith) c.loop-done.invariant.long (ap length after ∙ length-drop (4 * w) rest);
       left =
           ap (λ (bs : (List ℕ)). mapped_by widths c.args.size c.args.at (entries left w (quads_of bs))) after
-          ∙ ap (λ (cells : List Quad). mapped_by widths c.args.size c.args.at (entries left w cells)) (numbers_drop w rest)
+          ∙ ap (λ (cells : List Quad). mapped_by widths c.args.size c.args.at (entries left w cells)) (quads_drop w rest)
           ∙ sym later_octet
           ∙ ap (λ (n : ℕ). mapped_by widths c.args.size c.args.at (entries n w (quads_of rest))) (sym more)
           ∙ c.loop-done.invariant.left;

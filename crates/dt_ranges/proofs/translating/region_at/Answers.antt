@@ -4,7 +4,7 @@ use Rattle.dt_worlds.specs.declared.regions.BusAddress.{BusAddress}
 use Rattle.dt_worlds.specs.Answers.{Answer, refused, answer, ◌>>=◌}
 use Rattle.dt_worlds.specs.World.{tree_world}
 use Rattle.dt_worlds.specs.Regions.{risen, translated, finished, region_at}
-use Rattle.dt_ranges.proofs.Faults.{told_err}
+use Rattle.dt_worlds.proofs.Told.{told_err}
 use Rattle.dt_ranges.proofs.Rising.{risen_once, front_shorter}
 use Rattle.dt_ranges.proofs.translating.region_at.Goals as goal
 

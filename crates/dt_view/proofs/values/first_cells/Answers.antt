@@ -1,0 +1,5 @@
+use Rattle.dt_worlds.proofs.QuadsOfBytes.{quads_take}
+use Rattle.dt_view.proofs.values.first_cells.Goals as goal
+
+pub returns-clause-cells : goal.returns-clause-cells
+returns-clause-cells c = quads_take c.args.cells c.args.bytes.now
