@@ -1,19 +1,19 @@
 -- The node that is open where a node begins is the one above it.
 use Rattle.std.proofs.Common.{◌≡◌, ℕ, ◌==◌, Bool, true, false, List, [], ◌∷◌, ◌++◌, map, Option, Some, None, refl, sym, ap, subst, ◌∙◌, append_assoc, true≢false}
-use Rattle.std.specs.Prelude.{if◌then◌else◌, is_some, option_and_then}
+use Rattle.std.specs.Prelude.{if◌then◌else◌, is_some}
 use Rattle.std.specs.Option.{option_or}
 use Rattle.std.specs.Str.{bytes_eq}
 use Rattle.std.proofs.lemmas.Bool.{eqb-true, eq-eqb}
 use Rattle.dt_model.specs.Names.{Name}
 use Rattle.dt_model.specs.Path.{Path}
-use Rattle.dt_model.specs.Tree.{Property, Node, sibling, node_below}
+use Rattle.dt_model.specs.Tree.{Property}
 use Rattle.dt_model.specs.Valid.{AreNodes, AreDistinct, IsValid, names}
-use Rattle.dt_model.proofs.Listed.{other_sibling}
 use Rattle.dt_model.proofs.Tests.{bytes_eq_refl}
 use Rattle.dt_read.specs.Placed.{Nodes, no_nodes, node, forest_of, PlacedTree, reading_of, place_below, path_at, IsAt, IsNode}
 use Rattle.dt_read.specs.Walked.{Step, holds, closes, steps_of_nodes, steps_of}
-use Rattle.dt_read.proofs.NodePlaces.{stands_below, path_is, at_node}
+use Rattle.dt_read.proofs.NodePlaces.{path_is, at_node}
 use Rattle.dt_worlds.specs.Above.{front}
+use Rattle.dt_view.proofs.Openings.{other_name}
 use Rattle.dt_view.specs.Walks.{parent_told}
 use Rattle.dt_view.specs.Views.{IsAbove}
 
@@ -83,13 +83,7 @@ found_below k a (node place name ps children siblings) at nodes distinct e =
     }
 
     other : (y : Name) (q : Path) (j : ℕ) → place_below at siblings (y ∷ q) ≡ Some j → bytes_eq y name ≡ false
-    other y q j at' =
-        let stands : is_some (node_below (record { properties = ps; children = forest_of siblings }) (y ∷ q)) ≡ true = sym (stands_below siblings at ps (y ∷ q)) ∙ ap is_some at' in
-        there (sibling (forest_of siblings) y) refl stands
-      where
-        there : (o : Option Node) → sibling (forest_of siblings) y ≡ o → is_some (option_and_then (λ c. node_below c q) (sibling (forest_of siblings) y)) ≡ true → bytes_eq y name ≡ false
-        there None f s = absurd (true≢false (sym s ∙ ap (λ z. is_some (option_and_then (λ c. node_below c q) z)) f))
-        there (Some c) f s = other_sibling (forest_of siblings) y name c distinct.0 f
+    other y q j at' = other_name siblings at ps y name q j distinct at'
 
     passed : (y : Name) (q : Path) → bytes_eq y name ≡ false → place_below at (node place name ps children siblings) (y ∷ q) ≡ place_below at siblings (y ∷ q)
     passed y q e' = rw e' refl

@@ -71,6 +71,10 @@ fn numbered(blob: &Blob<'_>, number: u32) -> Option<NodeId>
 impl<'a> TreeView for Blob<'a> {
     ghost tree = { λ blob. blob };
 
+    fn validity(&self) {
+        Blob::validity(self);
+    }
+
     fn parent(&self, node: NodeId) -> Option<NodeId> {
         parent_of(self, node)
     }

@@ -3,8 +3,10 @@
 ghost use Rattle.std.specs.Prelude.{◌≡◌, ℕ, length, IfSome, option_map};
 ghost use Rattle.std.specs.Option.{option_copied};
 ghost use Rattle.dt_model.specs.Applied.{node_numbered};
+ghost use Rattle.dt_model.specs.Path.{Path};
 ghost use Rattle.dt_model.specs.Tree.{nodes_of, value_in};
-ghost use Rattle.dt_read.specs.Placed.{PlacedTree, path_at, reading_of, IsNode};
+ghost use Rattle.dt_model.specs.Valid.{IsValid, IsWithinLimits};
+ghost use Rattle.dt_read.specs.Placed.{PlacedTree, path_at, reading_of, IsAt, IsNode};
 ghost use Rattle.dt_view.specs.Views.{IsAbove};
 
 use dt_names::NodeId;
@@ -13,6 +15,13 @@ use dt_names::NodeId;
 /// with these as its nodes' places. None of its calls takes memory.
 pub trait TreeView {
     ghost tree: { Self → PlacedTree };
+
+    /// What is true of each view: its tree is one that a blob may hold, within the limits (Devicetree Specification v0.4, chapters 2 and 5), and a
+    /// number is one node's.
+    fn validity(&self)
+        ensures valid { IsValid (reading_of (tree self.now)) }
+        ensures within { IsWithinLimits (reading_of (tree self.now)) }
+        ensures places { (p q : Path) (node : ℕ) → IsAt (tree self.now) p node → IsAt (tree self.now) q node → p ≡ q };
 
     /// The node above a node, None above the root.
     fn parent(&self, node: NodeId) -> Option<NodeId>

@@ -1,0 +1,9 @@
+pub mod Figures
+pub mod Comparing
+pub mod Listing
+pub mod Matching
+pub mod Telling
+pub mod Hops
+pub mod Ways
+pub mod Zeros
+pub mod Senders

@@ -1,0 +1,88 @@
+-- Lists of phandles with specifiers, entry by entry, and rows of maps.
+use Rattle.std.proofs.Common.{◌≡◌, ◌≢◌, ℕ, suc, ◌+◌, ◌*◌, ◌/◌, ◌%◌, ◌<◌, ◌≤◌, Bool, List, [], ◌∷◌, take, drop, length, refl, ap, ◌∙◌, arith}
+use Rattle.std.proofs.lemmas.Bool.{le-ltb, lt-ltb}
+use Rattle.dt_model.specs.Path.{Path}
+use Rattle.dt_names.specs.declared.fault.FaultKind.TheVariants.{BadCells, BadMap, NoInterrupts}
+use Rattle.dt_worlds.specs.Answers.{Answer, refuse, answer, ◌>>=◌}
+use Rattle.dt_worlds.specs.World.{Quad, Value, World}
+use Rattle.dt_worlds.specs.Regions.{address_count, entries, entries_of, entry_at}
+use Rattle.dt_worlds.proofs.Entries.{entries_whole, entry_there, entry_past}
+use Rattle.dt_worlds.specs.Interrupts.{Sent, Entry, entry_of, first_entry, entry_sent, listed_at, specifier_count, RowCells, MapRow, map_row_of, map_row, interrupt_row_cells}
+
+-- an entry whose phandle and count were read
+read_entry : (w : World) (count : Path → Answer ℕ) (ragged : Bool) (list : List Quad) (cell : Quad) (cells : List Quad) (q : Path) (n : ℕ) → list ≡ cell ∷ cells → w.node cell ≡ answer q → count q ≡ answer n
+    → first_entry w count ragged list ≡ entry_of cells q n
+read_entry w count ragged list cell cells q n e node few =
+    ap (first_entry w count ragged) e
+    ∙ ap (λ (x : Answer Path). x >>= λ p. count p >>= entry_of cells p) node
+    ∙ ap (λ (x : Answer ℕ). x >>= entry_of cells q) few
+
+pub entry_is_cut : (w : World) (count : Path → Answer ℕ) (ragged : Bool) (list : List Quad) (cell : Quad) (cells : List Quad) (q : Path) (n : ℕ) → list ≡ cell ∷ cells → w.node cell ≡ answer q → count q ≡ answer n
+    → length cells < n → first_entry w count ragged list ≡ refuse BadCells
+entry_is_cut w count ragged list cell cells q n e node few lt = read_entry w count ragged list cell cells q n e node few ∙ (rw (lt-ltb (length cells) n lt) refl)
+
+pub entry_is : (w : World) (count : Path → Answer ℕ) (ragged : Bool) (list : List Quad) (cell : Quad) (cells : List Quad) (q : Path) (n : ℕ) → list ≡ cell ∷ cells → w.node cell ≡ answer q → count q ≡ answer n
+    → n ≤ length cells → first_entry w count ragged list ≡ answer (record { sent = record { node = q; specifier = take n cells }; rest = drop n cells })
+entry_is w count ragged list cell cells q n e node few le = read_entry w count ragged list cell cells q n e node few ∙ (rw (le-ltb (length cells) n le) refl)
+
+-- ---- rows
+
+row_cells_are : (w : World) (q : Path) (a s : ℕ) → address_count w q 0 ≡ answer a → specifier_count w q ≡ answer s → interrupt_row_cells w q ≡ answer (record { address = a; specifier = s })
+row_cells_are w q a s address specifier =
+    ap (λ (x : Answer ℕ). x >>= λ n. specifier_count w q >>= λ k. answer (let r : RowCells = record { address = n; specifier = k } in r)) address
+    ∙ ap (λ (x : Answer ℕ). x >>= λ k. answer (let r : RowCells = record { address = a; specifier = k } in r)) specifier
+
+pub row_is_short : (w : World) (widths : Path → Answer RowCells) (width : ℕ) (cells : List Quad) → drop width cells ≡ [] → map_row w widths width cells ≡ refuse BadMap
+row_is_short w widths width cells none = rw none refl
+
+read_row : (w : World) (width : ℕ) (cells : List Quad) (cell : Quad) (behind : List Quad) (q : Path) (a s : ℕ) → drop width cells ≡ cell ∷ behind → w.node cell ≡ answer q → address_count w q 0 ≡ answer a → specifier_count w q ≡ answer s
+    → map_row w (interrupt_row_cells w) width cells ≡ map_row_of (take width cells) behind q (record { address = a; specifier = s })
+read_row w width cells cell behind q a s e node address specifier =
+    let more : List Quad → Path → Answer MapRow = λ rest p. interrupt_row_cells w p >>= map_row_of (take width cells) rest p in
+    rw e (ap (λ (x : Answer Path). x >>= more behind) node ∙ ap (λ (x : Answer RowCells). x >>= map_row_of (take width cells) behind q) (row_cells_are w q a s address specifier))
+
+pub row_is_cut : (w : World) (width : ℕ) (cells : List Quad) (cell : Quad) (behind : List Quad) (q : Path) (a s : ℕ) → drop width cells ≡ cell ∷ behind → w.node cell ≡ answer q → address_count w q 0 ≡ answer a → specifier_count w q ≡ answer s
+    → length behind < a + s → map_row w (interrupt_row_cells w) width cells ≡ refuse BadMap
+row_is_cut w width cells cell behind q a s e node address specifier lt = read_row w width cells cell behind q a s e node address specifier ∙ (rw (lt-ltb (length behind) (a + s) lt) refl)
+
+pub row_is : (w : World) (width : ℕ) (cells : List Quad) (cell : Quad) (behind : List Quad) (q : Path) (a s : ℕ) → drop width cells ≡ cell ∷ behind → w.node cell ≡ answer q → address_count w q 0 ≡ answer a → specifier_count w q ≡ answer s
+    → a + s ≤ length behind → length (take width cells) ≡ width
+    → map_row w (interrupt_row_cells w) width cells ≡ answer (record { compared = take width cells; parent = q; unit = take a behind; specifier = take s (drop a behind); size = width + 1 + a + s })
+row_is w width cells cell behind q a s e node address specifier le long =
+    read_row w width cells cell behind q a s e node address specifier
+    ∙ (rw (le-ltb (length behind) (a + s) le) (ap (λ n. answer (record { compared = take width cells; parent = q; unit = take a behind; specifier = take s (drop a behind); size = n })) (ap (λ n. n + 1 + (a + s)) long ∙ regroup)))
+  where
+    regroup : width + 1 + (a + s) ≡ width + 1 + a + s
+    regroup = omega arith
+
+pub no_cells : (cells : List Quad) → length cells ≡ 0 → cells ≡ []
+no_cells [] none = refl
+no_cells (cell ∷ cells) none = absurd (omega arith)
+
+-- ---- an entry by its index
+
+abbrev pub sent_first : Answer Entry → Answer Sent
+sent_first x = x >>= λ e. answer e.sent
+
+pub sent_now : (w : World) (count : Path → Answer ℕ) (ragged : Bool) (i : ℕ) (cells : List Quad) → i ≡ 0 → entry_sent w count ragged i cells ≡ sent_first (first_entry w count ragged cells)
+sent_now w count ragged i cells none = ap (λ n. entry_sent w count ragged n cells) none
+
+pub sent_later : (w : World) (count : Path → Answer ℕ) (ragged : Bool) (i j : ℕ) (cells : List Quad) → i ≡ suc j → entry_sent w count ragged i cells ≡ (first_entry w count ragged cells >>= λ e. entry_sent w count ragged j e.rest)
+sent_later w count ragged i j cells more = ap (λ n. entry_sent w count ragged n cells) more
+
+-- ---- an entry of `interrupts`
+
+read_listed : (w : World) (i : ℕ) (v : Value) (q : Path) (n : ℕ) → specifier_count w q ≡ answer n → n ≢ 0 → v.size % (4 * n) ≡ 0
+    → listed_at w i v q ≡ (entry_at NoInterrupts i (entries (v.size / (4 * n)) n v.cells) >>= λ e. answer (let s : Sent = record { node = q; specifier = e } in s))
+read_listed w i v q n count some even =
+    ap (λ (x : Answer ℕ). x >>= λ k. entries_of k v >>= entry_at NoInterrupts i >>= λ e. answer (let s : Sent = record { node = q; specifier = e } in s)) count
+    ∙ ap (λ (x : Answer (List (List Quad))). x >>= entry_at NoInterrupts i >>= λ e. answer (let s : Sent = record { node = q; specifier = e } in s)) (entries_whole n v some even)
+
+pub listed_is_past : (w : World) (i : ℕ) (v : Value) (q : Path) (n : ℕ) → specifier_count w q ≡ answer n → n ≢ 0 → v.size % (4 * n) ≡ 0 → v.size / (4 * n) ≤ i → listed_at w i v q ≡ refuse NoInterrupts
+listed_is_past w i v q n count some even past =
+    read_listed w i v q n count some even ∙ ap (λ (x : Answer (List Quad)). x >>= λ e. answer (let s : Sent = record { node = q; specifier = e } in s)) (entry_past NoInterrupts i (v.size / (4 * n)) n v.cells past)
+
+pub listed_is : (w : World) (i : ℕ) (v : Value) (q : Path) (n : ℕ) → specifier_count w q ≡ answer n → n ≢ 0 → v.size % (4 * n) ≡ 0 → i < v.size / (4 * n)
+    → listed_at w i v q ≡ answer (record { node = q; specifier = take n (drop (i * n) v.cells) })
+listed_is w i v q n count some even lt =
+    read_listed w i v q n count some even ∙ ap (λ (x : Answer (List Quad)). x >>= λ e. answer (let s : Sent = record { node = q; specifier = e } in s)) (entry_there NoInterrupts i (v.size / (4 * n)) n v.cells lt)

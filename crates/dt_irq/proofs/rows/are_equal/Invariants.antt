@@ -1,0 +1,9 @@
+-- What is left is equal exactly where all is.
+use Rattle.std.specs.Prelude.{◌≡◌, drop}
+use Rattle.dt_worlds.specs.Interrupts.{equal_under}
+use Rattle.dt_irq.specs.Cells.{numbers_of}
+use Rattle.dt_irq.proofs.rows.are_equal.Given as goal
+
+abbrev pub invariant-loop-i : goal.invariant-loop-i
+invariant-loop-i l =
+    equal_under (drop l.i (numbers_of l.left)) (drop l.i (numbers_of l.right)) (drop l.i (numbers_of l.mask)) ≡ equal_under (numbers_of l.left) (numbers_of l.right) (numbers_of l.mask)

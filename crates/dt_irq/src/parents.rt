@@ -1,0 +1,82 @@
+//! Interrupt parents, and the cells of their specifiers (Devicetree Specification v0.4, 2.4.1).
+
+ghost use Rattle.std.specs.Prelude.{◌≡◌, ◌≤◌, IfOk, IfSome, option_map};
+ghost use Rattle.dt_read.specs.Placed.{path_at, reading_of, IsNode};
+ghost use Rattle.dt_worlds.specs.Answers.{told};
+ghost use Rattle.dt_worlds.specs.World.{figure, node_of_figure, tree_world};
+ghost use Rattle.dt_worlds.specs.Interrupts.{specifier_count, step_of, IsInterruptParent};
+ghost use Rattle.dt_irq.specs.Seen.{told_as};
+
+use crate::reached::MOST_CELLS;
+use dt_names::{Fault, FaultKind, NodeId};
+use dt_view::{TreeView, one_cell};
+
+/// The node that has a number as its phandle. `UnknownPhandle` where no node has it.
+pub fn node_of<V: TreeView>(view: &V, phandle: u32) -> Result<NodeId, Fault>
+    ensures is { told_as (path_at (V.tree view.now)) result ≡ node_of_figure (reading_of (V.tree view.now)) (figure phandle) }
+    ensures node { IfOk result (IsNode (V.tree view.now)) }
+{
+    match view.by_phandle(phandle) {
+        Some(node) => Ok(node),
+        None => Err(Fault::of(FaultKind::UnknownPhandle)),
+    }
+}
+
+// The node one step nearer to the interrupt parent: the one that `interrupt-parent` names, else the one above.
+fn nearer<V: TreeView>(view: &V, node: NodeId) -> Result<Option<NodeId>, Fault>
+    requires { IsNode (V.tree view.now) node }
+    ensures is { told_as (option_map (path_at (V.tree view.now))) result ≡ step_of (tree_world (reading_of (V.tree view.now))) (path_at (V.tree view.now) node) }
+    ensures node { IfOk result (λ next. IfSome next (IsNode (V.tree view.now))) }
+{
+    let Some(value) = view.value(node, b"interrupt-parent") else {
+        return Ok(view.parent(node));
+    };
+    let next = node_of(view, one_cell(value)?)?;
+    Ok(Some(next))
+}
+
+/// The interrupt parent of a node: the first node with `#interrupt-cells` on the way along `interrupt-parent`, or where that is absent, up the
+/// tree. `NoParent` above the root, `Loop` where the way never ends, and the faults of the properties on the way.
+pub fn interrupt_parent<V: TreeView>(view: &V, node: NodeId) -> Result<NodeId, Fault>
+    requires { IsNode (V.tree view.now) node }
+    ensures is { IsInterruptParent (tree_world (reading_of (V.tree view.now))) (path_at (V.tree view.now) node) (told_as (path_at (V.tree view.now)) result) }
+    ensures node { IfOk result (IsNode (V.tree view.now)) }
+{
+    view.validity();
+    let mut here = node;
+    // Where a node that was passed comes again, the way is a circle.
+    let mut passed = node;
+    for steps in 0..view.node_count() {
+        let Some(next) = nearer(view, here)? else {
+            return Err(Fault::of(FaultKind::NoParent));
+        };
+        if view.value(next, b"#interrupt-cells").is_some() {
+            return Ok(next);
+        }
+        if next == passed {
+            return Err(Fault::of(FaultKind::Loop));
+        }
+        here = next;
+        if steps.is_power_of_two() {
+            passed = here;
+        }
+    }
+    Err(Fault::of(FaultKind::Loop))
+}
+
+/// The cells of a specifier at a node: 1 to 8. `BadCells` where `#interrupt-cells` says something else, or is absent.
+pub fn specifier_cells<V: TreeView>(view: &V, node: NodeId) -> Result<usize, Fault>
+    requires { IsNode (V.tree view.now) node }
+    ensures is { told result ≡ specifier_count (tree_world (reading_of (V.tree view.now))) (path_at (V.tree view.now) node) }
+    ensures some { IfOk result (λ n. 1 ≤ n) }
+    ensures few { IfOk result (λ n. n ≤ 8) }
+{
+    let Some(value) = view.value(node, b"#interrupt-cells") else {
+        return Err(Fault::of(FaultKind::BadCells));
+    };
+    let count = one_cell(value)? as usize;
+    if count < 1 || count > MOST_CELLS {
+        return Err(Fault::of(FaultKind::BadCells));
+    }
+    Ok(count)
+}

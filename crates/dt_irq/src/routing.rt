@@ -1,0 +1,96 @@
+//! Routes, from the node that sends an interrupt to its controller (Devicetree Specification v0.4, 2.4).
+
+ghost use Rattle.std.specs.Prelude.{◌≡◌, ◌-◌, ◌≤◌, ◌/◌, ◌++◌, length, replicate, IfOk};
+ghost use Rattle.dt_read.specs.Placed.{path_at, reading_of, IsNode};
+ghost use Rattle.dt_worlds.specs.Answers.{answer};
+ghost use Rattle.dt_worlds.specs.World.{quads_of, tree_world};
+ghost use Rattle.dt_worlds.specs.Interrupts.{IsRoute, most_hops, routed};
+ghost use Rattle.dt_irq.specs.Cells.{numbers_of, unit_at};
+ghost use Rattle.dt_irq.specs.Seen.{told_as, interrupt_in, route_in, HasArrived, IsSpecified};
+
+use crate::reached::{MOST_CELLS, Route};
+use crate::rows::{Interrupt, hop};
+use crate::sending::sent_by;
+use dt_names::{Fault, FaultKind, NodeId};
+use dt_view::{TreeView, cell_at};
+
+/// The most interrupt maps of a route.
+const MOST_HOPS: usize = 64;
+
+/// The cells of a specifier, with zeros behind them.
+fn cells_of(specifier: &[u8]) -> [u32; MOST_CELLS]
+    requires { length specifier.now ≤ 32 }
+    ensures { result ≡ numbers_of specifier.now ++ replicate (8 - length specifier.now / 4) 0 }
+{
+    let mut cells = [0; MOST_CELLS];
+    for i in 0..specifier.len() / 4 {
+        cells[i] = cell_at(specifier, i);
+    }
+    cells
+}
+
+/// The route of an interrupt that was sent to a node.
+fn routed<'v, V: TreeView>(view: &'v V, sent: Interrupt<'v>) -> Result<Route, Fault>
+    requires { IsSpecified (V.tree view.now) sent.node sent.specifier.now }
+    ensures is { told_as (route_in (V.tree view.now)) result ≡ routed (tree_world (reading_of (V.tree view.now))) most_hops 0 (interrupt_in (V.tree view.now) sent.entry) }
+    ensures arrived { IfOk result (HasArrived (V.tree view.now)) }
+{
+    let mut at = sent;
+    let mut hops = 0;
+    loop {
+        if view.value(at.node, b"interrupt-controller").is_some() {
+            return Ok(Route {
+                controller: at.node,
+                cells: cells_of(at.specifier),
+                len: at.specifier.len() / 4,
+                hops,
+            });
+        }
+        let Some(map) = view.value(at.node, b"interrupt-map") else {
+            return Err(Fault::of(FaultKind::BadMap));
+        };
+        if hops == MOST_HOPS {
+            return Err(Fault::of(FaultKind::Loop));
+        }
+        at = hop(view, &at, map)?;
+        hops += 1;
+    }
+}
+
+/// The bytes of a node's `reg`, whose whole cells are its unit address; none where it is absent.
+fn unit_of<V: TreeView>(view: &V, node: NodeId) -> &[u8]
+    requires { IsNode (V.tree view.now) node }
+    ensures { unit_at (tree_world (reading_of (V.tree view.now))) (path_at (V.tree view.now) node) ≡ answer (quads_of result.now) }
+{
+    match view.value(node, b"reg") {
+        Some(reg) => reg,
+        None => &[],
+    }
+}
+
+/// The route of the interrupt of a node that an index names (Devicetree Specification v0.4, 2.4): through the entry of `interrupts-extended` or,
+/// where that is absent, of `interrupts` at the interrupt parent, and from there through interrupt maps to the first node with
+/// `interrupt-controller`. Takes no memory; of a `Blob` each phandle and each parent costs a walk up to its node.
+///
+/// # Errors
+///
+/// `NoInterrupts`: a node without both, or without that entry. `NoParent`: no `#interrupt-cells` up to the root. `Loop`: interrupt parents in a
+/// circle, or a 65th map. `UnknownPhandle`: a phandle of no node. `BadCells`: a count of cells, an `interrupt-parent` that isn't four bytes, a
+/// list that is cut. `BadMap`: a nexus without a map, a row that is cut, a mask of another length. `NoMapEntry`: no row fits. `NoUnitAddress`: a
+/// nexus wants more cells of an address than the sender's `reg` has. The first of these on the way; none has a place.
+pub fn route<V: TreeView>(view: &V, node: NodeId, index: u64) -> Result<Route, Fault>
+    requires { IsNode (V.tree view.now) node }
+    ensures is { IsRoute (tree_world (reading_of (V.tree view.now))) (path_at (V.tree view.now) node) index (told_as (route_in (V.tree view.now)) result) }
+    ensures arrived { IfOk result (HasArrived (V.tree view.now)) }
+{
+    let sent = sent_by(view, node, index)?;
+    let unit = unit_of(view, node);
+    routed(
+        view,
+        Interrupt {
+            node: sent.node,
+            unit,
+            specifier: sent.specifier,
+        },
+    )
+}
