@@ -3,3 +3,5 @@ pub mod Parents
 pub mod ParentSteps
 pub mod Openings
 pub mod Numbered
+pub mod Tabled
+pub mod Indexed

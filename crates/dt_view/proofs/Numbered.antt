@@ -1,5 +1,5 @@
 -- A walk that looks for a number, step by step.
-use Rattle.std.proofs.Common.{◌≡◌, ℕ, Bool, true, false, List, ◌∷◌, Some, codes, sym, ap, subst, ◌∙◌}
+use Rattle.std.proofs.Common.{◌≡◌, ℕ, Bool, true, false, List, [], ◌∷◌, ◌++◌, Some, codes, sym, ap, subst, ◌∙◌}
 use Rattle.std.specs.Prelude.{if◌then◌else◌}
 use Rattle.dt_model.specs.Applied.{is_cell, node_numbered}
 use Rattle.dt_model.specs.Names.{Name}
@@ -19,14 +19,15 @@ AreApart t = (p q : Path) (k : ℕ) → IsAt t p k → IsAt t q k → p ≡ q
 
 -- what is left finds what the whole walk finds
 pub record Finds (t : PlacedTree) (n : ℕ) (steps : List Step) : Type 0 where
+  pub before : List Placed
   pub nodes : List Placed
-  pub opened : AreOpened t nodes steps
+  pub opened : AreOpened t before nodes steps
   pub same : node_numbered nodes n ≡ node_numbered (nodes_of (reading_of t)) n
 
 -- a node that is opened is a node
 pub opens_node : (t : PlacedTree) (n k : ℕ) (name : Name) (steps rest : List Step) → AreApart t → Finds t n steps → steps ≡ opens k name ∷ rest → IsNode t k
 opens_node t n k name steps rest apart left e =
-    let next = next_opened t left.nodes k name rest (subst (AreOpened t left.nodes) e left.opened) in
+    let next = next_opened t left.before left.nodes k name rest (subst (AreOpened t left.before left.nodes) e left.opened) in
     at_node t apart next.first.path k next.at
 
 -- what it is asked
@@ -43,7 +44,7 @@ asked t n k first later is value =
 pub found : (t : PlacedTree) (n k : ℕ) (name : Name) (steps rest : List Step) → IsValid (reading_of t) → AreApart t → Finds t n steps → steps ≡ opens k name ∷ rest → has_number t n k ≡ true
     → Some (path_at t k) ≡ node_numbered (nodes_of (reading_of t)) n
 found t n k name steps rest valid apart left e has =
-    let next = next_opened t left.nodes k name rest (subst (AreOpened t left.nodes) e left.opened) in
+    let next = next_opened t left.before left.nodes k name rest (subst (AreOpened t left.before left.nodes) e left.opened) in
     ap (λ b. if b then Some (path_at t k) else node_numbered next.later n) (sym has)
     ∙ sym (asked t n k next.first next.later (path_is t apart next.first.path k next.at) (listed_value (reading_of t) next.first (codes "phandle") valid next.listed))
     ∙ ap (λ ns. node_numbered ns n) (sym next.are)
@@ -52,8 +53,9 @@ found t n k name steps rest valid apart left e has =
 -- it hasn't
 pub passed : (t : PlacedTree) (n k : ℕ) (name : Name) (steps rest : List Step) → IsValid (reading_of t) → AreApart t → Finds t n steps → steps ≡ opens k name ∷ rest → has_number t n k ≡ false → Finds t n rest
 passed t n k name steps rest valid apart left e has =
-    let next = next_opened t left.nodes k name rest (subst (AreOpened t left.nodes) e left.opened) in
+    let next = next_opened t left.before left.nodes k name rest (subst (AreOpened t left.before left.nodes) e left.opened) in
     record {
+      before = left.before ++ next.first ∷ [];
       nodes = next.later;
       opened = next.left;
       same =

@@ -52,7 +52,7 @@ past_property t node p open_nodes steps rest left e = record {
   few = subst (AreFew (length open_nodes)) e left.few;
 }
 
-shorter : (ks : List ℕ) → length ks - 1 ≡ length (drop 1 ks)
+pub shorter : (ks : List ℕ) → length ks - 1 ≡ length (drop 1 ks)
 shorter [] = refl
 shorter (k ∷ ks) = let e : suc (length ks) - 1 ≡ length ks = omega arith in e
 

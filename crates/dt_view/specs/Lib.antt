@@ -1,2 +1,3 @@
 pub mod Views
 pub mod Walks
+pub mod Tables

@@ -30,8 +30,7 @@ opened (opens place name ∷ steps) = place ∷ opened steps
 opened (holds p ∷ steps) = opened steps
 opened (closes ∷ steps) = opened steps
 
--- the steps open these nodes, which are the tree's last ones in preorder
-pub record AreOpened (t : PlacedTree) (nodes : List Placed) (steps : List Step) : Type 0 where
-  pub before : List Placed
+-- behind some of a tree's nodes in preorder, the steps open the others
+pub record AreOpened (t : PlacedTree) (before nodes : List Placed) (steps : List Step) : Type 0 where
   pub whole : nodes_of (reading_of t) ≡ before ++ nodes
   pub places : map (λ n. place_of t n.path) nodes ≡ map (λ k. Some k) (opened steps)

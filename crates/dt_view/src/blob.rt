@@ -34,8 +34,8 @@ fn parent_of(blob: &Blob<'_>, node: NodeId) -> Option<NodeId>
     None
 }
 
-// The value of a node's property.
-fn value_of<'b>(blob: &'b Blob<'_>, node: NodeId, name: &[u8]) -> Option<&'b [u8]>
+/// The value of a node's property.
+pub fn value_of<'b>(blob: &'b Blob<'_>, node: NodeId, name: &[u8]) -> Option<&'b [u8]>
     requires { IsNode blob.now node }
     ensures { option_copied result ≡ value_in (reading_of blob.now) (path_at blob.now node) name.now }
 {
@@ -43,7 +43,7 @@ fn value_of<'b>(blob: &'b Blob<'_>, node: NodeId, name: &[u8]) -> Option<&'b [u8
 }
 
 // Whether the value of a `phandle` is this number.
-pub fn is_number(value: Option<&[u8]>, number: u32) -> bool
+fn is_number(value: Option<&[u8]>, number: u32) -> bool
     ensures { result ≡ is_cell number (option_copied value.entry) }
 {
     match value {

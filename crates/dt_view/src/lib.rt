@@ -3,9 +3,12 @@
 
 mod blob;
 mod counts;
+mod index;
+mod tables;
 mod values;
 mod view;
 
 pub use counts::{address_cells, cells, is_pci, one_cell};
+pub use index::Index;
 pub use values::{cell_at, cells_after, first_cells};
 pub use view::TreeView;

@@ -1,4 +1,4 @@
-use Rattle.std.proofs.Common.{◌∷◌, ◌∙◌, refl, sym, ap, subst}
+use Rattle.std.proofs.Common.{[], ◌∷◌, ◌∙◌, refl, sym, ap, subst}
 use Rattle.dt_model.specs.Applied.{is_cell}
 use Rattle.dt_read.specs.StepsLeft.{step_view}
 use Rattle.dt_view.proofs.Openings.{all_opened}
@@ -9,7 +9,7 @@ pub loop-step-init : goal.loop-step-init
 loop-step-init c =
     let t = c.args.blob.now in
     let whole = c.into_iter-step-iterator.ensures.into_iter_gives ∙ c.steps-step-items.ensures in
-    (tt, tt, subst (Finds t c.args.number) (sym whole) (record { nodes = _; opened = all_opened t c.validity.ensures.valid; same = refl }))
+    (tt, tt, subst (Finds t c.args.number) (sym whole) (record { before = []; nodes = _; opened = all_opened t c.validity.ensures.valid; same = refl }))
 
 pub value_of-requires : goal.value_of-requires
 value_of-requires c =

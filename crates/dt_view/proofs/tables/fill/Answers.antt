@@ -1,0 +1,70 @@
+use Rattle.std.proofs.Common.{◌+◌, ◌∷◌, length, cond, nat_eq, Some, sym, ap, subst, ◌∙◌, arith}
+use Rattle.dt_read.specs.StepsLeft.{step_view}
+use Rattle.dt_view.specs.Tables.{at_number}
+use Rattle.dt_view.specs.Walks.{AreFew, opened, parent_told}
+use Rattle.dt_view.proofs.ParentSteps.{is_innermost, shorter}
+use Rattle.dt_view.proofs.Tabled.{IsFilled, unfilled, opens_one, room_for_one, past_one, past_another, all_filled}
+use Rattle.dt_view.proofs.tables.fill.Goals as goal
+
+pub loop-step-init : goal.loop-step-init
+loop-step-init c =
+    let whole = c.into_iter-step-iterator.ensures.into_iter_gives ∙ c.steps-step-items.ensures in
+    (tt, tt, rw (whole, c.new-open_nodes.ensures, c.requires.parents, c.requires.phandles) (unfilled c.args.blob.now c.validity.ensures.valid c.validity.ensures.within c.validity.ensures.places))
+
+pub note_phandle-requires : goal.note_phandle-requires
+note_phandle-requires c =
+    let e = c.in-Some.ensures.steps ∙ ap (λ s. step_view s ∷ c.next.new.self) c.in-Open.is in
+    opens_one c.args.blob.now c.loop-step.parents.entries c.loop-step.phandles.entries c.loop-step.open_nodes c.loop-step.count c.in-Open.node c.in-Open.name.now c.loop-step.step-iterator c.next.new.self c.validity.ensures.places c.loop-step.invariant.2 e
+
+pub push-requires : goal.push-requires
+push-requires c =
+    let e = c.in-Some.ensures.steps ∙ ap (λ s. step_view s ∷ c.next.new.self) c.in-Open.is in
+    (room_for_one c.args.blob.now c.loop-step.parents.entries c.loop-step.phandles.entries c.loop-step.open_nodes c.loop-step.count c.in-Open.node c.in-Open.name.now c.loop-step.step-iterator c.next.new.self c.validity.ensures.within c.loop-step.invariant.2 e).0
+
+pub overflow_add-count : goal.overflow_add-count
+overflow_add-count c =
+    let e = c.in-Some.ensures.steps ∙ ap (λ s. step_view s ∷ c.next.new.self) c.in-Open.is in
+    let room = (room_for_one c.args.blob.now c.loop-step.parents.entries c.loop-step.phandles.entries c.loop-step.open_nodes c.loop-step.count c.in-Open.node c.in-Open.name.now c.loop-step.step-iterator c.next.new.self c.validity.ensures.within c.loop-step.invariant.2 e).1 in
+    omega (arith, room)
+
+pub loop-step-preserved-in-Open : goal.loop-step-preserved-in-Open
+loop-step-preserved-in-Open c =
+    let t = c.args.blob.now in
+    let e = c.in-Some.ensures.steps ∙ ap (λ s. step_view s ∷ c.next.new.self) c.in-Open.is in
+    let inner = is_innermost c.innermost.result c.loop-step.open_nodes c.innermost.ensures in (
+      tt,
+      tt,
+      subst (λ ks. IsFilled t c.put_parent.new.parents.entries c.note_phandle.new.phandles.entries ks (c.loop-step.count + 1) c.next.new.self) (sym c.push.ensures)
+          (past_one t c.loop-step.parents.entries c.put_parent.new.parents.entries c.loop-step.phandles.entries c.note_phandle.new.phandles.entries c.loop-step.open_nodes c.loop-step.count c.in-Open.node c.in-Open.name.now c.loop-step.step-iterator c.next.new.self c.validity.ensures.valid c.validity.ensures.places c.loop-step.invariant.2 e
+          (λ j. c.in_ok-put_parent-in-Open.ensures j ∙ ap (λ o. cond (nat_eq c.in-Open.node j) (Some o) (at_number c.loop-step.parents.entries j)) inner) c.in_ok-note_phandle-in-Open.ensures),
+    )
+
+pub loop-step-preserved-in-Property : goal.loop-step-preserved-in-Property
+loop-step-preserved-in-Property c =
+    let e = c.in-Some.ensures.steps ∙ ap (λ s. step_view s ∷ c.next.new.self) c.in-Property.is in
+    let open_nodes = c.loop-step.open_nodes in (
+      tt,
+      tt,
+      past_another c.args.blob.now c.loop-step.parents.entries c.loop-step.phandles.entries open_nodes open_nodes c.loop-step.count c.loop-step.step-iterator c.next.new.self c.loop-step.invariant.2
+          (ap opened e) (λ k. ap (parent_told k open_nodes) e) (λ few. subst (AreFew (length open_nodes)) e few),
+    )
+
+pub loop-step-preserved : goal.loop-step-preserved
+loop-step-preserved c =
+    let e = c.in-Some.ensures.steps ∙ ap (λ s. step_view s ∷ c.next.new.self) c.in-Close.is in
+    let open_nodes = c.loop-step.open_nodes in (
+      tt,
+      tt,
+      past_another c.args.blob.now c.loop-step.parents.entries c.loop-step.phandles.entries open_nodes c.pop.new.self c.loop-step.count c.loop-step.step-iterator c.next.new.self c.loop-step.invariant.2
+          (ap opened e) (λ k. ap (parent_told k open_nodes) e ∙ ap (λ ks. parent_told k ks c.next.new.self) (sym c.pop.ensures))
+          (λ few. subst (λ ks. AreFew (length ks) c.next.new.self) (sym c.pop.ensures) (subst (λ n. AreFew n c.next.new.self) (shorter open_nodes) (subst (AreFew (length open_nodes)) e few))),
+    )
+
+pub returns-clause-parents : goal.returns-clause-parents
+returns-clause-parents c = (all_filled c.args.blob.now c.loop-step.parents.entries c.loop-step.phandles.entries c.loop-step.open_nodes c.loop-step.count c.loop-step.step-iterator c.loop-step.invariant.2 c.in-None.ensures.steps.0).above
+
+pub returns-clause-phandles : goal.returns-clause-phandles
+returns-clause-phandles c = (all_filled c.args.blob.now c.loop-step.parents.entries c.loop-step.phandles.entries c.loop-step.open_nodes c.loop-step.count c.loop-step.step-iterator c.loop-step.invariant.2 c.in-None.ensures.steps.0).numbered
+
+pub returns-clause-count : goal.returns-clause-count
+returns-clause-count c = (all_filled c.args.blob.now c.loop-step.parents.entries c.loop-step.phandles.entries c.loop-step.open_nodes c.loop-step.count c.loop-step.step-iterator c.loop-step.invariant.2 c.in-None.ensures.steps.0).counted

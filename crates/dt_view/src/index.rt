@@ -1,0 +1,133 @@
+//! A blob with tables of its nodes, in which the node above a node and the node of a phandle are found at once.
+
+ghost use Rattle.std.specs.Prelude.{◌≡◌, IfOk, IfErr, None};
+ghost use Rattle.dt_names.specs.declared.fault.FaultKind.TheVariants.{NoMemory};
+
+use crate::blob::value_of;
+use crate::tables::{Parents, Phandles, fill};
+use crate::view::TreeView;
+use dt_names::{Fault, NodeId};
+use dt_read::Blob;
+use std::alloc::Global;
+use std::collections::HashMap;
+use std::marker::Model;
+
+/// A blob with tables of its nodes. It is seen as the blob's tree, and its nodes are the blob's.
+#[derive(Drop)]
+pub struct Index<'a> {
+    blob: &'a Blob<'a>,
+    parents: Parents,
+    phandles: Phandles,
+    count: usize,
+}
+
+impl<'a> Model for Index<'a> {
+    ghost use Rattle.std.specs.Prelude.{◌≡◌, length};
+    ghost use Rattle.dt_model.specs.Tree.{nodes_of};
+    ghost use Rattle.dt_read.specs.Placed.{PlacedTree, reading_of};
+    ghost use Rattle.dt_read.specs.TreeCode.{coded_placed};
+    ghost use Rattle.dt_view.specs.Tables.{AreIndexed};
+
+    ghost Value = { PlacedTree };
+
+    ghost coded = { coded_placed };
+
+    ghost view = { λ i. i.blob.now };
+
+    ghost invariant = { λ i. AreIndexed i.blob.now i.parents.entries i.phandles.entries i.count };
+}
+
+impl<'a> Index<'a> {
+    ghost use Rattle.std.specs.Prelude.{ℕ, length, IfSome, option_map};
+    ghost use Rattle.std.specs.Option.{option_copied};
+    ghost use Rattle.dt_model.specs.Applied.{node_numbered};
+    ghost use Rattle.dt_model.specs.Path.{Path};
+    ghost use Rattle.dt_model.specs.Tree.{nodes_of, value_in};
+    ghost use Rattle.dt_model.specs.Valid.{IsValid, IsWithinLimits};
+    ghost use Rattle.dt_read.specs.Placed.{path_at, reading_of, IsAt, IsNode};
+    ghost use Rattle.dt_view.specs.Views.{IsAbove};
+
+    /// Makes the index of a blob, in one walk through its tree. It wants memory, and nothing else is in its way.
+    pub fn new(alloc: Global, blob: &'a Blob<'a>) -> Result<Index<'a>, Fault>
+        ensures is { IfOk result (λ index. index ≡ blob.now) }
+        ensures refused { IfErr result (λ fault. (fault.kind ≡ NoMemory) × (fault.at ≡ None)) }
+    {
+        let mut parents = HashMap::new(alloc);
+        let mut phandles = HashMap::new(alloc);
+        let count = fill(blob, &mut parents, &mut phandles)?;
+        Ok(Index {
+            blob,
+            parents,
+            phandles,
+            count,
+        })
+    }
+
+    // The node above a node.
+    fn above(&self, node: NodeId) -> Option<NodeId>
+        requires { IsNode self.now node }
+        ensures { IsAbove self.now node result }
+    {
+        match self.parents.get(&node) {
+            Some(above) => *above,
+            None => None,
+        }
+    }
+
+    // The node of a phandle.
+    fn numbered(&self, number: u32) -> Option<NodeId>
+        ensures finds { option_map (path_at self.now) result ≡ node_numbered (nodes_of (reading_of self.now)) number }
+        ensures node { IfSome result (IsNode self.now) }
+    {
+        self.blob.validity();
+        self.phandles.get(&number).copied()
+    }
+
+    // How many nodes there are.
+    fn nodes(&self) -> usize
+        ensures { result ≡ length (nodes_of (reading_of self.now)) }
+    {
+        self.count
+    }
+
+    // What holds of the blob.
+    fn blob_validity(&self)
+        ensures valid { IsValid (reading_of self.now) }
+        ensures within { IsWithinLimits (reading_of self.now) }
+        ensures places { (p q : Path) (node : ℕ) → IsAt self.now p node → IsAt self.now q node → p ≡ q }
+    {
+        self.blob.validity();
+    }
+
+    // The value of a node's property.
+    fn value_in_blob(&self, node: NodeId, name: &[u8]) -> Option<&[u8]>
+        requires { IsNode self.now node }
+        ensures { option_copied result ≡ value_in (reading_of self.now) (path_at self.now node) name.now }
+    {
+        value_of(self.blob, node, name)
+    }
+}
+
+impl<'a> TreeView for Index<'a> {
+    ghost tree = { λ index. index };
+
+    fn validity(&self) {
+        self.blob_validity();
+    }
+
+    fn parent(&self, node: NodeId) -> Option<NodeId> {
+        self.above(node)
+    }
+
+    fn value(&self, node: NodeId, name: &[u8]) -> Option<&[u8]> {
+        self.value_in_blob(node, name)
+    }
+
+    fn by_phandle(&self, number: u32) -> Option<NodeId> {
+        self.numbered(number)
+    }
+
+    fn node_count(&self) -> usize {
+        self.nodes()
+    }
+}

@@ -1,0 +1,89 @@
+//! Tables from the nodes of a tree to the nodes above them, and from phandles to nodes.
+
+ghost use Rattle.std.specs.Prelude.{◌≡◌, ◌↔◌, ℕ, [], Some, nat_eq, length, OnOk, IfOk, IfSome, IsSome, cond};
+ghost use Rattle.std.specs.Int.{w32, from_be_bytes};
+ghost use Rattle.dt_model.specs.Meaning.{cell};
+ghost use Rattle.dt_model.specs.Tree.{nodes_of};
+ghost use Rattle.dt_model.specs.Valid.{IsPhandle};
+ghost use Rattle.dt_read.specs.Placed.{reading_of, IsNode};
+ghost use Rattle.dt_view.specs.Tables.{at_number, AreParents, ArePhandles, IsNoted};
+
+use crate::blob::value_of;
+use dt_names::{NodeId, phandle_of};
+use dt_read::{Blob, OpenNodes, Step};
+use std::alloc::AllocError;
+use std::collections::HashMap;
+
+/// The node above each node, None above the root.
+pub type Parents = HashMap<NodeId, Option<NodeId>>;
+
+/// The node of each phandle.
+pub type Phandles = HashMap<u32, NodeId>;
+
+fn put_parent(parents: &mut Parents, node: NodeId, above: Option<NodeId>) -> Result<(), AllocError>
+    ensures { OnOk result ((k : ℕ) → at_number parents.new.entries k ≡ cond (nat_eq node k) (Some above) (at_number parents.old.entries k)) }
+{
+    parents.insert(node, above)?;
+    Ok(())
+}
+
+fn put_phandle(phandles: &mut Phandles, number: u32, node: NodeId) -> Result<(), AllocError>
+    ensures { OnOk result ((n : ℕ) → at_number phandles.new.entries n ≡ cond (nat_eq number n) (Some node) (at_number phandles.old.entries n)) }
+{
+    phandles.insert(number, node)?;
+    Ok(())
+}
+
+// The number that a value of `phandle` is.
+fn number_of(value: &[u8]) -> Option<u32>
+    ensures valid { IsSome result ↔ IsPhandle value.now }
+    ensures number { IfSome result (λ number. number ≡ from_be_bytes w32 value.now) }
+    ensures cell { IfSome result (λ number. value.now ≡ cell number) }
+{
+    phandle_of(value)
+}
+
+// Puts the number of a node into the table, where it has one.
+fn note_phandle(blob: &Blob<'_>, phandles: &mut Phandles, node: NodeId) -> Result<(), AllocError>
+    requires { IsNode blob.now node }
+    ensures { OnOk result (IsNoted blob.now node phandles.old.entries phandles.new.entries) }
+{
+    blob.validity();
+    let Some(value) = value_of(blob, node, b"phandle") else {
+        return Ok(());
+    };
+    let Some(number) = number_of(value) else {
+        return Ok(());
+    };
+    put_phandle(phandles, number, node)
+}
+
+/// Fills the tables of a blob's tree, and counts its nodes.
+pub fn fill(
+    blob: &Blob<'_>,
+    parents: &mut Parents,
+    phandles: &mut Phandles,
+) -> Result<usize, AllocError>
+    requires parents { parents.old.entries ≡ [] }
+    requires phandles { phandles.old.entries ≡ [] }
+    ensures parents { OnOk result (AreParents blob.now (nodes_of (reading_of blob.now)) parents.new.entries) }
+    ensures phandles { OnOk result (ArePhandles blob.now (nodes_of (reading_of blob.now)) phandles.new.entries) }
+    ensures count { IfOk result (λ count. count ≡ length (nodes_of (reading_of blob.now))) }
+{
+    blob.validity();
+    let mut open_nodes = OpenNodes::new();
+    let mut count = 0usize;
+    for step in blob.steps() {
+        match step {
+            Step::Open { node, .. } => {
+                put_parent(parents, node, open_nodes.innermost())?;
+                note_phandle(blob, phandles, node)?;
+                open_nodes.push(node);
+                count += 1;
+            }
+            Step::Property { .. } => {}
+            Step::Close => open_nodes.pop(),
+        }
+    }
+    Ok(count)
+}
