@@ -14,3 +14,4 @@ pub mod Places
 pub mod PrintedAgain
 pub mod Stages
 pub mod Turns
+pub mod ResolvedMeanings

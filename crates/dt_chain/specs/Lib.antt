@@ -10,3 +10,4 @@ pub mod Laws
 pub mod Chains
 pub mod Printing
 pub mod Input
+pub mod Resolved

@@ -25,6 +25,7 @@ ghost use Rattle.dt_chain.specs.Chains.{
   BuildingIsMerging,
   NotBuiltIsNoMeaning,
 };
+ghost use Rattle.dt_chain.specs.Resolved.{ApplyingIsResolved, BuildingIsResolved, CompilingIsResolved};
 ghost use Rattle.dt_chain.specs.Printing.{
   OneText,
   DecompiledIsNotRefused,
@@ -45,6 +46,7 @@ use dt_laws::{
 use dt_model::one_reading;
 use dt_parse::parsed_has_places;
 use dt_printed::{read_trees_hold_bytes, text_is_parsed, text_is_tree};
+use dt_worlds::meaning_is_resolved;
 use dt_write::written_reads;
 
 /// A text means one thing: a base's one meaning, an overlay's one overlay.
@@ -149,6 +151,24 @@ pub fn what_building_means()
     sites_are_one();
     refused_is_undefined();
     written_reads();
+}
+
+/// The whole promise: each address of `reg` and each route of an interrupt that the base's text followed by the overlays' texts determines, an
+/// answer or a fault, is the one of the blob that building answers, read as a tree; and so it is of what applying answers, whoever wrote the
+/// base and the objects, and of what a base's text is compiled to. What the texts leave open is claimed of the blob alone: a number used as a
+/// phandle that no node of the texts writes, and a number that a reference gets where it is used as one. `dt_ranges::region` and
+/// `dt_irq::route` answer them of each view of that tree.
+pub fn what_building_resolves()
+    ensures built { BuildingIsResolved }
+    ensures applied { ApplyingIsResolved }
+    ensures compiled { CompilingIsResolved }
+{
+    what_building_means();
+    what_applying_means();
+    what_compiling_means();
+    parsed_has_places();
+    source_is_a_meaning();
+    meaning_is_resolved();
 }
 
 /// A blob is printed as one text, or is refused for one reason, and not both, unless memory is wanted.

@@ -15,5 +15,5 @@ pub use decompiling::decompile;
 pub use input::read_all;
 pub use laws::{
     one_blob, one_meaning, one_outcome, one_text, what_applying_means, what_building_means,
-    what_compiling_means, what_printing_means,
+    what_building_resolves, what_compiling_means, what_printing_means,
 };
