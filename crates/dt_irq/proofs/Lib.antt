@@ -7,3 +7,4 @@ pub mod Hops
 pub mod Ways
 pub mod Zeros
 pub mod Senders
+pub mod Lefts

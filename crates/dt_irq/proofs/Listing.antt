@@ -1,12 +1,14 @@
 -- Lists of phandles with specifiers, entry by entry, and rows of maps.
-use Rattle.std.proofs.Common.{◌≡◌, ◌≢◌, ℕ, suc, ◌+◌, ◌*◌, ◌/◌, ◌%◌, ◌<◌, ◌≤◌, Bool, List, [], ◌∷◌, take, drop, length, refl, ap, ◌∙◌, arith}
+use Rattle.std.proofs.Common.{◌≡◌, ◌≢◌, ℕ, suc, ◌+◌, ◌*◌, ◌/◌, ◌%◌, ◌<◌, ◌≤◌, Bool, true, false, not, ◌||◌, ◌==◌, List, [], ◌∷◌, take, drop, length, refl, ap, ◌∙◌, arith}
+use Rattle.std.specs.Prelude.{if◌then◌else◌}
 use Rattle.std.proofs.lemmas.Bool.{le-ltb, lt-ltb}
 use Rattle.dt_model.specs.Path.{Path}
+use Rattle.dt_names.specs.declared.fault.Fault.{Fault}
 use Rattle.dt_names.specs.declared.fault.FaultKind.TheVariants.{BadCells, BadMap, NoInterrupts}
-use Rattle.dt_worlds.specs.Answers.{Answer, refuse, answer, ◌>>=◌}
+use Rattle.dt_worlds.specs.Answers.{Answer, refused, refuse, answer, ◌>>=◌}
 use Rattle.dt_worlds.specs.World.{Quad, Value, World}
 use Rattle.dt_worlds.specs.Regions.{address_count, entries, entries_of, entry_at}
-use Rattle.dt_worlds.proofs.Entries.{entries_whole, entry_there, entry_past}
+use Rattle.dt_worlds.proofs.Entries.{eq_false, entries_whole}
 use Rattle.dt_worlds.specs.Interrupts.{Sent, Entry, entry_of, first_entry, entry_sent, listed_at, specifier_count, RowCells, MapRow, map_row_of, map_row, interrupt_row_cells}
 
 -- an entry whose phandle and count were read
@@ -72,17 +74,21 @@ sent_later w count ragged i j cells more = ap (λ n. entry_sent w count ragged n
 
 -- ---- an entry of `interrupts`
 
-read_listed : (w : World) (i : ℕ) (v : Value) (q : Path) (n : ℕ) → specifier_count w q ≡ answer n → n ≢ 0 → v.size % (4 * n) ≡ 0
+pub read_listed : (w : World) (i : ℕ) (v : Value) (q : Path) (n : ℕ) → specifier_count w q ≡ answer n → n ≢ 0 → v.size % (4 * n) ≡ 0
     → listed_at w i v q ≡ (entry_at NoInterrupts i (entries (v.size / (4 * n)) n v.cells) >>= λ e. answer (let s : Sent = record { node = q; specifier = e } in s))
 read_listed w i v q n count some even =
     ap (λ (x : Answer ℕ). x >>= λ k. entries_of k v >>= entry_at NoInterrupts i >>= λ e. answer (let s : Sent = record { node = q; specifier = e } in s)) count
     ∙ ap (λ (x : Answer (List (List Quad))). x >>= entry_at NoInterrupts i >>= λ e. answer (let s : Sent = record { node = q; specifier = e } in s)) (entries_whole n v some even)
 
-pub listed_is_past : (w : World) (i : ℕ) (v : Value) (q : Path) (n : ℕ) → specifier_count w q ≡ answer n → n ≢ 0 → v.size % (4 * n) ≡ 0 → v.size / (4 * n) ≤ i → listed_at w i v q ≡ refuse NoInterrupts
-listed_is_past w i v q n count some even past =
-    read_listed w i v q n count some even ∙ ap (λ (x : Answer (List Quad)). x >>= λ e. answer (let s : Sent = record { node = q; specifier = e } in s)) (entry_past NoInterrupts i (v.size / (4 * n)) n v.cells past)
+pub no_count : (w : World) (i : ℕ) (v : Value) (q : Path) (e : Fault) → specifier_count w q ≡ refused e → listed_at w i v q ≡ refused e
+no_count w i v q e count = ap (λ (x : Answer ℕ). x >>= λ k. entries_of k v >>= entry_at NoInterrupts i >>= λ e. answer (let s : Sent = record { node = q; specifier = e } in s)) count
 
-pub listed_is : (w : World) (i : ℕ) (v : Value) (q : Path) (n : ℕ) → specifier_count w q ≡ answer n → n ≢ 0 → v.size % (4 * n) ≡ 0 → i < v.size / (4 * n)
-    → listed_at w i v q ≡ answer (record { node = q; specifier = take n (drop (i * n) v.cells) })
-listed_is w i v q n count some even lt =
-    read_listed w i v q n count some even ∙ ap (λ (x : Answer (List Quad)). x >>= λ e. answer (let s : Sent = record { node = q; specifier = e } in s)) (entry_there NoInterrupts i (v.size / (4 * n)) n v.cells lt)
+pub listed_is_cut : (w : World) (i : ℕ) (v : Value) (q : Path) (n : ℕ) → specifier_count w q ≡ answer n → v.size % (4 * n) ≢ 0 → listed_at w i v q ≡ refuse BadCells
+listed_is_cut w i v q n count cut =
+    ap (λ (x : Answer ℕ). x >>= λ k. entries_of k v >>= entry_at NoInterrupts i >>= λ e. answer (let s : Sent = record { node = q; specifier = e } in s)) count
+    ∙ ap (λ b. (if (n == 0) || not b then refuse BadCells else answer (entries (v.size / (4 * n)) n v.cells)) >>= entry_at NoInterrupts i >>= λ e. answer (let s : Sent = record { node = q; specifier = e } in s)) (eq_false (v.size % (4 * n)) 0 cut)
+    ∙ by (n == 0)
+  where
+    by : (b : Bool) → ((if b || true then refuse BadCells else answer (entries (v.size / (4 * n)) n v.cells)) >>= entry_at NoInterrupts i >>= λ e. answer (let s : Sent = record { node = q; specifier = e } in s)) ≡ refuse BadCells
+    by true = refl
+    by false = refl

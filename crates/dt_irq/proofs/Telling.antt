@@ -1,6 +1,6 @@
 -- What is told of a result.
-use Rattle.std.proofs.Common.{◌≡◌, ℕ, true, false, true≢false, List, Option, Some, None, Result, Ok, Err, Bor, refl, sym, ap}
-use Rattle.std.specs.Prelude.{is_some, option_map}
+use Rattle.std.proofs.Common.{◌≡◌, ℕ, true, false, true≢false, List, Option, Some, None, Result, Ok, Err, Bor, refl, sym, ap, subst}
+use Rattle.std.specs.Prelude.{is_some, option_map, IfErr}
 use Rattle.std.specs.Option.{option_copied}
 use Rattle.std.specs.Result.{IsErr, IsErrAnd}
 use Rattle.dt_names.specs.declared.fault.Fault.{Fault}
@@ -25,3 +25,8 @@ no_value (Some v) e = absurd (true≢false e)
 pub copied_some : (o : Option (Bor (List ℕ))) → is_some (option_copied o) ≡ is_some o
 copied_some None = refl
 copied_some (Some v) = refl
+
+-- a result that is this fault has what the fault has
+pub if_fault : {A : Type 0} (P : Fault → Type 0) (r : Result A Fault) (e : Fault) → IsErr r → IsErrAnd r (λ x. x ≡ e) → P e → IfErr r P
+if_fault P (Ok a) e h k p = absurd (true≢false (sym h))
+if_fault P (Err x) e h k p = subst P (sym k) p

@@ -1,2 +1,4 @@
 pub mod Cells
 pub mod Seen
+pub mod Left
+pub mod RoutesLeft

@@ -1,6 +1,7 @@
 //! Routes of interrupts from the nodes that send them to their controllers (Devicetree Specification v0.4, 2.4).
 #![tactic(auto)]
 
+mod lists;
 mod parents;
 mod reached;
 mod routing;
@@ -8,4 +9,4 @@ mod rows;
 mod sending;
 
 pub use reached::Route;
-pub use routing::route;
+pub use routing::{Routes, route};

@@ -1,16 +1,20 @@
 //! Routes, from the node that sends an interrupt to its controller (Devicetree Specification v0.4, 2.4).
 
-ghost use Rattle.std.specs.Prelude.{◌≡◌, ◌-◌, ◌≤◌, ◌/◌, ◌++◌, length, replicate, IfOk};
+ghost use Rattle.std.specs.Prelude.{◌≡◌, ◌+◌, ◌-◌, ◌<◌, ◌≤◌, ◌/◌, ◌++◌, ℕ, length, replicate, IfOk, IfErr, IfSome, OnOk, MatchOption};
+ghost use Rattle.dt_model.specs.Path.{Path};
+ghost use Rattle.dt_names.specs.declared.fault.FaultKind.TheVariants.{NoInterrupts};
 ghost use Rattle.dt_read.specs.Placed.{path_at, reading_of, IsNode};
-ghost use Rattle.dt_worlds.specs.Answers.{answer};
+ghost use Rattle.dt_worlds.specs.Answers.{answer, refuse, refused};
 ghost use Rattle.dt_worlds.specs.World.{quads_of, tree_world};
 ghost use Rattle.dt_worlds.specs.Interrupts.{IsRoute, most_hops, routed};
 ghost use Rattle.dt_irq.specs.Cells.{numbers_of, unit_at};
+ghost use Rattle.dt_irq.specs.Left.{bytes_left};
+ghost use Rattle.dt_irq.specs.RoutesLeft.{AreLeft, IsLeft};
 ghost use Rattle.dt_irq.specs.Seen.{told_as, interrupt_in, route_in, HasArrived, IsSpecified};
 
+use crate::lists::Entries;
 use crate::reached::{MOST_CELLS, Route};
 use crate::rows::{Interrupt, hop};
-use crate::sending::sent_by;
 use dt_names::{Fault, FaultKind, NodeId};
 use dt_view::{TreeView, cell_at};
 
@@ -68,6 +72,53 @@ fn unit_of<V: TreeView>(view: &V, node: NodeId) -> &[u8]
     }
 }
 
+/// The interrupts of a node that are left, as routes. What the node and its interrupt parent have is looked up once, so that all entries are
+/// told in one pass.
+#[derive(Clone, Copy)]
+pub struct Routes<'v> {
+    entries: Entries<'v>,
+    unit: &'v [u8],
+}
+
+impl<'v> Routes<'v> {
+    /// The routes of a node, from its first interrupt on. A fault is each interrupt's: `NoInterrupts` of a node without `interrupts` and
+    /// `interrupts-extended`, one on the way to the interrupt parent, or `BadCells` of a list that isn't whole entries.
+    pub fn of<V: TreeView>(view: &'v V, node: NodeId) -> Result<Routes<'v>, Fault>
+        requires { IsNode (V.tree view.now) node }
+        ensures left { IfOk result (AreLeft (V.tree view.now) (path_at (V.tree view.now) node) 0) }
+        ensures refused { IfErr result (λ fault. (i : ℕ) → IsRoute (tree_world (reading_of (V.tree view.now))) (path_at (V.tree view.now) node) i (refused fault)) }
+    {
+        let entries = Entries::of(view, node)?;
+        let unit = unit_of(view, node);
+        Ok(Routes { entries, unit })
+    }
+
+    /// The next route, or why the interrupt has none; None behind the last one.
+    pub fn next<V: TreeView>(&mut self, view: &'v V) -> Option<Result<Route, Fault>>
+        requires { IsLeft (V.tree view.now) self.old }
+        ensures is { (p : Path) (i : ℕ) → AreLeft (V.tree view.now) p i self.old
+            → MatchOption result (IsRoute (tree_world (reading_of (V.tree view.now))) p i (refuse NoInterrupts))
+            (λ r. IsRoute (tree_world (reading_of (V.tree view.now))) p i (told_as (route_in (V.tree view.now)) r) × AreLeft (V.tree view.now) p (i + 1) self.new) }
+        ensures arrived { IfSome result (λ r. IfOk r (HasArrived (V.tree view.now))) }
+        ensures shorter { IfSome result (λ r. OnOk r (bytes_left self.new.entries < bytes_left self.old.entries)) }
+    {
+        let Some(sent) = self.entries.next(view) else {
+            return None;
+        };
+        match sent {
+            Ok(sent) => Some(routed(
+                view,
+                Interrupt {
+                    node: sent.node,
+                    unit: self.unit,
+                    specifier: sent.specifier,
+                },
+            )),
+            Err(fault) => Some(Err(fault)),
+        }
+    }
+}
+
 /// The route of the interrupt of a node that an index names (Devicetree Specification v0.4, 2.4): through the entry of `interrupts-extended` or,
 /// where that is absent, of `interrupts` at the interrupt parent, and from there through interrupt maps to the first node with
 /// `interrupt-controller`. Takes no memory; of a `Blob` each phandle and each parent costs a walk up to its node.
@@ -83,7 +134,7 @@ pub fn route<V: TreeView>(view: &V, node: NodeId, index: u64) -> Result<Route, F
     ensures is { IsRoute (tree_world (reading_of (V.tree view.now))) (path_at (V.tree view.now) node) index (told_as (route_in (V.tree view.now)) result) }
     ensures arrived { IfOk result (HasArrived (V.tree view.now)) }
 {
-    let sent = sent_by(view, node, index)?;
+    let sent = Entries::of(view, node)?.nth(view, index)?;
     let unit = unit_of(view, node);
     routed(
         view,

@@ -1,12 +1,12 @@
-//! Where the interrupts of a node are sent first: its `interrupts` and `interrupts-extended` (Devicetree Specification v0.4, 2.4.1).
+//! Phandles with specifiers, as `interrupts-extended` lists them (Devicetree Specification v0.4, 2.4.1.4).
 
 ghost use Rattle.std.specs.Prelude.{◌≡◌, ◌<◌, length, None, IfOk, if◌then◌else◌};
 ghost use Rattle.dt_read.specs.Placed.{path_at, reading_of, IsNode};
 ghost use Rattle.dt_worlds.specs.World.{quads_of, tree_world, value_of_bytes};
-ghost use Rattle.dt_worlds.specs.Interrupts.{entry_sent, first_entry, is_ragged, listed_at, specifier_count, IsSent};
+ghost use Rattle.dt_worlds.specs.Interrupts.{entry_sent, first_entry, is_ragged, specifier_count};
 ghost use Rattle.dt_irq.specs.Seen.{told_as, entry_in, sent_in, IsSpecified};
 
-use crate::parents::{interrupt_parent, node_of, specifier_cells};
+use crate::parents::{node_of, specifier_cells};
 use dt_names::{Fault, FaultKind, NodeId};
 use dt_view::{TreeView, cell_at, cells_after, first_cells};
 
@@ -38,11 +38,12 @@ pub fn at_the_end(rest: &[u8], nothing: FaultKind, cut: FaultKind) -> Fault
 }
 
 /// The first entry of a list, as `interrupts-extended` has them.
-fn first_entry<'v, V: TreeView>(view: &V, list: &'v [u8]) -> Result<Entry<'v>, Fault>
+pub fn first_entry<'v, V: TreeView>(view: &V, list: &'v [u8]) -> Result<Entry<'v>, Fault>
     ensures is { told_as (entry_in (V.tree view.now)) result
         ≡ first_entry (tree_world (reading_of (V.tree view.now))) (specifier_count (tree_world (reading_of (V.tree view.now)))) (is_ragged (value_of_bytes list.now)) (quads_of list.now) }
     ensures there { IfOk result (λ e. IsSpecified (V.tree view.now) e.sent.node e.sent.specifier.now) }
     ensures ragged { IfOk result (λ e. is_ragged (value_of_bytes e.rest.now) ≡ is_ragged (value_of_bytes list.now)) }
+    ensures shorter { IfOk result (λ e. length e.rest.now < length list.now) }
 {
     if list.len() < 4 {
         return Err(at_the_end(list, FaultKind::NoInterrupts, FaultKind::BadCells));
@@ -61,7 +62,7 @@ fn first_entry<'v, V: TreeView>(view: &V, list: &'v [u8]) -> Result<Entry<'v>, F
 }
 
 /// The entry of `interrupts-extended` that an index names, those before it read in order.
-fn extended<'v, V: TreeView>(view: &V, list: &'v [u8], index: u64) -> Result<Sent<'v>, Fault>
+pub fn extended<'v, V: TreeView>(view: &V, list: &'v [u8], index: u64) -> Result<Sent<'v>, Fault>
     ensures is { told_as (sent_in (V.tree view.now)) result
         ≡ entry_sent (tree_world (reading_of (V.tree view.now))) (specifier_count (tree_world (reading_of (V.tree view.now)))) (is_ragged (value_of_bytes list.now)) index (quads_of list.now) }
     ensures there { IfOk result (λ s. IsSpecified (V.tree view.now) s.node s.specifier.now) }
@@ -71,45 +72,4 @@ fn extended<'v, V: TreeView>(view: &V, list: &'v [u8], index: u64) -> Result<Sen
         rest = first_entry(view, rest)?.rest;
     }
     Ok(first_entry(view, rest)?.sent)
-}
-
-/// The entry of `interrupts` that an index names, for this interrupt parent.
-fn listed<'v, V: TreeView>(
-    view: &V,
-    parent: NodeId,
-    list: &'v [u8],
-    index: u64,
-) -> Result<Sent<'v>, Fault>
-    requires { IsNode (V.tree view.now) parent }
-    ensures is { told_as (sent_in (V.tree view.now)) result ≡ listed_at (tree_world (reading_of (V.tree view.now))) index (value_of_bytes list.now) (path_at (V.tree view.now) parent) }
-    ensures there { IfOk result (λ s. IsSpecified (V.tree view.now) s.node s.specifier.now) }
-{
-    let count = specifier_cells(view, parent)?;
-    if list.len() % (4 * count) != 0 {
-        return Err(Fault::of(FaultKind::BadCells));
-    }
-    if index >= (list.len() / (4 * count)) as u64 {
-        return Err(Fault::of(FaultKind::NoInterrupts));
-    }
-    let specifier = first_cells(cells_after(list, index as usize * count), count);
-    Ok(Sent {
-        node: parent,
-        specifier,
-    })
-}
-
-/// Where the interrupt of a node that an index names is sent first; `interrupts-extended` wins over `interrupts`.
-pub fn sent_by<'v, V: TreeView>(view: &'v V, node: NodeId, index: u64) -> Result<Sent<'v>, Fault>
-    requires { IsNode (V.tree view.now) node }
-    ensures is { IsSent (tree_world (reading_of (V.tree view.now))) (path_at (V.tree view.now) node) index (told_as (sent_in (V.tree view.now)) result) }
-    ensures there { IfOk result (λ s. IsSpecified (V.tree view.now) s.node s.specifier.now) }
-{
-    if let Some(list) = view.value(node, b"interrupts-extended") {
-        return extended(view, list, index);
-    }
-    let Some(list) = view.value(node, b"interrupts") else {
-        return Err(Fault::of(FaultKind::NoInterrupts));
-    };
-    let parent = interrupt_parent(view, node)?;
-    listed(view, parent, list, index)
 }

@@ -2,6 +2,7 @@
 #![tactic(auto)]
 
 mod cells;
+mod listing;
 mod translating;
 
-pub use translating::region;
+pub use listing::{Regions, region};

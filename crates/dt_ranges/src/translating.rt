@@ -4,7 +4,7 @@ ghost use Rattle.std.specs.Prelude.{◌≡◌, ℕ, ◌+◌, ◌*◌, ◌^◌, �
 ghost use Rattle.dt_read.specs.Placed.{path_at, reading_of, IsNode};
 ghost use Rattle.dt_worlds.specs.Answers.{Answer, told};
 ghost use Rattle.dt_worlds.specs.World.{tree_world, value_of_bytes, quads_of};
-ghost use Rattle.dt_worlds.specs.Regions.{entries, fitting, fitted, mapped_by, mapped, risen, finished, translated, region_at, region};
+ghost use Rattle.dt_worlds.specs.Regions.{entries, fitting, fitted, mapped_by, mapped, risen, finished, translated, region_at};
 
 use crate::cells::part_at;
 use dt_names::{Fault, FaultKind, NodeId};
@@ -131,7 +131,7 @@ fn risen<V: TreeView>(
 }
 
 /// The region of an address and a size on a bus.
-fn region_at<V: TreeView>(
+pub fn region_at<V: TreeView>(
     view: &V,
     name: &[u8],
     bus: NodeId,
@@ -158,38 +158,4 @@ fn region_at<V: TreeView>(
         size,
         whole: at.whole,
     })
-}
-
-/// The region of the root's bus that an entry of a node's `reg` is (Devicetree Specification v0.4, 2.3.6 and 2.3.8): the address that the CPU
-/// uses and the size, both in bytes, and whether the whole of it is mapped there without a break. The address goes up bus by bus, each time by
-/// the first entry of `ranges` that holds it. Takes no memory; of a `Blob` each bus costs a walk up to it.
-///
-/// # Errors
-///
-/// `NoReg`: the root, a node without `reg`, or without that entry. `BadCells`: the counts of a bus, or the length of `reg` or of `ranges`. And of
-/// each bus on the way up `PciBus`, which comes first, `NoRanges`, `NotMapped`, and `Overflow`, where the bus above has no cells for the address.
-/// The first of these on the way; none has a place.
-pub fn region<V: TreeView>(view: &V, node: NodeId, index: u64) -> Result<Region, Fault>
-    requires { IsNode (V.tree view.now) node }
-    ensures { told result ≡ region (tree_world (reading_of (V.tree view.now))) (path_at (V.tree view.now) node) index }
-{
-    let Some(bus) = view.parent(node) else {
-        return Err(Fault::of(FaultKind::NoReg));
-    };
-    let Some(reg) = view.value(node, b"reg") else {
-        return Err(Fault::of(FaultKind::NoReg));
-    };
-    let own = cells(view, bus)?;
-    let width = (own.address + own.size) as usize;
-    if width == 0 || reg.len() % (4 * width) != 0 {
-        return Err(Fault::of(FaultKind::BadCells));
-    }
-    let count = reg.len() / (4 * width);
-    if index >= count as u64 {
-        return Err(Fault::of(FaultKind::NoReg));
-    }
-    let entry = cells_after(reg, index as usize * width);
-    let address = part_at(entry, 0, own.address);
-    let size = part_at(entry, own.address, own.size);
-    region_at(view, b"ranges", bus, address, size)
 }

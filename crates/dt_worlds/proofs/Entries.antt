@@ -9,7 +9,7 @@ use Rattle.dt_worlds.specs.Answers.{refuse, answer}
 use Rattle.dt_worlds.specs.World.{Quad, Value}
 use Rattle.dt_worlds.specs.Regions.{entries, entries_of, entry_at}
 
-eq_false : (m n : ℕ) → m ≢ n → (m == n) ≡ false
+pub eq_false : (m n : ℕ) → m ≢ n → (m == n) ≡ false
 eq_false m n ne = step (m == n) refl
   where
     step : (b : Bool) → (m == n) ≡ b → b ≡ false

@@ -39,3 +39,11 @@ returns-clause-ragged g c =
     let one : length cells ≡ length list - 4 = ap length c.cells_after-cells.ensures.bytes ∙ length-drop (4 * 1) list in
     let two : length c.cells_after.result.now ≡ length cells - 4 * c.in_ok-count.count = ap length c.cells_after.ensures.bytes ∙ length-drop (4 * c.in_ok-count.count) cells in
     ap (λ n. not (n == 0)) (let e : length c.cells_after.result.now % 4 ≡ length list % 4 = omega arith in e)
+
+pub returns-clause-shorter : goal.returns-clause-shorter
+returns-clause-shorter g c =
+    let list = c.args.list.now in
+    let cells = c.cells_after-cells.result.now in
+    let one : length cells ≡ length list - 4 = ap length c.cells_after-cells.ensures.bytes ∙ length-drop (4 * 1) list in
+    let two : length c.cells_after.result.now ≡ length cells - 4 * c.in_ok-count.count = ap length c.cells_after.ensures.bytes ∙ length-drop (4 * c.in_ok-count.count) cells in
+    omega (arith, c.if-list-lt4.false)

@@ -1,0 +1,28 @@
+-- The entries of a node's `reg` that are left, as regions.
+use Rattle.std.specs.Prelude.{◌≡◌, ◌+◌, ◌*◌, ◌≤◌, ℕ, List, length, codes}
+use Rattle.dt_model.specs.Path.{Path}
+use Rattle.dt_names.specs.declared.fault.FaultKind.TheVariants.{NoReg}
+use Rattle.dt_read.specs.Placed.{PlacedTree, path_at, reading_of, IsNode}
+use Rattle.dt_worlds.specs.declared.regions.BusCells.{BusCells}
+use Rattle.dt_worlds.specs.declared.regions.Region.{Region}
+use Rattle.dt_worlds.specs.Answers.{Answer, ◌>>=◌}
+use Rattle.dt_worlds.specs.World.{Quad, World, tree_world, quads_of}
+use Rattle.dt_worlds.specs.Regions.{joined, cells_at, entries, entry_at, region_at, region}
+use Rattle.dt_ranges.specs.declared.listing.Regions.{Regions}
+
+-- the region of an entry, on a bus with these cells
+abbrev pub region_of : World → Path → BusCells → List Quad → Answer Region
+region_of w q own e = joined (cells_at 0 own.address e) >>= λ address. joined (cells_at own.address own.size e) >>= λ size. region_at w (codes "ranges") q address size
+
+-- the regions are those of a node from an index on
+pub record AreLeft (t : PlacedTree) (p : Path) (i : ℕ) (r : Regions) : Type 0 where
+  pub bus : IsNode t r.bus
+  pub address : r.own.address ≤ 4
+  pub size : r.own.size ≤ 4
+  pub long : length r.rest.now ≡ r.count * (4 * (r.own.address + r.own.size))
+  pub left : (k : ℕ) → region (tree_world (reading_of t)) p (i + k)
+      ≡ (entry_at NoReg k (entries r.count (r.own.address + r.own.size) (quads_of r.rest.now)) >>= region_of (tree_world (reading_of t)) (path_at t r.bus) r.own)
+
+-- they are some node's
+abbrev pub IsLeft : PlacedTree → Regions → Type 0
+IsLeft t r = (p : Path) × (i : ℕ) × AreLeft t p i r
