@@ -11,4 +11,6 @@ mod text;
 mod texts;
 mod value;
 
+pub use buffer::Buffer;
+pub use digits::{without_zeros, write_digits};
 pub use text::text_of;

@@ -5,7 +5,7 @@ ghost use Rattle.std.specs.Prelude.{◌≡◌, ℕ, IfSome, option_map};
 ghost use Rattle.std.specs.Option.{option_copied};
 ghost use Rattle.dt_model.specs.Applied.{is_cell, node_numbered};
 ghost use Rattle.dt_model.specs.Tree.{nodes_of, value_in};
-ghost use Rattle.dt_read.specs.Placed.{PlacedTree, path_at, reading_of, IsNode};
+ghost use Rattle.dt_read.specs.Placed.{PlacedTree, last_name, path_at, reading_of, IsNode};
 ghost use Rattle.dt_view.specs.Views.{IsAbove};
 
 use crate::view::TreeView;
@@ -42,6 +42,14 @@ pub fn value_of<'b>(blob: &'b Blob<'_>, node: NodeId, name: &[u8]) -> Option<&'b
     blob.value(node, name)
 }
 
+/// The name of a node.
+pub fn name_of<'b>(blob: &'b Blob<'_>, node: NodeId) -> &'b [u8]
+    requires { IsNode blob.now node }
+    ensures { result.now ≡ last_name (path_at blob.now node) }
+{
+    blob.name(node)
+}
+
 // Whether the value of a `phandle` is this number.
 fn is_number(value: Option<&[u8]>, number: u32) -> bool
     ensures { result ≡ is_cell number (option_copied value.entry) }
@@ -73,6 +81,14 @@ impl<'a> TreeView for Blob<'a> {
 
     fn validity(&self) {
         Blob::validity(self);
+    }
+
+    fn root(&self) -> NodeId {
+        Blob::root(self)
+    }
+
+    fn name(&self, node: NodeId) -> &[u8] {
+        name_of(self, node)
     }
 
     fn parent(&self, node: NodeId) -> Option<NodeId> {

@@ -3,7 +3,7 @@
 ghost use Rattle.std.specs.Prelude.{◌≡◌, IfOk, IfErr, None};
 ghost use Rattle.dt_names.specs.declared.fault.FaultKind.TheVariants.{NoMemory};
 
-use crate::blob::value_of;
+use crate::blob::{name_of, value_of};
 use crate::tables::{Parents, Phandles, fill};
 use crate::view::TreeView;
 use dt_names::{Fault, NodeId};
@@ -38,13 +38,13 @@ impl<'a> Model for Index<'a> {
 }
 
 impl<'a> Index<'a> {
-    ghost use Rattle.std.specs.Prelude.{ℕ, length, IfSome, option_map};
+    ghost use Rattle.std.specs.Prelude.{ℕ, [], length, IfSome, option_map};
     ghost use Rattle.std.specs.Option.{option_copied};
     ghost use Rattle.dt_model.specs.Applied.{node_numbered};
     ghost use Rattle.dt_model.specs.Path.{Path};
     ghost use Rattle.dt_model.specs.Tree.{nodes_of, value_in};
     ghost use Rattle.dt_model.specs.Valid.{IsValid, IsWithinLimits};
-    ghost use Rattle.dt_read.specs.Placed.{path_at, reading_of, IsAt, IsNode};
+    ghost use Rattle.dt_read.specs.Placed.{last_name, path_at, reading_of, IsAt, IsNode};
     ghost use Rattle.dt_view.specs.Views.{IsAbove};
 
     /// Makes the index of a blob, in one walk through its tree. It wants memory, and nothing else is in its way.
@@ -99,6 +99,28 @@ impl<'a> Index<'a> {
         self.blob.validity();
     }
 
+    /// The blob, whose nodes are the index's.
+    pub fn blob(&self) -> &'a Blob<'a>
+        ensures { result.now ≡ self.now }
+    {
+        self.blob
+    }
+
+    // The root.
+    fn blob_root(&self) -> NodeId
+        ensures { IsAt self.now [] result }
+    {
+        self.blob.root()
+    }
+
+    // The name of a node.
+    fn name_in_blob(&self, node: NodeId) -> &[u8]
+        requires { IsNode self.now node }
+        ensures { result.now ≡ last_name (path_at self.now node) }
+    {
+        name_of(self.blob, node)
+    }
+
     // The value of a node's property.
     fn value_in_blob(&self, node: NodeId, name: &[u8]) -> Option<&[u8]>
         requires { IsNode self.now node }
@@ -113,6 +135,14 @@ impl<'a> TreeView for Index<'a> {
 
     fn validity(&self) {
         self.blob_validity();
+    }
+
+    fn root(&self) -> NodeId {
+        self.blob_root()
+    }
+
+    fn name(&self, node: NodeId) -> &[u8] {
+        self.name_in_blob(node)
     }
 
     fn parent(&self, node: NodeId) -> Option<NodeId> {

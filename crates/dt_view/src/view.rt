@@ -1,12 +1,12 @@
 //! A view of a tree.
 
-ghost use Rattle.std.specs.Prelude.{◌≡◌, ℕ, length, IfSome, option_map};
+ghost use Rattle.std.specs.Prelude.{◌≡◌, ℕ, [], length, IfSome, option_map};
 ghost use Rattle.std.specs.Option.{option_copied};
 ghost use Rattle.dt_model.specs.Applied.{node_numbered};
 ghost use Rattle.dt_model.specs.Path.{Path};
 ghost use Rattle.dt_model.specs.Tree.{nodes_of, value_in};
 ghost use Rattle.dt_model.specs.Valid.{IsValid, IsWithinLimits};
-ghost use Rattle.dt_read.specs.Placed.{PlacedTree, path_at, reading_of, IsAt, IsNode};
+ghost use Rattle.dt_read.specs.Placed.{PlacedTree, last_name, path_at, reading_of, IsAt, IsNode};
 ghost use Rattle.dt_view.specs.Views.{IsAbove};
 
 use dt_names::NodeId;
@@ -22,6 +22,15 @@ pub trait TreeView {
         ensures valid { IsValid (reading_of (tree self.now)) }
         ensures within { IsWithinLimits (reading_of (tree self.now)) }
         ensures places { (p q : Path) (node : ℕ) → IsAt (tree self.now) p node → IsAt (tree self.now) q node → p ≡ q };
+
+    /// The root, which has no name.
+    fn root(&self) -> NodeId
+        ensures { IsAt (tree self.now) [] result };
+
+    /// The name of a node; the root's is empty.
+    fn name(&self, node: NodeId) -> &[u8]
+        requires { IsNode (tree self.now) node }
+        ensures { result.now ≡ last_name (path_at (tree self.now) node) };
 
     /// The node above a node, None above the root.
     fn parent(&self, node: NodeId) -> Option<NodeId>
