@@ -1,5 +1,5 @@
 mod CellTexts
 mod HexDigits
 mod LineTexts
-mod Passing
+pub mod Passing
 mod Quoting
