@@ -1,8 +1,8 @@
 //! The regions of a node's `reg`, entry by entry (Devicetree Specification v0.4, 2.3.6).
 
-ghost use Rattle.std.specs.Prelude.{◌≡◌, ℕ, ◌+◌, ◌<◌, IfOk, IfErr, IfSome, MatchOption};
+ghost use Rattle.std.specs.Prelude.{◌≡◌, ℕ, ◌+◌, ◌<◌, ◌⊎◌, IfOk, IfErr, IfSome, MatchOption};
 ghost use Rattle.dt_model.specs.Path.{Path};
-ghost use Rattle.dt_names.specs.declared.fault.FaultKind.TheVariants.{NoReg};
+ghost use Rattle.dt_names.specs.declared.fault.FaultKind.TheVariants.{BadCells, NoReg};
 ghost use Rattle.dt_read.specs.Placed.{path_at, reading_of, IsNode};
 ghost use Rattle.dt_worlds.specs.Answers.{refuse, refused, told};
 ghost use Rattle.dt_worlds.specs.World.{tree_world};
@@ -35,6 +35,7 @@ impl<'v> Regions<'v> {
         requires { IsNode (V.tree view.now) node }
         ensures left { IfOk result (AreLeft (V.tree view.now) (path_at (V.tree view.now) node) 0) }
         ensures refused { IfErr result (λ fault. (i : ℕ) → region (tree_world (reading_of (V.tree view.now))) (path_at (V.tree view.now) node) i ≡ refused fault) }
+        ensures kind { IfErr result (λ fault. (fault.kind ≡ NoReg) ⊎ (fault.kind ≡ BadCells)) }
     {
         let Some(bus) = view.parent(node) else {
             return Err(Fault::of(FaultKind::NoReg));

@@ -1,6 +1,7 @@
 //! What a bus says of its addresses.
 
-ghost use Rattle.std.specs.Prelude.{◌≡◌, ◌≤◌, IfOk, option_map};
+ghost use Rattle.std.specs.Prelude.{◌≡◌, ◌≤◌, IfOk, IfErr, option_map};
+ghost use Rattle.dt_names.specs.declared.fault.FaultKind.TheVariants.{BadCells};
 ghost use Rattle.dt_model.specs.Tree.{value_in};
 ghost use Rattle.dt_read.specs.Placed.{path_at, reading_of, IsNode};
 ghost use Rattle.dt_worlds.specs.Answers.{answer, told};
@@ -20,7 +21,8 @@ const PCI: u32 = 0x7063_6900;
 
 /// The number in a value of four bytes. `BadCells` where it has another length.
 pub fn one_cell(value: &[u8]) -> Result<u32, Fault>
-    ensures { told result ≡ only_number (value_of_bytes value.now) }
+    ensures is { told result ≡ only_number (value_of_bytes value.now) }
+    ensures kind { IfErr result (λ fault. fault.kind ≡ BadCells) }
 {
     match be32(value, 0) {
         Some(number) if value.len() == 4 => Ok(number),
@@ -34,6 +36,7 @@ fn count<V: TreeView>(view: &V, node: NodeId, name: &[u8], absent: u32) -> Resul
     requires absent { absent ≤ 4 }
     ensures is { told result ≡ count_of absent (option_map value_of_bytes (value_in (reading_of (V.tree view.now)) (path_at (V.tree view.now) node) name.now)) }
     ensures few { IfOk result (λ n. n ≤ 4) }
+    ensures kind { IfErr result (λ fault. fault.kind ≡ BadCells) }
 {
     let Some(value) = view.value(node, name) else {
         return Ok(absent);
@@ -55,6 +58,7 @@ pub fn address_cells<V: TreeView>(view: &V, node: NodeId, absent: u32) -> Result
     requires absent { absent ≤ 4 }
     ensures is { told result ≡ address_count (tree_world (reading_of (V.tree view.now))) (path_at (V.tree view.now) node) absent }
     ensures few { IfOk result (λ n. n ≤ 4) }
+    ensures kind { IfErr result (λ fault. fault.kind ≡ BadCells) }
 {
     count(view, node, b"#address-cells", absent)
 }
@@ -68,6 +72,7 @@ pub fn cells<V: TreeView>(view: &V, bus: NodeId) -> Result<BusCells, Fault>
     requires { IsNode (V.tree view.now) bus }
     ensures is { told result ≡ bus_cells (tree_world (reading_of (V.tree view.now))) (path_at (V.tree view.now) bus) }
     ensures few { IfOk result (λ c. (c.address ≤ 4) × (c.size ≤ 4)) }
+    ensures kind { IfErr result (λ fault. fault.kind ≡ BadCells) }
 {
     let address = address_cells(view, bus, 2)?;
     let size = count(view, bus, b"#size-cells", 1)?;
