@@ -1,1 +1,4 @@
 pub mod PathTexts
+pub mod Told
+pub mod WordTexts
+pub mod Going

@@ -1,2 +1,4 @@
 pub mod Lines
 pub mod Paths
+pub mod AllLines
+pub mod Given

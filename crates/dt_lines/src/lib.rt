@@ -3,3 +3,5 @@
 
 mod paths;
 mod pieces;
+mod regions;
+mod words;

@@ -1,0 +1,17 @@
+-- A node's line, from its path on.
+use Rattle.std.proofs.Common.{◌≡◌, ◌++◌, ℕ, List, refl, sym, subst}
+use Rattle.std.specs.Prelude.{Result, Ok, Err, IfErr}
+use Rattle.std.specs.Result.{IsErrAnd}
+use Rattle.dt_model.specs.Path.{Path, path_text}
+use Rattle.dt_names.specs.declared.fault.Fault.{Fault}
+use Rattle.dt_worlds.specs.Answers.{told}
+use Rattle.dt_lines.specs.Lines.{line}
+
+pub line_begins : {A : Type 0} (words : A → List ℕ) (p : Path) (i : ℕ) (r : Result A Fault) → (rest : List ℕ) × (line words p i (told r) ≡ path_text p ++ rest)
+line_begins words p i (Ok a) = (_, refl)
+line_begins words p i (Err fault) = (_, refl)
+
+-- the exit of a `?` at a fault
+pub fails_at : (P : Fault → Type 0) (r : Result (Unit {0}) Fault) (fault : Fault) → IsErrAnd r (λ e. e ≡ fault) → P fault → IfErr r P
+fails_at P (Ok o) fault is p = absurd is
+fails_at P (Err e) fault is p = subst P (sym is) p

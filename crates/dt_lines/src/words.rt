@@ -1,0 +1,89 @@
+//! What a line tells behind a node's path.
+
+ghost use Rattle.std.specs.Prelude.{◌≡◌, ◌++◌, ◌∷◌, [], OnOk, IfErr, codes, if◌then◌else◌};
+ghost use Rattle.std.specs.Int.{w128, to_be_bytes};
+ghost use Rattle.dt_model.specs.Printed.{hexadecimal};
+ghost use Rattle.dt_names.specs.Sink.{IsRefused};
+ghost use Rattle.dt_decompile.specs.Passed.{IsPassed};
+ghost use Rattle.dt_lines.specs.Lines.{joined, index_words, fault_words, region_words};
+
+use crate::pieces::put_pieces;
+use dt_decompile::{Buffer, without_zeros, write_digits};
+use dt_names::{Fault, Sink};
+use dt_worlds::Region;
+
+// The pieces of a fault.
+fn fault_pieces<'a>(index: &'a str, number: &'a str, name: &'a str, at: &'a str, place: &'a str) -> [&'a [u8]; 9]
+    ensures { joined result ≡ (codes " " ++ index.entry.now)
+        ++ (codes " " ++ (((codes "fault " ++ (number.entry.now ++ (codes " " ++ name.entry.now))) ++ (at.entry.now ++ place.entry.now)) ++ 10 ∷ [])) }
+{
+    [
+        b" ",
+        index.as_bytes(),
+        b" fault ",
+        number.as_bytes(),
+        b" ",
+        name.as_bytes(),
+        at.as_bytes(),
+        place.as_bytes(),
+        b"\n",
+    ]
+}
+
+/// Writes an index and a fault.
+pub fn put_fault<S: Sink>(buffer: &mut Buffer, out: &mut S, index: u64, fault: Fault) -> Result<(), Fault>
+    ensures passed { OnOk result (IsPassed (S.taken out.old) (S.taken out.new) buffer.old (index_words index ++ fault_words fault) buffer.new) }
+    ensures refused { IfErr result (λ failure. IsRefused failure (buffer.old ++ (index_words index ++ fault_words fault)) (S.taken out.old) (S.taken out.new)) }
+{
+    let mut index_digits = itoa::Buffer::new();
+    let mut number_digits = itoa::Buffer::new();
+    let mut place_digits = itoa::Buffer::new();
+    let index = index_digits.format(index);
+    let number = number_digits.format(fault.number());
+    match fault.at {
+        None => put_pieces(buffer, out, &fault_pieces(index, number, fault.name(), "", "")),
+        Some(place) => put_pieces(
+            buffer,
+            out,
+            &fault_pieces(index, number, fault.name(), " at ", place_digits.format(place)),
+        ),
+    }
+}
+
+// The pieces of a region.
+fn region_pieces<'a>(index: &'a str, address: &'a [u8], size: &'a [u8], whole: bool) -> [&'a [u8]; 7]
+    ensures { joined result ≡ (codes " " ++ index.entry.now)
+        ++ ((codes " 0x" ++ address.entry.now) ++ ((codes " 0x" ++ size.entry.now) ++ (if whole then codes " whole\n" else codes " cut\n"))) }
+{
+    let extent: &[u8] = if whole { b" whole\n" } else { b" cut\n" };
+    [b" ", index.as_bytes(), b" 0x", address, b" 0x", size, extent]
+}
+
+// The digits of a number, zeros in front among them.
+fn digits_of(number: u128) -> [u8; 32]
+    ensures { result ≡ hexadecimal (to_be_bytes w128 number) }
+{
+    let mut digits = [0u8; 32];
+    write_digits(&number.to_be_bytes(), &mut digits);
+    digits
+}
+
+/// Writes an index and a region.
+pub fn put_region<S: Sink>(buffer: &mut Buffer, out: &mut S, index: u64, region: Region) -> Result<(), Fault>
+    ensures passed { OnOk result (IsPassed (S.taken out.old) (S.taken out.new) buffer.old (index_words index ++ region_words region) buffer.new) }
+    ensures refused { IfErr result (λ failure. IsRefused failure (buffer.old ++ (index_words index ++ region_words region)) (S.taken out.old) (S.taken out.new)) }
+{
+    let mut digits = itoa::Buffer::new();
+    let address = digits_of(region.address);
+    let size = digits_of(region.size);
+    put_pieces(
+        buffer,
+        out,
+        &region_pieces(
+            digits.format(index),
+            without_zeros(&address),
+            without_zeros(&size),
+            region.whole,
+        ),
+    )
+}
