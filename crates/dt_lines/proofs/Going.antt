@@ -1,5 +1,5 @@
 -- Lines on their way, one after the other.
-use Rattle.std.proofs.Common.{◌≡◌, ◌+◌, ◌++◌, ℕ, Bool, true, false, List, [], ◌∷◌, refl, sym, ap, ◌∙◌, subst, append_assoc, append-nil}
+use Rattle.std.proofs.Common.{◌≡◌, ◌+◌, ◌++◌, ℕ, Bool, true, false, cond, List, [], ◌∷◌, refl, sym, ap, ◌∙◌, subst, append_assoc, append-nil}
 use Rattle.std.specs.Prelude.{Result, Ok, Err, OnOk, IfErr}
 use Rattle.dt_names.specs.declared.fault.Fault.{Fault}
 use Rattle.dt_names.specs.Sink.{Taken, IsRefused}
@@ -89,3 +89,24 @@ module _ {A : Type 0} (told : Telling A) where
       pub last_fails : (c : Taken) (r : Result (Unit {0}) Fault) → told.is_silent x ≡ false → IfErr r (λ fault. IsRefused fault (v ++ told.line i x) b c) → IfErr r (λ fault. AreRefused (AreBegun told 0) fault a c w)
       last_fails c (Ok o) heard refused = tt
       last_fails c (Err e) heard refused = going_fails heard refused
+
+      -- the last line, or none
+      finished : {c : Taken} {u : List ℕ} (s : Bool) → told.is_silent x ≡ s → told.is_last x ≡ true → IsPassed b c v (cond s [] (told.line i x)) u → ArePassed (AreFrom told 0) a c w u
+      finished {c} {u} true silent last passed =
+          let (all, these, is) = going.whole [] (x, rule, silent) in
+          record { lines = all; are = these; passed = subst (λ l. IsPassed a c w l u) (sym is) (passed_then going.passed passed) }
+      finished false heard last passed = going_ends_behind heard last passed
+
+      cut : {c : Taken} {fault : Fault} (s : Bool) → told.is_silent x ≡ s → IsRefused fault (v ++ cond s [] (told.line i x)) b c → AreRefused (AreBegun told 0) fault a c w
+      cut true silent refused =
+          let (all, these, is) = going.begun [] tt in
+          record { lines = all; are = these; refused = refused_at (text all) [] [] is going.passed refused }
+      cut false heard refused = going_fails heard refused
+
+      pub finish_passes : (c : Taken) (u : List ℕ) (r : Result (Unit {0}) Fault) → told.is_last x ≡ true → OnOk r (IsPassed b c v (cond (told.is_silent x) [] (told.line i x)) u) → OnOk r (ArePassed (AreFrom told 0) a c w u)
+      finish_passes c u (Ok o) last passed = finished (told.is_silent x) refl last passed
+      finish_passes c u (Err e) last passed = tt
+
+      pub finish_fails : (c : Taken) (r : Result (Unit {0}) Fault) → IfErr r (λ fault. IsRefused fault (v ++ cond (told.is_silent x) [] (told.line i x)) b c) → IfErr r (λ fault. AreRefused (AreBegun told 0) fault a c w)
+      finish_fails c (Ok o) refused = tt
+      finish_fails c (Err e) refused = cut (told.is_silent x) refl refused

@@ -1,5 +1,5 @@
 -- A node's line, from its path on.
-use Rattle.std.proofs.Common.{◌≡◌, ◌++◌, ℕ, List, refl, sym, subst}
+use Rattle.std.proofs.Common.{◌≡◌, ◌++◌, ℕ, Bool, true, false, cond, List, [], refl, sym, subst}
 use Rattle.std.specs.Prelude.{Result, Ok, Err, IfErr}
 use Rattle.std.specs.Result.{IsErrAnd}
 use Rattle.dt_model.specs.Path.{Path, path_text}
@@ -15,3 +15,8 @@ line_begins words p i (Err fault) = (_, refl)
 pub fails_at : (P : Fault → Type 0) (r : Result (Unit {0}) Fault) (fault : Fault) → IsErrAnd r (λ e. e ≡ fault) → P fault → IfErr r P
 fails_at P (Ok o) fault is p = absurd is
 fails_at P (Err e) fault is p = subst P (sym is) p
+
+-- a line that isn't left out
+pub not_left_out : (s : Bool) (l : List ℕ) → s ≡ false → cond s [] l ≡ l
+not_left_out true l e = absurd (let z : true ≡ false = e in cc)
+not_left_out false l e = refl

@@ -4,4 +4,5 @@
 mod paths;
 mod pieces;
 mod regions;
+mod routes;
 mod words;

@@ -1,15 +1,19 @@
 //! What a line tells behind a node's path.
 
 ghost use Rattle.std.specs.Prelude.{◌≡◌, ◌++◌, ◌∷◌, [], OnOk, IfErr, codes, if◌then◌else◌};
-ghost use Rattle.std.specs.Int.{w128, to_be_bytes};
+ghost use Rattle.std.specs.Int.{w128, w32, to_be_bytes};
 ghost use Rattle.dt_model.specs.Printed.{hexadecimal};
 ghost use Rattle.dt_names.specs.Sink.{IsRefused};
 ghost use Rattle.dt_decompile.specs.Passed.{IsPassed};
-ghost use Rattle.dt_lines.specs.Lines.{joined, index_words, fault_words, region_words};
+ghost use Rattle.dt_irq.specs.Seen.{route_in, HasArrived};
+ghost use Rattle.dt_lines.specs.Lines.{joined, cells_words, index_words, fault_words, region_words, route_words};
 
+use crate::paths::put_path;
 use crate::pieces::put_pieces;
 use dt_decompile::{Buffer, without_zeros, write_digits};
+use dt_irq::Route;
 use dt_names::{Fault, Sink};
+use dt_view::TreeView;
 use dt_worlds::Region;
 
 // The pieces of a fault.
@@ -86,4 +90,54 @@ pub fn put_region<S: Sink>(buffer: &mut Buffer, out: &mut S, index: u64, region:
             region.whole,
         ),
     )
+}
+
+// The digits of a cell, zeros in front among them.
+fn digits_of_cell(cell: u32) -> [u8; 8]
+    ensures { result ≡ hexadecimal (to_be_bytes w32 cell) }
+{
+    let mut digits = [0u8; 8];
+    write_digits(&cell.to_be_bytes(), &mut digits);
+    digits
+}
+
+// Writes cells.
+fn put_cells<S: Sink>(buffer: &mut Buffer, out: &mut S, cells: &[u32]) -> Result<(), Fault>
+    ensures passed { OnOk result (IsPassed (S.taken out.old) (S.taken out.new) buffer.old (cells_words cells.now) buffer.new) }
+    ensures refused { IfErr result (λ failure. IsRefused failure (buffer.old ++ cells_words cells.now) (S.taken out.old) (S.taken out.new)) }
+{
+    for cell in cells {
+        let digits = digits_of_cell(*cell);
+        put_pieces(buffer, out, &[b" 0x", without_zeros(&digits)])?;
+    }
+    Ok(())
+}
+
+// The pieces of a number between other words.
+fn pieces_around<'a>(before: &'a [u8], digits: &'a str, behind: &'a [u8]) -> [&'a [u8]; 3]
+    ensures { joined result ≡ before.entry.now ++ (digits.entry.now ++ behind.entry.now) }
+{
+    [before, digits.as_bytes(), behind]
+}
+
+/// Writes an index and a route.
+pub fn put_route<V: TreeView, S: Sink>(
+    view: &V,
+    buffer: &mut Buffer,
+    out: &mut S,
+    index: u64,
+    route: &Route,
+) -> Result<(), Fault>
+    requires { HasArrived (V.tree view.now) route.now }
+    ensures passed { OnOk result (IsPassed (S.taken out.old) (S.taken out.new) buffer.old (index_words index ++ route_words (route_in (V.tree view.now) route.now)) buffer.new) }
+    ensures refused { IfErr result (λ failure. IsRefused failure (buffer.old ++ (index_words index ++ route_words (route_in (V.tree view.now) route.now))) (S.taken out.old) (S.taken out.new)) }
+{
+    let mut index_digits = itoa::Buffer::new();
+    let mut hops_digits = itoa::Buffer::new();
+    let index = index_digits.format(index);
+    let hops = hops_digits.format(route.hops);
+    put_pieces(buffer, out, &pieces_around(b" ", index, b" "))?;
+    put_path(view, buffer, out, route.controller)?;
+    put_cells(buffer, out, &route.cells[..route.len])?;
+    put_pieces(buffer, out, &pieces_around(b" hops ", hops, b"\n"))
 }
