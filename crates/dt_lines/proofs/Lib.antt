@@ -2,3 +2,4 @@ pub mod PathTexts
 pub mod Told
 pub mod WordTexts
 pub mod Going
+pub mod Nodes

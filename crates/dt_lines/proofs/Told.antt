@@ -20,3 +20,7 @@ fails_at P (Err e) fault is p = subst P (sym is) p
 pub not_left_out : (s : Bool) (l : List ℕ) → s ≡ false → cond s [] l ≡ l
 not_left_out true l e = absurd (let z : true ≡ false = e in cc)
 not_left_out false l e = refl
+
+pub weaker : (P Q : Fault → Type 0) (r : Result (Unit {0}) Fault) → ((fault : Fault) → P fault → Q fault) → IfErr r P → IfErr r Q
+weaker P Q (Ok o) f p = tt
+weaker P Q (Err e) f p = f e p

@@ -41,15 +41,15 @@ AreFrom {A} told = AreUpTo (λ i. (a : Answer A) × told.rule i a × (told.is_si
 abbrev pub AreBegun : {A : Type 0} → Telling A → ℕ → List (List ℕ) → Type 0
 AreBegun told = AreUpTo (λ i. Unit {0}) told
 
--- the lines of nodes
-abbrev pub AreOfAll : {A : Type 0} → (Path → Telling A) → List Placed → List (List ℕ) → Type 0
-AreOfAll told [] lines = lines ≡ []
-AreOfAll told (n ∷ nodes) lines = (own rest : List (List ℕ)) × (lines ≡ own ++ rest) × AreFrom (told n.path) 0 own × AreOfAll told nodes rest
+-- the lines of nodes, of each its own
+abbrev pub AreOfAll : (Path → List (List ℕ) → Type 0) → List Placed → List (List ℕ) → Type 0
+AreOfAll Own [] lines = lines ≡ []
+AreOfAll Own (n ∷ nodes) lines = (own rest : List (List ℕ)) × (lines ≡ own ++ rest) × Own n.path own × AreOfAll Own nodes rest
 
 -- some of them, the first ones
-abbrev pub AreBegunOfAll : {A : Type 0} → (Path → Telling A) → List Placed → List (List ℕ) → Type 0
-AreBegunOfAll told [] lines = lines ≡ []
-AreBegunOfAll told (n ∷ nodes) lines = AreBegun (told n.path) 0 lines ⊎ ((own rest : List (List ℕ)) × (lines ≡ own ++ rest) × AreFrom (told n.path) 0 own × AreBegunOfAll told nodes rest)
+abbrev pub AreBegunOfAll : (Path → List (List ℕ) → Type 0) → (Path → List (List ℕ) → Type 0) → List Placed → List (List ℕ) → Type 0
+AreBegunOfAll Own Begun [] lines = lines ≡ []
+AreBegunOfAll Own Begun (n ∷ nodes) lines = Begun n.path lines ⊎ ((own rest : List (List ℕ)) × (lines ≡ own ++ rest) × Own n.path own × AreBegunOfAll Own Begun nodes rest)
 
 abbrev pub is_no_reg : FaultKind → Bool
 is_no_reg NoReg = true

@@ -2,3 +2,4 @@ pub mod Lines
 pub mod Paths
 pub mod AllLines
 pub mod Given
+pub mod Listed
