@@ -1,12 +1,11 @@
 -- The lines of a tree's nodes, one node after the other.
-use Rattle.std.proofs.Common.{◌≡◌, ◌⊎◌, ◌++◌, ℕ, List, [], ◌∷◌, map, Option, Some, inl, inr, refl, sym, ap, ◌∙◌, subst, append_assoc, append-nil}
-use Rattle.std.specs.Prelude.{Result, Ok, Err, OnOk, IfErr}
+use Rattle.std.proofs.Common.{◌≡◌, ◌++◌, ℕ, List, [], ◌∷◌, map, Some, inl, inr, refl, sym, ap, ◌∙◌, subst, append_assoc, append-nil}
 use Rattle.dt_model.specs.Names.{Name}
 use Rattle.dt_model.specs.Path.{Path}
 use Rattle.dt_model.specs.Tree.{Placed, nodes_of}
 use Rattle.dt_model.specs.Valid.{IsValid}
 use Rattle.dt_names.specs.declared.fault.Fault.{Fault}
-use Rattle.dt_names.specs.Sink.{Taken, IsRefused}
+use Rattle.dt_names.specs.Sink.{Taken}
 use Rattle.dt_read.specs.Placed.{PlacedTree, reading_of, path_at, IsAt, IsNode}
 use Rattle.dt_read.specs.Walked.{Step, opens, steps_of}
 use Rattle.dt_read.proofs.NodePlaces.{path_is, at_node}

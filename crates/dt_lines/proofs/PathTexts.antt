@@ -1,11 +1,9 @@
 -- A path's text, name by name.
-use Rattle.std.proofs.Common.{◌≡◌, ◌≢◌, ℕ, suc, ◌+◌, ◌<◌, true, false, true≢false, List, [], ◌∷◌, ◌++◌, length, codes, Option, Some, None, refl, sym, ap, ◌∙◌, append_assoc, append-nil, arith}
-use Rattle.std.specs.Prelude.{is_none}
+use Rattle.std.proofs.Common.{◌≡◌, ◌≢◌, ℕ, suc, ◌+◌, List, [], ◌∷◌, ◌++◌, length, codes, refl, sym, ap, ◌∙◌, append_assoc, append-nil, arith}
 use Rattle.dt_model.specs.Names.{Name}
 use Rattle.dt_model.specs.Path.{Path, path_text}
 use Rattle.dt_read.specs.Placed.{PlacedTree, last_name, path_at}
 use Rattle.dt_worlds.specs.Above.{front}
-use Rattle.dt_view.specs.Views.{IsAbove}
 use Rattle.dt_lines.specs.Paths.{names_text, way_text}
 
 pub names_are : (p : Path) → p ≢ [] → path_text p ≡ names_text p

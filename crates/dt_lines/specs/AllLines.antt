@@ -1,7 +1,7 @@
 -- All lines of a tree: those of its nodes in preorder, of each the lines of its indices from 0 on.
 use Rattle.std.specs.Prelude.{◌≡◌, ◌+◌, ◌⊎◌, ℕ, Bool, true, false, List, [], ◌∷◌, ◌++◌}
 use Rattle.dt_model.specs.Path.{Path}
-use Rattle.dt_model.specs.Tree.{Reading, Placed, nodes_of}
+use Rattle.dt_model.specs.Tree.{Reading, Placed}
 use Rattle.dt_names.specs.declared.fault.FaultKind.{FaultKind}
 use Rattle.dt_names.specs.declared.fault.FaultKind.TheVariants.{BadCells, NoInterrupts, NoReg}
 use Rattle.dt_worlds.specs.declared.regions.Region.{Region}

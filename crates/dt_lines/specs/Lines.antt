@@ -1,5 +1,5 @@
 -- The lines that tell a region, a route, or why there is none.
-use Rattle.std.specs.Prelude.{ℕ, Bool, List, [], ◌∷◌, ◌++◌, codes, decimal, if◌then◌else◌}
+use Rattle.std.specs.Prelude.{ℕ, List, [], ◌∷◌, ◌++◌, codes, decimal, if◌then◌else◌}
 use Rattle.std.specs.Borrow.{Bor}
 use Rattle.std.specs.Int.{w32, w128, to_be_bytes}
 use Rattle.dt_model.specs.Path.{Path, path_text}

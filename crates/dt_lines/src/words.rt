@@ -17,7 +17,13 @@ use dt_view::TreeView;
 use dt_worlds::Region;
 
 // The pieces of a fault.
-fn fault_pieces<'a>(index: &'a str, number: &'a str, name: &'a str, at: &'a str, place: &'a str) -> [&'a [u8]; 9]
+fn fault_pieces<'a>(
+    index: &'a str,
+    number: &'a str,
+    name: &'a str,
+    at: &'a str,
+    place: &'a str,
+) -> [&'a [u8]; 9]
     ensures { joined result ≡ (codes " " ++ index.entry.now)
         ++ (codes " " ++ (((codes "fault " ++ (number.entry.now ++ (codes " " ++ name.entry.now))) ++ (at.entry.now ++ place.entry.now)) ++ 10 ∷ [])) }
 {
@@ -35,7 +41,12 @@ fn fault_pieces<'a>(index: &'a str, number: &'a str, name: &'a str, at: &'a str,
 }
 
 /// Writes an index and a fault.
-pub fn put_fault<S: Sink>(buffer: &mut Buffer, out: &mut S, index: u64, fault: Fault) -> Result<(), Fault>
+pub fn put_fault<S: Sink>(
+    buffer: &mut Buffer,
+    out: &mut S,
+    index: u64,
+    fault: Fault,
+) -> Result<(), Fault>
     ensures passed { OnOk result (IsPassed (S.taken out.old) (S.taken out.new) buffer.old (index_words index ++ fault_words fault) buffer.new) }
     ensures refused { IfErr result (λ failure. IsRefused failure (buffer.old ++ (index_words index ++ fault_words fault)) (S.taken out.old) (S.taken out.new)) }
 {
@@ -45,22 +56,45 @@ pub fn put_fault<S: Sink>(buffer: &mut Buffer, out: &mut S, index: u64, fault: F
     let index = index_digits.format(index);
     let number = number_digits.format(fault.number());
     match fault.at {
-        None => put_pieces(buffer, out, &fault_pieces(index, number, fault.name(), "", "")),
+        None => put_pieces(
+            buffer,
+            out,
+            &fault_pieces(index, number, fault.name(), "", ""),
+        ),
         Some(place) => put_pieces(
             buffer,
             out,
-            &fault_pieces(index, number, fault.name(), " at ", place_digits.format(place)),
+            &fault_pieces(
+                index,
+                number,
+                fault.name(),
+                " at ",
+                place_digits.format(place),
+            ),
         ),
     }
 }
 
 // The pieces of a region.
-fn region_pieces<'a>(index: &'a str, address: &'a [u8], size: &'a [u8], whole: bool) -> [&'a [u8]; 7]
+fn region_pieces<'a>(
+    index: &'a str,
+    address: &'a [u8],
+    size: &'a [u8],
+    whole: bool,
+) -> [&'a [u8]; 7]
     ensures { joined result ≡ (codes " " ++ index.entry.now)
         ++ ((codes " 0x" ++ address.entry.now) ++ ((codes " 0x" ++ size.entry.now) ++ (if whole then codes " whole\n" else codes " cut\n"))) }
 {
     let extent: &[u8] = if whole { b" whole\n" } else { b" cut\n" };
-    [b" ", index.as_bytes(), b" 0x", address, b" 0x", size, extent]
+    [
+        b" ",
+        index.as_bytes(),
+        b" 0x",
+        address,
+        b" 0x",
+        size,
+        extent,
+    ]
 }
 
 // The digits of a number, zeros in front among them.
@@ -73,7 +107,12 @@ fn digits_of(number: u128) -> [u8; 32]
 }
 
 /// Writes an index and a region.
-pub fn put_region<S: Sink>(buffer: &mut Buffer, out: &mut S, index: u64, region: Region) -> Result<(), Fault>
+pub fn put_region<S: Sink>(
+    buffer: &mut Buffer,
+    out: &mut S,
+    index: u64,
+    region: Region,
+) -> Result<(), Fault>
     ensures passed { OnOk result (IsPassed (S.taken out.old) (S.taken out.new) buffer.old (index_words index ++ region_words region) buffer.new) }
     ensures refused { IfErr result (λ failure. IsRefused failure (buffer.old ++ (index_words index ++ region_words region)) (S.taken out.old) (S.taken out.new)) }
 {

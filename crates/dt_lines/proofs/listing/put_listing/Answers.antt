@@ -1,4 +1,4 @@
-use Rattle.std.proofs.Common.{◌≡◌, List, ℕ, refl, ap, subst}
+use Rattle.std.proofs.Common.{List, ℕ, refl, subst}
 use Rattle.dt_names.specs.Sink.{IsRefused}
 use Rattle.dt_read.specs.Placed.{reading_of}
 use Rattle.dt_lines.specs.AllLines.{text}

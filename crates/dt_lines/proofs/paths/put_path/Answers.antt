@@ -1,6 +1,5 @@
-use Rattle.std.proofs.Common.{◌≡◌, ◌++◌, List, ℕ, sym, ap, subst, ◌∙◌}
+use Rattle.std.proofs.Common.{◌++◌, List, ℕ, sym, subst, ◌∙◌}
 use Rattle.std.specs.Prelude.{OnOk, IfErr}
-use Rattle.dt_model.specs.Path.{path_text}
 use Rattle.dt_names.specs.Sink.{IsRefused}
 use Rattle.dt_read.specs.Placed.{path_at}
 use Rattle.dt_decompile.specs.Passed.{IsPassed}

@@ -1,4 +1,4 @@
-use Rattle.std.proofs.Common.{◌≡◌, ◌+◌, ◌++◌, ◌∙◌, [], ◌∷◌, List, ℕ, drop, length, codes, sym, ap, subst, arith}
+use Rattle.std.proofs.Common.{◌++◌, ◌∙◌, [], ◌∷◌, List, ℕ, drop, codes, sym, ap, subst}
 use Rattle.dt_decompile.proofs.Passing.{passed_then, exits_at, turned}
 use Rattle.dt_lines.specs.Paths.{way_text, AreNodes}
 use Rattle.dt_lines.proofs.PathTexts.{next_on_way}

@@ -1,5 +1,5 @@
 -- The names up to here and those on the way are the whole path's.
-use Rattle.std.specs.Prelude.{◌≡◌, ◌≤◌, ◌+◌, ◌++◌, length}
+use Rattle.std.specs.Prelude.{◌≡◌, ◌+◌, ◌++◌, length}
 use Rattle.dt_read.specs.Placed.{path_at, IsNode}
 use Rattle.dt_lines.specs.Paths.{names_text, way_text, AreNodes}
 use Rattle.dt_lines.proofs.paths.way_to.Given as goal

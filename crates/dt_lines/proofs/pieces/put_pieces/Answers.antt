@@ -1,4 +1,4 @@
-use Rattle.std.proofs.Common.{◌++◌, ◌∙◌, ◌+◌, List, ℕ, get_or, drop, ap}
+use Rattle.std.proofs.Common.{◌++◌, ◌∙◌, ◌+◌, List, ℕ, drop, ap}
 use Rattle.std.proofs.lemmas.List.{at_drop_more}
 use Rattle.dt_decompile.proofs.Passing.{passed_then, exits_at, turned}
 use Rattle.dt_lines.specs.Lines.{joined}

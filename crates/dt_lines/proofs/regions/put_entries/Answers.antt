@@ -1,4 +1,4 @@
-use Rattle.std.proofs.Common.{◌≡◌, ◌+◌, ◌≤◌, sym, ◌∙◌, refl, arith}
+use Rattle.std.proofs.Common.{sym, ◌∙◌, refl, arith}
 use Rattle.dt_names.specs.declared.fault.FaultKind.TheVariants.{NoReg}
 use Rattle.dt_read.specs.Placed.{path_at, reading_of}
 use Rattle.dt_worlds.specs.Answers.{told, refuse}

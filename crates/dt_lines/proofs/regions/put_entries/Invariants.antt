@@ -1,5 +1,5 @@
 -- The lines of the entries before have passed.
-use Rattle.std.specs.Prelude.{◌≤◌, ◌<◌, ◌+◌, ◌^◌}
+use Rattle.std.specs.Prelude.{◌≤◌, ◌+◌}
 use Rattle.dt_read.specs.Placed.{path_at, reading_of}
 use Rattle.dt_ranges.specs.Left.{AreLeft}
 use Rattle.dt_lines.specs.AllLines.{regions_told}

@@ -1,5 +1,4 @@
-use Rattle.std.proofs.Common.{◌≡◌, ◌++◌, List, ℕ, ap}
-use Rattle.dt_model.specs.Path.{path_text}
+use Rattle.std.proofs.Common.{ap}
 use Rattle.dt_read.specs.Placed.{path_at}
 use Rattle.dt_worlds.specs.Answers.{told}
 use Rattle.dt_decompile.proofs.Passing.{exits_first, passed_last, refused_last}

@@ -1,4 +1,4 @@
-use Rattle.std.proofs.Common.{◌≡◌, ◌+◌, ◌≤◌, ◌<◌, ap, subst, refl, arith}
+use Rattle.std.proofs.Common.{◌<◌, ap, subst, refl, arith}
 use Rattle.dt_names.specs.declared.fault.FaultKind.TheVariants.{NoInterrupts}
 use Rattle.dt_read.specs.Placed.{path_at, reading_of}
 use Rattle.dt_worlds.specs.Answers.{answer, refused, refuse}

@@ -1,4 +1,4 @@
-use Rattle.std.proofs.Common.{◌≡◌, sym, ◌∙◌}
+use Rattle.std.proofs.Common.{sym, ◌∙◌}
 use Rattle.dt_read.specs.Placed.{path_at}
 use Rattle.dt_worlds.specs.Answers.{refused}
 use Rattle.dt_decompile.proofs.Passing.{passed_last, refused_last}

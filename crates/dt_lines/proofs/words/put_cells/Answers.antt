@@ -1,5 +1,4 @@
-use Rattle.std.proofs.Common.{◌≡◌, ◌++◌, [], ◌∙◌, ◌+◌, List, ℕ, codes, drop, sym, ap}
-use Rattle.std.specs.Int.{w32, to_be_bytes}
+use Rattle.std.proofs.Common.{◌++◌, [], ◌∙◌, ◌+◌, List, ℕ, codes, drop, ap}
 use Rattle.std.proofs.lemmas.List.{at_drop_more}
 use Rattle.dt_decompile.proofs.Passing.{passed_then, exits_at, turned}
 use Rattle.dt_lines.specs.Lines.{cells_words}
