@@ -13,11 +13,18 @@ use Rattle.dt_chain.specs.Blobs as blobs
 use Rattle.dt_chain.specs.Built.{IsBlobBuilt, WhyNoBlobBuilt}
 use Rattle.dt_chain.specs.Compiled.{IsCompiled, WhyNotCompiled, IsCompilerFault}
 use Rattle.dt_chain.proofs.Places.{memory_unplaced, blob_unplaced}
-use Rattle.dt_run.specs.Job.{IsWritten, TakesMemory, WhyNoBlob, WhyNotMade, WhyNotPerformed, encoded}
+use Rattle.dt_lines.specs.AllLines as all_lines
+use Rattle.dt_lines.specs.Listed as listed
+use Rattle.dt_lines.specs.Listed.{AreLinesOf, AreOwn, AreOwnBegun, WhyNotListed}
+use Rattle.dt_lines.specs.declared.listing.Listing.{Listing}
+use Rattle.dt_lines.specs.declared.listing.Listing.TheVariants.{Regions, Routes}
+use Rattle.dt_lines.proofs.Nodes.{all_are_begun}
+use Rattle.dt_model.specs.Tree.{nodes_of}
+use Rattle.dt_run.specs.Job.{IsBegun, IsListed, IsListedFirst, IsWritten, TakesMemory, WhyNoBlob, WhyNotMade, WhyNotPerformed, encoded}
 use Rattle.dt_run.specs.Showing.{WhyNotShown}
 use Rattle.dt_run.specs.Telling.{WhyNotTold, no_blob, cut}
 use Rattle.dt_words.specs.declared.command_line.Job.{Job}
-use Rattle.dt_words.specs.declared.command_line.Job.TheVariants.{Compile, CompileRaw, Apply, Build, Print, Check}
+use Rattle.dt_words.specs.declared.command_line.Job.TheVariants.{Compile, CompileRaw, Apply, Build, Print, Check, Regs, Irqs}
 use Rattle.dt_run.proofs.InputFaults.{IsOfInput, blob_not_applied, compiler_only, inside, text_not_built}
 
 -- ---- a fault of the first input
@@ -42,6 +49,34 @@ module _ {T : Type 0} (done : Result T Fault) (made : Result T (ℕ × Fault)) w
         IfErr done (λ fault. Q 0 fault) → IfErr made (λ e. Q e.0 e.1)
     why_of (Ok x) made same why = subst (λ (r : Result T (ℕ × Fault)). IfErr r (λ e. Q e.0 e.1)) (sym same) tt
     why_of (Err fault) made same why = subst (λ (r : Result T (ℕ × Fault)). IfErr r (λ e. Q e.0 e.1)) (sym same) why
+
+-- ---- all that is written is begun
+
+all_listed : (listing : Listing) (blob bytes : List ℕ) → IsListed listing blob bytes → IsListedFirst listing blob bytes
+all_listed listing blob bytes (lines, are, is) = (
+  lines,
+  record {
+    tree = are.tree;
+    reads = are.reads;
+    within = are.within;
+    are = all_are_begun (AreOwn listing are.tree) (AreOwnBegun listing are.tree) (nodes_of are.tree) lines are.are;
+  },
+  is,
+)
+
+begins : (job : Job) (hex : Bool) (inputs : List (List ℕ)) (bytes : List ℕ) → IsWritten job hex inputs bytes → IsBegun job hex inputs bytes
+begins Compile hex inputs bytes is = is
+begins CompileRaw hex inputs bytes is = is
+begins Apply hex inputs bytes is = is
+begins Build hex inputs bytes is = is
+begins Print hex inputs bytes is = is
+begins Check hex inputs bytes is = is
+begins Regs hex [] bytes is = absurd is
+begins Regs hex (blob ∷ []) bytes is = all_listed Regions blob bytes is
+begins Regs hex (x ∷ y ∷ inputs) bytes is = absurd is
+begins Irqs hex [] bytes is = absurd is
+begins Irqs hex (blob ∷ []) bytes is = all_listed Routes blob bytes is
+begins Irqs hex (x ∷ y ∷ inputs) bytes is = absurd is
 
 -- ---- a blob
 
@@ -73,7 +108,7 @@ module _ (job : Job) (hex : Bool) (inputs : List (List ℕ)) where
     not_shown : (k : ℕ) (kind : FaultKind) (at : Option ℕ) (blob : List ℕ) → k ≡ 0 → TakesMemory job → 0 < length inputs →
         IsWritten job hex inputs (encoded hex blob) → WhyNotShown kind at (encoded hex blob) old new → WhyNotPerformed k kind at job hex inputs old new
     not_shown k NoMemory at blob here takes some written why = (takes, omega (arith, here, some), why.0, why.1)
-    not_shown k WriteFault at blob here takes some written why = (here, why.0, encoded hex blob, written, why.1)
+    not_shown k WriteFault at blob here takes some written why = (here, why.0, encoded hex blob, begins job hex inputs (encoded hex blob) written, why.1)
     not_shown k _ at blob here takes some written why = absurd why
 
     not_made : (k : ℕ) (kind : FaultKind) (at : Option ℕ) → TakesMemory job → k < length inputs → IsOfInput (record { kind = kind; at = at }) →
@@ -96,11 +131,15 @@ module _ (job : Job) (hex : Bool) (inputs : List (List ℕ)) where
 abbrev TakesBlob : Job → Type 0
 TakesBlob Print = Unit {0}
 TakesBlob Check = Unit {0}
+TakesBlob Regs = Unit {0}
+TakesBlob Irqs = Unit {0}
 TakesBlob _ = ⊥
 
 made : (blob : List ℕ) (job : Job) (f : BlobFault) (at : Option ℕ) → TakesBlob job → IsFirstFault blob f at → WhyNotMade 0 (kind_of f) at job (blob ∷ [])
 made blob Print f at takes first = (refl, (f, refl, first))
 made blob Check f at takes first = (refl, (f, refl, first))
+made blob Regs f at takes first = (refl, (f, refl, first))
+made blob Irqs f at takes first = (refl, (f, refl, first))
 made blob _ f at takes first = absurd takes
 
 module _ (old new : Taken) (hex : Bool) (blob : List ℕ) where
@@ -120,7 +159,22 @@ module _ (old new : Taken) (hex : Bool) (blob : List ℕ) where
   not_told job Is fault takes written (no_blob why same) = of_kind job fault.kind fault.at takes why same
   not_told job Is fault takes written (cut text is refused) =
       subst (λ (kind : FaultKind). WhyNotPerformed 0 kind fault.at job hex (blob ∷ []) old new) (sym refused.kind)
-      (refl, refused.nowhere, text, written text is, refused.cut)
+      (refl, refused.nowhere, text, begins job hex (blob ∷ []) text (written text is), refused.cut)
+
+  -- the lines of a blob
+  pub not_listed : (job : Job) (listing : Listing) (fault : Fault) → TakesBlob job → TakesMemory job → ((text : List ℕ) → IsListedFirst listing blob text → IsBegun job hex (blob ∷ []) text) →
+      WhyNotListed listing blob old new fault → WhyNotPerformed 0 fault.kind fault.at job hex (blob ∷ []) old new
+  not_listed job listing fault takes memory begun (listed.no_blob f kind first same) = of_kind job fault.kind fault.at takes (f, kind, first) same
+  not_listed job listing fault takes memory begun (listed.no_memory is same) =
+      subst (λ (e : Fault). WhyNotPerformed 0 e.kind e.at job hex (blob ∷ []) old new) (sym is) (memory, omega arith, refl, same)
+  not_listed job listing fault takes memory begun (listed.cut lines are refused) =
+      subst (λ (kind : FaultKind). WhyNotPerformed 0 kind fault.at job hex (blob ∷ []) old new) (sym refused.kind)
+      (refl, refused.nowhere, all_lines.text lines, begun (all_lines.text lines) (lines, are, refl), refused.cut)
+
+  pub lines_written : (listing : Listing) (r : Result (Unit {0}) Fault) → OnOk r ((lines : List (List ℕ)) × AreLinesOf listing blob lines × Takes (all_lines.text lines) old new)
+      → OnOk r ((bytes : List ℕ) × IsListed listing blob bytes × Takes bytes old new)
+  lines_written listing (Ok done) (lines, are, taken) = (all_lines.text lines, (lines, are, refl), taken)
+  lines_written listing (Err e) written = tt
 
 -- ---- a text that tells of it
 

@@ -15,8 +15,12 @@ use Rattle.dt_chain.specs.Applied.{IsBlobApplied, WhyNoBlobApplied}
 use Rattle.dt_chain.specs.Blobs as blobs
 use Rattle.dt_chain.specs.Built.{IsBlobBuilt, WhyNoBlobBuilt}
 use Rattle.dt_chain.specs.Compiled.{IsCompiled, WhyNotCompiled, IsCompilerFault}
+use Rattle.dt_lines.specs.AllLines as all_lines
+use Rattle.dt_lines.specs.Listed.{AreLinesOf, AreFirstOf}
+use Rattle.dt_lines.specs.declared.listing.Listing.{Listing}
+use Rattle.dt_lines.specs.declared.listing.Listing.TheVariants.{Regions, Routes}
 use Rattle.dt_words.specs.declared.command_line.Job.{Job}
-use Rattle.dt_words.specs.declared.command_line.Job.TheVariants.{Compile, CompileRaw, Apply, Build, Print, Check}
+use Rattle.dt_words.specs.declared.command_line.Job.TheVariants.{Compile, CompileRaw, Apply, Build, Print, Check, Regs, Irqs}
 
 -- how a blob is written: as it is, or as hexadecimal and a line feed
 abbrev pub encoded : Bool → List ℕ → List ℕ
@@ -42,8 +46,16 @@ pub record IsCounted (blob bytes : List ℕ) : Type 0 where
   pub within : IsWithin blob tree
   pub line : bytes ≡ counts_line tree
 
+-- the lines of a blob's regions, or of its routes
+abbrev pub IsListed : Listing → (blob bytes : List ℕ) → Type 0
+IsListed listing blob bytes = (lines : List (List ℕ)) × AreLinesOf listing blob lines × (bytes ≡ all_lines.text lines)
+
+-- some of them, the first ones
+abbrev pub IsListedFirst : Listing → (blob bytes : List ℕ) → Type 0
+IsListedFirst listing blob bytes = (lines : List (List ℕ)) × AreFirstOf listing blob lines × (bytes ≡ all_lines.text lines)
+
 -- What the job writes of the inputs: the blob of a base or of an overlay; that of a source as it stands; that of a base with
--- objects applied, or with the overlays of sources; the source of a blob; or a line.
+-- objects applied, or with the overlays of sources; the source of a blob; a line; or the lines of its regions or routes.
 abbrev pub IsWritten : Job → Bool → List (List ℕ) → List ℕ → Type 0
 IsWritten Compile hex (text ∷ []) bytes = (blob : List ℕ) × blobs.IsBlobOf text blob × (bytes ≡ encoded hex blob)
 IsWritten Compile hex _ bytes = ⊥
@@ -57,6 +69,23 @@ IsWritten Print hex (blob ∷ []) bytes = IsPrinted blob bytes
 IsWritten Print hex _ bytes = ⊥
 IsWritten Check hex (blob ∷ []) bytes = IsCounted blob bytes
 IsWritten Check hex _ bytes = ⊥
+IsWritten Regs hex (blob ∷ []) bytes = IsListed Regions blob bytes
+IsWritten Regs hex _ bytes = ⊥
+IsWritten Irqs hex (blob ∷ []) bytes = IsListed Routes blob bytes
+IsWritten Irqs hex _ bytes = ⊥
+
+-- what a job has to write when its sink fails: all that it writes, or the first lines
+abbrev pub IsBegun : Job → Bool → List (List ℕ) → List ℕ → Type 0
+IsBegun Compile hex inputs bytes = IsWritten Compile hex inputs bytes
+IsBegun CompileRaw hex inputs bytes = IsWritten CompileRaw hex inputs bytes
+IsBegun Apply hex inputs bytes = IsWritten Apply hex inputs bytes
+IsBegun Build hex inputs bytes = IsWritten Build hex inputs bytes
+IsBegun Print hex inputs bytes = IsWritten Print hex inputs bytes
+IsBegun Check hex inputs bytes = IsWritten Check hex inputs bytes
+IsBegun Regs hex (blob ∷ []) bytes = IsListedFirst Regions blob bytes
+IsBegun Regs hex _ bytes = ⊥
+IsBegun Irqs hex (blob ∷ []) bytes = IsListedFirst Routes blob bytes
+IsBegun Irqs hex _ bytes = ⊥
 
 -- the fault is the first one of bytes that are no blob
 abbrev pub WhyNoBlob : FaultKind → Option ℕ → List ℕ → Type 0
@@ -76,6 +105,10 @@ WhyNotMade k kind at Print (blob ∷ []) = (k ≡ 0) × WhyNoBlob kind at blob
 WhyNotMade k kind at Print _ = ⊥
 WhyNotMade k kind at Check (blob ∷ []) = (k ≡ 0) × WhyNoBlob kind at blob
 WhyNotMade k kind at Check _ = ⊥
+WhyNotMade k kind at Regs (blob ∷ []) = (k ≡ 0) × WhyNoBlob kind at blob
+WhyNotMade k kind at Regs _ = ⊥
+WhyNotMade k kind at Irqs (blob ∷ []) = (k ≡ 0) × WhyNoBlob kind at blob
+WhyNotMade k kind at Irqs _ = ⊥
 
 -- the job takes memory
 abbrev pub TakesMemory : Job → Type 0
@@ -85,6 +118,8 @@ TakesMemory Apply = Unit {0}
 TakesMemory Build = Unit {0}
 TakesMemory Print = ⊥
 TakesMemory Check = ⊥
+TakesMemory Regs = Unit {0}
+TakesMemory Irqs = Unit {0}
 
 -- Why a job's output wasn't written, and of which input: memory was refused at one, to a job that takes some, or while hexadecimal is
 -- made, which is of input 0, and nothing was written; or the sink failed, and took a front of it, which is of input 0; or an input is
@@ -92,5 +127,5 @@ TakesMemory Check = ⊥
 abbrev pub WhyNotPerformed : ℕ → FaultKind → Option ℕ → Job → Bool → List (List ℕ) → (old new : Taken) → Type 0
 WhyNotPerformed k NoMemory at job hex inputs old new = TakesMemory job × (k < length inputs) × (at ≡ None) × IsUntouched old new
 WhyNotPerformed k WriteFault at job hex inputs old new =
-    (k ≡ 0) × (at ≡ None) × (bytes : List ℕ) × IsWritten job hex inputs bytes × IsCutShort bytes old new
+    (k ≡ 0) × (at ≡ None) × (bytes : List ℕ) × IsBegun job hex inputs bytes × IsCutShort bytes old new
 WhyNotPerformed k kind at job hex inputs old new = WhyNotMade k kind at job inputs × IsUntouched old new

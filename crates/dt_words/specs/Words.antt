@@ -6,7 +6,7 @@ use Rattle.clap.specs.declared.builder.action.ArgAction.TheVariants.{Append, Set
 use Rattle.clap.specs.declared.error.kind.ErrorKind.TheVariants.{MissingSubcommand, OutOfMemory}
 use Rattle.clap.specs.declared.error.Error.{Error}
 use Rattle.dt_words.specs.declared.command_line.Job.{Job}
-use Rattle.dt_words.specs.declared.command_line.Job.TheVariants.{Compile, CompileRaw, Apply, Build, Print, Check}
+use Rattle.dt_words.specs.declared.command_line.Job.TheVariants.{Compile, CompileRaw, Apply, Build, Print, Check, Regs, Irqs}
 use Rattle.dt_words.specs.declared.command_line.Line.{Line}
 use Rattle.dt_words.specs.declared.words.LineFault.{LineFault}
 use Rattle.dt_words.specs.declared.words.LineFault.TheVariants.{Memory, Words}
@@ -59,6 +59,14 @@ print_command = with_rule (new_app (codes "print")) file_word
 abbrev pub check_command : App
 check_command = with_rule (new_app (codes "check")) file_word
 
+-- `regs FILE`
+abbrev pub regs_command : App
+regs_command = with_rule (new_app (codes "regs")) file_word
+
+-- `irqs FILE`
+abbrev pub irqs_command : App
+irqs_command = with_rule (new_app (codes "irqs")) file_word
+
 -- `dtool` without its commands, of which it wants one
 abbrev pub bare : App
 bare = let new = new_app (codes "dtool") in record new { top = record new.top { subcommand_required = true } }
@@ -66,8 +74,8 @@ bare = let new = new_app (codes "dtool") in record new { top = record new.top { 
 -- `dtool`, with one of its commands
 abbrev pub dtool : App
 dtool =
-    with_subcommand (with_subcommand (with_subcommand (with_subcommand (with_subcommand bare compile_command.top) apply_command.top) build_command.top)
-    print_command.top) check_command.top
+    with_subcommand (with_subcommand (with_subcommand (with_subcommand (with_subcommand (with_subcommand (with_subcommand bare compile_command.top)
+    apply_command.top) build_command.top) print_command.top) check_command.top) regs_command.top) irqs_command.top
 
 -- a job's command
 abbrev pub command_of : Job → Text
@@ -77,6 +85,8 @@ command_of Apply = codes "apply"
 command_of Build = codes "build"
 command_of Print = codes "print"
 command_of Check = codes "check"
+command_of Regs = codes "regs"
+command_of Irqs = codes "irqs"
 
 -- a flag is there or not, as this says
 pub record IsFlag (flag : Text) (rows : List Row) (is : Bool) : Type 0 where
@@ -91,6 +101,8 @@ HasFlags Apply rows hex = IsFlag (codes "hex") rows hex
 HasFlags Build rows hex = IsFlag (codes "hex") rows hex
 HasFlags Print rows hex = hex ≡ false
 HasFlags Check rows hex = hex ≡ false
+HasFlags Regs rows hex = hex ≡ false
+HasFlags Irqs rows hex = hex ≡ false
 
 -- the job takes overlays, beside a base
 abbrev pub takes_overlays : Job → Bool

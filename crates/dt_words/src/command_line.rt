@@ -18,6 +18,10 @@ pub enum Job {
     Print,
     /// A line that tells how many nodes, properties and reservations a blob has.
     Check,
+    /// The regions of a blob's nodes, in lines.
+    Regs,
+    /// The routes of its interrupts, in lines.
+    Irqs,
 }
 
 /// What the words of a command line ask for.

@@ -23,10 +23,12 @@ ghost use Rattle.dt_words.specs.Words.{
   file_word,
   first_word,
   hex_flag,
+  irqs_command,
   overlay_command,
   overlay_word,
   print_command,
   raw_flag,
+  regs_command,
   takes_overlays,
 };
 ghost use Rattle.dt_words.specs.declared.words.LineFault.TheVariants.{Memory};
@@ -148,6 +150,8 @@ fn job_of(command: &str, found: &ArgMatches<'_>) -> Option<(Job, bool)>
         "build" => Some((Job::Build, found.get_flag("hex"))),
         "print" => Some((Job::Print, false)),
         "check" => Some((Job::Check, false)),
+        "regs" => Some((Job::Regs, false)),
+        "irqs" => Some((Job::Irqs, false)),
         _ => None,
     }
 }
@@ -348,12 +352,38 @@ fn check<'a>(alloc: Global) -> Result<Command<'a>, AllocError>
         .arg(file(alloc, "The blob; the word stdin is standard input"))
 }
 
+/// `regs FILE`.
+fn regs<'a>(alloc: Global) -> Result<Command<'a>, AllocError>
+    ensures { IfOk result (IsCommand regs_command) }
+{
+    Command::new(alloc, "regs")
+        .about(
+            "Tells the CPU address and the size of each entry of `reg` in a blob; a line with a fault leaves the exit status 0",
+        )
+        .after_help(STATUSES)
+        .arg(file(alloc, "The blob; the word stdin is standard input"))
+}
+
+/// `irqs FILE`.
+fn irqs<'a>(alloc: Global) -> Result<Command<'a>, AllocError>
+    ensures { IfOk result (IsCommand irqs_command) }
+{
+    Command::new(alloc, "irqs")
+        .about(
+            "Tells the controller and the specifier of each interrupt in a blob; a line with a fault leaves the exit status 0",
+        )
+        .after_help(STATUSES)
+        .arg(file(alloc, "The blob; the word stdin is standard input"))
+}
+
 /// The tool without its commands.
 fn without_commands<'a>(alloc: Global) -> Command<'a>
     ensures { app_of result ≡ bare }
 {
     Command::new(alloc, "dtool")
-        .about("Compiles devicetree sources, applies overlays, and checks and prints blobs")
+        .about(
+            "Compiles devicetree sources, applies overlays, and checks, prints and resolves blobs",
+        )
         .after_help(STATUSES)
         .subcommand_required(true)
 }
@@ -400,5 +430,7 @@ fn tool<'a>(alloc: Global) -> Result<Command<'a>, AllocError>
     let tool = and_command(tool, apply(alloc));
     let tool = and_command(tool, build(alloc));
     let tool = and_command(tool, print(alloc));
-    and_command(tool, check(alloc))
+    let tool = and_command(tool, check(alloc));
+    let tool = and_command(tool, regs(alloc));
+    and_command(tool, irqs(alloc))
 }

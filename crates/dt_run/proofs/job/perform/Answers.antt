@@ -1,10 +1,11 @@
 use Rattle.std.proofs.Common.{◌≡◌, ◌≤◌, ◌-◌, ℕ, List, ◌∷◌, [], length, map, take, drop, get_or, subst, arith, Bor}
 use Rattle.dt_names.specs.Sink.{Takes}
-use Rattle.dt_run.specs.Job.{IsCounted, IsPrinted, WhyNotPerformed}
+use Rattle.dt_run.specs.Job.{IsCounted, IsListed, IsPrinted, WhyNotPerformed}
 use Rattle.dt_words.specs.Asked.{IsAsked}
 use Rattle.dt_words.specs.declared.command_line.Job.{Job}
-use Rattle.dt_words.specs.declared.command_line.Job.TheVariants.{Compile, CompileRaw, Apply, Build, Print, Check}
-use Rattle.dt_run.proofs.Performing.{applied, blob_refused, blob_written, built, compiled, compiled_raw, first_and_others, first_done, first_refused, not_applied, not_built, not_compiled, not_compiled_raw, not_told, only_first}
+use Rattle.dt_words.specs.declared.command_line.Job.TheVariants.{Compile, CompileRaw, Apply, Build, Print, Check, Regs, Irqs}
+use Rattle.dt_lines.specs.declared.listing.Listing.TheVariants.{Regions, Routes}
+use Rattle.dt_run.proofs.Performing.{applied, blob_refused, blob_written, built, compiled, compiled_raw, first_and_others, first_done, first_refused, lines_written, not_applied, not_built, not_compiled, not_compiled_raw, not_listed, not_told, only_first}
 use Rattle.std.proofs.lemmas.Result.{IfErr-weaker}
 use Rattle.dt_run.proofs.job.perform.Goals as goal
 
@@ -135,3 +136,49 @@ returns-in-Check-clause-refused g c =
     (λ k fault. WhyNotPerformed k fault.kind fault.at Check c.args.hex (blob ∷ []) (g.S.Sink.taken c.args.out.now) (g.S.Sink.taken c.check.new.out))
     c.of_first-in-Check.ensures
     (IfErr-weaker c.check.result _ _ (λ fault why. not_told _ _ c.args.hex blob Check (IsCounted blob) fault tt (λ text is. is) why) c.check.ensures.refused))
+
+pub returns-in-Regs-clause-written : goal.returns-in-Regs-clause-written
+returns-in-Regs-clause-written g c =
+    let xs = c.args.inputs.now in
+    let blob = first_of xs in
+    let old = g.S.Sink.taken c.args.out.now in
+    let new = g.S.Sink.taken c.put_listing.new.out in
+    let asked : length xs ≡ 1 = subst (λ (job : Job). IsAsked job (length xs)) c.in-Regs.is c.requires in
+    rw (c.in-Regs.is, only_first none xs asked)
+    (first_done c.put_listing.result c.of_first-in-Regs.result ((bytes : List ℕ) × IsListed Regions blob bytes × Takes bytes old new)
+    c.of_first-in-Regs.ensures (lines_written old new c.args.hex blob Regions c.put_listing.result c.put_listing.ensures.written))
+
+pub returns-in-Regs-clause-refused : goal.returns-in-Regs-clause-refused
+returns-in-Regs-clause-refused g c =
+    let xs = c.args.inputs.now in
+    let blob = first_of xs in
+    let old = g.S.Sink.taken c.args.out.now in
+    let new = g.S.Sink.taken c.put_listing.new.out in
+    let asked : length xs ≡ 1 = subst (λ (job : Job). IsAsked job (length xs)) c.in-Regs.is c.requires in
+    rw (c.in-Regs.is, only_first none xs asked)
+    (first_refused c.put_listing.result c.of_first-in-Regs.result (λ k fault. WhyNotPerformed k fault.kind fault.at Regs c.args.hex (blob ∷ []) old new)
+    c.of_first-in-Regs.ensures
+    (IfErr-weaker c.put_listing.result _ _ (λ fault why. not_listed old new c.args.hex blob Regs Regions fault tt tt (λ text is. is) why) c.put_listing.ensures.refused))
+
+pub returns-in-Irqs-clause-written : goal.returns-in-Irqs-clause-written
+returns-in-Irqs-clause-written g c =
+    let xs = c.args.inputs.now in
+    let blob = first_of xs in
+    let old = g.S.Sink.taken c.args.out.now in
+    let new = g.S.Sink.taken c.put_listing-in-Irqs.new.out in
+    let asked : length xs ≡ 1 = subst (λ (job : Job). IsAsked job (length xs)) c.in-Irqs.is c.requires in
+    rw (c.in-Irqs.is, only_first none xs asked)
+    (first_done c.put_listing-in-Irqs.result c.of_first-in-Irqs.result ((bytes : List ℕ) × IsListed Routes blob bytes × Takes bytes old new)
+    c.of_first-in-Irqs.ensures (lines_written old new c.args.hex blob Routes c.put_listing-in-Irqs.result c.put_listing-in-Irqs.ensures.written))
+
+pub returns-in-Irqs-clause-refused : goal.returns-in-Irqs-clause-refused
+returns-in-Irqs-clause-refused g c =
+    let xs = c.args.inputs.now in
+    let blob = first_of xs in
+    let old = g.S.Sink.taken c.args.out.now in
+    let new = g.S.Sink.taken c.put_listing-in-Irqs.new.out in
+    let asked : length xs ≡ 1 = subst (λ (job : Job). IsAsked job (length xs)) c.in-Irqs.is c.requires in
+    rw (c.in-Irqs.is, only_first none xs asked)
+    (first_refused c.put_listing-in-Irqs.result c.of_first-in-Irqs.result (λ k fault. WhyNotPerformed k fault.kind fault.at Irqs c.args.hex (blob ∷ []) old new)
+    c.of_first-in-Irqs.ensures
+    (IfErr-weaker c.put_listing-in-Irqs.result _ _ (λ fault why. not_listed old new c.args.hex blob Irqs Routes fault tt tt (λ text is. is) why) c.put_listing-in-Irqs.ensures.refused))
