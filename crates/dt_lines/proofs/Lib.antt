@@ -3,3 +3,4 @@ pub mod Told
 pub mod WordTexts
 pub mod Going
 pub mod Nodes
+pub mod OneListing

@@ -1,6 +1,7 @@
 //! The lines that tell the regions and the routes of a blob's nodes.
 #![tactic(auto)]
 
+mod laws;
 mod listing;
 mod paths;
 mod pieces;
@@ -8,4 +9,5 @@ mod regions;
 mod routes;
 mod words;
 
-pub use listing::{Listing, put_listing};
+pub use laws::one_listing;
+pub use listing::{Listing, irqs, regs};

@@ -5,6 +5,7 @@ ghost use Rattle.dt_names.specs.Sink.{Takes, IsRefused};
 ghost use Rattle.dt_read.specs.Placed.{path_at, reading_of, IsNode};
 ghost use Rattle.dt_lines.specs.AllLines.{text};
 ghost use Rattle.dt_lines.specs.Given.{ArePassed, AreRefused};
+ghost use Rattle.dt_lines.specs.declared.listing.Listing.TheVariants.{Regions, Routes};
 ghost use Rattle.dt_lines.specs.Listed.{AreAll, AreAllBegun, AreOwn, AreOwnBegun, AreLinesOf, WhyNotListed};
 
 use crate::regions::put_regions;
@@ -73,17 +74,8 @@ fn put_lines<S: Sink>(index: &Index<'_>, out: &mut S, listing: Listing) -> Resul
     buffer.flush(out)
 }
 
-/// Writes the lines of a blob: of all nodes in preorder, bookkeeping ones among them, and of each for its indices from 0 on.
-///
-/// A line is the node's path, the index, and what `region` or `route` answers: `0xADDRESS 0xSIZE whole` or `cut`; the controller's path, the
-/// cells of the specifier there, and `hops` with the number of interrupt maps; or `fault` with its number and its name. Numbers of cells and
-/// addresses are hexadecimal with the fewest digits, others decimal. A node's regions end at `NoReg` without a line, and behind the line of
-/// `BadCells`; its routes end at `NoInterrupts` without a line, and behind the line of any other fault.
-///
-/// # Errors
-///
-/// The first fault of bytes that are no blob, and `NoMemory`, where nothing is written; `WriteFault`, where the sink took a front of the lines.
-pub fn put_listing<S: Sink>(
+// Writes the lines of a blob.
+fn put_listing<S: Sink>(
     alloc: Global,
     bytes: &[u8],
     out: &mut S,
@@ -95,4 +87,33 @@ pub fn put_listing<S: Sink>(
     let blob = Blob::check(bytes)?;
     let index = Index::new(alloc, &blob)?;
     put_lines(&index, out, listing)
+}
+
+/// Writes the regions of a blob (Devicetree Specification v0.4, 2.3.6 and 2.3.8), of all nodes in preorder, bookkeeping ones among them, and of
+/// each for its indices from 0 on, a line for each: the node's path, the index, and `0xADDRESS 0xSIZE whole`, or `cut` where not all of it is
+/// mapped, or `fault` with its number and its name. A node's lines end at `NoReg`, without one, and behind that of `BadCells`.
+///
+/// # Errors
+///
+/// The first fault of bytes that are no blob, and `NoMemory`, where nothing is written; `WriteFault`, where the sink took a front of the lines.
+pub fn regs<S: Sink>(alloc: Global, bytes: &[u8], out: &mut S) -> Result<(), Fault>
+    ensures written { OnOk result ((lines : List (List ℕ)) × AreLinesOf Regions bytes.now lines × Takes (text lines) (S.taken out.old) (S.taken out.new)) }
+    ensures refused { IfErr result (WhyNotListed Regions bytes.now (S.taken out.old) (S.taken out.new)) }
+{
+    put_listing(alloc, bytes, out, Listing::Regions)
+}
+
+/// Writes the routes of a blob's interrupts (Devicetree Specification v0.4, 2.4), of all nodes in preorder, bookkeeping ones among them, and of
+/// each for its indices from 0 on, a line for each: the node's path, the index, and the controller's path, the cells of the specifier there in
+/// hexadecimal, and `hops` with the number of interrupt maps on the way, or `fault` with its number and its name. A node's lines end at
+/// `NoInterrupts`, without one, and behind that of any other fault.
+///
+/// # Errors
+///
+/// The first fault of bytes that are no blob, and `NoMemory`, where nothing is written; `WriteFault`, where the sink took a front of the lines.
+pub fn irqs<S: Sink>(alloc: Global, bytes: &[u8], out: &mut S) -> Result<(), Fault>
+    ensures written { OnOk result ((lines : List (List ℕ)) × AreLinesOf Routes bytes.now lines × Takes (text lines) (S.taken out.old) (S.taken out.new)) }
+    ensures refused { IfErr result (WhyNotListed Routes bytes.now (S.taken out.old) (S.taken out.new)) }
+{
+    put_listing(alloc, bytes, out, Listing::Routes)
 }

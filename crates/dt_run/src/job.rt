@@ -9,7 +9,7 @@ use crate::checking::check;
 use crate::printing::print;
 use crate::showing::{of_first, show};
 use dt_chain::{apply_list, build, compile, compile_raw};
-use dt_lines::{Listing, put_listing};
+use dt_lines::{irqs, regs};
 use dt_names::{Fault, Sink};
 use dt_words::Job;
 use std::alloc::Global;
@@ -43,7 +43,7 @@ pub fn perform<S: Sink>(
         Job::Build => show(alloc, hex, build(alloc, first, others), out),
         Job::Print => of_first(print(first, out)),
         Job::Check => of_first(check(first, out)),
-        Job::Regs => of_first(put_listing(alloc, first, out, Listing::Regions)),
-        Job::Irqs => of_first(put_listing(alloc, first, out, Listing::Routes)),
+        Job::Regs => of_first(regs(alloc, first, out)),
+        Job::Irqs => of_first(irqs(alloc, first, out)),
     }
 }

@@ -142,43 +142,43 @@ returns-in-Regs-clause-written g c =
     let xs = c.args.inputs.now in
     let blob = first_of xs in
     let old = g.S.Sink.taken c.args.out.now in
-    let new = g.S.Sink.taken c.put_listing.new.out in
+    let new = g.S.Sink.taken c.regs.new.out in
     let asked : length xs ≡ 1 = subst (λ (job : Job). IsAsked job (length xs)) c.in-Regs.is c.requires in
     rw (c.in-Regs.is, only_first none xs asked)
-    (first_done c.put_listing.result c.of_first-in-Regs.result ((bytes : List ℕ) × IsListed Regions blob bytes × Takes bytes old new)
-    c.of_first-in-Regs.ensures (lines_written old new c.args.hex blob Regions c.put_listing.result c.put_listing.ensures.written))
+    (first_done c.regs.result c.of_first-in-Regs.result ((bytes : List ℕ) × IsListed Regions blob bytes × Takes bytes old new)
+    c.of_first-in-Regs.ensures (lines_written old new c.args.hex blob Regions c.regs.result c.regs.ensures.written))
 
 pub returns-in-Regs-clause-refused : goal.returns-in-Regs-clause-refused
 returns-in-Regs-clause-refused g c =
     let xs = c.args.inputs.now in
     let blob = first_of xs in
     let old = g.S.Sink.taken c.args.out.now in
-    let new = g.S.Sink.taken c.put_listing.new.out in
+    let new = g.S.Sink.taken c.regs.new.out in
     let asked : length xs ≡ 1 = subst (λ (job : Job). IsAsked job (length xs)) c.in-Regs.is c.requires in
     rw (c.in-Regs.is, only_first none xs asked)
-    (first_refused c.put_listing.result c.of_first-in-Regs.result (λ k fault. WhyNotPerformed k fault.kind fault.at Regs c.args.hex (blob ∷ []) old new)
+    (first_refused c.regs.result c.of_first-in-Regs.result (λ k fault. WhyNotPerformed k fault.kind fault.at Regs c.args.hex (blob ∷ []) old new)
     c.of_first-in-Regs.ensures
-    (IfErr-weaker c.put_listing.result _ _ (λ fault why. not_listed old new c.args.hex blob Regs Regions fault tt tt (λ text is. is) why) c.put_listing.ensures.refused))
+    (IfErr-weaker c.regs.result _ _ (λ fault why. not_listed old new c.args.hex blob Regs Regions fault tt tt (λ text is. is) why) c.regs.ensures.refused))
 
 pub returns-in-Irqs-clause-written : goal.returns-in-Irqs-clause-written
 returns-in-Irqs-clause-written g c =
     let xs = c.args.inputs.now in
     let blob = first_of xs in
     let old = g.S.Sink.taken c.args.out.now in
-    let new = g.S.Sink.taken c.put_listing-in-Irqs.new.out in
+    let new = g.S.Sink.taken c.irqs.new.out in
     let asked : length xs ≡ 1 = subst (λ (job : Job). IsAsked job (length xs)) c.in-Irqs.is c.requires in
     rw (c.in-Irqs.is, only_first none xs asked)
-    (first_done c.put_listing-in-Irqs.result c.of_first-in-Irqs.result ((bytes : List ℕ) × IsListed Routes blob bytes × Takes bytes old new)
-    c.of_first-in-Irqs.ensures (lines_written old new c.args.hex blob Routes c.put_listing-in-Irqs.result c.put_listing-in-Irqs.ensures.written))
+    (first_done c.irqs.result c.of_first-in-Irqs.result ((bytes : List ℕ) × IsListed Routes blob bytes × Takes bytes old new)
+    c.of_first-in-Irqs.ensures (lines_written old new c.args.hex blob Routes c.irqs.result c.irqs.ensures.written))
 
 pub returns-in-Irqs-clause-refused : goal.returns-in-Irqs-clause-refused
 returns-in-Irqs-clause-refused g c =
     let xs = c.args.inputs.now in
     let blob = first_of xs in
     let old = g.S.Sink.taken c.args.out.now in
-    let new = g.S.Sink.taken c.put_listing-in-Irqs.new.out in
+    let new = g.S.Sink.taken c.irqs.new.out in
     let asked : length xs ≡ 1 = subst (λ (job : Job). IsAsked job (length xs)) c.in-Irqs.is c.requires in
     rw (c.in-Irqs.is, only_first none xs asked)
-    (first_refused c.put_listing-in-Irqs.result c.of_first-in-Irqs.result (λ k fault. WhyNotPerformed k fault.kind fault.at Irqs c.args.hex (blob ∷ []) old new)
+    (first_refused c.irqs.result c.of_first-in-Irqs.result (λ k fault. WhyNotPerformed k fault.kind fault.at Irqs c.args.hex (blob ∷ []) old new)
     c.of_first-in-Irqs.ensures
-    (IfErr-weaker c.put_listing-in-Irqs.result _ _ (λ fault why. not_listed old new c.args.hex blob Irqs Routes fault tt tt (λ text is. is) why) c.put_listing-in-Irqs.ensures.refused))
+    (IfErr-weaker c.irqs.result _ _ (λ fault why. not_listed old new c.args.hex blob Irqs Routes fault tt tt (λ text is. is) why) c.irqs.ensures.refused))
