@@ -98,20 +98,29 @@ def deep(rest):
     return b.bytes()
 
 
-def board():
-    """About as many nodes, properties and phandles as a board of today has."""
+def board(controller=None, ranges=False):
+    """About as many nodes, properties and phandles as a board of today has; with an interrupt controller of this phandle, and with
+    ranges that aren't empty, where these are wanted."""
     b = Blob()
     b.begin()
+    if controller is not None:
+        b.prop("interrupt-parent", word(controller))
     b.prop("#address-cells", word(2))
     b.prop("#size-cells", word(2))
     b.prop("compatible", b"vendor,board\0vendor,soc\0")
+    if controller is not None:
+        b.begin("interrupt-controller@0")
+        b.prop("#interrupt-cells", word(3))
+        b.prop("interrupt-controller")
+        b.prop("phandle", word(controller))
+        b.close()
     number = 0
     for bus in range(20):
         b.begin(f"bus@{bus:x}0000000")
         b.prop("compatible", b"simple-bus\0")
         b.prop("#address-cells", word(1))
         b.prop("#size-cells", word(1))
-        b.prop("ranges")
+        b.prop("ranges", word(0) + word(bus) + word(0) + word(1 << 28) if ranges else b"")
         for device in range(50):
             b.begin(f"device@{device:x}0000")
             b.prop("compatible", f"vendor,device-{device}\0vendor,device\0".encode())

@@ -148,6 +148,8 @@ def jobs(dtool, room):
     yield [dtool, "build", *sources], b""
     yield [dtool, "print", blobs[0]], b""
     yield [dtool, "check", blobs[1]], b""
+    yield [dtool, "regs", blobs[0]], b""
+    yield [dtool, "irqs", blobs[0]], b""
 
 
 def sweep(title, words, given, shim, is_told, options):

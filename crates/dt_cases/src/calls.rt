@@ -2,7 +2,8 @@
 
 use crate::outcome::{Outcome, Stop};
 use crate::{
-    blobs, chains, damage, expressions, grammar, marks, names, numbers, printing, tokens, trees,
+    blobs, chains, damage, expressions, grammar, marks, names, numbers, printing, resolving,
+    tokens, trees,
 };
 use std::alloc::Global;
 
@@ -45,6 +46,7 @@ fn call_on_trees(
         "damage" => damage::call(alloc, input, out),
         "apply" | "build" => chains::call(alloc, name, input, others, out),
         "print" | "printed" | "again" | "values" => printing::call(alloc, name, words, input, out),
+        "regs" | "irqs" => resolving::call(alloc, name, input, out),
         "fixups" | "local-fixups" => marks::call(alloc, name, input, out),
         _ => blobs::call(alloc, name, words, input, out),
     }

@@ -19,6 +19,7 @@ mod numbers;
 mod outcome;
 mod printing;
 mod reading;
+mod resolving;
 mod table;
 mod tokens;
 mod trees;
