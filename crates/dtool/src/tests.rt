@@ -4,7 +4,7 @@
 ghost use Rattle.std.specs.Prelude.{⊤, length};
 ghost use Rattle.dt_words.specs.Asked.{IsAsked};
 
-use dt_chain::read_all;
+use dt_chain::{compile, read_all};
 use dt_names::{Fault, FaultKind, Feed, In, Out, Path, Sink, put_all};
 use dt_run::{Files, Prompt, SystemFiles, load_all, perform, report, run};
 use dt_words::{Job, LineFault, line};
@@ -22,6 +22,13 @@ const BLOB: &str =
 const TEXT: &[u8] = b"/dts-v1/;\n/ {\n};\n";
 
 const COUNTS: &[u8] = b"ok nodes 1 properties 0 reservations 0\n";
+
+const BOARD: &[u8] =
+    b"/dts-v1/; / { #address-cells = <1>; #size-cells = <1>; i: ic { interrupt-controller; #interrupt-cells = <1>; }; d { reg = <16 2>, <32 1>; interrupt-parent = <&i>; interrupts = <5>; }; };";
+
+const REGIONS: &[u8] = b"/d 0 0x10 0x2 whole\n/d 1 0x20 0x1 whole\n";
+
+const ROUTES: &[u8] = b"/d 0 /ic 0x5 hops 0\n";
 
 // Is interrupted at each other call, takes at most `step` bytes at the others, and fails once, when it holds `room`.
 #[derive(Drop)]
@@ -99,10 +106,19 @@ fn are_jobs_cut(alloc: Global, blob: &[u8]) -> bool {
         && is_cut_anywhere(alloc, Job::Check, true, blob, COUNTS)
 }
 
+fn are_lines_cut(alloc: Global) -> bool {
+    let Ok(blob) = compile(alloc, BOARD) else {
+        return false;
+    };
+    is_cut_anywhere(alloc, Job::Regs, true, &blob, REGIONS)
+        && is_cut_anywhere(alloc, Job::Irqs, true, &blob, ROUTES)
+}
+
 #[test]
 fn jobs_into_a_sink_that_fails(rt: HostRuntime) -> Result<(), Fail> {
     let blob = decode(rt.alloc(), BLOB)?;
     assert!(rt; are_jobs_cut(rt.alloc(), blob.as_slice()));
+    assert!(rt; are_lines_cut(rt.alloc()));
     Ok(())
 }
 
@@ -309,9 +325,11 @@ fn asks_for(alloc: Global, text: &str, job: Job, hex: bool, files: &[&str]) -> b
     }
 }
 
-const COMMANDS: [(&str, Job, bool, &[&str]); 12] = [
+const COMMANDS: [(&str, Job, bool, &[&str]); 14] = [
     ("dtool print a.dtb", Job::Print, false, &["a.dtb"]),
     ("dtool check a.dtb", Job::Check, false, &["a.dtb"]),
+    ("dtool regs a.dtb", Job::Regs, false, &["a.dtb"]),
+    ("dtool irqs a.dtb", Job::Irqs, false, &["a.dtb"]),
     ("dtool compile stdin", Job::Compile, false, &["stdin"]),
     ("dtool compile --hex a.dts", Job::Compile, true, &["a.dts"]),
     ("dtool compile a.dts --hex", Job::Compile, true, &["a.dts"]),
@@ -351,7 +369,7 @@ fn words_that_are_a_command(rt: HostRuntime) {
     }
 }
 
-const NO_COMMANDS: [&str; 20] = [
+const NO_COMMANDS: [&str; 23] = [
     "",
     "dtool",
     "dtool compile",
@@ -369,6 +387,9 @@ const NO_COMMANDS: [&str; 20] = [
     "dtool check",
     "dtool check --hex a.dtb",
     "dtool check a.dtb b.dtb",
+    "dtool regs --hex a.dtb",
+    "dtool irqs",
+    "dtool irqs a.dtb b.dtb",
     "dtool --help",
     "dtool help",
     "dtool compile --help",
