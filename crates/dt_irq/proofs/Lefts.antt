@@ -98,7 +98,3 @@ listed_later t p i n r new left count parent cells fewer shorter rest = record {
         let all : length r.rest.now ≡ n * (4 * r.cells) + 4 * r.cells = left.long ∙ ap (λ m. m * (4 * r.cells)) count ∙ product in
         let same : n * (4 * r.cells) ≡ new.count * (4 * r.cells) = ap (λ m. m * (4 * r.cells)) fewer' in
         omega arith
-
-pub one_entry : (count size : ℕ) → 0 < count → size ≤ count * size
-one_entry zero size some = absurd (omega arith)
-one_entry (suc n) size some = let product : suc n * size ≡ n * size + size = grind arith in omega arith

@@ -5,7 +5,7 @@ use Rattle.dt_read.specs.Placed.{PlacedTree, reading_of}
 use Rattle.dt_worlds.specs.Answers.{answer}
 use Rattle.dt_worlds.specs.World.{tree_world, quads_of}
 use Rattle.dt_irq.specs.Cells.{unit_at}
-use Rattle.dt_irq.specs.Left.{AreSentFrom}
+use Rattle.dt_irq.specs.Left.{AreSentFrom, bytes_left}
 use Rattle.dt_irq.specs.declared.routing.Routes.{Routes}
 
 -- the routes are those of a node from an index on
@@ -16,3 +16,7 @@ pub record AreLeft (t : PlacedTree) (p : Path) (i : ℕ) (r : Routes) : Type 0 w
 -- they are some node's
 abbrev pub IsLeft : PlacedTree → Routes → Type 0
 IsLeft t r = (p : Path) × (i : ℕ) × AreLeft t p i r
+
+-- the length of the list of interrupts that is left, in bytes
+abbrev pub length_left : Routes → ℕ
+length_left r = bytes_left r.entries

@@ -1,8 +1,6 @@
 -- What the parts of a route stand for in a tree.
-use Rattle.std.specs.Prelude.{◌≡◌, ℕ, ◌+◌, ◌*◌, ◌-◌, ◌≤◌, ◌⊎◌, List, ◌++◌, length, take, drop, replicate, Result, Ok, Err}
-use Rattle.dt_names.specs.declared.fault.Fault.{Fault}
+use Rattle.std.specs.Prelude.{◌≡◌, ℕ, ◌+◌, ◌*◌, ◌-◌, ◌≤◌, ◌⊎◌, List, ◌++◌, length, take, drop, replicate}
 use Rattle.dt_read.specs.Placed.{PlacedTree, path_at, IsNode}
-use Rattle.dt_worlds.specs.Answers.{Answer, refused, answer}
 use Rattle.dt_worlds.specs.World.{Quad, quads_of}
 use Rattle.dt_worlds.specs.Interrupts as meant
 use Rattle.dt_irq.specs.declared.sending.Sent.{Sent}
@@ -11,11 +9,6 @@ use Rattle.dt_irq.specs.declared.rows.MapRow.{MapRow}
 use Rattle.dt_irq.specs.declared.rows.Interrupt.{Interrupt}
 use Rattle.dt_irq.specs.declared.rows.Wanted.{Wanted}
 use Rattle.dt_irq.specs.declared.reached.Route.{Route}
-
--- a call's result as an answer, seen so
-abbrev pub told_as : {A B : Type 0} → (A → B) → Result A Fault → Answer B
-told_as f (Ok a) = answer (f a)
-told_as f (Err fault) = refused fault
 
 abbrev pub sent_in : PlacedTree → Sent → meant.Sent
 sent_in t s = record { node = path_at t s.node; specifier = quads_of s.specifier.now }

@@ -4,11 +4,11 @@ ghost use Rattle.std.specs.Prelude.{◌≡◌, ◌+◌, ◌<◌, ℕ, IfOk, IfEr
 ghost use Rattle.dt_model.specs.Path.{Path};
 ghost use Rattle.dt_names.specs.declared.fault.FaultKind.TheVariants.{NoInterrupts};
 ghost use Rattle.dt_read.specs.Placed.{path_at, reading_of, IsNode};
-ghost use Rattle.dt_worlds.specs.Answers.{answer, refuse, refused};
+ghost use Rattle.dt_worlds.specs.Answers.{answer, refuse, refused, told_as};
 ghost use Rattle.dt_worlds.specs.World.{tree_world, value_of_bytes};
 ghost use Rattle.dt_worlds.specs.Interrupts.{listed_at, IsSent};
 ghost use Rattle.dt_irq.specs.Left.{bytes_left, AreEntriesOf, AreListed, AreSentFrom, IsSentFrom};
-ghost use Rattle.dt_irq.specs.Seen.{told_as, sent_in, IsSpecified};
+ghost use Rattle.dt_irq.specs.Seen.{sent_in, IsSpecified};
 
 use crate::parents::{interrupt_parent, specifier_cells};
 use crate::sending::{Sent, extended, first_entry};
@@ -77,7 +77,7 @@ impl<'v> Listed<'v> {
     fn next<V: TreeView>(&mut self, view: &V) -> Option<Sent<'v>>
         requires { (p : Path) × (i : ℕ) × AreListed (V.tree view.now) p i self.old }
         ensures is { (p : Path) (i : ℕ) → AreListed (V.tree view.now) p i self.old
-            → MatchOption result (IsSent (tree_world (reading_of (V.tree view.now))) p i (refuse NoInterrupts))
+            → MatchOption result (IsSent (tree_world (reading_of (V.tree view.now))) p i (refuse NoInterrupts) × AreListed (V.tree view.now) p i self.new)
             (λ sent. IsSent (tree_world (reading_of (V.tree view.now))) p i (answer (sent_in (V.tree view.now) sent)) × AreListed (V.tree view.now) p (i + 1) self.new) }
         ensures specified { IfSome result (λ sent. IsSpecified (V.tree view.now) sent.node sent.specifier.now) }
         ensures shorter { IfSome result (λ _. length self.new.rest.now < length self.old.rest.now) }
@@ -129,7 +129,7 @@ impl<'v> Entries<'v> {
     pub fn next<V: TreeView>(&mut self, view: &V) -> Option<Result<Sent<'v>, Fault>>
         requires { IsSentFrom (V.tree view.now) self.old }
         ensures is { (p : Path) (i : ℕ) → AreSentFrom (V.tree view.now) p i self.old
-            → MatchOption result (IsSent (tree_world (reading_of (V.tree view.now))) p i (refuse NoInterrupts))
+            → MatchOption result (IsSent (tree_world (reading_of (V.tree view.now))) p i (refuse NoInterrupts) × AreSentFrom (V.tree view.now) p i self.new)
             (λ r. IsSent (tree_world (reading_of (V.tree view.now))) p i (told_as (sent_in (V.tree view.now)) r) × AreSentFrom (V.tree view.now) p (i + 1) self.new) }
         ensures specified { IfSome result (λ r. IfOk r (λ sent. IsSpecified (V.tree view.now) sent.node sent.specifier.now)) }
         ensures shorter { IfSome result (λ r. OnOk r (bytes_left self.new < bytes_left self.old)) }

@@ -2,10 +2,9 @@
 
 ghost use Rattle.std.specs.Prelude.{◌≡◌, ◌≤◌, IfOk, IfSome, option_map};
 ghost use Rattle.dt_read.specs.Placed.{path_at, reading_of, IsNode};
-ghost use Rattle.dt_worlds.specs.Answers.{told};
+ghost use Rattle.dt_worlds.specs.Answers.{told, told_as};
 ghost use Rattle.dt_worlds.specs.World.{figure, node_of_figure, tree_world};
 ghost use Rattle.dt_worlds.specs.Interrupts.{specifier_count, step_of, IsInterruptParent};
-ghost use Rattle.dt_irq.specs.Seen.{told_as};
 
 use crate::reached::MOST_CELLS;
 use dt_names::{Fault, FaultKind, NodeId};

@@ -4,13 +4,12 @@ ghost use Rattle.std.specs.Prelude.{◌≡◌, ◌+◌, ◌-◌, ◌<◌, ◌≤
 ghost use Rattle.dt_model.specs.Path.{Path};
 ghost use Rattle.dt_names.specs.declared.fault.FaultKind.TheVariants.{NoInterrupts};
 ghost use Rattle.dt_read.specs.Placed.{path_at, reading_of, IsNode};
-ghost use Rattle.dt_worlds.specs.Answers.{answer, refuse, refused};
+ghost use Rattle.dt_worlds.specs.Answers.{answer, refuse, refused, told_as};
 ghost use Rattle.dt_worlds.specs.World.{quads_of, tree_world};
 ghost use Rattle.dt_worlds.specs.Interrupts.{IsRoute, most_hops, routed};
 ghost use Rattle.dt_irq.specs.Cells.{numbers_of, unit_at};
-ghost use Rattle.dt_irq.specs.Left.{bytes_left};
-ghost use Rattle.dt_irq.specs.RoutesLeft.{AreLeft, IsLeft};
-ghost use Rattle.dt_irq.specs.Seen.{told_as, interrupt_in, route_in, HasArrived, IsSpecified};
+ghost use Rattle.dt_irq.specs.RoutesLeft.{AreLeft, IsLeft, length_left};
+ghost use Rattle.dt_irq.specs.Seen.{interrupt_in, route_in, HasArrived, IsSpecified};
 
 use crate::lists::Entries;
 use crate::reached::{MOST_CELLS, Route};
@@ -97,10 +96,10 @@ impl<'v> Routes<'v> {
     pub fn next<V: TreeView>(&mut self, view: &'v V) -> Option<Result<Route, Fault>>
         requires { IsLeft (V.tree view.now) self.old }
         ensures is { (p : Path) (i : ℕ) → AreLeft (V.tree view.now) p i self.old
-            → MatchOption result (IsRoute (tree_world (reading_of (V.tree view.now))) p i (refuse NoInterrupts))
+            → MatchOption result (IsRoute (tree_world (reading_of (V.tree view.now))) p i (refuse NoInterrupts) × AreLeft (V.tree view.now) p i self.new)
             (λ r. IsRoute (tree_world (reading_of (V.tree view.now))) p i (told_as (route_in (V.tree view.now)) r) × AreLeft (V.tree view.now) p (i + 1) self.new) }
         ensures arrived { IfSome result (λ r. IfOk r (HasArrived (V.tree view.now))) }
-        ensures shorter { IfSome result (λ r. OnOk r (bytes_left self.new.entries < bytes_left self.old.entries)) }
+        ensures shorter { IfSome result (λ r. OnOk r (length_left self.new < length_left self.old)) }
     {
         let Some(sent) = self.entries.next(view) else {
             return None;

@@ -2,11 +2,11 @@
 
 ghost use Rattle.std.specs.Prelude.{◌≡◌, ◌+◌, ◌*◌, ◌≤◌, ◌⊎◌, ◌++◌, length, take, drop, IfOk};
 ghost use Rattle.dt_read.specs.Placed.{path_at, reading_of, IsNode};
-ghost use Rattle.dt_worlds.specs.Answers.{answer};
+ghost use Rattle.dt_worlds.specs.Answers.{answer, told_as};
 ghost use Rattle.dt_worlds.specs.World.{quads_of, tree_world, value_of_bytes};
 ghost use Rattle.dt_worlds.specs.Interrupts.{equal_under, first_match, hop, interrupt_row_cells, is_ragged, led, map_row, matches};
 ghost use Rattle.dt_irq.specs.Cells.{agree, mask_at, numbers_of};
-ghost use Rattle.dt_irq.specs.Seen.{told_as, interrupt_in, key_in, mask_in, row_in, IsMasked, IsSpecified};
+ghost use Rattle.dt_irq.specs.Seen.{interrupt_in, key_in, mask_in, row_in, IsMasked, IsSpecified};
 
 use crate::parents::{node_of, specifier_cells};
 use crate::sending::at_the_end;

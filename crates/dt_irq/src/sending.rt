@@ -4,7 +4,8 @@ ghost use Rattle.std.specs.Prelude.{◌≡◌, ◌<◌, length, None, IfOk, if�
 ghost use Rattle.dt_read.specs.Placed.{path_at, reading_of, IsNode};
 ghost use Rattle.dt_worlds.specs.World.{quads_of, tree_world, value_of_bytes};
 ghost use Rattle.dt_worlds.specs.Interrupts.{entry_sent, first_entry, is_ragged, specifier_count};
-ghost use Rattle.dt_irq.specs.Seen.{told_as, entry_in, sent_in, IsSpecified};
+ghost use Rattle.dt_worlds.specs.Answers.{told_as};
+ghost use Rattle.dt_irq.specs.Seen.{entry_in, sent_in, IsSpecified};
 
 use crate::parents::{node_of, specifier_cells};
 use dt_names::{Fault, FaultKind, NodeId};

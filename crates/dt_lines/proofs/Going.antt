@@ -1,17 +1,18 @@
 -- Lines on their way, one after the other.
 use Rattle.std.proofs.Common.{◌≡◌, ◌+◌, ◌++◌, ℕ, Bool, true, false, cond, List, [], ◌∷◌, refl, sym, ap, ◌∙◌, subst, append_assoc, append-nil}
+use Rattle.std.specs.List.{concat}
 use Rattle.std.specs.Prelude.{Result, Ok, Err, OnOk, IfErr}
 use Rattle.dt_names.specs.declared.fault.Fault.{Fault}
 use Rattle.dt_names.specs.Sink.{Taken, IsRefused}
 use Rattle.dt_worlds.specs.Answers.{Answer}
 use Rattle.dt_decompile.specs.Passed.{IsPassed}
 use Rattle.dt_decompile.proofs.Passing.{passed_none, passed_then, refused_at}
-use Rattle.dt_lines.specs.AllLines.{Telling, EndsOr, AreUpTo, AreFrom, AreBegun, text}
+use Rattle.dt_lines.specs.AllLines.{Telling, EndsOr, AreUpTo, AreFrom, AreBegun}
 use Rattle.dt_lines.specs.Given.{ArePassed, AreRefused}
 
 -- lines from an index on, behind some bytes, are all lines
 abbrev Continues : {A : Type 0} → (ℕ → Type 0) → Telling A → ℕ → List ℕ → Type 0
-Continues ends told i front = (lines : List (List ℕ)) → AreUpTo ends told i lines → (all : List (List ℕ)) × AreUpTo ends told 0 all × (text all ≡ front ++ text lines)
+Continues ends told i front = (lines : List (List ℕ)) → AreUpTo ends told i lines → (all : List (List ℕ)) × AreUpTo ends told 0 all × (concat all ≡ front ++ concat lines)
 
 abbrev ends_silent : {A : Type 0} → Telling A → ℕ → Type 0
 ends_silent {A} told i = (a : Answer A) × told.rule i a × (told.is_silent a ≡ true)
@@ -26,7 +27,7 @@ pub record IsGoing {A : Type 0} (told : Telling A) (i : ℕ) (old new : Taken) (
   pub begun : Continues anywhere told i front
   pub passed : IsPassed old new waited front waits
 
-one_line : (l : List ℕ) → text (l ∷ []) ≡ l
+one_line : (l : List ℕ) → concat (l ∷ []) ≡ l
 one_line l = append-nil l
 
 ended : (b : Bool) (more : Type 0) → b ≡ true → EndsOr b [] more
@@ -50,7 +51,7 @@ module _ {A : Type 0} (told : Telling A) where
     one_more : (ends : ℕ → Type 0) (front : List ℕ) → told.is_silent x ≡ false → told.is_last x ≡ false → Continues ends told i front → Continues ends told (i + 1) (front ++ told.line i x)
     one_more ends front heard more continues lines are =
         let (all, these, is) = continues (told.line i x ∷ lines) (x, rule, heard, refl, goes_on (told.is_last x) lines (AreUpTo ends told (i + 1) lines) more are) in
-        (all, these, is ∙ sym (append_assoc front (told.line i x) (text lines)))
+        (all, these, is ∙ sym (append_assoc front (told.line i x) (concat lines)))
 
     module _ {a b : Taken} {w v : List ℕ} (going : IsGoing told i a b w v) where
       pub going_on : {c : Taken} {u : List ℕ} → told.is_silent x ≡ false → told.is_last x ≡ false → IsPassed b c v (told.line i x) u → IsGoing told (i + 1) a c w u
@@ -79,7 +80,7 @@ module _ {A : Type 0} (told : Telling A) where
       going_fails {c} {fault} heard refused =
           let l = told.line i x in
           let (all, these, is) = going.begun (l ∷ []) (x, rule, heard, refl, either (told.is_last x) (Unit {0}) tt) in
-          record { lines = all; are = these; refused = refused_at (text all) l [] is going.passed refused }
+          record { lines = all; are = these; refused = refused_at (concat all) l [] is going.passed refused }
 
       -- the last line, as it ends a function
       pub last_passes : (c : Taken) (u : List ℕ) (r : Result (Unit {0}) Fault) → told.is_silent x ≡ false → told.is_last x ≡ true → OnOk r (IsPassed b c v (told.line i x) u) → OnOk r (ArePassed (AreFrom told 0) a c w u)
@@ -100,7 +101,7 @@ module _ {A : Type 0} (told : Telling A) where
       cut : {c : Taken} {fault : Fault} (s : Bool) → told.is_silent x ≡ s → IsRefused fault (v ++ cond s [] (told.line i x)) b c → AreRefused (AreBegun told 0) fault a c w
       cut true silent refused =
           let (all, these, is) = going.begun [] tt in
-          record { lines = all; are = these; refused = refused_at (text all) [] [] is going.passed refused }
+          record { lines = all; are = these; refused = refused_at (concat all) [] [] is going.passed refused }
       cut false heard refused = going_fails heard refused
 
       pub finish_passes : (c : Taken) (u : List ℕ) (r : Result (Unit {0}) Fault) → told.is_last x ≡ true → OnOk r (IsPassed b c v (cond (told.is_silent x) [] (told.line i x)) u) → OnOk r (ArePassed (AreFrom told 0) a c w u)

@@ -1,5 +1,7 @@
 -- The lines of a tree's nodes, one node after the other.
 use Rattle.std.proofs.Common.{◌≡◌, ◌++◌, ℕ, List, [], ◌∷◌, map, Some, inl, inr, refl, sym, ap, ◌∙◌, subst, append_assoc, append-nil}
+use Rattle.std.specs.List.{concat}
+use Rattle.std.proofs.lemmas.List.Folds.{concat-append}
 use Rattle.dt_model.specs.Names.{Name}
 use Rattle.dt_model.specs.Path.{Path}
 use Rattle.dt_model.specs.Tree.{Placed, nodes_of}
@@ -9,16 +11,12 @@ use Rattle.dt_names.specs.Sink.{Taken}
 use Rattle.dt_read.specs.Placed.{PlacedTree, reading_of, path_at, IsAt, IsNode}
 use Rattle.dt_read.specs.Walked.{Step, opens, steps_of}
 use Rattle.dt_read.proofs.NodePlaces.{path_is, at_node}
-use Rattle.dt_view.specs.Walks.{opened, AreOpened}
+use Rattle.dt_view.proofs.Walks.{opened, AreOpened}
 use Rattle.dt_view.proofs.Openings.{all_opened, next_opened, none_opened}
 use Rattle.dt_decompile.specs.Passed.{IsPassed}
 use Rattle.dt_decompile.proofs.Passing.{passed_none, passed_then, refused_at}
-use Rattle.dt_lines.specs.AllLines.{text, AreOfAll, AreBegunOfAll}
+use Rattle.dt_lines.specs.AllLines.{AreOfAll, AreBegunOfAll}
 use Rattle.dt_lines.specs.Given.{ArePassed, AreRefused}
-
-pub text_append : (ls ms : List (List ℕ)) → text (ls ++ ms) ≡ text ls ++ text ms
-text_append [] ms = refl
-text_append (l ∷ ls) ms = ap (λ r. l ++ r) (text_append ls ms) ∙ sym (append_assoc l (text ls) (text ms))
 
 one_node_more : (Own : Path → List (List ℕ) → Type 0) (before : List Placed) (n : Placed) (lines more : List (List ℕ)) → AreOfAll Own before lines → Own n.path more → AreOfAll Own (before ++ n ∷ []) (lines ++ more)
 one_node_more Own [] n lines more none own = (more, [], ap (λ l. l ++ more) none ∙ sym (append-nil more), own, refl)
@@ -78,7 +76,7 @@ module _ (Own : Path → List (List ℕ) → Type 0) (t : PlacedTree) where
           lines = record {
             lines = past.lines.lines ++ one.lines;
             are = one_node_more Own past.before next.first past.lines.lines one.lines past.lines.are own;
-            passed = subst (λ l. IsPassed a c w l u) (sym (text_append past.lines.lines one.lines)) (passed_then past.lines.passed one.passed);
+            passed = subst (λ l. IsPassed a c w l u) (sym (concat-append past.lines.lines one.lines)) (passed_then past.lines.passed one.passed);
           };
         }
 
@@ -91,5 +89,5 @@ module _ (Own : Path → List (List ℕ) → Type 0) (t : PlacedTree) where
         record {
           lines = past.lines.lines ++ one.lines;
           are = subst (λ ns. AreBegunOfAll Own Begun ns (past.lines.lines ++ one.lines)) (sym whole) (begun_behind Own Begun past.before next.first next.later past.lines.lines one.lines past.lines.are begun);
-          refused = refused_at (text (past.lines.lines ++ one.lines)) (text one.lines) [] (text_append past.lines.lines one.lines ∙ ap (λ l. text past.lines.lines ++ l) (sym (append-nil (text one.lines)))) past.lines.passed one.refused;
+          refused = refused_at (concat (past.lines.lines ++ one.lines)) (concat one.lines) [] (concat-append past.lines.lines one.lines ∙ ap (λ l. concat past.lines.lines ++ l) (sym (append-nil (concat one.lines)))) past.lines.passed one.refused;
         }

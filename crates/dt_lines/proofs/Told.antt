@@ -11,16 +11,7 @@ pub line_begins : {A : Type 0} (words : A → List ℕ) (p : Path) (i : ℕ) (r 
 line_begins words p i (Ok a) = (_, refl)
 line_begins words p i (Err fault) = (_, refl)
 
--- the exit of a `?` at a fault
-pub fails_at : (P : Fault → Type 0) (r : Result (Unit {0}) Fault) (fault : Fault) → IsErrAnd r (λ e. e ≡ fault) → P fault → IfErr r P
-fails_at P (Ok o) fault is p = absurd is
-fails_at P (Err e) fault is p = subst P (sym is) p
-
 -- a line that isn't left out
 pub not_left_out : (s : Bool) (l : List ℕ) → s ≡ false → cond s [] l ≡ l
 not_left_out true l e = absurd (let z : true ≡ false = e in cc)
 not_left_out false l e = refl
-
-pub weaker : (P Q : Fault → Type 0) (r : Result (Unit {0}) Fault) → ((fault : Fault) → P fault → Q fault) → IfErr r P → IfErr r Q
-weaker P Q (Ok o) f p = tt
-weaker P Q (Err e) f p = f e p

@@ -11,11 +11,6 @@ use Rattle.dt_worlds.specs.Regions.{region}
 use Rattle.dt_worlds.specs.Interrupts.{Route, IsRoute}
 use Rattle.dt_lines.specs.Lines.{line, region_words, route_words}
 
--- lines, one behind the other
-abbrev pub text : List (List ℕ) → List ℕ
-text [] = []
-text (l ∷ ls) = l ++ text ls
-
 -- how a node's lines are told: which answer is at an index, its line, and which answers end the lines, without one or behind theirs
 pub record Telling (A : Type 0) : Type 1 where
   pub rule : ℕ → Answer A → Type 0

@@ -1,5 +1,6 @@
 -- The lines of a blob.
 use Rattle.std.specs.Prelude.{◌≡◌, ℕ, List}
+use Rattle.std.specs.List.{concat}
 use Rattle.dt_model.specs.Path.{Path}
 use Rattle.dt_model.specs.Tree.{Reading, nodes_of}
 use Rattle.dt_model.specs.Format.{Reads, IsWithin}
@@ -9,7 +10,7 @@ use Rattle.dt_names.specs.Sink.{Taken, IsUntouched, IsRefused}
 use Rattle.dt_names.specs.declared.fault.Fault.{Fault}
 use Rattle.dt_names.specs.declared.fault.FaultKind.TheVariants.{NoMemory}
 use Rattle.dt_read.specs.Kinds.{kind_of}
-use Rattle.dt_lines.specs.AllLines.{regions_told, routes_told, text, AreFrom, AreBegun, AreOfAll, AreBegunOfAll}
+use Rattle.dt_lines.specs.AllLines.{regions_told, routes_told, AreFrom, AreBegun, AreOfAll, AreBegunOfAll}
 use Rattle.dt_lines.specs.declared.listing.Listing.{Listing}
 use Rattle.dt_lines.specs.declared.listing.Listing.TheVariants.{Regions, Routes}
 
@@ -49,4 +50,4 @@ pub record AreFirstOf (listing : Listing) (bytes : List ℕ) (lines : List (List
 pub data WhyNotListed (listing : Listing) (bytes : List ℕ) (old new : Taken) (fault : Fault) : Type 0 where
   no_blob : (f : BlobFault) → fault.kind ≡ kind_of f → IsFirstFault bytes f fault.at → IsUntouched old new → WhyNotListed listing bytes old new fault
   no_memory : fault ≡ placeless NoMemory → IsUntouched old new → WhyNotListed listing bytes old new fault
-  cut : (lines : List (List ℕ)) → AreFirstOf listing bytes lines → IsRefused fault (text lines) old new → WhyNotListed listing bytes old new fault
+  cut : (lines : List (List ℕ)) → AreFirstOf listing bytes lines → IsRefused fault (concat lines) old new → WhyNotListed listing bytes old new fault

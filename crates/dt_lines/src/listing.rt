@@ -1,9 +1,9 @@
 //! The lines of all nodes of a blob.
 
 ghost use Rattle.std.specs.Prelude.{List, ℕ, OnOk, IfErr};
+ghost use Rattle.std.specs.List.{concat};
 ghost use Rattle.dt_names.specs.Sink.{Takes, IsRefused};
 ghost use Rattle.dt_read.specs.Placed.{path_at, reading_of, IsNode};
-ghost use Rattle.dt_lines.specs.AllLines.{text};
 ghost use Rattle.dt_lines.specs.Given.{ArePassed, AreRefused};
 ghost use Rattle.dt_lines.specs.declared.listing.Listing.TheVariants.{Regions, Routes};
 ghost use Rattle.dt_lines.specs.Listed.{AreAll, AreAllBegun, AreOwn, AreOwnBegun, AreLinesOf, WhyNotListed};
@@ -56,7 +56,9 @@ fn put_nodes<S: Sink>(
     index.validity();
     for step in index.blob().steps() {
         match step {
-            Step::Open { node, .. } => put_node(index, buffer, out, node, listing)?,
+            Step::Open { node, .. } => {
+                put_node(index, buffer, out, node, listing)?;
+            }
             Step::Property { .. } => {}
             Step::Close => {}
         }
@@ -66,8 +68,8 @@ fn put_nodes<S: Sink>(
 
 // Writes all lines.
 fn put_lines<S: Sink>(index: &Index<'_>, out: &mut S, listing: Listing) -> Result<(), Fault>
-    ensures written { OnOk result ((lines : List (List ℕ)) × AreAll listing (reading_of index.now) lines × Takes (text lines) (S.taken out.old) (S.taken out.new)) }
-    ensures refused { IfErr result (λ fault. (lines : List (List ℕ)) × AreAllBegun listing (reading_of index.now) lines × IsRefused fault (text lines) (S.taken out.old) (S.taken out.new)) }
+    ensures written { OnOk result ((lines : List (List ℕ)) × AreAll listing (reading_of index.now) lines × Takes (concat lines) (S.taken out.old) (S.taken out.new)) }
+    ensures refused { IfErr result (λ fault. (lines : List (List ℕ)) × AreAllBegun listing (reading_of index.now) lines × IsRefused fault (concat lines) (S.taken out.old) (S.taken out.new)) }
 {
     let mut buffer = Buffer::new();
     put_nodes(index, &mut buffer, out, listing)?;
@@ -81,7 +83,7 @@ fn put_listing<S: Sink>(
     out: &mut S,
     listing: Listing,
 ) -> Result<(), Fault>
-    ensures written { OnOk result ((lines : List (List ℕ)) × AreLinesOf listing bytes.now lines × Takes (text lines) (S.taken out.old) (S.taken out.new)) }
+    ensures written { OnOk result ((lines : List (List ℕ)) × AreLinesOf listing bytes.now lines × Takes (concat lines) (S.taken out.old) (S.taken out.new)) }
     ensures refused { IfErr result (WhyNotListed listing bytes.now (S.taken out.old) (S.taken out.new)) }
 {
     let blob = Blob::check(bytes)?;
@@ -97,7 +99,7 @@ fn put_listing<S: Sink>(
 ///
 /// The first fault of bytes that are no blob, and `NoMemory`, where nothing is written; `WriteFault`, where the sink took a front of the lines.
 pub fn regs<S: Sink>(alloc: Global, bytes: &[u8], out: &mut S) -> Result<(), Fault>
-    ensures written { OnOk result ((lines : List (List ℕ)) × AreLinesOf Regions bytes.now lines × Takes (text lines) (S.taken out.old) (S.taken out.new)) }
+    ensures written { OnOk result ((lines : List (List ℕ)) × AreLinesOf Regions bytes.now lines × Takes (concat lines) (S.taken out.old) (S.taken out.new)) }
     ensures refused { IfErr result (WhyNotListed Regions bytes.now (S.taken out.old) (S.taken out.new)) }
 {
     put_listing(alloc, bytes, out, Listing::Regions)
@@ -112,7 +114,7 @@ pub fn regs<S: Sink>(alloc: Global, bytes: &[u8], out: &mut S) -> Result<(), Fau
 ///
 /// The first fault of bytes that are no blob, and `NoMemory`, where nothing is written; `WriteFault`, where the sink took a front of the lines.
 pub fn irqs<S: Sink>(alloc: Global, bytes: &[u8], out: &mut S) -> Result<(), Fault>
-    ensures written { OnOk result ((lines : List (List ℕ)) × AreLinesOf Routes bytes.now lines × Takes (text lines) (S.taken out.old) (S.taken out.new)) }
+    ensures written { OnOk result ((lines : List (List ℕ)) × AreLinesOf Routes bytes.now lines × Takes (concat lines) (S.taken out.old) (S.taken out.new)) }
     ensures refused { IfErr result (WhyNotListed Routes bytes.now (S.taken out.old) (S.taken out.new)) }
 {
     put_listing(alloc, bytes, out, Listing::Routes)

@@ -1,7 +1,6 @@
 -- The entry of `reg` that an index names.
-use Rattle.std.proofs.Common.{◌≡◌, ◌≢◌, ℕ, suc, zero, ◌+◌, ◌-◌, ◌*◌, ◌/◌, ◌%◌, ◌<◌, ◌≤◌, List, [], ◌∷◌, take, drop, length, Option, Some, Result, Ok, Err, true≢false, refl, sym, ap, subst, ◌∙◌, arith}
-use Rattle.std.specs.Prelude.{codes, option_map, IfErr}
-use Rattle.std.specs.Result.{IsErr, IsErrAnd}
+use Rattle.std.proofs.Common.{◌≡◌, ◌≢◌, ℕ, suc, ◌+◌, ◌-◌, ◌*◌, ◌/◌, ◌%◌, ◌<◌, ◌≤◌, List, [], ◌∷◌, take, drop, length, Option, Some, refl, sym, ap, subst, ◌∙◌, arith}
+use Rattle.std.specs.Prelude.{codes, option_map}
 use Rattle.dt_names.specs.declared.fault.Fault.{Fault}
 use Rattle.dt_names.specs.declared.fault.FaultKind.TheVariants.{NoReg}
 use Rattle.dt_worlds.specs.declared.regions.BusCells.{BusCells}
@@ -105,13 +104,3 @@ left_behind t p i n r new left count bus own fewer shorter cells = record {
         let all : length r.rest.now ≡ n * (4 * w) + 4 * w = left.long ∙ ap (λ m. m * (4 * w)) count ∙ product in
         let same : n * (4 * w) ≡ new.count * (4 * w) = ap (λ m. m * (4 * w)) fewer' in
         omega arith
-
--- a result that is this fault has what the fault has
-pub if_this : {A : Type 0} (P : Fault → Type 0) (r : Result A Fault) (e : Fault) → IsErr r → IsErrAnd r (λ x. x ≡ e) → P e → IfErr r P
-if_this P (Ok a) e h k p = absurd (true≢false (sym h))
-if_this P (Err x) e h k p = subst P (sym k) p
-
--- where entries are left, one is
-pub one_entry : (count size : ℕ) → 0 < count → size ≤ count * size
-one_entry zero size some = absurd (omega arith)
-one_entry (suc n) size some = let product : suc n * size ≡ n * size + size = grind arith in omega arith

@@ -26,3 +26,7 @@ pub record AreLeft (t : PlacedTree) (p : Path) (i : ℕ) (r : Regions) : Type 0 
 -- they are some node's
 abbrev pub IsLeft : PlacedTree → Regions → Type 0
 IsLeft t r = (p : Path) × (i : ℕ) × AreLeft t p i r
+
+-- how many they are
+abbrev pub entries_left : Regions → ℕ
+entries_left r = r.count

@@ -7,7 +7,7 @@ ghost use Rattle.dt_read.specs.Placed.{path_at, reading_of, IsNode};
 ghost use Rattle.dt_worlds.specs.Answers.{refuse, refused, told};
 ghost use Rattle.dt_worlds.specs.World.{tree_world};
 ghost use Rattle.dt_worlds.specs.Regions.{region};
-ghost use Rattle.dt_ranges.specs.Left.{AreLeft, IsLeft};
+ghost use Rattle.dt_ranges.specs.Left.{AreLeft, IsLeft, entries_left};
 
 use crate::cells::part_at;
 use crate::translating::region_at;
@@ -78,9 +78,9 @@ impl<'v> Regions<'v> {
     pub fn next<V: TreeView>(&mut self, view: &V) -> Option<Result<Region, Fault>>
         requires { IsLeft (V.tree view.now) self.old }
         ensures is { (p : Path) (i : ℕ) → AreLeft (V.tree view.now) p i self.old
-            → MatchOption result (region (tree_world (reading_of (V.tree view.now))) p i ≡ refuse NoReg)
+            → MatchOption result ((region (tree_world (reading_of (V.tree view.now))) p i ≡ refuse NoReg) × AreLeft (V.tree view.now) p i self.new)
             (λ r. (region (tree_world (reading_of (V.tree view.now))) p i ≡ told r) × AreLeft (V.tree view.now) p (i + 1) self.new) }
-        ensures shorter { IfSome result (λ _. self.new.count < self.old.count) }
+        ensures fewer { IfSome result (λ _. entries_left self.new < entries_left self.old) }
     {
         let Some(region) = self.nth(view, 0) else {
             return None;

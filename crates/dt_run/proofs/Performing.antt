@@ -1,5 +1,6 @@
 -- What a job writes, and why it doesn't.
 use Rattle.std.proofs.Common.{◌≡◌, ◌-◌, ◌<◌, ◌≤◌, ℕ, List, ◌∷◌, [], length, map, take, drop, get_or, take_all, Bor, Bool, Option, Result, Ok, Err, OnOk, IfOk, IfErr, MatchResult, Vec, Global, refl, sym, ap, subst, arith}
+use Rattle.std.specs.List.{concat}
 use Rattle.dt_model.specs.Checks as checks
 use Rattle.dt_model.specs.Checks.{BlobFault, IsFirstFault}
 use Rattle.dt_model.specs.Source.{raw}
@@ -13,7 +14,6 @@ use Rattle.dt_chain.specs.Blobs as blobs
 use Rattle.dt_chain.specs.Built.{IsBlobBuilt, WhyNoBlobBuilt}
 use Rattle.dt_chain.specs.Compiled.{IsCompiled, WhyNotCompiled, IsCompilerFault}
 use Rattle.dt_chain.proofs.Places.{memory_unplaced, blob_unplaced}
-use Rattle.dt_lines.specs.AllLines as all_lines
 use Rattle.dt_lines.specs.Listed as listed
 use Rattle.dt_lines.specs.Listed.{AreLinesOf, AreOwn, AreOwnBegun, WhyNotListed}
 use Rattle.dt_lines.specs.declared.listing.Listing.{Listing}
@@ -169,11 +169,11 @@ module _ (old new : Taken) (hex : Bool) (blob : List ℕ) where
       subst (λ (e : Fault). WhyNotPerformed 0 e.kind e.at job hex (blob ∷ []) old new) (sym is) (memory, omega arith, refl, same)
   not_listed job listing fault takes memory begun (listed.cut lines are refused) =
       subst (λ (kind : FaultKind). WhyNotPerformed 0 kind fault.at job hex (blob ∷ []) old new) (sym refused.kind)
-      (refl, refused.nowhere, all_lines.text lines, begun (all_lines.text lines) (lines, are, refl), refused.cut)
+      (refl, refused.nowhere, concat lines, begun (concat lines) (lines, are, refl), refused.cut)
 
-  pub lines_written : (listing : Listing) (r : Result (Unit {0}) Fault) → OnOk r ((lines : List (List ℕ)) × AreLinesOf listing blob lines × Takes (all_lines.text lines) old new)
+  pub lines_written : (listing : Listing) (r : Result (Unit {0}) Fault) → OnOk r ((lines : List (List ℕ)) × AreLinesOf listing blob lines × Takes (concat lines) old new)
       → OnOk r ((bytes : List ℕ) × IsListed listing blob bytes × Takes bytes old new)
-  lines_written listing (Ok done) (lines, are, taken) = (all_lines.text lines, (lines, are, refl), taken)
+  lines_written listing (Ok done) (lines, are, taken) = (concat lines, (lines, are, refl), taken)
   lines_written listing (Err e) written = tt
 
 -- ---- a text that tells of it

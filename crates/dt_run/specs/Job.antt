@@ -1,6 +1,6 @@
 -- What a job writes of its inputs, and why it doesn't.
 use Rattle.std.specs.Prelude.{◌≡◌, ◌<◌, ◌++◌, ◌∷◌, [], ℕ, List, Bool, Option, None, length, codes, decimal, if◌then◌else◌}
-use Rattle.std.specs.List.{sum_by}
+use Rattle.std.specs.List.{concat, sum_by}
 use Rattle.hex.specs.Hex.{encode_lower}
 use Rattle.dt_model.specs.Source.{raw}
 use Rattle.dt_model.specs.Tree.{Reading, nodes_of}
@@ -15,7 +15,6 @@ use Rattle.dt_chain.specs.Applied.{IsBlobApplied, WhyNoBlobApplied}
 use Rattle.dt_chain.specs.Blobs as blobs
 use Rattle.dt_chain.specs.Built.{IsBlobBuilt, WhyNoBlobBuilt}
 use Rattle.dt_chain.specs.Compiled.{IsCompiled, WhyNotCompiled, IsCompilerFault}
-use Rattle.dt_lines.specs.AllLines as all_lines
 use Rattle.dt_lines.specs.Listed.{AreLinesOf, AreFirstOf}
 use Rattle.dt_lines.specs.declared.listing.Listing.{Listing}
 use Rattle.dt_lines.specs.declared.listing.Listing.TheVariants.{Regions, Routes}
@@ -48,11 +47,11 @@ pub record IsCounted (blob bytes : List ℕ) : Type 0 where
 
 -- the lines of a blob's regions, or of its routes
 abbrev pub IsListed : Listing → (blob bytes : List ℕ) → Type 0
-IsListed listing blob bytes = (lines : List (List ℕ)) × AreLinesOf listing blob lines × (bytes ≡ all_lines.text lines)
+IsListed listing blob bytes = (lines : List (List ℕ)) × AreLinesOf listing blob lines × (bytes ≡ concat lines)
 
 -- some of them, the first ones
 abbrev pub IsListedFirst : Listing → (blob bytes : List ℕ) → Type 0
-IsListedFirst listing blob bytes = (lines : List (List ℕ)) × AreFirstOf listing blob lines × (bytes ≡ all_lines.text lines)
+IsListedFirst listing blob bytes = (lines : List (List ℕ)) × AreFirstOf listing blob lines × (bytes ≡ concat lines)
 
 -- What the job writes of the inputs: the blob of a base or of an overlay; that of a source as it stands; that of a base with
 -- objects applied, or with the overlays of sources; the source of a blob; a line; or the lines of its regions or routes.

@@ -1,14 +1,8 @@
 -- The line that tells a fault.
 use Rattle.std.specs.Prelude.{◌++◌, ◌∷◌, [], ℕ, List, codes, decimal}
-use Rattle.std.specs.Borrow.{Bor}
 use Rattle.dt_names.specs.Fault.{fault_text}
 use Rattle.dt_names.specs.declared.fault.Fault.{Fault}
 
 -- `dtool: input K: `, the text of the fault, and a line feed
 abbrev pub fault_line : ℕ → Fault → List ℕ
 fault_line input fault = codes "dtool: input " ++ decimal input ++ codes ": " ++ fault_text fault ++ 10 ∷ []
-
--- texts, one behind the other
-abbrev pub joined : List (Bor (List ℕ)) → List ℕ
-joined [] = []
-joined (piece ∷ rest) = piece.now ++ joined rest

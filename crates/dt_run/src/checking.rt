@@ -4,7 +4,7 @@ ghost use Rattle.std.specs.Prelude.{◌≡◌, codes, ◌++◌, ◌∷◌, [], L
 ghost use Rattle.dt_names.specs.Sink.{Takes, IsRefused};
 ghost use Rattle.dt_run.specs.Checking.{line_of};
 ghost use Rattle.dt_run.specs.Job.{IsCounted};
-ghost use Rattle.dt_run.specs.Report.{joined};
+ghost use Rattle.dt_lines.specs.Lines.{joined};
 ghost use Rattle.dt_run.specs.Telling.{WhyNotTold};
 
 use crate::text::put_pieces;

@@ -2,7 +2,8 @@
 
 ghost use Rattle.std.specs.Prelude.{◌≡◌, codes, ◌++◌, ◌∷◌, [], OnOk, IfErr};
 ghost use Rattle.dt_names.specs.Sink.{Takes, IsRefused};
-ghost use Rattle.dt_run.specs.Report.{fault_line, joined};
+ghost use Rattle.dt_lines.specs.Lines.{joined};
+ghost use Rattle.dt_run.specs.Report.{fault_line};
 
 use crate::text::put_pieces;
 use dt_names::{Fault, Sink};

@@ -2,7 +2,7 @@
 
 ghost use Rattle.std.specs.Prelude.{OnOk, IfErr};
 ghost use Rattle.dt_names.specs.Sink.{Takes, IsRefused};
-ghost use Rattle.dt_run.specs.Report.{joined};
+ghost use Rattle.dt_lines.specs.Lines.{joined};
 
 use dt_names::{Fault, Sink, put_all};
 

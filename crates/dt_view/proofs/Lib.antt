@@ -1,3 +1,4 @@
+pub mod Walks
 pub mod Shallow
 pub mod Parents
 pub mod ParentSteps

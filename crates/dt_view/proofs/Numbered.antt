@@ -10,7 +10,7 @@ use Rattle.dt_model.proofs.Listed.{listed_value}
 use Rattle.dt_read.specs.Placed.{PlacedTree, reading_of, path_at, IsAt, IsNode}
 use Rattle.dt_read.specs.Walked.{Step, opens}
 use Rattle.dt_read.proofs.NodePlaces.{path_is, at_node}
-use Rattle.dt_view.specs.Walks.{AreOpened}
+use Rattle.dt_view.proofs.Walks.{AreOpened}
 use Rattle.dt_view.proofs.Openings.{next_opened}
 
 -- each place is one path's

@@ -15,7 +15,7 @@ use Rattle.dt_model.proofs.Tests.{bytes_eq_refl, in_right}
 use Rattle.dt_read.specs.Placed.{Nodes, no_nodes, node, forest_of, PlacedTree, reading_of, place_below, place_of, IsAt}
 use Rattle.dt_read.specs.Walked.{Step, opens, holds, closes, steps_of_nodes, steps_of}
 use Rattle.dt_read.proofs.NodePlaces.{stands_below}
-use Rattle.dt_view.specs.Walks.{opened, AreOpened}
+use Rattle.dt_view.proofs.Walks.{opened, AreOpened}
 
 abbrev places_in : Nodes → List ℕ
 places_in no_nodes = []

@@ -8,7 +8,7 @@ use Rattle.dt_model.specs.Names.{Name}
 use Rattle.dt_model.specs.Tree.{Property}
 use Rattle.dt_read.specs.Placed.{PlacedTree}
 use Rattle.dt_read.specs.Walked.{Step, opens, holds, closes, steps_of}
-use Rattle.dt_view.specs.Walks.{innermost, parent_told, AreFew}
+use Rattle.dt_view.proofs.Walks.{innermost, parent_told, AreFew}
 
 -- what is left tells what the whole walk tells, and opens no more than the limit
 pub record IsLeft (t : PlacedTree) (node : ℕ) (open_nodes : List ℕ) (steps : List Step) : Type 0 where

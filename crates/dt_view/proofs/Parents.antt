@@ -14,7 +14,7 @@ use Rattle.dt_read.specs.Walked.{Step, holds, closes, steps_of_nodes, steps_of}
 use Rattle.dt_read.proofs.NodePlaces.{path_is, at_node}
 use Rattle.dt_worlds.specs.Above.{front}
 use Rattle.dt_view.proofs.Openings.{other_name}
-use Rattle.dt_view.specs.Walks.{parent_told}
+use Rattle.dt_view.proofs.Walks.{parent_told}
 use Rattle.dt_view.specs.Views.{IsAbove}
 
 -- the parent of the place of a node among siblings and below them, whose parent this is

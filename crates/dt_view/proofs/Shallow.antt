@@ -4,7 +4,7 @@ use Rattle.dt_model.specs.Tree.{Property}
 use Rattle.dt_model.specs.Valid.{IsNoDeeper, IsWithinLimits}
 use Rattle.dt_read.specs.Placed.{Nodes, no_nodes, node, forest_of, PlacedTree, reading_of}
 use Rattle.dt_read.specs.Walked.{Step, holds, closes, steps_of_nodes, steps_of}
-use Rattle.dt_view.specs.Walks.{AreFew}
+use Rattle.dt_view.proofs.Walks.{AreFew}
 
 few_properties : (count : ℕ) (ps : List Property) (rest : List Step) → AreFew count rest → AreFew count (map holds ps ++ rest)
 few_properties count [] rest s = s

@@ -21,7 +21,7 @@ use Rattle.dt_read.specs.Walked.{Step, opens, steps_of}
 use Rattle.dt_read.proofs.NodePlaces.{at_node}
 use Rattle.dt_view.specs.Tables.{at_number, HasNumber, AreParents, ArePhandles, IsNoted, AreIndexed}
 use Rattle.dt_view.specs.Views.{IsAbove}
-use Rattle.dt_view.specs.Walks.{innermost, parent_told, AreFew, opened, AreOpened}
+use Rattle.dt_view.proofs.Walks.{innermost, parent_told, AreFew, opened, AreOpened}
 use Rattle.dt_view.proofs.Numbered.{AreApart}
 use Rattle.dt_view.proofs.Openings.{OpensNext, all_opened, all_apart, next_opened, none_opened}
 use Rattle.dt_view.proofs.Parents.{parent_is_above}

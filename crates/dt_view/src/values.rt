@@ -13,7 +13,7 @@ fn number_at(bytes: &[u8], at: usize) -> u32
     u32::from_be_bytes([cell[0], cell[1], cell[2], cell[3]])
 }
 
-/// The cell that has so many before it.
+/// The number of the cell that has so many before it.
 pub fn cell_at(bytes: &[u8], index: usize) -> u32
     requires { 4 * (index + 1) ≤ length bytes.now }
     ensures { drop index (quads_of bytes.now) ≡ figure result ∷ drop (index + 1) (quads_of bytes.now) }
@@ -21,7 +21,7 @@ pub fn cell_at(bytes: &[u8], index: usize) -> u32
     number_at(bytes, 4 * index)
 }
 
-/// The bytes of the first cells.
+/// The bytes of so many cells, the first ones.
 pub fn first_cells(bytes: &[u8], cells: usize) -> &[u8]
     requires { 4 * cells ≤ length bytes.now }
     ensures bytes { result.now ≡ take (4 * cells) bytes.now }
@@ -30,7 +30,7 @@ pub fn first_cells(bytes: &[u8], cells: usize) -> &[u8]
     &bytes[..4 * cells]
 }
 
-/// The bytes behind some cells.
+/// The bytes behind so many cells.
 pub fn cells_after(bytes: &[u8], cells: usize) -> &[u8]
     requires { 4 * cells ≤ length bytes.now }
     ensures bytes { result.now ≡ drop (4 * cells) bytes.now }

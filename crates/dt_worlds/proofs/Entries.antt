@@ -33,3 +33,8 @@ pub entry_past : (kind : FaultKind) (i n w : ℕ) (cells : List Quad) → n ≤ 
 entry_past kind i zero w cells le = refl
 entry_past kind zero (suc n) w cells le = absurd (omega arith)
 entry_past kind (suc i) (suc n) w cells le = entry_past kind i n w (drop w cells) (omega arith)
+
+-- where entries are left, one is
+pub one_entry : (count size : ℕ) → 0 < count → size ≤ count * size
+one_entry zero size some = absurd (omega arith)
+one_entry (suc n) size some = let product : suc n * size ≡ n * size + size = grind arith in omega arith

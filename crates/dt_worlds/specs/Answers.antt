@@ -25,7 +25,11 @@ Agrees R undetermined y = Unit {0}
 Agrees R (refused fault) y = y ≡ refused fault
 Agrees {A} {B} R (answer a) y = (b : B) × (y ≡ answer b) × R a b
 
--- a call's result as an answer
+-- a call's result as an answer, its value seen so
+abbrev pub told_as : {A B : Type 0} → (A → B) → Result A Fault → Answer B
+told_as f (Ok a) = answer (f a)
+told_as f (Err fault) = refused fault
+
+-- its value as it is
 abbrev pub told : {A : Type 0} → Result A Fault → Answer A
-told (Ok a) = answer a
-told (Err fault) = refused fault
+told r = told_as (λ a. a) r

@@ -8,7 +8,8 @@ use Rattle.dt_worlds.specs.Answers.{answer, refused, refuse}
 use Rattle.dt_worlds.specs.World.{tree_world}
 use Rattle.dt_worlds.specs.Interrupts.{step_of, IsInterruptParent}
 use Rattle.dt_worlds.proofs.Told.{refuses}
-use Rattle.dt_irq.proofs.Telling.{told_fault, copied_some}
+use Rattle.dt_worlds.proofs.Told.{told_fault}
+use Rattle.dt_irq.proofs.Telling.{copied_some}
 use Rattle.dt_irq.proofs.Ways.{Leads, here_first, step_more, ends_here, goes_round, too_many, leads_nowhere, is_refused, leads_to, leads_on}
 use Rattle.dt_irq.proofs.parents.interrupt_parent.Goals as goal
 use Rattle.dt_irq.proofs.parents.interrupt_parent.Goals.{then-is_power_of_two, else-is_power_of_two}
@@ -26,7 +27,7 @@ returns-in_err-next-clause-is g c =
     let p = path_at t c.args.node in
     let here = path_at t c.loop-steps.here in
     let e = c.in_err-next.field-0.0 in
-    subst (IsInterruptParent w p) (sym (told_fault (path_at t) c.from_residual.result e c.from_residual.ensures.0 c.from_residual.ensures.1))
+    subst (IsInterruptParent w p) (sym (told_fault c.from_residual.result e (path_at t) c.from_residual.ensures.1))
     (ends_here w c.loop-steps.steps p here (refused e) c.loop-steps.invariant.on (is_refused w here e (sym c.in_err-next.ensures.is)))
 
 pub returns-in_default-clause-is : goal.returns-in_default-clause-is

@@ -5,14 +5,14 @@ use Rattle.dt_worlds.specs.World.{quads_of, tree_world}
 use Rattle.dt_worlds.specs.Interrupts.{IsSent}
 use Rattle.dt_irq.specs.Seen.{route_in, sent_in}
 use Rattle.dt_irq.proofs.Senders.{route_by}
-use Rattle.dt_irq.proofs.Telling.{told_fault}
+use Rattle.dt_worlds.proofs.Told.{told_fault}
 use Rattle.dt_irq.proofs.routing.route.Goals as goal
 
 pub returns-in_err-of-clause-is : goal.returns-in_err-of-clause-is
 returns-in_err-of-clause-is g c =
     let t = g.V.TreeView.tree c.args.view.now in
     let e = c.in_err-of.field-0.0 in
-    (refused e, c.in_err-of.ensures.refused c.args.index, told_fault (route_in t) c.from_residual.result e c.from_residual.ensures.0 c.from_residual.ensures.1)
+    (refused e, c.in_err-of.ensures.refused c.args.index, told_fault c.from_residual.result e (route_in t) c.from_residual.ensures.1)
 
 pub nth-requires : goal.nth-requires
 nth-requires g c = (path_at (g.V.TreeView.tree c.args.view.now) c.args.node, 0, c.in_ok-of.ensures.left)
@@ -23,7 +23,7 @@ returns-in_err-sent-clause-is g c =
     let p = path_at t c.args.node in
     let e = c.in_err-sent.field-0.0 in
     let is = subst (λ j. IsSent (tree_world (reading_of t)) p j (refused e)) (let z : 0 + c.args.index ≡ c.args.index = omega arith in z) (c.in_err-sent.ensures.is p 0 c.in_ok-of.ensures.left) in
-    (refused e, is, told_fault (route_in t) c.from_residual-in_err-sent.result e c.from_residual-in_err-sent.ensures.0 c.from_residual-in_err-sent.ensures.1)
+    (refused e, is, told_fault c.from_residual-in_err-sent.result e (route_in t) c.from_residual-in_err-sent.ensures.1)
 
 pub returns-clause-is : goal.returns-clause-is
 returns-clause-is g c =

@@ -11,7 +11,8 @@ use Rattle.dt_irq.specs.Cells.{numbers_of}
 use Rattle.dt_irq.specs.Seen.{interrupt_in, route_in}
 use Rattle.dt_irq.proofs.Figures.{are_numbers, figure_count}
 use Rattle.dt_irq.proofs.Hops.{arrives, no_map, too_far, goes_on}
-use Rattle.dt_irq.proofs.Telling.{told_fault, some_value, no_value, copied_some}
+use Rattle.dt_worlds.proofs.Told.{told_fault}
+use Rattle.dt_irq.proofs.Telling.{some_value, no_value, copied_some}
 use Rattle.dt_irq.proofs.Zeros.{take_front}
 use Rattle.dt_irq.proofs.routing.routed.Goals as goal
 
@@ -66,7 +67,7 @@ returns-in_err-at-clause-is g c =
     let few = c.loop-at.invariant.few in
     let more : 64 - c.loop-at.hops ≡ suc left = omega (arith, c.if-hops-eq-MOST_HOPS.false) in
     let refused_so : hop w at (value_of_bytes c.in-Some.map.now) ≡ refused e = sym c.in_err-at.ensures.is in
-    told_fault (route_in t) c.from_residual.result e c.from_residual.ensures.0 c.from_residual.ensures.1
+    told_fault c.from_residual.result e (route_in t) c.from_residual.ensures.1
     ∙ ap (λ (x : Answer Interrupt). x >>= routed w left (c.loop-at.hops + 1)) (sym refused_so)
     ∙ sym (goes_on w left c.loop-at.hops at (value_of_bytes c.in-Some.map.now) (ap (λ x. answer x) (no_value o none)) (ap (λ x. answer (option_map value_of_bytes x)) (sym c.in-Some.ensures)))
     ∙ ap (λ n. routed w n c.loop-at.hops at) (sym more)

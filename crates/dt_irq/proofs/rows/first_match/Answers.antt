@@ -6,7 +6,7 @@ use Rattle.dt_worlds.specs.World.{quads_of, tree_world, value_of_bytes}
 use Rattle.dt_worlds.specs.Interrupts.{first_match, interrupt_row_cells, is_ragged, map_row}
 use Rattle.dt_irq.specs.Seen.{key_in, mask_in, row_in}
 use Rattle.dt_irq.proofs.Matching.{match_is, match_is_later, match_is_refused, some_cells}
-use Rattle.dt_irq.proofs.Telling.{told_fault}
+use Rattle.dt_worlds.proofs.Told.{told_fault}
 use Rattle.dt_irq.proofs.rows.first_match.Goals as goal
 
 pub returns-in_err-row-clause-is : goal.returns-in_err-row-clause-is
@@ -16,7 +16,7 @@ returns-in_err-row-clause-is g c =
     let rest = c.loop-rest.rest.now in
     let e = c.in_err-row.field-0.0 in
     let row : map_row w (interrupt_row_cells w) c.args.width (quads_of rest) ≡ refused e = sym c.in_err-row.ensures.is in
-    told_fault (row_in t) c.from_residual.result e c.from_residual.ensures.0 c.from_residual.ensures.1
+    told_fault c.from_residual.result e (row_in t) c.from_residual.ensures.1
     ∙ sym (match_is_refused w (interrupt_row_cells w) (is_ragged (value_of_bytes c.args.map.now)) c.args.width (key_in c.args.wanted.now) (mask_in c.args.wanted.now) (quads_of rest) e (some_cells rest c.loop-rest-test.true) row)
     ∙ c.loop-rest.invariant.left
 

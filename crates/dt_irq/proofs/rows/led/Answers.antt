@@ -5,7 +5,7 @@ use Rattle.dt_worlds.specs.World.{quads_of, tree_world, value_of_bytes}
 use Rattle.dt_worlds.specs.Interrupts.{first_match, interrupt_row_cells, is_ragged}
 use Rattle.dt_irq.specs.Seen.{interrupt_in, row_in, key_in, mask_in}
 use Rattle.dt_irq.proofs.Hops.{by_row, led_by}
-use Rattle.dt_irq.proofs.Telling.{told_fault}
+use Rattle.dt_worlds.proofs.Told.{told_fault}
 use Rattle.dt_irq.proofs.rows.led.Goals as goal
 
 pub returns-in_err-row-clause-is : goal.returns-in_err-row-clause-is
@@ -18,7 +18,7 @@ returns-in_err-row-clause-is g c =
     let wanted = c.wanted_at.ensures in
     let match = first_match w (interrupt_row_cells w) (is_ragged (value_of_bytes c.args.map.now)) width in
     let row : match (key_in c.wanted_at.result) (mask_in c.wanted_at.result) 0 (quads_of c.args.map.now) ≡ refused e = sym c.in_err-row.ensures.is in
-    told_fault (interrupt_in t) c.from_residual-in_err-row.result e c.from_residual-in_err-row.ensures.0 c.from_residual-in_err-row.ensures.1
+    told_fault c.from_residual-in_err-row.result e (interrupt_in t) c.from_residual-in_err-row.ensures.1
     ∙ ap by_row (sym row)
     ∙ ap (λ key. by_row (match key (mask_in c.wanted_at.result) 0 (quads_of c.args.map.now))) wanted.key
     ∙ ap (λ mask. by_row (match (take c.args.address (quads_of at.unit.now) ++ quads_of at.specifier.now) mask 0 (quads_of c.args.map.now))) wanted.mask

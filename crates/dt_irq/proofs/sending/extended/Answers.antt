@@ -5,7 +5,7 @@ use Rattle.dt_worlds.specs.World.{quads_of, tree_world, value_of_bytes}
 use Rattle.dt_worlds.specs.Interrupts.{Entry, entry_sent, first_entry, is_ragged, specifier_count}
 use Rattle.dt_irq.specs.Seen.{entry_in, sent_in}
 use Rattle.dt_irq.proofs.Listing.{sent_first, sent_now, sent_later}
-use Rattle.dt_irq.proofs.Telling.{told_fault}
+use Rattle.dt_worlds.proofs.Told.{told_fault}
 use Rattle.dt_irq.proofs.sending.extended.Goals as goal
 
 pub returns-in_err-rest-clause-is : goal.returns-in_err-rest-clause-is
@@ -17,7 +17,7 @@ returns-in_err-rest-clause-is g c =
     let ragged = is_ragged (value_of_bytes c.args.list.now) in
     let left = c.args.index - (c.loop-passed._passed + 1) in
     let first : first_entry w (specifier_count w) ragged rest ≡ refused e = ap (λ b. first_entry w (specifier_count w) b rest) (sym c.loop-passed.invariant.ragged) ∙ sym c.in_err-rest.ensures.is in
-    told_fault (sent_in t) c.from_residual.result e c.from_residual.ensures.0 c.from_residual.ensures.1
+    told_fault c.from_residual.result e (sent_in t) c.from_residual.ensures.1
     ∙ ap (λ (x : Answer Entry). x >>= λ y. entry_sent w (specifier_count w) ragged left y.rest) (sym first)
     ∙ sym (sent_later w (specifier_count w) ragged (c.args.index - c.loop-passed._passed) left rest (omega arith))
     ∙ c.loop-passed.invariant.left
@@ -47,7 +47,7 @@ returns-in_err-first_entry-clause-is g c =
     let rest = quads_of c.loop-passed.rest.now in
     let ragged = is_ragged (value_of_bytes c.args.list.now) in
     let first : first_entry w (specifier_count w) ragged rest ≡ refused e = ap (λ b. first_entry w (specifier_count w) b rest) (sym c.loop-passed.invariant.ragged) ∙ sym c.in_err-first_entry.ensures.is in
-    told_fault (sent_in t) c.from_residual-in_err-first_entry.result e c.from_residual-in_err-first_entry.ensures.0 c.from_residual-in_err-first_entry.ensures.1
+    told_fault c.from_residual-in_err-first_entry.result e (sent_in t) c.from_residual-in_err-first_entry.ensures.1
     ∙ ap sent_first (sym first)
     ∙ sym (sent_now w (specifier_count w) ragged (c.args.index - c.loop-passed._passed) rest (omega arith))
     ∙ c.loop-passed.invariant.left

@@ -2,10 +2,10 @@ use Rattle.std.proofs.Common.{◌∷◌, ap, ◌∙◌}
 use Rattle.dt_read.specs.Placed.{reading_of}
 use Rattle.dt_read.specs.StepsLeft.{step_view}
 use Rattle.dt_read.specs.Walked.{steps_of}
-use Rattle.dt_view.specs.Walks.{opened}
+use Rattle.dt_view.proofs.Walks.{opened}
 use Rattle.dt_lines.specs.Listed.{AreOwn, AreOwnBegun}
 use Rattle.dt_lines.proofs.Nodes.{none_past, next_is_node, past_one, past_another, cut_at_one, all_past}
-use Rattle.dt_lines.proofs.Told.{fails_at}
+use Rattle.dt_worlds.proofs.Told.{if_fault}
 use Rattle.dt_lines.proofs.listing.put_nodes.Goals as goal
 
 pub loop-step-init : goal.loop-step-init
@@ -20,8 +20,8 @@ put_node-requires g c =
     let e = c.in-Some.ensures.steps ∙ ap (λ s. step_view s ∷ c.next.new.self) c.in-Open.is in
     next_is_node (AreOwn c.args.listing (reading_of c.args.index.now)) c.args.index.now c.validity.ensures.places c.in-Open.node c.in-Open.name.now _ _ e c.loop-step.invariant.2
 
-pub loop-step-preserved-in-Continue-1 : goal.loop-step-preserved-in-Continue-1
-loop-step-preserved-in-Continue-1 g c =
+pub loop-step-preserved-in-Open : goal.loop-step-preserved-in-Open
+loop-step-preserved-in-Open g c =
     let e = c.in-Some.ensures.steps ∙ ap (λ s. step_view s ∷ c.next.new.self) c.in-Open.is in
     (tt, tt, past_one (AreOwn c.args.listing (reading_of c.args.index.now)) c.args.index.now c.validity.ensures.places c.in-Open.node c.in-Open.name.now _ _ e c.loop-step.invariant.2 c.in_ok-put_node-in-Open.ensures.passed)
 
@@ -39,7 +39,7 @@ pub returns-in_err-put_node-in-Open-clause-refused : goal.returns-in_err-put_nod
 returns-in_err-put_node-in-Open-clause-refused g c =
     let e = c.in-Some.ensures.steps ∙ ap (λ s. step_view s ∷ c.next.new.self) c.in-Open.is in
     let t = c.args.index.now in
-    fails_at _ _ _ c.from_residual.ensures.1
+    if_fault _ _ _ c.from_residual.ensures.1
     (cut_at_one (AreOwn c.args.listing (reading_of t)) t c.validity.ensures.places c.in-Open.node c.in-Open.name.now _ _ e (AreOwnBegun c.args.listing (reading_of t)) c.loop-step.invariant.2 c.in_err-put_node-in-Open.ensures.refused)
 
 pub returns-clause-passed : goal.returns-clause-passed

@@ -4,7 +4,7 @@ use Rattle.dt_read.specs.Placed.{path_at, reading_of}
 use Rattle.dt_worlds.specs.Answers.{told, refuse}
 use Rattle.dt_lines.specs.AllLines.{regions_told}
 use Rattle.dt_lines.proofs.Going.{going_starts, going_on, going_ends, going_ends_behind, going_fails}
-use Rattle.dt_lines.proofs.Told.{fails_at}
+use Rattle.dt_worlds.proofs.Told.{if_fault}
 use Rattle.dt_lines.proofs.regions.put_entries.Goals as goal
 
 pub loop-region-init : goal.loop-region-init
@@ -32,7 +32,7 @@ returns-in_err-put_line-clause-refused g c =
     let t = g.V.TreeView.tree c.args.view.now in
     let p = path_at t c.args.node in
     let next = c.in-Some.ensures.is p c.loop-region.index c.loop-region.invariant.0 in
-    fails_at _ _ _ c.from_residual.ensures.1
+    if_fault _ _ _ c.from_residual.ensures.1
     (going_fails (regions_told (reading_of t) p) (told c.in-Some.region) next.0 c.loop-region.invariant.1 (sym c.is_silent.ensures ∙ c.if-is_silent.false) c.in_err-put_line.ensures.refused)
 
 pub returns-then-is_last-clause-passed : goal.returns-then-is_last-clause-passed
@@ -43,7 +43,7 @@ returns-then-is_last-clause-passed g c =
     going_ends_behind (regions_told (reading_of t) p) (told c.in-Some.region) next.0 c.loop-region.invariant.1 (sym c.is_silent.ensures ∙ c.if-is_silent.false) (sym c.is_last.ensures ∙ c.if-is_last.true) c.in_ok-put_line.ensures.passed
 
 pub loop-region-smaller : goal.loop-region-smaller
-loop-region-smaller g c = c.in-Some.ensures.shorter
+loop-region-smaller g c = c.in-Some.ensures.fewer
 
 pub loop-region-preserved : goal.loop-region-preserved
 loop-region-preserved g c =
@@ -51,7 +51,7 @@ loop-region-preserved g c =
     let p = path_at t c.args.node in
     let next = c.in-Some.ensures.is p c.loop-region.index c.loop-region.invariant.0 in
     let room = c.loop-region.invariant.2 in
-    let less = c.in-Some.ensures.shorter in (
+    let less = c.in-Some.ensures.fewer in (
       next.1,
       going_on (regions_told (reading_of t) p) (told c.in-Some.region) next.0 c.loop-region.invariant.1 (sym c.is_silent.ensures ∙ c.if-is_silent.false) (sym c.is_last.ensures ∙ c.if-is_last.false) c.in_ok-put_line.ensures.passed,
       omega (arith, room, less),
@@ -61,4 +61,4 @@ pub returns-clause-passed : goal.returns-clause-passed
 returns-clause-passed g c =
     let t = g.V.TreeView.tree c.args.view.now in
     let p = path_at t c.args.node in
-    going_ends (regions_told (reading_of t) p) (refuse NoReg) (c.in_default.ensures.is p c.loop-region.index c.loop-region.invariant.0) c.loop-region.invariant.1 refl
+    going_ends (regions_told (reading_of t) p) (refuse NoReg) (c.in_default.ensures.is p c.loop-region.index c.loop-region.invariant.0).0 c.loop-region.invariant.1 refl

@@ -1,8 +1,7 @@
 -- The lines of the entries before have passed.
 use Rattle.std.specs.Prelude.{◌≤◌, ◌+◌}
 use Rattle.dt_read.specs.Placed.{path_at, reading_of}
-use Rattle.dt_irq.specs.Left.{bytes_left}
-use Rattle.dt_irq.specs.RoutesLeft.{AreLeft}
+use Rattle.dt_irq.specs.RoutesLeft.{AreLeft, length_left}
 use Rattle.dt_lines.specs.AllLines.{routes_told}
 use Rattle.dt_lines.proofs.Going.{IsGoing}
 use Rattle.dt_lines.proofs.routes.put_entries.Given as goal
@@ -12,7 +11,7 @@ invariant-loop-entry g l =
     let t = g.V.TreeView.tree l.view in
     AreLeft t (path_at t l.node) l.index l.entries
     × IsGoing (routes_told (reading_of t) (path_at t l.node)) l.index (g.S.Sink.taken l.initial.out) (g.S.Sink.taken l.out) l.initial.buffer l.buffer
-    × (l.index + bytes_left l.entries.entries ≤ bytes_left l.initial.routes.entries)
+    × (l.index + length_left l.entries ≤ length_left l.initial.routes)
 
 abbrev pub decreases-loop-entry : goal.decreases-loop-entry
-decreases-loop-entry g l = bytes_left l.entries.entries
+decreases-loop-entry g l = length_left l.entries

@@ -3,13 +3,13 @@ use Rattle.dt_names.specs.declared.fault.FaultKind.TheVariants.{NoReg}
 use Rattle.dt_read.specs.Placed.{path_at, reading_of}
 use Rattle.dt_worlds.specs.World.{tree_world}
 use Rattle.dt_worlds.specs.Regions.{region}
-use Rattle.dt_worlds.proofs.Told.{refuses, told_err}
+use Rattle.dt_worlds.proofs.Told.{refuses, told_fault}
 use Rattle.dt_ranges.proofs.listing.region.Goals as goal
 
 pub returns-in_err-of : goal.returns-in_err-of
 returns-in_err-of g c =
     let e = c.in_err-of.field-0.0 in
-    told_err c.from_residual.result e c.from_residual.ensures.0 c.from_residual.ensures.1 ∙ sym (c.in_err-of.ensures.refused c.args.index)
+    told_fault c.from_residual.result e (λ a. a) c.from_residual.ensures.1 ∙ sym (c.in_err-of.ensures.refused c.args.index)
 
 pub returns-in-Some : goal.returns-in-Some
 returns-in-Some g c =

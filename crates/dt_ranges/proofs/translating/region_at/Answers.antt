@@ -4,7 +4,7 @@ use Rattle.dt_worlds.specs.declared.regions.BusAddress.{BusAddress}
 use Rattle.dt_worlds.specs.Answers.{Answer, refused, answer, ◌>>=◌}
 use Rattle.dt_worlds.specs.World.{tree_world}
 use Rattle.dt_worlds.specs.Regions.{risen, translated, finished, region_at}
-use Rattle.dt_worlds.proofs.Told.{told_err}
+use Rattle.dt_worlds.proofs.Told.{told_fault}
 use Rattle.dt_ranges.proofs.Rising.{risen_once, front_shorter}
 use Rattle.dt_ranges.proofs.translating.region_at.Goals as goal
 
@@ -18,7 +18,7 @@ returns-in_err-at g c =
     let on : risen w c.args.name.now q p size c.loop-above.at ≡ refused e = sym c.in_err-at.ensures in
     let up = risen_once w c.args.name.now p q size c.loop-above.at c.in-Some.ensures.2 c.in-Some.ensures.1 in
     let done : refused e ≡ region_at w c.args.name.now (path_at (g.V.TreeView.tree c.args.view.now) c.args.bus) c.args.address size = ap (finished w size) (sym (up ∙ ap (λ (x : Answer BusAddress). x >>= translated w c.args.name.now [] q size) on)) ∙ c.loop-above.invariant.on in
-    told_err c.from_residual.result e c.from_residual.ensures.0 c.from_residual.ensures.1 ∙ done
+    told_fault c.from_residual.result e (λ a. a) c.from_residual.ensures.1 ∙ done
 
 pub loop-above-smaller : goal.loop-above-smaller
 loop-above-smaller g c = front_shorter (path_at (g.V.TreeView.tree c.args.view.now) c.loop-above.here) (path_at (g.V.TreeView.tree c.args.view.now) c.in-Some.above) c.in-Some.ensures.2 c.in-Some.ensures.1

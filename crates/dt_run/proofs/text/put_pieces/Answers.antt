@@ -1,7 +1,7 @@
 use Rattle.std.proofs.Common.{◌++◌, ◌+◌, drop}
 use Rattle.std.proofs.lemmas.Result.{err_from_is_err_and}
 use Rattle.dt_names.proofs.Sinks.{takes_then, refused_behind}
-use Rattle.dt_run.specs.Report.{joined}
+use Rattle.dt_lines.specs.Lines.{joined}
 use Rattle.dt_run.proofs.Pieces.{grown, next}
 use Rattle.dt_run.proofs.text.put_pieces.Goals as goal
 

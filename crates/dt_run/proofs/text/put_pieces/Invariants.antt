@@ -1,7 +1,7 @@
 -- The sink took the texts before the index.
 use Rattle.std.proofs.Common.{◌≡◌, ℕ, List, ◌++◌, drop}
 use Rattle.dt_names.specs.Sink.{Takes}
-use Rattle.dt_run.specs.Report.{joined}
+use Rattle.dt_lines.specs.Lines.{joined}
 use Rattle.dt_run.proofs.text.put_pieces.Given as goal
 
 abbrev pub invariant-loop-piece : goal.invariant-loop-piece

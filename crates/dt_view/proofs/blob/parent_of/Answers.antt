@@ -1,7 +1,7 @@
 use Rattle.std.proofs.Common.{◌∙◌, ◌∷◌, refl, sym, ap, subst}
 use Rattle.dt_read.specs.StepsLeft.{step_view}
 use Rattle.dt_view.specs.Views.{IsAbove}
-use Rattle.dt_view.specs.Walks.{parent_told}
+use Rattle.dt_view.proofs.Walks.{parent_told}
 use Rattle.dt_view.proofs.Shallow.{few_open}
 use Rattle.dt_view.proofs.Parents.{parent_is_above}
 use Rattle.dt_view.proofs.ParentSteps.{is_innermost, at_its_beginning, room, past_beginning, past_property, past_end}

@@ -1,7 +1,7 @@
 use Rattle.std.proofs.Common.{◌+◌, ◌∷◌, length, cond, nat_eq, Some, sym, ap, subst, ◌∙◌, arith}
 use Rattle.dt_read.specs.StepsLeft.{step_view}
 use Rattle.dt_view.specs.Tables.{at_number}
-use Rattle.dt_view.specs.Walks.{AreFew, opened, parent_told}
+use Rattle.dt_view.proofs.Walks.{AreFew, opened, parent_told}
 use Rattle.dt_view.proofs.ParentSteps.{is_innermost, shorter}
 use Rattle.dt_view.proofs.Tabled.{IsFilled, unfilled, opens_one, room_for_one, past_one, past_another, all_filled}
 use Rattle.dt_view.proofs.tables.fill.Goals as goal

@@ -8,11 +8,11 @@ use Rattle.dt_irq.proofs.lists.Entries.next.Goals as goal
 pub returns-then-is_empty-clause-is : goal.returns-then-is_empty-clause-is
 returns-then-is_empty-clause-is g c = λ p i left.
     let t = g.V.TreeView.tree c.args.view.now in
-    extended_none t p i c.in-Extended.rest.now (eqb-true (length c.in-Extended.rest.now) 0 (sym c.is_empty.ensures ∙ c.if-is_empty.true)) (subst (AreSentFrom t p i) c.in-Extended.is left)
+    (extended_none t p i c.in-Extended.rest.now (eqb-true (length c.in-Extended.rest.now) 0 (sym c.is_empty.ensures ∙ c.if-is_empty.true)) (subst (AreSentFrom t p i) c.in-Extended.is left), left)
 
 pub returns-in_default-clause-is : goal.returns-in_default-clause-is
 returns-in_default-clause-is g c = λ p i left.
-    c.in_default.ensures.is p i (subst (AreSentFrom (g.V.TreeView.tree c.args.view.now) p i) c.in-Plain.is left)
+    ((c.in_default.ensures.is p i (subst (AreSentFrom (g.V.TreeView.tree c.args.view.now) p i) c.in-Plain.is left)).0, left)
 
 pub returns-in-Ok-clause-is : goal.returns-in-Ok-clause-is
 returns-in-Ok-clause-is g c = λ p i left.

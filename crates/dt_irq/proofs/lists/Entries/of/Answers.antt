@@ -4,21 +4,21 @@ use Rattle.dt_worlds.specs.Answers.{answer, refused}
 use Rattle.dt_worlds.specs.World.{tree_world}
 use Rattle.dt_worlds.specs.Interrupts.{IsInterruptParent}
 use Rattle.dt_irq.proofs.Senders.{sent_to_parent, sent_from}
-use Rattle.dt_irq.proofs.Telling.{if_fault}
+use Rattle.dt_worlds.proofs.Told.{if_fault}
 use Rattle.dt_irq.proofs.lists.Entries.of.Goals as goal
 
 pub returns-in_err-parent-clause-refused : goal.returns-in_err-parent-clause-refused
 returns-in_err-parent-clause-refused g c =
     let t = g.V.TreeView.tree c.args.view.now in
     let e = c.in_err-parent.field-0.0 in
-    if_fault _ c.from_residual.result e c.from_residual.ensures.0 c.from_residual.ensures.1
+    if_fault c.from_residual.result e _ c.from_residual.ensures.1
     (λ i. sent_to_parent (reading_of t) (path_at t c.args.node) i c.in-Some-value.list.now (refused e) (refused e) c.in_default.ensures c.in-Some-value.ensures c.in_err-parent.ensures.is refl)
 
 pub returns-in_err-listed-clause-refused : goal.returns-in_err-listed-clause-refused
 returns-in_err-listed-clause-refused g c =
     let t = g.V.TreeView.tree c.args.view.now in
     let e = c.in_err-listed.field-0.0 in
-    if_fault _ c.from_residual-in_err-listed.result e c.from_residual-in_err-listed.ensures.0 c.from_residual-in_err-listed.ensures.1
+    if_fault c.from_residual-in_err-listed.result e _ c.from_residual-in_err-listed.ensures.1
     (λ i. sent_to_parent (reading_of t) (path_at t c.args.node) i c.in-Some-value.list.now (answer (path_at t c.in_ok-parent.parent)) (refused e) c.in_default.ensures c.in-Some-value.ensures c.in_ok-parent.ensures.is (sym (c.in_err-listed.ensures.refused i)))
 
 pub returns-clause-left : goal.returns-clause-left

@@ -5,12 +5,13 @@ use Rattle.dt_worlds.specs.World.{tree_world}
 use Rattle.dt_names.specs.declared.fault.FaultKind.TheVariants.{NoInterrupts}
 use Rattle.dt_worlds.specs.Answers.{answer, refuse}
 use Rattle.dt_irq.specs.Seen.{sent_in}
-use Rattle.dt_irq.proofs.Lefts.{at_once, listed_later, one_entry}
+use Rattle.dt_worlds.proofs.Entries.{one_entry}
+use Rattle.dt_irq.proofs.Lefts.{at_once, listed_later}
 use Rattle.dt_irq.proofs.lists.Listed.next.Goals as goal
 
 pub returns-in_default-clause-is : goal.returns-in_default-clause-is
 returns-in_default-clause-is g c = λ p i left.
-    at_once (tree_world (reading_of (g.V.TreeView.tree c.args.view.now))) p i (refuse NoInterrupts) (refuse NoInterrupts) refl (c.in_default.ensures.is p i left)
+    (at_once (tree_world (reading_of (g.V.TreeView.tree c.args.view.now))) p i (refuse NoInterrupts) (refuse NoInterrupts) refl (c.in_default.ensures.is p i left), left)
 
 pub cells_after-self-requires : goal.cells_after-self-requires
 cells_after-self-requires g c =

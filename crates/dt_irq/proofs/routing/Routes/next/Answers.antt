@@ -1,15 +1,17 @@
 use Rattle.std.proofs.Common.{refl, subst}
 use Rattle.dt_names.specs.declared.fault.FaultKind.TheVariants.{NoInterrupts}
 use Rattle.dt_read.specs.Placed.{reading_of}
-use Rattle.dt_worlds.specs.Answers.{refuse, refused}
+use Rattle.dt_worlds.specs.Answers.{refuse, refused, told_as}
 use Rattle.dt_worlds.specs.World.{quads_of, tree_world}
 use Rattle.dt_worlds.specs.Interrupts.{IsSent}
-use Rattle.dt_irq.specs.Seen.{told_as, sent_in}
+use Rattle.dt_irq.specs.Seen.{sent_in}
 use Rattle.dt_irq.proofs.Senders.{route_by}
 use Rattle.dt_irq.proofs.routing.Routes.next.Goals as goal
 
 pub returns-in_default-clause-is : goal.returns-in_default-clause-is
-returns-in_default-clause-is g c = λ p i left. (refuse NoInterrupts, c.in_default.ensures.is p i left.entries, refl)
+returns-in_default-clause-is g c = λ p i left.
+    let h = c.in_default.ensures.is p i left.entries in
+    ((refuse NoInterrupts, h.0, refl), record { entries = h.1; unit = left.unit })
 
 pub returns-in-Ok-clause-is : goal.returns-in-Ok-clause-is
 returns-in-Ok-clause-is g c = λ p i left.

@@ -1,9 +1,9 @@
 use Rattle.std.proofs.Common.{refl}
 use Rattle.dt_worlds.specs.Answers.{refused}
-use Rattle.dt_irq.proofs.Telling.{if_fault}
+use Rattle.dt_worlds.proofs.Told.{if_fault}
 use Rattle.dt_irq.proofs.routing.Routes.of.Goals as goal
 
 pub returns-in_err-entries-clause-refused : goal.returns-in_err-entries-clause-refused
 returns-in_err-entries-clause-refused g c =
     let e = c.in_err-entries.field-0.0 in
-    if_fault _ c.from_residual.result e c.from_residual.ensures.0 c.from_residual.ensures.1 (λ i. (refused e, c.in_err-entries.ensures.refused i, refl))
+    if_fault c.from_residual.result e _ c.from_residual.ensures.1 (λ i. (refused e, c.in_err-entries.ensures.refused i, refl))

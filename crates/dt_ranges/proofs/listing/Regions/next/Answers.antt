@@ -3,12 +3,13 @@ use Rattle.std.proofs.lemmas.List.{length-drop}
 use Rattle.dt_read.specs.Placed.{reading_of}
 use Rattle.dt_worlds.specs.World.{tree_world}
 use Rattle.dt_worlds.specs.Regions.{region}
-use Rattle.dt_ranges.proofs.Listed.{left_behind, one_entry}
+use Rattle.dt_worlds.proofs.Entries.{one_entry}
+use Rattle.dt_ranges.proofs.Listed.{left_behind}
 use Rattle.dt_ranges.proofs.listing.Regions.next.Goals as goal
 
 pub returns-in_default-clause-is : goal.returns-in_default-clause-is
 returns-in_default-clause-is g c = λ p i left.
-    ap (region (tree_world (reading_of (g.V.TreeView.tree c.args.view.now))) p) (let e : i ≡ i + 0 = omega arith in e) ∙ c.in_default.ensures.is p i left
+    (ap (region (tree_world (reading_of (g.V.TreeView.tree c.args.view.now))) p) (let e : i ≡ i + 0 = omega arith in e) ∙ c.in_default.ensures.is p i left, left)
 
 pub cells_after-self-requires : goal.cells_after-self-requires
 cells_after-self-requires g c =
@@ -26,5 +27,5 @@ returns-clause-is g c = λ p i left.
       left_behind (g.V.TreeView.tree c.args.view.now) p i (c.args.self.now.count - 1) c.args.self.now _ left (omega arith) refl refl refl (ap length c.cells_after-self.ensures.bytes ∙ length-drop (4 * (c.args.self.now.own.address + c.args.self.now.own.size)) c.args.self.now.rest.now) c.cells_after-self.ensures.cells,
     )
 
-pub returns-clause-shorter : goal.returns-clause-shorter
-returns-clause-shorter g c = let some = c.in-Some.ensures.there in omega arith
+pub returns-clause-fewer : goal.returns-clause-fewer
+returns-clause-fewer g c = let some = c.in-Some.ensures.there in omega arith

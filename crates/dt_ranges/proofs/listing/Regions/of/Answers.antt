@@ -1,13 +1,14 @@
 use Rattle.std.proofs.Common.{arith}
 use Rattle.dt_read.specs.Placed.{path_at, reading_of}
-use Rattle.dt_ranges.proofs.Listed.{region_refused, listed_left, if_this}
+use Rattle.dt_worlds.proofs.Told.{if_fault}
+use Rattle.dt_ranges.proofs.Listed.{region_refused, listed_left}
 use Rattle.dt_ranges.proofs.listing.Regions.of.Goals as goal
 
 pub returns-in_err-own-clause-refused : goal.returns-in_err-own-clause-refused
 returns-in_err-own-clause-refused g c =
     let t = g.V.TreeView.tree c.args.view.now in
     let e = c.in_err-own.field-0.0 in
-    if_this _ c.from_residual.result e c.from_residual.ensures.0 c.from_residual.ensures.1
+    if_fault c.from_residual.result e _ c.from_residual.ensures.1
     (λ i. region_refused (reading_of t) (path_at t c.args.node) (path_at t c.in-Some.bus) i c.in-Some-value.reg.now e c.in-Some.ensures.2 c.in-Some.ensures.1 c.in-Some-value.ensures c.in_err-own.ensures.is)
 
 pub returns-clause-left : goal.returns-clause-left
