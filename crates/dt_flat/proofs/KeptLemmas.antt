@@ -1,5 +1,5 @@
 -- What the maps of a node stand for, after a look or an insertion.
-use Rattle.std.proofs.Common.{◌≡◌, ℕ, zero, suc, ◌+◌, ◌<◌, Bool, true, false, not, cond, List, [], ◌∷◌, ◌++◌, length, slice_get, Option, Some, None, is_some, option_map, refl, sym, ap, ◌∙◌, arith}
+use Rattle.std.proofs.Common.{◌≡◌, ℕ, zero, suc, ◌+◌, ◌<◌, ◌≤◌, Bool, true, false, not, cond, List, [], ◌∷◌, ◌++◌, length, slice_get, Option, Some, None, is_some, option_map, refl, sym, ap, ◌∙◌, arith}
 use Rattle.std.specs.Global.{Vec}
 use Rattle.std.specs.Map.{lookup}
 use Rattle.std.specs.Str.{bytes_eq}
@@ -8,7 +8,7 @@ use Rattle.std.specs.List.{position, position_or_len}
 use Rattle.indexmap.specs.IndexMap.{insert_entry, set_value_at}
 use Rattle.indexmap.proofs.MapLemmas.{Found-position}
 use Rattle.dt_model.specs.Tree.{Property, value_of}
-use Rattle.dt_flat.specs.Arena.{Child, child_of}
+use Rattle.dt_flat.specs.Arena.{Child, child_of, children_behind, first_node}
 use Rattle.dt_model.specs.Changes.{set_property}
 use Rattle.dt_flat.specs.Kept.{properties_kept, children_kept}
 
@@ -95,3 +95,40 @@ add-children (e ∷ es) k node none = by (bytes_eq k.items e.0.items) (add-child
         → children_kept (cond b ((e.0, node) ∷ es) (e ∷ insert_entry (λ x y. bytes_eq x.items y.items) es k node)) ≡ record { name = e.0.items; node = e.1 } ∷ (children_kept es ++ record { name = k.items; node = node } ∷ [])
     by true h none = absurd cc
     by false h none = ap (λ (cs : List Child). record { name = e.0.items; node = e.1 } ∷ cs) (h none)
+
+first-node : (cs : List Child) → option_map (λ c. c.node) (slice_get cs 0) ≡ first_node cs
+first-node [] = refl
+first-node (c ∷ cs) = refl
+
+behind-first : (es : List (Vec ℕ × ℕ)) (name : List ℕ)
+    → option_map (λ c. c.node) (slice_get (children_kept es) (position_or_len (λ (k : Vec ℕ). bytes_eq name k.items) (keys_of es) + 1)) ≡ first_node (children_behind name (children_kept es))
+behind-first [] name = refl
+behind-first (e ∷ es) name = by (bytes_eq name e.0.items) (position_or_len (λ (k : Vec ℕ). bytes_eq name k.items) (keys_of es)) (behind-first es name)
+  where
+    by : (b : Bool) (index : ℕ) → option_map (λ c. c.node) (slice_get (children_kept es) (index + 1)) ≡ first_node (children_behind name (children_kept es))
+        → option_map (λ c. c.node) (slice_get (children_kept (e ∷ es)) (cond (not b) (1 + index) 0 + 1)) ≡ first_node (cond b (children_kept es) (children_behind name (children_kept es)))
+    by true index h = first-node (children_kept es)
+    by false index h =
+        let next : 1 + index + 1 ≡ suc (index + 1) = omega arith in
+        ap (λ (k : ℕ). option_map (λ (c : Child). c.node) (slice_get (children_kept (e ∷ es)) k)) next ∙ h
+
+-- what stands behind the index of a name
+pub behind-children : (es : List (Vec ℕ × ℕ)) (name : List ℕ) (i : ℕ) → position (λ (k : Vec ℕ). bytes_eq name k.items) (keys_of es) ≡ Some i → option_map (λ c. c.node) (slice_get (children_kept es) (i + 1)) ≡ first_node (children_behind name (children_kept es))
+behind-children es name i at =
+    let index : position_or_len (λ (k : Vec ℕ). bytes_eq name k.items) (keys_of es) ≡ i = (Found-position (λ (k : Vec ℕ). bytes_eq name k.items) es i at).or_len in
+    ap (λ (k : ℕ). option_map (λ (c : Child). c.node) (slice_get (children_kept es) (k + 1))) (sym index) ∙ behind-first es name
+
+pub none-past : (cs : List Child) (i : ℕ) → length cs ≤ i → slice_get cs i ≡ None
+none-past [] i le = refl
+none-past (c ∷ cs) zero le = absurd (omega arith)
+none-past (c ∷ cs) (suc i) le = none-past cs i (omega arith)
+
+-- nothing stands behind a name without an index
+pub none-behind : (es : List (Vec ℕ × ℕ)) (name : List ℕ) → false ≡ is_some (lookup (λ (k : Vec ℕ). bytes_eq name k.items) es) → None ≡ first_node (children_behind name (children_kept es))
+none-behind [] name e = refl
+none-behind (x ∷ es) name e = by (bytes_eq name x.0.items) e (none-behind es name)
+  where
+    by : (b : Bool) → false ≡ is_some (cond b (Some x.1) (lookup (λ (k : Vec ℕ). bytes_eq name k.items) es)) → (false ≡ is_some (lookup (λ (k : Vec ℕ). bytes_eq name k.items) es) → None ≡ first_node (children_behind name (children_kept es)))
+        → None ≡ first_node (cond b (children_kept es) (children_behind name (children_kept es)))
+    by true e h = absurd cc
+    by false e h = h e

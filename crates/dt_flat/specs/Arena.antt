@@ -54,6 +54,16 @@ abbrev pub child_of : List Child → Name → Option ℕ
 child_of [] name = None
 child_of (c ∷ cs) name = if bytes_eq name c.name then Some c.node else child_of cs name
 
+-- the children behind that of a name
+abbrev pub children_behind : Name → List Child → List Child
+children_behind name [] = []
+children_behind name (c ∷ cs) = if bytes_eq name c.name then cs else children_behind name cs
+
+-- the first of some children
+abbrev pub first_node : List Child → Option ℕ
+first_node [] = None
+first_node (c ∷ cs) = Some c.node
+
 -- the properties of node p, none where there is no such node
 abbrev pub properties : List Slot → ℕ → List Property
 properties [] p = []

@@ -2,7 +2,7 @@
 
 ghost use Rattle.std.specs.Prelude.{◌≡◌, ◌++◌, ◌∷◌, ◌<◌, [], length, map, OnOk, OnErr, option_map, slice_get, Some, None};
 ghost use Rattle.std.specs.Iterator.{YieldsFirst, item_count};
-ghost use Rattle.dt_flat.specs.Arena.{Child, child_of};
+ghost use Rattle.dt_flat.specs.Arena.{Child, child_of, children_behind, first_node};
 
 use crate::NodeId;
 use indexmap::IndexMap;
@@ -58,6 +58,18 @@ impl ChildTable {
         ensures { result ≡ child_of self.now name.now }
     {
         self.nodes.get(name).copied()
+    }
+
+    /// The child behind that of a name.
+    pub fn behind(&self, name: &[u8]) -> Option<NodeId>
+        ensures { result ≡ first_node (children_behind name.now self.now) }
+    {
+        let count = self.len();
+        let behind = self.nodes.get_index_of(name)? + 1;
+        if behind >= count {
+            return None;
+        }
+        Some(self.at(behind))
     }
 
     /// Adds a child at the end.

@@ -1,13 +1,13 @@
 //! Ordered trees with byte values.
 
-ghost use Rattle.std.specs.Prelude.{◌≡◌, ◌↔◌, ◌<◌, ◌≤◌, ◌+◌, ◌++◌, ◌∷◌, [], ℕ, List, None, Some, length, All, IsOk, OnOk, OnErr, IfOk, IfErr, IfSome, option_map, codes};
+ghost use Rattle.std.specs.Prelude.{◌≡◌, ◌↔◌, ◌<◌, ◌≤◌, ◌+◌, ◌++◌, ◌∷◌, [], ℕ, List, None, Some, length, map, All, IsOk, OnOk, OnErr, IfOk, IfErr, IfSome, option_map, codes};
 ghost use Rattle.dt_model.specs.Applied.{with_cell};
 ghost use Rattle.dt_model.specs.Path.{Path as Names};
 ghost use Rattle.dt_model.specs.Tree.{value_of};
-ghost use Rattle.dt_model.specs.Valid.{IsValid, IsWithinLimits};
+ghost use Rattle.dt_model.specs.Valid.{AreDistinct, IsValid, IsWithinLimits};
 ghost use Rattle.dt_flat.specs.Numbers.{holder, given};
 ghost use Rattle.dt_flat.specs.Refusals.{WhyNoNode, WhyNotReserved, WhyNotSet, MayAdd, MaySet};
-ghost use Rattle.dt_flat.specs.Arena.{Arena, IsRooted, root_alone, children, named_children, child_of, with_child, with_property, properties, name_of, node_from, phandle_at, reading};
+ghost use Rattle.dt_flat.specs.Arena.{Arena, IsRooted, root_alone, children, named_children, child_of, children_behind, first_node, with_child, with_property, properties, name_of, parent_of, node_from, phandle_at, reading};
 ghost use Rattle.dt_flat.specs.Sound.{AreCells};
 ghost use Rattle.dt_names.specs.declared.fault.FaultKind.TheVariants.{NoMemory};
 
@@ -209,14 +209,15 @@ impl FlatTree {
     }
 
     /// What is true of each tree: a blob may hold it (Devicetree Specification v0.4, chapters 2 and 5), it is within the
-    /// limits, its nodes stand behind their parents, the root first, a path leads to each of them, and each `phandle` is the
-    /// cell of a number. Does nothing.
+    /// limits, its nodes stand behind their parents, the root first, a path leads to each of them, siblings differ in their
+    /// names, and each `phandle` is the cell of a number. Does nothing.
     pub fn validity(&self)
         ensures valid { IsValid (reading self.now) }
         ensures within { IsWithinLimits (reading self.now) }
         ensures rooted { IsRooted self.now.slots }
         ensures paths { (node : ℕ) → node < length self.now.slots →
             (path : Names) × (node_from self.now.slots 0 path ≡ Some node) }
+        ensures siblings { (node : ℕ) → AreDistinct (map (λ child. child.name) (named_children self.now.slots node)) }
         ensures cells { AreCells self.now.slots }
     {
         // The invariant says it, and it is known where a field is named.
@@ -259,6 +260,29 @@ impl FlatTree {
         ensures { result.now ≡ name_of self.now.slots node }
     {
         self.places.get(node).name.as_slice()
+    }
+
+    /// The node above a node, None above the root.
+    pub fn parent(&self, node: NodeId) -> Option<NodeId>
+        requires { node < length self.now.slots }
+        ensures root { node ≡ 0 → result ≡ None }
+        ensures below { 0 < node → result ≡ Some (parent_of self.now.slots node) }
+    {
+        if node == self.root() {
+            return None;
+        }
+        Some(self.places.get(node).parent)
+    }
+
+    /// The sibling behind a node, None behind the last one and behind the root.
+    pub fn next_sibling(&self, node: NodeId) -> Option<NodeId>
+        requires { node < length self.now.slots }
+        ensures root { node ≡ 0 → result ≡ None }
+        ensures below { 0 < node → result ≡
+            first_node (children_behind (name_of self.now.slots node) (named_children self.now.slots (parent_of self.now.slots node))) }
+    {
+        let parent = self.parent(node)?;
+        self.places.get(parent).children.behind(self.name(node))
     }
 
     /// The node of a path, None where there is none. Takes no memory.

@@ -33,18 +33,18 @@ below_is_node tree place parts rising below =
     let lt : tree.place < place = omega arith in
     find_further tree.place place _ _ lt ∙ below_found tree.children (tree.place + 1) rising.high place parts rising.rise below
 
-pub root_is_node : (tree : Root) → node_of tree tree.place ≡ Some (record { name = []; properties = tree.properties; children = tree.children })
+pub root_is_node : (tree : Root) → node_of tree tree.place ≡ Some (record { name = []; properties = tree.properties; children = tree.children; siblings = no_nodes })
 root_is_node tree = find_here tree.place tree.place _ _ refl
 
 nodes_apart : (nodes : Nodes) → AreNamed nodes → ((place : ℕ) (parts : Parts) → HasBelow nodes place parts → AreDistinctParts parts) → AreNodes (forest_of nodes)
 nodes_apart no_nodes n h = tt
 nodes_apart (node place name properties children siblings) n h =
-    let own = h place (record { name = name; properties = properties; children = children }) (inl (refl, refl)) in
+    let own = h place (record { name = name; properties = properties; children = children; siblings = siblings }) (inl (refl, refl)) in
     (n.0, record { named = n.1; distinct = own.properties }, nodes_apart children n.2 (λ k p b. h k p (inr (inl b))), subst AreDistinct (head_names_are children) own.children, nodes_apart siblings n.3 (λ k p b. h k p (inr (inr b))))
 
 pub apart : (tree : Root) → HasRisingPlaces tree → AllByRecursion (λ p. IsPropertyName p.name) tree.properties → AreNamed tree.children → HasDistinctNames tree → AreApart tree.properties (forest_of tree.children)
 apart tree rising named nodes h =
-    let own = h tree.place (record { name = []; properties = tree.properties; children = tree.children }) (root_is_node tree) in
+    let own = h tree.place (record { name = []; properties = tree.properties; children = tree.children; siblings = no_nodes }) (root_is_node tree) in
     record {
       properties_apart = record { named = named; distinct = own.properties };
       nodes_apart = nodes_apart tree.children nodes (λ k p b. h k p (below_is_node tree k p rising b));

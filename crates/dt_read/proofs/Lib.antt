@@ -24,3 +24,4 @@ pub mod Novelty
 pub mod PhandleKeys
 pub mod NameKeys
 pub mod NodePlaces
+pub mod Behind

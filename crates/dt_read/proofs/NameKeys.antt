@@ -209,7 +209,7 @@ keys_apart owner no_nodes low high r lt d h = tt
 keys_apart owner (node place name properties children siblings) low high r lt d h =
     let first = r.0 in
     let c = rise_bounds children (place + 1) r.1 r.2 in
-    let parts = h place (record { name = name; properties = properties; children = children }) (inl (refl, refl)) in
+    let parts = h place (record { name = name; properties = properties; children = children; siblings = siblings }) (inl (refl, refl)) in
     let own = own_are place properties in
     let below = below_are place children (place + 1) r.1 r.2 in
     let later = below_are owner siblings r.1 high r.3 in
@@ -230,7 +230,7 @@ keys_apart owner (node place name properties children siblings) low high r lt d 
 keys_from_names : (tree : Root) → HasRisingPlaces tree → HasDistinctNames tree
     → AreDistinct (own_keys tree.place tree.properties ++ node_keys tree.place tree.children)
 keys_from_names tree rising h =
-    let parts = h tree.place (record { name = []; properties = tree.properties; children = tree.children }) (root_is_node tree) in
+    let parts = h tree.place (record { name = []; properties = tree.properties; children = tree.children; siblings = no_nodes }) (root_is_node tree) in
     let below = keys_apart tree.place tree.children (tree.place + 1) rising.high rising.rise (omega arith) parts.children
     (λ k p b. h k p (below_is_node tree k p rising b)) in
     let own = own_are tree.place tree.properties in

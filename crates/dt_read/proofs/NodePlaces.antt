@@ -3,7 +3,6 @@ use Rattle.std.proofs.Common.{◌≡◌, ℕ, Bool, true, false, cond, List, [],
 use Rattle.std.proofs.lemmas.Bool.{eqb-true, eq-eqb}
 use Rattle.dt_model.specs.Lists.{IsIn}
 use Rattle.dt_model.specs.Path.{Path}
-use Rattle.dt_model.specs.Names.{Name}
 use Rattle.dt_model.specs.Tree.{Property, Placed, node_below, nodes_of, stands_in}
 use Rattle.dt_model.proofs.Listed.{stands_listed}
 use Rattle.dt_read.specs.Placed.{Nodes, no_nodes, node, forest_of, PlacedTree, reading_of, place_below, place_of, is_place, path_among, path_at, IsAt, IsNode}

@@ -8,7 +8,7 @@ use Rattle.dt_read.specs.Placed.{Nodes, no_nodes, node}
 use Rattle.dt_read.specs.Marks.{Mark, begin_mark, end_mark, prop_mark, nop_mark, last_mark, SpellsMarks, Root, marks_of_nodes, marks_of, without_nop_marks}
 use Rattle.dt_read.specs.Parsing.{root_of, tree_in, tree_of_marks}
 use Rattle.dt_read.specs.TreeCode.{tree_again}
-use Rattle.dt_read.specs.TreeTokens.{AreTokens, marks_in, Parts, or_else, find_in, node_of, marks_of_parts, BeginsNode, HasTree, IsStructure}
+use Rattle.dt_read.specs.TreeTokens.{AreTokens, marks_in, Parts, or_else, find_in, node_of, marks_of_parts, IsEnd, FollowsNode, BeginsNode, HasTree, IsStructure}
 use Rattle.dt_read.proofs.Tokens.{chosen}
 use Rattle.dt_read.proofs.Trees.{lexed_is, left_by-without_nop_marks, place_is}
 
@@ -39,6 +39,7 @@ pub record Among (marks : List Mark) (place : ℕ) (parts : Parts) : Type 0 wher
   pub before : List Mark
   pub more : List Mark
   pub whole : marks ≡ before ++ begin_mark place parts.name ∷ marks_of_parts parts more
+  pub follows : FollowsNode more parts.siblings
 
 pub or_else_some : (a b : Option Parts) (p : Parts) → or_else a b ≡ Some p → (a ≡ Some p) ⊎ (b ≡ Some p)
 or_else_some None b p e = inr e
@@ -47,14 +48,27 @@ or_else_some (Some q) b p e = inl e
 marks_of_parts-append : (parts : Parts) (more rest : List Mark) → marks_of_parts parts more ++ rest ≡ marks_of_parts parts (more ++ rest)
 marks_of_parts-append parts more rest = simp append_assoc
 
-widen : (left marks right whole : List Mark) (place : ℕ) (parts : Parts) → whole ≡ left ++ (marks ++ right) → Among marks place parts → Among whole place parts
-widen left marks right whole place parts e a = record {
+ends_on : (marks more : List Mark) → IsEnd marks → IsEnd more → IsEnd (marks ++ more)
+ends_on [] more e f = f
+ends_on (begin_mark place name ∷ marks) more e f = e
+ends_on (end_mark ∷ marks) more e f = tt
+ends_on (prop_mark p ∷ marks) more e f = tt
+ends_on (nop_mark ∷ marks) more e f = tt
+ends_on (last_mark ∷ marks) more e f = tt
+
+widen : (left marks right whole : List Mark) (place : ℕ) (parts : Parts) → whole ≡ left ++ (marks ++ right) → IsEnd right → Among marks place parts → Among whole place parts
+widen left marks right whole place parts e ends a = record {
   before = left ++ a.before;
   more = a.more ++ right;
   whole = e ∙ ap (λ (x : List Mark). left ++ (x ++ right)) a.whole
       ∙ ap (λ (x : List Mark). left ++ x) (append_assoc a.before (begin_mark place parts.name ∷ marks_of_parts parts a.more) right)
       ∙ sym (append_assoc left a.before ((begin_mark place parts.name ∷ marks_of_parts parts a.more) ++ right))
       ∙ ap (λ (x : List Mark). (left ++ a.before) ++ begin_mark place parts.name ∷ x) (marks_of_parts-append parts a.more right);
+  follows = record {
+    rest = a.follows.rest ++ right;
+    whole = ap (λ (x : List Mark). x ++ right) a.follows.whole ∙ append_assoc (marks_of_nodes parts.siblings) a.follows.rest right;
+    ends = ends_on a.follows.rest right a.follows.ends ends;
+  };
 }
 
 among_nodes : (place : ℕ) (nodes : Nodes) (parts : Parts) → find_in place nodes ≡ Some parts → Among (marks_of_nodes nodes) place parts
@@ -63,15 +77,16 @@ among_nodes place (node other name properties children siblings) parts e =
     elim (chosen (eqb other place) _ _ _ e) [
       | inl here ↦
           let same : other ≡ place = eqb-true other place here.0 in
-          let is : ◌≡◌ {A = Parts} (record { name = name; properties = properties; children = children }) parts = cc in
+          let is : ◌≡◌ {A = Parts} (record { name = name; properties = properties; children = children; siblings = siblings }) parts = cc in
           subst (λ (p : Parts). Among (marks_of_nodes (node other name properties children siblings)) place p) is (record {
             before = [];
             more = marks_of_nodes siblings;
             whole = ap (λ (i : ℕ). begin_mark i name ∷ (map prop_mark properties ++ (marks_of_nodes children ++ end_mark ∷ marks_of_nodes siblings))) same;
+            follows = record { rest = []; whole = sym (append-nil (marks_of_nodes siblings)); ends = tt };
           })
       | inr further ↦ elim (or_else_some (find_in place children) (find_in place siblings) parts further.1) [
-        | inl inside ↦ widen (begin_mark other name ∷ map prop_mark properties) (marks_of_nodes children) (end_mark ∷ marks_of_nodes siblings) (marks_of_nodes (node other name properties children siblings)) place parts refl (among_nodes place children parts inside)
-        | inr after ↦ widen (begin_mark other name ∷ (map prop_mark properties ++ (marks_of_nodes children ++ end_mark ∷ []))) (marks_of_nodes siblings) [] (marks_of_nodes (node other name properties children siblings)) place parts (simp (append_assoc, append-nil)) (among_nodes place siblings parts after)
+        | inl inside ↦ widen (begin_mark other name ∷ map prop_mark properties) (marks_of_nodes children) (end_mark ∷ marks_of_nodes siblings) (marks_of_nodes (node other name properties children siblings)) place parts refl tt (among_nodes place children parts inside)
+        | inr after ↦ widen (begin_mark other name ∷ (map prop_mark properties ++ (marks_of_nodes children ++ end_mark ∷ []))) (marks_of_nodes siblings) [] (marks_of_nodes (node other name properties children siblings)) place parts (simp (append_assoc, append-nil)) tt (among_nodes place siblings parts after)
       ]
     ]
 
@@ -80,14 +95,15 @@ among_tree place tree parts e =
     elim (chosen (eqb tree.place place) _ _ _ e) [
       | inl here ↦
           let same : tree.place ≡ place = eqb-true tree.place place here.0 in
-          let is : ◌≡◌ {A = Parts} (record { name = []; properties = tree.properties; children = tree.children }) parts = cc in
+          let is : ◌≡◌ {A = Parts} (record { name = []; properties = tree.properties; children = tree.children; siblings = no_nodes }) parts = cc in
           subst (λ (p : Parts). Among (marks_of tree ++ last_mark ∷ []) place p) is (record {
             before = [];
             more = last_mark ∷ [];
             whole = ap (λ (i : ℕ). begin_mark i [] ∷ ((map prop_mark tree.properties ++ (marks_of_nodes tree.children ++ end_mark ∷ [])) ++ last_mark ∷ [])) same
                 ∙ ap (λ (x : List Mark). begin_mark place [] ∷ x) (simp append_assoc);
+            follows = record { rest = last_mark ∷ []; whole = refl; ends = tt };
           })
-      | inr further ↦ widen (begin_mark tree.place [] ∷ map prop_mark tree.properties) (marks_of_nodes tree.children) (end_mark ∷ (last_mark ∷ [])) (marks_of tree ++ last_mark ∷ []) place parts (simp append_assoc) (among_nodes place tree.children parts further.1)
+      | inr further ↦ widen (begin_mark tree.place [] ∷ map prop_mark tree.properties) (marks_of_nodes tree.children) (end_mark ∷ (last_mark ∷ [])) (marks_of tree ++ last_mark ∷ []) place parts (simp append_assoc) tt (among_nodes place tree.children parts further.1)
     ]
 
 -- ---- NOPs between
@@ -168,7 +184,7 @@ place_of strings at block place parts i e =
       behind = omega arith;
       within = omega arith;
       tokens = record { marks = begin_mark place parts.name ∷ p.later; spelled = spelled; small = omega (arith, length-drop (place - at) block) };
-      begins = record { more = a.more; whole = ap without_nop_marks (lexed_is strings place (begin_mark place parts.name ∷ p.later) (drop (place - at) block) spelled) ∙ ap (λ (x : List Mark). begin_mark place parts.name ∷ x) p.same };
+      begins = record { more = a.more; whole = ap without_nop_marks (lexed_is strings place (begin_mark place parts.name ∷ p.later) (drop (place - at) block) spelled) ∙ ap (λ (x : List Mark). begin_mark place parts.name ∷ x) p.same; follows = a.follows };
     }
 
 pub is_some_node : (o : Option Parts) → IsSome o → (parts : Parts) × (o ≡ Some parts)

@@ -83,7 +83,7 @@ rising_places strings at block tree s =
 abbrev pub HasBelow : Nodes → ℕ → Parts → Type 0
 HasBelow no_nodes place parts = ⊥
 HasBelow (node other name properties children siblings) place parts =
-    ((other ≡ place) × (record { name = name; properties = properties; children = children } ≡ parts)) ⊎ (HasBelow children place parts ⊎ HasBelow siblings place parts)
+    ((other ≡ place) × (record { name = name; properties = properties; children = children; siblings = siblings } ≡ parts)) ⊎ (HasBelow children place parts ⊎ HasBelow siblings place parts)
 
 pub found_below : (place : ℕ) (nodes : Nodes) (parts : Parts) → find_in place nodes ≡ Some parts → HasBelow nodes place parts
 found_below place no_nodes parts e = absurd cc

@@ -79,7 +79,7 @@ found_below_path (node place name properties children siblings) at ps x p k e =
     here : (q : Path) → p ≡ q → bytes_eq x name ≡ true → place_below place children q ≡ Some k → ((y : Name) (q : Path) → place_below place children (y ∷ q) ≡ Some k → FoundBelow place children properties y q k)
         → FoundBelow at (node place name properties children siblings) ps x q k
     here [] s u f inside = record {
-      parts = record { name = name; properties = properties; children = children };
+      parts = record { name = name; properties = properties; children = children; siblings = siblings };
       below = inl (same_Some place k f, refl);
       there = rw u refl;
       name = (bytes_eq-Decides x name).0 u;

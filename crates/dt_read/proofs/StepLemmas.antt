@@ -2,7 +2,7 @@
 use Rattle.std.proofs.Common.{◌≡◌, ℕ, List, [], ◌∷◌, ◌++◌, map, refl, ap, ◌∙◌, append_assoc}
 use Rattle.dt_model.specs.Tree.{Property}
 use Rattle.dt_read.specs.Placed.{Nodes, no_nodes, node}
-use Rattle.dt_read.specs.Marks.{Mark, begin_mark, end_mark, prop_mark, last_mark, Root, marks_of_nodes, marks_of}
+use Rattle.dt_read.specs.Marks.{Mark, end_mark, prop_mark, last_mark, Root, marks_of_nodes, marks_of}
 use Rattle.dt_read.specs.TreeTokens.{Parts, marks_of_parts}
 use Rattle.dt_read.specs.StepsLeft.{steps_left}
 use Rattle.dt_read.specs.Walked.{Step, opens, holds, closes, steps_of_nodes, steps_of}

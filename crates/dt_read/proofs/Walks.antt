@@ -29,7 +29,7 @@ goes_behind (node place other properties children siblings) more marks at name r
     let tail : (map prop_mark properties ++ (marks_of_nodes children ++ end_mark ∷ marks_of_nodes siblings)) ++ end_mark ∷ more ≡ rest = cc in
     let same : place ≡ at = cc in
     let named : other ≡ name = cc in
-    let parts : Parts = record { name = other; properties = properties; children = children } in
+    let parts : Parts = record { name = other; properties = properties; children = children; siblings = siblings } in
     let regroup : marks_of_parts parts (marks_of_nodes siblings ++ end_mark ∷ more) ≡ rest = regrouped properties children siblings more ∙ tail in
     let behind : past rest 1 ≡ marks_of_nodes siblings ++ end_mark ∷ more = ap (λ (x : List Mark). past x 1) (sym regroup) ∙ past_node parts (marks_of_nodes siblings ++ end_mark ∷ more) in
     record {

@@ -12,7 +12,7 @@ use Rattle.dt_names.specs.declared.fault.FaultKind.{FaultKind}
 use Rattle.dt_names.specs.declared.fault.FaultKind.TheVariants.{Limit}
 use Rattle.dt_read.specs.declared.blocks.Blocks.{Blocks}
 use Rattle.dt_read.specs.Kinds.{kind_of}
-use Rattle.dt_read.specs.Placed.{forest_of, PlacedTree, reading_of, place_of, IsAt, last_name, properties_of, names_of, properties_at, child_names}
+use Rattle.dt_read.specs.Placed.{no_nodes, forest_of, PlacedTree, reading_of, place_of, IsAt, last_name, properties_of, names_of, properties_at, child_names}
 use Rattle.dt_read.specs.Marks.{Root}
 use Rattle.dt_read.specs.TreeTokens.{Parts, node_of, heads_of, head_named, HasTree}
 use Rattle.dt_read.specs.Pairs.{pairs_of}
@@ -146,8 +146,8 @@ pub at_path : (t : PlacedTree) → IsWellPlaced t → (path : Path) (k : ℕ) �
 at_path t w [] k e =
     let is : t.place ≡ k = same_Some t.place k e in
     record {
-      parts = record { name = []; properties = t.properties; children = t.children };
-      found = subst (λ (n : ℕ). node_of (whole_of t) n ≡ Some (record { name = []; properties = t.properties; children = t.children })) is (root_is_node (whole_of t));
+      parts = record { name = []; properties = t.properties; children = t.children; siblings = no_nodes };
+      found = subst (λ (n : ℕ). node_of (whole_of t) n ≡ Some (record { name = []; properties = t.properties; children = t.children; siblings = no_nodes })) is (root_is_node (whole_of t));
       there = refl;
       name = refl;
       children = sym (child_places t.place t.children w.apart.siblings_apart);

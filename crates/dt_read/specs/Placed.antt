@@ -1,5 +1,5 @@
 -- Trees each of whose nodes has its place in the blob, by which a reader names it.
-use Rattle.std.specs.Prelude.{◌≡◌, ◌==◌, ℕ, Bool, false, List, [], ◌∷◌, Option, Some, None, if◌then◌else◌}
+use Rattle.std.specs.Prelude.{◌≡◌, ◌==◌, ℕ, Bool, false, List, [], ◌∷◌, ◌++◌, Option, Some, None, if◌then◌else◌}
 use Rattle.std.specs.Str.{bytes_eq}
 use Rattle.dt_model.specs.Names.{Name}
 use Rattle.dt_model.specs.Path.{Path}
@@ -83,3 +83,13 @@ properties_at t path = properties_of (node_at (reading_of t) path)
 -- the names of its children, in order
 abbrev pub child_names : PlacedTree → Path → List Name
 child_names t path = names_of (node_at (reading_of t) path)
+
+-- the place of the first of some children
+abbrev pub first_place_of : PlacedTree → Path → List Name → Option ℕ
+first_place_of t path [] = None
+first_place_of t path (x ∷ xs) = place_of t (path ++ x ∷ [])
+
+-- the names behind a name
+abbrev pub names_behind : Name → List Name → List Name
+names_behind x [] = []
+names_behind x (y ∷ ys) = if bytes_eq x y then ys else names_behind x ys

@@ -1,10 +1,8 @@
 -- The steps that are left at a place of a structure block.
 use Rattle.std.specs.Prelude.{List, [], ◌∷◌}
-use Rattle.std.specs.Coded.{Coded, code_by, coded_list}
 use Rattle.dt_read.specs.declared.steps.Step.TheVariants as code
 use Rattle.dt_read.specs.declared.steps.Step as declared
 use Rattle.dt_read.specs.Marks.{Mark, begin_mark, end_mark, prop_mark, nop_mark, last_mark}
-use Rattle.dt_read.specs.TreeCode.{coded_mark}
 use Rattle.dt_read.specs.Walked.{Step, opens, holds, closes}
 
 -- the steps that tokens are, up to the last one

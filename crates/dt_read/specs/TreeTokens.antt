@@ -27,11 +27,12 @@ AreNamed no_nodes = Unit {0}
 AreNamed (node place name properties children siblings) =
     IsNodeName name × AllByRecursion (λ p. IsPropertyName p.name) properties × AreNamed children × AreNamed siblings
 
--- what a node has
+-- what a node has, and the siblings behind it
 pub record Parts : Type 0 where
   pub name : List ℕ
   pub properties : List Property
   pub children : Nodes
+  pub siblings : Nodes
 
 abbrev pub or_else : Option Parts → Option Parts → Option Parts
 or_else None other = other
@@ -41,22 +42,39 @@ or_else (Some parts) other = Some parts
 abbrev pub find_in : ℕ → Nodes → Option Parts
 find_in place no_nodes = None
 find_in place (node other name properties children siblings) =
-    if other == place then Some (record { name = name; properties = properties; children = children })
+    if other == place then Some (record { name = name; properties = properties; children = children; siblings = siblings })
     else or_else (find_in place children) (find_in place siblings)
 
 abbrev pub node_of : Root → ℕ → Option Parts
 node_of tree place =
-    if tree.place == place then Some (record { name = []; properties = tree.properties; children = tree.children })
+    if tree.place == place then Some (record { name = []; properties = tree.properties; children = tree.children; siblings = no_nodes })
     else find_in place tree.children
 
 -- the tokens behind a node's BEGIN_NODE, and those behind the node
 abbrev pub marks_of_parts : Parts → List Mark → List Mark
 marks_of_parts parts more = map prop_mark parts.properties ++ (marks_of_nodes parts.children ++ end_mark ∷ more)
 
+-- no node begins at the front
+abbrev pub IsEnd : List Mark → Type 0
+IsEnd (begin_mark place name ∷ marks) = ⊥
+IsEnd marks = Unit {0}
+
+-- the tokens behind a node: its siblings, behind which no node begins
+pub record FollowsNode (more : List Mark) (siblings : Nodes) : Type 0 where
+  pub rest : List Mark
+  pub whole : more ≡ marks_of_nodes siblings ++ rest
+  pub ends : IsEnd rest
+
 -- the tokens from a node on
 pub record BeginsNode (marks : List Mark) (place : ℕ) (parts : Parts) : Type 0 where
   pub more : List Mark
   pub whole : marks ≡ begin_mark place parts.name ∷ marks_of_parts parts more
+  pub follows : FollowsNode more parts.siblings
+
+-- the place of the first of some siblings
+abbrev pub first_place : Nodes → Option ℕ
+first_place no_nodes = None
+first_place (node place name properties children siblings) = Some place
 
 -- the places and names of siblings
 abbrev pub heads_of : Nodes → List (ℕ × List ℕ)

@@ -64,11 +64,11 @@ fn placed(bad: BadToken, at: usize) -> Fault
 }
 
 impl<'a> Blob<'a> {
-    ghost use Rattle.std.specs.Prelude.{◌∷◌, ◌++◌, [], map};
+    ghost use Rattle.std.specs.Prelude.{◌∷◌, ◌++◌, [], List, map};
     ghost use Rattle.std.specs.List.{sum_by};
     ghost use Rattle.std.specs.Option.{option_copied};
     ghost use Rattle.dt_model.specs.Tree.{value_in, nodes_of};
-    ghost use Rattle.dt_read.specs.Placed.{place_of, last_name, properties_at, child_names};
+    ghost use Rattle.dt_read.specs.Placed.{place_of, last_name, properties_at, child_names, first_place_of, names_behind};
 
     /// Reads a blob (Devicetree Specification v0.4, chapter 5), or answers its first fault, in the order in which it is
     /// read: the header, the reservations, the tokens of the structure block, names that differ, and phandles. A fault of a
@@ -177,6 +177,16 @@ impl<'a> Blob<'a> {
             map (λ child. Some child) result ≡ map (λ x. place_of self.now (path ++ x ∷ [])) (child_names self.now path) }
     {
         Children::new(self.structure.siblings(node))
+    }
+
+    /// The sibling behind a node, None behind the last one and behind the root.
+    pub fn next_sibling(&self, node: NodeId) -> Option<NodeId>
+        requires { (path : Path) × IsAt self.now path node }
+        ensures root { IsAt self.now [] node → result ≡ None }
+        ensures below { (path : Path) (name : List ℕ) → IsAt self.now (path ++ name ∷ []) node →
+            result ≡ first_place_of self.now path (names_behind name (child_names self.now path)) }
+    {
+        self.structure.next_sibling(node)
     }
 
     /// The child of a node that has a name, None where it has no such child. Takes no memory.

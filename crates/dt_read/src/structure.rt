@@ -3,7 +3,7 @@
 ghost use Rattle.std.specs.Prelude.{◌≡◌, ◌+◌, ◌<◌, ◌^◌, ◌∷◌, ◌++◌, [], List, map, length, IfOk, IfErr, IfSome, IsSome};
 
 use crate::NodeId;
-use crate::cursor::{Cursor, skip_properties};
+use crate::cursor::{Cursor, skip_node, skip_properties};
 use crate::scan::{BadToken, first_bad_token};
 use crate::steps::Steps;
 use crate::token::Token;
@@ -43,7 +43,7 @@ impl<'a> Structure<'a> {
     ghost use Rattle.dt_read.specs.Marks.{last_mark, marks_of};
     ghost use Rattle.dt_read.specs.Order.{HasRisingPlaces};
     ghost use Rattle.dt_read.specs.Walked.{Step, holds, closes, steps_of_nodes};
-    ghost use Rattle.dt_read.specs.TreeTokens.{HasTree, node_of, heads_of, head_named, BeginsNode};
+    ghost use Rattle.dt_read.specs.TreeTokens.{HasTree, node_of, heads_of, head_named, first_place, BeginsNode};
 
     /// The tree that a structure block spells, or its first wrong token. The block stands at that place of the blob.
     pub fn check(strings: &'a [u8], at: usize, block: &'a [u8]) -> Result<Structure<'a>, BadToken>
@@ -134,6 +134,21 @@ impl<'a> Structure<'a> {
         ensures { IfSome (node_of self.now node) (λ parts. result ≡ head_named (heads_of parts.children) name.now) }
     {
         sibling_in(self.siblings(node), name)
+    }
+
+    /// The sibling behind a node, where there is one.
+    pub fn next_sibling(&self, node: NodeId) -> Option<NodeId>
+        requires { IsSome (node_of self.now node) }
+        ensures { IfSome (node_of self.now node) (λ parts. result ≡ first_place parts.siblings) }
+    {
+        let mut cursor = self.cursor_at(node);
+        let _ = cursor.next();
+        skip_node(&mut cursor);
+        let (sibling, token) = cursor.next()?;
+        let Token::BeginNode(_) = token else {
+            return None;
+        };
+        Some(sibling)
     }
 
     /// A walk through what a node has, and on behind the node.

@@ -7,9 +7,9 @@ use Rattle.dt_model.specs.Path.{Path}
 use Rattle.dt_model.specs.Tree.{nodes_of, value_in}
 use Rattle.dt_model.specs.Valid.{IsValid}
 use Rattle.dt_model.proofs.Finding.{node_of_number, number_of_node}
-use Rattle.dt_model.proofs.Listed.{stands_listed, value_listed, value_stands}
+use Rattle.dt_model.proofs.Listed.{stands_listed, value_stands}
 use Rattle.dt_read.specs.Placed.{PlacedTree, reading_of, path_at, place_of, IsAt, IsNode}
-use Rattle.dt_read.proofs.NodePlaces.{path_is, stands_place}
+use Rattle.dt_read.proofs.NodePlaces.{path_is, at_node, stands_place}
 use Rattle.dt_view.specs.Tables.{at_number, HasNumber, AreParents, ArePhandles}
 use Rattle.dt_view.specs.Views.{IsAbove}
 use Rattle.dt_view.proofs.Numbered.{AreApart}
@@ -35,20 +35,33 @@ some_place t p some = by (place_of t p) refl
     by None e = absurd (true≢false (sym some ∙ ap is_some e))
     by (Some k) e = (k, e)
 
-none_numbered : (t : PlacedTree) (entries : List (ℕ × ℕ)) (n : ℕ) → IsValid (reading_of t) → AreApart t → n < 2 ^ 32 → ArePhandles t (nodes_of (reading_of t)) entries → at_number entries n ≡ None → (o : Option Path) → node_numbered (nodes_of (reading_of t)) n ≡ o → None ≡ o
-none_numbered t entries n valid places low are none None e = refl
-none_numbered t entries n valid places low are none (Some p) e =
+-- what a number is looked up as: a node that has it, and one where a node has it
+pub record IsLookedUp (t : PlacedTree) (n : ℕ) (r : Option ℕ) : Type 0 where
+  pub has : (k : ℕ) → r ≡ Some k → IsNode t k × HasNumber t k n
+  pub found : (k : ℕ) → IsNode t k → HasNumber t k n → is_some r ≡ true
+
+none_numbered : (t : PlacedTree) (n : ℕ) → IsValid (reading_of t) → AreApart t → IsLookedUp t n None → (o : Option Path) → node_numbered (nodes_of (reading_of t)) n ≡ o → None ≡ o
+none_numbered t n valid places looked None e = refl
+none_numbered t n valid places looked (Some p) e =
     let has : value_in (reading_of t) p (codes "phandle") ≡ Some (cell n) = number_of_node (reading_of t) p n valid e in
-    let x = value_listed (reading_of t) p (codes "phandle") (cell n) has in
     let k = some_place t p (stands_place t p ∙ value_stands (reading_of t) p (codes "phandle") (cell n) has) in
     let own : HasNumber t k.0 n = ap (λ q. value_in (reading_of t) q (codes "phandle")) (path_is t places p k.0 k.1) ∙ has in
-    absurd (true≢false (sym (are.found x.0 k.0 n x.1 (ap (place_of t) x.2 ∙ k.1) low own) ∙ ap is_some none))
+    absurd (true≢false (sym (looked.found k.0 (at_node t places p k.0 k.1) own)))
 
-pub number_found : (t : PlacedTree) (entries : List (ℕ × ℕ)) (n : ℕ) (r : Option ℕ) → IsValid (reading_of t) → AreApart t → n < 2 ^ 32 → ArePhandles t (nodes_of (reading_of t)) entries → r ≡ at_number entries n
-    → option_map (path_at t) r ≡ node_numbered (nodes_of (reading_of t)) n
-number_found t entries n (Some k) valid places low are e = sym (node_of_number (reading_of t) (path_at t k) n valid (are.has n k (sym e)).1)
-number_found t entries n None valid places low are e = none_numbered t entries n valid places low are (sym e) (node_numbered (nodes_of (reading_of t)) n) refl
+-- so the first node with the number is found
+pub looked_up : (t : PlacedTree) (n : ℕ) (r : Option ℕ) → IsValid (reading_of t) → AreApart t → IsLookedUp t n r → option_map (path_at t) r ≡ node_numbered (nodes_of (reading_of t)) n
+looked_up t n (Some k) valid places looked = sym (node_of_number (reading_of t) (path_at t k) n valid (looked.has k refl).1)
+looked_up t n None valid places looked = none_numbered t n valid places looked (node_numbered (nodes_of (reading_of t)) n) refl
 
-pub found_is_node : (t : PlacedTree) (entries : List (ℕ × ℕ)) (n : ℕ) (r : Option ℕ) → ArePhandles t (nodes_of (reading_of t)) entries → r ≡ at_number entries n → IfSome r (IsNode t)
-found_is_node t entries n (Some k) are e = (are.has n k (sym e)).0
-found_is_node t entries n None are e = tt
+pub looked_up_node : (t : PlacedTree) (n : ℕ) (r : Option ℕ) → IsLookedUp t n r → IfSome r (IsNode t)
+looked_up_node t n (Some k) looked = (looked.has k refl).0
+looked_up_node t n None looked = tt
+
+-- full tables look up so
+pub in_tables : (t : PlacedTree) (entries : List (ℕ × ℕ)) (n : ℕ) (r : Option ℕ) → n < 2 ^ 32 → ArePhandles t (nodes_of (reading_of t)) entries → r ≡ at_number entries n → IsLookedUp t n r
+in_tables t entries n r low are e = record {
+  has = λ k is. are.has n k (sym e ∙ is);
+  found = λ k is own. (
+      let x = stands_listed (reading_of t) (path_at t k) (sym (stands_place t (path_at t k)) ∙ ap is_some is) in
+      ap is_some e ∙ are.found x.0 k n x.1 (ap (place_of t) x.2 ∙ is) low own);
+}

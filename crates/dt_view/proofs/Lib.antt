@@ -6,3 +6,5 @@ pub mod Openings
 pub mod Numbered
 pub mod Tabled
 pub mod Indexed
+pub mod Steps
+pub mod Numbers

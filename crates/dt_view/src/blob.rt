@@ -1,12 +1,12 @@
 //! A blob as a view. A blob's tokens tell no parent, so the node above a node is told by a walk from the root up to it: for a boot loader, which
 //! asks seldom and has no memory to spend.
 
-ghost use Rattle.std.specs.Prelude.{◌≡◌, ℕ, IfSome, option_map};
+ghost use Rattle.std.specs.Prelude.{◌≡◌, ◌∷◌, ◌++◌, ℕ, [], IfSome, option_map};
 ghost use Rattle.std.specs.Option.{option_copied};
 ghost use Rattle.dt_model.specs.Applied.{is_cell, node_numbered};
 ghost use Rattle.dt_model.specs.Tree.{nodes_of, value_in};
-ghost use Rattle.dt_read.specs.Placed.{PlacedTree, last_name, path_at, reading_of, IsNode};
-ghost use Rattle.dt_view.specs.Views.{IsAbove};
+ghost use Rattle.dt_read.specs.Placed.{PlacedTree, last_name, path_at, place_of, reading_of, IsNode};
+ghost use Rattle.dt_view.specs.Views.{first_child_of, next_sibling_of, IsAbove};
 
 use crate::view::TreeView;
 use dt_names::NodeId;
@@ -48,6 +48,36 @@ pub fn name_of<'b>(blob: &'b Blob<'_>, node: NodeId) -> &'b [u8]
     ensures { result.now ≡ last_name (path_at blob.now node) }
 {
     blob.name(node)
+}
+
+/// The child of a node that has a name.
+pub fn child_of(blob: &Blob<'_>, node: NodeId, name: &[u8]) -> Option<NodeId>
+    requires { IsNode blob.now node }
+    ensures is { result ≡ place_of blob.now (path_at blob.now node ++ name.now ∷ []) }
+    ensures node { IfSome result (IsNode blob.now) }
+{
+    blob.validity();
+    blob.child(node, name)
+}
+
+/// The first child of a node.
+pub fn first_child_of(blob: &Blob<'_>, node: NodeId) -> Option<NodeId>
+    requires { IsNode blob.now node }
+    ensures is { result ≡ first_child_of blob.now (path_at blob.now node) }
+    ensures node { IfSome result (IsNode blob.now) }
+{
+    blob.validity();
+    blob.children(node).next()
+}
+
+/// The sibling behind a node.
+pub fn sibling_behind(blob: &Blob<'_>, node: NodeId) -> Option<NodeId>
+    requires { IsNode blob.now node }
+    ensures is { result ≡ next_sibling_of blob.now (path_at blob.now node) }
+    ensures node { IfSome result (IsNode blob.now) }
+{
+    blob.validity();
+    blob.next_sibling(node)
 }
 
 // Whether the value of a `phandle` is this number.
@@ -93,6 +123,18 @@ impl<'a> TreeView for Blob<'a> {
 
     fn parent(&self, node: NodeId) -> Option<NodeId> {
         parent_of(self, node)
+    }
+
+    fn child(&self, node: NodeId, name: &[u8]) -> Option<NodeId> {
+        child_of(self, node, name)
+    }
+
+    fn first_child(&self, node: NodeId) -> Option<NodeId> {
+        first_child_of(self, node)
+    }
+
+    fn next_sibling(&self, node: NodeId) -> Option<NodeId> {
+        sibling_behind(self, node)
     }
 
     fn value(&self, node: NodeId, name: &[u8]) -> Option<&[u8]> {

@@ -3,7 +3,7 @@
 ghost use Rattle.std.specs.Prelude.{◌≡◌, IfOk, IfErr, None};
 ghost use Rattle.dt_names.specs.declared.fault.FaultKind.TheVariants.{NoMemory};
 
-use crate::blob::{name_of, value_of};
+use crate::blob::{child_of, first_child_of, name_of, sibling_behind, value_of};
 use crate::tables::{Parents, Phandles, fill};
 use crate::view::TreeView;
 use dt_names::{Fault, NodeId};
@@ -38,14 +38,14 @@ impl<'a> Model for Index<'a> {
 }
 
 impl<'a> Index<'a> {
-    ghost use Rattle.std.specs.Prelude.{ℕ, [], length, IfSome, option_map};
+    ghost use Rattle.std.specs.Prelude.{ℕ, [], ◌∷◌, ◌++◌, length, IfSome, option_map};
     ghost use Rattle.std.specs.Option.{option_copied};
     ghost use Rattle.dt_model.specs.Applied.{node_numbered};
     ghost use Rattle.dt_model.specs.Path.{Path};
     ghost use Rattle.dt_model.specs.Tree.{nodes_of, value_in};
     ghost use Rattle.dt_model.specs.Valid.{IsValid, IsWithinLimits};
-    ghost use Rattle.dt_read.specs.Placed.{last_name, path_at, reading_of, IsAt, IsNode};
-    ghost use Rattle.dt_view.specs.Views.{IsAbove};
+    ghost use Rattle.dt_read.specs.Placed.{last_name, path_at, place_of, reading_of, IsAt, IsNode};
+    ghost use Rattle.dt_view.specs.Views.{first_child_of, next_sibling_of, IsAbove};
 
     /// Makes the index of a blob, in one walk through its tree. It wants memory, and nothing else is in its way.
     pub fn new(alloc: Global, blob: &'a Blob<'a>) -> Result<Index<'a>, Fault>
@@ -121,6 +121,33 @@ impl<'a> Index<'a> {
         name_of(self.blob, node)
     }
 
+    // The child of a node that has a name.
+    fn child_in_blob(&self, node: NodeId, name: &[u8]) -> Option<NodeId>
+        requires { IsNode self.now node }
+        ensures is { result ≡ place_of self.now (path_at self.now node ++ name.now ∷ []) }
+        ensures node { IfSome result (IsNode self.now) }
+    {
+        child_of(self.blob, node, name)
+    }
+
+    // The first child of a node.
+    fn first_child_in_blob(&self, node: NodeId) -> Option<NodeId>
+        requires { IsNode self.now node }
+        ensures is { result ≡ first_child_of self.now (path_at self.now node) }
+        ensures node { IfSome result (IsNode self.now) }
+    {
+        first_child_of(self.blob, node)
+    }
+
+    // The sibling behind a node.
+    fn sibling_in_blob(&self, node: NodeId) -> Option<NodeId>
+        requires { IsNode self.now node }
+        ensures is { result ≡ next_sibling_of self.now (path_at self.now node) }
+        ensures node { IfSome result (IsNode self.now) }
+    {
+        sibling_behind(self.blob, node)
+    }
+
     // The value of a node's property.
     fn value_in_blob(&self, node: NodeId, name: &[u8]) -> Option<&[u8]>
         requires { IsNode self.now node }
@@ -147,6 +174,18 @@ impl<'a> TreeView for Index<'a> {
 
     fn parent(&self, node: NodeId) -> Option<NodeId> {
         self.above(node)
+    }
+
+    fn child(&self, node: NodeId, name: &[u8]) -> Option<NodeId> {
+        self.child_in_blob(node, name)
+    }
+
+    fn first_child(&self, node: NodeId) -> Option<NodeId> {
+        self.first_child_in_blob(node)
+    }
+
+    fn next_sibling(&self, node: NodeId) -> Option<NodeId> {
+        self.sibling_in_blob(node)
     }
 
     fn value(&self, node: NodeId, name: &[u8]) -> Option<&[u8]> {

@@ -1,13 +1,13 @@
 //! A view of a tree.
 
-ghost use Rattle.std.specs.Prelude.{◌≡◌, ℕ, [], length, IfSome, option_map};
+ghost use Rattle.std.specs.Prelude.{◌≡◌, ◌∷◌, ◌++◌, ℕ, [], length, IfSome, option_map};
 ghost use Rattle.std.specs.Option.{option_copied};
 ghost use Rattle.dt_model.specs.Applied.{node_numbered};
 ghost use Rattle.dt_model.specs.Path.{Path};
 ghost use Rattle.dt_model.specs.Tree.{nodes_of, value_in};
 ghost use Rattle.dt_model.specs.Valid.{IsValid, IsWithinLimits};
-ghost use Rattle.dt_read.specs.Placed.{PlacedTree, last_name, path_at, reading_of, IsAt, IsNode};
-ghost use Rattle.dt_view.specs.Views.{IsAbove};
+ghost use Rattle.dt_read.specs.Placed.{PlacedTree, last_name, path_at, place_of, reading_of, IsAt, IsNode};
+ghost use Rattle.dt_view.specs.Views.{first_child_of, next_sibling_of, IsAbove};
 
 use dt_names::NodeId;
 
@@ -36,6 +36,24 @@ pub trait TreeView {
     fn parent(&self, node: NodeId) -> Option<NodeId>
         requires { IsNode (tree self.now) node }
         ensures { IsAbove (tree self.now) node result };
+
+    /// The child of a node that has a name, None where it has no such child.
+    fn child(&self, node: NodeId, name: &[u8]) -> Option<NodeId>
+        requires { IsNode (tree self.now) node }
+        ensures is { result ≡ place_of (tree self.now) (path_at (tree self.now) node ++ name.now ∷ []) }
+        ensures node { IfSome result (IsNode (tree self.now)) };
+
+    /// The first child of a node, None where it has none.
+    fn first_child(&self, node: NodeId) -> Option<NodeId>
+        requires { IsNode (tree self.now) node }
+        ensures is { result ≡ first_child_of (tree self.now) (path_at (tree self.now) node) }
+        ensures node { IfSome result (IsNode (tree self.now)) };
+
+    /// The sibling behind a node, None behind the last one and behind the root.
+    fn next_sibling(&self, node: NodeId) -> Option<NodeId>
+        requires { IsNode (tree self.now) node }
+        ensures is { result ≡ next_sibling_of (tree self.now) (path_at (tree self.now) node) }
+        ensures node { IfSome result (IsNode (tree self.now)) };
 
     /// The value of a property of a node, None where it has no property of that name.
     fn value(&self, node: NodeId, name: &[u8]) -> Option<&[u8]>
