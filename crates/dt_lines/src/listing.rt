@@ -56,9 +56,7 @@ fn put_nodes<S: Sink>(
     index.validity();
     for step in index.blob().steps() {
         match step {
-            Step::Open { node, .. } => {
-                put_node(index, buffer, out, node, listing)?;
-            }
+            Step::Open { node, .. } => put_node(index, buffer, out, node, listing)?,
             Step::Property { .. } => {}
             Step::Close => {}
         }

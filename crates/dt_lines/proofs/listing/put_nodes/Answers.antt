@@ -20,8 +20,8 @@ put_node-requires g c =
     let e = c.in-Some.ensures.steps ∙ ap (λ s. step_view s ∷ c.next.new.self) c.in-Open.is in
     next_is_node (AreOwn c.args.listing (reading_of c.args.index.now)) c.args.index.now c.validity.ensures.places c.in-Open.node c.in-Open.name.now _ _ e c.loop-step.invariant.2
 
-pub loop-step-preserved-in-Open : goal.loop-step-preserved-in-Open
-loop-step-preserved-in-Open g c =
+pub loop-step-preserved-in-Continue-1 : goal.loop-step-preserved-in-Continue-1
+loop-step-preserved-in-Continue-1 g c =
     let e = c.in-Some.ensures.steps ∙ ap (λ s. step_view s ∷ c.next.new.self) c.in-Open.is in
     (tt, tt, past_one (AreOwn c.args.listing (reading_of c.args.index.now)) c.args.index.now c.validity.ensures.places c.in-Open.node c.in-Open.name.now _ _ e c.loop-step.invariant.2 c.in_ok-put_node-in-Open.ensures.passed)
 
