@@ -60,6 +60,14 @@ impl Lines {
         self.text.is_empty()
     }
 
+    /// The lines, or no memory for them.
+    pub fn into_text(self) -> Result<String, Stop> {
+        if self.has_failed {
+            return Err(Stop::from(AllocError));
+        }
+        Ok(self.text)
+    }
+
     /// Puts a text.
     pub fn put(&mut self, text: &str) {
         self.has_failed = self.has_failed || self.text.push_str(text).is_err();
@@ -156,9 +164,6 @@ impl Outcome {
             self.lines.hexadecimal(&self.bytes);
             self.lines.put("\n");
         }
-        if self.lines.has_failed {
-            return Err(Stop::from(AllocError));
-        }
-        Ok(self.lines.text)
+        self.lines.into_text()
     }
 }

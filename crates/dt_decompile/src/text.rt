@@ -33,6 +33,8 @@ fn put_text<S: Sink>(buffer: &mut Buffer, out: &mut S, blob: &Blob) -> Result<()
 /// # Errors
 ///
 /// `WriteFault` where the sink fails: it took a front of the text.
+// Apart, so that its buffer isn't on the stack while the blob is checked.
+#[inline(never)]
 pub fn text_of<S: Sink>(blob: &Blob, out: &mut S) -> Result<(), Fault>
     ensures written { OnOk result (Takes (printed (reading_of blob.now)) (S.taken out.old) (S.taken out.new)) }
     ensures refused { IfErr result (λ fault. IsRefused fault (printed (reading_of blob.now)) (S.taken out.old) (S.taken out.new)) }

@@ -64,7 +64,8 @@ fn put_nodes<S: Sink>(
     Ok(())
 }
 
-// Writes all lines.
+// Writes all lines. Apart, so that the buffer isn't on the stack while the blob is checked.
+#[inline(never)]
 fn put_lines<S: Sink>(index: &Index<'_>, out: &mut S, listing: Listing) -> Result<(), Fault>
     ensures written { OnOk result ((lines : List (List ℕ)) × AreAll listing (reading_of index.now) lines × Takes (concat lines) (S.taken out.old) (S.taken out.new)) }
     ensures refused { IfErr result (λ fault. (lines : List (List ℕ)) × AreAllBegun listing (reading_of index.now) lines × IsRefused fault (concat lines) (S.taken out.old) (S.taken out.new)) }

@@ -85,6 +85,8 @@ impl From<clap::Error> for LineFault {
 /// # Errors
 ///
 /// `Words` where they are no command that the tool has, or ask for help; and `Memory`.
+// Apart, so that what clap takes of the stack is free again before the job.
+#[inline(never)]
 pub fn line<'a, S: AsStr>(alloc: Global, words: &'a [S]) -> Result<Line<'a>, LineFault>
     ensures line { IfOk result (IsLine (map S.text words.entry.now)) }
     ensures refused { IfErr result (WhyNoLine (map S.text words.entry.now)) }
