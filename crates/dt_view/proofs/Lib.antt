@@ -8,3 +8,4 @@ pub mod Tabled
 pub mod Indexed
 pub mod Steps
 pub mod Numbers
+pub mod Valued

@@ -19,7 +19,7 @@ use Rattle.dt_model.proofs.Tests.{each_in, in_append}
 use Rattle.dt_read.specs.Placed.{PlacedTree, reading_of, path_at, place_of, IsAt, IsNode}
 use Rattle.dt_read.specs.Walked.{Step, opens, steps_of}
 use Rattle.dt_read.proofs.NodePlaces.{at_node}
-use Rattle.dt_view.specs.Tables.{at_number, HasNumber, AreParents, ArePhandles, IsNoted, AreIndexed}
+use Rattle.dt_view.specs.Tables.{at_number, HasNumber, AreParents, ArePhandles, IsNoted}
 use Rattle.dt_view.specs.Views.{IsAbove}
 use Rattle.dt_view.proofs.Walks.{innermost, parent_told, AreFew, opened, AreOpened}
 use Rattle.dt_view.proofs.Numbered.{AreApart}
@@ -193,7 +193,12 @@ past_another t parents phandles open_nodes new count steps rest f same told few 
 }
 
 -- at the end the tables have all nodes
-pub all_filled : (t : PlacedTree) (parents : List (ℕ × Option ℕ)) (phandles : List (ℕ × ℕ)) (open_nodes : List ℕ) (count : ℕ) (steps : List Step) → IsFilled t parents phandles open_nodes count steps → steps ≡ [] → AreIndexed t parents phandles count
+pub record AreAllFilled (t : PlacedTree) (parents : List (ℕ × Option ℕ)) (phandles : List (ℕ × ℕ)) (count : ℕ) : Type 0 where
+  pub above : AreParents t (nodes_of (reading_of t)) parents
+  pub numbered : ArePhandles t (nodes_of (reading_of t)) phandles
+  pub counted : count ≡ length (nodes_of (reading_of t))
+
+pub all_filled : (t : PlacedTree) (parents : List (ℕ × Option ℕ)) (phandles : List (ℕ × ℕ)) (open_nodes : List ℕ) (count : ℕ) (steps : List Step) → IsFilled t parents phandles open_nodes count steps → steps ≡ [] → AreAllFilled t parents phandles count
 all_filled t parents phandles open_nodes count steps f e =
     let none : f.nodes ≡ [] = none_opened t f.before f.nodes (subst (AreOpened t f.before f.nodes) e f.are) in
     let all : nodes_of (reading_of t) ≡ f.before = f.are.whole ∙ ap (λ ns. f.before ++ ns) none ∙ append-nil f.before in

@@ -1,9 +1,13 @@
 -- Tables of a tree's nodes.
-use Rattle.std.specs.Prelude.{◌≡◌, ◌⊎◌, ◌<◌, ◌^◌, ℕ, nat_eq, true, List, length, Option, Some, is_some, codes}
+use Rattle.std.specs.Prelude.{◌≡◌, ◌⊎◌, ◌<◌, ◌^◌, ◌&&◌, ℕ, nat_eq, true, List, length, Option, Some, is_some, cond, codes}
+use Rattle.std.specs.Borrow.{Bor}
 use Rattle.std.specs.Map.{lookup}
+use Rattle.std.specs.Option.{option_copied}
+use Rattle.std.specs.Str.{bytes_eq}
 use Rattle.dt_model.specs.Lists.{IsIn}
 use Rattle.dt_model.specs.Meaning.{cell}
-use Rattle.dt_model.specs.Tree.{Placed, nodes_of, value_in}
+use Rattle.dt_model.specs.Names.{Name}
+use Rattle.dt_model.specs.Tree.{Property, Placed, nodes_of, value_of, value_in}
 use Rattle.dt_read.specs.Placed.{PlacedTree, reading_of, path_at, IsAt, IsNode}
 use Rattle.dt_view.specs.Views.{IsAbove}
 
@@ -30,8 +34,36 @@ pub record IsNoted (t : PlacedTree) (node : ℕ) (old new : List (ℕ × ℕ)) :
   pub kept : (n : ℕ) → is_some (at_number old n) ≡ true → is_some (at_number new n) ≡ true
   pub own : (n : ℕ) → n < 2 ^ 32 → HasNumber t node n → is_some (at_number new n) ≡ true
 
+-- ---- values
+
+-- a node, and the name of a property, which is borrowed
+abbrev pub Key : Type 0
+Key = ℕ × Bor (List ℕ)
+
+-- the value that a table has for a node and a name
+abbrev pub value_at : List (Key × Bor (List ℕ)) → ℕ → Name → Option (List ℕ)
+value_at entries k x = option_copied (lookup (λ (key : Key). nat_eq k key.0 && bytes_eq x key.1.now) entries)
+
+-- the new entries are the old ones, with a value at a node and a name
+abbrev pub PutsValue : List (Key × Bor (List ℕ)) → List (Key × Bor (List ℕ)) → ℕ → Name → List ℕ → Type 0
+PutsValue old new node name value = (k : ℕ) (x : Name) → value_at new k x ≡ cond (nat_eq node k && bytes_eq name x) (Some value) (value_at old k x)
+
+-- each value is that of a node, and each of some nodes has its values there
+pub record AreValues (t : PlacedTree) (nodes : List Placed) (entries : List (Key × Bor (List ℕ))) : Type 0 where
+  pub has : (k : ℕ) (x : Name) (v : List ℕ) → value_at entries k x ≡ Some v → value_in (reading_of t) (path_at t k) x ≡ Some v
+  pub found : (n : Placed) (k : ℕ) (x : Name) → IsIn n nodes → IsAt t n.path k → is_some (value_in (reading_of t) (path_at t k) x) ≡ true → is_some (value_at entries k x) ≡ true
+
+-- of a node's properties some are put into a table
+pub record AreKept (node : ℕ) (properties some : List Property) (old new : List (Key × Bor (List ℕ))) : Type 0 where
+  pub from : (k : ℕ) (x : Name) (v : List ℕ) → value_at new k x ≡ Some v → (value_at old k x ≡ Some v) ⊎ ((k ≡ node) × (value_of properties x ≡ Some v))
+  pub kept : (k : ℕ) (x : Name) → is_some (value_at old k x) ≡ true → is_some (value_at new k x) ≡ true
+  pub own : (x : Name) → is_some (value_of some x) ≡ true → is_some (value_at new node x) ≡ true
+
+-- ---- all
+
 -- the tables have all nodes of the tree
-pub record AreIndexed (t : PlacedTree) (parents : List (ℕ × Option ℕ)) (phandles : List (ℕ × ℕ)) (count : ℕ) : Type 0 where
+pub record AreIndexed (t : PlacedTree) (parents : List (ℕ × Option ℕ)) (phandles : List (ℕ × ℕ)) (values : List (Key × Bor (List ℕ))) (count : ℕ) : Type 0 where
   pub above : AreParents t (nodes_of (reading_of t)) parents
   pub numbered : ArePhandles t (nodes_of (reading_of t)) phandles
+  pub valued : AreValues t (nodes_of (reading_of t)) values
   pub counted : count ≡ length (nodes_of (reading_of t))

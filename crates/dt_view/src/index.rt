@@ -1,10 +1,10 @@
-//! A blob with tables of its nodes, in which the node above a node and the node of a phandle are found at once.
+//! A blob with tables of its nodes, in which the node above a node, the node of a phandle and the value of a property are found at once.
 
 ghost use Rattle.std.specs.Prelude.{◌≡◌, IfOk, IfErr, None};
 ghost use Rattle.dt_names.specs.declared.fault.FaultKind.TheVariants.{NoMemory};
 
-use crate::blob::{child_of, first_child_of, name_of, sibling_behind, value_of};
-use crate::tables::{Parents, Phandles, fill};
+use crate::blob::{child_of, first_child_of, name_of, sibling_behind};
+use crate::tables::{Parents, Phandles, Values, fill};
 use crate::view::TreeView;
 use dt_names::{Fault, NodeId};
 use dt_read::Blob;
@@ -18,6 +18,7 @@ pub struct Index<'a> {
     blob: &'a Blob<'a>,
     parents: Parents,
     phandles: Phandles,
+    values: Values<'a>,
     count: usize,
 }
 
@@ -34,7 +35,7 @@ impl<'a> Model for Index<'a> {
 
     ghost view = { λ i. i.blob.now };
 
-    ghost invariant = { λ i. AreIndexed i.blob.now i.parents.entries i.phandles.entries i.count };
+    ghost invariant = { λ i. AreIndexed i.blob.now i.parents.entries i.phandles.entries i.values.entries i.count };
 }
 
 impl<'a> Index<'a> {
@@ -54,11 +55,13 @@ impl<'a> Index<'a> {
     {
         let mut parents = HashMap::new(alloc);
         let mut phandles = HashMap::new(alloc);
-        let count = fill(blob, &mut parents, &mut phandles)?;
+        let mut values = HashMap::new(alloc);
+        let count = fill(blob, &mut parents, &mut phandles, &mut values)?;
         Ok(Index {
             blob,
             parents,
             phandles,
+            values,
             count,
         })
     }
@@ -149,11 +152,11 @@ impl<'a> Index<'a> {
     }
 
     // The value of a node's property.
-    fn value_in_blob(&self, node: NodeId, name: &[u8]) -> Option<&[u8]>
+    fn value_in_table(&self, node: NodeId, name: &[u8]) -> Option<&[u8]>
         requires { IsNode self.now node }
         ensures { option_copied result ≡ value_in (reading_of self.now) (path_at self.now node) name.now }
     {
-        value_of(self.blob, node, name)
+        self.values.get(&(node, name)).copied()
     }
 }
 
@@ -189,7 +192,7 @@ impl<'a> TreeView for Index<'a> {
     }
 
     fn value(&self, node: NodeId, name: &[u8]) -> Option<&[u8]> {
-        self.value_in_blob(node, name)
+        self.value_in_table(node, name)
     }
 
     fn by_phandle(&self, number: u32) -> Option<NodeId> {

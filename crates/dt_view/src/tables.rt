@@ -1,12 +1,12 @@
-//! Tables from the nodes of a tree to the nodes above them, and from phandles to nodes.
+//! Tables from the nodes of a tree to the nodes above them, from phandles to nodes, and from nodes and names to the values of properties.
 
 ghost use Rattle.std.specs.Prelude.{◌≡◌, ◌↔◌, ℕ, [], Some, nat_eq, length, OnOk, IfOk, IfSome, IsSome, cond};
 ghost use Rattle.std.specs.Int.{w32, from_be_bytes};
 ghost use Rattle.dt_model.specs.Meaning.{cell};
 ghost use Rattle.dt_model.specs.Tree.{nodes_of};
 ghost use Rattle.dt_model.specs.Valid.{IsPhandle};
-ghost use Rattle.dt_read.specs.Placed.{reading_of, IsNode};
-ghost use Rattle.dt_view.specs.Tables.{at_number, AreParents, ArePhandles, IsNoted};
+ghost use Rattle.dt_read.specs.Placed.{path_at, properties_at, reading_of, IsNode};
+ghost use Rattle.dt_view.specs.Tables.{at_number, AreParents, ArePhandles, IsNoted, PutsValue, AreKept, AreValues};
 
 use crate::blob::value_of;
 use dt_names::{NodeId, phandle_of};
@@ -19,6 +19,9 @@ pub type Parents = HashMap<NodeId, Option<NodeId>>;
 
 /// The node of each phandle.
 pub type Phandles = HashMap<u32, NodeId>;
+
+/// The value of each property, by its node and its name.
+pub type Values<'a> = HashMap<(NodeId, &'a [u8]), &'a [u8]>;
 
 fn put_parent(parents: &mut Parents, node: NodeId, above: Option<NodeId>) -> Result<(), AllocError>
     ensures { OnOk result ((k : ℕ) → at_number parents.new.entries k ≡ cond (nat_eq node k) (Some above) (at_number parents.old.entries k)) }
@@ -58,16 +61,43 @@ fn note_phandle(blob: &Blob<'_>, phandles: &mut Phandles, node: NodeId) -> Resul
     put_phandle(phandles, number, node)
 }
 
+fn put_value<'a>(
+    values: &mut Values<'a>,
+    node: NodeId,
+    name: &'a [u8],
+    value: &'a [u8],
+) -> Result<(), AllocError>
+    ensures { OnOk result (PutsValue values.old.entries values.new.entries node name.now value.now) }
+{
+    values.insert((node, name), value)?;
+    Ok(())
+}
+
+// Puts the values of a node into the table.
+fn note_values<'a>(blob: &Blob<'a>, values: &mut Values<'a>, node: NodeId) -> Result<(), AllocError>
+    requires { IsNode blob.now node }
+    ensures { OnOk result (AreKept node (properties_at blob.now (path_at blob.now node)) (properties_at blob.now (path_at blob.now node)) values.old.entries values.new.entries) }
+{
+    blob.validity();
+    for (name, value) in blob.props(node) {
+        put_value(values, node, name, value)?;
+    }
+    Ok(())
+}
+
 /// Fills the tables of a blob's tree, and counts its nodes.
-pub fn fill(
-    blob: &Blob<'_>,
+pub fn fill<'a>(
+    blob: &Blob<'a>,
     parents: &mut Parents,
     phandles: &mut Phandles,
+    values: &mut Values<'a>,
 ) -> Result<usize, AllocError>
     requires parents { parents.old.entries ≡ [] }
     requires phandles { phandles.old.entries ≡ [] }
+    requires values { values.old.entries ≡ [] }
     ensures parents { OnOk result (AreParents blob.now (nodes_of (reading_of blob.now)) parents.new.entries) }
     ensures phandles { OnOk result (ArePhandles blob.now (nodes_of (reading_of blob.now)) phandles.new.entries) }
+    ensures values { OnOk result (AreValues blob.now (nodes_of (reading_of blob.now)) values.new.entries) }
     ensures count { IfOk result (λ count. count ≡ length (nodes_of (reading_of blob.now))) }
 {
     blob.validity();
@@ -78,6 +108,7 @@ pub fn fill(
             Step::Open { node, .. } => {
                 put_parent(parents, node, open_nodes.innermost())?;
                 note_phandle(blob, phandles, node)?;
+                note_values(blob, values, node)?;
                 open_nodes.push(node);
                 count += 1;
             }

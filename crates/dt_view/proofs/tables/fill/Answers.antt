@@ -4,12 +4,17 @@ use Rattle.dt_view.specs.Tables.{at_number}
 use Rattle.dt_view.proofs.Walks.{AreFew, opened, parent_told}
 use Rattle.dt_view.proofs.ParentSteps.{is_innermost, shorter}
 use Rattle.dt_view.proofs.Tabled.{IsFilled, unfilled, opens_one, room_for_one, past_one, past_another, all_filled}
+use Rattle.dt_view.proofs.Valued.{none_valued, one_valued, others_valued, all_valued}
 use Rattle.dt_view.proofs.tables.fill.Goals as goal
 
 pub loop-step-init : goal.loop-step-init
 loop-step-init c =
-    let whole = c.into_iter-step-iterator.ensures.into_iter_gives ∙ c.steps-step-items.ensures in
-    (tt, tt, rw (whole, c.new-open_nodes.ensures, c.requires.parents, c.requires.phandles) (unfilled c.args.blob.now c.validity.ensures.valid c.validity.ensures.within c.validity.ensures.places))
+    let whole = c.into_iter-step-iterator.ensures.into_iter_gives ∙ c.steps-step-items.ensures in (
+      tt,
+      tt,
+      rw (whole, c.new-open_nodes.ensures, c.requires.parents, c.requires.phandles) (unfilled c.args.blob.now c.validity.ensures.valid c.validity.ensures.within c.validity.ensures.places),
+      rw (whole, c.requires.values) (none_valued c.args.blob.now c.validity.ensures.valid),
+    )
 
 pub note_phandle-requires : goal.note_phandle-requires
 note_phandle-requires c =
@@ -37,6 +42,7 @@ loop-step-preserved-in-Open c =
       subst (λ ks. IsFilled t c.put_parent.new.parents.entries c.note_phandle.new.phandles.entries ks (c.loop-step.count + 1) c.next.new.self) (sym c.push.ensures)
           (past_one t c.loop-step.parents.entries c.put_parent.new.parents.entries c.loop-step.phandles.entries c.note_phandle.new.phandles.entries c.loop-step.open_nodes c.loop-step.count c.in-Open.node c.in-Open.name.now c.loop-step.step-iterator c.next.new.self c.validity.ensures.valid c.validity.ensures.places c.loop-step.invariant.2 e
           (λ j. c.in_ok-put_parent-in-Open.ensures j ∙ ap (λ o. cond (nat_eq c.in-Open.node j) (Some o) (at_number c.loop-step.parents.entries j)) inner) c.in_ok-note_phandle-in-Open.ensures),
+      one_valued t c.loop-step.values.entries c.note_values.new.values.entries c.in-Open.node c.in-Open.name.now c.loop-step.step-iterator c.next.new.self c.loop-step.invariant.3 e c.in_ok-note_values-in-Open.ensures,
     )
 
 pub loop-step-preserved-in-Property : goal.loop-step-preserved-in-Property
@@ -47,6 +53,7 @@ loop-step-preserved-in-Property c =
       tt,
       past_another c.args.blob.now c.loop-step.parents.entries c.loop-step.phandles.entries open_nodes open_nodes c.loop-step.count c.loop-step.step-iterator c.next.new.self c.loop-step.invariant.2
           (ap opened e) (λ k. ap (parent_told k open_nodes) e) (λ few. subst (AreFew (length open_nodes)) e few),
+      others_valued c.args.blob.now c.loop-step.values.entries c.loop-step.step-iterator c.next.new.self c.loop-step.invariant.3 (ap opened e),
     )
 
 pub loop-step-preserved : goal.loop-step-preserved
@@ -58,6 +65,7 @@ loop-step-preserved c =
       past_another c.args.blob.now c.loop-step.parents.entries c.loop-step.phandles.entries open_nodes c.pop.new.self c.loop-step.count c.loop-step.step-iterator c.next.new.self c.loop-step.invariant.2
           (ap opened e) (λ k. ap (parent_told k open_nodes) e ∙ ap (λ ks. parent_told k ks c.next.new.self) (sym c.pop.ensures))
           (λ few. subst (λ ks. AreFew (length ks) c.next.new.self) (sym c.pop.ensures) (subst (λ n. AreFew n c.next.new.self) (shorter open_nodes) (subst (AreFew (length open_nodes)) e few))),
+      others_valued c.args.blob.now c.loop-step.values.entries c.loop-step.step-iterator c.next.new.self c.loop-step.invariant.3 (ap opened e),
     )
 
 pub returns-clause-parents : goal.returns-clause-parents
@@ -68,3 +76,11 @@ returns-clause-phandles c = (all_filled c.args.blob.now c.loop-step.parents.entr
 
 pub returns-clause-count : goal.returns-clause-count
 returns-clause-count c = (all_filled c.args.blob.now c.loop-step.parents.entries c.loop-step.phandles.entries c.loop-step.open_nodes c.loop-step.count c.loop-step.step-iterator c.loop-step.invariant.2 c.in-None.ensures.steps.0).counted
+
+pub note_values-requires : goal.note_values-requires
+note_values-requires c =
+    let e = c.in-Some.ensures.steps ∙ ap (λ s. step_view s ∷ c.next.new.self) c.in-Open.is in
+    opens_one c.args.blob.now c.loop-step.parents.entries c.loop-step.phandles.entries c.loop-step.open_nodes c.loop-step.count c.in-Open.node c.in-Open.name.now c.loop-step.step-iterator c.next.new.self c.validity.ensures.places c.loop-step.invariant.2 e
+
+pub returns-clause-values : goal.returns-clause-values
+returns-clause-values c = all_valued c.args.blob.now c.loop-step.values.entries c.loop-step.step-iterator c.loop-step.invariant.3 c.in-None.ensures.steps.0

@@ -1,0 +1,13 @@
+use Rattle.std.proofs.Common.{ap, subst, ◌∙◌}
+use Rattle.std.specs.Option.{option_copied}
+use Rattle.dt_model.specs.Tree.{nodes_of}
+use Rattle.dt_read.specs.Placed.{reading_of}
+use Rattle.dt_view.specs.Tables.{AreValues}
+use Rattle.dt_view.proofs.Valued.{value_looked_up}
+use Rattle.dt_view.proofs.index.Index.value_in_table.Goals as goal
+
+pub returns : goal.returns
+returns c =
+    let entries = c.self.inside.values.entries in
+    let are = subst (λ t. AreValues t (nodes_of (reading_of t)) entries) c.self.view_is c.self.invariant.valued in
+    ap option_copied (c.copied.ensures ∙ c.get.ensures.value) ∙ value_looked_up c.args.self.now entries c.args.node c.args.name.now c.requires are
