@@ -119,7 +119,7 @@ BLOBS = [
     ("200,000 entries of interrupts", lambda: one_node("interrupts", (word(0) + word(1) + word(4)) * 200_000)),
     ("200,000 entries of interrupts-extended", lambda: one_node("interrupts-extended", (word(CONTROLLER) + word(0) + word(1) + word(4)) * 200_000)),
     ("30,000 nodes sent round in a circle of two", lambda: circles(30_000)),
-    ("3,000 nodes below 3,000 properties", lambda: below_properties(3_000, 3_000)),
+    ("30,000 nodes below 30,000 properties", lambda: below_properties(30_000, 30_000)),
 ]
 
 
