@@ -1,0 +1,15 @@
+pub mod Brought
+pub mod Counting
+pub mod Exactly
+pub mod Folding
+pub mod Least
+pub mod NewNumbers
+pub mod OneSites
+pub mod Phandles
+pub mod Places
+pub mod Sited
+pub mod Standing
+pub mod Targets
+pub mod ValidResult
+pub mod Walks
+pub mod WorkedRows

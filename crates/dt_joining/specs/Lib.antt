@@ -1,0 +1,4 @@
+pub mod InTurn
+pub mod Joining
+pub mod Rows
+pub mod Walk
