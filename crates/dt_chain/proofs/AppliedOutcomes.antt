@@ -4,7 +4,8 @@ use Rattle.dt_model.specs.Format.{Reads}
 use Rattle.dt_model.specs.Tree.{Reading}
 use Rattle.dt_format.specs.Laws.{FirstFaultIsOne, BlobHasNoFault}
 use Rattle.dt_landing.specs.Outcomes as landing
-use Rattle.dt_landing.specs.Outcomes.{LimitIsExceeded, AppliedIsOne, OneRefusal}
+use Rattle.dt_landing.specs.Outcomes.{LimitIsExceeded, OneRefusal}
+use Rattle.dt_joining.specs.InTurn.{AppliedIsOne}
 use Rattle.dt_read.specs.Kinds.{kind_of}
 use Rattle.dt_chain.specs.Applied.{IsRead, IsNoBlob}
 use Rattle.dt_chain.specs.Chains.{OneBlobApplied, AppliedIsNotRefused, OneRefusalToApply}

@@ -7,7 +7,8 @@ use Rattle.dt_names.specs.declared.fault.Fault.{Fault}
 use Rattle.dt_names.specs.declared.fault.FaultKind.TheVariants.{NoMemory}
 use Rattle.dt_laws.specs.CompiledTrees.{OneTree}
 use Rattle.dt_laws.specs.OverlayTrees.{OneObject, OverlayRefusalIsOne, OverlayIsNotRefused, ObjectIsNotRefused}
-use Rattle.dt_landing.specs.Outcomes.{AppliedIsNotRefused, LimitIsExceeded, AppliedIsOne, OneRefusal}
+use Rattle.dt_landing.specs.Outcomes.{AppliedIsNotRefused, LimitIsExceeded, OneRefusal}
+use Rattle.dt_joining.specs.InTurn.{AppliedIsOne}
 use Rattle.dt_grammar.specs.Parsed.{WhyNotParsed}
 use Rattle.dt_write.specs.Written.{written}
 use Rattle.dt_chain.specs.Means.{TextHasTree}

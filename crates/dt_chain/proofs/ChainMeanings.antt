@@ -1,19 +1,20 @@
 -- Where the objects of inputs are applied one after another, the overlays that the inputs mean are merged one after another.
-use Rattle.std.proofs.Common.{◌≡◌, ◌≢◌, ℕ, List, [], ◌∷◌, ◌++◌, Some, None, refl, ap, subst, ◌∙◌}
-use Rattle.std.specs.Prelude.{Bool, true, false, Option}
+use Rattle.std.proofs.Common.{◌≡◌, ◌≢◌, ℕ, List, [], ◌∷◌, ◌++◌, refl, ap, subst, ◌∙◌}
 use Rattle.dt_model.specs.Path.{Path}
 use Rattle.dt_model.specs.Meaning.{Meaning, Extends}
-use Rattle.dt_model.specs.Merged.{Site, merged, Applies, IsFold}
-use Rattle.dt_model.specs.Object.{fragment_names}
+use Rattle.dt_model.specs.Merged.{Site, merged, IsDefined}
 use Rattle.dt_model.specs.Overlay.{Overlay}
-use Rattle.dt_model.specs.Applied.{Write, writes, find_sites, is_allowed, with_fragments, with_symbols_merged, applied_at, if_allowed}
+use Rattle.dt_model.specs.Applied.{Write, writes, with_fragments, with_symbols_merged}
 use Rattle.dt_model.specs.Tree.{Property, Reading}
 use Rattle.dt_model.specs.Valid.{IsWithinLimits}
 use Rattle.dt_names.specs.declared.fault.Fault.{Fault}
 use Rattle.dt_names.specs.declared.fault.FaultKind.TheVariants.{NoMemory, Limit}
 use Rattle.dt_laws.specs.Applying.{AreOf}
-use Rattle.dt_laws.specs.InTurn.{IsOf, IsObject, AreObjects, IsApplied, AreApplied, InTurnIsFold}
-use Rattle.dt_laws.specs.Merging.{SitesAreOne}
+use Rattle.dt_laws.specs.InTurn.{IsOf, IsObject, AreObjects}
+use Rattle.dt_joining.specs.InTurn.{IsApplied, AreApplied, IsFold, InTurnIsFold}
+use Rattle.dt_joining.specs.Joining.{SitesAreOne}
+use Rattle.dt_joining.specs.Walk.{new_numbers}
+use Rattle.dt_landing.proofs.RefusedOutcomes.{comes_of}
 use Rattle.dt_landing.specs.Outcomes.{RefusedIsUndefined}
 use Rattle.dt_chain.specs.Inputs as inputs
 use Rattle.dt_chain.specs.Inputs.{AreSteps, WhyNoStep, IsStopped}
@@ -38,25 +39,10 @@ symbols_keep_boot_cpu (p ∷ ps) t = refl
 
 -- what an object is applied to keeps its boot CPU
 application_keeps_boot_cpu : (base object result : Reading) → IsApplied base object result → result.boot_cpu ≡ base.boot_cpu
-application_keeps_boot_cpu base object result h = sited (find_sites base object (writes base object h.fixups h.numbers) h.numbers [] (fragment_names object.children)) refl
-  where
-    kept : (sites : List Site) → (applied_at base object h.fixups h.numbers sites).boot_cpu ≡ base.boot_cpu
-    kept sites = symbols_keep_boot_cpu _ _ ∙ fragments_keep_boot_cpu (writes base object h.fixups h.numbers) h.numbers object sites base
-
-    allowed : (sites : List Site) (b : Bool) → is_allowed base object h.fixups h.numbers sites ≡ b → if_allowed base object h.fixups h.numbers sites ≡ Some result → result.boot_cpu ≡ base.boot_cpu
-    allowed sites true e k =
-        let z : Some (applied_at base object h.fixups h.numbers sites) ≡ Some result = rw e at k in
-        let same : result ≡ applied_at base object h.fixups h.numbers sites = cc in
-        ap (λ (t : Reading). t.boot_cpu) same ∙ kept sites
-    allowed sites false e k =
-        let z : None ≡ Some result = rw e at k in
-        absurd cc
-
-    sited : (x : Option (List Site)) → find_sites base object (writes base object h.fixups h.numbers) h.numbers [] (fragment_names object.children) ≡ x → result.boot_cpu ≡ base.boot_cpu
-    sited None e =
-        let z : None ≡ Some result = rw e at h.is in
-        absurd cc
-    sited (Some sites) e = allowed sites (is_allowed base object h.fixups h.numbers sites) refl (rw e at h.is)
+application_keeps_boot_cpu base object result h =
+    let w = comes_of base object h.fixups result h.is in
+    let numbers = new_numbers base object w.end in
+    ap (λ (t : Reading). t.boot_cpu) w.is ∙ symbols_keep_boot_cpu _ _ ∙ fragments_keep_boot_cpu (writes base object h.fixups numbers) numbers object w.end.sites base
 
 module _ (has_object : List ℕ → Reading → Type 0) where
   pub steps_keep_boot_cpu : (t : Reading) (xs : List (List ℕ)) (result : Reading) → AreSteps has_object t xs result → result.boot_cpu ≡ t.boot_cpu
@@ -88,7 +74,7 @@ module _ (has_object : List ℕ → Reading → Type 0) where
         (not : (x : List ℕ) (o : Overlay) (e : Fault) → of x o → lacks_object x e → e.kind ≢ NoMemory → e.kind ≢ Limit → ⊥)
         (sites_once : SitesAreOne) (undefined : RefusedIsUndefined) where
       refused_is_undefined : (t : Reading) (m : Meaning) (o : Overlay) (number : Path → ℕ) (x : List ℕ) (sites : List Site) (e : Fault)
-          → IsOf t m number → IsFine t → of x o → WhyNoStep has_object lacks_object t x e → e.kind ≢ NoMemory → e.kind ≢ Limit → Applies m o sites → ⊥
+          → IsOf t m number → IsFine t → of x o → WhyNoStep has_object lacks_object t x e → e.kind ≢ NoMemory → e.kind ≢ Limit → IsDefined m o sites → ⊥
       refused_is_undefined t m o number x sites _ is fine means inputs.no_memory wanted low applies = wanted refl
       refused_is_undefined t m o number x sites _ is fine means (inputs.no_object e why) wanted low applies = not x o e means why wanted low
       refused_is_undefined t m o number x sites _ is fine means (inputs.not_applied r kind h why) wanted low applies =

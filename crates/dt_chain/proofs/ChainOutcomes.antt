@@ -6,8 +6,8 @@ use Rattle.dt_model.specs.Valid.{IsValid, IsWithinLimits}
 use Rattle.dt_names.specs.declared.fault.Fault.{Fault}
 use Rattle.dt_names.specs.declared.fault.FaultKind.{FaultKind}
 use Rattle.dt_names.specs.declared.fault.FaultKind.TheVariants.{NoMemory, Limit}
-use Rattle.dt_laws.specs.InTurn.{IsApplied}
-use Rattle.dt_landing.specs.Outcomes.{AppliedIsNotRefused, LimitIsExceeded, AppliedIsOne, OneRefusal}
+use Rattle.dt_joining.specs.InTurn.{IsApplied, AppliedIsOne}
+use Rattle.dt_landing.specs.Outcomes.{AppliedIsNotRefused, LimitIsExceeded, OneRefusal}
 use Rattle.dt_landing.specs.Refusals.{WhyNotApplied}
 use Rattle.dt_write.specs.Written.{written}
 use Rattle.dt_names.specs.Fault.{placeless}
@@ -53,7 +53,7 @@ pub applied_not_refused : AppliedIsNotRefused → LimitIsExceeded → (t object 
 applied_not_refused not limit t object next kind fine valid step why = elim (sorted kind t object why) [
   | inl e ↦ e
   | inr (inl e) ↦ absurd (limit t object next fine.valid valid step.applied e.1 step.within)
-  | inr (inr e) ↦ absurd (not t object next kind fine.valid valid step.applied step.well why e.0 e.1)
+  | inr (inr e) ↦ absurd (not t object next kind valid step.applied step.well why e.0 e.1)
 ]
 
 -- ---- lists
@@ -171,7 +171,7 @@ module _ (has_base has_object : List ℕ → Reading → Type 0) where
           step _ (inputs.no_object g other) w l = absurd (w (object_not x object g h other))
           step _ (inputs.not_applied object' kind' h' other) w l =
               let same : object' ≡ object = object_one x object' object h' h in
-              ap placeless (refusal t object kind kind' why (subst (λ (o : Reading). WhyNotApplied kind' t o) same other) wanted low w l)
+              ap placeless (refusal t object kind kind' (object_fine x object h).valid why (subst (λ (o : Reading). WhyNotApplied kind' t o) same other) wanted w)
 
       -- of two refusals after the first inputs neither comes first
       stops_once : (t : Reading) (front front' back back' : List (List ℕ)) (x x' : List ℕ) (before before' : Reading) (e f : Fault)

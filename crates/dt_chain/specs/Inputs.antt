@@ -6,7 +6,7 @@ use Rattle.dt_model.specs.Valid.{IsValid, IsWithinLimits}
 use Rattle.dt_names.specs.declared.fault.Fault.{Fault}
 use Rattle.dt_names.specs.declared.fault.FaultKind.{FaultKind}
 use Rattle.dt_names.specs.declared.fault.FaultKind.TheVariants.{NoMemory, Limit}
-use Rattle.dt_laws.specs.InTurn.{IsApplied}
+use Rattle.dt_joining.specs.InTurn.{IsApplied}
 use Rattle.dt_landing.specs.Objects.{IsWellFormed}
 use Rattle.dt_landing.specs.Refusals.{WhyNotApplied}
 use Rattle.dt_write.specs.Written.{written}

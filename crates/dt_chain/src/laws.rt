@@ -34,14 +34,12 @@ ghost use Rattle.dt_chain.specs.Printing.{
 };
 
 use dt_format::{blob_has_no_fault, first_fault_is_one};
-use dt_landing::{
-    applied_is_not_refused, applied_is_one, limit_is_exceeded, one_refusal, refused_is_undefined,
-};
+use dt_joining::{applied_is_one, in_turn_is_fold, sites_are_one};
+use dt_landing::{applied_is_not_refused, limit_is_exceeded, one_refusal, refused_is_undefined};
 use dt_laws::{
     compiled_base_represents, compiled_is_not_refused, compiled_tree_is_one,
-    compiled_tree_is_valid, in_turn_is_fold, object_encodes, object_is_one, object_is_valid,
-    overlay_is_one, overlay_refusal_is_one, overlay_source_is_an_overlay, sites_are_one,
-    source_is_a_meaning,
+    compiled_tree_is_valid, object_encodes, object_is_one, object_is_valid, overlay_is_one,
+    overlay_refusal_is_one, overlay_source_is_an_overlay, source_is_a_meaning,
 };
 use dt_model::one_reading;
 use dt_parse::parsed_has_places;

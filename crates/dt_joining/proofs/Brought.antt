@@ -123,3 +123,11 @@ module _ (object : Reading) (valid : IsValid object) where
           inner : (z : Option (List ℕ)) → value_in (tree_below c) rest (codes "phandle") ≡ z → is_some z ≡ true → (n : Placed) × IsIn n (nodes_of (tree_below c)) × (n.path ≡ rest) × (has_phandle n ≡ true)
           inner None k some = absurd (true≢false (sym some))
           inner (Some v) k some = let w = value_listed (tree_below c) rest (codes "phandle") v k in (w.0, w.1, w.2, ap is_some w.3)
+
+  -- a node with a phandle that lands is one of these
+  pub source_is_new : (sites : List Site) (p q : Path) (v : List ℕ) → ((f : Name) → IsIn f (site_names sites) → IsIn f (fragment_names object.children)) → value_in object p (codes "phandle") ≡ Some v
+      → landing sites p ≡ Some q → IsIn p (new_paths object)
+  source_is_new sites p q v of h l =
+      let w = landing_from sites p q l in
+      let i : IsIn w.0.fragment (fragment_names object.children) = of w.0.fragment (in_map (λ (x : Site). x.fragment) sites w.0 w.2) in
+      subst (λ r. IsIn r (new_paths object)) (sym w.3) (new_from w.0.fragment w.1 v i (ap (λ r. value_in object r (codes "phandle")) (sym w.3) ∙ h))

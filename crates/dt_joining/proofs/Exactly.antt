@@ -2,10 +2,12 @@
 use Rattle.std.proofs.Common.{◌≡◌, ℕ, Bool, true, false, not, List, [], refl, sym, ap, ◌∙◌, Option, Some, None, true≢false}
 use Rattle.std.specs.Prelude.{MatchOption, is_some, option_and_then, if◌then◌else◌}
 use Rattle.std.specs.List.{list_all}
+use Rattle.std.specs.Int.{w32, from_be_bytes}
+use Rattle.std.proofs.lemmas.Nat.{from_be_bytes-to_be_bytes_4}
 use Rattle.dt_model.specs.Names.{Name}
 use Rattle.dt_model.specs.Path.{Path, is_bookkeeping}
 use Rattle.dt_model.specs.Lists.{IsIn}
-use Rattle.dt_model.specs.Meaning.{Item, EachReference, Meaning}
+use Rattle.dt_model.specs.Meaning.{Item, EachReference, cell, Meaning}
 use Rattle.dt_model.specs.Overlay.{OverlayReference, inside, outside, Overlay}
 use Rattle.dt_model.specs.Merged.{Site, landing, AreSites, IsGiven, IsDefined}
 use Rattle.dt_model.specs.Object.{Cell, references_from, HasFixups, fragment_names}
@@ -16,7 +18,8 @@ use Rattle.dt_model.proofs.Tests.{and_left, and_right, and_both, not_true, all_a
 use Rattle.dt_model.proofs.Listed.{stands_listed, listed_stands}
 use Rattle.dt_laws.specs.Applying.{AreOf}
 use Rattle.dt_laws.proofs.Inside.{each_from_references, plain_brought}
-use Rattle.dt_laws.proofs.Given.{symbol_is}
+use Rattle.dt_laws.proofs.Given.{symbol_is, phandle_of, no_phandle}
+use Rattle.dt_laws.proofs.Numbered.{small_number}
 use Rattle.dt_laws.proofs.Facts.{exact, given_each}
 use Rattle.dt_laws.proofs.Placed.{fragment_list, same_fragments, brought_at}
 use Rattle.dt_laws.proofs.Merge.{joining_is_merging}
@@ -25,7 +28,7 @@ use Rattle.dt_joining.specs.Joining.{IsResult, ApplyingIsMerging}
 use Rattle.dt_joining.proofs.Walks.{IsWalked, walked}
 use Rattle.dt_joining.proofs.NewNumbers.{joined_numbers}
 use Rattle.dt_joining.proofs.Sited.{walked_sites, sites_walked}
-use Rattle.dt_joining.proofs.ValidResult.{valid_result}
+use Rattle.dt_joining.proofs.ValidResult.{HasCells, valid_result}
 
 module _ (base object : Reading) (m : Meaning) (o : Overlay) (number local : Path → ℕ) (fixups : List (Name × Cell))
     (are : AreOf base object m o number local) (has : HasFixups object fixups) where
@@ -90,6 +93,18 @@ module _ (base object : Reading) (m : Meaning) (o : Overlay) (number local : Pat
   found : (sites : List Site) → IsDefined m o sites → (end : Walked) × (walks ≡ Some end) × (end.sites ≡ sites)
   found sites h = let v = sites_walked base object m o number local fixups are has sites h.placed in (v.0, same_names ∙ v.1, v.2)
 
+  -- a phandle of a tree that represents a meaning is the cell of its number
+  cells : HasCells base
+  cells q v plain e = step (m.keyed q) refl
+    where
+      step : (b : Bool) → m.keyed q ≡ b → v ≡ cell (from_be_bytes w32 v)
+      step true k =
+          let z : Some v ≡ Some (cell (number q)) = sym e ∙ phandle_of base m number are.represented are.meaning are.plain q k in
+          let is : v ≡ cell (number q) = cc in
+          let back : from_be_bytes w32 (cell (number q)) ≡ number q = from_be_bytes-to_be_bytes_4 (number q) (small_number (number q) (are.represented.naming.high q k)) in
+          is ∙ ap cell (sym back ∙ ap (from_be_bytes w32) (sym is))
+      step false k = absurd (let z : Some v ≡ None = sym e ∙ no_phandle base m number are.represented are.meaning are.plain q plain k in cc)
+
   result_is : (end : Walked) → walks ≡ Some end → IsDefined m o end.sites → IsResult base m o number (applied_at base object fixups (new_numbers base object end) end.sites) end.sites
   result_is end e h =
       let all : IsWalked base object (fragment_names object.children) end = walked base object fixups are.valid_object end e in
@@ -100,7 +115,7 @@ module _ (base object : Reading) (m : Meaning) (o : Overlay) (number local : Pat
         number' = number_after end.sites number (number_in (new_numbers base object end));
         represents = r.represents;
         extends = r.extends;
-        valid = valid_result base object m o number local fixups are has end all h;
+        valid = valid_result base object fixups are.valid_base are.valid_object are.few_in_base are.few_in_object cells end e (tests_pass end.sites h);
         boot_cpu = r.boot_cpu;
         bookkeeping = r.bookkeeping;
       }

@@ -1,12 +1,15 @@
 pub mod Brought
 pub mod Counting
 pub mod Exactly
+pub mod Finds
 pub mod Folding
 pub mod Least
+pub mod Lookups
 pub mod NewNumbers
 pub mod OneSites
 pub mod Phandles
 pub mod Places
+pub mod PlainLabels
 pub mod Sited
 pub mod Standing
 pub mod Targets

@@ -4,6 +4,7 @@ use Rattle.std.specs.Prelude.{is_some, option_map, option_and_then, unwrap_or, i
 use Rattle.std.specs.Option.{option_or}
 use Rattle.std.specs.Int.{w32, from_be_bytes}
 use Rattle.std.proofs.lemmas.Nat.{from_be_bytes-to_be_bytes_4}
+use Rattle.dt_model.specs.Names.{Name}
 use Rattle.dt_model.specs.Path.{Path, path_eq, is_bookkeeping}
 use Rattle.dt_model.specs.Lists.{IsIn}
 use Rattle.dt_model.specs.Meaning.{cell, Meaning}
@@ -68,15 +69,19 @@ some_number : (y : Option ℕ) → is_some y ≡ true → (n : ℕ) × (y ≡ So
 some_number None h = absurd (true≢false (sym h))
 some_number (Some n) h = (n, refl)
 
+-- behind a front of the fragments, no more places have a number than the object has nodes
+pub few_walked : (base object : Reading) (done : List Name) (w : Walked) → IsWithinLimits object → IsWalked base object done w → length (places w.given) ≤ 65536
+few_walked base object done w few h =
+    let a = no_more (landing w.sites) (places w.given) (new_paths object) h.given.distinct h.of in
+    let b = few_new object few in
+    omega (arith, a, b)
+
 module _ (base object : Reading) (valid : IsValid object) (few_base : IsWithinLimits base) (few_object : IsWithinLimits object) (w : Walked)
     (all : IsWalked base object (fragment_names object.children) w) where
   -- ---- what was given
 
   few_given : length (places w.given) ≤ 65536
-  few_given =
-      let a = no_more (landing w.sites) (places w.given) (new_paths object) all.given.distinct all.of in
-      let b = few_new object few_object in
-      omega (arith, a, b)
+  few_given = few_walked base object (fragment_names object.children) w few_object all
 
   pub given_range : (q : Path) (n : ℕ) → number_in w.given q ≡ Some n → (1 ≤ n) × (n ≤ 0xfffffffe)
   given_range q n e =

@@ -55,7 +55,7 @@ places_last : (given : List (Path × ℕ)) (q : Path) (n : ℕ) → places (give
 places_last [] q n = refl
 places_last (x ∷ given) q n = ap (λ z. x.0 ∷ z) (places_last given q n)
 
-number_in-last : (given : List (Path × ℕ)) (q p : Path) (n : ℕ) → number_in (given ++ (q, n) ∷ []) p ≡ option_or (number_in given p) (if path_eq q p then Some n else None)
+pub number_in-last : (given : List (Path × ℕ)) (q p : Path) (n : ℕ) → number_in (given ++ (q, n) ∷ []) p ≡ option_or (number_in given p) (if path_eq q p then Some n else None)
 number_in-last [] q p n = refl
 number_in-last ((r, k) ∷ given) q p n = step (path_eq r p) (number_in-last given q p n)
   where
@@ -99,7 +99,7 @@ in_single : (x q : Path) → IsIn x (q ∷ []) → x ≡ q
 in_single x q (inl same) = same
 in_single x q (inr i) = absurd i
 
-in_last : {X : Type 0} (x y : X) (xs : List X) → IsIn x (xs ++ y ∷ []) → IsIn x xs ⊎ (x ≡ y)
+pub in_last : {X : Type 0} (x y : X) (xs : List X) → IsIn x (xs ++ y ∷ []) → IsIn x xs ⊎ (x ≡ y)
 in_last x y [] (inl same) = inr same
 in_last x y [] (inr i) = absurd i
 in_last x y (z ∷ xs) (inl same) = inl (inl same)

@@ -145,7 +145,7 @@ module _ (base object : Reading) (m : Meaning) (o : Overlay) (number local : Pat
           ∙ ap (λ y. named_node base object w y (list_any (is_target f.name) (local_cells object)) (number_at (value_bytes (object_number local) (reference (inside p) ∷ [])) 0)) (no_label f p held)
           ∙ ap (λ b. named_node base object w None b (number_at (value_bytes (object_number local) (reference (inside p) ∷ [])) 0)) (listed_inside f p held)
           ∙ ap (λ n. option_and_then (landing w.sites) (node_numbered (nodes_of object) n))
-            (read_value (object_number local) (reference (inside p) ∷ []) 0 (inside p) (inl refl) (small_number (local p) (are.encoded.high p inner.0)))
+          (read_value (object_number local) (reference (inside p) ∷ []) 0 (inside p) (inl refl) (small_number (local p) (are.encoded.high p inner.0)))
           ∙ ap (option_and_then (landing w.sites)) (own_node p inner)
 
   -- a target by a path

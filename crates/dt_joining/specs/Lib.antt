@@ -1,3 +1,4 @@
+pub mod Found
 pub mod InTurn
 pub mod Joining
 pub mod Rows

@@ -1,5 +1,6 @@
 //! Applying an object to a tree is merging what they mean, second phandles joined.
 
+ghost use Rattle.dt_joining.specs.Found.{AppliedIsFound};
 ghost use Rattle.dt_joining.specs.InTurn.{AppliedIsOne, FoldIsInTurn, InTurnIsFold};
 ghost use Rattle.dt_joining.specs.Joining.{ApplyingIsMerging, LeastIsFree, SitesAreOne};
 
@@ -22,6 +23,14 @@ pub fn sites_are_one()
 /// An object is applied to a tree in one way: no two trees come of it.
 pub fn applied_is_one()
     ensures { AppliedIsOne }
+{}
+
+/// What is found after an application, by paths, whoever wrote the two trees: a node stands where one of the base does or one of
+/// the object lands; a property is that of the last node that lands with one, with the numbers of their nodes in its cells, a
+/// `phandle` its node's, or else the base's; a label is the path of the node that lands with it, or else the base's; reservations
+/// and boot CPU are the base's.
+pub fn applied_is_found()
+    ensures { AppliedIsFound }
 {}
 
 /// Applying objects one after another is merging what they mean, one after another.

@@ -1,28 +1,19 @@
--- While nodes land, each phandle of the tree is one of the base's or a new number, on the path on which its node lands.
-use Rattle.std.proofs.Common.{◌≡◌, ℕ, ◌<◌, ◌≤◌, Bool, true, false, List, [], ◌∷◌, ◌++◌, length, codes, refl, sym, ap, subst, ◌∙◌, ◌⊎◌, inl, inr, Option, Some, None, true≢false, append-nil, arith}
+-- While nodes land, each phandle of the tree comes from where the result's do.
+use Rattle.std.proofs.Common.{◌≡◌, ℕ, ◌<◌, Bool, true, false, List, [], ◌∷◌, ◌++◌, length, codes, refl, sym, ap, subst, ◌∙◌, ◌⊎◌, inl, inr, Option, Some, None, append-nil}
 use Rattle.std.specs.Prelude.{option_and_then}
 use Rattle.std.specs.Option.{option_or}
 use Rattle.std.specs.List.{AllByRecursion}
-use Rattle.std.specs.Int.{w32, from_be_bytes}
 use Rattle.std.specs.Str.{bytes_eq}
-use Rattle.std.proofs.lemmas.Nat.{from_be_bytes-to_be_bytes_4}
 use Rattle.dt_model.specs.Limits.{most_names}
 use Rattle.dt_model.specs.Names.{Name}
 use Rattle.dt_model.specs.Path.{Path, below}
-use Rattle.dt_model.specs.Meaning.{cell}
-use Rattle.dt_model.specs.Merged.{Site, landing}
-use Rattle.dt_model.specs.Numbers.{numbers_of, new_paths, AreNewNumbers, number_in}
 use Rattle.dt_model.specs.Tree.{Property, Forest, no_nodes, branch, Reading, value_in}
-use Rattle.dt_model.specs.Valid.{IsValid, IsWithinLimits, IsPhandle}
+use Rattle.dt_model.specs.Valid.{IsPhandle}
 use Rattle.dt_model.specs.Changes.{set_property, with_child, with_child_at, with_property_at}
-use Rattle.dt_landing.specs.Steps.{land_properties, land_nodes, MaySetValue, MayLandProperties, MayLandNodes}
 use Rattle.dt_model.proofs.Tests.{bytes_eq_true}
 use Rattle.dt_laws.proofs.Lands.{append-below}
 use Rattle.dt_laws.proofs.Merging.{value_below}
-use Rattle.dt_model.proofs.Preorder.{own_phandle}
-use Rattle.dt_laws.proofs.Fresh.{number_low, number_is_free, own_number}
-use Rattle.dt_laws.proofs.Numbered.{small_number, taken_all, few_taken, few_new}
-use Rattle.dt_landing.proofs.PlainSymbols.{phandle_there}
+use Rattle.dt_landing.specs.Steps.{land_properties, land_nodes, MaySetValue, MayLandProperties, MayLandNodes}
 use Rattle.dt_landing.proofs.SingleChanges.{only_child, only_property, nothing_there, stands_or_not, value-with_child, value-with_property}
 
 -- ---- what one change does to values
@@ -71,50 +62,11 @@ property_values q name value t p key v h = elim (stands_or_not t q) [
 
 -- ---- where phandles come from
 
-module _ (base object : Reading) (numbers : List (Path × ℕ)) (sites : List Site)
-    (valid : IsValid base) (few_in_base : IsWithinLimits base) (few_in_object : IsWithinLimits object) (new : AreNewNumbers base object numbers) where
-  -- the base's phandle of the path, or the new number of a node that lands there
-  abbrev pub From : Path → List ℕ → Type 0
-  From q v = (value_in base q (codes "phandle") ≡ Some v) ⊎ ((p : Path) × (n : ℕ) × (number_in numbers p ≡ Some n) × (landing sites p ≡ Some q) × (v ≡ cell n))
-
-  number_high : (p : Path) (n : ℕ) → number_in numbers p ≡ Some n → n ≤ 0xfffffffe
-  number_high p n e =
-      let a = (number_low (numbers_of base) (new_paths object) numbers p n new e).1 in
-      let b = few_taken base few_in_base in
-      let c = few_new object few_in_object in
-      omega (arith, a, b, c)
-
-  cell_back : (p : Path) (n : ℕ) → number_in numbers p ≡ Some n → from_be_bytes w32 (cell n) ≡ n
-  cell_back p n e = from_be_bytes-to_be_bytes_4 n (small_number n (number_high p n e))
-
-  unused : (p q : Path) (n : ℕ) → number_in numbers p ≡ Some n → value_in base q (codes "phandle") ≡ Some (cell n) → ⊥
-  unused p q n e v = true≢false (sym (taken_all base q n (number_high p n e) v) ∙ number_is_free (numbers_of base) (new_paths object) numbers p n new e)
-
-  is_phandle : (q : Path) (v : List ℕ) → From q v → IsPhandle v
-  is_phandle q v (inl h) = phandle_there base q v valid h
-  is_phandle q v (inr w) =
-      let low = (number_low (numbers_of base) (new_paths object) numbers w.0 w.1 new w.2).0 in
-      let back = sym (cell_back w.0 w.1 w.2) in
-      subst IsPhandle (sym w.4) (record { four = refl; low = subst (λ k. 1 ≤ k) back low; high = subst (λ k. k ≤ 0xfffffffe) back (number_high w.0 w.1 w.2) })
-
-  one_path : (q r : Path) (v : List ℕ) → From q v → From r v → q ≡ r
-  one_path q r v (inl h) (inl k) = own_phandle base q r v valid h k
-  one_path q r v (inl h) (inr w) = absurd (unused w.0 q w.1 w.2 (h ∙ ap Some w.4))
-  one_path q r v (inr w) (inl k) = absurd (unused w.0 r w.1 w.2 (k ∙ ap Some w.4))
-  one_path q r v (inr w) (inr u) =
-      let same : w.1 ≡ u.1 = sym (cell_back w.0 w.1 w.2) ∙ ap (from_be_bytes w32) (sym w.4 ∙ u.4) ∙ cell_back u.0 u.1 u.2 in
-      let one : w.0 ≡ u.0 = own_number (numbers_of base) (new_paths object) numbers w.0 u.0 w.1 new w.2 (u.2 ∙ ap Some (sym same)) in
-      let z : Some q ≡ Some r = sym w.3 ∙ ap (landing sites) one ∙ u.3 in
-      cc
-
-  -- ---- landing changes nothing about that
-
+-- a phandle comes to a path from somewhere: it is one, and comes to one path alone
+module _ (From : Path → List ℕ → Type 0) (is_phandle : (q : Path) (v : List ℕ) → From q v → IsPhandle v) (one_path : (q r : Path) (v : List ℕ) → From q v → From r v → q ≡ r) where
   -- each phandle of the tree comes from there
   abbrev pub IsHeld : Reading → Type 0
   IsHeld t = (q : Path) (v : List ℕ) → value_in t q (codes "phandle") ≡ Some v → From q v
-
-  pub held_base : IsHeld base
-  held_base q v h = inl h
 
   held_child : (q : Path) (name : Name) (t : Reading) → IsHeld t → IsHeld (with_child_at q name t)
   held_child q name t held p v h = held p v (sym (child_values q name t p (codes "phandle")) ∙ h)

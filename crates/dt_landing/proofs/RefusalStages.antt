@@ -3,20 +3,18 @@ use Rattle.std.proofs.Common.{◌≡◌, ◌≢◌, ℕ, List, [], ◌∷◌, �
 use Rattle.std.specs.Prelude.{option_and_then}
 use Rattle.std.specs.List.{AllByRecursion}
 use Rattle.dt_model.specs.Names.{Name}
-use Rattle.dt_model.specs.Numbers.{numbers_of, new_paths}
 use Rattle.dt_model.specs.Object.{Cell, fragment_names, properties_of}
 use Rattle.dt_model.specs.Tree.{Property, Reading, node_at, nodes_of, value_in}
-use Rattle.dt_model.specs.Applied.{writes, node_named}
+use Rattle.dt_model.specs.Applied.{node_named}
 use Rattle.dt_names.specs.declared.fault.FaultKind.{FaultKind}
-use Rattle.dt_names.specs.declared.fault.FaultKind.TheVariants.{NoMemory, Limit, NoSymbol, BadSymbol, NoTarget, BadFixup, BadLocalFixup, SecondPhandle, NoFragmentTarget, ReservedPlace}
+use Rattle.dt_names.specs.declared.fault.FaultKind.TheVariants.{NoMemory, Limit, NoSymbol, BadSymbol, NoTarget, BadFixup, BadLocalFixup, NoFragmentTarget, ReservedPlace}
 use Rattle.dt_model.proofs.Tests.{each_in}
 use Rattle.dt_laws.proofs.CellTexts.{one_fixups}
-use Rattle.dt_laws.proofs.LeastNumbers.{numbers_are_one}
+use Rattle.dt_joining.specs.Walk.{nothing_walked}
 use Rattle.dt_landing.specs.Landings.{HasNoSite}
 use Rattle.dt_landing.specs.Objects.{HasTarget, HaveTargets, SymbolHasNumber, AreCellsOf, IsFixup, AreFixedUp, AreMirrors, IsSymbol, AreSymbols, fixups_in, symbols_in, IsWellFormed}
-use Rattle.dt_landing.specs.Outcomes.{OneRefusal}
-use Rattle.dt_landing.specs.Refusals.{HasNoTarget, WhyNoFixup, HasNoFixup, HasNoMirror, HasNoSymbol, HasNoSites, WhyNotApplied}
-use Rattle.dt_landing.proofs.FirstSites.{none_of, none_one}
+use Rattle.dt_landing.specs.Refusals.{HasNoTarget, WhyNoFixup, HasNoFixup, HasNoMirror, HasNoSymbol, HasNoSites, IsOverfull, WhyNotApplied}
+use Rattle.dt_landing.proofs.Sited.{none_one}
 
 -- ---- the first property of `__fixups__` that gets no numbers
 
@@ -119,22 +117,22 @@ module _ (base object : Reading) where
   behind_all : (k : FaultKind) → HasNoSites k base object → AtTargets k
   behind_all k h = let w = h.well in inr (w.targets, inr (w.fixups, inr (w.mirror, inr h)))
 
-  -- memory and limits aside a refusal is at one of them
-  pub stage_of : (k : FaultKind) → WhyNotApplied k base object → k ≢ NoMemory → k ≢ Limit → AtTargets k
-  stage_of NoMemory h memory limit = absurd (memory refl)
-  stage_of Limit h memory limit = absurd (limit refl)
-  stage_of NoFragmentTarget h memory limit = inl (refl, h)
-  stage_of BadFixup h memory limit = inr (h.0, inl h.1)
-  stage_of NoSymbol h memory limit = inr (h.0, inl h.1)
-  stage_of BadSymbol h memory limit = elim h.1 [
+  -- memory and the number of nodes aside a refusal is at one of them
+  pub stage_of : (k : FaultKind) → WhyNotApplied k base object → k ≢ NoMemory → ((k ≡ Limit) × IsOverfull base object) ⊎ AtTargets k
+  stage_of NoMemory h memory = absurd (memory refl)
+  stage_of Limit (inl h) memory = inr (behind_all Limit h)
+  stage_of Limit (inr h) memory = inl (refl, h)
+  stage_of NoFragmentTarget h memory = inr (inl (refl, h))
+  stage_of BadFixup h memory = inr (inr (h.0, inl h.1))
+  stage_of NoSymbol h memory = inr (inr (h.0, inl h.1))
+  stage_of BadSymbol h memory = inr (elim h.1 [
     | inl first ↦ inr (h.0, inl first)
     | inr w ↦ inr (h.0, inr (w.0, inr (w.1, inl (refl, w.2))))
-  ]
-  stage_of BadLocalFixup h memory limit = inr (h.0, inr (h.1, inl (refl, h.2)))
-  stage_of NoTarget h memory limit = behind_all NoTarget h
-  stage_of ReservedPlace h memory limit = behind_all ReservedPlace h
-  stage_of SecondPhandle h memory limit = behind_all SecondPhandle h
-  stage_of _ h memory limit = absurd h
+  ])
+  stage_of BadLocalFixup h memory = inr (inr (h.0, inr (h.1, inl (refl, h.2))))
+  stage_of NoTarget h memory = inr (behind_all NoTarget h)
+  stage_of ReservedPlace h memory = inr (behind_all ReservedPlace h)
+  stage_of _ h memory = absurd h
 
   -- what is passed isn't where it stops
   target_not : HasNoTarget object → HaveTargets object → ⊥
@@ -160,12 +158,8 @@ module _ (base object : Reading) where
   one_at_sites : (k k' : FaultKind) → HasNoSites k base object → HasNoSites k' base object → k ≡ k'
   one_at_sites k k' h h' =
       let fixups : h.fixups ≡ h'.fixups = one_fixups (properties_of (node_at object (codes "__fixups__" ∷ []))) h.fixups h'.fixups h.listed h'.listed in
-      let numbers : h.numbers ≡ h'.numbers = numbers_are_one (numbers_of base) (new_paths object) h.numbers h'.numbers h.new h'.new in
-      let first : HasNoSite k base object (writes base object h'.fixups h'.numbers) h'.numbers =
-      subst (λ ns. HasNoSite k base object (writes base object h'.fixups ns) ns) numbers
-      (subst (λ fs. HasNoSite k base object (writes base object fs h.numbers) h.numbers) fixups h.why) in
-      none_one base object (writes base object h'.fixups h'.numbers) h'.numbers k k' (fragment_names object.children) []
-      (none_of base object (writes base object h'.fixups h'.numbers) h'.numbers k first) (none_of base object (writes base object h'.fixups h'.numbers) h'.numbers k' h'.why)
+      none_one base object h'.fixups k k' (fragment_names object.children) nothing_walked
+      (subst (λ fs. HasNoSite k base object fs nothing_walked (fragment_names object.children)) fixups h.why) h'.why
 
   one_at_symbols : (k k' : FaultKind) → AtSymbols k → AtSymbols k' → k ≡ k'
   one_at_symbols k k' (inl h) (inl h') = h.0 ∙ sym h'.0
@@ -190,7 +184,3 @@ module _ (base object : Reading) where
   one_at_targets k k' (inl h) (inr h') = absurd (target_not h.1 h'.0)
   one_at_targets k k' (inr h) (inl h') = absurd (target_not h'.1 h.0)
   one_at_targets k k' (inr h) (inr h') = one_at_fixups k k' h.1 h'.1
-
-pub one_refusal : OneRefusal
-one_refusal base object kind other why why' memory limit memory' limit' =
-    one_at_targets base object kind other (stage_of base object kind why memory limit) (stage_of base object other why' memory' limit')

@@ -1,15 +1,13 @@
--- A tree with its cells written: what look-ups find in it, what of it lands, and what is looked at before that.
+-- A tree with its cells written: what look-ups find in it, and what of it lands.
 use Rattle.std.proofs.Common.{◌≡◌, ℕ, Bool, true, false, List, [], ◌∷◌, ◌++◌, map, codes, refl, sym, ap, ◌∙◌, Option, Some, None, append_assoc, append-nil}
-use Rattle.std.specs.Prelude.{is_some, option_map, option_and_then, if◌then◌else◌}
+use Rattle.std.specs.Prelude.{option_map, option_and_then, if◌then◌else◌}
 use Rattle.std.specs.Str.{bytes_eq}
 use Rattle.dt_model.specs.Names.{Name}
 use Rattle.dt_model.specs.Path.{Path}
 use Rattle.dt_model.specs.Overlay.{content}
 use Rattle.dt_model.specs.Numbers.{number_in}
 use Rattle.dt_model.specs.Tree.{Property, Forest, no_nodes, branch, Reading, Node, value_of, sibling, node_below, root_of, node_at, value_in}
-use Rattle.dt_model.specs.Changes.{with_child_at}
 use Rattle.dt_model.specs.Applied.{Write, written, written_property, written_forest, brought}
-use Rattle.dt_landing.specs.Checking.{then_check, check_number, check_node, check_nodes, check_content, with_places}
 use Rattle.dt_landing.specs.Writing.{with_cells_of, cells_written, with_cells, landed_property, landed_forest, landed}
 use Rattle.dt_model.proofs.Tests.{bytes_eq_true}
 
@@ -33,14 +31,6 @@ module _ (ws : List Write) where
           → value_of (map (with_cells_of ws path) (p ∷ ps)) name ≡ option_map (value_with_cells ws path name) (value_of (p ∷ ps) name)
       step more true e = rw e (ap (λ n. Some (value_with_cells ws path n p.value)) (sym (bytes_eq_true name p.name e)))
       step more false e = rw e more
-
-  -- a property is there as before
-  there-with_cells : (path : Path) (ps : List Property) (name : Name) → is_some (value_of (map (with_cells_of ws path) ps) name) ≡ is_some (value_of ps name)
-  there-with_cells path ps name = ap is_some (value_of-with_cells path ps name) ∙ step (value_of ps name)
-    where
-      step : (y : Option (List ℕ)) → is_some (option_map (value_with_cells ws path name) y) ≡ is_some y
-      step None = refl
-      step (Some v) = refl
 
   -- the sibling of a name, with its cells written
   sibling-with_cells : (path : Path) (fs : Forest) (x : Name) → sibling (cells_written ws path fs) x ≡ option_map (node_with_cells ws (path ++ x ∷ [])) (sibling fs x)
@@ -106,29 +96,3 @@ module _ (ws : List Write) where
         step : (y : Option Node) → landed numbers f (option_map (node_with_cells ws (content f)) y) ≡ brought ws numbers f y
         step None = refl
         step (Some n) = λ i. record { properties = properties-landed (content f) n.properties i; children = forest-landed (content f) n.children i }
-
-  -- ---- what is looked at
-
-  module _ (base : Reading) where
-    -- a look at a node's number asks only whether there is a phandle
-    number-looked_at : (q path : Path) (ps : List Property) (s : Reading) → check_number base q (map (with_cells_of ws path) ps) s ≡ check_number base q ps s
-    number-looked_at q path ps s = rw (there-with_cells path ps (codes "phandle")) refl
-
-    -- a look at a node asks for no value
-    node-looked_at : (q : Path) (name : Name) (path : Path) (ps : List Property) (s : Reading) → check_node base q name (map (with_cells_of ws path) ps) s ≡ check_node base q name ps s
-    node-looked_at q name path ps s = rw (number-looked_at (q ++ name ∷ []) path ps (with_child_at q name s)) refl
-
-    -- nor does one at nodes in preorder
-    nodes-looked_at : (q path : Path) (fs : Forest) (s : Reading) → check_nodes base q (cells_written ws path fs) s ≡ check_nodes base q fs s
-    nodes-looked_at q path no_nodes s = refl
-    nodes-looked_at q path (branch name properties children siblings) s =
-        λ i. then_check (node-looked_at q name (path ++ name ∷ []) properties s i)
-        (λ s1. then_check (nodes-looked_at (q ++ name ∷ []) (path ++ name ∷ []) children s1 i) (λ s2. nodes-looked_at q path siblings s2 i))
-
-    -- so the look at what a fragment brings is as before
-    pub looked_at_as_written : (object s : Reading) (f : Name) (q : Path) → check_content base q (node_at (with_cells ws object) (content f)) s ≡ check_content base q (node_at object (content f)) s
-    looked_at_as_written object s f q = ap (λ y. check_content base q y s) (node_at-with_cells object (content f)) ∙ step (node_at object (content f))
-      where
-        step : (y : Option Node) → check_content base q (option_map (node_with_cells ws (content f)) y) s ≡ check_content base q y s
-        step None = refl
-        step (Some n) = λ i. then_check (number-looked_at q (content f) n.properties (with_places [] q s) i) (λ s1. nodes-looked_at q (content f) n.children s1 i)

@@ -1,4 +1,3 @@
-pub mod Checking
 pub mod Landings
 pub mod Laws
 pub mod Objects

@@ -1,6 +1,7 @@
 -- What an object has to be so that it is applied, in the order in which it is looked at (dtc's notes on overlay objects).
 use Rattle.std.specs.Prelude.{◌≡◌, ◌≢◌, ℕ, ◌+◌, ◌≤◌, ◌%◌, ◌⊎◌, true, List, [], ◌∷◌, ◌++◌, length, Some, None, codes}
 use Rattle.std.specs.List.{AllByRecursion}
+use Rattle.std.specs.Int.{w32, from_be_bytes}
 use Rattle.dt_model.specs.Names.{Name, IsNodeName}
 use Rattle.dt_model.specs.Path.{Path, path_text, path_value}
 use Rattle.dt_model.specs.Meaning.{cell}
@@ -14,6 +15,10 @@ use Rattle.dt_model.specs.Applied.{node_named, node_numbered, number_at, symbol}
 -- the node of the path has the number as its phandle
 abbrev pub HasNumber : Reading → Path → ℕ → Type 0
 HasNumber t p n = value_in t p (codes "phandle") ≡ Some (cell n)
+
+-- each phandle is the cell of its number
+abbrev pub HasCells : Reading → Type 0
+HasCells t = (p : Path) (value : List ℕ) → value_in t p (codes "phandle") ≡ Some value → value ≡ cell (from_be_bytes w32 value)
 
 -- ---- fragments
 

@@ -1,19 +1,17 @@
 -- Why an object isn't applied.
-use Rattle.std.specs.Prelude.{◌≡◌, ◌≢◌, ℕ, ◌+◌, ◌<◌, ◌⊎◌, true, List, [], ◌∷◌, ◌++◌, length, Some, None, codes}
+use Rattle.std.specs.Prelude.{◌≡◌, ◌≢◌, ℕ, ◌+◌, ◌<◌, ◌⊎◌, true, List, [], ◌∷◌, ◌++◌, None, codes}
 use Rattle.std.specs.List.{AllByRecursion}
 use Rattle.dt_model.specs.Limits.{most_nodes}
 use Rattle.dt_model.specs.Names.{Name}
 use Rattle.dt_model.specs.Path.{Path}
 use Rattle.dt_model.specs.Lists.{IsIn}
 use Rattle.dt_model.specs.Tree.{Property, Reading, stands_in, value_in}
-use Rattle.dt_model.specs.Valid.{AreDistinct, node_count}
-use Rattle.dt_laws.specs.InTurn.{IsApplied}
-use Rattle.dt_model.specs.Merged.{Site, landing}
+use Rattle.dt_model.specs.Valid.{node_count}
 use Rattle.dt_model.specs.Object.{Cell, HasFixups, fragment_names}
-use Rattle.dt_model.specs.Numbers.{AreNewNumbers}
-use Rattle.dt_model.specs.Applied.{Write, writes, find_sites}
+use Rattle.dt_joining.specs.InTurn.{IsApplied}
+use Rattle.dt_joining.specs.Walk.{nothing_walked}
 use Rattle.dt_names.specs.declared.fault.FaultKind.{FaultKind}
-use Rattle.dt_names.specs.declared.fault.FaultKind.TheVariants.{NoMemory, Limit, NoSymbol, BadSymbol, NoTarget, BadFixup, BadLocalFixup, SecondPhandle, NoFragmentTarget, ReservedPlace}
+use Rattle.dt_names.specs.declared.fault.FaultKind.TheVariants.{NoMemory, Limit, NoSymbol, BadSymbol, NoTarget, BadFixup, BadLocalFixup, NoFragmentTarget, ReservedPlace}
 use Rattle.dt_landing.specs.Landings.{HasNoSite}
 use Rattle.dt_landing.specs.Objects.{HasTarget, HaveTargets, AreCellsOf, SymbolHasNumber, IsFixup, AreFixedUp, IsMirror, AreMirrors, IsSymbol, fixups_in, symbols_in, IsWellFormed}
 
@@ -50,47 +48,26 @@ HasNoMirror object = (p : Path) × (stands_in object (codes "__local_fixups__" �
 abbrev pub HasNoSymbol : Reading → Type 0
 HasNoSymbol object = (x : Property) × IsIn x (symbols_in object) × ¬ IsSymbol object x.value
 
--- the object is well formed, with the cells that wait for labels and the numbers of the nodes that it brings; but a fragment has
--- no site
+-- the object is well formed, with these cells that wait for labels; but a fragment has no site
 pub record HasNoSites (kind : FaultKind) (base object : Reading) : Type 0 where
   pub well : IsWellFormed base object
   pub fixups : List (Name × Cell)
-  pub numbers : List (Path × ℕ)
   pub listed : HasFixups object fixups
-  pub new : AreNewNumbers base object numbers
-  pub why : HasNoSite kind base object (writes base object fixups numbers) numbers
+  pub why : HasNoSite kind base object fixups nothing_walked (fragment_names object.children)
 
 -- ---- too many nodes
 
--- more than 65,536 nodes stand in the base, or land on it as far as the object's fragments have sites
-pub record IsCrowdedAt (base object : Reading) (ws : List Write) (numbers : List (Path × ℕ)) : Type 0 where
-  pub front : List Name
-  pub back : List Name
-  pub sites : List Site
-  pub fragments : fragment_names object.children ≡ front ++ back
-  pub sited : find_sites base object ws numbers [] front ≡ Some sites
-  pub paths : List Path
-  pub distinct : AreDistinct paths
-  pub standing : AllByRecursion (λ q. (stands_in base q ≡ true) ⊎ ((p : Path) × (stands_in object p ≡ true) × (landing sites p ≡ Some q))) paths
-  pub many : most_nodes < length paths
-
-pub record IsCrowded (base object : Reading) : Type 0 where
-  pub fixups : List (Name × Cell)
-  pub numbers : List (Path × ℕ)
-  pub listed : HasFixups object fixups
-  pub new : AreNewNumbers base object numbers
-  pub crowded : IsCrowdedAt base object (writes base object fixups numbers) numbers
-
--- what would come of it has more than 65,536 nodes
+-- the object is well formed, and its fragments have sites, but what would come of it has more than 65,536 nodes
 pub record IsOverfull (base object : Reading) : Type 0 where
+  pub well : IsWellFormed base object
   pub result : Reading
   pub applied : IsApplied base object result
   pub many : most_nodes < 1 + node_count result.children
 
 -- ---- all of them
 
--- Why an object isn't applied to a base: memory may be refused at any time, and there may be too many nodes; or else this is its
--- first fault.
+-- Why an object isn't applied to a base: memory may be refused at any time; or else this is its first fault, of which too many nodes
+-- are the last.
 abbrev pub WhyNotApplied : FaultKind → Reading → Reading → Type 0
 WhyNotApplied NoMemory base object = Unit {0}
 WhyNotApplied NoFragmentTarget base object = HasNoTarget object
@@ -101,6 +78,5 @@ WhyNotApplied BadSymbol base object =
 WhyNotApplied BadLocalFixup base object = HaveTargets object × AreFixedUp base object × HasNoMirror object
 WhyNotApplied NoTarget base object = HasNoSites NoTarget base object
 WhyNotApplied ReservedPlace base object = HasNoSites ReservedPlace base object
-WhyNotApplied SecondPhandle base object = HasNoSites SecondPhandle base object
-WhyNotApplied Limit base object = HasNoSites Limit base object ⊎ IsCrowded base object ⊎ IsOverfull base object
+WhyNotApplied Limit base object = HasNoSites Limit base object ⊎ IsOverfull base object
 WhyNotApplied _ base object = ⊥

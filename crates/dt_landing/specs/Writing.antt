@@ -1,14 +1,13 @@
 -- An object with its cells written, and its nodes as they land.
-use Rattle.std.specs.Prelude.{◌≡◌, ℕ, List, [], ◌∷◌, ◌++◌, map, Option, Some, None, option_map, unwrap_or, if◌then◌else◌, codes}
+use Rattle.std.specs.Prelude.{◌≡◌, ℕ, List, [], ◌∷◌, ◌++◌, map, Option, Some, None, unwrap_or, if◌then◌else◌, codes}
 use Rattle.std.specs.Str.{bytes_eq}
 use Rattle.dt_model.specs.Names.{Name}
 use Rattle.dt_model.specs.Path.{Path}
 use Rattle.dt_model.specs.Meaning.{cell}
-use Rattle.dt_model.specs.Tree.{Property, Forest, no_nodes, branch, Reading, Node, node_at, value_in}
+use Rattle.dt_model.specs.Tree.{Property, Forest, no_nodes, branch, Reading, Node, node_at}
 use Rattle.dt_model.specs.Overlay.{content}
 use Rattle.dt_model.specs.Applied.{Write, written, brought}
 use Rattle.dt_model.specs.Numbers.{number_in}
-use Rattle.dt_landing.specs.Checking.{check_content}
 
 -- a property with its cells written, but for a `phandle`, which keeps its value until its node lands
 abbrev pub with_cells_of : List Write → Path → Property → Property
@@ -44,13 +43,3 @@ landed numbers f (Some n) =
 abbrev pub LandedIsBrought : Type 0
 LandedIsBrought = (object : Reading) (ws : List Write) (numbers : List (Path × ℕ)) (f : Name)
     → landed numbers f (node_at (with_cells ws object) (content f)) ≡ brought ws numbers f (node_at object (content f))
-
--- what is looked at before anything lands hangs on no cell
-abbrev pub LookedAtAsWritten : Type 0
-LookedAtAsWritten = (base object s : Reading) (ws : List Write) (f : Name) (q : Path)
-    → check_content base q (node_at (with_cells ws object) (content f)) s ≡ check_content base q (node_at object (content f)) s
-
--- a target that is a number
-abbrev pub TargetIsWritten : Type 0
-TargetIsWritten = (object : Reading) (ws : List Write) (f : Name)
-    → value_in (with_cells ws object) (f ∷ []) (codes "target") ≡ option_map (written (f ∷ []) (codes "target") ws) (value_in object (f ∷ []) (codes "target"))

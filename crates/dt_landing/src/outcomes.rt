@@ -1,12 +1,11 @@
 //! Why an object isn't applied, and what that says of the overlay.
 
-ghost use Rattle.dt_landing.specs.Outcomes.{RefusedIsUndefined, AppliedIsNotRefused, PassedIsApplied, LimitIsExceeded, AppliedIsOne, OneRefusal};
+ghost use Rattle.dt_landing.specs.Outcomes.{RefusedIsUndefined, AppliedIsNotRefused, SitedIsApplied, LimitIsExceeded, OneRefusal};
 
-use crate::checking::passed_is_allowed;
 use crate::landing::allowed_may_land;
-use dt_laws::applying_is_merging;
+use dt_joining::applying_is_merging;
 
-/// Memory and limits aside, an object of an overlay is refused only where the overlay can't be applied.
+/// Memory and limits aside, an object of an overlay is refused only where the overlay can't be merged into the base's meaning.
 pub fn refused_is_undefined()
     ensures { RefusedIsUndefined }
 {
@@ -18,12 +17,11 @@ pub fn applied_is_not_refused()
     ensures { AppliedIsNotRefused }
 {}
 
-/// Where an object has no fault and the look beforehand is passed, it is applied, and nothing but memory and the number of nodes
-/// is in the way.
-pub fn passed_is_applied()
-    ensures { PassedIsApplied }
+/// Where an object has no fault and its fragments have sites, it is applied, and nothing but memory and the number of nodes is in
+/// the way.
+pub fn sited_is_applied()
+    ensures { SitedIsApplied }
 {
-    passed_is_allowed();
     allowed_may_land();
 }
 
@@ -32,12 +30,7 @@ pub fn limit_is_exceeded()
     ensures { LimitIsExceeded }
 {}
 
-/// An object is applied to a tree in one way: no two trees come of it.
-pub fn applied_is_one()
-    ensures { AppliedIsOne }
-{}
-
-/// Memory and limits aside an object is refused for one reason: the first of its faults.
+/// Memory aside an object is refused for one reason: the first of its faults.
 pub fn one_refusal()
     ensures { OneRefusal }
 {}

@@ -6,16 +6,13 @@ use Rattle.dt_model.specs.Names.{Name}
 use Rattle.dt_model.specs.Path.{Path}
 use Rattle.dt_model.specs.Overlay.{content}
 use Rattle.dt_model.specs.Tree.{Reading, Node, node_at}
-use Rattle.dt_model.specs.Valid.{IsValid}
 use Rattle.dt_model.specs.Merged.{Site}
-use Rattle.dt_model.specs.Numbers.{AreNewNumbers}
 use Rattle.dt_model.specs.Object.{fragment_names}
-use Rattle.dt_model.specs.Applied.{Write, brought, find_sites}
+use Rattle.dt_model.specs.Applied.{Write, brought}
 use Rattle.dt_flat.specs.Arena.{Arena, Slot, IsRooted, node_from, reading}
 use Rattle.dt_flat.proofs.Descent.{path-within}
 use Rattle.dt_landing.specs.Steps.{land_node, land_fragments, MayLandNode, MayLandFragments}
 use Rattle.dt_landing.specs.Writing.{with_cells, landed}
-use Rattle.dt_landing.proofs.CheckedSites.{found_names}
 use Rattle.dt_landing.proofs.WrittenCells.{landed_is_brought}
 use Rattle.dt_overlay.specs.declared.fragments.Fragment.{Fragment}
 use Rattle.dt_overlay.specs.declared.numbers.Brought.{Brought}
@@ -48,13 +45,6 @@ there_of slots object (x ∷ xs) (f ∷ fs) rooted h = (path-within slots (conte
 pub contents_there : (object : Reading) (ws : List Write) (numbers : List (Path × ℕ)) (tree : Arena) (fragments : List Fragment) (b : Brought)
     → IsReady object ws numbers tree fragments b → IsRooted tree.slots → AllByRecursion (λ x. x.content < length tree.slots) fragments
 contents_there object ws numbers tree fragments b ready rooted = there_of tree.slots object fragments (fragment_names object.children) rooted ready.listed
-
--- ---- sites
-
--- the sites that are found are those of all fragments, in order
-pub found_names_all : (base object : Reading) (ws : List Write) (numbers : List (Path × ℕ)) (found : List Site) → IsValid base → IsValid object → AreNewNumbers base object numbers
-    → find_sites base object ws numbers [] (fragment_names object.children) ≡ Some found → map (λ (x : Site). x.fragment) found ≡ fragment_names object.children
-found_names_all base object ws numbers found valid_base valid new h = found_names base object valid_base valid ws numbers new (fragment_names object.children) [] found h
 
 -- ---- landings
 

@@ -11,22 +11,24 @@ use Rattle.dt_model.specs.Object.{fragment_names}
 use Rattle.dt_model.specs.Applied.{Write, writes, with_fragments, with_symbols_merged, landed_symbols, applied_at}
 use Rattle.dt_names.specs.declared.fault.Fault.{Fault}
 use Rattle.dt_names.specs.declared.fault.FaultKind.TheVariants.{NoMemory, Limit}
-use Rattle.dt_laws.specs.InTurn.{IsApplied}
+use Rattle.dt_joining.specs.InTurn.{IsApplied}
+use Rattle.dt_joining.specs.Walk.{new_numbers}
+use Rattle.dt_joining.proofs.Walks.{walked}
 use Rattle.dt_flat.specs.Arena.{Arena, IsRooted}
 use Rattle.dt_landing.specs.Laws.{FragmentsAreMerged, SymbolsAreMerged, NodesAreKept}
-use Rattle.dt_landing.specs.Objects.{symbols_in}
-use Rattle.dt_landing.specs.Outcomes.{MayBeApplied, PassedIsApplied}
+use Rattle.dt_landing.specs.Objects.{HasCells, symbols_in}
+use Rattle.dt_landing.specs.Outcomes.{MayBeApplied, SitedIsApplied}
 use Rattle.dt_landing.specs.Refusals.{IsOverfull}
 use Rattle.dt_overlay.specs.declared.applying.Plan.{Plan}
 use Rattle.dt_overlay.specs.declared.fragments.Fragment.{Fragment}
 use Rattle.dt_overlay.specs.declared.numbers.Brought.{Brought}
-use Rattle.dt_overlay.specs.Applying.{IsReadAs, IsSitedAs}
+use Rattle.dt_overlay.specs.Applying.{IsWrittenAs}
 use Rattle.dt_overlay.specs.Landed.{land_each, MayLandEach}
 use Rattle.dt_overlay.specs.SymbolLanding.{AreToLand}
-use Rattle.dt_overlay.proofs.CarriedLandings.{contents_there, found_names_all, each_is_fragments, each_may_land}
+use Rattle.dt_overlay.proofs.CarriedLandings.{contents_there, each_is_fragments, each_may_land}
 use Rattle.dt_overlay.proofs.WritesPaths.{EachHasPath}
 
-module _ (law : PassedIsApplied) (kept : NodesAreKept) (merge : FragmentsAreMerged) (set : SymbolsAreMerged) where
+module _ (law : SitedIsApplied) (kept : NodesAreKept) (merge : FragmentsAreMerged) (set : SymbolsAreMerged) where
   -- symbols take no nodes away
   symbols_add : (ps : List Property) (t : Reading) → node_count t.children ≤ node_count (with_symbols_merged ps t).children
   symbols_add [] t = omega arith
@@ -36,19 +38,19 @@ module _ (law : PassedIsApplied) (kept : NodesAreKept) (merge : FragmentsAreMerg
       let same = (kept (codes "__symbols__" ∷ []) no_nodes (x ∷ xs) u).1 in
       subst (λ (v : Reading). node_count t.children ≤ node_count v.children) (set x xs t) (omega (arith, more, same))
 
-  module _ (base object : Reading) (tree : Arena) (b : Brought) (p : Plan) (s : IsSitedAs base object tree b p) (valid_base : IsValid base) (few_base : IsWithinLimits base)
+  module _ (base object : Reading) (tree : Arena) (b : Brought) (p : Plan) (s : IsWrittenAs base object tree b p) (valid_base : IsValid base) (few_base : IsWithinLimits base) (cells : HasCells base)
       (rooted : IsRooted tree.slots) (paths : EachHasPath tree.slots) where
-    abbrev read : IsReadAs base object tree b p
-    read = s.read
+    abbrev numbers_of_nodes : List (Path × ℕ)
+    numbers_of_nodes = new_numbers base object s.end
 
     abbrev ws : List Write
-    ws = writes base object read.fixups read.numbers
+    ws = writes base object s.fixups numbers_of_nodes
 
-    passed : MayBeApplied base object read.fixups read.numbers s.found
-    passed = law base object read.fixups read.numbers s.found valid_base read.ready.valid few_base read.few read.listed read.new read.well s.passed
+    passed : MayBeApplied base object s.fixups s.end
+    passed = law base object s.fixups s.end valid_base s.ready.valid few_base s.few cells s.listed s.well s.sited
 
-    named : map (λ (x : Site). x.fragment) s.found ≡ fragment_names object.children
-    named = found_names_all base object ws read.numbers s.found valid_base read.ready.valid read.new passed.sited
+    named : map (λ (x : Site). x.fragment) s.end.sites ≡ fragment_names object.children
+    named = (walked base object s.fixups s.ready.valid s.end passed.walked).named
 
     abbrev contents : List ℕ
     contents = map (λ (x : Fragment). x.content) p.fragments.items
@@ -58,42 +60,42 @@ module _ (law : PassedIsApplied) (kept : NodesAreKept) (merge : FragmentsAreMerg
     after = land_each b.numbers.items tree.slots contents p.sites.items base
 
     pub nodes_there : AllByRecursion (λ x. x.content < length tree.slots) p.fragments.items
-    nodes_there = contents_there object ws read.numbers tree p.fragments.items b read.ready rooted
+    nodes_there = contents_there object ws numbers_of_nodes tree p.fragments.items b s.ready rooted
 
     pub may_land : MayLandEach b.numbers.items tree.slots (map (λ (x : Fragment). x.content) p.fragments.items) p.sites.items base
     may_land =
         subst (λ (qs : List Path). MayLandEach b.numbers.items tree.slots contents qs base) (sym s.sites)
-        (each_may_land object ws read.numbers tree p.fragments.items b read.ready rooted paths s.found named base passed.may)
+        (each_may_land object ws numbers_of_nodes tree p.fragments.items b s.ready rooted paths s.end.sites named base passed.may)
 
-    landed_is : after ≡ with_fragments base object ws read.numbers s.found
+    landed_is : after ≡ with_fragments base object ws numbers_of_nodes s.end.sites
     landed_is =
         ap (λ (qs : List Path). land_each b.numbers.items tree.slots contents qs base) s.sites
-        ∙ each_is_fragments object ws read.numbers tree p.fragments.items b read.ready rooted paths s.found named base
-        ∙ merge base object ws read.numbers s.found
+        ∙ each_is_fragments object ws numbers_of_nodes tree p.fragments.items b s.ready rooted paths s.end.sites named base
+        ∙ merge base object ws numbers_of_nodes s.end.sites
 
-    pub to_land : AreToLand object s.found tree b p.sites.items p.symbols.items
+    pub to_land : AreToLand object s.end.sites tree b p.sites.items p.symbols.items
     to_land = record {
       writes = ws;
-      numbers = read.numbers;
+      numbers = numbers_of_nodes;
       fragments = p.fragments.items;
-      ready = read.ready;
-      symbols = read.symbols;
+      ready = s.ready;
+      symbols = s.symbols;
       named = named;
       sited = s.sites;
       shallow = passed.shallow;
     }
 
     abbrev whole : Reading
-    whole = applied_at base object read.fixups read.numbers s.found
+    whole = applied_at base object s.fixups numbers_of_nodes s.end.sites
 
     whole_applied : IsApplied base object whole
-    whole_applied = record { fixups = read.fixups; numbers = read.numbers; listed = read.listed; new = read.new; is = passed.applied }
+    whole_applied = record { fixups = s.fixups; listed = s.listed; is = passed.applied }
 
     -- once the labels are set, the object is applied
     pub carried : (t u : Reading) → t ≡ land_each b.numbers.items tree.slots (map (λ (x : Fragment). x.content) p.fragments.items) p.sites.items base
-        → u ≡ with_symbols_merged (landed_symbols object s.found (symbols_in object)) t → IsApplied base object u
+        → u ≡ with_symbols_merged (landed_symbols object s.end.sites (symbols_in object)) t → IsApplied base object u
     carried t u e h =
-        subst (λ (v : Reading). IsApplied base object v) (sym (h ∙ ap (with_symbols_merged (landed_symbols object s.found (symbols_in object))) (e ∙ landed_is))) whole_applied
+        subst (λ (v : Reading). IsApplied base object v) (sym (h ∙ ap (with_symbols_merged (landed_symbols object s.end.sites (symbols_in object))) (e ∙ landed_is))) whole_applied
 
     -- too many nodes on the way are too many in the end
     pub overfull_landing : most_nodes < 1 + node_count (land_each b.numbers.items tree.slots (map (λ (x : Fragment). x.content) p.fragments.items) p.sites.items base).children
@@ -101,15 +103,16 @@ module _ (law : PassedIsApplied) (kept : NodesAreKept) (merge : FragmentsAreMerg
     overfull_landing many =
         let more : node_count after.children ≤ node_count whole.children =
         subst (λ (v : Reading). node_count v.children ≤ node_count whole.children) (sym landed_is)
-        (symbols_add (landed_symbols object s.found (symbols_in object)) (with_fragments base object ws read.numbers s.found)) in
-        record { result = whole; applied = whole_applied; many = omega (arith, many, more) }
+        (symbols_add (landed_symbols object s.end.sites (symbols_in object)) (with_fragments base object ws numbers_of_nodes s.end.sites)) in
+        record { well = s.well; result = whole; applied = whole_applied; many = omega (arith, many, more) }
 
     pub overfull_symbols : (t : Reading) → t ≡ land_each b.numbers.items tree.slots (map (λ (x : Fragment). x.content) p.fragments.items) p.sites.items base
-        → most_nodes < 1 + node_count (with_symbols_merged (landed_symbols object s.found (symbols_in object)) t).children → IsOverfull base object
+        → most_nodes < 1 + node_count (with_symbols_merged (landed_symbols object s.end.sites (symbols_in object)) t).children → IsOverfull base object
     overfull_symbols t e many = record {
+      well = s.well;
       result = whole;
       applied = whole_applied;
-      many = subst (λ (v : Reading). most_nodes < 1 + node_count (with_symbols_merged (landed_symbols object s.found (symbols_in object)) v).children) (e ∙ landed_is) many;
+      many = subst (λ (v : Reading). most_nodes < 1 + node_count (with_symbols_merged (landed_symbols object s.end.sites (symbols_in object)) v).children) (e ∙ landed_is) many;
     }
 
     -- the same of lists that are these
@@ -137,11 +140,11 @@ module _ (law : PassedIsApplied) (kept : NodesAreKept) (merge : FragmentsAreMerg
       -- a fault while the labels are set
       pub told_symbols : (t : Reading) → t ≡ land_each numbers tree.slots (map (λ (x : Fragment). x.content) fragments) sites base
           → (e : Fault) → (e.at ≡ None) × ((e.kind ≡ NoMemory) ⊎ ((e.kind ≡ Limit)
-          × (most_nodes < 1 + node_count (with_symbols_merged (landed_symbols object s.found (symbols_in object)) t).children)))
+          × (most_nodes < 1 + node_count (with_symbols_merged (landed_symbols object s.end.sites (symbols_in object)) t).children)))
           → (e.at ≡ None) × ((e.kind ≡ NoMemory) ⊎ ((e.kind ≡ Limit) × IsOverfull base object))
       told_symbols t is e (at, inl k) = (at, inl k)
       told_symbols t is e (at, inr (k, many)) = (at, inr (k, overfull_symbols t (is ∙ as_listed) many))
 
       pub all_carried : (t u : Reading) → t ≡ land_each numbers tree.slots (map (λ (x : Fragment). x.content) fragments) sites base
-          → u ≡ with_symbols_merged (landed_symbols object s.found (symbols_in object)) t → IsApplied base object u
+          → u ≡ with_symbols_merged (landed_symbols object s.end.sites (symbols_in object)) t → IsApplied base object u
       all_carried t u e h = carried t u (e ∙ as_listed) h

@@ -64,7 +64,7 @@ brings-is slots names numbers b p k brought leads = same_test (brings b k) (is_b
         ap (λ (o : Option (Option ℕ)). is_some (unwrap_or o None)) ((brought.fragments p k i.0 leads).1 (w.0, i.1, w.2))
 
 -- the element of an index, whatever stands for none
-got : {X : Type 0} (xs : List X) (k : ℕ) (x y : X) → slice_get xs k ≡ Some x → get_or xs k y ≡ x
+pub got : {X : Type 0} (xs : List X) (k : ℕ) (x y : X) → slice_get xs k ≡ Some x → get_or xs k y ≡ x
 got [] k x y e = absurd (let none : None ≡ Some x = e in cc)
 got (z ∷ xs) zero x y e = cc
 got (z ∷ xs) (suc k) x y e = got xs k x y e

@@ -1,67 +1,35 @@
--- What is kept of the nodes at last is what becomes of them.
-use Rattle.std.proofs.Common.{◌≡◌, ◌≢◌, ◌↔◌, ℕ, zero, suc, ◌+◌, ◌<◌, ◌≤◌, Bool, true, false, cond, eqb, ◌||◌, List, [], ◌∷◌, ◌++◌, length, map, replicate, Option, Some, None, ◌⊎◌, inl, inr, refl, sym, ap, subst, ◌∙◌, true≢false, arith}
-use Rattle.std.specs.Prelude.{option_and_then, is_some, nat_eq, slice_get, slice_set}
-use Rattle.std.specs.List.{AllByRecursion, filter, list_any}
-use Rattle.std.proofs.lemmas.Bool.{cases_lt, eqb-true}
+-- What is kept of the nodes at last is which fragments bring them.
+use Rattle.std.proofs.Common.{◌≡◌, ◌≢◌, ◌↔◌, ℕ, zero, suc, ◌+◌, ◌<◌, Bool, true, false, eqb, List, [], ◌∷◌, ◌++◌, length, map, replicate, Option, Some, None, ◌⊎◌, inl, inr, refl, sym, ap, subst, ◌∙◌, true≢false, arith}
+use Rattle.std.specs.Prelude.{option_and_then, is_some, slice_get, slice_set}
+use Rattle.std.specs.List.{AllByRecursion, flat_map}
+use Rattle.std.proofs.lemmas.Bool.{eqb-true}
 use Rattle.std.proofs.lemmas.Bool.Decides.{Decides-eqb}
 use Rattle.std.proofs.lemmas.List.{length-replicate}
 use Rattle.dt_model.specs.Names.{Name}
-use Rattle.dt_model.specs.Path.{Path, path_eq, below}
+use Rattle.dt_model.specs.Path.{Path, below}
 use Rattle.dt_model.specs.Lists.{IsIn}
 use Rattle.dt_model.specs.Overlay.{content}
 use Rattle.dt_model.specs.Object.{fragment_names}
-use Rattle.dt_model.specs.Numbers.{AreNumbers, number_in, new_paths}
 use Rattle.dt_model.specs.Tree.{Reading}
 use Rattle.dt_model.specs.Valid.{AreDistinct, IsValid}
 use Rattle.dt_flat.specs.Arena.{Arena, Slot, IsRooted, named_children, child_of, node_from, reading}
 use Rattle.dt_flat.proofs.Descent.{path-same, path-length, path-within}
-use Rattle.dt_model.proofs.Tests.{each_in, each_from, in_append, in_left, in_right, path_eq_refl, path_eq_true, or_right, in_filter}
+use Rattle.dt_model.proofs.Tests.{each_in, in_append, in_left, in_right}
 use Rattle.dt_model.proofs.Flat.{from_flat}
 use Rattle.dt_model.proofs.Distinct.{apart, distinct_append, distinct_right}
 use Rattle.dt_laws.proofs.Lands.{below-append, append-below}
-use Rattle.dt_landing.proofs.FoundSites.{fragments_distinct}
+use Rattle.dt_joining.proofs.Brought.{fragments_distinct}
 use Rattle.dt_overlay.specs.declared.fragments.Fragment.{Fragment}
 use Rattle.dt_overlay.specs.declared.numbers.Brought.{Brought}
 use Rattle.dt_overlay.specs.Plans.{IsFragmentOf, AreFragmentsOf, IsBroughtAt, AreBrought, IsUnbrought}
-use Rattle.dt_overlay.specs.NumbersGiven.{walk, is_numbered, AreNext, with_numbers, with_fragment, with_fragments, contents, GivesNumbers, IsNumbering}
-use Rattle.dt_overlay.proofs.NumbersFree.{get-set_same, get-set_other, get_within, replicate-get}
+use Rattle.dt_overlay.specs.NumbersGiven.{walk, with_fragment, with_fragments}
+use Rattle.dt_overlay.proofs.Elements.{get-set_same, get-set_other, get_within, replicate-get}
 use Rattle.dt_overlay.proofs.NumbersWalk.{AreLed, led_walk, path_below, walks_apart, walk_distinct}
-use Rattle.dt_overlay.proofs.NumbersTurns.{AreLeft, next_nodes, numbers_other, length-with_fragment}
-use Rattle.dt_overlay.proofs.NumbersPaths.{at, at_is, at_leads}
-use Rattle.dt_overlay.proofs.NumbersContents.{new_are}
+use Rattle.dt_overlay.proofs.NumbersTurns.{length-with_fragment}
 
--- ---- the numbers are the least
-
-pub least_numbers : (taken : List ℕ) (f : ℕ → Path) (last end : ℕ) (ks : List ℕ) (given : List (ℕ × ℕ)) (done : List ℕ) → AreNext taken last ks given end
-    → ((n : ℕ) → 1 ≤ n → n ≤ last → list_any (nat_eq n) (done ++ taken) ≡ true) → ((n : ℕ) → last < n → list_any (nat_eq n) (done ++ taken) ≡ list_any (nat_eq n) taken)
-    → AreNumbers (done ++ taken) (map f ks) (map (λ x. (f x.0, x.1)) given)
-least_numbers taken f last end [] [] done h low high = tt
-least_numbers taken f last end [] (x ∷ given) done h low high = absurd h
-least_numbers taken f last end (k ∷ ks) [] done h low high = absurd h
-least_numbers taken f last end (k ∷ ks) ((j, n) ∷ given) done h low high = (
-  ap f h.0,
-  record { low = let above = h.1.above in omega (arith, above); free = high n h.1.above ∙ h.1.free; least = least },
-  least_numbers taken f n end ks given (n ∷ done) h.2 more later,
-)
-  where
-    least : (m : ℕ) → 1 ≤ m → m < n → list_any (nat_eq m) (done ++ taken) ≡ true
-    least m one less = elim (cases_lt last m) [
-      | inl above ↦ high m above ∙ h.1.between m above less
-      | inr within ↦ low m one within
-    ]
-
-    more : (m : ℕ) → 1 ≤ m → m ≤ n → nat_eq m n || list_any (nat_eq m) (done ++ taken) ≡ true
-    more m one le = elim (cases_lt m n) [
-      | inl less ↦ or_right (nat_eq m n) (list_any (nat_eq m) (done ++ taken)) (least m one less)
-      | inr past ↦ let same : m ≡ n = omega arith in ap (λ (b : Bool). b || list_any (nat_eq m) (done ++ taken)) ((Decides-eqb m n).1 same)
-    ]
-
-    later : (m : ℕ) → n < m → nat_eq m n || list_any (nat_eq m) (done ++ taken) ≡ list_any (nat_eq m) taken
-    later m above = let first = h.1.above in ap (λ (b : Bool). b || list_any (nat_eq m) (done ++ taken)) (other (nat_eq m n) refl) ∙ high m (omega (arith, first, above))
-      where
-        other : (b : Bool) → nat_eq m n ≡ b → b ≡ false
-        other true e = let same : m ≡ n = eqb-true m n e in absurd (omega arith)
-        other false e = refl
+-- all nodes that the fragments bring, fragment by fragment
+abbrev contents : List Slot → List Fragment → List ℕ
+contents slots xs = flat_map (λ (x : Fragment). walk slots x.content) xs
 
 -- ---- fragments and what they bring
 
@@ -236,103 +204,26 @@ module _ (slots : List Slot) (rooted : IsRooted slots) (led : AreLed slots) (obj
         let q = path_below slots w.0.content k led w.2 in
         path-within slots q.0 w.0.content k (content_within w.0 g.0 g.2) q.1
 
--- ---- the numbers that are kept
-
-distinct_filter : (test : ℕ → Bool) (xs : List ℕ) → AreDistinct xs → AreDistinct (filter test xs)
-distinct_filter test [] h = tt
-distinct_filter test (x ∷ xs) h = by (test x) (distinct_filter test xs h.1)
-  where
-    by : (b : Bool) → AreDistinct (filter test xs) → AreDistinct (cond b (x ∷ filter test xs) (filter test xs))
-    by true g = (each_from (λ y. y ≢ x) (filter test xs) (λ y i. each_in (λ y. y ≢ x) xs y h.0 (in_filter test xs y i).0), g)
-    by false g = g
-
-module _ (slots : List Slot) (rooted : IsRooted slots) (led : AreLed slots) where
-  abbrev pub by_path : List (ℕ × ℕ) → List (Path × ℕ)
-  by_path given = map (λ x. (at slots led x.0, x.1)) given
-
-  numbers_kept : (given : List (ℕ × ℕ)) (xs : List (Option ℕ)) (k : ℕ) (p : Path) → AreDistinct (map (λ x. x.0) given) → ((j : ℕ) → IsIn j (map (λ x. x.0) given) → j < length slots)
-      → slice_get xs k ≡ Some None → node_from slots 0 p ≡ Some k → slice_get (with_numbers given xs) k ≡ Some (number_in (by_path given) p)
-  numbers_kept [] xs k p differ within bare e = bare
-  numbers_kept ((j, n) ∷ given) xs k p differ within bare e = by (eqb j k) refl (λ other. numbers_kept given (slice_set xs j (Some n)) k p differ.1 (λ m i. within m (inr i)) (get-set_other xs j k (Some n) other ∙ bare) e)
-    where
-      by : (b : Bool) → eqb j k ≡ b → (k ≢ j → slice_get (with_numbers given (slice_set xs j (Some n))) k ≡ Some (number_in (by_path given) p))
-          → slice_get (with_numbers given (slice_set xs j (Some n))) k ≡ Some (cond (path_eq (at slots led j) p) (Some n) (number_in (by_path given) p))
-      by true t more =
-          let same : j ≡ k = eqb-true j k t in
-          let lt = get_within xs k None bare in
-          let path : at slots led j ≡ p = at_is slots rooted led j p (within j (inl refl)) (e ∙ ap (λ (y : ℕ). Some y) (sym same)) in
-          numbers_other given (slice_set xs j (Some n)) k (λ i. each_in (λ y. y ≢ j) (map (λ x. x.0) given) k differ.0 i (sym same))
-          ∙ ap (slice_get (slice_set xs j (Some n))) (sym same) ∙ get-set_same xs j (Some n) (omega (arith, lt, same))
-          ∙ ap (λ (b : Bool). Some (cond b (Some n) (number_in (by_path given) p))) (sym (ap (path_eq (at slots led j)) (sym path) ∙ path_eq_refl (at slots led j)))
-      by false t more =
-          more (λ same. true≢false (sym ((Decides-eqb j k).1 (sym same)) ∙ t))
-          ∙ ap (λ (b : Bool). Some (cond b (Some n) (number_in (by_path given) p))) (sym (other (path_eq (at slots led j) p) refl))
-        where
-          other : (b : Bool) → path_eq (at slots led j) p ≡ b → b ≡ false
-          other false z = refl
-          other true z =
-              let both : Some j ≡ Some k = sym (at_leads slots led j (within j (inl refl))) ∙ ap (node_from slots 0) (path_eq_true (at slots led j) p z) ∙ e in
-              let same : j ≡ k = cc in
-              absurd (true≢false (sym ((Decides-eqb j k).1 same) ∙ t))
-
 -- ---- all of it
 
--- before anything is brought, nothing that the fragments bring has a number
-pub left-begin : (slots : List Slot) (object : Reading) (xs : List Fragment) (fs : List Name) (b : Brought) → IsRooted slots → AreLed slots → AreFragmentsOf slots object xs fs → AreDistinct fs → IsUnbrought (length slots) b
-    → AreLeft (contents slots xs) b
-left-begin slots object xs fs b rooted led listed differ start = record {
-  bare = each_from (λ k. slice_get b.numbers.items k ≡ Some None) (contents slots xs)
-      (λ k i. ap (λ (ys : List (Option ℕ)). slice_get ys k) start.numbers ∙ replicate-get (length slots) k None (contents_within slots rooted led object xs fs listed k i));
-  differ = contents_distinct slots rooted led object xs fs listed differ;
+pub all_brought : (a : Arena) (xs : List Fragment) (first last : Brought) → IsValid (reading a) → IsRooted a.slots → AreLed a.slots
+    → AreFragmentsOf a.slots (reading a) xs (fragment_names (reading a).children) → IsUnbrought (length a.slots) first
+    → last.fragments.items ≡ with_fragments a.slots 0 xs first.fragments.items → last.numbers.items ≡ first.numbers.items
+    → AreBrought a.slots (fragment_names (reading a).children) [] last
+all_brought a xs first last valid rooted led listed start fragments same = record {
+  all = ap length fragments ∙ length-with_fragments 0 xs first.fragments.items ∙ ap length start.fragments ∙ length-replicate (length a.slots) None;
+  each = ap length (same ∙ start.numbers) ∙ length-replicate (length a.slots) None;
+  fragments = λ p k i e. subst (λ (ys : List (Option ℕ)). (slice_get ys k ≡ Some (Some i)) ↔ IsBroughtAt names i p) (sym fragments)
+      (fragments_are a.slots rooted led (reading a) xs names listed first.fragments.items p k i differ start.fragments e);
+  numbered = λ p k e. ap (λ (ys : List (Option ℕ)). slice_get ys k) (same ∙ start.numbers) ∙ replicate-get (length a.slots) k None (path-within a.slots p 0 k rooted.some e);
 }
-
-pub all_brought : (taken : List ℕ) (a : Arena) (xs : List Fragment) (first last : Brought) → IsValid (reading a) → IsRooted a.slots → AreLed a.slots
-    → AreFragmentsOf a.slots (reading a) xs (fragment_names (reading a).children) → IsUnbrought (length a.slots) first → IsNumbering taken (length a.slots) last
-    → GivesNumbers taken a.slots (contents a.slots xs) first last → last.fragments.items ≡ with_fragments a.slots 0 xs first.fragments.items
-    → (numbers : List (Path × ℕ)) × AreNumbers taken (new_paths (reading a)) numbers × AreBrought a.slots (fragment_names (reading a).children) numbers last
-all_brought taken a xs first last valid rooted led listed start numbering gives fragments = (
-  numbers,
-  subst (λ (ps : List Path). AreNumbers taken ps numbers) (sym (new_are a rooted led xs listed)) least,
-  record {
-    all = numbering.all;
-    each = numbering.each;
-    fragments = λ p k i e. subst (λ (ys : List (Option ℕ)). (slice_get ys k ≡ Some (Some i)) ↔ IsBroughtAt names i p) (sym fragments)
-        (fragments_are a.slots rooted led (reading a) xs names listed first.fragments.items p k i differ start.fragments e);
-    numbered = numbered;
-    nodes = λ p k n e. (
-      (λ g. same_number k n p (numbered p k e) ((numbering.nodes k n).0 g)),
-      (λ g. (numbering.nodes k n).1 (numbered p k e ∙ ap (λ (o : Option ℕ). Some o) g)),
-    );
-    there = λ k n g. let lt = get_within last.numbers.items k (Some n) ((numbering.nodes k n).0 g) in omega (arith, lt, numbering.each);
-  },
-)
   where
     names : List Name
     names = fragment_names (reading a).children
 
-    numbers : List (Path × ℕ)
-    numbers = by_path a.slots rooted led gives.given
-
-    ks : List ℕ
-    ks = filter (is_numbered a.slots) (contents a.slots xs)
-
     differ : AreDistinct (contents a.slots xs)
     differ = contents_distinct a.slots rooted led (reading a) xs names listed (fragments_distinct (reading a).children valid.siblings)
 
-    nodes : map (λ x. x.0) gives.given ≡ ks
-    nodes = next_nodes taken first.last last.last ks gives.given gives.next
-
-    least : AreNumbers taken (map (at a.slots led) ks) numbers
-    least = least_numbers taken (at a.slots led) first.last last.last ks gives.given [] gives.next (λ n one le. absurd (omega (arith, start.last))) (λ n above. refl)
-
-    within : (j : ℕ) → IsIn j (map (λ x. x.0) gives.given) → j < length a.slots
-    within j i = contents_within a.slots rooted led (reading a) xs names listed j (in_filter (is_numbered a.slots) (contents a.slots xs) j (subst (IsIn j) nodes i)).0
-
-    numbered : (p : Path) (k : ℕ) → node_from a.slots 0 p ≡ Some k → slice_get last.numbers.items k ≡ Some (number_in numbers p)
-    numbered p k e =
-        ap (λ (ys : List (Option ℕ)). slice_get ys k) gives.kept
-        ∙ numbers_kept a.slots rooted led gives.given first.numbers.items k p (subst AreDistinct (sym nodes) (distinct_filter (is_numbered a.slots) (contents a.slots xs) differ)) within
-        (ap (λ (ys : List (Option ℕ)). slice_get ys k) start.numbers ∙ replicate-get (length a.slots) k None (path-within a.slots p 0 k rooted.some e)) e
-
-    same_number : (k n : ℕ) (p : Path) → slice_get last.numbers.items k ≡ Some (number_in numbers p) → slice_get last.numbers.items k ≡ Some (Some n) → number_in numbers p ≡ Some n
-    same_number k n p e g = let both : Some (number_in numbers p) ≡ Some (Some n) = sym e ∙ g in cc
+    length-with_fragments : (i : ℕ) (xs : List Fragment) (acc : List (Option ℕ)) → length (with_fragments a.slots i xs acc) ≡ length acc
+    length-with_fragments i [] acc = refl
+    length-with_fragments i (x ∷ xs) acc = length-with_fragments (i + 1) xs (with_fragment i (walk a.slots x.content) acc) ∙ length-with_fragment i (walk a.slots x.content) acc

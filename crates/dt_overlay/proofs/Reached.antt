@@ -13,7 +13,7 @@ use Rattle.dt_flat.specs.Sound.{AreCells}
 use Rattle.dt_flat.proofs.AfterChild.{tested}
 use Rattle.dt_flat.proofs.ByPath.{has, reading_at}
 use Rattle.dt_landing.specs.Objects.{HasNumber}
-use Rattle.dt_overlay.specs.Targets.{HasCells}
+use Rattle.dt_landing.specs.Objects.{HasCells}
 
 -- there is something of what is there
 is_some-map : {X Y : Type 0} (f : X → Y) (o : Option X) → is_some (option_map f o) ≡ is_some o

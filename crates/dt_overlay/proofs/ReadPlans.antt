@@ -1,16 +1,19 @@
 -- What was listed of an object, once its cells are written, is all that is known of it when it is read.
-use Rattle.std.proofs.Common.{◌≡◌, ℕ, List, [], ◌∷◌, ◌++◌, map, inl, inr, ◌⊎◌, true, sym, ap, subst, ◌∙◌, Some, None, codes}
-use Rattle.std.specs.Prelude.{Result, Ok, Err, OnOk, IfErr}
+use Rattle.std.proofs.Common.{◌≡◌, ℕ, ◌<◌, length, refl, List, [], ◌∷◌, ◌++◌, map, inl, inr, ◌⊎◌, true, sym, ap, subst, ◌∙◌, Option, Some, None, codes}
+use Rattle.std.specs.Prelude.{Result, Ok, Err, OnOk, IfErr, option_and_then, unwrap_or}
+use Rattle.std.specs.Global.{Vec}
 use Rattle.std.specs.List.{AllByRecursion, flat_map}
 use Rattle.dt_model.specs.Names.{Name}
 use Rattle.dt_model.specs.Path.{Path}
 use Rattle.dt_model.specs.Lists.{IsIn}
-use Rattle.dt_model.specs.Tree.{Property, Reading, stands_in}
+use Rattle.dt_model.specs.Tree.{Property, Reading, nodes_of, stands_in, value_in}
 use Rattle.dt_model.specs.Valid.{IsValid, IsWithinLimits}
 use Rattle.dt_model.specs.Object.{Cell, fragment_names, local_cells}
-use Rattle.dt_model.specs.Numbers.{AreNewNumbers}
-use Rattle.dt_model.specs.Applied.{Write, label_write, local_write, writes}
+use Rattle.dt_model.specs.Numbers.{number_in}
+use Rattle.dt_model.specs.Applied.{Write, label_write, local_write, writes, node_numbered, number_at}
 use Rattle.dt_flat.specs.Arena.{Arena, Slot, IsRooted, reading}
+use Rattle.dt_flat.proofs.Descent.{path-within}
+use Rattle.dt_joining.specs.Walk.{new_numbers}
 use Rattle.dt_names.specs.declared.fault.Fault.{Fault}
 use Rattle.dt_names.specs.declared.fault.FaultKind.{FaultKind}
 use Rattle.dt_names.specs.declared.fault.FaultKind.TheVariants.{NoMemory, NoSymbol, BadSymbol, BadFixup, BadLocalFixup}
@@ -23,8 +26,8 @@ use Rattle.dt_overlay.specs.declared.fragments.FragmentTarget.TheVariants.{Numbe
 use Rattle.dt_overlay.specs.declared.numbers.Brought.{Brought}
 use Rattle.dt_overlay.specs.declared.symbols.Symbol.{Symbol}
 use Rattle.dt_overlay.specs.declared.writes.Write.{Write as KeptWrite}
-use Rattle.dt_overlay.specs.Applying.{IsReadAs}
-use Rattle.dt_overlay.specs.Plans.{IsTargetOf, AreFragmentsOf, AreWritesOf, AreBrought, AreSymbolsOf, ListsFixups, ListsLocalFixups, ListsSymbols, symbol_brought}
+use Rattle.dt_overlay.specs.Applying.{IsReadAs, IsSitedAs, IsWrittenAs}
+use Rattle.dt_overlay.specs.Plans.{IsTargetOf, AreFragmentsOf, IsWriteOf, AreWritesOf, AreBrought, AreSymbolsOf, ListsFixups, ListsLocalFixups, ListsSymbols, symbol_brought, own_number, renumbered}
 use Rattle.dt_overlay.specs.Writing.{AreWritable, with_writes}
 use Rattle.dt_overlay.proofs.WritesKept.{HaveOneShape, writes_keep, all_still_writable, with_writes-append}
 use Rattle.dt_overlay.proofs.WritesPaths.{EachHasPath}
@@ -91,74 +94,147 @@ own_cells : (object : Reading) (numbers : List (Path × ℕ)) (cells : List Cell
 own_cells object numbers [] h = tt
 own_cells object numbers (c ∷ cells) h = (h.0, own_cells object numbers cells h.1)
 
-module _ (base : Reading) (a : Arena) (valid : IsValid (reading a)) (few : IsWithinLimits (reading a)) (rooted : IsRooted a.slots) (paths : EachHasPath a.slots) where
-  -- the cells of the object's own nodes may be written
-  pub locals_writable : (numbers : List (Path × ℕ)) (locals : List KeptWrite) → ListsLocalFixups a numbers [] locals → AreWritable a.slots locals
-  locals_writable numbers locals h =
-      subst (λ (xs : List KeptWrite). AreWritable a.slots xs) (sym h.appended)
-      (writable_cells a h.more (map (local_write (reading a) numbers) (local_cells (reading a))) valid rooted h.writes (own_cells (reading a) numbers (local_cells (reading a)) h.cells))
+-- ---- what is read
 
-  labels_listed : (labels : List KeptWrite) → ListsFixups base a [] labels → AreWritable a.slots labels
-  labels_listed labels h =
-      subst (λ (xs : List KeptWrite). AreWritable a.slots xs) (sym h.appended)
-      (writable_cells a h.more (map (label_write base) h.fixups) valid rooted h.writes (label_cells base (reading a) h.fixups h.cells))
+pub read_as : (base : Reading) (a : Arena) (b : Brought) (p : Plan)
+    → AreFragmentsOf a.slots (reading a) p.fragments.items (fragment_names (reading a).children)
+    → ListsFixups base a [] p.label_writes.items
+    → AreBrought a.slots (fragment_names (reading a).children) [] b
+    → ListsLocalFixups a [] [] p.local_writes.items
+    → ListsSymbols a [] p.symbols.items
+    → IsReadAs base a b p
+read_as base a b p fragments labels brought locals symbols = record {
+  fixups = labels.fixups;
+  listed = labels.listed;
+  fragments = fragments;
+  brought = brought;
+  locals = subst (λ (xs : List KeptWrite). AreWritesOf a.slots xs (map (local_write (reading a) []) (local_cells (reading a)))) (sym locals.appended) locals.writes;
+  labels = subst (λ (xs : List KeptWrite). AreWritesOf a.slots xs (map (label_write base) labels.fixups)) (sym labels.appended) labels.writes;
+  locals_there = locals.cells;
+  labels_there = labels.cells;
+  symbols = subst (λ (xs : List Symbol). AreSymbolsOf a.slots xs (flat_map (symbol_brought (reading a)) (symbols_in (reading a)))) (sym symbols.appended) symbols.symbols;
+  well = record {
+    targets = all_held a.slots (reading a) p.fragments.items (fragment_names (reading a).children) fragments;
+    fixups = labels.well;
+    mirror = locals.well;
+    symbols = symbols.well;
+  };
+}
 
-  -- and then those that wait for labels
-  pub labels_writable : (numbers : List (Path × ℕ)) (locals labels : List KeptWrite) → ListsLocalFixups a numbers [] locals → ListsFixups base a [] labels
-      → AreWritable (with_writes locals a.slots) labels
-  labels_writable numbers locals labels h k = all_still_writable a.slots locals labels (locals_writable numbers locals h) (labels_listed labels k)
+-- the cells get the numbers of their nodes
+renumbered_writes : (slots : List Slot) (object : Reading) (numbers : List (Path × ℕ)) (xs : List KeptWrite) (cells : List Cell) → AreWritesOf slots xs (map (local_write object []) cells)
+    → AreWritesOf slots (map (renumbered object numbers) xs) (map (local_write object numbers) cells)
+renumbered_writes slots object numbers [] [] h = tt
+renumbered_writes slots object numbers [] (c ∷ cells) h = absurd h
+renumbered_writes slots object numbers (x ∷ xs) [] h = absurd h
+renumbered_writes slots object numbers (x ∷ xs) (c ∷ cells) h =
+    let first : IsWriteOf slots x (local_write object [] c) = h.0 in (
+      record { node = first.node; property = first.property; offset = first.offset; number = ap (own_number object numbers) (first.number ∙ without (node_numbered (nodes_of object) (number_of c)) (number_of c)) },
+      renumbered_writes slots object numbers xs cells h.1,
+    )
+  where
+    number_of : Cell → ℕ
+    number_of c = number_at (unwrap_or (value_in object c.path c.property) []) c.offset
+
+    without : (o : Option Path) (n : ℕ) → unwrap_or (option_and_then (number_in []) o) n ≡ n
+    without None n = refl
+    without (Some p) n = refl
+
+-- the cells of the object's own nodes, with their new numbers
+abbrev pub locals : (base : Reading) (a : Arena) (b first : Brought) (p kept : Plan) (r : IsReadAs base a first kept) → IsSitedAs base a b p r.fixups → List KeptWrite
+locals base a b first p kept r s = map (renumbered (reading a) (new_numbers base (reading a) s.end)) p.local_writes.items
+
+module _ (base : Reading) (a : Arena) (b first : Brought) (p kept : Plan) (r : IsReadAs base a first kept) (s : IsSitedAs base a b p r.fixups)
+    (same : p ≡ record kept { sites = p.sites; places = p.places }) (valid : IsValid (reading a)) (few : IsWithinLimits (reading a)) (rooted : IsRooted a.slots) (paths : EachHasPath a.slots) where
+  abbrev numbers : List (Path × ℕ)
+  numbers = new_numbers base (reading a) s.end
+
+  abbrev own_cells_of : List KeptWrite
+  own_cells_of = locals base a b first p kept r s
+
+  abbrev labels : List KeptWrite
+  labels = p.label_writes.items
+
+  own : AreWritesOf a.slots own_cells_of (map (local_write (reading a) numbers) (local_cells (reading a)))
+  own = renumbered_writes a.slots (reading a) numbers p.local_writes.items (local_cells (reading a))
+      (subst (λ (q : Plan). AreWritesOf a.slots q.local_writes.items (map (local_write (reading a) []) (local_cells (reading a)))) (sym same) r.locals)
+
+  waiting : AreWritesOf a.slots labels (map (label_write base) r.fixups)
+  waiting = subst (λ (q : Plan). AreWritesOf a.slots q.label_writes.items (map (label_write base) r.fixups)) (sym same) r.labels
+
+  -- both may be written
+  pub locals_writable : AreWritable a.slots own_cells_of
+  locals_writable = writable_cells a own_cells_of (map (local_write (reading a) numbers) (local_cells (reading a))) valid rooted own (own_cells (reading a) numbers (local_cells (reading a)) r.locals_there)
+
+  labels_listed : AreWritable a.slots labels
+  labels_listed = writable_cells a labels (map (label_write base) r.fixups) valid rooted waiting (label_cells base (reading a) r.fixups r.labels_there)
+
+  pub labels_writable : AreWritable (with_writes own_cells_of a.slots) labels
+  labels_writable = all_still_writable a.slots own_cells_of labels locals_writable labels_listed
 
   -- what is known then
-  pub read_as : (tree : Arena) (b : Brought) (p : Plan) (numbers : List (Path × ℕ))
-      → AreFragmentsOf a.slots (reading a) p.fragments.items (fragment_names (reading a).children)
-      → ListsFixups base a [] p.label_writes.items
-      → AreNewNumbers base (reading a) numbers → AreBrought a.slots (fragment_names (reading a).children) numbers b
-      → ListsLocalFixups a numbers [] p.local_writes.items
-      → ListsSymbols a [] p.symbols.items
-      → tree ≡ record a { slots = with_writes p.label_writes.items (with_writes p.local_writes.items a.slots) }
-      → IsReadAs base (reading a) tree b p
-  read_as tree b p numbers fragments labels new brought locals symbols is = subst (λ (t : Arena). IsReadAs base (reading a) t b p) (sym whole) (record {
+  pub written_as : (tree : Arena) → tree ≡ record a { slots = with_writes labels (with_writes own_cells_of a.slots) }
+      → IsWrittenAs base (reading a) tree b p
+  written_as tree is = subst (λ (t : Arena). IsWrittenAs base (reading a) t b p) (sym whole) (record {
     few = few;
-    fixups = labels.fixups;
-    numbers = numbers;
-    listed = labels.listed;
-    new = new;
+    fixups = r.fixups;
+    listed = r.listed;
+    well = r.well;
+    end = s.end;
+    sited = s.sited;
+    sites = s.sites;
     ready = record {
       valid = valid;
-      written = writes_read a all ws valid rooted paths kept can;
-      listed = fragments_kept a.slots (with_writes all a.slots) keeps (reading a) p.fragments.items (fragment_names (reading a).children) fragments;
-      brought = brought_kept a.slots (with_writes all a.slots) keeps (fragment_names (reading a).children) numbers b brought;
+      written = writes_read a all ws valid rooted paths kept_all can;
+      listed = fragments_kept a.slots (with_writes all a.slots) keeps (reading a) p.fragments.items names
+          (subst (λ (q : Plan). AreFragmentsOf a.slots (reading a) q.fragments.items names) (sym same) r.fragments);
+      brought = brought_kept a.slots (with_writes all a.slots) keeps names numbers b s.brought;
     };
     symbols = symbols_kept a.slots (with_writes all a.slots) keeps p.symbols.items (flat_map (symbol_brought (reading a)) (symbols_in (reading a)))
-        (subst (λ (xs : List Symbol). AreSymbolsOf a.slots xs (flat_map (symbol_brought (reading a)) (symbols_in (reading a)))) (sym symbols.appended) symbols.symbols);
-    well = record {
-      targets = all_held a.slots (reading a) p.fragments.items (fragment_names (reading a).children) fragments;
-      fixups = labels.well;
-      mirror = locals.well;
-      symbols = symbols.well;
-    };
+        (subst (λ (q : Plan). AreSymbolsOf a.slots q.symbols.items (flat_map (symbol_brought (reading a)) (symbols_in (reading a)))) (sym same) r.symbols);
   })
     where
+      names : List Name
+      names = fragment_names (reading a).children
+
       all : List KeptWrite
-      all = p.local_writes.items ++ p.label_writes.items
+      all = own_cells_of ++ labels
 
       ws : List Write
-      ws = writes base (reading a) labels.fixups numbers
+      ws = writes base (reading a) r.fixups numbers
 
       keeps : HaveOneShape a.slots (with_writes all a.slots)
       keeps = writes_keep all a.slots
 
       whole : tree ≡ record a { slots = with_writes all a.slots }
-      whole = is ∙ ap (λ (slots : List Slot). record a { slots = slots }) (sym (with_writes-append p.local_writes.items p.label_writes.items a.slots))
+      whole = is ∙ ap (λ (slots : List Slot). record a { slots = slots }) (sym (with_writes-append own_cells_of labels a.slots))
 
-      kept : AreWritesOf a.slots all ws
-      kept = writes_append a.slots p.local_writes.items p.label_writes.items (map (local_write (reading a) numbers) (local_cells (reading a))) (map (label_write base) labels.fixups)
-          (subst (λ (xs : List KeptWrite). AreWritesOf a.slots xs (map (local_write (reading a) numbers) (local_cells (reading a)))) (sym locals.appended) locals.writes)
-          (subst (λ (xs : List KeptWrite). AreWritesOf a.slots xs (map (label_write base) labels.fixups)) (sym labels.appended) labels.writes)
+      kept_all : AreWritesOf a.slots all ws
+      kept_all = writes_append a.slots own_cells_of labels (map (local_write (reading a) numbers) (local_cells (reading a))) (map (label_write base) r.fixups) own waiting
 
       both : (xs ys : List KeptWrite) → AreWritable a.slots xs → AreWritable a.slots ys → AreWritable a.slots (xs ++ ys)
       both [] ys h k = k
       both (x ∷ xs) ys h k = (h.0, both xs ys h.1 k)
 
       can : AreWritable a.slots all
-      can = both p.local_writes.items p.label_writes.items (locals_writable numbers p.local_writes.items locals) (labels_listed p.label_writes.items labels)
+      can = both own_cells_of labels locals_writable labels_listed
+
+-- nothing of it hangs on the list of the object's own cells
+pub with_local_writes : (base object : Reading) (tree : Arena) (b : Brought) (p : Plan) (xs : Vec KeptWrite) → IsWrittenAs base object tree b p → IsWrittenAs base object tree b (record p { local_writes = xs })
+with_local_writes base object tree b p xs h = record {
+  few = h.few;
+  fixups = h.fixups;
+  listed = h.listed;
+  well = h.well;
+  end = h.end;
+  sited = h.sited;
+  sites = h.sites;
+  ready = h.ready;
+  symbols = h.symbols;
+}
+
+-- the nodes of writes are there
+pub writes_within : (slots : List Slot) (xs : List KeptWrite) (ws : List Write) → IsRooted slots → AreWritesOf slots xs ws → AllByRecursion (λ (x : KeptWrite). x.node < length slots) xs
+writes_within slots [] ws rooted h = tt
+writes_within slots (x ∷ xs) [] rooted h = absurd h
+writes_within slots (x ∷ xs) (w ∷ ws) rooted h = (path-within slots w.cell.path 0 x.node rooted.some h.0.node, writes_within slots xs ws rooted h.1)

@@ -31,7 +31,7 @@ use Rattle.dt_overlay.specs.SymbolLanding.{AreToLand, LandsAs, AreLanding}
 -- ---- which nodes land
 
 -- where all fragments have sites, what one of them brings lands
-lands-brought : (found : List Site) (p : Path) → is_some (landing found p) ≡ is_brought (map (λ (x : Site). x.fragment) found) p
+pub lands-brought : (found : List Site) (p : Path) → is_some (landing found p) ≡ is_brought (map (λ (x : Site). x.fragment) found) p
 lands-brought [] p = refl
 lands-brought (x ∷ found) p = step (below (content x.fragment) p) (lands-brought found p)
   where

@@ -69,8 +69,6 @@ module _ (slots new : List Slot) (keeps : HaveOneShape slots new) where
     each = h.each ∙ sym keeps.count;
     fragments = λ p k i e. h.fragments p k i (sym (leads_kept p 0) ∙ e);
     numbered = λ p k e. h.numbered p k (sym (leads_kept p 0) ∙ e);
-    nodes = λ p k n e. h.nodes p k n (sym (leads_kept p 0) ∙ e);
-    there = λ k n e. omega (arith, h.there k n e, keeps.count);
   }
 
 -- ---- one list of writes behind another

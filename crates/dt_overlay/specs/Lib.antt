@@ -1,12 +1,14 @@
 pub mod Applying
 pub mod Fixups
 pub mod FlatTargets
+pub mod Known
 pub mod Landed
 pub mod LocalFixups
-pub mod Looked
+pub mod Marks
 pub mod NumbersGiven
 pub mod Plans
 pub mod SymbolLanding
 pub mod Symbols
 pub mod Targets
+pub mod Turns
 pub mod Writing

@@ -1,7 +1,6 @@
 -- What the code keeps of an object while it is applied, and what that stands for.
-use Rattle.std.specs.Prelude.{◌≡◌, ◌↔◌, ℕ, ◌<◌, List, [], ◌∷◌, ◌++◌, length, map, replicate, slice_get, Option, Some, None, true, is_some, nat_eq, if◌then◌else◌, codes}
+use Rattle.std.specs.Prelude.{◌≡◌, ◌↔◌, ℕ, ◌<◌, List, [], ◌∷◌, ◌++◌, length, map, replicate, slice_get, Option, Some, None, true, is_some, option_and_then, unwrap_or, if◌then◌else◌, codes}
 use Rattle.std.specs.List.{AllByRecursion, flat_map}
-use Rattle.indexmap.specs.IndexMap.{get}
 use Rattle.dt_model.specs.Names.{Name}
 use Rattle.dt_model.specs.Path.{Path, below}
 use Rattle.dt_model.specs.Tree.{Property, Reading, stands_in, value_in, nodes_of}
@@ -10,7 +9,7 @@ use Rattle.dt_model.specs.Valid.{IsValid}
 use Rattle.dt_landing.specs.Writing.{with_cells}
 use Rattle.dt_model.specs.Object.{Cell, HasFixups, fragment_names, local_cells}
 use Rattle.dt_model.specs.Numbers.{number_in, is_brought}
-use Rattle.dt_model.specs.Applied.{Write, label_write, local_write, node_named}
+use Rattle.dt_model.specs.Applied.{Write, label_write, local_write, node_named, node_numbered}
 use Rattle.dt_flat.specs.Arena.{Arena, Slot, reading, node_from}
 use Rattle.dt_listed.specs.Texts.{IsPathValue}
 use Rattle.dt_overlay.specs.declared.fragments.Fragment.{Fragment}
@@ -56,6 +55,13 @@ AreWritesOf slots [] (w ∷ ws) = ⊥
 AreWritesOf slots (x ∷ xs) [] = ⊥
 AreWritesOf slots (x ∷ xs) (w ∷ ws) = IsWriteOf slots x w × AreWritesOf slots xs ws
 
+-- the number that a cell gets which holds this one: the number of the node that has it in the object, if it gets one
+abbrev pub own_number : Reading → List (Path × ℕ) → ℕ → ℕ
+own_number object numbers n = unwrap_or (option_and_then (number_in numbers) (node_numbered (nodes_of object) n)) n
+
+abbrev pub renumbered : Reading → List (Path × ℕ) → KeptWrite → KeptWrite
+renumbered object numbers w = record w { number = own_number object numbers w.number }
+
 -- the cells that wait for labels are listed behind what was
 pub record ListsFixups (base : Reading) (object : Arena) (old new : List KeptWrite) : Type 0 where
   pub more : List KeptWrite
@@ -80,20 +86,20 @@ pub record ListsLocalFixups (object : Arena) (numbers : List (Path × ℕ)) (old
 abbrev pub IsBroughtAt : List Name → ℕ → Path → Type 0
 IsBroughtAt names i p = (f : Name) × (slice_get names i ≡ Some f) × (is_some (below (content f) p) ≡ true)
 
+-- what is kept of nodes tells which fragments bring them
+abbrev pub IsKeptFor : List Slot → List Name → List (Option ℕ) → Type 0
+IsKeptFor slots names kept = (p : Path) (k i : ℕ) → node_from slots 0 p ≡ Some k → (slice_get kept k ≡ Some (Some i)) ↔ IsBroughtAt names i p
+
 pub record AreBrought (slots : List Slot) (names : List Name) (numbers : List (Path × ℕ)) (b : Brought) : Type 0 where
   pub all : length b.fragments.items ≡ length slots
   pub each : length b.numbers.items ≡ length slots
-  pub fragments : (p : Path) (k i : ℕ) → node_from slots 0 p ≡ Some k → (slice_get b.fragments.items k ≡ Some (Some i)) ↔ IsBroughtAt names i p
+  pub fragments : IsKeptFor slots names b.fragments.items
   pub numbered : (p : Path) (k : ℕ) → node_from slots 0 p ≡ Some k → slice_get b.numbers.items k ≡ Some (number_in numbers p)
-  pub nodes : (p : Path) (k n : ℕ) → node_from slots 0 p ≡ Some k → (get nat_eq b.nodes n ≡ Some k) ↔ (number_in numbers p ≡ Some n)
-  pub there : (k n : ℕ) → get nat_eq b.nodes n ≡ Some k → k < length slots
 
 -- nothing is brought so far
 pub record IsUnbrought (count : ℕ) (b : Brought) : Type 0 where
   pub fragments : b.fragments.items ≡ replicate count None
   pub numbers : b.numbers.items ≡ replicate count None
-  pub nodes : (n : ℕ) → get nat_eq b.nodes n ≡ None
-  pub last : b.last ≡ 0
 
 -- ---- labels
 
@@ -129,10 +135,3 @@ pub record IsReady (object : Reading) (ws : List Write) (numbers : List (Path ×
   pub written : reading tree ≡ with_cells ws object
   pub listed : AreFragmentsOf tree.slots object fragments (fragment_names object.children)
   pub brought : AreBrought tree.slots (fragment_names object.children) numbers b
-
--- of some object
-pub record IsReadyOfSome (tree : Arena) (fragments : List Fragment) (b : Brought) : Type 0 where
-  pub object : Reading
-  pub writes : List Write
-  pub numbers : List (Path × ℕ)
-  pub ready : IsReady object writes numbers tree fragments b

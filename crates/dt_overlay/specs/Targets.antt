@@ -1,18 +1,12 @@
 -- Trees that take an overlay: what may be changed in them, and why a change is refused.
 use Rattle.std.specs.Prelude.{◌≡◌, ℕ, ◌+◌, ◌<◌, ◌≤◌, ◌⊎◌, true, false, List, [], ◌∷◌, ◌++◌, length, Some, codes}
-use Rattle.std.specs.Int.{w32, from_be_bytes}
 use Rattle.dt_model.specs.Limits.{most_names, most_nodes}
 use Rattle.dt_model.specs.Names.{Name}
-use Rattle.dt_model.specs.Meaning.{cell}
 use Rattle.dt_model.specs.Path.{Path}
 use Rattle.dt_model.specs.Tree.{Reading, stands_in, value_in}
 use Rattle.dt_model.specs.Valid.{IsPhandle, node_count}
 use Rattle.dt_names.specs.declared.fault.FaultKind.{FaultKind}
 use Rattle.dt_names.specs.declared.fault.FaultKind.TheVariants.{NoMemory, Limit, Duplicate, BlobPhandle}
-
--- each phandle is the cell of its number
-abbrev pub HasCells : Reading → Type 0
-HasCells t = (p : Path) (value : List ℕ) → value_in t p (codes "phandle") ≡ Some value → value ≡ cell (from_be_bytes w32 value)
 
 -- a child of that name may be added to the path's node
 pub record MayAddAt (t : Reading) (p : Path) (name : Name) : Type 0 where

@@ -1,29 +1,34 @@
 //! Applying an object.
 
 ghost use Rattle.std.specs.Prelude.{◌≡◌, ◌∷◌, ◌⊎◌, [], None, length, codes, OnOk, IfOk, IfErr};
-ghost use Rattle.dt_laws.specs.InTurn.{IsApplied};
+ghost use Rattle.dt_joining.specs.InTurn.{IsApplied};
+ghost use Rattle.dt_joining.specs.Walk.{nothing_walked};
+ghost use Rattle.dt_model.specs.Object.{fragment_names};
 ghost use Rattle.dt_flat.specs.Arena.{reading};
 ghost use Rattle.dt_read.specs.Placed.{reading_of};
 ghost use Rattle.dt_landing.specs.Objects.{IsWellFormed};
+ghost use Rattle.dt_landing.specs.Landings.{HasNoSite};
 ghost use Rattle.dt_landing.specs.Refusals.{IsOverfull, WhyNotApplied};
 ghost use Rattle.dt_model.specs.Tree.{Reading};
 ghost use Rattle.dt_names.specs.declared.fault.FaultKind.TheVariants.{NoMemory, Limit};
 ghost use Rattle.dt_overlay.specs.Plans.{IsUnbrought};
-ghost use Rattle.dt_overlay.specs.Applying.{IsEmptyPlan, IsReadAs, IsSitedAs, IsLeftBy};
-ghost use Rattle.dt_overlay.specs.Writing.{AreWritable, with_writes};
+ghost use Rattle.dt_overlay.specs.Applying.{IsEmptyPlan, IsReadAs, IsSitedAs, IsWrittenAs, IsLeftBy};
+ghost use Rattle.dt_overlay.specs.Known.{IsKnown};
 
 use crate::Target;
 use crate::fixups::list_fixups;
 use crate::fragments::{Fragment, list_fragments};
 use crate::landing::land_all;
 use crate::local_fixups::list_local_fixups;
-use crate::numbers::{Brought, number_all};
+use crate::marks::target_marks;
+use crate::numbers::{Brought, bring_all, number_all, renumber};
+use crate::places::Places;
 use crate::sites::find_sites;
 use crate::symbol_landing::set_symbols;
 use crate::symbols::{Symbol, list_symbols};
 use crate::writes::{Write, write_cells};
 use dt_flat::FlatTree;
-use dt_landing::{fragments_are_merged, nodes_are_kept, passed_is_applied, symbols_are_merged};
+use dt_landing::{fragments_are_merged, nodes_are_kept, sited_is_applied, symbols_are_merged};
 use dt_names::{Fault, NodeName, Path};
 use dt_read::Blob;
 use std::alloc::Global;
@@ -36,7 +41,7 @@ struct Plan {
     label_writes: Vec<Write>,
     symbols: Vec<Symbol>,
     sites: Vec<Path>,
-    known: FlatTree,
+    places: Places,
     value: Vec<u8>,
 }
 
@@ -50,7 +55,7 @@ impl Plan {
             label_writes: Vec::new(alloc),
             symbols: Vec::new(alloc),
             sites: Vec::new(alloc),
-            known: FlatTree::new(alloc, 0),
+            places: Places::new(alloc),
             value: Vec::new(alloc),
         }
     }
@@ -67,43 +72,84 @@ fn symbols_path(alloc: Global) -> Result<Path, Fault>
     Ok(path)
 }
 
-// Writes the numbers into the object's cells.
-fn write_numbers(object: &mut FlatTree, plan: &Plan) -> Result<(), Fault>
-    requires own { AreWritable object.old.slots plan.now.local_writes.items }
-    requires labelled { AreWritable (with_writes plan.now.local_writes.items object.old.slots) plan.now.label_writes.items }
-    ensures written { OnOk result (object.new ≡ record object.old
-        { slots = with_writes plan.now.label_writes.items (with_writes plan.now.local_writes.items object.old.slots) }) }
-    ensures refused { IfErr result (λ fault. (fault.kind ≡ NoMemory) × (fault.at ≡ None)) }
-{
-    write_cells(object, &plan.local_writes)?;
-    write_cells(object, &plan.label_writes)
-}
-
-// Reads the object, and writes the numbers into its cells.
+// Reads the object.
 fn read<T: Target>(
     alloc: Global,
     target: &T,
     symbols: &Path,
-    object: &mut FlatTree,
+    object: &FlatTree,
     brought: &mut Brought,
     plan: &mut Plan,
 ) -> Result<(), Fault>
     requires symbols { symbols.now ≡ codes "__symbols__" ∷ [] }
     requires empty { IsEmptyPlan plan.old }
-    requires unbrought { IsUnbrought (length object.old.slots) brought.old }
-    ensures read { OnOk result (IsReadAs (T.reading target.now) (reading object.old) object.new brought.new plan.new) }
-    ensures sites { OnOk result (plan.new.sites.items ≡ []) }
-    ensures known { OnOk result (plan.new.known ≡ plan.old.known) }
+    requires unbrought { IsUnbrought (length object.now.slots) brought.old }
+    ensures read { OnOk result (IsReadAs (T.reading target.now) object.now brought.new plan.new) }
+    ensures sites { OnOk result (plan.new.sites ≡ plan.old.sites) }
+    ensures places { OnOk result (plan.new.places ≡ plan.old.places) }
     ensures refused { IfErr result (λ fault. (fault.at ≡ None)
-        × WhyNotApplied fault.kind (T.reading target.now) (reading object.old)) }
+        × WhyNotApplied fault.kind (T.reading target.now) (reading object.now)) }
 {
     object.validity();
     list_fragments(alloc, object, &mut plan.fragments)?;
     list_fixups(alloc, target, symbols, object, &mut plan.label_writes)?;
-    number_all(alloc, target, object, &plan.fragments, brought)?;
+    bring_all(object, &plan.fragments, brought);
     list_local_fixups(alloc, object, brought, &mut plan.local_writes)?;
-    list_symbols(alloc, object, &mut plan.symbols)?;
-    write_numbers(object, plan)
+    list_symbols(alloc, object, &mut plan.symbols)
+}
+
+// Finds where the fragments land, and which numbers their nodes get.
+fn look<T: Target>(
+    alloc: Global,
+    target: &T,
+    object: &FlatTree,
+    brought: &mut Brought,
+    plan: &mut Plan,
+) -> Result<(), Fault>
+    requires read { IsReadAs (T.reading target.now) object.now brought.old plan.old }
+    requires sites { plan.old.sites.items ≡ [] }
+    requires places { IsKnown (T.reading target.now) [] [] plan.old.places }
+    ensures sited { (read : IsReadAs (T.reading target.now) object.now brought.old plan.old) →
+        OnOk result (IsSitedAs (T.reading target.now) object.now brought.new plan.new read.fixups) }
+    ensures kept { OnOk result (plan.new ≡ record plan.old { sites = plan.new.sites; places = plan.new.places }) }
+    ensures refused { (read : IsReadAs (T.reading target.now) object.now brought.old plan.old) →
+        IfErr result (λ fault. (fault.at ≡ None) × ((fault.kind ≡ NoMemory)
+        ⊎ HasNoSite fault.kind (T.reading target.now) (reading object.now) read.fixups nothing_walked (fragment_names (reading object.now).children))) }
+{
+    target.validity();
+    object.validity();
+    let marks = target_marks(
+        alloc,
+        object.node_count(),
+        &plan.local_writes,
+        &plan.label_writes,
+    )?;
+    find_sites(
+        alloc,
+        target,
+        object,
+        brought,
+        &marks,
+        &plan.fragments,
+        &mut plan.places,
+        &mut plan.sites,
+    )?;
+    number_all(alloc, target, object, &plan.sites, &plan.places, brought)
+}
+
+// Writes the numbers into the object's cells, its own first.
+fn write_numbers(object: &mut FlatTree, brought: &Brought, plan: &mut Plan) -> Result<(), Fault>
+    requires read { (base : Reading) × (first : Brought) × (first_plan : Plan) × (read : IsReadAs base object.old first first_plan)
+        × IsSitedAs base object.old brought.now plan.old read.fixups × (plan.old ≡ record first_plan { sites = plan.old.sites; places = plan.old.places }) }
+    ensures written { (base : Reading) (first : Brought) (first_plan : Plan) (read : IsReadAs base object.old first first_plan) →
+        IsSitedAs base object.old brought.now plan.old read.fixups → (plan.old ≡ record first_plan { sites = plan.old.sites; places = plan.old.places }) →
+        OnOk result (IsWrittenAs base (reading object.old) object.new brought.now plan.new) }
+    ensures refused { IfErr result (λ fault. (fault.kind ≡ NoMemory) × (fault.at ≡ None)) }
+{
+    object.validity();
+    renumber(object, brought, &mut plan.local_writes);
+    write_cells(object, &plan.local_writes)?;
+    write_cells(object, &plan.label_writes)
 }
 
 // Lands what the fragments bring on their sites, and then the labels.
@@ -116,14 +162,14 @@ fn land_planned<T: Target>(
     plan: &mut Plan,
 ) -> Result<(), Fault>
     requires symbols { symbols.now ≡ codes "__symbols__" ∷ [] }
-    requires sited { (read : Reading) × IsSitedAs (T.reading target.old) read object.now brought.now plan.old }
-    ensures applied { (read : Reading) → IsSitedAs (T.reading target.old) read object.now brought.now plan.old →
+    requires written { (read : Reading) × IsWrittenAs (T.reading target.old) read object.now brought.now plan.old }
+    ensures applied { (read : Reading) → IsWrittenAs (T.reading target.old) read object.now brought.now plan.old →
         OnOk result (IsApplied (T.reading target.old) read (T.reading target.new)) }
-    ensures refused { (read : Reading) → IsSitedAs (T.reading target.old) read object.now brought.now plan.old →
+    ensures refused { (read : Reading) → IsWrittenAs (T.reading target.old) read object.now brought.now plan.old →
         IfErr result (λ fault. (fault.at ≡ None) × ((fault.kind ≡ NoMemory)
         ⊎ ((fault.kind ≡ Limit) × IsOverfull (T.reading target.old) read))) }
 {
-    passed_is_applied();
+    sited_is_applied();
     fragments_are_merged();
     symbols_are_merged();
     nodes_are_kept();
@@ -168,15 +214,8 @@ fn carry_out<T: Target>(
     ensures left { IfErr result (λ fault. IsLeftBy fault.kind (T.reading target.old) (reading object.old) (T.reading target.new)) }
 {
     read(alloc, target, symbols, object, brought, plan)?;
-    find_sites(
-        alloc,
-        target,
-        object,
-        brought,
-        &plan.fragments,
-        &mut plan.known,
-        &mut plan.sites,
-    )?;
+    look(alloc, target, object, brought, plan)?;
+    write_numbers(object, brought, plan)?;
     land_planned(alloc, target, symbols, object, brought, plan)
 }
 
@@ -217,9 +256,11 @@ fn apply_tree<T: Target>(alloc: Global, target: &mut T, object: &mut FlatTree) -
 }
 
 /// Applies an overlay's object to a tree (dtc's notes on overlay objects): the nodes and the properties that its fragments bring
-/// are added to the nodes that the fragments name, or replace those that are there, fragment by fragment; each node that has a
-/// number gets the least one that no node of the tree has, in the object's preorder; the cells that the object lists hold the
-/// numbers of their nodes then; and the labels of the nodes that land are set in `__symbols__`. All else of the tree stays.
+/// are added to the nodes that the fragments name, or replace those that are there, fragment by fragment. Nodes that land on one
+/// path are one node: where one has a `phandle`, it has the number of the tree's node there, or else that of the first such node
+/// of the object that landed there, which got, in the object's preorder, the least that no node of the tree has and that wasn't
+/// given. The cells that the object lists hold the numbers of their nodes then, and the labels of the nodes that land are set in
+/// `__symbols__`. All else of the tree stays.
 ///
 /// # Errors
 ///
@@ -228,8 +269,8 @@ fn apply_tree<T: Target>(alloc: Global, target: &mut T, object: &mut FlatTree) -
 /// the same of a cell of the object's own nodes, or the number in it is that of no node that it may name; `BadSymbol`, a label of
 /// the object isn't a text, or names a node that isn't there; then fragment by fragment `NoTarget`, its target is no node of the
 /// tree, and none that an earlier fragment brings, `ReservedPlace`, something lands in a bookkeeping node, `Limit`, on a path of
-/// more than 64 names, `SecondPhandle`, a node with a number lands where a node with a number is. After these the tree is
-/// unchanged. `Limit`, more than 65,536 nodes, and `NoMemory` may leave a part of the object in it.
+/// more than 64 names. After these the tree is unchanged. `Limit`, what comes of an object without these faults has more than
+/// 65,536 nodes, and `NoMemory` may leave a part of the object in it.
 pub fn apply<T: Target>(alloc: Global, target: &mut T, object: &Blob<'_>) -> Result<(), Fault>
     ensures applied { OnOk result (IsApplied (T.reading target.old) (reading_of object.now) (T.reading target.new)) }
     ensures well { OnOk result (IsWellFormed (T.reading target.old) (reading_of object.now)) }

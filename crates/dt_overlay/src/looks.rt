@@ -1,22 +1,26 @@
-//! A look at where things land. What is known on the way is a tree: of the places on which something lands so far and those
-//! above them, each place of a node with a number marked by a property `numbered`.
+//! A look at where things land.
 
-ghost use Rattle.std.specs.Prelude.{◌≡◌, ◌<◌, ◌≤◌, ◌++◌, ◌∷◌, ◌⊎◌, [], true, ℕ, None, Some, Ok, Err, length, is_some, ◌||◌, codes, OnOk, IfOk, IfErr};
+ghost use Rattle.std.specs.Prelude.{◌≡◌, ◌<◌, ◌≤◌, ◌*◌, ◌++◌, ◌∷◌, ◌⊎◌, [], true, false, ℕ, List, None, length, map, OnOk, IfOk, IfErr};
 ghost use Rattle.std.specs.List.{AllByRecursion};
-ghost use Rattle.dt_model.specs.Limits.{most_names};
+ghost use Rattle.dt_model.specs.Limits.{most_names, most_nodes};
+ghost use Rattle.dt_model.specs.Lists.{IsIn};
 ghost use Rattle.dt_model.specs.Names.{IsNodeName};
+ghost use Rattle.dt_model.specs.Numbers.{numbers_of};
 ghost use Rattle.dt_model.specs.Path.{Path as Names};
 ghost use Rattle.dt_model.specs.Path.{is_bookkeeping as is_bookkeeping_path};
-ghost use Rattle.dt_model.specs.Tree.{stands_in, value_in};
-ghost use Rattle.dt_flat.specs.Arena.{reading, properties, below, node_from};
-ghost use Rattle.dt_landing.specs.Checking.{check_number as number_checked, check_nodes, check_content as content_checked, with_places};
-ghost use Rattle.dt_names.specs.declared.fault.FaultKind.TheVariants.{NoMemory, Limit};
-ghost use Rattle.dt_overlay.specs.Looked.{node_of, trees_of, AreLed, IsBegun, IsEntered, AreTooMany, IsReached, IsReachedFrom, IsOnWay, WhyNotEntered, WhyNotLooked};
+ghost use Rattle.dt_model.specs.Tree.{Placed, preorder};
+ghost use Rattle.dt_flat.specs.Arena.{properties, below};
+ghost use Rattle.dt_joining.specs.Walk.{number_there as number_known, with_place, with_places};
+ghost use Rattle.dt_landing.specs.Landings.{MayLand, WhyNotLands, MayAllLand, IsStuck};
+ghost use Rattle.dt_names.specs.declared.fault.FaultKind.TheVariants.{NoMemory};
+ghost use Rattle.dt_overlay.specs.Known.{IsKnown, HasRoom, placed, trees_of, content_at};
+ghost use Rattle.dt_overlay.specs.NumbersGiven.{IsNext};
 
 use crate::Target;
+use crate::places::{Places, enter, give, number_given};
 use crate::texts::child_path;
 use dt_flat::FlatTree;
-use dt_names::{Fault, FaultKind, NodeId, NodeName, Path, PropName, is_bookkeeping_name};
+use dt_names::{Fault, FaultKind, NodeId, Path, is_bookkeeping_name, phandle_of};
 use std::alloc::Global;
 
 /// Is the node a bookkeeping node, or below one?
@@ -29,174 +33,168 @@ pub fn is_bookkeeping(path: &Path) -> bool
     }
 }
 
-// The place of a child, which is added where it isn't there.
-fn enter_child(known: &mut FlatTree, place: NodeId, name: &[u8]) -> Result<NodeId, Fault>
-    requires there { place < length known.old.slots }
-    requires named { IsNodeName name.now }
-    ensures entered { (q : Names) → node_from known.old.slots 0 q ≡ Some place →
-        IfOk result (λ child. IsEntered known.old known.new q name.now child) }
-    ensures refused { (q : Names) → node_from known.old.slots 0 q ≡ Some place →
-        IfErr result (λ fault. (fault.at ≡ None) × WhyNotEntered fault.kind (reading known.old) q name.now) }
+// The least number above another that no node of the base has: the base has too few nodes for it to be far above.
+fn free_number<T: Target>(alloc: Global, target: &T, last: u32) -> Result<u32, Fault>
+    requires { last ≤ 2 * most_nodes }
+    ensures next { IfOk result (IsNext (numbers_of (T.reading target.now)) last) }
+    ensures refused { IfErr result (λ fault. (fault.kind ≡ NoMemory) × (fault.at ≡ None)) }
 {
-    known.validity();
-    match known.child(place, name) {
-        Some(child) => Ok(child),
-        None => known.add_node(place, &NodeName::new(name)?),
+    target.validity();
+    let mut number = last + 1;
+    while target.by_phandle(alloc, number)?.is_some() {
+        number += 1;
     }
+    Ok(number)
 }
 
-// The places of a path, and the last of them.
-fn enter(known: &mut FlatTree, path: &Path) -> Result<NodeId, Fault>
-    requires named { AllByRecursion IsNodeName path.now }
-    requires short { length path.now ≤ most_names }
-    ensures reads { OnOk result (reading known.new ≡ with_places [] path.now (reading known.old)) }
-    ensures leads { IfOk result (λ place. node_from known.new.slots 0 path.now ≡ Some place) }
-    ensures refused { IfErr result (λ fault. (fault.at ≡ None) × ((fault.kind ≡ NoMemory) ⊎ ((fault.kind ≡ Limit)
-        × AreTooMany (λ r. (stands_in (reading known.old) r ≡ true) ⊎ IsOnWay path.now r)))) }
-{
-    let mut place = known.root();
-    for name in path.names() {
-        place = enter_child(known, place, name)?;
-    }
-    Ok(place)
-}
-
-// Has the path's node a number in the base, or does one with a number land there?
-fn is_numbered<T: Target>(target: &T, path: &Path, known: &FlatTree, place: NodeId) -> bool
-    requires { node_from known.now.slots 0 path.now ≡ Some place }
-    ensures { result ≡ (is_some (value_in (T.reading target.now) path.now (codes "phandle"))
-        || is_some (value_in (reading known.now) path.now (codes "numbered"))) }
-{
-    known.validity();
-    target.prop(path, b"phandle".as_slice()).is_some()
-        || known.value(place, b"numbered".as_slice()).is_some()
-}
-
-// A node lands on a path: it may have a number where there is none yet.
-fn check_number<T: Target>(
+/// The number of the node at a place: the base's, or the one that the place got.
+pub fn number_there<T: Target>(
+    alloc: Global,
     target: &T,
-    object: &FlatTree,
-    node: NodeId,
+    places: &Places,
     path: &Path,
-    known: &mut FlatTree,
-    place: NodeId,
-) -> Result<(), Fault>
-    requires node { node < length object.now.slots }
-    requires place { node_from known.old.slots 0 path.now ≡ Some place }
-    ensures checked { OnOk result (number_checked (T.reading target.now) path.now (properties object.now.slots node) (reading known.old) ≡ Ok (reading known.new)) }
-    ensures led { OnOk result (AreLed known.old.slots known.new.slots) }
-    ensures refused { IfErr result (λ fault. (fault.at ≡ None) × ((fault.kind ≡ NoMemory)
-        ⊎ (number_checked (T.reading target.now) path.now (properties object.now.slots node) (reading known.old) ≡ Err fault.kind))) }
+) -> Result<Option<u32>, Fault>
+    requires named { AllByRecursion IsNodeName path.now }
+    ensures number { (given : List (Names × ℕ)) (landed : List Names) → IsKnown (T.reading target.now) given landed places.now →
+        IfOk result (λ number. number ≡ number_known (T.reading target.now) given path.now) }
+    ensures refused { IfErr result (λ fault. (fault.kind ≡ NoMemory) × (fault.at ≡ None)) }
 {
-    if object.value(node, b"phandle".as_slice()).is_none() {
+    target.validity();
+    match target.prop(path, b"phandle".as_slice()) {
+        Some(value) => Ok(phandle_of(value)),
+        None => {
+            let number = number_given(alloc, places, path)?;
+            Ok(number)
+        }
+    }
+}
+
+// A node with a phandle lands on a place, which gets a number where it has none.
+fn number_place<T: Target>(
+    alloc: Global,
+    target: &T,
+    path: &Path,
+    places: &mut Places,
+) -> Result<(), Fault>
+    requires named { AllByRecursion IsNodeName path.now }
+    requires room { HasRoom (T.reading target.now) [] places.old }
+    ensures known { (given : List (Names × ℕ)) (landed : List Names) → IsKnown (T.reading target.now) given landed places.old → IsIn path.now landed →
+        OnOk result (IsKnown (T.reading target.now) (with_place (T.reading target.now) path.now given) landed places.new) }
+    ensures refused { IfErr result (λ fault. (fault.kind ≡ NoMemory) × (fault.at ≡ None)) }
+{
+    target.validity();
+    if number_there(alloc, target, places, path)?.is_some() {
         return Ok(());
     }
-    known.validity();
-    if is_numbered(target, path, known, place) {
-        return Err(Fault::of(FaultKind::SecondPhandle));
-    }
-    known.set_prop(place, &PropName::new(b"numbered".as_slice())?, &[])
+    let number = free_number(alloc, target, places.last)?;
+    give(alloc, places, path, number)?;
+    Ok(())
 }
 
-// A child of a node lands, what is below it aside. Answers the path on which it does, and its place.
-fn begin_child<T: Target>(
+// A node lands on a path.
+fn land_node<T: Target>(
     alloc: Global,
     target: &T,
     object: &FlatTree,
     node: NodeId,
-    parent: &Path,
-    known: &mut FlatTree,
-    place: NodeId,
-) -> Result<(Path, NodeId), Fault>
+    path: &Path,
+    places: &mut Places,
+) -> Result<(), Fault>
     requires node { node < length object.now.slots }
-    requires below { 0 < node }
-    requires place { node_from known.old.slots 0 parent.now ≡ Some place }
-    ensures begun { IfOk result (λ begun. IsBegun (T.reading target.now) (reading known.old) (reading known.new) parent.now begun.0 object.now.slots node) }
-    ensures place { IfOk result (λ begun. node_from known.new.slots 0 begun.0 ≡ Some begun.1) }
-    ensures led { OnOk result (AreLed known.old.slots known.new.slots) }
-    ensures refused { IfErr result (λ fault. (fault.at ≡ None) × WhyNotLooked fault.kind
-        (check_nodes (T.reading target.now) parent.now (trees_of object.now.slots (node ∷ [])) (reading known.old))
-        (IsReached (reading known.old) parent.now (trees_of object.now.slots (node ∷ [])))) }
+    requires named { AllByRecursion IsNodeName path.now }
+    requires short { length path.now ≤ most_names }
+    requires room { HasRoom (T.reading target.now) [] places.old }
+    ensures known { (given : List (Names × ℕ)) (landed : List Names) → IsKnown (T.reading target.now) given landed places.old →
+        OnOk result (IsKnown (T.reading target.now) (with_places (T.reading target.now) (placed object.now.slots node path.now ∷ []) given) (landed ++ path.now ∷ []) places.new) }
+    ensures may { OnOk result (MayLand (placed object.now.slots node path.now)) }
+    ensures refused { IfErr result (λ fault. (fault.at ≡ None) × ((fault.kind ≡ NoMemory)
+        ⊎ WhyNotLands fault.kind (placed object.now.slots node path.now))) }
 {
-    object.validity();
-    known.validity();
-    let name = object.name(node);
-    let path = child_path(alloc, parent, name)?;
-    if is_bookkeeping(&path) {
+    if is_bookkeeping(path) {
         return Err(Fault::of(FaultKind::ReservedPlace));
     }
-    let place = enter_child(known, place, name)?;
-    check_number(target, object, node, &path, known, place)?;
-    Ok((path, place))
+    enter(alloc, places, path)?;
+    if object.value(node, b"phandle".as_slice()).is_some() {
+        number_place(alloc, target, path, places)?;
+    }
+    Ok(())
 }
 
 // A child of a node lands with what is below it.
-#[cycle(looks)]
-fn check_child<T: Target>(
+#[cycle(lands)]
+fn land_child<T: Target>(
     alloc: Global,
     target: &T,
     object: &FlatTree,
     node: NodeId,
     parent: &Path,
-    known: &mut FlatTree,
-    place: NodeId,
+    places: &mut Places,
 ) -> Result<(), Fault>
     requires node { node < length object.now.slots }
     requires below { 0 < node }
-    requires place { node_from known.old.slots 0 parent.now ≡ Some place }
-    ensures checked { OnOk result (check_nodes (T.reading target.now) parent.now (trees_of object.now.slots (node ∷ [])) (reading known.old) ≡ Ok (reading known.new)) }
-    ensures led { OnOk result (AreLed known.old.slots known.new.slots) }
-    ensures refused { IfErr result (λ fault. (fault.at ≡ None) × WhyNotLooked fault.kind
-        (check_nodes (T.reading target.now) parent.now (trees_of object.now.slots (node ∷ [])) (reading known.old))
-        (IsReached (reading known.old) parent.now (trees_of object.now.slots (node ∷ [])))) }
+    requires named { AllByRecursion IsNodeName parent.now }
+    requires plain { is_bookkeeping_path parent.now ≡ false }
+    requires room { HasRoom (T.reading target.now) (preorder parent.now (trees_of object.now.slots (node ∷ []))) places.old }
+    ensures known { (given : List (Names × ℕ)) (landed : List Names) → IsKnown (T.reading target.now) given landed places.old →
+        OnOk result (IsKnown (T.reading target.now) (with_places (T.reading target.now) (preorder parent.now (trees_of object.now.slots (node ∷ []))) given)
+        (landed ++ map (λ (n : Placed). n.path) (preorder parent.now (trees_of object.now.slots (node ∷ [])))) places.new) }
+    ensures may { OnOk result (MayAllLand (preorder parent.now (trees_of object.now.slots (node ∷ [])))) }
+    ensures refused { IfErr result (λ fault. (fault.at ≡ None) × ((fault.kind ≡ NoMemory)
+        ⊎ IsStuck fault.kind (preorder parent.now (trees_of object.now.slots (node ∷ []))))) }
 {
-    let (path, place) = begin_child(alloc, target, object, node, parent, known, place)?;
-    check_children(alloc, target, object, node, &path, known, place)
+    object.validity();
+    let path = child_path(alloc, parent, object.name(node))?;
+    land_node(alloc, target, object, node, &path, places)?;
+    land_children(alloc, target, object, node, &path, places)
 }
 
 // The children of a node land, each with what is below it.
-#[cycle(looks)]
-fn check_children<T: Target>(
+#[cycle(lands)]
+fn land_children<T: Target>(
     alloc: Global,
     target: &T,
     object: &FlatTree,
     node: NodeId,
     path: &Path,
-    known: &mut FlatTree,
-    place: NodeId,
+    places: &mut Places,
 ) -> Result<(), Fault>
     requires node { node < length object.now.slots }
-    requires place { node_from known.old.slots 0 path.now ≡ Some place }
-    ensures checked { OnOk result (check_nodes (T.reading target.now) path.now (below object.now.slots node) (reading known.old) ≡ Ok (reading known.new)) }
-    ensures led { OnOk result (AreLed known.old.slots known.new.slots) }
-    ensures refused { IfErr result (λ fault. (fault.at ≡ None) × WhyNotLooked fault.kind
-        (check_nodes (T.reading target.now) path.now (below object.now.slots node) (reading known.old))
-        (IsReached (reading known.old) path.now (below object.now.slots node))) }
+    requires named { AllByRecursion IsNodeName path.now }
+    requires plain { is_bookkeeping_path path.now ≡ false }
+    requires room { HasRoom (T.reading target.now) (preorder path.now (below object.now.slots node)) places.old }
+    ensures known { (given : List (Names × ℕ)) (landed : List Names) → IsKnown (T.reading target.now) given landed places.old →
+        OnOk result (IsKnown (T.reading target.now) (with_places (T.reading target.now) (preorder path.now (below object.now.slots node)) given)
+        (landed ++ map (λ (n : Placed). n.path) (preorder path.now (below object.now.slots node))) places.new) }
+    ensures may { OnOk result (MayAllLand (preorder path.now (below object.now.slots node))) }
+    ensures refused { IfErr result (λ fault. (fault.at ≡ None) × ((fault.kind ≡ NoMemory)
+        ⊎ IsStuck fault.kind (preorder path.now (below object.now.slots node)))) }
 {
     for child in object.children(node) {
-        check_child(alloc, target, object, child, path, known, place)?;
+        land_child(alloc, target, object, child, path, places)?;
     }
     Ok(())
 }
 
 /// What a fragment brings lands on a path.
-pub fn check_content<T: Target>(
+pub fn land_content<T: Target>(
     alloc: Global,
     target: &T,
     object: &FlatTree,
     content: NodeId,
     path: &Path,
-    known: &mut FlatTree,
+    places: &mut Places,
 ) -> Result<(), Fault>
     requires content { content < length object.now.slots }
     requires named { AllByRecursion IsNodeName path.now }
     requires short { length path.now ≤ most_names }
-    ensures checked { OnOk result (content_checked (T.reading target.now) path.now (Some (node_of object.now.slots content)) (reading known.old) ≡ Ok (reading known.new)) }
-    ensures refused { IfErr result (λ fault. (fault.at ≡ None) × WhyNotLooked fault.kind
-        (content_checked (T.reading target.now) path.now (Some (node_of object.now.slots content)) (reading known.old))
-        (IsReachedFrom (reading known.old) path.now (below object.now.slots content))) }
+    requires room { HasRoom (T.reading target.now) (content_at object.now.slots content path.now) places.old }
+    ensures known { (given : List (Names × ℕ)) (landed : List Names) → IsKnown (T.reading target.now) given landed places.old →
+        OnOk result (IsKnown (T.reading target.now) (with_places (T.reading target.now) (content_at object.now.slots content path.now) given)
+        (landed ++ map (λ (n : Placed). n.path) (content_at object.now.slots content path.now)) places.new) }
+    ensures may { OnOk result (MayAllLand (content_at object.now.slots content path.now)) }
+    ensures refused { IfErr result (λ fault. (fault.at ≡ None) × ((fault.kind ≡ NoMemory)
+        ⊎ IsStuck fault.kind (content_at object.now.slots content path.now))) }
 {
-    let place = enter(known, path)?;
-    check_number(target, object, content, path, known, place)?;
-    check_children(alloc, target, object, content, path, known, place)
+    land_node(alloc, target, object, content, path, places)?;
+    land_children(alloc, target, object, content, path, places)
 }

@@ -1,33 +1,33 @@
-//! The numbers that the nodes that land get.
+//! The nodes that an object's fragments bring, and the numbers that they get.
 
-ghost use Rattle.std.specs.Prelude.{◌≡◌, ◌*◌, ◌<◌, ◌≤◌, ◌∷◌, [], ℕ, List, None, Some, length, slice_get, OnOk, IfOk, IfErr};
-ghost use Rattle.dt_model.specs.Limits.{most_nodes};
-ghost use Rattle.dt_model.specs.Path.{Path};
-ghost use Rattle.dt_model.specs.Numbers.{AreNewNumbers, numbers_of};
-ghost use Rattle.dt_model.specs.Object.{fragment_names};
+ghost use Rattle.std.specs.Prelude.{◌≡◌, ◌<◌, [], ℕ, List, None, length, map, OnOk, IfOk, IfErr};
+ghost use Rattle.dt_model.specs.Object.{Cell, fragment_names};
+ghost use Rattle.dt_model.specs.Names.{Name};
+ghost use Rattle.dt_model.specs.Path.{Path as Names};
+ghost use Rattle.dt_joining.specs.Walk.{Walked, new_numbers};
 ghost use Rattle.dt_names.specs.declared.fault.FaultKind.TheVariants.{NoMemory};
 ghost use Rattle.dt_flat.specs.Arena.{reading};
-ghost use Rattle.dt_overlay.specs.NumbersGiven.{walk, with_fragment, AreUnnumbered, IsNext, IsNumbering, GivesNumbers};
-ghost use Rattle.dt_overlay.specs.Plans.{AreFragmentsOf, AreBrought, IsUnbrought};
+ghost use Rattle.dt_overlay.specs.Turns.{IsLooked};
+ghost use Rattle.dt_overlay.specs.NumbersGiven.{walk, with_fragment};
+ghost use Rattle.dt_overlay.specs.Plans.{AreFragmentsOf, AreBrought, IsUnbrought, own_number, renumbered};
 
 use crate::Target;
 use crate::fragments::Fragment;
+use crate::looks::number_there;
+use crate::places::Places;
+use crate::sites::landing;
+use crate::writes::Write;
 use dt_flat::FlatTree;
-use dt_names::{Fault, NodeId};
-use indexmap::IndexMap;
+use dt_names::{Fault, NodeId, Path};
 use std::alloc::{AllocError, Global};
 
-/// What becomes of the nodes of an object.
+/// What becomes of the nodes of an object, by their numbers in its tree.
 #[derive(Drop)]
 pub struct Brought {
-    /// Which of the fragments brings the node, by the nodes' numbers in the object's tree.
+    /// Which of the fragments brings the node.
     pub fragments: Vec<Option<usize>>,
-    /// The new number of the node, if it gets one.
+    /// The number that the node gets, if it gets one.
     pub numbers: Vec<Option<u32>>,
-    /// Which node has a new number.
-    pub nodes: IndexMap<u32, NodeId>,
-    /// The last new number, 0 before the first.
-    pub last: u32,
 }
 
 impl Brought {
@@ -38,96 +38,83 @@ impl Brought {
         Ok(Brought {
             fragments: vec![in alloc; None; nodes]?,
             numbers: vec![in alloc; None; nodes]?,
-            nodes: IndexMap::new(alloc),
-            last: 0,
         })
     }
 }
 
-// The least number above another that no node of the base has: the base has too few nodes for it to be far above.
-fn free_number<T: Target>(alloc: Global, target: &T, last: u32) -> Result<u32, Fault>
-    requires { last ≤ 2 * most_nodes }
-    ensures next { IfOk result (IsNext (numbers_of (T.reading target.now)) last) }
-    ensures refused { IfErr result (λ fault. (fault.kind ≡ NoMemory) × (fault.at ≡ None)) }
-{
-    target.validity();
-    let mut number = last + 1;
-    while target.by_phandle(alloc, number)?.is_some() {
-        number += 1;
-    }
-    Ok(number)
-}
-
-// A node gets a new number, if it has one.
-fn number_node<T: Target>(
-    alloc: Global,
-    target: &T,
-    object: &FlatTree,
-    node: NodeId,
-    brought: &mut Brought,
-) -> Result<(), Fault>
+// A fragment brings a node and those below it.
+fn bring_nodes(object: &FlatTree, node: NodeId, fragment: usize, brought: &mut Brought)
     requires node { node < length object.now.slots }
-    requires numbering { IsNumbering (numbers_of (T.reading target.now)) (length object.now.slots) brought.old }
-    requires unnumbered { slice_get brought.old.numbers.items node ≡ Some None }
-    ensures numbering { OnOk result (IsNumbering (numbers_of (T.reading target.now)) (length object.now.slots) brought.new) }
-    ensures given { OnOk result (GivesNumbers (numbers_of (T.reading target.now)) object.now.slots (node ∷ []) brought.old brought.new) }
-    ensures fragments { OnOk result (brought.new.fragments.items ≡ brought.old.fragments.items) }
-    ensures refused { IfErr result (λ fault. (fault.kind ≡ NoMemory) × (fault.at ≡ None)) }
-{
-    target.validity();
-    object.validity();
-    if object.value(node, b"phandle".as_slice()).is_some() {
-        let number = free_number(alloc, target, brought.last)?;
-        brought.nodes.insert(number, node)?;
-        brought.numbers[node] = Some(number);
-        brought.last = number;
-    }
-    Ok(())
-}
-
-// A fragment brings a node and those below it: those that have numbers get new ones, in preorder.
-fn number_nodes<T: Target>(
-    alloc: Global,
-    target: &T,
-    object: &FlatTree,
-    node: NodeId,
-    fragment: usize,
-    brought: &mut Brought,
-) -> Result<(), Fault>
-    requires node { node < length object.now.slots }
-    requires numbering { IsNumbering (numbers_of (T.reading target.now)) (length object.now.slots) brought.old }
-    requires unnumbered { AreUnnumbered (walk object.now.slots node) brought.old }
-    ensures numbering { OnOk result (IsNumbering (numbers_of (T.reading target.now)) (length object.now.slots) brought.new) }
-    ensures given { OnOk result (GivesNumbers (numbers_of (T.reading target.now)) object.now.slots (walk object.now.slots node) brought.old brought.new) }
-    ensures fragments { OnOk result (brought.new.fragments.items ≡ with_fragment fragment (walk object.now.slots node) brought.old.fragments.items) }
-    ensures refused { IfErr result (λ fault. (fault.kind ≡ NoMemory) × (fault.at ≡ None)) }
+    requires all { length brought.old.fragments.items ≡ length object.now.slots }
+    ensures fragments { brought.new.fragments.items ≡ with_fragment fragment (walk object.now.slots node) brought.old.fragments.items }
+    ensures numbers { brought.new.numbers.items ≡ brought.old.numbers.items }
 {
     object.validity();
     brought.fragments[node] = Some(fragment);
-    number_node(alloc, target, object, node, brought)?;
     for child in object.children(node) {
-        number_nodes(alloc, target, object, child, fragment, brought)?;
+        bring_nodes(object, child, fragment, brought);
     }
-    Ok(())
 }
 
-/// The nodes that the fragments bring get the least numbers that no node of the base has, in preorder.
+/// The nodes that the fragments bring. None has a number so far.
+pub fn bring_all(object: &FlatTree, fragments: &[Fragment], brought: &mut Brought)
+    requires fragments { AreFragmentsOf object.now.slots (reading object.now) fragments.now (fragment_names (reading object.now).children) }
+    requires unbrought { IsUnbrought (length object.now.slots) brought.old }
+    ensures brought { AreBrought object.now.slots (fragment_names (reading object.now).children) [] brought.new }
+{
+    object.validity();
+    for (i, fragment) in fragments.iter().enumerate() {
+        bring_nodes(object, fragment.content, i, brought);
+    }
+}
+
+/// The nodes that land get the numbers of their places.
 pub fn number_all<T: Target>(
     alloc: Global,
     target: &T,
     object: &FlatTree,
-    fragments: &[Fragment],
+    sites: &[Path],
+    places: &Places,
     brought: &mut Brought,
 ) -> Result<(), Fault>
-    requires fragments { AreFragmentsOf object.now.slots (reading object.now) fragments.now (fragment_names (reading object.now).children) }
-    requires unbrought { IsUnbrought (length object.now.slots) brought.old }
-    ensures brought { OnOk result ((numbers : List (Path × ℕ)) × AreNewNumbers (T.reading target.now) (reading object.now) numbers
-        × AreBrought object.now.slots (fragment_names (reading object.now).children) numbers brought.new) }
+    requires brought { AreBrought object.now.slots (fragment_names (reading object.now).children) [] brought.old }
+    requires looked { (fixups : List (Name × Cell)) × (end : Walked) × IsLooked (T.reading target.now) fixups (reading object.now) end sites.now places.now }
+    ensures numbered { (fixups : List (Name × Cell)) (end : Walked) → IsLooked (T.reading target.now) fixups (reading object.now) end sites.now places.now →
+        OnOk result (AreBrought object.now.slots (fragment_names (reading object.now).children) (new_numbers (T.reading target.now) (reading object.now) end) brought.new) }
     ensures refused { IfErr result (λ fault. (fault.kind ≡ NoMemory) × (fault.at ≡ None)) }
 {
+    target.validity();
     object.validity();
-    for (i, fragment) in fragments.iter().enumerate() {
-        number_nodes(alloc, target, object, fragment.content, i, brought)?;
+    for node in 0..object.node_count() {
+        if object.value(node, b"phandle".as_slice()).is_some() {
+            if let Some(path) = landing(alloc, object, brought, sites, node)? {
+                brought.numbers[node] = number_there(alloc, target, places, &path)?;
+            }
+        }
     }
     Ok(())
+}
+
+// The number that a cell gets, which holds this one of the object's own.
+fn new_number(object: &FlatTree, brought: &Brought, number: u32) -> u32
+    requires { (numbers : List (Names × ℕ)) × AreBrought object.now.slots (fragment_names (reading object.now).children) numbers brought.now }
+    ensures { (numbers : List (Names × ℕ)) → AreBrought object.now.slots (fragment_names (reading object.now).children) numbers brought.now →
+        result ≡ own_number (reading object.now) numbers number }
+{
+    object.validity();
+    match object.by_phandle(number) {
+        Some(node) => brought.numbers[node].unwrap_or(number),
+        None => number,
+    }
+}
+
+/// The cells that hold numbers of the object's own nodes get those that the nodes have now.
+pub fn renumber(object: &FlatTree, brought: &Brought, writes: &mut Vec<Write>)
+    requires { (numbers : List (Names × ℕ)) × AreBrought object.now.slots (fragment_names (reading object.now).children) numbers brought.now }
+    ensures { (numbers : List (Names × ℕ)) → AreBrought object.now.slots (fragment_names (reading object.now).children) numbers brought.now →
+        writes.new.items ≡ map (renumbered (reading object.now) numbers) writes.old.items }
+{
+    for i in 0..writes.len() {
+        writes[i].number = new_number(object, brought, writes[i].number);
+    }
 }

@@ -1,33 +1,36 @@
 //! Where the fragments land: looked at as a whole, before anything is changed.
 
-ghost use Rattle.std.specs.Prelude.{◌≡◌, ◌<◌, ◌≤◌, ◌⊎◌, ◌||◌, [], ℕ, List, Some, None, Ok, Err, take, map, length, codes, OnOk, IfOk, IfErr};
+ghost use Rattle.std.specs.Prelude.{◌≡◌, ◌<◌, ◌≤◌, ◌⊎◌, ◌||◌, [], ℕ, List, Some, None, is_some, take, map, length, option_and_then, codes, OnOk, IfOk, IfErr};
+ghost use Rattle.std.specs.Option.{option_or};
+ghost use Rattle.std.specs.List.{AllByRecursion, list_any};
 ghost use Rattle.dt_model.specs.Limits.{most_names};
 ghost use Rattle.dt_model.specs.Path.{Path as Names};
-ghost use Rattle.std.specs.Option.{option_or};
-ghost use Rattle.dt_model.specs.Names.{Name};
+ghost use Rattle.dt_model.specs.Names.{Name, IsNodeName};
 ghost use Rattle.dt_model.specs.Tree.{Reading, nodes_of, stands_in, value_of};
-ghost use Rattle.dt_model.specs.Numbers.{AreNewNumbers};
-ghost use Rattle.dt_model.specs.Valid.{IsValid};
+ghost use Rattle.dt_model.specs.Valid.{AreDistinct, IsValid};
 ghost use Rattle.dt_model.specs.Merged.{Site};
 ghost use Rattle.dt_model.specs.Merged.{landing as landing_by};
-ghost use Rattle.dt_model.specs.Object.{fragment_names};
-ghost use Rattle.dt_model.specs.Applied.{Write, node_numbered, landed_with, node_named, landed_named, number_at};
+ghost use Rattle.dt_model.specs.Object.{Cell, fragment_names, local_cells};
+ghost use Rattle.dt_model.specs.Applied.{node_numbered, node_named, landed_named, number_at};
 ghost use Rattle.dt_names.specs.declared.fault.FaultKind.TheVariants.{NoMemory, Limit};
-ghost use Rattle.dt_flat.specs.Arena.{root_alone, node_from, properties, reading};
-ghost use Rattle.dt_landing.specs.Checking.{check_site, check_fragments, nothing_landed, IsKnown};
-ghost use Rattle.dt_landing.specs.Landings.{target_of, HasNoSite};
-ghost use Rattle.dt_overlay.specs.Looked.{IsTurn, IsTurnOf, LandsTooDeep, IsFull};
-ghost use Rattle.dt_landing.specs.Refusals.{IsCrowdedAt};
-ghost use Rattle.dt_overlay.specs.Plans.{IsReady, IsReadyOfSome};
-ghost use Rattle.dt_overlay.specs.declared.fragments.Fragment.{Fragment};
+ghost use Rattle.dt_flat.specs.Arena.{node_from, properties, reading};
+ghost use Rattle.dt_joining.specs.Walk.{Walked, nothing_walked, is_target, target_label, named_node};
+ghost use Rattle.dt_joining.specs.Walk.{place_given as place_known};
+ghost use Rattle.dt_landing.specs.Landings.{target_in, AreSited, WhyNoSite, HasNoSite};
+ghost use Rattle.dt_overlay.specs.Known.{kept_at, IsKnown, landed_paths};
+ghost use Rattle.dt_overlay.specs.Marks.{IsMark, AreMarked};
+ghost use Rattle.dt_overlay.specs.Plans.{IsKeptFor, AreBrought, AreFragmentsOf};
+ghost use Rattle.dt_overlay.specs.Turns.{IsTurn, IsTurnOf, IsSitedOn, AreLandings, LandsTooDeep};
+ghost use Rattle.dt_overlay.specs.declared.marks.TargetMark.{TargetMark};
 
 use crate::Target;
 use crate::fragments::{Fragment, FragmentTarget};
-use crate::looks::{check_content, is_bookkeeping};
+use crate::looks::{is_bookkeeping, land_content};
+use crate::marks::TargetMark;
 use crate::numbers::Brought;
+use crate::places::{Places, has_landed, place_given};
 use crate::texts::join;
 use dt_flat::FlatTree;
-use dt_landing::look_stops;
 use dt_listed::symbol_path;
 use dt_names::{Fault, FaultKind, NodeId, Path};
 use std::alloc::Global;
@@ -41,14 +44,14 @@ pub fn landing(
     node: NodeId,
 ) -> Result<Option<Path>, Fault>
     requires node { node < length object.now.slots }
-    requires ready { (fragments : List Fragment) × IsReadyOfSome object.now fragments brought.now }
-    ensures value { (read : Reading) (ws : List Write) (numbers : List (Names × ℕ)) (fragments : List Fragment) (found : List Site) (path : Names) →
-        IsReady read ws numbers object.now fragments brought.now →
-        map (λ (x : Site). x.fragment) found ≡ take (length found) (fragment_names read.children) → sites.now ≡ map (λ (x : Site). x.at) found →
+    requires brought { length brought.now.fragments.items ≡ length object.now.slots }
+    ensures value { (names : List Name) (found : List Site) (path : Names) →
+        IsKeptFor object.now.slots names brought.now.fragments.items → AreDistinct names →
+        map (λ (x : Site). x.fragment) found ≡ take (length found) names → sites.now ≡ map (λ (x : Site). x.at) found →
         node_from object.now.slots 0 path ≡ Some node → IfOk result (λ landed. landed ≡ landing_by found path) }
-    ensures refused { (read : Reading) (ws : List Write) (numbers : List (Names × ℕ)) (fragments : List Fragment) (found : List Site) (path : Names) →
-        IsReady read ws numbers object.now fragments brought.now →
-        map (λ (x : Site). x.fragment) found ≡ take (length found) (fragment_names read.children) → sites.now ≡ map (λ (x : Site). x.at) found →
+    ensures refused { (names : List Name) (found : List Site) (path : Names) →
+        IsKeptFor object.now.slots names brought.now.fragments.items → AreDistinct names →
+        map (λ (x : Site). x.fragment) found ≡ take (length found) names → sites.now ≡ map (λ (x : Site). x.at) found →
         node_from object.now.slots 0 path ≡ Some node → IfErr result (λ fault. (fault.at ≡ None) × ((fault.kind ≡ NoMemory)
         ⊎ ((fault.kind ≡ Limit) × ((q : Names) × (landing_by found path ≡ Some q) × (most_names < length q))))) }
 {
@@ -63,58 +66,89 @@ pub fn landing(
     }
 }
 
-// The node of the tree so far that has a number.
-fn numbered<T: Target>(
+// The place on which the object's node of a number has landed.
+fn own_place(
     alloc: Global,
-    target: &T,
     object: &FlatTree,
     brought: &Brought,
     sites: &[Path],
     number: u32,
 ) -> Result<Option<Path>, Fault>
-    requires { (fragments : List Fragment) × IsReadyOfSome object.now fragments brought.now }
-    ensures value { (read : Reading) (ws : List Write) (numbers : List (Names × ℕ)) (fragments : List Fragment) (earlier : List Site) →
-        IsTurn (T.reading target.now) read ws numbers object.now fragments brought.now earlier sites.now →
-        IfOk result (λ found. found ≡ option_or (node_numbered (nodes_of (T.reading target.now)) number) (landed_with numbers earlier number)) }
-    ensures refused { (read : Reading) (ws : List Write) (numbers : List (Names × ℕ)) (fragments : List Fragment) (earlier : List Site) →
-        IsTurn (T.reading target.now) read ws numbers object.now fragments brought.now earlier sites.now →
-        IfErr result (λ fault. (fault.at ≡ None) × ((fault.kind ≡ NoMemory) ⊎ LandsTooDeep read earlier)) }
+    requires brought { length brought.now.fragments.items ≡ length object.now.slots }
+    ensures value { (found : List Site) →
+        AreBrought object.now.slots (fragment_names (reading object.now).children) [] brought.now →
+        map (λ (x : Site). x.fragment) found ≡ take (length found) (fragment_names (reading object.now).children) → sites.now ≡ map (λ (x : Site). x.at) found →
+        IfOk result (λ place. place ≡ option_and_then (landing_by found) (node_numbered (nodes_of (reading object.now)) number)) }
+    ensures refused { (found : List Site) →
+        AreBrought object.now.slots (fragment_names (reading object.now).children) [] brought.now →
+        map (λ (x : Site). x.fragment) found ≡ take (length found) (fragment_names (reading object.now).children) → sites.now ≡ map (λ (x : Site). x.at) found →
+        IfErr result (λ fault. (fault.at ≡ None) × ((fault.kind ≡ NoMemory) ⊎ LandsTooDeep (reading object.now) found)) }
+{
+    object.validity();
+    match object.by_phandle(number) {
+        Some(node) => landing(alloc, object, brought, sites, node),
+        None => Ok(None),
+    }
+}
+
+// The node of the tree so far that has a number.
+fn numbered<T: Target>(
+    alloc: Global,
+    target: &T,
+    places: &Places,
+    number: u32,
+) -> Result<Option<Path>, Fault>
+    ensures value { (given : List (Names × ℕ)) (landed : List Names) → IsKnown (T.reading target.now) given landed places.now →
+        IfOk result (λ found. found ≡ option_or (node_numbered (nodes_of (T.reading target.now)) number) (place_known given number)) }
+    ensures refused { IfErr result (λ fault. (fault.at ≡ None) × (fault.kind ≡ NoMemory)) }
 {
     target.validity();
-    object.validity();
     if let Some(path) = target.by_phandle(alloc, number)? {
         return Ok(Some(path));
     }
-    match brought.nodes.get(&number) {
-        Some(node) => landing(alloc, object, brought, sites, *node),
+    match place_given(places, number) {
+        Some(place) => {
+            let path = place.copy(alloc)?;
+            Ok(Some(path))
+        }
         None => Ok(None),
     }
 }
 
 // Does the path stand in the tree so far?
-fn stands<T: Target>(target: &T, known: &FlatTree, path: &Path) -> bool
-    ensures { result ≡ (stands_in (T.reading target.now) path.now || stands_in (reading known.now) path.now) }
+fn stands<T: Target>(alloc: Global, target: &T, places: &Places, path: &Path) -> Result<bool, Fault>
+    ensures value { IfOk result (λ stands. stands ≡ (stands_in (T.reading target.now) path.now || is_some (kept_at places.now.numbers.entries path.now))) }
+    ensures refused { IfErr result (λ fault. (fault.at ≡ None) × (fault.kind ≡ NoMemory)) }
 {
-    target.find(path) || known.node(path).is_some()
+    if target.find(path) {
+        return Ok(true);
+    }
+    let landed = has_landed(alloc, places, path)?;
+    Ok(landed)
 }
 
-// The node of the tree so far that is named by a path.
+// The node of the tree so far that is named by a path's text.
 fn named<T: Target>(
     alloc: Global,
     target: &T,
-    known: &FlatTree,
+    places: &Places,
     value: &[u8],
 ) -> Result<Option<Path>, Fault>
-    ensures value { (read : Reading) (earlier : List Site) → IsValid read → IsKnown (T.reading target.now) read earlier (reading known.now) →
-        IfOk result (λ found. found ≡ option_or (node_named (nodes_of (T.reading target.now)) value.now) (landed_named (nodes_of read) earlier value.now)) }
+    ensures value { (object : Reading) (sites : List Site) (given : List (Names × ℕ)) → IsValid object →
+        IsKnown (T.reading target.now) given (landed_paths object sites) places.now → AreLandings object sites →
+        IfOk result (λ found. found ≡ option_or (node_named (nodes_of (T.reading target.now)) value.now) (landed_named (nodes_of object) sites value.now)) }
     ensures refused { IfErr result (λ fault. (fault.at ≡ None) × (fault.kind ≡ NoMemory)) }
 {
     target.validity();
-    known.validity();
-    match symbol_path(alloc, value) {
-        Ok(path) if stands(target, known, &path) => Ok(Some(path)),
-        Err(fault) if fault.kind == FaultKind::NoMemory => Err(fault),
-        _ => Ok(None),
+    let path = match symbol_path(alloc, value) {
+        Ok(path) => path,
+        Err(fault) if fault.kind == FaultKind::NoMemory => return Err(fault),
+        Err(_) => return Ok(None),
+    };
+    if stands(alloc, target, places, &path)? {
+        Ok(Some(path))
+    } else {
+        Ok(None)
     }
 }
 
@@ -131,6 +165,36 @@ fn target_number(object: &FlatTree, node: NodeId) -> Option<u32>
     Some(u32::from_be_bytes([value[0], value[1], value[2], value[3]]))
 }
 
+// The node of the tree so far that a number in `target` names, by what the object's lists tell of it.
+fn marked<T: Target>(
+    alloc: Global,
+    target: &T,
+    object: &FlatTree,
+    brought: &Brought,
+    sites: &[Path],
+    places: &Places,
+    mark: TargetMark,
+    number: u32,
+) -> Result<Option<Path>, Fault>
+    requires brought { length brought.now.fragments.items ≡ length object.now.slots }
+    ensures value { (fixups : List (Name × Cell)) (marks : List TargetMark) (w : Walked) (done later : List Name) (f : Name) →
+        IsTurn (T.reading target.now) fixups object.now brought.now marks sites.now places.now w done later →
+        IsMark (T.reading target.now) (reading object.now) fixups f mark →
+        IfOk result (λ found. found ≡ named_node (T.reading target.now) (reading object.now) w (target_label f fixups)
+        (list_any (is_target f) (local_cells (reading object.now))) number) }
+    ensures refused { (fixups : List (Name × Cell)) (marks : List TargetMark) (w : Walked) (done later : List Name) →
+        IsTurn (T.reading target.now) fixups object.now brought.now marks sites.now places.now w done later →
+        IfErr result (λ fault. (fault.at ≡ None) × (fault.kind ≡ NoMemory)) }
+{
+    target.validity();
+    object.validity();
+    match mark {
+        TargetMark::Label(number) => target.by_phandle(alloc, number),
+        TargetMark::Own => own_place(alloc, object, brought, sites, number),
+        TargetMark::Bare => numbered(alloc, target, places, number),
+    }
+}
+
 // The node of the tree so far that a fragment names.
 fn target_path<T: Target>(
     alloc: Global,
@@ -138,23 +202,28 @@ fn target_path<T: Target>(
     object: &FlatTree,
     brought: &Brought,
     sites: &[Path],
-    known: &FlatTree,
+    places: &Places,
+    marks: &[TargetMark],
     fragment: &Fragment,
 ) -> Result<Option<Path>, Fault>
-    requires ready { (fragments : List Fragment) × IsReadyOfSome object.now fragments brought.now }
+    requires brought { length brought.now.fragments.items ≡ length object.now.slots }
+    requires marks { length marks.now ≡ length object.now.slots }
     requires node { fragment.now.node < length object.now.slots }
-    ensures value { (read : Reading) (ws : List Write) (numbers : List (Names × ℕ)) (fragments : List Fragment) (earlier : List Site) (f : Name) →
-        IsTurnOf (T.reading target.now) read ws numbers object.now fragments brought.now earlier sites.now (reading known.now) fragment.now f →
-        IfOk result (λ found. found ≡ target_of (T.reading target.now) read ws numbers earlier f) }
-    ensures refused { (read : Reading) (ws : List Write) (numbers : List (Names × ℕ)) (fragments : List Fragment) (earlier : List Site) (f : Name) →
-        IsTurnOf (T.reading target.now) read ws numbers object.now fragments brought.now earlier sites.now (reading known.now) fragment.now f →
+    ensures value { (fixups : List (Name × Cell)) (w : Walked) (done later : List Name) (f : Name) →
+        IsTurnOf (T.reading target.now) fixups object.now brought.now marks.now sites.now places.now w done fragment.now f later →
+        IfOk result (λ found. found ≡ target_in (T.reading target.now) (reading object.now) fixups w f) }
+    ensures refused { (fixups : List (Name × Cell)) (w : Walked) (done later : List Name) (f : Name) →
+        IsTurnOf (T.reading target.now) fixups object.now brought.now marks.now sites.now places.now w done fragment.now f later →
         IfErr result (λ fault. (fault.at ≡ None) × (fault.kind ≡ NoMemory)) }
 {
-    known.validity();
+    object.validity();
     match &fragment.target {
-        FragmentTarget::Path(value) => named(alloc, target, known, value),
+        FragmentTarget::Path(value) => named(alloc, target, places, value),
         FragmentTarget::Number => match target_number(object, fragment.node) {
-            Some(number) => numbered(alloc, target, object, brought, sites, number),
+            Some(number) => {
+                let mark = marks[fragment.node];
+                marked(alloc, target, object, brought, sites, places, mark, number)
+            }
             None => Ok(None),
         },
     }
@@ -167,64 +236,72 @@ fn find_site<T: Target>(
     object: &FlatTree,
     brought: &Brought,
     sites: &[Path],
-    known: &mut FlatTree,
+    places: &mut Places,
+    marks: &[TargetMark],
     fragment: &Fragment,
 ) -> Result<Path, Fault>
-    requires ready { (fragments : List Fragment) × IsReadyOfSome object.now fragments brought.now }
+    requires brought { length brought.now.fragments.items ≡ length object.now.slots }
+    requires marks { length marks.now ≡ length object.now.slots }
     requires node { fragment.now.node < length object.now.slots }
     requires content { fragment.now.content < length object.now.slots }
-    ensures found { (read : Reading) (ws : List Write) (numbers : List (Names × ℕ)) (fragments : List Fragment) (earlier : List Site) (f : Name) →
-        IsTurnOf (T.reading target.now) read ws numbers object.now fragments brought.now earlier sites.now (reading known.old) fragment.now f →
-        IfOk result (λ path. check_site (T.reading target.now) read f (target_of (T.reading target.now) read ws numbers earlier f) (reading known.old)
-        ≡ Ok (record { fragment = f; at = path }, reading known.new)) }
-    ensures refused { (read : Reading) (ws : List Write) (numbers : List (Names × ℕ)) (fragments : List Fragment) (earlier : List Site) (f : Name) →
-        IsTurnOf (T.reading target.now) read ws numbers object.now fragments brought.now earlier sites.now (reading known.old) fragment.now f →
+    requires turn { (fixups : List (Name × Cell)) × (w : Walked) × (done later : List Name) × (f : Name)
+        × IsTurnOf (T.reading target.now) fixups object.now brought.now marks.now sites.now places.old w done fragment.now f later }
+    ensures found { (fixups : List (Name × Cell)) (w : Walked) (done later : List Name) (f : Name) →
+        IsTurnOf (T.reading target.now) fixups object.now brought.now marks.now sites.now places.old w done fragment.now f later →
+        IfOk result (λ path. IsSitedOn (T.reading target.now) fixups (reading object.now) w f path places.new) }
+    ensures named { IfOk result (λ path. AllByRecursion IsNodeName path) }
+    ensures refused { (fixups : List (Name × Cell)) (w : Walked) (done later : List Name) (f : Name) →
+        IsTurnOf (T.reading target.now) fixups object.now brought.now marks.now sites.now places.old w done fragment.now f later →
         IfErr result (λ fault. (fault.at ≡ None) × ((fault.kind ≡ NoMemory)
-        ⊎ (check_site (T.reading target.now) read f (target_of (T.reading target.now) read ws numbers earlier f) (reading known.old) ≡ Err fault.kind)
-        ⊎ ((fault.kind ≡ Limit) × IsFull (T.reading target.now) read ws numbers earlier f))) }
+        ⊎ WhyNoSite fault.kind (T.reading target.now) (reading object.now) fixups w f)) }
 {
     target.validity();
     object.validity();
-    let Some(path) = target_path(alloc, target, object, brought, sites, known, fragment)? else {
+    let Some(path) = target_path(
+        alloc, target, object, brought, sites, places, marks, fragment,
+    )?
+    else {
         return Err(Fault::of(FaultKind::NoTarget));
     };
     if is_bookkeeping(&path) {
         return Err(Fault::of(FaultKind::ReservedPlace));
     }
-    check_content(alloc, target, object, fragment.content, &path, known)?;
+    land_content(alloc, target, object, fragment.content, &path, places)?;
     Ok(path)
 }
 
-/// Finds the sites of the fragments, in order. The object has its cells written. `NoTarget`: a target names no node of the base,
-/// and none that lands before it. `ReservedPlace`: something lands in a bookkeeping node. `Limit`: a path gets more than 64
-/// names, or more than 65,536 nodes stand in the base or land. `SecondPhandle`: a node with a number lands where a node with
-/// a number is.
+/// Finds the sites of the fragments, in order, and what their nodes' places are. `NoTarget`: a target names no node of the base,
+/// and none that lands before it. `ReservedPlace`: something lands in a bookkeeping node. `Limit`: a path gets more than 64 names.
 pub fn find_sites<T: Target>(
     alloc: Global,
     target: &T,
     object: &FlatTree,
     brought: &Brought,
+    marks: &[TargetMark],
     fragments: &[Fragment],
-    known: &mut FlatTree,
+    places: &mut Places,
     sites: &mut Vec<Path>,
 ) -> Result<(), Fault>
-    requires ready { IsReadyOfSome object.now fragments.now brought.now }
+    requires brought { AreBrought object.now.slots (fragment_names (reading object.now).children) [] brought.now }
+    requires marks { length marks.now ≡ length object.now.slots }
+    requires marked { (fixups : List (Name × Cell)) × AreMarked (T.reading target.now) fixups object.now marks.now }
+    requires fragments { AreFragmentsOf object.now.slots (reading object.now) fragments.now (fragment_names (reading object.now).children) }
     requires none { sites.old.items ≡ [] }
-    requires nothing { known.old ≡ root_alone 0 }
-    ensures found { (read : Reading) (ws : List Write) (numbers : List (Names × ℕ)) →
-        IsReady read ws numbers object.now fragments.now brought.now → AreNewNumbers (T.reading target.now) read numbers → OnOk result ((found : List Site)
-        × (check_fragments (T.reading target.now) read ws numbers [] (fragment_names read.children) nothing_landed ≡ Ok found)
-        × (sites.new.items ≡ map (λ x. x.at) found)) }
-    ensures refused { (read : Reading) (ws : List Write) (numbers : List (Names × ℕ)) →
-        IsReady read ws numbers object.now fragments.now brought.now → AreNewNumbers (T.reading target.now) read numbers → IfErr result (λ fault. (fault.at ≡ None) × ((fault.kind ≡ NoMemory)
-        ⊎ HasNoSite fault.kind (T.reading target.now) read ws numbers
-        ⊎ ((fault.kind ≡ Limit) × IsCrowdedAt (T.reading target.now) read ws numbers))) }
+    requires nothing { IsKnown (T.reading target.now) [] [] places.old }
+    ensures found { (fixups : List (Name × Cell)) → AreMarked (T.reading target.now) fixups object.now marks.now → OnOk result ((end : Walked)
+        × AreSited (T.reading target.now) (reading object.now) fixups nothing_walked (fragment_names (reading object.now).children) end
+        × (sites.new.items ≡ map (λ (x : Site). x.at) end.sites)
+        × IsKnown (T.reading target.now) end.given (landed_paths (reading object.now) end.sites) places.new) }
+    ensures refused { (fixups : List (Name × Cell)) → AreMarked (T.reading target.now) fixups object.now marks.now →
+        IfErr result (λ fault. (fault.at ≡ None) × ((fault.kind ≡ NoMemory)
+        ⊎ HasNoSite fault.kind (T.reading target.now) (reading object.now) fixups nothing_walked (fragment_names (reading object.now).children))) }
 {
-    look_stops();
     target.validity();
     object.validity();
     for fragment in fragments {
-        let path = find_site(alloc, target, object, brought, sites, known, fragment)?;
+        let path = find_site(
+            alloc, target, object, brought, sites, places, marks, fragment,
+        )?;
         sites.push(path)?;
     }
     Ok(())

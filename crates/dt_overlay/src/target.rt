@@ -8,8 +8,8 @@ ghost use Rattle.dt_model.specs.Path.{Path as Names};
 ghost use Rattle.dt_model.specs.Tree.{Reading, stands_in, value_in};
 ghost use Rattle.dt_model.specs.Valid.{IsValid, IsWithinLimits};
 ghost use Rattle.dt_names.specs.declared.fault.FaultKind.TheVariants.{NoMemory};
-ghost use Rattle.dt_landing.specs.Objects.{HasNumber};
-ghost use Rattle.dt_overlay.specs.Targets.{HasCells, MayAddAt, MaySetAt, WhyNotAddedAt, WhyNotSetAt};
+ghost use Rattle.dt_landing.specs.Objects.{HasCells, HasNumber};
+ghost use Rattle.dt_overlay.specs.Targets.{MayAddAt, MaySetAt, WhyNotAddedAt, WhyNotSetAt};
 
 use dt_names::{Fault, NodeName, Path, PropName};
 use std::alloc::Global;

@@ -1,74 +1,106 @@
-use Rattle.std.proofs.Common.{◌≡◌, ◌+◌, List, [], length, drop, refl, sym, ap, ◌∙◌, arith}
-use Rattle.std.proofs.lemmas.List.{drop_all}
-use Rattle.dt_model.specs.Numbers.{numbers_of}
+use Rattle.std.proofs.Common.{◌≡◌, ◌∙◌, ◌<◌, ◌≤◌, ◌+◌, ◌⊎◌, ℕ, List, Option, Some, None, true, false, codes, length, take, map, refl, sym, ap, subst, inl, inr, arith}
+use Rattle.std.specs.Prelude.{is_some, slice_set}
+use Rattle.std.proofs.lemmas.List.{length-set}
+use Rattle.std.proofs.lemmas.Result.{err_from_is_err_and}
+use Rattle.dt_model.specs.Limits.{most_names}
+use Rattle.dt_model.specs.Path.{Path}
+use Rattle.dt_model.specs.Merged.{landing}
 use Rattle.dt_model.specs.Object.{fragment_names}
-use Rattle.dt_flat.specs.Arena.{reading}
-use Rattle.dt_flat.proofs.Linking.{drop_item}
-use Rattle.dt_landing.proofs.FoundSites.{fragments_distinct}
-use Rattle.dt_overlay.specs.declared.fragments.Fragment.{Fragment}
-use Rattle.dt_overlay.specs.NumbersGiven.{walk, with_fragments}
-use Rattle.dt_overlay.proofs.NumbersFree.{numbering_init}
-use Rattle.dt_overlay.proofs.NumbersTurns.{goes-begin, goes-turn, goes-end, left-turn, left-first, at_index, fragments-turn}
-use Rattle.dt_overlay.proofs.NumbersBrought.{left-begin, fragment_at, content_within, all_brought}
+use Rattle.dt_model.specs.Tree.{value_of}
+use Rattle.dt_names.specs.declared.fault.FaultKind.{FaultKind}
+use Rattle.dt_names.specs.declared.fault.FaultKind.TheVariants.{NoMemory, Limit}
+use Rattle.dt_flat.specs.Arena.{reading, properties}
+use Rattle.dt_flat.proofs.Descent.{path-within}
+use Rattle.dt_joining.specs.Walk.{new_numbers}
+use Rattle.dt_joining.proofs.Brought.{fragments_distinct}
+use Rattle.dt_landing.specs.Laws.{AreShallow}
+use Rattle.dt_overlay.specs.Known.{landed_paths}
+use Rattle.dt_overlay.specs.Plans.{IsKeptFor}
+use Rattle.dt_overlay.specs.declared.numbers.Brought.{Brought}
+use Rattle.dt_overlay.proofs.LooksNumbers.{value_there}
+use Rattle.dt_overlay.proofs.NumbersLanded.{AreSoFar, memory_alone, all_front, all_shallow, number_landed, number_bare, number_nowhere, so_far_bare, so_far_set}
+use Rattle.dt_overlay.proofs.Reached.{stands-led}
+use Rattle.dt_overlay.proofs.numbers.number_all.Goals.{then-is_some+in_ok-path+in-Some+in_ok-brought, then-is_some+in_ok-path+in_default, else-is_some}
 use Rattle.dt_overlay.proofs.numbers.number_all.Goals as goal
 
-pub loop-i-init : goal.loop-i-init
-loop-i-init g c =
-    let a = c.args.object.now in
-    let xs = c.args.fragments.now in
-    let taken = numbers_of (g.T.Target.reading c.args.target.now) in
-    record {
-      numbering = numbering_init taken (length a.slots) c.args.brought.now c.requires.unbrought;
-      left = left-begin a.slots (reading a) xs (fragment_names (reading a).children) c.args.brought.now c.validity.ensures.rooted c.validity.ensures.paths c.requires.fragments
-          (fragments_distinct (reading a).children c.validity.ensures.valid.siblings) c.requires.unbrought;
-      given = goes-begin (λ (x : Fragment). walk a.slots x.content) taken a.slots xs xs c.args.brought.now refl;
-      fragments = refl {a = with_fragments a.slots 0 xs c.args.brought.now.fragments.items};
-    }
+pub loop-node-init : goal.loop-node-init
+loop-node-init g c = record {
+  each = c.requires.brought.each;
+  same = refl;
+  numbered = λ fixups end looked p k e. (
+    (λ lt. absurd (omega (arith, lt))),
+    (λ le. c.requires.brought.numbered p k e),
+  );
+}
 
-pub number_nodes-requires-clause-node : goal.number_nodes-requires-clause-node
-number_nodes-requires-clause-node g c =
-    let a = c.args.object.now in
-    let xs = c.args.fragments.now in
-    let x = c.index-fragments-i.result in
-    let there = at_index xs c.loop-i.i x (omega arith) c.index-fragments-i.is in
-    let w = fragment_at a.slots (reading a) xs (fragment_names (reading a).children) c.loop-i.i x c.requires.fragments there in
-    content_within a.slots c.validity.ensures.rooted c.validity.ensures.paths (reading a) x w.0 w.2
+pub landing-requires-clause-brought : goal.landing-requires-clause-brought
+landing-requires-clause-brought g c = ap length c.loop-node.invariant.same ∙ c.requires.brought.all
 
-pub number_nodes-requires-clause-unnumbered : goal.number_nodes-requires-clause-unnumbered
-number_nodes-requires-clause-unnumbered g c =
+pub returns-in_err-path-clause-refused : goal.returns-in_err-path-clause-refused
+returns-in_err-path-clause-refused g c =
+    let base = g.T.Target.reading c.args.target.now in
     let a = c.args.object.now in
-    let xs = c.args.fragments.now in
-    let x = c.index-fragments-i.result in
-    let there = at_index xs c.loop-i.i x (omega arith) c.index-fragments-i.is in
-    left-first (λ (x : Fragment). walk a.slots x.content) (numbers_of (g.T.Target.reading c.args.target.now)) a.slots (drop c.loop-i.i xs) (drop (c.loop-i.i + 1) xs) x c.loop-i.brought
-    (drop_item xs c.loop-i.i x there) c.loop-i.invariant.left
+    let e = err_from_is_err_and c.from_residual.result c.from_residual.ensures.1 in
+    let w = c.requires.looked in
+    let at = c.validity-2.ensures.paths c.loop-node.node (omega (arith, c.loop-node-test.true, c.node_count-node-end.ensures)) in
+    let kept : IsKeptFor a.slots (fragment_names (reading a).children) c.loop-node.brought.fragments.items =
+    subst (IsKeptFor a.slots (fragment_names (reading a).children)) (sym c.loop-node.invariant.same) c.requires.brought.fragments in
+    let why = c.in_err-path.ensures.refused (fragment_names (reading a).children) w.1.sites at.0 kept (fragments_distinct (reading a).children c.validity-2.ensures.valid.siblings)
+    (all_front base a c.validity-2.ensures.valid c.validity.ensures.within c.validity-2.ensures.within w.0 w.1 c.args.sites.now c.args.places.now w.2) w.2.sites at.1 in
+    let shallow = all_shallow base a c.validity-2.ensures.valid c.validity.ensures.within c.validity-2.ensures.within w.0 w.1 c.args.sites.now c.args.places.now w.2 in
+    rw (e.1, e.2) (memory_alone (reading a) w.1.sites c.in_err-path.field-0.0.kind at.0 (stands-led a at.0 ∙ ap is_some at.1) shallow why.1, why.0)
 
-pub loop-i-preserved : goal.loop-i-preserved
-loop-i-preserved g c =
+pub loop-node-preserved : goal.loop-node-preserved
+loop-node-preserved g c =
+    let base = g.T.Target.reading c.args.target.now in
     let a = c.args.object.now in
-    let xs = c.args.fragments.now in
-    let x = c.index-fragments-i.result in
-    let i = c.loop-i.i in
-    let now = c.loop-i.brought in
-    let next = c.number_nodes.new.brought in
-    let taken = numbers_of (g.T.Target.reading c.args.target.now) in
-    let there = at_index xs i x (omega arith) c.index-fragments-i.is in
-    let first = drop_item xs i x there in
-    record {
-      numbering = c.in_ok-number_nodes.ensures.numbering;
-      left = left-turn (λ (x : Fragment). walk a.slots x.content) taken a.slots (drop i xs) (drop (i + 1) xs) x now next first c.in_ok-number_nodes.ensures.given c.loop-i.invariant.left;
-      given = goes-turn (λ (x : Fragment). walk a.slots x.content) taken a.slots xs (drop i xs) (drop (i + 1) xs) x c.args.brought.now now next first c.in_ok-number_nodes.ensures.given c.loop-i.invariant.given;
-      fragments = fragments-turn a.slots i (drop i xs) (drop (i + 1) xs) x now.fragments.items next.fragments.items first c.in_ok-number_nodes.ensures.fragments ∙ c.loop-i.invariant.fragments;
-    }
+    let k = c.loop-node.node in
+    let at = c.validity-2.ensures.paths k (omega (arith, c.loop-node-test.true, c.node_count-node-end.ensures)) in
+    let old = c.loop-node.brought.numbers.items in
+    let has = value_there (properties a.slots k) c.value.result c.as_slice.result.now (codes "phandle") c.value.ensures c.as_slice.ensures in
+    let kept : IsKeptFor a.slots (fragment_names (reading a).children) c.loop-node.brought.fragments.items =
+    subst (IsKeptFor a.slots (fragment_names (reading a).children)) (sym c.loop-node.invariant.same) c.requires.brought.fragments in
+    let distinct = fragments_distinct (reading a).children c.validity-2.ensures.valid.siblings in
+    elim c.if-is_some.branch [
+      | then-is_some+in_ok-path+in-Some+in_ok-brought w ↦ record {
+        each = ap (λ (b : Brought). length b.numbers.items) w.brought-is ∙ length-set old k w.in_ok-brought.field-0 ∙ c.loop-node.invariant.each;
+        same = ap (λ (b : Brought). b.fragments.items) w.brought-is ∙ c.loop-node.invariant.same;
+        numbered = λ fixups end looked.
+            let lands = w.in_ok-path.ensures.value (fragment_names (reading a).children) end.sites at.0 kept distinct
+            (all_front base a c.validity-2.ensures.valid c.validity.ensures.within c.validity-2.ensures.within fixups end c.args.sites.now c.args.places.now looked) looked.sites at.1 in
+            let is = w.in_ok-brought.ensures.number end.given (landed_paths (reading a) end.sites) looked.known
+            ∙ number_landed base a c.validity-2.ensures.valid c.validity.ensures.within c.validity-2.ensures.within fixups end c.args.sites.now c.args.places.now looked at.0 w.in-Some.path k at.1
+            (sym has ∙ sym c.is_some.ensures ∙ w.if-is_some.true) (sym lands ∙ w.in-Some.is) in
+            subst (AreSoFar a (new_numbers base (reading a) end) (k + 1)) (sym (ap (λ (b : Brought). b.numbers.items) w.brought-is))
+            (so_far_set a c.validity-2.ensures.rooted (new_numbers base (reading a) end) k old (c.loop-node.invariant.numbered fixups end looked) at.0 at.1 _ is);
+      }
+      | then-is_some+in_ok-path+in_default w ↦ record {
+        each = ap (λ (b : Brought). length b.numbers.items) w.brought-is ∙ c.loop-node.invariant.each;
+        same = ap (λ (b : Brought). b.fragments.items) w.brought-is ∙ c.loop-node.invariant.same;
+        numbered = λ fixups end looked.
+            let lands = w.in_ok-path.ensures.value (fragment_names (reading a).children) end.sites at.0 kept distinct
+            (all_front base a c.validity-2.ensures.valid c.validity.ensures.within c.validity-2.ensures.within fixups end c.args.sites.now c.args.places.now looked) looked.sites at.1 in
+            subst (AreSoFar a (new_numbers base (reading a) end) (k + 1)) (sym (ap (λ (b : Brought). b.numbers.items) w.brought-is))
+            (so_far_bare a c.validity-2.ensures.rooted (new_numbers base (reading a) end) k old (c.loop-node.invariant.numbered fixups end looked) at.0 at.1
+            (number_nowhere base a c.validity-2.ensures.valid c.validity.ensures.within c.validity-2.ensures.within fixups end c.args.sites.now c.args.places.now looked at.0 (sym lands ∙ w.in_default.is)));
+      }
+      | else-is_some w ↦ record {
+        each = ap (λ (b : Brought). length b.numbers.items) w.brought-is ∙ c.loop-node.invariant.each;
+        same = ap (λ (b : Brought). b.fragments.items) w.brought-is ∙ c.loop-node.invariant.same;
+        numbered = λ fixups end looked.
+            subst (AreSoFar a (new_numbers base (reading a) end) (k + 1)) (sym (ap (λ (b : Brought). b.numbers.items) w.brought-is))
+            (so_far_bare a c.validity-2.ensures.rooted (new_numbers base (reading a) end) k old (c.loop-node.invariant.numbered fixups end looked) at.0 at.1
+            (number_bare base a c.validity-2.ensures.valid c.validity.ensures.within c.validity-2.ensures.within fixups end c.args.sites.now c.args.places.now looked at.0 k at.1
+            (sym has ∙ sym c.is_some.ensures ∙ w.if-is_some.false)));
+      }
+    ]
 
-pub returns-clause-brought : goal.returns-clause-brought
-returns-clause-brought g c =
-    let a = c.args.object.now in
-    let xs = c.args.fragments.now in
-    let i = c.loop-i.i in
-    let now = c.loop-i.brought in
-    let taken = numbers_of (g.T.Target.reading c.args.target.now) in
-    let none : drop i xs ≡ [] = drop_all i xs (omega arith) in
-    let given = goes-end (λ (x : Fragment). walk a.slots x.content) taken a.slots xs (drop i xs) c.args.brought.now now none c.loop-i.invariant.given in
-    let fragments = ap (λ (ys : List Fragment). with_fragments a.slots i ys now.fragments.items) (sym none) ∙ c.loop-i.invariant.fragments in
-    all_brought taken a xs c.args.brought.now now c.validity.ensures.valid c.validity.ensures.rooted c.validity.ensures.paths c.requires.fragments c.requires.unbrought c.loop-i.invariant.numbering given fragments
+pub returns-clause-numbered : goal.returns-clause-numbered
+returns-clause-numbered g c fixups end looked = record {
+  all = ap length c.loop-node.invariant.same ∙ c.requires.brought.all;
+  each = c.loop-node.invariant.each;
+  fragments = subst (IsKeptFor c.args.object.now.slots (fragment_names (reading c.args.object.now).children)) (sym c.loop-node.invariant.same) c.requires.brought.fragments;
+  numbered = λ p k e.
+      (c.loop-node.invariant.numbered fixups end looked p k e).0
+      (let there = path-within c.args.object.now.slots p 0 k c.validity-2.ensures.rooted.some e in omega (arith, there, c.loop-node-test.false, c.node_count-node-end.ensures));
+}

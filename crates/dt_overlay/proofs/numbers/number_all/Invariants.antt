@@ -1,14 +1,16 @@
-use Rattle.std.proofs.Common.{◌≡◌, length, drop}
-use Rattle.dt_model.specs.Numbers.{numbers_of}
-use Rattle.dt_overlay.specs.declared.fragments.Fragment.{Fragment}
-use Rattle.dt_overlay.specs.NumbersGiven.{walk, contents, with_fragments, IsNumbering}
-use Rattle.dt_overlay.proofs.NumbersTurns.{AreLeft, Goes}
+use Rattle.std.proofs.Common.{◌≡◌, List, length}
+use Rattle.dt_model.specs.Names.{Name}
+use Rattle.dt_model.specs.Object.{Cell}
+use Rattle.dt_flat.specs.Arena.{reading}
+use Rattle.dt_joining.specs.Walk.{Walked, new_numbers}
+use Rattle.dt_overlay.specs.Turns.{IsLooked}
+use Rattle.dt_overlay.proofs.NumbersLanded.{AreSoFar}
 use Rattle.dt_overlay.proofs.numbers.number_all.Given as goal
 
-abbrev pub invariant-loop-i : goal.invariant-loop-i
-invariant-loop-i g l = record {
-  numbering : IsNumbering (numbers_of (g.T.Target.reading l.target)) (length l.object.slots) l.brought;
-  left : AreLeft (contents l.object.slots (drop l.i l.fragments)) l.brought;
-  given : Goes (λ (x : Fragment). walk l.object.slots x.content) (numbers_of (g.T.Target.reading l.target)) l.object.slots (drop l.i l.fragments) l.brought l.fragments l.initial.brought;
-  fragments : with_fragments l.object.slots l.i (drop l.i l.fragments) l.brought.fragments.items ≡ with_fragments l.object.slots 0 l.fragments l.initial.brought.fragments.items;
+abbrev pub invariant-loop-node : goal.invariant-loop-node
+invariant-loop-node g l = record {
+  each : length l.brought.numbers.items ≡ length l.object.slots;
+  same : l.brought.fragments.items ≡ l.initial.brought.fragments.items;
+  numbered : (fixups : List (Name × Cell)) (end : Walked) → IsLooked (g.T.Target.reading l.target) fixups (reading l.object) end l.sites l.places
+      → AreSoFar l.object (new_numbers (g.T.Target.reading l.target) (reading l.object) end) l.node l.brought.numbers.items;
 }

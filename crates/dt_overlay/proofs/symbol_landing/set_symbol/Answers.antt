@@ -4,6 +4,7 @@ use Rattle.dt_model.specs.Changes.{with_property_at}
 use Rattle.dt_model.specs.Object.{fragment_names}
 use Rattle.dt_model.specs.Path.{path_value}
 use Rattle.dt_flat.proofs.Descent.{path-within}
+use Rattle.dt_joining.proofs.Brought.{fragments_distinct}
 use Rattle.dt_overlay.proofs.SymbolLandingLabels.{whole_front, only_memory}
 use Rattle.dt_overlay.proofs.symbol_landing.set_symbol.Goals as goal
 
@@ -16,18 +17,18 @@ pub returns-in_err-path-clause-refused : goal.returns-in_err-path-clause-refused
 returns-in_err-path-clause-refused g c =
     let w = c.requires.lands.1 in
     let e = err_from_is_err_and c.from_residual.result c.from_residual.ensures.1 in
-    let why = c.in_err-path.ensures.refused w.object w.writes w.numbers w.fragments w.found w.path w.ready (whole_front w.found (fragment_names w.object.children) w.named) w.sited w.node in
+    let why = c.in_err-path.ensures.refused (fragment_names w.object.children) w.found w.path w.ready.brought.fragments (fragments_distinct w.object.children w.ready.valid.siblings) (whole_front w.found (fragment_names w.object.children) w.named) w.sited w.node in
     rw (e.1, e.2) (only_memory c.in_err-path.field-0.0.kind w.found w.path c.requires.lands.0 w.lands w.shallow why.1, why.0)
 
 pub returns-in_default-clause-set : goal.returns-in_default-clause-set
 returns-in_default-clause-set g c path w =
-    let is = c.in_ok-path.ensures.value w.object w.writes w.numbers w.fragments w.found w.path w.ready (whole_front w.found (fragment_names w.object.children) w.named) w.sited w.node in
+    let is = c.in_ok-path.ensures.value (fragment_names w.object.children) w.found w.path w.ready.brought.fragments (fragments_distinct w.object.children w.ready.valid.siblings) (whole_front w.found (fragment_names w.object.children) w.named) w.sited w.node in
     absurd (c.in_default.not-Some path (is ∙ w.lands))
 
 pub returns-clause-set : goal.returns-clause-set
 returns-clause-set g c path w =
     let t = g.T.Target.reading c.args.target.now in
-    let is = c.in_ok-path.ensures.value w.object w.writes w.numbers w.fragments w.found w.path w.ready (whole_front w.found (fragment_names w.object.children) w.named) w.sited w.node in
+    let is = c.in_ok-path.ensures.value (fragment_names w.object.children) w.found w.path w.ready.brought.fragments (fragments_distinct w.object.children w.ready.valid.siblings) (whole_front w.found (fragment_names w.object.children) w.named) w.sited w.node in
     let both : Some c.in-Some.path ≡ Some path = sym c.in-Some.is ∙ is ∙ w.lands in
     let same : c.in-Some.path ≡ path = cc in
     let name : c.in_ok-new.field-0 ≡ c.args.symbol.now.label.items = c.in_ok-new.ensures.value ∙ c.deref.ensures.value in
