@@ -53,6 +53,17 @@ def properties(count):
     return labelled(1), OVERLAY + "&l0 {\n" + "".join(f"p{i} = <{i}>;\n" for i in range(count)) + "};\n"
 
 
+def joined(count):
+    """Each node lands on one of the base's that has a phandle, and is referred to."""
+    return labelled(count), OVERLAY + "&{/} {\n" + nodes(count, lambda i: f"m{i}: n{i} {{ p = <&m{i}>; }}; ") + "};\n"
+
+
+def joined_to_each_other(count):
+    """Each node of a fragment lands on one of the fragment before, where the base has none."""
+    one = nodes(count // 2, lambda i: f"m{i}: n{i} {{ p = <&m{i}>; }}; ")
+    return BASE + "/ { };\n", OVERLAY + "&{/} {\n" + one + "};\n&{/} {\n" + one.replace("m", "k") + "};\n"
+
+
 def seconds(command):
     """The shortest wall time of some runs, and the peak memory in MiB; a word where the command fails or takes too long."""
     best = None
@@ -73,7 +84,8 @@ def main():
     print(f"{'':24}{'dtool, ' + str(many):20}{'dtool, ' + str(few):20}{'fdtoverlay, ' + str(few):20}")
     with tempfile.TemporaryDirectory() as folder:
         source, base, overlay, out = (os.path.join(folder, name) for name in ("text.dts", "base.dtb", "overlay.dtbo", "out.dtb"))
-        for kind in (fragments, fragments_by_path, fixups, fixups_of_one_label, local_fixups, labels, properties):
+        for kind in (fragments, fragments_by_path, fixups, fixups_of_one_label, local_fixups, labels, properties, joined,
+                     joined_to_each_other):
             words = []
             for count, command in ((many, [tool, "apply", base, overlay]), (few, [tool, "apply", base, overlay]),
                                    (few, ["fdtoverlay", "-i", base, "-o", out, overlay])):
