@@ -10,7 +10,7 @@ use Rattle.dt_model.specs.Valid.{IsValid, IsWithinLimits}
 use Rattle.dt_names.specs.declared.fault.Fault.{Fault}
 use Rattle.dt_names.specs.declared.fault.FaultKind.TheVariants.{NoMemory, Limit}
 use Rattle.dt_format.specs.Laws.{BlobHasNoFault}
-use Rattle.dt_laws.specs.InTurn.{IsOf, IsObject}
+use Rattle.dt_laws.specs.Applying.{IsOf, IsObject}
 use Rattle.dt_joining.specs.InTurn.{InTurnIsFold}
 use Rattle.dt_joining.specs.Joining.{SitesAreOne}
 use Rattle.dt_landing.specs.Outcomes.{RefusedIsUndefined}

@@ -2,16 +2,15 @@
 use Rattle.std.proofs.Common.{◌≡◌, ◌≢◌, ℕ, List, [], ◌∷◌, ◌++◌, refl, ap, subst, ◌∙◌}
 use Rattle.dt_model.specs.Path.{Path}
 use Rattle.dt_model.specs.Meaning.{Meaning, Extends}
-use Rattle.dt_model.specs.Merged.{Site, merged, IsDefined}
+use Rattle.dt_model.specs.Merged.{Site, merged, IsDefined, IsFold}
 use Rattle.dt_model.specs.Overlay.{Overlay}
 use Rattle.dt_model.specs.Applied.{Write, writes, with_fragments, with_symbols_merged}
 use Rattle.dt_model.specs.Tree.{Property, Reading}
 use Rattle.dt_model.specs.Valid.{IsWithinLimits}
 use Rattle.dt_names.specs.declared.fault.Fault.{Fault}
 use Rattle.dt_names.specs.declared.fault.FaultKind.TheVariants.{NoMemory, Limit}
-use Rattle.dt_laws.specs.Applying.{AreOf}
-use Rattle.dt_laws.specs.InTurn.{IsOf, IsObject, AreObjects}
-use Rattle.dt_joining.specs.InTurn.{IsApplied, AreApplied, IsFold, InTurnIsFold}
+use Rattle.dt_laws.specs.Applying.{AreOf, IsOf, IsObject, AreObjects}
+use Rattle.dt_joining.specs.InTurn.{IsApplied, AreApplied, InTurnIsFold}
 use Rattle.dt_joining.specs.Joining.{SitesAreOne}
 use Rattle.dt_joining.specs.Walk.{new_numbers}
 use Rattle.dt_landing.proofs.RefusedOutcomes.{comes_of}

@@ -5,7 +5,7 @@ use Rattle.dt_model.specs.Meaning.{Meaning}
 use Rattle.dt_model.specs.Path.{Path}
 use Rattle.dt_model.specs.Source.{base}
 use Rattle.dt_model.specs.Valid.{IsReservation}
-use Rattle.dt_laws.specs.InTurn.{IsOf}
+use Rattle.dt_laws.specs.Applying.{IsOf}
 use Rattle.dt_laws.specs.Sources.{SourceIsMeaning, SourceIsPlain}
 use Rattle.dt_worlds.specs.Laws.{MeaningIsResolved}
 use Rattle.dt_chain.specs.Chains.{IsOfBytes, IsBlobOfMeaning, BuildingIsMerging, ApplyingIsMerging}

@@ -2,7 +2,7 @@
 use Rattle.std.specs.Prelude.{◌≡◌, ◌≢◌, ◌<◌, ℕ, List, [], ◌∷◌}
 use Rattle.std.specs.List.{AllByRecursion}
 use Rattle.dt_model.specs.Meaning.{Meaning, IsMeaning, IsPlain, Extends}
-use Rattle.dt_joining.specs.InTurn.{IsFold}
+use Rattle.dt_model.specs.Merged.{IsFold}
 use Rattle.dt_model.specs.Object.{Encodes}
 use Rattle.dt_model.specs.Overlay.{Overlay, IsOverlay}
 use Rattle.dt_model.specs.Path.{Path}

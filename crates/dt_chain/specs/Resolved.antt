@@ -2,7 +2,7 @@
 use Rattle.std.specs.Prelude.{ℕ, List}
 use Rattle.std.specs.List.{AllByRecursion}
 use Rattle.dt_model.specs.Meaning.{Meaning, Extends}
-use Rattle.dt_joining.specs.InTurn.{IsFold}
+use Rattle.dt_model.specs.Merged.{IsFold}
 use Rattle.dt_model.specs.Overlay.{Overlay}
 use Rattle.dt_model.specs.Path.{Path}
 use Rattle.dt_model.specs.Source.{base}

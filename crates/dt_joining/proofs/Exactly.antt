@@ -11,7 +11,8 @@ use Rattle.dt_model.specs.Meaning.{Item, EachReference, cell, Meaning}
 use Rattle.dt_model.specs.Overlay.{OverlayReference, inside, outside, Overlay}
 use Rattle.dt_model.specs.Merged.{Site, landing, AreSites, IsGiven, IsDefined}
 use Rattle.dt_model.specs.Object.{Cell, references_from, HasFixups, fragment_names}
-use Rattle.dt_model.specs.Numbers.{number_in, number_after}
+use Rattle.dt_laws.proofs.Joined.{number_after}
+use Rattle.dt_model.specs.Numbers.{number_in}
 use Rattle.dt_model.specs.Tree.{Reading, Placed, nodes_of}
 use Rattle.dt_model.specs.Applied.{symbol, is_plain, applied_at}
 use Rattle.dt_model.proofs.Tests.{and_left, and_right, and_both, not_true, all_at, all_from}

@@ -5,18 +5,17 @@ use Rattle.std.specs.List.{list_any}
 use Rattle.dt_model.specs.Path.{Path}
 use Rattle.dt_model.specs.Meaning.{Meaning, Extends}
 use Rattle.dt_model.specs.Overlay.{Overlay}
-use Rattle.dt_model.specs.Merged.{Site, sources, merged, IsDefined}
+use Rattle.dt_model.specs.Merged.{Site, sources, merged, IsDefined, IsFold}
 use Rattle.dt_model.specs.Object.{properties_of}
 use Rattle.dt_model.specs.Tree.{Reading, node_at}
 use Rattle.dt_model.specs.Valid.{IsWithinLimits}
 use Rattle.dt_model.proofs.Tests.{or_right}
-use Rattle.dt_laws.specs.Applying.{AreOf}
-use Rattle.dt_laws.specs.InTurn.{IsOf, IsObject}
+use Rattle.dt_laws.specs.Applying.{AreOf, IsOf, IsObject}
 use Rattle.dt_laws.proofs.CellTexts.{one_fixups}
 use Rattle.dt_laws.proofs.MergedMeaning.{merged_is_a_meaning}
 use Rattle.dt_joining.specs.Walk.{applied}
 use Rattle.dt_joining.specs.Joining.{IsResult}
-use Rattle.dt_joining.specs.InTurn.{IsApplied, AppliedIsOne, IsFold, InTurnIsFold, FoldIsInTurn}
+use Rattle.dt_joining.specs.InTurn.{IsApplied, AppliedIsOne, InTurnIsFold, FoldIsInTurn}
 use Rattle.dt_joining.proofs.Exactly.{applying_is_merging}
 use Rattle.dt_joining.proofs.OneSites.{sites_are_one}
 

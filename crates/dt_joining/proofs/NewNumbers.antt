@@ -10,7 +10,7 @@ use Rattle.dt_model.specs.Lists.{IsIn}
 use Rattle.dt_model.specs.Meaning.{cell, Meaning}
 use Rattle.dt_model.specs.Overlay.{inside, Overlay, IsBrought}
 use Rattle.dt_model.specs.Merged.{landing, IsDefined}
-use Rattle.dt_model.specs.Joined.{IsJoined}
+use Rattle.dt_laws.proofs.Joined.{IsJoined}
 use Rattle.dt_model.specs.Object.{fragment_names}
 use Rattle.dt_model.specs.Numbers.{numbers_of, new_paths, number_in}
 use Rattle.dt_model.specs.Tree.{Reading, value_in}

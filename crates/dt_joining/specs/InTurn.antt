@@ -1,4 +1,4 @@
--- Applying a list of objects one after another, second phandles joined.
+-- Applying a list of objects one after another.
 use Rattle.std.specs.Prelude.{◌≡◌, ℕ, List, [], ◌∷◌, ◌++◌, Some}
 use Rattle.dt_model.specs.Names.{Name}
 use Rattle.dt_model.specs.Path.{Path}
@@ -6,9 +6,9 @@ use Rattle.dt_model.specs.Meaning.{Meaning, Extends}
 use Rattle.dt_model.specs.Tree.{Reading}
 use Rattle.dt_model.specs.Valid.{IsWithinLimits}
 use Rattle.dt_model.specs.Overlay.{Overlay}
-use Rattle.dt_model.specs.Merged.{Site, merged, IsDefined}
+use Rattle.dt_model.specs.Merged.{IsFold}
 use Rattle.dt_model.specs.Object.{Cell, HasFixups}
-use Rattle.dt_laws.specs.InTurn.{IsOf, AreObjects}
+use Rattle.dt_laws.specs.Applying.{IsOf, AreObjects}
 use Rattle.dt_joining.specs.Walk.{applied}
 
 -- the object is applied to the tree, with the cells that it lists
@@ -25,11 +25,6 @@ AreApplied base (x ∷ objects) result = IsWithinLimits base × ((next : Reading
 -- an object is applied to a tree in one way
 abbrev pub AppliedIsOne : Type 0
 AppliedIsOne = (base object t u : Reading) → IsApplied base object t → IsApplied base object u → t ≡ u
-
--- the meaning of a tree into which overlays are merged one after the other, each of which can be
-abbrev pub IsFold : Meaning → List Overlay → Meaning → Type 0
-IsFold m [] result = result ≡ m
-IsFold m (o ∷ overlays) result = (sites : List Site) × IsDefined m o sites × IsFold (merged m o sites) overlays result
 
 -- what comes of it is of the meaning of the base with the overlays merged one after the other, by numbers that extend the base's
 abbrev pub InTurnIsFold : Type 0

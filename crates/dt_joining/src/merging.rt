@@ -1,4 +1,4 @@
-//! Applying an object to a tree is merging what they mean, second phandles joined.
+//! Applying an object to a tree is merging what they mean, where nodes that land on one path are joined.
 
 ghost use Rattle.dt_joining.specs.Found.{AppliedIsFound};
 ghost use Rattle.dt_joining.specs.InTurn.{AppliedIsOne, FoldIsInTurn, InTurnIsFold};

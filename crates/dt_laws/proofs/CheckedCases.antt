@@ -3,9 +3,9 @@ use Rattle.std.proofs.Common.{◌≡◌, ℕ, true, List, [], subst}
 use Rattle.dt_model.specs.Names.{Name}
 use Rattle.dt_model.specs.Path.{Path}
 use Rattle.dt_model.specs.Source.{base, SourceMeans}
-use Rattle.dt_model.specs.Numbers.{paths_of, AreNewNumbers}
+use Rattle.dt_model.specs.Numbers.{paths_of}
 use Rattle.dt_model.specs.Represents.{Represents}
-use Rattle.dt_model.specs.Merged.{Site, Applies}
+use Rattle.dt_model.specs.Merged.{Site, IsDefined}
 use Rattle.dt_model.specs.Object.{HasFixups}
 use Rattle.dt_model.specs.Rows.{events, overlay_events_of, overlay_read}
 use Rattle.dt_laws.specs.Applying.{AreOf}
@@ -44,8 +44,8 @@ module _ (x : Object) (ns : List Name) (groups : Groups) (k : IsCheckedObject x 
   within : IsWithin (paths_of x.tree) ns (of_overlay (object_overlay x))
   within = overlay_within x.places (overlay_events_of (overlay_read x.places)) (paths_of x.tree) ns x.fragments k.read
 
-  pub object_applies : (b : Base) (sites : List Site) → IsApplicable (paths_of x.tree) ns (base_meaning b) (object_overlay x) sites → Applies (base_meaning b) (object_overlay x) sites
-  object_applies b sites a = applicable (paths_of x.tree) ns (base_meaning b) (object_overlay x) sites within a
+  pub object_defined : (b : Base) (sites : List Site) → IsApplicable (paths_of x.tree) ns (base_meaning b) (object_overlay x) sites → IsDefined (base_meaning b) (object_overlay x) sites
+  object_defined b sites a = applicable (paths_of x.tree) ns (base_meaning b) (object_overlay x) sites within a
 
   are_of : (b : Base) (names : List Name) → IsCheckedBase b names → AreOf b.tree x.tree (base_meaning b) (object_overlay x) (numbering b.numbers) (numbering x.numbers)
   are_of b names h = record {
@@ -60,11 +60,10 @@ module _ (x : Object) (ns : List Name) (groups : Groups) (k : IsCheckedObject x 
     few_in_object = small_within x.tree k.small;
   }
 
-  pub meet_them : (b : Base) (names : List Name) → IsCheckedBase b names → (numbers : List (Path × ℕ)) → AreNewNumbers b.tree x.tree numbers → MeetThem b x numbers
-  meet_them b names h numbers new = record {
+  pub meet_them : (b : Base) (names : List Name) → IsCheckedBase b names → MeetThem b x
+  meet_them b names h = record {
     base_source = base_means b names h;
     source = overlay_means x.places (overlay_events_of (overlay_read x.places)) (paths_of x.tree) ns x.fragments k.read;
     are_of = are_of b names h;
     fixups = subst (HasFixups x.tree) k.grouped (has_fixups x.tree groups k.encoded.fixups_text k.encoded.fixups_named);
-    new = new;
   }

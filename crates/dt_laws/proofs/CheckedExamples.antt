@@ -1,14 +1,14 @@
--- The objects of the worked cases, which meet what is asked of them, and why two of them can't be applied.
+-- The objects of the worked cases, which meet what is asked of them, and why one of them can't be merged into a base.
 use Rattle.std.proofs.Common.{◌≡◌, true, false, List, [], ◌∷◌, ◌++◌, Some, codes, refl, sym, subst, rules}
 use Rattle.std.specs.Fmt.{digits}
 use Rattle.dt_model.specs.Names.{Name}
 use Rattle.dt_model.specs.Event.{age_by}
 use Rattle.dt_model.specs.Meaning.{byte, reference}
 use Rattle.dt_model.specs.Overlay.{outside}
-use Rattle.dt_model.specs.Merged.{Site, landing, Applies}
+use Rattle.dt_model.specs.Merged.{Site, IsDefined}
 use Rattle.dt_model.specs.Numbers.{paths_of}
 use Rattle.dt_model.specs.Rows.{content_of, fragment, two_cells_sites, three_values_sites, inner_sites}
-use Rattle.dt_laws.specs.Premises.{Base, Object, base_meaning, object_overlay, controller_base, one_node_base, referring_base, two_cells_object, three_values_object, inner_target_object, label_taken_object, second_phandle_object}
+use Rattle.dt_laws.specs.Premises.{Base, Object, base_meaning, object_overlay, controller_base, one_node_base, referring_base, two_cells_object, three_values_object, inner_target_object, label_taken_object, joined_node_object}
 use Rattle.dt_laws.proofs.CheckedFixups.{Groups}
 use Rattle.dt_laws.proofs.CheckedApplications.{IsApplicable}
 use Rattle.dt_laws.proofs.CheckedCases.{IsCheckedObject}
@@ -66,30 +66,20 @@ pub label_taken_applicable : IsApplicableTo referring_base label_taken_object la
 unfolding digits
 label_taken_applicable = search rules
 
-abbrev pub second_phandle_names : List Name
-second_phandle_names = codes "m" ∷ codes "r" ∷ codes "target-path" ∷ codes "phandle" ∷ []
+abbrev pub joined_node_names : List Name
+joined_node_names = codes "m" ∷ codes "r" ∷ codes "target-path" ∷ codes "phandle" ∷ []
 
-pub second_phandle_checked : IsCheckedObject second_phandle_object second_phandle_names []
+pub joined_node_checked : IsCheckedObject joined_node_object joined_node_names []
 unfolding digits age_by
-second_phandle_checked = search rules
+joined_node_checked = search rules
 
--- the node that has a number in the overlay lands on the controller, which has one
-pub second_phandle_refused : (sites : List Site) → Applies (base_meaning controller_base) (object_overlay second_phandle_object) sites → ⊥
+pub joined_node_applicable : IsApplicableTo controller_base joined_node_object joined_node_names two_cells_sites
 unfolding digits
-second_phandle_refused [] a = a.defined.placed
-second_phandle_refused (x ∷ y ∷ sites) a = a.defined.placed.1
-second_phandle_refused (x ∷ []) a =
-    let of : x.fragment ≡ fragment 0 = a.defined.placed.0.of in
-    let at : [] ≡ x.at = a.defined.placed.0.named in
-    let same : ◌≡◌ {A = Site} (record { fragment = fragment 0; at = [] }) x = λ i. record { fragment = sym of i; at = at i } in
-    let lands : landing (x ∷ []) (content_of 0 ++ codes "ic" ∷ []) ≡ Some (codes "ic" ∷ []) =
-    subst (λ (s : Site). landing (s ∷ []) (content_of 0 ++ codes "ic" ∷ []) ≡ Some (codes "ic" ∷ [])) same refl in
-    let z : true ≡ false = a.alone.new (content_of 0 ++ codes "ic" ∷ []) (codes "ic" ∷ []) refl lands in
-    cc
+joined_node_applicable = search rules
 
 -- a reference by a label that the base hasn't
-pub missing_label_refused : (sites : List Site) → Applies (base_meaning one_node_base) (object_overlay two_cells_object) sites → ⊥
+pub missing_label_refused : (sites : List Site) → IsDefined (base_meaning one_node_base) (object_overlay two_cells_object) sites → ⊥
 unfolding digits
 missing_label_refused sites a =
-    let z : false ≡ true = (a.defined.given (content_of 0 ++ codes "d" ∷ []) (codes "p") (byte 1 ∷ reference (outside (codes "gic")) ∷ []) refl).0 in
+    let z : false ≡ true = (a.given (content_of 0 ++ codes "d" ∷ []) (codes "p") (byte 1 ∷ reference (outside (codes "gic")) ∷ []) refl).0 in
     cc

@@ -8,13 +8,11 @@ use Rattle.dt_model.specs.Meaning.{cell, Meaning}
 use Rattle.dt_model.specs.Overlay.{outside, Overlay}
 use Rattle.dt_model.specs.Merged.{Site, IsGiven, IsDefined}
 use Rattle.dt_model.specs.Object.{Cell, IsCellOf, HasFixups, properties_of}
-use Rattle.dt_model.specs.Numbers.{AreNewNumbers, number_in}
+use Rattle.dt_model.specs.Numbers.{number_in}
 use Rattle.dt_model.specs.Tree.{Reading, node_at, value_in}
 use Rattle.dt_laws.specs.Applying.{AreOf}
 use Rattle.dt_laws.proofs.CellTexts.{one_fixups}
-use Rattle.dt_laws.proofs.Inside.{IsFresh, each_at}
-use Rattle.dt_laws.proofs.Fresh.{AreOwn}
-use Rattle.dt_laws.proofs.Numbered.{numbers_fresh, numbers_unused, numbers_own}
+use Rattle.dt_laws.proofs.Inside.{each_at}
 
 module _ (base object : Reading) (m : Meaning) (o : Overlay) (number local : Path → ℕ) where
   -- any list of an object's fixups is the list of the cells that wait for labels
@@ -28,12 +26,3 @@ module _ (base object : Reading) (m : Meaning) (o : Overlay) (number local : Pat
   given_each fixups sites are has defined l c i =
       let w = (exact fixups are has l c).0 i in
       each_at (IsGiven m) 0 w.0 c.offset (outside l) (defined.given c.path c.property w.0 w.1) w.2
-
-  pub fresh : (numbers : List (Path × ℕ)) → AreOf base object m o number local → AreNewNumbers base object numbers → IsFresh m o number (number_in numbers)
-  fresh numbers are new = numbers_fresh base object m o number local numbers are.represented are.meaning are.plain are.encoded are.overlay are.valid_object are.few_in_base are.few_in_object new
-
-  pub unused : (numbers : List (Path × ℕ)) → AreOf base object m o number local → AreNewNumbers base object numbers → (p q : Path) (n : ℕ) → number_in numbers p ≡ Some n → value_in base q (codes "phandle") ≡ Some (cell n) → ⊥
-  unused numbers are new p q n e v = numbers_unused base object m o number local numbers are.represented are.meaning are.plain are.encoded are.overlay are.valid_object are.few_in_base are.few_in_object new p q n e v
-
-  pub own : (numbers : List (Path × ℕ)) → AreOf base object m o number local → AreNewNumbers base object numbers → AreOwn numbers
-  own numbers are new = numbers_own base object m o number local numbers are.represented are.meaning are.plain are.encoded are.overlay are.valid_object are.few_in_base are.few_in_object new

@@ -9,7 +9,6 @@ use Rattle.dt_model.specs.Lists.{IsIn}
 use Rattle.dt_model.specs.Merged.{Site, landing}
 use Rattle.dt_model.specs.Numbers.{IsLeastFree, AreNumbers, number_in}
 use Rattle.dt_model.specs.Valid.{AreDistinct}
-use Rattle.dt_model.specs.Applied.{landed_with}
 use Rattle.dt_model.proofs.Tests.{path_eq_refl, path_eq_true, or_right, each_in}
 
 -- where each number from 1 up to n is taken, as many are taken
@@ -70,62 +69,4 @@ number_low taken (r ∷ paths) ((q, k) ∷ numbers) p n h e = step (λ z. number
         (omega arith, omega (arith, le), inl (sym (path_eq_true q p same) ∙ sym h.0))
     step more false other = let w = more (rw other at e) in let le = w.1 in (w.0, omega (arith, le), inr w.2)
 
-pub number_some : (taken : List ℕ) (paths : List Path) (numbers : List (Path × ℕ)) (p : Path) → AreNumbers taken paths numbers → IsIn p paths → (n : ℕ) × (number_in numbers p ≡ Some n)
-number_some taken [] numbers p h i = absurd i
-number_some taken (r ∷ paths) [] p h i = absurd h
-number_some taken (r ∷ paths) ((q, k) ∷ numbers) p h i = step (λ z. number_some (k ∷ taken) paths numbers p h.2 z) (path_eq q p) refl
-  where
-    step : (IsIn p paths → (n : ℕ) × (number_in numbers p ≡ Some n)) → (b : Bool) → path_eq q p ≡ b → (n : ℕ) × (number_in ((q, k) ∷ numbers) p ≡ Some n)
-    step more true same = (k, rw same refl)
-    step more false other =
-        elim i [
-          | inl same ↦ absurd (true≢false (sym (ap (path_eq q) (same ∙ h.0) ∙ path_eq_refl q) ∙ other))
-          | inr later ↦ let w = more later in (w.0, rw other w.1)
-        ]
-
 -- ---- no path twice
-
--- no path is numbered twice
-abbrev pub AreOwn : List (Path × ℕ) → Type 0
-AreOwn [] = Unit {0}
-AreOwn ((p, k) ∷ numbers) = (number_in numbers p ≡ None) × AreOwn numbers
-
-pub own_numbers : (taken : List ℕ) (paths : List Path) (numbers : List (Path × ℕ)) → AreNumbers taken paths numbers → AreDistinct paths → AreOwn numbers
-own_numbers taken paths [] h d = tt
-own_numbers taken [] (x ∷ numbers) h d = absurd h
-own_numbers taken (r ∷ paths) ((q, k) ∷ numbers) h d = (step (number_in numbers q) refl, own_numbers (k ∷ taken) paths numbers h.2 d.1)
-  where
-    step : (y : Option ℕ) → number_in numbers q ≡ y → number_in numbers q ≡ None
-    step None e = e
-    step (Some n) e = absurd (each_in (λ z. z ≢ r) paths q d.0 (number_low (k ∷ taken) paths numbers q n h.2 e).2 (sym h.0))
-
-pub number_listed : (numbers : List (Path × ℕ)) (p : Path) (n : ℕ) → number_in numbers p ≡ Some n → IsIn (p, n) numbers
-number_listed [] p n h = absurd (let z : None ≡ Some n = h in cc)
-number_listed ((q, k) ∷ numbers) p n h = step (λ z. number_listed numbers p n z) (path_eq q p) refl
-  where
-    step : (number_in numbers p ≡ Some n → IsIn (p, n) numbers) → (b : Bool) → path_eq q p ≡ b → IsIn (p, n) ((q, k) ∷ numbers)
-    step more true e = let z : Some k ≡ Some n = rw e at h in let is : n ≡ k = cc in inl (ap (λ y. (y, n)) (sym (path_eq_true q p e)) ∙ ap (λ y. (q, y)) is)
-    step more false e = inr (more (rw e at h))
-
-pub listed_number : (numbers : List (Path × ℕ)) (p : Path) (n : ℕ) → AreOwn numbers → IsIn (p, n) numbers → number_in numbers p ≡ Some n
-listed_number [] p n own i = absurd i
-listed_number ((q, k) ∷ numbers) p n own (inl same) =
-    ap (λ b. if b then Some k else number_in numbers p) (ap (λ y. path_eq q y.0) same ∙ path_eq_refl q) ∙ ap (λ y. Some y.1) (sym same)
-listed_number ((q, k) ∷ numbers) p n own (inr i) = step (listed_number numbers p n own.1 i) (path_eq q p) refl
-  where
-    step : number_in numbers p ≡ Some n → (b : Bool) → path_eq q p ≡ b → number_in ((q, k) ∷ numbers) p ≡ Some n
-    step more true e = absurd (let z : None ≡ Some n = sym own.0 ∙ ap (number_in numbers) (path_eq_true q p e) ∙ more in cc)
-    step more false e = rw e more
-
--- where a numbered node lands
-pub landed_is : (taken : List ℕ) (paths : List Path) (numbers : List (Path × ℕ)) (earlier : List Site) (p : Path) (n : ℕ) → AreNumbers taken paths numbers → number_in numbers p ≡ Some n → landed_with numbers earlier n ≡ landing earlier p
-landed_is taken [] [] earlier p n given h = absurd (let z : None ≡ Some n = h in cc)
-landed_is taken [] (x ∷ numbers) earlier p n given h = absurd given
-landed_is taken (r ∷ paths) [] earlier p n given h = absurd given
-landed_is taken (r ∷ paths) ((q, k) ∷ numbers) earlier p n given h = step (λ z. landed_is (k ∷ taken) paths numbers earlier p n given.2 z) (path_eq q p) refl (nat_eq n k) refl
-  where
-    step : (number_in numbers p ≡ Some n → landed_with numbers earlier n ≡ landing earlier p) → (b : Bool) → path_eq q p ≡ b → (c : Bool) → nat_eq n k ≡ c → landed_with ((q, k) ∷ numbers) earlier n ≡ landing earlier p
-    step more true same true e = rw e (ap (landing earlier) (path_eq_true q p same))
-    step more true same false e = absurd (true≢false (sym (let z : Some k ≡ Some n = rw same at h in (Decides-eqb n k).1 cc) ∙ e))
-    step more false other true e = absurd (later_differs taken paths numbers k n p given.2 (rw other at h) ((Decides-eqb n k).0 e))
-    step more false other false e = rw e (more (rw other at h))

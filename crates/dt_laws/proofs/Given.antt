@@ -26,13 +26,6 @@ module _ (t : Reading) (m : Meaning) (number : Path → ℕ) (holds : Represents
   pub phandle_of : (p : Path) → m.keyed p ≡ true → value_in t p (codes "phandle") ≡ Some (cell (number p))
   phandle_of p h = base_phandle p (keyed_plain p h) ∙ ap (λ b. if b then Some (cell (number p)) else None) h
 
-  pub not_keyed : (p : Path) → is_bookkeeping p ≡ false → value_in t p (codes "phandle") ≡ None → m.keyed p ≡ false
-  not_keyed p h none = step (m.keyed p) refl
-    where
-      step : (b : Bool) → m.keyed p ≡ b → b ≡ false
-      step true k = absurd (let z : None ≡ Some (cell (number p)) = sym none ∙ phandle_of p k in cc)
-      step false k = refl
-
   pub no_phandle : (p : Path) → is_bookkeeping p ≡ false → m.keyed p ≡ false → value_in t p (codes "phandle") ≡ None
   no_phandle p h k = base_phandle p h ∙ ap (λ b. if b then Some (cell (number p)) else None) k
 

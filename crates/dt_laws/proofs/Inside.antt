@@ -18,15 +18,6 @@ abbrev pub final_number : Meaning → (Path → ℕ) → (Path → Option ℕ) �
 final_number m number new (inside p) = unwrap_or (new p) 0
 final_number m number new (outside l) = number (unwrap_or (m.label l) [])
 
--- each keyed node that a fragment brings has a new number of its own that the tree does not have
-pub record IsFresh (m : Meaning) (o : Overlay) (number : Path → ℕ) (new : Path → Option ℕ) : Type 0 where
-  pub some : (p : Path) → IsInside o (inside p) → (n : ℕ) × (new p ≡ Some n)
-  pub none : (p : Path) (n : ℕ) → new p ≡ Some n → o.keyed p ≡ true
-  pub low : (p : Path) (n : ℕ) → new p ≡ Some n → 1 ≤ n
-  pub high : (p : Path) (n : ℕ) → new p ≡ Some n → n ≤ 0xfffffffe
-  pub own : (p p' : Path) (n : ℕ) → new p ≡ Some n → new p' ≡ Some n → p ≡ p'
-  pub free : (p q : Path) (n : ℕ) → new p ≡ Some n → m.keyed q ≡ true → number q ≢ n
-
 -- ---- the references of a value
 
 module _ {R : Type 0} (P : R → Type 0) where

@@ -4,7 +4,7 @@ use Rattle.std.specs.Prelude.{nat_eq}
 use Rattle.std.specs.List.{list_any}
 use Rattle.std.proofs.lemmas.Bool.{cases_order}
 use Rattle.dt_model.specs.Numbers.{IsLeastFree, AreNumbers}
-use Rattle.dt_laws.specs.InTurn.{NumbersAreThere, NumbersAreOne}
+use Rattle.dt_laws.specs.LeastNumbers.{NumbersAreThere, NumbersAreOne}
 use Rattle.dt_laws.proofs.Fresh.{few_below}
 
 -- ---- there is one

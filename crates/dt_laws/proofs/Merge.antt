@@ -11,13 +11,12 @@ use Rattle.dt_model.specs.Meaning.{Item, byte, reference, cell, value_bytes, ite
 use Rattle.dt_model.specs.Overlay.{OverlayReference, inside, outside, Overlay}
 use Rattle.dt_model.specs.Merged.{Site, landing, sources, merged, meant, IsGiven, IsDefined}
 use Rattle.dt_model.specs.Object.{Cell, HasFixups, properties_of}
-use Rattle.dt_model.specs.Joined.{IsJoined}
-use Rattle.dt_model.specs.Numbers.{number_in, number_after}
+use Rattle.dt_laws.proofs.Joined.{IsJoined, IsJoinedResult, JoiningIsMerging, number_after}
+use Rattle.dt_model.specs.Numbers.{number_in}
 use Rattle.dt_model.specs.Represents.{Represents}
 use Rattle.dt_model.specs.Tree.{Reading, node_at, value_in}
 use Rattle.dt_model.specs.Applied.{writes, with_fragments, landed_symbols, applied_at}
 use Rattle.dt_laws.specs.Applying.{AreOf}
-use Rattle.dt_laws.specs.Joining.{IsJoinedResult, JoiningIsMerging}
 use Rattle.dt_model.proofs.Tests.{bytes_eq_true, any_from, any_here}
 use Rattle.dt_laws.proofs.Lands.{landing_of, last_from, last_one, last_map}
 use Rattle.dt_laws.proofs.Landing.{reservations_stay, boot_cpu_stays}

@@ -10,7 +10,7 @@ use Rattle.dt_model.specs.Meaning.{Item, byte, reference, item_renamed, EachRefe
 use Rattle.dt_model.specs.Overlay.{OverlayReference, inside, outside, Target, at_reference, at_path, Fragment, Overlay, IsOverlay, IsBrought}
 use Rattle.dt_model.specs.Merged.{Site, landing, sources, merged, meant, IsGiven, IsDefined, AreSites, IsSite, Names}
 use Rattle.dt_model.specs.Valid.{AreDistinct}
-use Rattle.dt_laws.specs.Merging.{MergedIsMeaning, SitesAreOne}
+use Rattle.dt_laws.specs.Merging.{MergedIsMeaning}
 use Rattle.dt_model.proofs.Tests.{or_cases, or_left, or_right, any_from, any_here}
 use Rattle.dt_laws.proofs.Lands.{source_of, landing_of, last_from}
 use Rattle.dt_laws.proofs.Inside.{IsInside, each_more, each_both, referred_inside}
@@ -152,29 +152,3 @@ module _ (m : Meaning) (o : Overlay) (sites : List Site) (meaning : IsMeaning m)
 
 pub merged_is_a_meaning : MergedIsMeaning
 merged_is_a_meaning m o sites meaning plain overlay defined = (meaning_after m o sites meaning plain overlay defined, plain_after m o sites meaning plain overlay defined)
-
--- ---- sites
-
-one_path : (m : Meaning) (earlier : List Site) (t : Target) (q r : Path) → Names m earlier t q → Names m earlier t r → q ≡ r
-one_path m earlier (at_reference (inside p)) q r h k = let z : Some q ≡ Some r = sym h ∙ k in cc
-one_path m earlier (at_reference (outside l)) q r h k = let z : Some q ≡ Some r = sym h ∙ k in cc
-one_path m earlier (at_path p) q r h k = sym h ∙ k
-
-one_site : (m : Meaning) (o : Overlay) (earlier : List Site) (f : Fragment) (x y : Site) → IsSite m o earlier f x → IsSite m o earlier f y → x ≡ y
-one_site m o earlier f x y h k =
-    ap (λ z. record { fragment = z; at = x.at }) (h.of ∙ sym k.of)
-    ∙ ap (λ z. record { fragment = y.fragment; at = z }) (one_path m earlier f.target x.at y.at h.named k.named)
-
-one_list : (m : Meaning) (o : Overlay) (fs : List Fragment) (earlier sites others : List Site) → AreSites m o earlier fs sites → AreSites m o earlier fs others → sites ≡ others
-one_list m o [] earlier [] [] h k = refl
-one_list m o [] earlier [] (y ∷ others) h k = absurd k
-one_list m o [] earlier (x ∷ sites) others h k = absurd h
-one_list m o (f ∷ fs) earlier [] others h k = absurd h
-one_list m o (f ∷ fs) earlier (x ∷ sites) [] h k = absurd k
-one_list m o (f ∷ fs) earlier (x ∷ sites) (y ∷ others) h k =
-    let same = one_site m o earlier f x y h.0 k.0 in
-    let rest = one_list m o fs (earlier ++ y ∷ []) sites others (subst (λ z. AreSites m o (earlier ++ z ∷ []) fs sites) same h.1) k.1 in
-    ap (λ z. z ∷ sites) same ∙ ap (λ z. y ∷ z) rest
-
-pub sites_are_one : SitesAreOne
-sites_are_one m o sites others h k = one_list m o o.fragments [] sites others h.defined.placed k.defined.placed

@@ -33,9 +33,6 @@ module _ {R : Type 0} where
           inl (ap (λ w. record { name = x; value = w }) same ∙ ap (λ y. record { name = y; value = p.value }) (bytes_eq_true x p.name k))
       step more false k = inr (more (rw k at e))
 
-  pub value_named : (ps : List (NamedProperty R)) (x : Name) (v : List (Item R)) → value_of ps x ≡ Some v → IsIn x (property_names ps)
-  value_named ps x v e = in_map (λ (p : NamedProperty R). p.name) ps (record { name = x; value = v }) (value_listed ps x v e)
-
   pub listed_value : (ps : List (NamedProperty R)) (p : NamedProperty R) → AreDistinct (property_names ps) → IsIn p ps → value_of ps p.name ≡ Some p.value
   listed_value [] p d i = absurd i
   listed_value (q ∷ ps) p d (inl same) = rw same (rw (bytes_eq_refl q.name) refl)

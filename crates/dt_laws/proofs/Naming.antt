@@ -7,8 +7,7 @@ use Rattle.dt_model.specs.Lists.{last_of}
 use Rattle.dt_model.specs.Meaning.{Meaning, IsMeaning, IsNaming, Extends}
 use Rattle.dt_model.specs.Overlay.{inside, Overlay}
 use Rattle.dt_model.specs.Merged.{Site, landing, sources, merged}
-use Rattle.dt_model.specs.Joined.{IsJoined}
-use Rattle.dt_model.specs.Numbers.{number_after}
+use Rattle.dt_laws.proofs.Joined.{IsJoined, number_after}
 use Rattle.dt_model.specs.Valid.{AreDistinct}
 use Rattle.dt_model.proofs.Tests.{or_cases, any_from}
 use Rattle.dt_laws.proofs.Lands.{source_of, landing_of, last_from, last_one}

@@ -13,7 +13,7 @@ use Rattle.dt_model.specs.Meaning.{cell, Meaning, IsMeaning, IsPlain}
 use Rattle.dt_model.specs.Overlay.{inside, Fragment, Overlay, IsOverlay, content, IsBrought}
 use Rattle.dt_model.specs.Object.{fragment_names, Encodes}
 use Rattle.dt_model.specs.Represents.{Represents}
-use Rattle.dt_model.specs.Numbers.{numbers_of, is_brought, needs_number, new_paths, AreNewNumbers, number_in}
+use Rattle.dt_model.specs.Numbers.{numbers_of, is_brought, needs_number, new_paths, number_in}
 use Rattle.dt_model.specs.Tree.{Reading, Placed, value_of, nodes_of, value_in}
 use Rattle.dt_model.specs.Valid.{AreDistinct, IsValid, IsWithinLimits, phandle_values, phandles}
 use Rattle.dt_model.proofs.Tests.{and_left, and_right, and_both, any_here, any_from, in_map, in_map_from, in_filter, filter_in}
@@ -21,9 +21,9 @@ use Rattle.dt_model.proofs.Distinct.{in_flat, distinct_filter}
 use Rattle.dt_laws.proofs.Lands.{below-append, append-below}
 use Rattle.dt_model.proofs.Listed.{listed_value, value_listed}
 use Rattle.dt_model.proofs.Preorder.{paths_distinct, phandle_list, all_phandles, value_in_list, length-preorder, length-flat}
-use Rattle.dt_laws.proofs.Inside.{IsInside, IsFresh, plain_brought}
+use Rattle.dt_laws.proofs.Inside.{IsInside, plain_brought}
 use Rattle.dt_laws.proofs.Given.{phandle_of, object_phandle}
-use Rattle.dt_laws.proofs.Fresh.{number_is_free, own_number, number_low, number_some, AreOwn, own_numbers}
+use Rattle.dt_laws.proofs.Fresh.{number_is_free, own_number, number_low}
 
 length-filter_le : {X : Type 0} (test : X → Bool) (xs : List X) → length (filter test xs) ≤ length xs
 length-filter_le test [] = omega arith
@@ -77,9 +77,6 @@ module _ (object : Reading) (o : Overlay) (local : Path → ℕ) (encodes : Enco
       subst (λ q. IsIn q (new_paths object)) w.2
       (in_map (λ (n : Placed). n.path) (filter (needs_number (fragment_names object.children)) (nodes_of object)) w.0 (filter_in (needs_number (fragment_names object.children)) (nodes_of object) w.0 w.1 test))
 
-  pub new_distinct : AreDistinct (new_paths object)
-  new_distinct = distinct_filter (λ (n : Placed). n.path) (needs_number (fragment_names object.children)) (nodes_of object) (paths_distinct object valid)
-
 -- ---- the base's numbers
 
 pub small_number : (n : ℕ) → n ≤ 0xfffffffe → n < 2 ^ 32
@@ -110,31 +107,3 @@ few_new object few =
     let d = length-preorder [] object.children in
     let e = few.count in
     omega (arith, a, b, d, e)
-
-module _ (base object : Reading) (m : Meaning) (o : Overlay) (number local : Path → ℕ) (numbers : List (Path × ℕ))
-    (holds : Represents base m number) (meaning : IsMeaning m) (plain : IsPlain m) (encodes : Encodes object o local) (overlay : IsOverlay o) (valid : IsValid object)
-    (few_in_base : IsWithinLimits base) (few_in_object : IsWithinLimits object) (given : AreNewNumbers base object numbers) where
-  number_high : (p : Path) (n : ℕ) → number_in numbers p ≡ Some n → n ≤ 0xfffffffe
-  number_high p n e =
-      let a = (number_low (numbers_of base) (new_paths object) numbers p n given e).1 in
-      let b = few_taken base few_in_base in
-      let c = few_new object few_in_object in
-      omega (arith, a, b, c)
-
-  -- no node of the base has a new number
-  pub numbers_unused : (p q : Path) (n : ℕ) → number_in numbers p ≡ Some n → value_in base q (codes "phandle") ≡ Some (cell n) → ⊥
-  numbers_unused p q n e v =
-      true≢false (sym (taken_all base q n (number_high p n e) v) ∙ number_is_free (numbers_of base) (new_paths object) numbers p n given e)
-
-  pub numbers_fresh : IsFresh m o number (number_in numbers)
-  numbers_fresh = record {
-    some = λ p h. number_some (numbers_of base) (new_paths object) numbers p given (inside_new object o local encodes overlay valid p h);
-    none = λ p n e. (new_inside object o local encodes overlay valid p (number_low (numbers_of base) (new_paths object) numbers p n given e).2).0;
-    low = λ p n e. (number_low (numbers_of base) (new_paths object) numbers p n given e).0;
-    high = number_high;
-    own = λ p p' n e e'. own_number (numbers_of base) (new_paths object) numbers p p' n given e e';
-    free = λ p q n e h same. numbers_unused p q n e (phandle_of base m number holds meaning plain q h ∙ ap (λ k. Some (cell k)) same);
-  }
-
-  pub numbers_own : AreOwn numbers
-  numbers_own = own_numbers (numbers_of base) (new_paths object) numbers given (new_distinct object o local encodes overlay valid)

@@ -26,11 +26,6 @@ in_at x [] i = absurd i
 in_at x (y ∷ ys) (inl same) = (0, same)
 in_at x (y ∷ ys) (inr i) = let w = in_at x ys i in (suc w.0, w.1)
 
-pub at_below : {X : Type 0} (k : ℕ) (x : X) (xs : List X) → HasAt k x xs → k < length xs
-at_below k x [] h = absurd h
-at_below zero x (y ∷ ys) h = omega arith
-at_below (suc k) x (y ∷ ys) h = let l = at_below k x ys h in omega (arith, l)
-
 pub at_map : {X Y : Type 0} (f : X → Y) (k : ℕ) (x : X) (xs : List X) → HasAt k x xs → HasAt k (f x) (map f xs)
 at_map f k x [] h = absurd h
 at_map f zero x (y ∷ ys) h = ap f h

@@ -11,7 +11,7 @@ use Rattle.dt_model.specs.Meaning.{Item, cell, value_bytes, Meaning}
 use Rattle.dt_model.specs.Overlay.{object_number, OverlayReference, Overlay, IsBrought}
 use Rattle.dt_model.specs.Merged.{Site, landing, sources, IsDefined}
 use Rattle.dt_model.specs.Object.{Cell, HasFixups, properties_of}
-use Rattle.dt_model.specs.Joined.{IsJoined}
+use Rattle.dt_laws.proofs.Joined.{IsJoined}
 use Rattle.dt_model.specs.Numbers.{number_in}
 use Rattle.dt_model.specs.Tree.{Property, Reading, Node, value_of, root_of, node_at, nodes_of, stands_in, value_in}
 use Rattle.dt_model.specs.Valid.{AreDistinct}

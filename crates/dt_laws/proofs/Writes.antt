@@ -160,10 +160,3 @@ module _ (base object : Reading) (m : Meaning) (o : Overlay) (number local : Pat
   value_written p name items plain_path refs e =
       ap (option_map (written p name (writes base object fixups numbers))) (object_items object o local encodes overlay p name items plain_path e)
       ∙ ap Some (all_cells p name (object_number local) (final_number m number (number_in numbers)) items (writes base object fixups numbers) (all_sound p name items plain_path refs e) (all_complete p name items e))
-
-  -- a fragment's target, once its cell is written, is the number of what it names
-  pub target_written : (f : Fragment) (r : OverlayReference) → IsIn f o.fragments → f.target ≡ at_reference r
-      → option_map (written (f.name ∷ []) (codes "target") (writes base object fixups numbers)) (value_in object (f.name ∷ []) (codes "target")) ≡ Some (cell (final_number m number (number_in numbers) r))
-  target_written f r i e =
-      let held = subst (λ t. HoldsTarget o f.name t) e (overlay.targeted f i) in
-      value_written (f.name ∷ []) (codes "target") (reference r ∷ []) (plain_fragment o overlay f [] i) (target_inside o overlay f r i e, tt) held

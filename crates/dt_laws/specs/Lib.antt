@@ -1,6 +1,5 @@
 pub mod Applying
 pub mod Merging
-pub mod Again
 pub mod Sources
 pub mod NamedTrees
 pub mod NamedSample
@@ -10,9 +9,7 @@ pub mod ObjectSample
 pub mod Bodies
 pub mod SampleSources
 pub mod Fragments
-pub mod AppliedSample
 pub mod Premises
-pub mod Joining
-pub mod InTurn
 pub mod ShortValues
 pub mod OverlayChecks
+pub mod LeastNumbers

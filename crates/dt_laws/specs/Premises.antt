@@ -9,8 +9,8 @@ use Rattle.dt_model.specs.Meaning.{cell, Meaning}
 use Rattle.dt_model.specs.Source.{by_path, Place, root, block, child, label, property, close, base, SourceMeans}
 use Rattle.dt_model.specs.Instance.{symbol, with_symbols}
 use Rattle.dt_model.specs.Tree.{Property, Reading, no_nodes, branch}
-use Rattle.dt_model.specs.Rows.{number, fragment, content_of, set, tree, phandle_of, meaning, overlay, controller, controller_source, one_node, one_node_source, referring, referring_source, two_cells, two_cells_source, two_cells_fragments, three_values, three_values_source, three_values_fragments, inner_target, inner_source, inner_fragments, label_taken, label_taken_source, second_phandle, written_phandle, gap_of_numbers}
-use Rattle.dt_model.specs.Numbers.{number_in, AreNewNumbers}
+use Rattle.dt_model.specs.Rows.{number, fragment, content_of, set, tree, phandle_of, meaning, overlay, controller, controller_source, one_node, one_node_source, referring, referring_source, two_cells, two_cells_source, two_cells_fragments, three_values, three_values_source, three_values_fragments, inner_target, inner_source, inner_fragments, label_taken, label_taken_source, joined_node, written_phandle, gap_of_numbers}
+use Rattle.dt_model.specs.Numbers.{number_in}
 use Rattle.dt_laws.specs.Applying.{AreOf}
 
 -- the number that the list has for a path, 0 where it has none
@@ -37,13 +37,12 @@ base_meaning b = meaning b.places
 abbrev pub object_overlay : Object → Overlay
 object_overlay x = overlay x.places x.fragments
 
--- a base and an object meet what the laws of applying ask for, with these new numbers
-pub record MeetThem (b : Base) (x : Object) (numbers : List (Path × ℕ)) : Type 0 where
+-- a base and an object meet what the laws of applying ask for
+pub record MeetThem (b : Base) (x : Object) : Type 0 where
   pub base_source : SourceMeans base [] b.places (base_meaning b)
   pub source : OverlayMeans x.places (object_overlay x)
   pub are_of : AreOf b.tree x.tree (base_meaning b) (object_overlay x) (numbering b.numbers) (numbering x.numbers)
   pub fixups : HasFixups x.tree x.fixups
-  pub new : AreNewNumbers b.tree x.tree numbers
 
 -- ---- the base with a controller, and the object with two cells
 
@@ -61,9 +60,6 @@ two_cells_fixups = (codes "gic", record { path = content_of 0 ++ codes "d" ∷ [
 
 abbrev pub two_cells_object : Object
 two_cells_object = record { places = two_cells_source; fragments = two_cells_fragments; tree = two_cells; numbers = two_cells_numbers; fixups = two_cells_fixups }
-
-abbrev pub two_cells_new : List (Path × ℕ)
-two_cells_new = (content_of 0 ++ codes "f" ∷ [], 2) ∷ []
 
 -- ---- the base with one node, and the object with three values
 
@@ -84,9 +80,6 @@ three_values_fixups =
 abbrev pub three_values_object : Object
 three_values_object = record { places = three_values_source; fragments = three_values_fragments; tree = three_values; numbers = three_values_numbers; fixups = three_values_fixups }
 
-abbrev pub three_values_new : List (Path × ℕ)
-three_values_new = (content_of 0 ++ codes "x" ∷ [], 2) ∷ []
-
 -- ---- the object whose second fragment names a node that the first one brings
 
 abbrev pub inner_target_numbers : List (Path × ℕ)
@@ -94,9 +87,6 @@ inner_target_numbers = (codes "g" ∷ codes "__overlay__" ∷ codes "x" ∷ [], 
 
 abbrev pub inner_target_object : Object
 inner_target_object = record { places = inner_source; fragments = inner_fragments; tree = inner_target; numbers = inner_target_numbers; fixups = [] }
-
-abbrev pub inner_target_new : List (Path × ℕ)
-inner_target_new = (codes "g" ∷ codes "__overlay__" ∷ codes "x" ∷ [], 2) ∷ []
 
 -- ---- the base with a reference, and the object that takes its label over
 
@@ -112,24 +102,18 @@ label_taken_numbers = (content_of 0 ++ codes "b" ∷ [], 1) ∷ []
 abbrev pub label_taken_object : Object
 label_taken_object = record { places = label_taken_source; fragments = two_cells_fragments; tree = label_taken; numbers = label_taken_numbers; fixups = [] }
 
-abbrev pub label_taken_new : List (Path × ℕ)
-label_taken_new = (content_of 0 ++ codes "b" ∷ [], 2) ∷ []
-
--- ---- the object that gives a node of the base a second phandle
+-- ---- the object of which a node lands on one that has a number
 
 -- &{/} { m: ic { }; k { r = <&m>; }; };
-abbrev pub second_phandle_source : List Place
-second_phandle_source =
+abbrev pub joined_node_source : List Place
+joined_node_source =
     block (by_path []) ∷ child (codes "ic") ∷ label (codes "m") ∷ close ∷ child (codes "k") ∷ property (codes "r") (phandle_of (codes "m")) ∷ close ∷ close ∷ []
 
-abbrev pub second_phandle_numbers : List (Path × ℕ)
-second_phandle_numbers = (content_of 0 ++ codes "ic" ∷ [], 1) ∷ []
+abbrev pub joined_node_numbers : List (Path × ℕ)
+joined_node_numbers = (content_of 0 ++ codes "ic" ∷ [], 1) ∷ []
 
-abbrev pub second_phandle_object : Object
-second_phandle_object = record { places = second_phandle_source; fragments = two_cells_fragments; tree = second_phandle; numbers = second_phandle_numbers; fixups = [] }
-
-abbrev pub second_phandle_new : List (Path × ℕ)
-second_phandle_new = (content_of 0 ++ codes "ic" ∷ [], 2) ∷ []
+abbrev pub joined_node_object : Object
+joined_node_object = record { places = joined_node_source; fragments = two_cells_fragments; tree = joined_node; numbers = joined_node_numbers; fixups = [] }
 
 -- ---- bases with written numbers
 

@@ -1,10 +1,8 @@
-//! Theorems about the definitions of dt_model alone: what is true of each meaning that a source has, that applying an object to
-//! a tree is merging what the two mean. They stand apart from dt_model so that they aren't checked again with each crate that
-//! uses the definitions.
+//! Theorems about the definitions of dt_model alone: what is true of each meaning that a source has, and of the trees that sources are
+//! compiled to. They stand apart from dt_model so that they aren't checked again with each crate that uses the definitions.
 #![tactic(auto)]
 
 mod compiled;
-mod joining;
 mod laws;
 mod lists;
 mod named;
@@ -20,9 +18,8 @@ pub use compiled::{
     compiled_base_represents, compiled_is_not_refused, compiled_tree_is_one,
     compiled_tree_is_valid, refusal_is_one,
 };
-pub use joining::joining_is_merging;
-pub use laws::{applied_is_valid, applying_is_merging, merged_is_a_meaning, sites_are_one};
-pub use lists::{in_turn_is_fold, least_numbers_are_one};
+pub use laws::merged_is_a_meaning;
+pub use lists::least_numbers_are_one;
 pub use named::{
     instance_is_meant, instance_is_valid, least_is_low, list_is_of_its_tree, many_stand,
     meant_is_named, named_is_not_refused, nodes_are_shallow, root_stands, tree_is_meant,

@@ -1,6 +1,6 @@
 //! Sources, trees and objects that meet what the other laws ask for.
 
-ghost use Rattle.std.specs.Prelude.{List, [], ◌∷◌, codes};
+ghost use Rattle.std.specs.Prelude.{List, [], ◌∷◌};
 ghost use Rattle.dt_model.specs.Instance.{IsTreeOf};
 ghost use Rattle.dt_model.specs.Ordered.{IsInOrder};
 ghost use Rattle.dt_model.specs.Source.{
@@ -11,7 +11,7 @@ ghost use Rattle.dt_model.specs.Source.{
   duplicate_phandle,
 };
 ghost use Rattle.dt_model.specs.Refused.{IsRefusedFor, at_end};
-ghost use Rattle.dt_model.specs.Merged.{Site, Applies};
+ghost use Rattle.dt_model.specs.Merged.{Site, IsDefined};
 ghost use Rattle.dt_model.specs.Represents.{Represents};
 ghost use Rattle.dt_model.specs.Rows.{
   events,
@@ -31,15 +31,10 @@ ghost use Rattle.dt_laws.specs.Premises.{
   one_node_base,
   referring_base,
   two_cells_object,
-  two_cells_new,
   three_values_object,
-  three_values_new,
   inner_target_object,
-  inner_target_new,
   label_taken_object,
-  label_taken_new,
-  second_phandle_object,
-  second_phandle_new,
+  joined_node_object,
   instance_written_phandle,
   with_written_phandle,
   written_phandle_numbers,
@@ -52,38 +47,38 @@ ghost use Rattle.dt_laws.specs.Premises.{
 
 /// A target by a path, a reference to a node of the overlay and one by a label of the base.
 pub fn two_cells_meet_them()
-    ensures meet { MeetThem controller_base two_cells_object two_cells_new }
-    ensures applies { Applies (base_meaning controller_base) (object_overlay two_cells_object) two_cells_sites }
+    ensures meet { MeetThem controller_base two_cells_object }
+    ensures defined { IsDefined (base_meaning controller_base) (object_overlay two_cells_object) two_cells_sites }
 {}
 
 /// Two fragments whose targets wait for a label of the base.
 pub fn three_values_meet_them()
-    ensures meet { MeetThem one_node_base three_values_object three_values_new }
-    ensures applies { Applies (base_meaning one_node_base) (object_overlay three_values_object) three_values_sites }
+    ensures meet { MeetThem one_node_base three_values_object }
+    ensures defined { IsDefined (base_meaning one_node_base) (object_overlay three_values_object) three_values_sites }
 {}
 
 /// A target that an earlier fragment brings.
 pub fn inner_target_meets_them()
-    ensures meet { MeetThem controller_base inner_target_object inner_target_new }
-    ensures applies { Applies (base_meaning controller_base) (object_overlay inner_target_object) inner_sites }
+    ensures meet { MeetThem controller_base inner_target_object }
+    ensures defined { IsDefined (base_meaning controller_base) (object_overlay inner_target_object) inner_sites }
 {}
 
 /// A label that the base has too.
 pub fn label_taken_meets_them()
-    ensures meet { MeetThem referring_base label_taken_object label_taken_new }
-    ensures applies { Applies (base_meaning referring_base) (object_overlay label_taken_object) two_cells_sites }
+    ensures meet { MeetThem referring_base label_taken_object }
+    ensures defined { IsDefined (base_meaning referring_base) (object_overlay label_taken_object) two_cells_sites }
 {}
 
-/// A node of the overlay that lands on one of the base where both have a number: it can't be applied.
-pub fn second_phandle_meets_them()
-    ensures meet { MeetThem controller_base second_phandle_object second_phandle_new }
-    ensures refused { (sites : List Site) → Applies (base_meaning controller_base) (object_overlay second_phandle_object) sites → ⊥ }
+/// A node of the overlay that lands on one of the base where both have a number.
+pub fn joined_node_meets_them()
+    ensures meet { MeetThem controller_base joined_node_object }
+    ensures defined { IsDefined (base_meaning controller_base) (object_overlay joined_node_object) two_cells_sites }
 {}
 
-/// A label that the base hasn't: it can't be applied.
+/// A label that the base hasn't: it can't be merged.
 pub fn missing_label_meets_them()
-    ensures meet { MeetThem one_node_base two_cells_object two_cells_new }
-    ensures refused { (sites : List Site) → Applies (base_meaning one_node_base) (object_overlay two_cells_object) sites → ⊥ }
+    ensures meet { MeetThem one_node_base two_cells_object }
+    ensures refused { (sites : List Site) → IsDefined (base_meaning one_node_base) (object_overlay two_cells_object) sites → ⊥ }
 {}
 
 /// A base with a written phandle, a reference in a cell list and one outside.

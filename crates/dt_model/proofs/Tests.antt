@@ -34,14 +34,6 @@ pub or_left : (a b : Bool) → a ≡ true → a || b ≡ true
 or_left true b h = refl
 or_left false b h = absurd (true≢false (sym h))
 
-pub or_false_left : (a b : Bool) → a || b ≡ false → a ≡ false
-or_false_left true b h = absurd (true≢false h)
-or_false_left false b h = refl
-
-pub or_false_right : (a b : Bool) → a || b ≡ false → b ≡ false
-or_false_right true b h = absurd (true≢false h)
-or_false_right false b h = h
-
 pub not_true : (b : Bool) → not b ≡ true → b ≡ false
 not_true true h = absurd (true≢false (sym h))
 not_true false h = refl

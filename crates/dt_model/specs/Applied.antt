@@ -91,12 +91,7 @@ abbrev pub written_node : List Write → List (Path × ℕ) → Path → Node �
 written_node ws numbers path n =
     record { properties = map (written_property ws numbers path) n.properties; children = written_forest ws numbers path n.children }
 
--- ---- the sites of the fragments
-
--- where the node that gets a number lands, if one of these fragments brings it
-abbrev pub landed_with : List (Path × ℕ) → List Site → ℕ → Option Path
-landed_with [] earlier n = None
-landed_with ((p, k) ∷ numbers) earlier n = if nat_eq n k then landing earlier p else landed_with numbers earlier n
+-- ---- where nodes land
 
 abbrev pub if_named : List ℕ → Option Path → Option Path
 if_named value None = None
@@ -107,59 +102,10 @@ abbrev pub landed_named : List Placed → List Site → List ℕ → Option Path
 landed_named [] earlier value = None
 landed_named (x ∷ nodes) earlier value = option_or (if_named value (landing earlier x.path)) (landed_named nodes earlier value)
 
--- the node of the tree so far, which is the base with what the fragments before bring, that has the number in `target`, or
--- else whose path's text is `target-path`
-abbrev pub target_node : Reading → Reading → List Write → List (Path × ℕ) → List Site → Name → Option (List ℕ) → Option Path
-target_node base object ws numbers earlier f (Some value) =
-    let n : ℕ = number_at (written (f ∷ []) (codes "target") ws value) 0 in
-    option_or (node_numbered (nodes_of base) n) (landed_with numbers earlier n)
-target_node base object ws numbers earlier f None =
-    option_and_then (λ text. option_or (node_named (nodes_of base) text) (landed_named (nodes_of object) earlier text))
-    (value_in object (f ∷ []) (codes "target-path"))
-
--- a fragment's site, if there is one and it is no bookkeeping node
-abbrev pub site_at : Name → Path → Option Site
-site_at f q = if is_bookkeeping q then None else Some (record { fragment = f; at = q })
-
-abbrev pub find_site : Reading → Reading → List Write → List (Path × ℕ) → List Site → Name → Option Site
-find_site base object ws numbers earlier f =
-    option_and_then (site_at f) (target_node base object ws numbers earlier f (value_in object (f ∷ []) (codes "target")))
-
--- the sites of the fragments, one after the other
-abbrev pub find_sites : Reading → Reading → List Write → List (Path × ℕ) → List Site → List Name → Option (List Site)
-find_sites base object ws numbers earlier [] = Some []
-find_sites base object ws numbers earlier (f ∷ fragments) =
-    option_and_then (λ x. option_map (λ sites. x ∷ sites) (find_sites base object ws numbers (earlier ++ x ∷ []) fragments))
-    (find_site base object ws numbers earlier f)
-
--- ---- whether the object may be applied
-
+-- nothing lands among the bookkeeping nodes
 abbrev pub is_plain : Option Path → Bool
 is_plain None = true
 is_plain (Some q) = not (is_bookkeeping q)
-
--- the base has no phandle there
-abbrev pub is_bare : Reading → Option Path → Bool
-is_bare base None = true
-is_bare base (Some q) = is_none (value_in base q (codes "phandle"))
-
-abbrev pub is_apart : Option Path → Option Path → Bool
-is_apart None r = true
-is_apart (Some q) None = true
-is_apart (Some q) (Some r) = not (path_eq q r)
-
--- no two nodes with a number land on one path
-abbrev pub are_single : List Site → List (Path × ℕ) → Bool
-are_single sites [] = true
-are_single sites (x ∷ numbers) = list_all (λ y. is_apart (landing sites x.0) (landing sites y.0)) numbers && are_single sites numbers
-
--- the base has the labels, nothing lands among its bookkeeping nodes, and no node gets a second phandle
-abbrev pub is_allowed : Reading → Reading → List (Name × Cell) → List (Path × ℕ) → List Site → Bool
-is_allowed base object fixups numbers sites =
-    list_all (λ x. is_some (symbol base x.0)) fixups
-    && list_all (λ (n : Placed). is_plain (landing sites n.path)) (nodes_of object)
-    && list_all (λ x. is_bare base (landing sites x.0)) numbers
-    && are_single sites numbers
 
 -- ---- the result
 
@@ -196,13 +142,3 @@ abbrev pub applied_at : Reading → Reading → List (Name × Cell) → List (Pa
 applied_at base object fixups numbers sites =
     with_symbols_merged (landed_symbols object sites (properties_of (node_at object (codes "__symbols__" ∷ []))))
     (with_fragments base object (writes base object fixups numbers) numbers sites)
-
-abbrev pub if_allowed : Reading → Reading → List (Name × Cell) → List (Path × ℕ) → List Site → Option Reading
-if_allowed base object fixups numbers sites =
-    if is_allowed base object fixups numbers sites then Some (applied_at base object fixups numbers sites) else None
-
--- the base with the object applied, none where that is refused
-abbrev pub applied : Reading → Reading → List (Name × Cell) → List (Path × ℕ) → Option Reading
-applied base object fixups numbers =
-    option_and_then (if_allowed base object fixups numbers)
-    (find_sites base object (writes base object fixups numbers) numbers [] (fragment_names object.children))

@@ -29,6 +29,5 @@ pub mod Refused
 pub mod NamedOverlay
 pub mod Fixups
 pub mod Checks
-pub mod Joined
 pub mod Rows
 pub mod Printed

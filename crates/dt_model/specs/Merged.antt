@@ -80,17 +80,7 @@ pub record IsDefined (m : Meaning) (o : Overlay) (sites : List Site) : Type 0 wh
   pub placed : AreSites m o [] o.fragments sites
   pub plain : (p q : Path) → o.stands p ≡ true → landing sites p ≡ Some q → is_bookkeeping q ≡ false
 
--- no keyed node of the overlay lands on a keyed node, and no two land on one path
-pub record IsAlone (m : Meaning) (o : Overlay) (sites : List Site) : Type 0 where
-  pub new : (p q : Path) → o.keyed p ≡ true → landing sites p ≡ Some q → m.keyed q ≡ false
-  pub single : (p p' q : Path) → o.keyed p ≡ true → o.keyed p' ≡ true → landing sites p ≡ Some q → landing sites p' ≡ Some q → p ≡ p'
-
--- the overlay can be applied, its fragments at these sites, and gives no node a second phandle
-pub record Applies (m : Meaning) (o : Overlay) (sites : List Site) : Type 0 where
-  pub defined : IsDefined m o sites
-  pub alone : IsAlone m o sites
-
--- the meaning of a tree to which overlays are applied one after the other, each of which can be applied
+-- the meaning of a tree into which overlays are merged one after the other, each of which can be
 abbrev pub IsFold : Meaning → List Overlay → Meaning → Type 0
 IsFold m [] result = result ≡ m
-IsFold m (o ∷ overlays) result = (sites : List Site) × Applies m o sites × IsFold (merged m o sites) overlays result
+IsFold m (o ∷ overlays) result = (sites : List Site) × IsDefined m o sites × IsFold (merged m o sites) overlays result

@@ -40,18 +40,10 @@ AreNumbers taken [] (x ∷ numbers) = ⊥
 AreNumbers taken (p ∷ paths) [] = ⊥
 AreNumbers taken (p ∷ paths) ((q, n) ∷ numbers) = (p ≡ q) × IsLeastFree taken n × AreNumbers (n ∷ taken) paths numbers
 
--- the new numbers of an object's nodes, where it is applied to a base
-abbrev pub AreNewNumbers : Reading → Reading → List (Path × ℕ) → Type 0
-AreNewNumbers base object numbers = AreNumbers (numbers_of base) (new_paths object) numbers
-
 -- the number of a path
 abbrev pub number_in : List (Path × ℕ) → Path → Option ℕ
 number_in [] p = None
 number_in ((q, n) ∷ numbers) p = if path_eq q p then Some n else number_in numbers p
-
--- the numbers after an application: the new one where a keyed node landed, else the one before
-abbrev pub number_after : List Site → (Path → ℕ) → (Path → Option ℕ) → Path → ℕ
-number_after sites number new q = unwrap_or (last_of new (sources sites q)) (number q)
 
 -- ---- the numbers of a source's tree
 

@@ -160,10 +160,6 @@ two_cells_source =
     block (by_path []) ∷ child (codes "d") ∷ property (codes "p") (one 1 ∷ phandle_of (codes "gic")) ∷ property (codes "q") (phandle_of (codes "e")) ∷ close
     ∷ child (codes "f") ∷ label (codes "e") ∷ close ∷ close ∷ []
 
--- &e { g: h { }; };
-abbrev pub next_source : List Place
-next_source = block (by_label (codes "e")) ∷ child (codes "h") ∷ label (codes "g") ∷ close ∷ close ∷ []
-
 -- &a { n: x { p = <1>; }; }; &a { x { p = <2>; }; }; &n { p = <3>; };
 abbrev pub three_values_source : List Place
 three_values_source =
@@ -341,8 +337,8 @@ three_values = tree []
     (branch (codes "__fixups__") (set (codes "a") (codes "/fragment@0:target:0" ++ 0 ∷ (codes "/fragment@1:target:0" ++ 0 ∷ [])) ∷ []) no_nodes no_nodes))))
 
 -- the object of &{/} { m: ic { }; k { r = <&m>; }; };
-abbrev pub second_phandle : Reading
-second_phandle = tree []
+abbrev pub joined_node : Reading
+joined_node = tree []
     (path_fragment (fragment 0) (path_value []) []
     (branch (codes "ic") (set (codes "phandle") (cell 1) ∷ []) no_nodes (branch (codes "k") (set (codes "r") (cell 1) ∷ []) no_nodes no_nodes))
     (branch (codes "__symbols__") (symbol_of (codes "m") (content_of 0 ++ codes "ic" ∷ []) ∷ []) no_nodes

@@ -10,24 +10,21 @@ ghost use Rattle.std.specs.Prelude.{
   ◌++◌,
   true,
   false,
-  Option,
   None,
   Some,
   map,
   reverse,
 };
-ghost use Rattle.dt_model.specs.Meaning.{Meaning, byte, reference, cell, instance_value};
-ghost use Rattle.dt_model.specs.Overlay.{Overlay, inside, outside};
+ghost use Rattle.dt_model.specs.Meaning.{byte, reference, cell, instance_value};
+ghost use Rattle.dt_model.specs.Overlay.{inside, outside};
 ghost use Rattle.dt_model.specs.Event.{age, label_age, property_age, stands};
-ghost use Rattle.dt_model.specs.Numbers.{AreNewNumbers, AreNumbers, numbers_of, new_paths, paths_of};
+ghost use Rattle.dt_model.specs.Numbers.{numbers_of, new_paths, paths_of};
 ghost use Rattle.dt_model.specs.Numbering.{IsNumbering, asked_by};
 ghost use Rattle.dt_model.specs.Merged.{AreSites, Site, merged};
-ghost use Rattle.dt_model.specs.Object.{Cell, local_cells, fragment_names, words_of};
-ghost use Rattle.dt_model.specs.Applied.{applied};
-ghost use Rattle.dt_model.specs.Samples.{one_cell};
+ghost use Rattle.dt_model.specs.Object.{local_cells, fragment_names};
+ghost use Rattle.dt_model.specs.Applied.{applied_at};
 ghost use Rattle.dt_model.specs.Tree.{branch, no_nodes};
 ghost use Rattle.dt_model.specs.Source.{
-  Refusal,
   duplicate_label,
   duplicate_node,
   duplicate_property,
@@ -80,7 +77,6 @@ ghost use Rattle.dt_model.specs.Rows.{
   no_target,
   reserved,
   two_cells_source,
-  next_source,
   three_values_source,
   written_fragment_source,
   later_fragment_source,
@@ -95,22 +91,9 @@ ghost use Rattle.dt_model.specs.Rows.{
   controller,
   two_cells,
   with_two_cells,
-  next_object,
   one_node,
   three_values,
-  second_phandle,
-  second_number,
-  two_nodes,
-  referring,
-  label_taken,
-  with_label_taken,
-  inner_target,
-  inner_target_first,
   no_fragment,
-  reserved_place,
-  reserved_target,
-  missing_target,
-  root_property,
   tree,
   set,
   symbols,
@@ -320,13 +303,6 @@ pub fn merged_label_taken_over()
     ensures both { (merged (meaning referring_source) (overlay label_taken_source two_cells_fragments) two_cells_sites).keyed (codes "a" ∷ []) ≡ true }
 {}
 
-/// New numbers are the least that are free, in preorder.
-pub fn new_numbers()
-    ensures one { AreNewNumbers controller two_cells ((content_of 0 ++ codes "f" ∷ [], 2) ∷ []) }
-    ensures gaps { AreNewNumbers second_number two_nodes
-        ((content_of 0 ++ codes "x" ∷ [], 1) ∷ (content_of 0 ++ codes "y" ∷ [], 3) ∷ []) }
-{}
-
 // ---- applying
 
 /// What an object lists.
@@ -339,77 +315,21 @@ pub fn marks_of_an_object()
     ensures none { fragment_names no_fragment.children ≡ [] }
 {}
 
-/// New numbers avoid the base's, references get them at any offset, symbols are those of the nodes on which labels land.
+/// An object's cells get their numbers at any offset, and symbols are those of the nodes on which labels land.
 pub fn object_applied()
-    ensures { applied controller two_cells
+    ensures { applied_at controller two_cells
         ((codes "gic", record { path = content_of 0 ++ codes "d" ∷ []; property = codes "p"; offset = 1 }) ∷ [])
-        ((content_of 0 ++ codes "f" ∷ [], 2) ∷ []) ≡ Some with_two_cells }
-{}
-
-/// A label of an earlier overlay is a target of a later one.
-pub fn object_applied_to_a_result()
-    ensures { applied with_two_cells next_object
-        ((codes "e", record { path = fragment 0 ∷ []; property = codes "target"; offset = 0 }) ∷ [])
-        ((content_of 0 ++ codes "h" ∷ [], 3) ∷ []) ≡
-        Some (tree []
-        (branch (codes "ic") (set (codes "phandle") (cell 1) ∷ []) no_nodes
-        (branch (codes "__symbols__")
-        (symbol_of (codes "gic") (codes "ic" ∷ []) ∷ symbol_of (codes "e") (codes "f" ∷ []) ∷ symbol_of (codes "g") (codes "f" ∷ codes "h" ∷ []) ∷ [])
-        no_nodes
-        (branch (codes "d") (set (codes "p") (1 ∷ cell 1) ∷ set (codes "q") (cell 2) ∷ []) no_nodes
-        (branch (codes "f") (set (codes "phandle") (cell 2) ∷ [])
-        (branch (codes "h") (set (codes "phandle") (cell 3) ∷ []) no_nodes no_nodes) no_nodes))))) }
+        ((content_of 0 ++ codes "f" ∷ [], 2) ∷ []) two_cells_sites ≡ with_two_cells }
 {}
 
 /// Of several fragments that land one property the last decides.
 pub fn last_fragment_decides()
-    ensures { applied one_node three_values
+    ensures { applied_at one_node three_values
         ((codes "a", record { path = fragment 0 ∷ []; property = codes "target"; offset = 0 })
         ∷ (codes "a", record { path = fragment 1 ∷ []; property = codes "target"; offset = 0 }) ∷ [])
-        ((content_of 0 ++ codes "x" ∷ [], 2) ∷ []) ≡
-        Some (tree []
+        ((content_of 0 ++ codes "x" ∷ [], 2) ∷ []) three_values_sites ≡
+        tree []
         (branch (codes "s") (set (codes "phandle") (cell 1) ∷ [])
         (branch (codes "x") (set (codes "p") (cell 2) ∷ set (codes "phandle") (cell 2) ∷ []) no_nodes no_nodes)
-        (symbols (symbol_of (codes "a") (codes "s" ∷ []) ∷ symbol_of (codes "n") (codes "s" ∷ codes "x" ∷ []) ∷ [])))) }
-{}
-
-/// New numbers fill the gaps of the base's, in preorder.
-pub fn new_numbers_fill_gaps()
-    ensures { applied second_number two_nodes
-        ((codes "a", record { path = fragment 0 ∷ []; property = codes "target"; offset = 0 }) ∷ [])
-        ((content_of 0 ++ codes "x" ∷ [], 1) ∷ (content_of 0 ++ codes "y" ∷ [], 3) ∷ []) ≡
-        Some (tree []
-        (branch (codes "a") (set (codes "phandle") (cell 2) ∷ [])
-        (branch (codes "x") (set (codes "phandle") (cell 1) ∷ []) no_nodes
-        (branch (codes "y") (set (codes "phandle") (cell 3) ∷ []) no_nodes no_nodes))
-        (symbols (symbol_of (codes "a") (codes "a" ∷ []) ∷ symbol_of (codes "x") (codes "a" ∷ codes "x" ∷ [])
-        ∷ symbol_of (codes "y") (codes "a" ∷ codes "y" ∷ []) ∷ [])))) }
-{}
-
-/// An overlay that takes over a label leaves the references that were made by it; later ones follow.
-pub fn label_taken_over()
-    ensures taken { applied referring label_taken [] ((content_of 0 ++ codes "b" ∷ [], 2) ∷ []) ≡ Some with_label_taken }
-{}
-
-/// A fragment may name a node that an earlier one brings, and not one of a later one.
-pub fn target_of_an_earlier_fragment()
-    ensures earlier { applied controller inner_target [] ((codes "g" ∷ codes "__overlay__" ∷ codes "x" ∷ [], 2) ∷ []) ≡
-        Some (tree []
-        (branch (codes "ic") (set (codes "phandle") (cell 1) ∷ []) no_nodes
-        (branch (codes "__symbols__") (symbol_of (codes "gic") (codes "ic" ∷ []) ∷ symbol_of (codes "n") (codes "x" ∷ []) ∷ []) no_nodes
-        (branch (codes "x") (set (codes "phandle") (cell 2) ∷ set (codes "q") [] ∷ []) no_nodes no_nodes)))) }
-    ensures later { applied controller inner_target_first [] ((codes "g" ∷ codes "__overlay__" ∷ codes "x" ∷ [], 2) ∷ []) ≡ None }
-{}
-
-/// What can't be applied, and what has no effect.
-pub fn objects_refused()
-    ensures second { applied controller second_phandle [] ((content_of 0 ++ codes "ic" ∷ [], 2) ∷ []) ≡ None }
-    ensures label { applied one_cell two_cells
-        ((codes "gic", record { path = content_of 0 ++ codes "d" ∷ []; property = codes "p"; offset = 1 }) ∷ [])
-        ((content_of 0 ++ codes "f" ∷ [], 1) ∷ []) ≡ None }
-    ensures target { applied controller missing_target [] [] ≡ None }
-    ensures place { applied controller reserved_place [] [] ≡ None }
-    ensures bookkeeping { applied controller reserved_target [] [] ≡ None }
-    ensures no_fragment { applied controller no_fragment [] [] ≡ Some controller }
-    ensures root { applied one_cell root_property [] [] ≡ Some one_cell }
+        (symbols (symbol_of (codes "a") (codes "s" ∷ []) ∷ symbol_of (codes "n") (codes "s" ∷ codes "x" ∷ []) ∷ []))) }
 {}

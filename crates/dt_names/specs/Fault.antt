@@ -2,7 +2,7 @@
 use Rattle.std.specs.Prelude.{◌≡◌, ◌≢◌, ℕ, List, [], ◌++◌, Option, None, Some, codes, decimal}
 use Rattle.dt_names.specs.declared.fault.Fault.{Fault}
 use Rattle.dt_names.specs.declared.fault.FaultKind.{FaultKind}
-use Rattle.dt_names.specs.declared.fault.FaultKind.TheVariants.{NoMemory, Limit, BadVersionTag, BadToken, Syntax, BadInteger, DivideByZero, OutOfRange, BadReferenceWidth, PropertyAfterNode, DuplicateProperty, DuplicateNode, DuplicateLabel, NoSuchTarget, UnresolvedReference, BadPhandle, DuplicatePhandle, ReservedName, OverlayDelete, OverlayPhandle, OverlayPathReference, OverlayReserve, OutsideContent, BadFragment, ShortHeader, BadMagic, BadTotal, BadVersion, Misaligned, BlockOutside, NoReservationEnd, BadTag, StructureCut, BadName, BadNameOffset, BadNesting, LateProperty, Duplicate, BadEnd, BlobPhandle, NoSymbol, BadSymbol, NoTarget, BadFixup, BadLocalFixup, SecondPhandle, NoFragmentTarget, ReservedPlace, NoNode, NoReg, BadCells, NotMapped, NoRanges, PciBus, Overflow, NoInterrupts, NoParent, Loop, BadMap, NoMapEntry, NoUnitAddress, UnknownPhandle, WriteFault, ReadFault}
+use Rattle.dt_names.specs.declared.fault.FaultKind.TheVariants.{NoMemory, Limit, BadVersionTag, BadToken, Syntax, BadInteger, DivideByZero, OutOfRange, BadReferenceWidth, PropertyAfterNode, DuplicateProperty, DuplicateNode, DuplicateLabel, NoSuchTarget, UnresolvedReference, BadPhandle, DuplicatePhandle, ReservedName, OverlayDelete, OverlayPhandle, OverlayPathReference, OverlayReserve, OutsideContent, BadFragment, ShortHeader, BadMagic, BadTotal, BadVersion, Misaligned, BlockOutside, NoReservationEnd, BadTag, StructureCut, BadName, BadNameOffset, BadNesting, LateProperty, Duplicate, BadEnd, BlobPhandle, NoSymbol, BadSymbol, NoTarget, BadFixup, BadLocalFixup, NoFragmentTarget, ReservedPlace, NoNode, NoReg, BadCells, NotMapped, NoRanges, PciBus, Overflow, NoInterrupts, NoParent, Loop, BadMap, NoMapEntry, NoUnitAddress, UnknownPhandle, WriteFault, ReadFault}
 
 -- the number of a kind
 abbrev pub fault_number : FaultKind → ℕ
@@ -51,7 +51,6 @@ fault_number BadSymbol = 61
 fault_number NoTarget = 62
 fault_number BadFixup = 63
 fault_number BadLocalFixup = 64
-fault_number SecondPhandle = 65
 fault_number NoFragmentTarget = 66
 fault_number ReservedPlace = 67
 fault_number NoNode = 70
@@ -118,7 +117,6 @@ fault_name BadSymbol = codes "BadSymbol"
 fault_name NoTarget = codes "NoTarget"
 fault_name BadFixup = codes "BadFixup"
 fault_name BadLocalFixup = codes "BadLocalFixup"
-fault_name SecondPhandle = codes "SecondPhandle"
 fault_name NoFragmentTarget = codes "NoFragmentTarget"
 fault_name ReservedPlace = codes "ReservedPlace"
 fault_name NoNode = codes "NoNode"

@@ -101,8 +101,6 @@ pub enum FaultKind {
     BadFixup,
     /// A local fixup that lists no four bytes, or a number that none of the nodes has that it may name.
     BadLocalFixup,
-    /// A node with a number that lands where a node with a number is.
-    SecondPhandle,
     /// A fragment whose target is no number and no path.
     NoFragmentTarget,
     /// A fragment that lands in a bookkeeping node.
@@ -192,7 +190,6 @@ impl FaultKind {
             FaultKind::NoTarget => 62,
             FaultKind::BadFixup => 63,
             FaultKind::BadLocalFixup => 64,
-            FaultKind::SecondPhandle => 65,
             FaultKind::NoFragmentTarget => 66,
             FaultKind::ReservedPlace => 67,
             FaultKind::NoNode => 70,
@@ -264,7 +261,6 @@ impl FaultKind {
             FaultKind::NoTarget => "NoTarget",
             FaultKind::BadFixup => "BadFixup",
             FaultKind::BadLocalFixup => "BadLocalFixup",
-            FaultKind::SecondPhandle => "SecondPhandle",
             FaultKind::NoFragmentTarget => "NoFragmentTarget",
             FaultKind::ReservedPlace => "ReservedPlace",
             FaultKind::NoNode => "NoNode",

@@ -3,7 +3,7 @@ use Rattle.std.specs.Prelude.{◌≡◌, ℕ, List, Some, map}
 use Rattle.dt_model.specs.Path.{Path}
 use Rattle.dt_model.specs.Meaning.{Meaning}
 use Rattle.dt_model.specs.Tree.{Reading, nodes_of}
-use Rattle.dt_laws.specs.InTurn.{IsOf}
+use Rattle.dt_laws.specs.Applying.{IsOf}
 use Rattle.dt_worlds.specs.declared.regions.Region.{Region}
 use Rattle.dt_worlds.specs.Answers.{Answer, Agrees}
 use Rattle.dt_worlds.specs.World.{World, tree_world, node_written, meaning_world}

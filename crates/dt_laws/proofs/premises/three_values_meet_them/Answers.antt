@@ -1,13 +1,12 @@
-use Rattle.std.proofs.Common.{rules}
 use Rattle.dt_model.specs.Rows.{three_values_sites}
-use Rattle.dt_laws.specs.Premises.{one_node_base, three_values_object, three_values_new}
-use Rattle.dt_laws.proofs.CheckedCases.{meet_them, object_applies}
+use Rattle.dt_laws.specs.Premises.{one_node_base, three_values_object}
+use Rattle.dt_laws.proofs.CheckedCases.{meet_them, object_defined}
 use Rattle.dt_laws.proofs.CheckedBases.{one_node_names, one_node_checked}
 use Rattle.dt_laws.proofs.CheckedExamples.{three_values_names, three_values_groups, three_values_checked, three_values_applicable}
 use Rattle.dt_laws.proofs.premises.three_values_meet_them.Goals as goal
 
 pub returns-clause-meet : goal.returns-clause-meet
-returns-clause-meet c = meet_them three_values_object three_values_names three_values_groups three_values_checked one_node_base one_node_names one_node_checked three_values_new (search rules)
+returns-clause-meet c = meet_them three_values_object three_values_names three_values_groups three_values_checked one_node_base one_node_names one_node_checked
 
-pub returns-clause-applies : goal.returns-clause-applies
-returns-clause-applies c = object_applies three_values_object three_values_names three_values_groups three_values_checked one_node_base three_values_sites three_values_applicable
+pub returns-clause-defined : goal.returns-clause-defined
+returns-clause-defined c = object_defined three_values_object three_values_names three_values_groups three_values_checked one_node_base three_values_sites three_values_applicable
