@@ -8,7 +8,7 @@ use Rattle.dt_names.specs.declared.fault.FaultKind.{FaultKind}
 use Rattle.dt_names.specs.declared.fault.FaultKind.TheVariants.{NoMemory, Limit}
 use Rattle.dt_joining.specs.InTurn.{IsApplied, AppliedIsOne}
 use Rattle.dt_landing.specs.Outcomes.{AppliedIsNotRefused, LimitIsExceeded, OneRefusal}
-use Rattle.dt_landing.specs.Refusals.{WhyNotApplied}
+use Rattle.dt_landing.specs.Refusals.{has_many, WhyNotApplied}
 use Rattle.dt_write.specs.Written.{written}
 use Rattle.dt_names.specs.Fault.{placeless}
 use Rattle.dt_chain.specs.Inputs as inputs
@@ -40,16 +40,16 @@ LacksOnce lacks = (input : List ℕ) (e f : Fault) → lacks input e → lacks i
 -- ---- why an object isn't applied
 
 abbrev Sorted : FaultKind → Reading → Reading → Type 0
-Sorted kind t object = (kind ≡ NoMemory) ⊎ ((kind ≡ Limit) × WhyNotApplied Limit t object) ⊎ ((kind ≢ NoMemory) × (kind ≢ Limit))
+Sorted kind t object = (kind ≡ NoMemory) ⊎ ((kind ≡ Limit) × WhyNotApplied has_many Limit t object) ⊎ ((kind ≢ NoMemory) × (kind ≢ Limit))
 
-sorted : (kind : FaultKind) (t object : Reading) → WhyNotApplied kind t object → Sorted kind t object
+sorted : (kind : FaultKind) (t object : Reading) → WhyNotApplied has_many kind t object → Sorted kind t object
 sorted NoMemory t object why = inl refl
 sorted Limit t object why = inr (inl (refl, why))
 sorted _ t object why = inr (inr ((λ e. cc), (λ e. cc)))
 
 -- one that is applied isn't refused, unless memory is wanted
 pub applied_not_refused : AppliedIsNotRefused → LimitIsExceeded → (t object next : Reading) (kind : FaultKind)
-    → IsFine t → IsValid object → IsStep t object next → WhyNotApplied kind t object → kind ≡ NoMemory
+    → IsFine t → IsValid object → IsStep t object next → WhyNotApplied has_many kind t object → kind ≡ NoMemory
 applied_not_refused not limit t object next kind fine valid step why = elim (sorted kind t object why) [
   | inl e ↦ e
   | inr (inl e) ↦ absurd (limit t object next fine.valid valid step.applied e.1 step.within)
@@ -127,7 +127,7 @@ module _ (has_base has_object : List ℕ → Reading → Type 0) where
     taken_not_refused t x _ fine taken (inputs.not_applied object kind h why) =
         let same : object ≡ taken.object = object_one x object taken.object h taken.of_input in
         applied_not_refused not limit t taken.object taken.next kind fine (object_fine x taken.object taken.of_input).valid taken.step
-        (subst (λ (o : Reading). WhyNotApplied kind t o) same why)
+        (subst (λ (o : Reading). WhyNotApplied has_many kind t o) same why)
 
     -- nor are inputs of which all are applied
     steps_not_stopped : (t : Reading) (xs : List (List ℕ)) (result : Reading) (k : ℕ) (e : Fault) → IsFine t
@@ -171,7 +171,7 @@ module _ (has_base has_object : List ℕ → Reading → Type 0) where
           step _ (inputs.no_object g other) w l = absurd (w (object_not x object g h other))
           step _ (inputs.not_applied object' kind' h' other) w l =
               let same : object' ≡ object = object_one x object' object h' h in
-              ap placeless (refusal t object kind kind' (object_fine x object h).valid why (subst (λ (o : Reading). WhyNotApplied kind' t o) same other) wanted w)
+              ap placeless (refusal t object kind kind' (object_fine x object h).valid why (subst (λ (o : Reading). WhyNotApplied has_many kind' t o) same other) wanted w)
 
       -- of two refusals after the first inputs neither comes first
       stops_once : (t : Reading) (front front' back back' : List (List ℕ)) (x x' : List ℕ) (before before' : Reading) (e f : Fault)

@@ -7,7 +7,7 @@ use Rattle.dt_model.specs.Limits.{most_bytes}
 use Rattle.dt_model.specs.Tree.{Reading}
 use Rattle.dt_model.specs.Valid.{IsValid, IsWithinLimits}
 use Rattle.dt_format.specs.Laws.{BlobHasNoFault}
-use Rattle.dt_landing.specs.Refusals.{WhyNotApplied}
+use Rattle.dt_landing.specs.Refusals.{has_many, WhyNotApplied}
 use Rattle.dt_grammar.specs.Grammar.{Says}
 use Rattle.dt_write.specs.Written.{written}
 use Rattle.dt_names.specs.Fault.{placeless}
@@ -29,7 +29,7 @@ not_read base objects fault (inl e) = subst (WhyNoBlobApplied base objects 0) (s
 not_read base objects fault (inr why) = no_base fault why
 
 -- an object that is read isn't applied for this reason
-pub read_not_applied : (t object : Reading) (input : List ℕ) (fault : Fault) → IsRead input object → (fault.at ≡ None) × WhyNotApplied fault.kind t object
+pub read_not_applied : (t object : Reading) (input : List ℕ) (fault : Fault) → IsRead input object → (fault.at ≡ None) × WhyNotApplied has_many fault.kind t object
     → WhyNoStep IsRead IsNoBlob t input fault
 read_not_applied t object input fault read why =
     subst (WhyNoStep IsRead IsNoBlob t input) (fault_is fault None why.0) (not_applied object fault.kind read why.1)

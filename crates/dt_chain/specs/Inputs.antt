@@ -8,7 +8,7 @@ use Rattle.dt_names.specs.declared.fault.FaultKind.{FaultKind}
 use Rattle.dt_names.specs.declared.fault.FaultKind.TheVariants.{NoMemory, Limit}
 use Rattle.dt_joining.specs.InTurn.{IsApplied}
 use Rattle.dt_landing.specs.Objects.{IsWellFormed}
-use Rattle.dt_landing.specs.Refusals.{WhyNotApplied}
+use Rattle.dt_landing.specs.Refusals.{has_many, WhyNotApplied}
 use Rattle.dt_write.specs.Written.{written}
 use Rattle.dt_names.specs.Fault.{placeless}
 
@@ -46,7 +46,7 @@ pub data WhyNoStep (has_object : List ℕ → Reading → Type 0) (lacks_object 
   -- the input has no object
   no_object : (e : Fault) → lacks_object input e → WhyNoStep has_object lacks_object t input e
   -- or it has one, which isn't applied
-  not_applied : (object : Reading) (kind : FaultKind) → has_object input object → WhyNotApplied kind t object →
+  not_applied : (object : Reading) (kind : FaultKind) → has_object input object → WhyNotApplied has_many kind t object →
       WhyNoStep has_object lacks_object t input (placeless kind)
 
 -- of the inputs, counted from 1, it is this one that isn't applied, where all before it are

@@ -10,7 +10,7 @@ ghost use Rattle.dt_chain.specs.Inputs.{IsStep, AreSteps, WhyNoStep, IsStopped};
 
 use dt_flat::FlatTree;
 use dt_names::Fault;
-use dt_overlay::apply;
+use dt_overlay::{apply, tree_room_is_counted};
 use dt_read::Blob;
 use dt_write::write_blob;
 use std::alloc::Global;
@@ -94,6 +94,7 @@ pub(crate) fn apply_one(alloc: Global, tree: &mut FlatTree, object: &[u8]) -> Re
     ensures applied { OnOk result ((t : Reading) × IsRead object.now t × IsStep (reading tree.old) t (reading tree.new)) }
     ensures refused { IfErr result (λ fault. WhyNoStep IsRead IsNoBlob (reading tree.old) object.now fault) }
 {
+    tree_room_is_counted();
     let object = Blob::check(object)?;
     apply(alloc, tree, &object)?;
     tree.validity();

@@ -1,13 +1,11 @@
 -- What is found after an application, for the law.
-use Rattle.std.proofs.Common.{◌≡◌, ◌≢◌, ◌⊎◌, ◌↔◌, ℕ, Bool, true, false, ◌||◌, List, [], ◌∷◌, codes, refl, sym, ap, ◌∙◌, subst, inl, inr, Option, Some, None, true≢false}
-use Rattle.std.specs.Prelude.{is_some, option_map, option_and_then, if◌then◌else◌}
+use Rattle.std.proofs.Common.{◌≡◌, ◌⊎◌, ℕ, Bool, true, false, ◌||◌, List, [], ◌∷◌, refl, sym, ap, ◌∙◌, subst, inl, inr, Option, Some, None, true≢false}
+use Rattle.std.specs.Prelude.{option_map, option_and_then, if◌then◌else◌}
 use Rattle.std.specs.List.{list_any}
 use Rattle.std.specs.Option.{option_or}
-use Rattle.std.specs.Str.{bytes_eq}
 use Rattle.dt_model.specs.Names.{Name}
 use Rattle.dt_model.specs.Path.{Path, path_value}
-use Rattle.dt_model.specs.Lists.{IsIn}
-use Rattle.dt_model.specs.Merged.{Site, landing, sources}
+use Rattle.dt_model.specs.Merged.{landing, sources}
 use Rattle.dt_model.specs.Object.{Cell, fragment_names}
 use Rattle.dt_model.specs.Tree.{Property, Reading, nodes_of, value_of, stands_in, value_in}
 use Rattle.dt_model.specs.Valid.{IsValid}
@@ -18,7 +16,7 @@ use Rattle.dt_laws.proofs.Landing.{stands-with_fragments}
 use Rattle.dt_laws.proofs.Lands.{source_of, landing_of}
 use Rattle.dt_laws.proofs.Symbols.{value_of-landed}
 use Rattle.dt_joining.specs.Found.{label_lands, symbols_path, IsFound, AppliedIsFound}
-use Rattle.dt_joining.specs.Walk.{Walked, nothing_walked, walk, new_numbers, may_land, applied, applied_by}
+use Rattle.dt_joining.specs.Walk.{Walked, nothing_walked, walk, new_numbers, may_land, applied_by}
 use Rattle.dt_joining.proofs.Lookups.{distinct, lands_plain, are_there, listed, listed_value, listed_distinct, value_at, stands_at, symbol_at, reservations_are, boot_cpu_is}
 
 module _ (base object : Reading) (fixups : List (Name × Cell)) (valid_base : IsValid base) (valid : IsValid object) (w : Walked)

@@ -1,17 +1,17 @@
 -- What look-ups find after an application, whoever wrote the two trees.
-use Rattle.std.proofs.Common.{◌≡◌, ◌≢◌, ℕ, Bool, true, false, not, ◌||◌, ◌&&◌, List, [], ◌∷◌, map, codes, refl, sym, ap, ◌∙◌, subst, Option, Some, None, true≢false}
+use Rattle.std.proofs.Common.{◌≡◌, ◌≢◌, ℕ, true, false, ◌||◌, List, [], ◌∷◌, map, codes, refl, sym, ap, ◌∙◌, subst, Option, Some, None, true≢false}
 use Rattle.std.specs.Prelude.{is_some, option_map, option_and_then}
 use Rattle.std.specs.Option.{option_or}
 use Rattle.std.specs.List.{list_any, list_all}
 use Rattle.dt_model.specs.Names.{Name}
 use Rattle.dt_model.specs.Path.{Path, path_value, is_bookkeeping}
 use Rattle.dt_model.specs.Lists.{IsIn, last_of}
-use Rattle.dt_model.specs.Merged.{Site, landing, sources}
+use Rattle.dt_model.specs.Merged.{landing, sources}
 use Rattle.dt_model.specs.Object.{Cell, fragment_names, properties_of}
 use Rattle.dt_model.specs.Tree.{Property, Reading, Node, Placed, value_of, root_of, node_at, nodes_of, stands_in, value_in}
 use Rattle.dt_model.specs.Valid.{AreDistinct, IsValid}
 use Rattle.dt_model.specs.Applied.{symbol, is_plain, node_named, writes, with_fragments, landed_symbols, applied_at}
-use Rattle.dt_model.proofs.Tests.{and_right, not_true, all_at, any_from}
+use Rattle.dt_model.proofs.Tests.{and_right, not_true, all_at}
 use Rattle.dt_model.proofs.Listed.{stands_listed, value_stands}
 use Rattle.dt_laws.proofs.Brought.{written_value, apart_below, root_apart}
 use Rattle.dt_laws.proofs.Landing.{AreThere, there_from, value-with_fragments, stands-with_fragments, reservations_stay, boot_cpu_stays}

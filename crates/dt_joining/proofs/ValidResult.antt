@@ -1,6 +1,6 @@
 -- The result of an application is a tree that a blob may hold, whoever wrote the two trees.
 use Rattle.std.proofs.Common.{◌≡◌, ◌≢◌, ℕ, ◌<◌, ◌≤◌, ◌^◌, Bool, true, false, List, [], ◌∷◌, codes, refl, sym, ap, subst, ◌∙◌, inl, inr, Option, Some, None, true≢false}
-use Rattle.std.specs.Prelude.{is_some, option_map, unwrap_or}
+use Rattle.std.specs.Prelude.{option_map, unwrap_or}
 use Rattle.std.specs.Option.{option_or}
 use Rattle.std.specs.List.{AllByRecursion, flat_map}
 use Rattle.std.specs.Int.{w32, from_be_bytes}
@@ -11,18 +11,18 @@ use Rattle.dt_model.specs.Lists.{IsIn, last_of}
 use Rattle.dt_model.specs.Meaning.{cell}
 use Rattle.dt_model.specs.Merged.{landing, sources}
 use Rattle.dt_model.specs.Object.{Cell, fragment_names}
-use Rattle.dt_model.specs.Numbers.{new_paths, number_in}
+use Rattle.dt_model.specs.Numbers.{number_in}
 use Rattle.dt_model.specs.Tree.{Reading, Placed, value_of, root_of, nodes_of, value_in}
 use Rattle.dt_model.specs.Valid.{AreDistinct, IsValid, IsWithinLimits, IsReservation, IsPhandle}
 use Rattle.dt_model.specs.Applied.{applied_at}
-use Rattle.dt_model.proofs.Tests.{each_from, path_eq_true, path_eq_refl}
+use Rattle.dt_model.proofs.Tests.{each_from, path_eq_true}
 use Rattle.dt_model.proofs.Listed.{listed_in, value_is_listed, value_stands}
 use Rattle.dt_model.proofs.Preorder.{paths_apart, phandle_list, all_phandles, own_phandle}
 use Rattle.dt_laws.proofs.Lands.{landing_of, last_from}
 use Rattle.dt_laws.proofs.KeptNames.{IsGoodNode}
 use Rattle.dt_laws.proofs.GoodResult.{result_good}
 use Rattle.dt_laws.proofs.Numbered.{small_number}
-use Rattle.dt_joining.specs.Walk.{Walked, nothing_walked, walk, number_there, new_numbers, may_land}
+use Rattle.dt_joining.specs.Walk.{Walked, nothing_walked, walk, new_numbers, may_land}
 use Rattle.dt_joining.proofs.Brought.{source_is_new}
 use Rattle.dt_joining.proofs.Lookups.{all, distinct, lands_plain, as_landed, value_at, symbol_at, reservations_are, boot_cpu_is}
 use Rattle.dt_joining.proofs.NewNumbers.{there_cases, given_range, given_unused, given_own, number_given}

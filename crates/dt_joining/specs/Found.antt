@@ -9,7 +9,7 @@ use Rattle.dt_model.specs.Path.{Path, path_value}
 use Rattle.dt_model.specs.Tree.{Reading, nodes_of, stands_in, value_in}
 use Rattle.dt_model.specs.Valid.{IsValid}
 use Rattle.dt_model.specs.Merged.{Site, landing, sources}
-use Rattle.dt_model.specs.Object.{Cell, HasFixups, fragment_names}
+use Rattle.dt_model.specs.Object.{Cell, fragment_names}
 use Rattle.dt_model.specs.Applied.{Write, writes, written, node_named}
 use Rattle.dt_model.specs.Numbers.{number_in}
 use Rattle.dt_joining.specs.InTurn.{IsApplied}

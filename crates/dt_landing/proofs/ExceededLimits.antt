@@ -20,6 +20,7 @@ use Rattle.dt_landing.specs.Outcomes.{LimitIsExceeded}
 use Rattle.dt_landing.proofs.Depths.{within_depth}
 use Rattle.dt_landing.proofs.LandedNodes.{symbols_are_merged}
 use Rattle.dt_landing.proofs.RefusedOutcomes.{LandsTooDeep, applied_with, applied_deep}
+use Rattle.dt_landing.proofs.Crowded.{crowded_over}
 use Rattle.dt_landing.proofs.SingleChanges.{child_kept, properties_kept}
 
 -- what stands goes on standing where symbols are merged
@@ -46,7 +47,8 @@ too_deep base object t fixups valid_base valid h within =
 pub limit_is_exceeded : LimitIsExceeded
 limit_is_exceeded base object t valid_base valid is (inl none) within =
     too_deep base object t none.fixups valid_base valid (applied_deep base object t Limit valid none (applied_with base object t none.fixups is none.listed)) within
-limit_is_exceeded base object t valid_base valid is (inr over) within =
+limit_is_exceeded base object t valid_base valid is (inr crowded) within =
+    let over = crowded_over base object crowded in
     let z : Some t ≡ Some over.result = sym (applied_with base object t over.applied.fixups is over.applied.listed) ∙ over.applied.is in
     let same : t ≡ over.result = cc in
     let few : 1 + node_count t.children ≤ most_nodes = within.count in

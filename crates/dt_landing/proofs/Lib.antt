@@ -1,3 +1,4 @@
+pub mod Crowded
 pub mod Depths
 pub mod ExceededLimits
 pub mod Landed

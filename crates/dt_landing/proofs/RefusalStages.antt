@@ -13,7 +13,7 @@ use Rattle.dt_laws.proofs.CellTexts.{one_fixups}
 use Rattle.dt_joining.specs.Walk.{nothing_walked}
 use Rattle.dt_landing.specs.Landings.{HasNoSite}
 use Rattle.dt_landing.specs.Objects.{HasTarget, HaveTargets, SymbolHasNumber, AreCellsOf, IsFixup, AreFixedUp, AreMirrors, IsSymbol, AreSymbols, fixups_in, symbols_in, IsWellFormed}
-use Rattle.dt_landing.specs.Refusals.{HasNoTarget, WhyNoFixup, HasNoFixup, HasNoMirror, HasNoSymbol, HasNoSites, IsOverfull, WhyNotApplied}
+use Rattle.dt_landing.specs.Refusals.{HasNoTarget, WhyNoFixup, HasNoFixup, HasNoMirror, HasNoSymbol, HasNoSites, IsCrowded, WhyNotApplied}
 use Rattle.dt_landing.proofs.Sited.{none_one}
 
 -- ---- the first property of `__fixups__` that gets no numbers
@@ -117,22 +117,22 @@ module _ (base object : Reading) where
   behind_all : (k : FaultKind) → HasNoSites k base object → AtTargets k
   behind_all k h = let w = h.well in inr (w.targets, inr (w.fixups, inr (w.mirror, inr h)))
 
-  -- memory and the number of nodes aside a refusal is at one of them
-  pub stage_of : (k : FaultKind) → WhyNotApplied k base object → k ≢ NoMemory → ((k ≡ Limit) × IsOverfull base object) ⊎ AtTargets k
-  stage_of NoMemory h memory = absurd (memory refl)
-  stage_of Limit (inl h) memory = inr (behind_all Limit h)
-  stage_of Limit (inr h) memory = inl (refl, h)
-  stage_of NoFragmentTarget h memory = inr (inl (refl, h))
-  stage_of BadFixup h memory = inr (inr (h.0, inl h.1))
-  stage_of NoSymbol h memory = inr (inr (h.0, inl h.1))
-  stage_of BadSymbol h memory = inr (elim h.1 [
+  -- memory and want of room aside a refusal is at one of them
+  pub stage_of : (full : Reading → Reading → Type 0) (k : FaultKind) → WhyNotApplied full k base object → k ≢ NoMemory → ((k ≡ Limit) × IsCrowded full base object) ⊎ AtTargets k
+  stage_of full NoMemory h memory = absurd (memory refl)
+  stage_of full Limit (inl h) memory = inr (behind_all Limit h)
+  stage_of full Limit (inr h) memory = inl (refl, h)
+  stage_of full NoFragmentTarget h memory = inr (inl (refl, h))
+  stage_of full BadFixup h memory = inr (inr (h.0, inl h.1))
+  stage_of full NoSymbol h memory = inr (inr (h.0, inl h.1))
+  stage_of full BadSymbol h memory = inr (elim h.1 [
     | inl first ↦ inr (h.0, inl first)
     | inr w ↦ inr (h.0, inr (w.0, inr (w.1, inl (refl, w.2))))
   ])
-  stage_of BadLocalFixup h memory = inr (inr (h.0, inr (h.1, inl (refl, h.2))))
-  stage_of NoTarget h memory = inr (behind_all NoTarget h)
-  stage_of ReservedPlace h memory = inr (behind_all ReservedPlace h)
-  stage_of _ h memory = absurd h
+  stage_of full BadLocalFixup h memory = inr (inr (h.0, inr (h.1, inl (refl, h.2))))
+  stage_of full NoTarget h memory = inr (behind_all NoTarget h)
+  stage_of full ReservedPlace h memory = inr (behind_all ReservedPlace h)
+  stage_of full _ h memory = absurd h
 
   -- what is passed isn't where it stops
   target_not : HasNoTarget object → HaveTargets object → ⊥

@@ -24,7 +24,7 @@ use Rattle.dt_joining.specs.Walk.{Walked, nothing_walked, landings, walk, new_nu
 use Rattle.dt_joining.proofs.Brought.{fragments_distinct, lands_below}
 use Rattle.dt_joining.proofs.Walks.{IsWalked, walked}
 use Rattle.dt_landing.specs.Outcomes.{RefusedIsUndefined, AppliedIsNotRefused, OneRefusal}
-use Rattle.dt_landing.specs.Refusals.{HasNoSites, IsOverfull}
+use Rattle.dt_landing.specs.Refusals.{HasNoSites, IsCrowded, has_many}
 use Rattle.dt_landing.proofs.Landed.{landing_stands}
 use Rattle.dt_landing.proofs.RefusalStages.{AtTargets, stage_of, stops_at_sites, one_at_targets}
 use Rattle.dt_landing.proofs.RefusedObjects.{well_formed}
@@ -95,7 +95,7 @@ applied_deep base object t k valid none is =
 
 pub refused_is_undefined : ApplyingIsMerging → RefusedIsUndefined
 refused_is_undefined merging base object m o number local kind sites are why memory limit defined =
-    at_sites (elim (stage_of base object kind why memory) [ inl over ↦ absurd (limit over.0) | inr stage ↦ stage ])
+    at_sites (elim (stage_of base object has_many kind why memory) [ inl over ↦ absurd (limit over.0) | inr stage ↦ stage ])
   where
     at_sites : AtTargets base object kind → ⊥
     at_sites stage = sited (stops_at_sites base object kind stage (well_formed base object m o number local sites are defined))
@@ -109,26 +109,26 @@ refused_is_undefined merging base object m o number local kind sites are why mem
 
 pub applied_is_not_refused : AppliedIsNotRefused
 applied_is_not_refused base object t kind valid is well why memory limit =
-    sited (stops_at_sites base object kind (elim (stage_of base object kind why memory) [ inl over ↦ absurd (limit over.0) | inr stage ↦ stage ]) well)
+    sited (stops_at_sites base object kind (elim (stage_of base object has_many kind why memory) [ inl over ↦ absurd (limit over.0) | inr stage ↦ stage ]) well)
   where
     sited : HasNoSites kind base object → ⊥
     sited none = limit (applied_deep base object t kind valid none (applied_with base object t none.fixups is none.listed)).limit
 
--- an object of which too much would come has sites, but for what is too deep
-overfull_limit : (base object : Reading) (kind : FaultKind) → IsValid object → IsOverfull base object → AtTargets base object kind → kind ≡ Limit
-overfull_limit base object kind valid over stage = sited (stops_at_sites base object kind stage over.well)
+-- an object for which there is no room has sites, but for what is too deep
+crowded_limit : (full : Reading → Reading → Type 0) (base object : Reading) (kind : FaultKind) → IsValid object → IsCrowded full base object → AtTargets base object kind → kind ≡ Limit
+crowded_limit full base object kind valid over stage = sited (stops_at_sites base object kind stage over.well)
   where
     sited : HasNoSites kind base object → kind ≡ Limit
     sited none = (applied_deep base object over.result kind valid none (applied_with base object over.result none.fixups over.applied none.listed)).limit
 
 pub one_refusal : OneRefusal
-one_refusal base object kind other valid why why' memory memory' = elim (stage_of base object kind why memory) [
-  | inl over ↦ elim (stage_of base object other why' memory') [
+one_refusal base object kind other valid why why' memory memory' = elim (stage_of base object has_many kind why memory) [
+  | inl over ↦ elim (stage_of base object has_many other why' memory') [
     | inl over' ↦ over.0 ∙ sym over'.0
-    | inr stage' ↦ over.0 ∙ sym (overfull_limit base object other valid over.1 stage')
+    | inr stage' ↦ over.0 ∙ sym (crowded_limit has_many base object other valid over.1 stage')
   ]
-  | inr stage ↦ elim (stage_of base object other why' memory') [
-    | inl over' ↦ overfull_limit base object kind valid over'.1 stage ∙ sym over'.0
+  | inr stage ↦ elim (stage_of base object has_many other why' memory') [
+    | inl over' ↦ crowded_limit has_many base object kind valid over'.1 stage ∙ sym over'.0
     | inr stage' ↦ one_at_targets base object kind other stage stage'
   ]
 ]

@@ -17,18 +17,18 @@ use Rattle.dt_joining.specs.Walk.{Walked, nothing_walked, walk, new_numbers, app
 use Rattle.dt_landing.specs.Landings.{AreSited}
 use Rattle.dt_landing.specs.Laws.{AreShallow}
 use Rattle.dt_landing.specs.Objects.{HasCells, IsWellFormed}
-use Rattle.dt_landing.specs.Refusals.{WhyNotApplied}
+use Rattle.dt_landing.specs.Refusals.{IsCrowded, has_many, IsOverfull, WhyNotApplied}
 use Rattle.dt_landing.specs.Steps.{MayLandFragments}
 
 -- memory and limits aside, an object of an overlay is refused only where the overlay can't be merged into the base's meaning
 abbrev pub RefusedIsUndefined : Type 0
 RefusedIsUndefined = (base object : Reading) (m : Meaning) (o : Overlay) (number local : Path → ℕ) (kind : FaultKind) (sites : List Site)
-    → AreOf base object m o number local → WhyNotApplied kind base object → kind ≢ NoMemory → kind ≢ Limit → IsDefined m o sites → ⊥
+    → AreOf base object m o number local → WhyNotApplied has_many kind base object → kind ≢ NoMemory → kind ≢ Limit → IsDefined m o sites → ⊥
 
 -- memory and limits aside, no object is applied and refused, where blobs may hold the trees
 abbrev pub AppliedIsNotRefused : Type 0
 AppliedIsNotRefused = (base object t : Reading) (kind : FaultKind)
-    → IsValid object → IsApplied base object t → IsWellFormed base object → WhyNotApplied kind base object → kind ≢ NoMemory → kind ≢ Limit → ⊥
+    → IsValid object → IsApplied base object t → IsWellFormed base object → WhyNotApplied has_many kind base object → kind ≢ NoMemory → kind ≢ Limit → ⊥
 
 -- the object has no fault: it is applied, and nothing but memory and the number of nodes is in the way of landing it
 pub record MayBeApplied (base object : Reading) (fixups : List (Name × Cell)) (w : Walked) : Type 0 where
@@ -45,13 +45,20 @@ SitedIsApplied = (base object : Reading) (fixups : List (Name × Cell)) (w : Wal
     → AreSited base object fixups nothing_walked (fragment_names object.children) w
     → MayBeApplied base object fixups w
 
--- a limit is told only where what would come of it exceeds it
+-- a limit is told only where what would come of it exceeds it, if the number of nodes tells what there is room for
 abbrev pub LimitIsExceeded : Type 0
-LimitIsExceeded = (base object t : Reading) → IsValid base → IsValid object → IsApplied base object t → WhyNotApplied Limit base object → IsWithinLimits t → ⊥
+LimitIsExceeded = (base object t : Reading) → IsValid base → IsValid object → IsApplied base object t → WhyNotApplied has_many Limit base object → IsWithinLimits t → ⊥
+
+-- ---- where the number of nodes tells what there is room for
+
+-- there is no room on the way exactly where what would come of the object has more than 65,536 nodes
+pub record RoomIsCounted : Type 0 where
+  pub over : (base object : Reading) → IsCrowded has_many base object → IsOverfull base object
+  pub crowded : (base object : Reading) → IsWithinLimits base → IsOverfull base object → IsCrowded has_many base object
 
 -- ---- one outcome
 
--- memory aside an object is refused for one reason
+-- memory aside an object is refused for one reason, if the number of nodes tells what there is room for
 abbrev pub OneRefusal : Type 0
-OneRefusal = (base object : Reading) (kind other : FaultKind) → IsValid object → WhyNotApplied kind base object → WhyNotApplied other base object
+OneRefusal = (base object : Reading) (kind other : FaultKind) → IsValid object → WhyNotApplied has_many kind base object → WhyNotApplied has_many other base object
     → kind ≢ NoMemory → other ≢ NoMemory → kind ≡ other

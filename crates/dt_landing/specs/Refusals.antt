@@ -1,5 +1,5 @@
 -- Why an object isn't applied.
-use Rattle.std.specs.Prelude.{◌≡◌, ◌≢◌, ℕ, ◌+◌, ◌<◌, ◌⊎◌, true, List, [], ◌∷◌, ◌++◌, None, codes}
+use Rattle.std.specs.Prelude.{◌≡◌, ◌≢◌, ℕ, ◌+◌, ◌<◌, ◌⊎◌, true, List, [], ◌∷◌, ◌++◌, None, Some, codes}
 use Rattle.std.specs.List.{AllByRecursion}
 use Rattle.dt_model.specs.Limits.{most_nodes}
 use Rattle.dt_model.specs.Names.{Name}
@@ -9,10 +9,11 @@ use Rattle.dt_model.specs.Tree.{Property, Reading, stands_in, value_in}
 use Rattle.dt_model.specs.Valid.{node_count}
 use Rattle.dt_model.specs.Object.{Cell, HasFixups, fragment_names}
 use Rattle.dt_joining.specs.InTurn.{IsApplied}
-use Rattle.dt_joining.specs.Walk.{nothing_walked}
+use Rattle.dt_joining.specs.Walk.{Walked, nothing_walked, walk, new_numbers}
 use Rattle.dt_names.specs.declared.fault.FaultKind.{FaultKind}
 use Rattle.dt_names.specs.declared.fault.FaultKind.TheVariants.{NoMemory, Limit, NoSymbol, BadSymbol, NoTarget, BadFixup, BadLocalFixup, NoFragmentTarget, ReservedPlace}
 use Rattle.dt_landing.specs.Landings.{HasNoSite}
+use Rattle.dt_landing.specs.Steps.{FullAtLanding}
 use Rattle.dt_landing.specs.Objects.{HasTarget, HaveTargets, AreCellsOf, SymbolHasNumber, IsFixup, AreFixedUp, IsMirror, AreMirrors, IsSymbol, fixups_in, symbols_in, IsWellFormed}
 
 -- ---- the faults of an object, in the order in which it is looked at
@@ -55,7 +56,23 @@ pub record HasNoSites (kind : FaultKind) (base object : Reading) : Type 0 where
   pub listed : HasFixups object fixups
   pub why : HasNoSite kind base object fixups nothing_walked (fragment_names object.children)
 
--- ---- too many nodes
+-- ---- no room
+
+-- The object is well formed, and its fragments have sites, but on the way to what would come of it there is a change for which there is no
+-- room: that which makes `next` of t, where `full t next`.
+pub record IsCrowded (full : Reading → Reading → Type 0) (base object : Reading) : Type 0 where
+  pub well : IsWellFormed base object
+  pub result : Reading
+  pub applied : IsApplied base object result
+  pub fixups : List (Name × Cell)
+  pub listed : HasFixups object fixups
+  pub end : Walked
+  pub walked : walk base object fixups nothing_walked (fragment_names object.children) ≡ Some end
+  pub change : FullAtLanding full base object fixups (new_numbers base object end) end.sites (symbols_in object)
+
+-- where what tells is the number of nodes alone
+abbrev pub has_many : Reading → Reading → Type 0
+has_many t next = most_nodes < 1 + node_count next.children
 
 -- the object is well formed, and its fragments have sites, but what would come of it has more than 65,536 nodes
 pub record IsOverfull (base object : Reading) : Type 0 where
@@ -66,17 +83,17 @@ pub record IsOverfull (base object : Reading) : Type 0 where
 
 -- ---- all of them
 
--- Why an object isn't applied to a base: memory may be refused at any time; or else this is its first fault, of which too many nodes
--- are the last.
-abbrev pub WhyNotApplied : FaultKind → Reading → Reading → Type 0
-WhyNotApplied NoMemory base object = Unit {0}
-WhyNotApplied NoFragmentTarget base object = HasNoTarget object
-WhyNotApplied BadFixup base object = HaveTargets object × HasNoFixup BadFixup base object
-WhyNotApplied NoSymbol base object = HaveTargets object × HasNoFixup NoSymbol base object
-WhyNotApplied BadSymbol base object =
+-- Why an object isn't applied to a base: memory may be refused at any time; or else this is its first fault, of which want of room is the
+-- last.
+abbrev pub WhyNotApplied : (Reading → Reading → Type 0) → FaultKind → Reading → Reading → Type 0
+WhyNotApplied full NoMemory base object = Unit {0}
+WhyNotApplied full NoFragmentTarget base object = HasNoTarget object
+WhyNotApplied full BadFixup base object = HaveTargets object × HasNoFixup BadFixup base object
+WhyNotApplied full NoSymbol base object = HaveTargets object × HasNoFixup NoSymbol base object
+WhyNotApplied full BadSymbol base object =
     HaveTargets object × (HasNoFixup BadSymbol base object ⊎ (AreFixedUp base object × AreMirrors object × HasNoSymbol object))
-WhyNotApplied BadLocalFixup base object = HaveTargets object × AreFixedUp base object × HasNoMirror object
-WhyNotApplied NoTarget base object = HasNoSites NoTarget base object
-WhyNotApplied ReservedPlace base object = HasNoSites ReservedPlace base object
-WhyNotApplied Limit base object = HasNoSites Limit base object ⊎ IsOverfull base object
-WhyNotApplied _ base object = ⊥
+WhyNotApplied full BadLocalFixup base object = HaveTargets object × AreFixedUp base object × HasNoMirror object
+WhyNotApplied full NoTarget base object = HasNoSites NoTarget base object
+WhyNotApplied full ReservedPlace base object = HasNoSites ReservedPlace base object
+WhyNotApplied full Limit base object = HasNoSites Limit base object ⊎ IsCrowded full base object
+WhyNotApplied full _ base object = ⊥

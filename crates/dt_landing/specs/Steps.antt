@@ -1,14 +1,15 @@
 -- Landing what an object's fragments bring, change by change.
-use Rattle.std.specs.Prelude.{◌≡◌, ℕ, ◌<◌, true, List, [], ◌∷◌, ◌++◌, length, Some, codes}
+use Rattle.std.specs.Prelude.{◌≡◌, ◌⊎◌, ℕ, ◌<◌, true, List, [], ◌∷◌, ◌++◌, length, Some, codes}
 use Rattle.dt_model.specs.Limits.{most_names}
 use Rattle.dt_model.specs.Names.{Name}
+use Rattle.dt_model.specs.Object.{Cell}
 use Rattle.dt_model.specs.Path.{Path}
 use Rattle.dt_model.specs.Tree.{Property, Forest, no_nodes, branch, Reading, Node, node_at, stands_in, value_in}
 use Rattle.dt_model.specs.Valid.{IsPhandle}
 use Rattle.dt_model.specs.Changes.{with_child_at, with_property_at}
 use Rattle.dt_model.specs.Overlay.{content}
 use Rattle.dt_model.specs.Merged.{Site}
-use Rattle.dt_model.specs.Applied.{Write, brought}
+use Rattle.dt_model.specs.Applied.{Write, brought, writes, landed_symbols}
 
 -- properties set in the node of a path, one after another
 abbrev pub land_properties : Path → List Property → Reading → Reading
@@ -59,3 +60,39 @@ MayLandFragments t object ws numbers (x ∷ sites) =
     (stands_in t x.at ≡ true)
     × MayLandNode x.at (brought ws numbers x.fragment (node_at object (content x.fragment))) t
     × MayLandFragments (land_node x.at (brought ws numbers x.fragment (node_at object (content x.fragment))) t) object ws numbers sites
+
+-- ---- a change on the way for which there is no room: that which makes `next` of t, where `full t next`
+
+abbrev pub FullAtProperties : (Reading → Reading → Type 0) → Path → List Property → Reading → Type 0
+FullAtProperties full q [] t = ⊥
+FullAtProperties full q (x ∷ xs) t = full t (with_property_at q x.name x.value t) ⊎ FullAtProperties full q xs (with_property_at q x.name x.value t)
+
+abbrev pub FullAtNodes : (Reading → Reading → Type 0) → Path → Forest → Reading → Type 0
+FullAtNodes full q no_nodes t = ⊥
+FullAtNodes full q (branch name properties children siblings) t =
+    full t (with_child_at q name t)
+    ⊎ (FullAtProperties full (q ++ name ∷ []) properties (with_child_at q name t)
+    ⊎ (FullAtNodes full (q ++ name ∷ []) children (land_properties (q ++ name ∷ []) properties (with_child_at q name t))
+    ⊎ FullAtNodes full q siblings (land_nodes (q ++ name ∷ []) children (land_properties (q ++ name ∷ []) properties (with_child_at q name t)))))
+
+abbrev pub FullAtNode : (Reading → Reading → Type 0) → Path → Node → Reading → Type 0
+FullAtNode full q n t = FullAtProperties full q n.properties t ⊎ FullAtNodes full q n.children (land_properties q n.properties t)
+
+abbrev pub FullAtFragments : (Reading → Reading → Type 0) → Reading → Reading → List Write → List (Path × ℕ) → List Site → Type 0
+FullAtFragments full t object ws numbers [] = ⊥
+FullAtFragments full t object ws numbers (x ∷ sites) =
+    FullAtNode full x.at (brought ws numbers x.fragment (node_at object (content x.fragment))) t
+    ⊎ FullAtFragments full (land_node x.at (brought ws numbers x.fragment (node_at object (content x.fragment))) t) object ws numbers sites
+
+-- labels, in the node that holds them
+abbrev pub FullAtSymbols : (Reading → Reading → Type 0) → List Property → Reading → Type 0
+FullAtSymbols full [] t = ⊥
+FullAtSymbols full (p ∷ ps) t =
+    full t (with_child_at [] (codes "__symbols__") t)
+    ⊎ FullAtProperties full (codes "__symbols__" ∷ []) (p ∷ ps) (with_child_at [] (codes "__symbols__") t)
+
+-- all that an object brings to its sites, by these numbers: what its fragments bring, and then the labels
+abbrev pub FullAtLanding : (Reading → Reading → Type 0) → Reading → Reading → List (Name × Cell) → List (Path × ℕ) → List Site → List Property → Type 0
+FullAtLanding full base object fixups numbers sites labels =
+    FullAtFragments full base object (writes base object fixups numbers) numbers sites
+    ⊎ FullAtSymbols full (landed_symbols object sites labels) (land_fragments base object (writes base object fixups numbers) numbers sites)

@@ -11,6 +11,7 @@ pub use landing::{
     places_are_kept, symbols_are_merged, symbols_are_plain,
 };
 pub use outcomes::{
-    applied_is_not_refused, limit_is_exceeded, one_refusal, refused_is_undefined, sited_is_applied,
+    applied_is_not_refused, limit_is_exceeded, one_refusal, refused_is_undefined, room_is_counted,
+    sited_is_applied,
 };
 pub use writing::cells_are_written;

@@ -1,6 +1,6 @@
 //! Why an object isn't applied, and what that says of the overlay.
 
-ghost use Rattle.dt_landing.specs.Outcomes.{RefusedIsUndefined, AppliedIsNotRefused, SitedIsApplied, LimitIsExceeded, OneRefusal};
+ghost use Rattle.dt_landing.specs.Outcomes.{RefusedIsUndefined, AppliedIsNotRefused, SitedIsApplied, LimitIsExceeded, RoomIsCounted, OneRefusal};
 
 use crate::landing::allowed_may_land;
 use dt_joining::applying_is_merging;
@@ -24,6 +24,12 @@ pub fn sited_is_applied()
 {
     allowed_may_land();
 }
+
+/// Where the number of nodes tells what there is room for, there is none on the way exactly where the tree that would come of the object
+/// has too many.
+pub fn room_is_counted()
+    ensures { RoomIsCounted }
+{}
 
 /// A limit is told only where the tree that would come of the object exceeds it.
 pub fn limit_is_exceeded()

@@ -1,12 +1,12 @@
 -- An overlay that can be merged at some sites, by tests.
-use Rattle.std.proofs.Common.{◌≡◌, Bool, true, false, not, ◌&&◌, List, [], Option, Some, None, is_some, sym, ap, ◌∙◌}
+use Rattle.std.proofs.Common.{◌≡◌, Bool, true, false, not, List, [], Option, Some, None, is_some, sym, ap, ◌∙◌}
 use Rattle.std.specs.List.{list_all}
 use Rattle.dt_model.specs.Names.{Name}
-use Rattle.dt_model.specs.Path.{Path, path_eq, is_bookkeeping}
+use Rattle.dt_model.specs.Path.{Path, is_bookkeeping}
 use Rattle.dt_model.specs.Meaning.{Meaning}
 use Rattle.dt_model.specs.Overlay.{OverlayReference, inside, outside, Overlay}
 use Rattle.dt_model.specs.Merged.{Site, landing, AreSites, IsGiven, IsDefined}
-use Rattle.dt_model.proofs.Tests.{not_true, all_at, and_both, path_eq_refl, path_eq_true}
+use Rattle.dt_model.proofs.Tests.{not_true, all_at}
 use Rattle.dt_laws.proofs.CheckedWords.{implies, implied}
 use Rattle.dt_laws.proofs.CheckedInstances.{IsWithin}
 use Rattle.dt_laws.proofs.CheckedReferences.{references_pass, each_reference}

@@ -1,7 +1,6 @@
 -- A base and an object that meet what is asked of them, by their tests.
-use Rattle.std.proofs.Common.{◌≡◌, ℕ, true, List, [], subst}
+use Rattle.std.proofs.Common.{◌≡◌, true, List, [], subst}
 use Rattle.dt_model.specs.Names.{Name}
-use Rattle.dt_model.specs.Path.{Path}
 use Rattle.dt_model.specs.Source.{base, SourceMeans}
 use Rattle.dt_model.specs.Numbers.{paths_of}
 use Rattle.dt_model.specs.Represents.{Represents}

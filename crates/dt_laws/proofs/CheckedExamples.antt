@@ -1,5 +1,5 @@
 -- The objects of the worked cases, which meet what is asked of them, and why one of them can't be merged into a base.
-use Rattle.std.proofs.Common.{◌≡◌, true, false, List, [], ◌∷◌, ◌++◌, Some, codes, refl, sym, subst, rules}
+use Rattle.std.proofs.Common.{◌≡◌, true, false, List, [], ◌∷◌, ◌++◌, codes, refl, rules}
 use Rattle.std.specs.Fmt.{digits}
 use Rattle.dt_model.specs.Names.{Name}
 use Rattle.dt_model.specs.Event.{age_by}

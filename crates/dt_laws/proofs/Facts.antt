@@ -1,15 +1,14 @@
 -- What a base, an object and the numbers of an application give.
-use Rattle.std.proofs.Common.{◌≡◌, ◌↔◌, ℕ, List, ◌∷◌, [], codes, subst, Some}
+use Rattle.std.proofs.Common.{◌≡◌, ◌↔◌, ℕ, List, ◌∷◌, [], codes, subst}
 use Rattle.std.specs.Prelude.{IsSome}
 use Rattle.dt_model.specs.Names.{Name}
 use Rattle.dt_model.specs.Path.{Path}
 use Rattle.dt_model.specs.Lists.{IsIn}
-use Rattle.dt_model.specs.Meaning.{cell, Meaning}
+use Rattle.dt_model.specs.Meaning.{Meaning}
 use Rattle.dt_model.specs.Overlay.{outside, Overlay}
 use Rattle.dt_model.specs.Merged.{Site, IsGiven, IsDefined}
 use Rattle.dt_model.specs.Object.{Cell, IsCellOf, HasFixups, properties_of}
-use Rattle.dt_model.specs.Numbers.{number_in}
-use Rattle.dt_model.specs.Tree.{Reading, node_at, value_in}
+use Rattle.dt_model.specs.Tree.{Reading, node_at}
 use Rattle.dt_laws.specs.Applying.{AreOf}
 use Rattle.dt_laws.proofs.CellTexts.{one_fixups}
 use Rattle.dt_laws.proofs.Inside.{each_at}

@@ -1,15 +1,13 @@
 -- The least free numbers: each path's own, small, and not taken before.
-use Rattle.std.proofs.Common.{◌≡◌, ◌≢◌, ℕ, suc, zero, ◌+◌, ◌≤◌, ◌<◌, Bool, true, false, ◌||◌, List, [], ◌∷◌, length, refl, sym, ap, ◌∙◌, inl, inr, subst, Option, Some, None, true≢false, arith}
-use Rattle.std.specs.Prelude.{nat_eq, if◌then◌else◌}
+use Rattle.std.proofs.Common.{◌≡◌, ℕ, suc, zero, ◌+◌, ◌≤◌, ◌<◌, Bool, true, false, ◌||◌, List, [], ◌∷◌, length, refl, sym, ap, ◌∙◌, inl, inr, subst, Some, None, true≢false, arith}
+use Rattle.std.specs.Prelude.{nat_eq}
 use Rattle.std.specs.List.{list_any}
 use Rattle.std.proofs.lemmas.Bool.Decides.{Decides-eqb}
 use Rattle.std.proofs.lemmas.Map.Steps.{le-length_from_below}
 use Rattle.dt_model.specs.Path.{Path, path_eq}
 use Rattle.dt_model.specs.Lists.{IsIn}
-use Rattle.dt_model.specs.Merged.{Site, landing}
 use Rattle.dt_model.specs.Numbers.{IsLeastFree, AreNumbers, number_in}
-use Rattle.dt_model.specs.Valid.{AreDistinct}
-use Rattle.dt_model.proofs.Tests.{path_eq_refl, path_eq_true, or_right, each_in}
+use Rattle.dt_model.proofs.Tests.{path_eq_true, or_right}
 
 -- where each number from 1 up to n is taken, as many are taken
 pub few_below : (taken : List ℕ) (n : ℕ) → ((k : ℕ) → 1 ≤ k → k < n → list_any (nat_eq k) taken ≡ true) → n ≤ length taken + 1

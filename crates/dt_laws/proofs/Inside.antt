@@ -1,5 +1,5 @@
 -- References of an overlay: which nodes they name, and what numbers they get.
-use Rattle.std.proofs.Common.{◌≡◌, ◌≢◌, ℕ, ◌≤◌, ◌+◌, true, false, List, [], ◌∷◌, codes, refl, sym, ap, ◌∙◌, inl, inr, subst, Option, Some}
+use Rattle.std.proofs.Common.{◌≡◌, ℕ, ◌+◌, true, false, List, [], ◌∷◌, codes, refl, sym, ap, ◌∙◌, inl, inr, subst, Option, Some}
 use Rattle.std.specs.Prelude.{unwrap_or}
 use Rattle.dt_model.specs.Names.{Name}
 use Rattle.dt_model.specs.Path.{Path, is_bookkeeping}

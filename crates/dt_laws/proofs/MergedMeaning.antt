@@ -1,5 +1,5 @@
 -- The merged meaning is a meaning.
-use Rattle.std.proofs.Common.{◌≡◌, true, false, ◌||◌, List, [], ◌∷◌, ◌++◌, map, codes, refl, sym, ap, ◌∙◌, inl, inr, subst, Option, Some, None, true≢false}
+use Rattle.std.proofs.Common.{◌≡◌, true, false, ◌||◌, List, [], ◌∷◌, map, codes, refl, sym, ap, ◌∙◌, inl, inr, subst, Option, Some, None, true≢false}
 use Rattle.std.specs.Prelude.{unwrap_or, IsSome, is_some}
 use Rattle.std.specs.List.{list_any}
 use Rattle.std.specs.Str.{bytes_eq}
@@ -7,8 +7,8 @@ use Rattle.dt_model.specs.Names.{Name, IsPropertyName, IsLabel}
 use Rattle.dt_model.specs.Path.{Path}
 use Rattle.dt_model.specs.Lists.{IsIn, last_of}
 use Rattle.dt_model.specs.Meaning.{Item, byte, reference, item_renamed, EachReference, AreBytes, Meaning, IsMeaning, IsPlain}
-use Rattle.dt_model.specs.Overlay.{OverlayReference, inside, outside, Target, at_reference, at_path, Fragment, Overlay, IsOverlay, IsBrought}
-use Rattle.dt_model.specs.Merged.{Site, landing, sources, merged, meant, IsGiven, IsDefined, AreSites, IsSite, Names}
+use Rattle.dt_model.specs.Overlay.{OverlayReference, inside, outside, Overlay, IsOverlay, IsBrought}
+use Rattle.dt_model.specs.Merged.{Site, landing, sources, merged, meant, IsGiven, IsDefined}
 use Rattle.dt_model.specs.Valid.{AreDistinct}
 use Rattle.dt_laws.specs.Merging.{MergedIsMeaning}
 use Rattle.dt_model.proofs.Tests.{or_cases, or_left, or_right, any_from, any_here}

@@ -9,21 +9,19 @@ use Rattle.std.proofs.lemmas.Bool.Decides.{Decides-eqb}
 use Rattle.dt_model.specs.Names.{Name}
 use Rattle.dt_model.specs.Path.{Path, below}
 use Rattle.dt_model.specs.Lists.{IsIn}
-use Rattle.dt_model.specs.Meaning.{cell, Meaning, IsMeaning, IsPlain}
+use Rattle.dt_model.specs.Meaning.{cell}
 use Rattle.dt_model.specs.Overlay.{inside, Fragment, Overlay, IsOverlay, content, IsBrought}
 use Rattle.dt_model.specs.Object.{fragment_names, Encodes}
-use Rattle.dt_model.specs.Represents.{Represents}
-use Rattle.dt_model.specs.Numbers.{numbers_of, is_brought, needs_number, new_paths, number_in}
+use Rattle.dt_model.specs.Numbers.{numbers_of, is_brought, needs_number, new_paths}
 use Rattle.dt_model.specs.Tree.{Reading, Placed, value_of, nodes_of, value_in}
-use Rattle.dt_model.specs.Valid.{AreDistinct, IsValid, IsWithinLimits, phandle_values, phandles}
+use Rattle.dt_model.specs.Valid.{IsValid, IsWithinLimits, phandle_values, phandles}
 use Rattle.dt_model.proofs.Tests.{and_left, and_right, and_both, any_here, any_from, in_map, in_map_from, in_filter, filter_in}
-use Rattle.dt_model.proofs.Distinct.{in_flat, distinct_filter}
+use Rattle.dt_model.proofs.Distinct.{in_flat}
 use Rattle.dt_laws.proofs.Lands.{below-append, append-below}
 use Rattle.dt_model.proofs.Listed.{listed_value, value_listed}
-use Rattle.dt_model.proofs.Preorder.{paths_distinct, phandle_list, all_phandles, value_in_list, length-preorder, length-flat}
+use Rattle.dt_model.proofs.Preorder.{phandle_list, all_phandles, value_in_list, length-preorder, length-flat}
 use Rattle.dt_laws.proofs.Inside.{IsInside, plain_brought}
-use Rattle.dt_laws.proofs.Given.{phandle_of, object_phandle}
-use Rattle.dt_laws.proofs.Fresh.{number_is_free, own_number, number_low}
+use Rattle.dt_laws.proofs.Given.{object_phandle}
 
 length-filter_le : {X : Type 0} (test : X → Bool) (xs : List X) → length (filter test xs) ≤ length xs
 length-filter_le test [] = omega arith

@@ -7,7 +7,7 @@ use Rattle.dt_model.specs.Names.{Name}
 use Rattle.dt_model.specs.Path.{Path, path_eq, is_bookkeeping}
 use Rattle.dt_model.specs.Lists.{IsIn}
 use Rattle.dt_model.specs.Meaning.{Item, byte, reference, cell, value_bytes, EachReference, Meaning, IsMeaning, IsPlain}
-use Rattle.dt_model.specs.Overlay.{object_number, OverlayReference, inside, outside, at_reference, Fragment, Overlay, IsOverlay, HoldsTarget}
+use Rattle.dt_model.specs.Overlay.{object_number, OverlayReference, inside, outside, Overlay, IsOverlay}
 use Rattle.dt_model.specs.Object.{Cell, references_from, IsCellOf, local_cells, Encodes}
 use Rattle.dt_model.specs.Represents.{Represents}
 use Rattle.dt_model.specs.Numbers.{number_in}
@@ -16,7 +16,7 @@ use Rattle.dt_model.specs.Valid.{IsValid}
 use Rattle.dt_model.specs.Applied.{number_at, node_numbered, Write, local_write, label_write, writes, is_at, written, symbol}
 use Rattle.dt_model.proofs.Tests.{bytes_eq_true, bytes_eq_refl, path_eq_refl, path_eq_true, and_left, and_right, and_both}
 use Rattle.dt_laws.proofs.Cells.{bytes_from, plain_bytes, offset_from, IsSound, IsWritten, all_cells}
-use Rattle.dt_laws.proofs.Inside.{IsInside, final_number, each_at, plain_brought, plain_fragment, target_inside}
+use Rattle.dt_laws.proofs.Inside.{IsInside, final_number, each_at, plain_brought}
 use Rattle.dt_model.proofs.Finding.{node_of_number}
 use Rattle.dt_laws.proofs.Given.{phandle_of, symbol_is, object_items, object_phandle}
 use Rattle.dt_laws.proofs.Numbered.{small_number}

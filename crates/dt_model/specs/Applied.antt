@@ -1,6 +1,5 @@
 -- Applying an object to a tree: in bytes and numbers alone, whatever the two mean (dtc's notes on overlay objects).
-use Rattle.std.specs.Prelude.{ℕ, ◌+◌, Bool, true, false, ◌&&◌, not, List, [], ◌∷◌, ◌++◌, take, drop, map, Option, Some, None, is_some, is_none, option_map, option_and_then, unwrap_or, if◌then◌else◌, nat_eq, codes}
-use Rattle.std.specs.List.{list_all}
+use Rattle.std.specs.Prelude.{ℕ, ◌+◌, Bool, true, false, ◌&&◌, not, List, [], ◌∷◌, ◌++◌, take, drop, map, Option, Some, None, option_and_then, unwrap_or, if◌then◌else◌, codes}
 use Rattle.std.specs.Option.{option_or}
 use Rattle.std.specs.Int.{w32, from_be_bytes}
 use Rattle.std.specs.Str.{bytes_eq}
@@ -9,7 +8,7 @@ use Rattle.dt_model.specs.Path.{Path, path_eq, path_value, is_bookkeeping}
 use Rattle.dt_model.specs.Meaning.{cell}
 use Rattle.dt_model.specs.Overlay.{content}
 use Rattle.dt_model.specs.Merged.{Site, landing}
-use Rattle.dt_model.specs.Object.{Cell, local_cells, fragment_names, properties_of}
+use Rattle.dt_model.specs.Object.{Cell, local_cells, properties_of}
 use Rattle.dt_model.specs.Numbers.{number_in}
 use Rattle.dt_model.specs.Tree.{Property, Forest, no_nodes, branch, Reading, Node, Placed, value_of, node_at, value_in, nodes_of}
 use Rattle.dt_model.specs.Changes.{merged_node, changed_at}

@@ -1,12 +1,10 @@
 -- The numbers that an application gives to the nodes that an object brings.
-use Rattle.std.specs.Prelude.{◌≡◌, ℕ, ◌≤◌, ◌<◌, Bool, true, false, ◌&&◌, List, [], ◌∷◌, ◌++◌, map, Option, Some, None, is_some, unwrap_or, if◌then◌else◌, nat_eq, codes}
+use Rattle.std.specs.Prelude.{◌≡◌, ℕ, ◌≤◌, ◌<◌, Bool, true, false, ◌&&◌, List, [], ◌∷◌, ◌++◌, map, Option, Some, None, is_some, if◌then◌else◌, nat_eq, codes}
 use Rattle.std.specs.List.{list_any, filter}
 use Rattle.std.specs.Int.{w32, from_be_bytes}
 use Rattle.dt_model.specs.Names.{Name}
 use Rattle.dt_model.specs.Path.{Path, path_eq, below}
-use Rattle.dt_model.specs.Lists.{last_of}
 use Rattle.dt_model.specs.Overlay.{content}
-use Rattle.dt_model.specs.Merged.{Site, sources}
 use Rattle.dt_model.specs.Object.{fragment_names}
 use Rattle.dt_model.specs.Tree.{Reading, Placed, value_of, nodes_of}
 use Rattle.dt_model.specs.Valid.{phandle_values, phandles}

@@ -1,5 +1,5 @@
 -- What the fragments bring lands by the numbers of nodes as it does by their paths.
-use Rattle.std.proofs.Common.{◌≡◌, ℕ, ◌<◌, List, [], ◌∷◌, length, map, Option, Some, None, refl, sym, ap, subst, ◌∙◌}
+use Rattle.std.proofs.Common.{◌≡◌, ℕ, ◌<◌, List, [], ◌∷◌, length, map, Option, Some, None, refl, sym, ap, subst, ◌∙◌, inl, inr}
 use Rattle.std.specs.Prelude.{unwrap_or}
 use Rattle.std.specs.List.{AllByRecursion}
 use Rattle.dt_model.specs.Names.{Name}
@@ -11,12 +11,12 @@ use Rattle.dt_model.specs.Object.{fragment_names}
 use Rattle.dt_model.specs.Applied.{Write, brought}
 use Rattle.dt_flat.specs.Arena.{Arena, Slot, IsRooted, node_from, reading}
 use Rattle.dt_flat.proofs.Descent.{path-within}
-use Rattle.dt_landing.specs.Steps.{land_node, land_fragments, MayLandNode, MayLandFragments}
+use Rattle.dt_landing.specs.Steps.{land_node, land_fragments, MayLandNode, MayLandFragments, FullAtNode, FullAtFragments}
 use Rattle.dt_landing.specs.Writing.{with_cells, landed}
 use Rattle.dt_landing.proofs.WrittenCells.{landed_is_brought}
 use Rattle.dt_overlay.specs.declared.fragments.Fragment.{Fragment}
 use Rattle.dt_overlay.specs.declared.numbers.Brought.{Brought}
-use Rattle.dt_overlay.specs.Landed.{landed_at, land_each, MayLandEach}
+use Rattle.dt_overlay.specs.Landed.{landed_at, land_each, MayLandEach, FullAtEach}
 use Rattle.dt_overlay.specs.Plans.{AreFragmentsOf, AreBrought, IsReady}
 use Rattle.dt_overlay.proofs.LandingEach.{contents}
 use Rattle.dt_overlay.proofs.WritesLanded.{AreNumberedByPath, landed_by_path}
@@ -79,6 +79,17 @@ module _ (object : Reading) (ws : List Write) (numbers : List (Path × ℕ)) (tr
             (subst (λ (n : Node). MayLandFragments (land_node y.at n t) object ws numbers found) same may.2),
       )
 
+  -- where there is no room on the way of the ones, there is none on that of the others
+  each-stuck : (full : Reading → Reading → Type 0) (fragments : List Fragment) (found : List Site) → AreFragmentsOf tree.slots object fragments (site_names found) → (t : Reading)
+      → FullAtEach full new tree.slots (contents fragments) (site_paths found) t → FullAtFragments full t object ws numbers found
+  each-stuck full [] [] h t stuck = absurd stuck
+  each-stuck full [] (y ∷ found) h t stuck = absurd h
+  each-stuck full (x ∷ xs) [] h t stuck = absurd h
+  each-stuck full (x ∷ xs) (y ∷ found) h t (inl stuck) = inl (subst (λ (n : Node). FullAtNode full y.at n t) (content-landed y.fragment x.content h.0.content) stuck)
+  each-stuck full (x ∷ xs) (y ∷ found) h t (inr stuck) =
+      inr (subst (λ (n : Node). FullAtFragments full (land_node y.at n t) object ws numbers found) (content-landed y.fragment x.content h.0.content)
+      (each-stuck full xs found h.1 (land_node y.at (landed_at new tree.slots x.content) t) stuck))
+
 module _ (object : Reading) (ws : List Write) (numbers : List (Path × ℕ)) (tree : Arena) (fragments : List Fragment) (b : Brought) (ready : IsReady object ws numbers tree fragments b)
     (rooted : IsRooted tree.slots) (paths : EachHasPath tree.slots) (found : List Site) (named : map (λ (x : Site). x.fragment) found ≡ fragment_names object.children) where
   listed-by-site : AreFragmentsOf tree.slots object fragments (site_names found)
@@ -93,3 +104,8 @@ module _ (object : Reading) (ws : List Write) (numbers : List (Path × ℕ)) (tr
   pub each_may_land : (t : Reading) → MayLandFragments t object ws numbers found → MayLandEach b.numbers.items tree.slots (map (λ (x : Fragment). x.content) fragments) (map (λ (x : Site). x.at) found) t
   each_may_land t may =
       each-may object ws numbers tree b.numbers.items rooted paths (brought_by_path tree.slots (fragment_names object.children) numbers b ready.brought) ready.written fragments found listed-by-site t may
+
+  pub each_stuck : (full : Reading → Reading → Type 0) (t : Reading) → FullAtEach full b.numbers.items tree.slots (map (λ (x : Fragment). x.content) fragments) (map (λ (x : Site). x.at) found) t
+      → FullAtFragments full t object ws numbers found
+  each_stuck full t stuck =
+      each-stuck object ws numbers tree b.numbers.items rooted paths (brought_by_path tree.slots (fragment_names object.children) numbers b ready.brought) ready.written full fragments found listed-by-site t stuck

@@ -1,43 +1,34 @@
 -- Landing an object whose fragments have sites is applying it.
-use Rattle.std.proofs.Common.{◌≡◌, ℕ, ◌+◌, ◌<◌, ◌≤◌, List, [], ◌∷◌, map, length, sym, ap, subst, ◌∙◌, inl, inr, ◌⊎◌, Option, None, codes, arith}
+use Rattle.std.proofs.Common.{◌≡◌, ℕ, ◌<◌, List, map, length, sym, ap, subst, ◌∙◌, inl, inr, Option}
 use Rattle.std.specs.List.{AllByRecursion}
-use Rattle.dt_model.specs.Limits.{most_nodes}
 use Rattle.dt_model.specs.Path.{Path}
-use Rattle.dt_model.specs.Tree.{Property, Reading, no_nodes, branch}
-use Rattle.dt_model.specs.Valid.{IsValid, IsWithinLimits, node_count}
-use Rattle.dt_model.specs.Changes.{with_child_at}
+use Rattle.dt_model.specs.Tree.{Reading}
+use Rattle.dt_model.specs.Valid.{IsValid, IsWithinLimits}
 use Rattle.dt_model.specs.Merged.{Site}
 use Rattle.dt_model.specs.Object.{fragment_names}
 use Rattle.dt_model.specs.Applied.{Write, writes, with_fragments, with_symbols_merged, landed_symbols, applied_at}
 use Rattle.dt_names.specs.declared.fault.Fault.{Fault}
-use Rattle.dt_names.specs.declared.fault.FaultKind.TheVariants.{NoMemory, Limit}
 use Rattle.dt_joining.specs.InTurn.{IsApplied}
 use Rattle.dt_joining.specs.Walk.{new_numbers}
 use Rattle.dt_joining.proofs.Walks.{walked}
 use Rattle.dt_flat.specs.Arena.{Arena, IsRooted}
-use Rattle.dt_landing.specs.Laws.{FragmentsAreMerged, SymbolsAreMerged, NodesAreKept}
+use Rattle.dt_landing.specs.Laws.{FragmentsAreMerged}
 use Rattle.dt_landing.specs.Objects.{HasCells, symbols_in}
 use Rattle.dt_landing.specs.Outcomes.{MayBeApplied, SitedIsApplied}
-use Rattle.dt_landing.specs.Refusals.{IsOverfull}
+use Rattle.dt_landing.specs.Refusals.{IsCrowded}
+use Rattle.dt_landing.specs.Steps.{FullAtLanding, FullAtSymbols}
 use Rattle.dt_overlay.specs.declared.applying.Plan.{Plan}
 use Rattle.dt_overlay.specs.declared.fragments.Fragment.{Fragment}
 use Rattle.dt_overlay.specs.declared.numbers.Brought.{Brought}
 use Rattle.dt_overlay.specs.Applying.{IsWrittenAs}
-use Rattle.dt_overlay.specs.Landed.{land_each, MayLandEach}
+use Rattle.dt_overlay.specs.Landed.{land_each, MayLandEach, FullAtEach}
 use Rattle.dt_overlay.specs.SymbolLanding.{AreToLand}
-use Rattle.dt_overlay.proofs.CarriedLandings.{contents_there, each_is_fragments, each_may_land}
+use Rattle.dt_overlay.proofs.CarriedLandings.{contents_there, each_is_fragments, each_may_land, each_stuck}
+use Rattle.dt_overlay.specs.Targets.{IsWant}
+use Rattle.dt_overlay.proofs.LandingNodes.{want_whole}
 use Rattle.dt_overlay.proofs.WritesPaths.{EachHasPath}
 
-module _ (law : SitedIsApplied) (kept : NodesAreKept) (merge : FragmentsAreMerged) (set : SymbolsAreMerged) where
-  -- symbols take no nodes away
-  symbols_add : (ps : List Property) (t : Reading) → node_count t.children ≤ node_count (with_symbols_merged ps t).children
-  symbols_add [] t = omega arith
-  symbols_add (x ∷ xs) t =
-      let u : Reading = with_child_at [] (codes "__symbols__") t in
-      let more : node_count t.children ≤ node_count u.children = (kept [] (branch (codes "__symbols__") [] no_nodes no_nodes) [] t).0 in
-      let same = (kept (codes "__symbols__" ∷ []) no_nodes (x ∷ xs) u).1 in
-      subst (λ (v : Reading). node_count t.children ≤ node_count v.children) (set x xs t) (omega (arith, more, same))
-
+module _ (full : Reading → Reading → Type 0) (law : SitedIsApplied) (merge : FragmentsAreMerged) where
   module _ (base object : Reading) (tree : Arena) (b : Brought) (p : Plan) (s : IsWrittenAs base object tree b p) (valid_base : IsValid base) (few_base : IsWithinLimits base) (cells : HasCells base)
       (rooted : IsRooted tree.slots) (paths : EachHasPath tree.slots) where
     abbrev numbers_of_nodes : List (Path × ℕ)
@@ -97,23 +88,28 @@ module _ (law : SitedIsApplied) (kept : NodesAreKept) (merge : FragmentsAreMerge
     carried t u e h =
         subst (λ (v : Reading). IsApplied base object v) (sym (h ∙ ap (with_symbols_merged (landed_symbols object s.end.sites (symbols_in object))) (e ∙ landed_is))) whole_applied
 
-    -- too many nodes on the way are too many in the end
-    pub overfull_landing : most_nodes < 1 + node_count (land_each b.numbers.items tree.slots (map (λ (x : Fragment). x.content) p.fragments.items) p.sites.items base).children
-        → IsOverfull base object
-    overfull_landing many =
-        let more : node_count after.children ≤ node_count whole.children =
-        subst (λ (v : Reading). node_count v.children ≤ node_count whole.children) (sym landed_is)
-        (symbols_add (landed_symbols object s.end.sites (symbols_in object)) (with_fragments base object ws numbers_of_nodes s.end.sites)) in
-        record { well = s.well; result = whole; applied = whole_applied; many = omega (arith, many, more) }
-
-    pub overfull_symbols : (t : Reading) → t ≡ land_each b.numbers.items tree.slots (map (λ (x : Fragment). x.content) p.fragments.items) p.sites.items base
-        → most_nodes < 1 + node_count (with_symbols_merged (landed_symbols object s.end.sites (symbols_in object)) t).children → IsOverfull base object
-    overfull_symbols t e many = record {
+    -- want of room on the way
+    crowded : FullAtLanding full base object s.fixups numbers_of_nodes s.end.sites (symbols_in object) → IsCrowded full base object
+    crowded change = record {
       well = s.well;
       result = whole;
       applied = whole_applied;
-      many = subst (λ (v : Reading). most_nodes < 1 + node_count (with_symbols_merged (landed_symbols object s.end.sites (symbols_in object)) v).children) (e ∙ landed_is) many;
+      fixups = s.fixups;
+      listed = s.listed;
+      end = s.end;
+      walked = passed.walked;
+      change = change;
     }
+
+    pub crowded_landing : FullAtEach full b.numbers.items tree.slots (map (λ (x : Fragment). x.content) p.fragments.items) p.sites.items base → IsCrowded full base object
+    crowded_landing stuck =
+        crowded (inl (each_stuck object ws numbers_of_nodes tree p.fragments.items b s.ready rooted paths s.end.sites named full base
+        (subst (λ (qs : List Path). FullAtEach full b.numbers.items tree.slots contents qs base) s.sites stuck)))
+
+    pub crowded_symbols : (t : Reading) → t ≡ land_each b.numbers.items tree.slots (map (λ (x : Fragment). x.content) p.fragments.items) p.sites.items base
+        → FullAtSymbols full (landed_symbols object s.end.sites (symbols_in object)) t → IsCrowded full base object
+    crowded_symbols t e stuck =
+        crowded (inr (subst (FullAtSymbols full (landed_symbols object s.end.sites (symbols_in object))) (e ∙ landed_is ∙ sym (merge base object ws numbers_of_nodes s.end.sites)) stuck))
 
     -- the same of lists that are these
     module _ (numbers : List (Option ℕ)) (fragments : List Fragment) (sites : List Path) (of_numbers : numbers ≡ b.numbers.items) (of_fragments : fragments ≡ p.fragments.items)
@@ -131,19 +127,19 @@ module _ (law : SitedIsApplied) (kept : NodesAreKept) (merge : FragmentsAreMerge
           (subst (λ (qs : List Path). MayLandEach b.numbers.items tree.slots contents qs base) (sym of_sites) may_land))
 
       -- a fault while the fragments land
-      pub told_landing : (e : Fault) → (e.at ≡ None) × ((e.kind ≡ NoMemory) ⊎ ((e.kind ≡ Limit)
-          × (most_nodes < 1 + node_count (land_each numbers tree.slots (map (λ (x : Fragment). x.content) fragments) sites base).children)))
-          → (e.at ≡ None) × ((e.kind ≡ NoMemory) ⊎ ((e.kind ≡ Limit) × IsOverfull base object))
-      told_landing e (at, inl k) = (at, inl k)
-      told_landing e (at, inr (k, many)) = (at, inr (k, overfull_landing (subst (λ (v : Reading). most_nodes < 1 + node_count v.children) as_listed many)))
+      pub told_landing : (e : Fault) → IsWant (FullAtEach full numbers tree.slots (map (λ (x : Fragment). x.content) fragments) sites base) e → IsWant (IsCrowded full base object) e
+      told_landing e want = want_whole (FullAtEach full numbers tree.slots (map (λ (x : Fragment). x.content) fragments) sites base) (IsCrowded full base object) e (λ stuck. crowded_landing (these_stuck stuck)) want
+        where
+          these_stuck : FullAtEach full numbers tree.slots (map (λ (x : Fragment). x.content) fragments) sites base → FullAtEach full b.numbers.items tree.slots contents p.sites.items base
+          these_stuck h =
+              subst (λ (qs : List Path). FullAtEach full b.numbers.items tree.slots contents qs base) of_sites
+              (subst (λ (fs : List Fragment). FullAtEach full b.numbers.items tree.slots (map (λ (x : Fragment). x.content) fs) sites base) of_fragments
+              (subst (λ (ns : List (Option ℕ)). FullAtEach full ns tree.slots (map (λ (x : Fragment). x.content) fragments) sites base) of_numbers h))
 
       -- a fault while the labels are set
       pub told_symbols : (t : Reading) → t ≡ land_each numbers tree.slots (map (λ (x : Fragment). x.content) fragments) sites base
-          → (e : Fault) → (e.at ≡ None) × ((e.kind ≡ NoMemory) ⊎ ((e.kind ≡ Limit)
-          × (most_nodes < 1 + node_count (with_symbols_merged (landed_symbols object s.end.sites (symbols_in object)) t).children)))
-          → (e.at ≡ None) × ((e.kind ≡ NoMemory) ⊎ ((e.kind ≡ Limit) × IsOverfull base object))
-      told_symbols t is e (at, inl k) = (at, inl k)
-      told_symbols t is e (at, inr (k, many)) = (at, inr (k, overfull_symbols t (is ∙ as_listed) many))
+          → (e : Fault) → IsWant (FullAtSymbols full (landed_symbols object s.end.sites (symbols_in object)) t) e → IsWant (IsCrowded full base object) e
+      told_symbols t is e want = want_whole (FullAtSymbols full (landed_symbols object s.end.sites (symbols_in object)) t) (IsCrowded full base object) e (crowded_symbols t (is ∙ as_listed)) want
 
       pub all_carried : (t u : Reading) → t ≡ land_each numbers tree.slots (map (λ (x : Fragment). x.content) fragments) sites base
           → u ≡ with_symbols_merged (landed_symbols object s.end.sites (symbols_in object)) t → IsApplied base object u

@@ -8,7 +8,9 @@ use Rattle.dt_model.specs.Applied.{with_cell}
 use Rattle.dt_model.specs.Meaning.{cell}
 use Rattle.dt_model.specs.Names.{Name}
 use Rattle.dt_model.specs.Path.{Path}
+use Rattle.dt_model.specs.Changes.{with_child_at}
 use Rattle.dt_model.specs.Tree.{stands_in, value_of}
+use Rattle.dt_model.specs.Valid.{node_count}
 use Rattle.dt_names.specs.declared.fault.FaultKind.{FaultKind}
 use Rattle.dt_names.specs.declared.fault.FaultKind.TheVariants.{NoMemory, Limit, Duplicate, BlobPhandle}
 use Rattle.dt_flat.specs.Arena.{Arena, Slot, reading, properties, named_children, child_of, depth_of, node_from, phandle_at}
@@ -17,8 +19,9 @@ use Rattle.dt_flat.proofs.AfterChild.{properties-past}
 use Rattle.dt_flat.proofs.Counting.{nodes-counted}
 use Rattle.dt_flat.proofs.Descent.{path-length, path-same, path-further}
 use Rattle.dt_flat.proofs.Numbering.{whole_cell}
-use Rattle.dt_overlay.specs.FlatTargets.{IsPlaced}
-use Rattle.dt_overlay.specs.Targets.{MayAddAt, MaySetAt, WhyNotAddedAt, WhyNotSetAt}
+use Rattle.dt_landing.proofs.SingleChanges.{child_counted, property_counted}
+use Rattle.dt_overlay.specs.FlatTargets.{HasRoom, IsPlaced}
+use Rattle.dt_overlay.specs.Targets.{MayAddAt, MaySetAt, HasRoomAt, WhyNotAddedAt, WhyNotSetAt}
 use Rattle.dt_overlay.proofs.Reached.{stands-led, value-led, value-place, numbered-value, value-numbered}
 
 -- ---- a property
@@ -32,6 +35,10 @@ may_set-at a p i name value placed may = record {
       let same : at.0 ≡ i = may.own named at.0 (value-numbered a.slots at.0 value at.2 (may.valid named).four) in
       path-same a.slots q p 0 i placed.rooted (at.1 ∙ ap (λ (k : ℕ). Some k) same) placed.leads;
 }
+
+-- a property takes none
+pub room_at : (a : Arena) (p : Path) (name : Name) (value : List ℕ) → HasRoom a (reading a) → MaySetAt (reading a) p name value → HasRoomAt (HasRoom a) (reading a) p name value
+room_at a p name value few may = record { may = may; room = omega (arith, few, property_counted p name value (reading a)) }
 
 -- the value of a phandle that may be set is the cell of its number
 abbrev pub IsWhole : Name → List ℕ → Type 0
@@ -71,10 +78,10 @@ whole_patched a p i name value other offset number placed fits at there room = �
     whole ∙ ap cell (sym (ap (from_be_bytes w32) whole ∙ from_be_bytes-to_be_bytes_4 number fits))
 
 -- a refusal by number is one at the path
-pub why_not_set-at : (a : Arena) (p : Path) (i : ℕ) (name : Name) (value : List ℕ) (kind : FaultKind) → IsPlaced a p i → IsWhole name value → WhyNotSet kind a.slots i name value → WhyNotSetAt kind (reading a) p name value
-why_not_set-at a p i name value NoMemory placed whole why = may_set-at a p i name value placed why
-why_not_set-at a p i name value BlobPhandle placed whole why = λ may. why (may_set-by_number a p i name value placed whole may)
-why_not_set-at a p i name value _ placed whole why = absurd why
+pub why_not_set-at : (a : Arena) (p : Path) (i : ℕ) (name : Name) (value : List ℕ) (kind : FaultKind) → HasRoom a (reading a) → IsPlaced a p i → IsWhole name value → WhyNotSet kind a.slots i name value → WhyNotSetAt (HasRoom a) kind (reading a) p name value
+why_not_set-at a p i name value NoMemory few placed whole why = room_at a p name value few (may_set-at a p i name value placed why)
+why_not_set-at a p i name value BlobPhandle few placed whole why = λ may. why (may_set-by_number a p i name value placed whole may)
+why_not_set-at a p i name value _ few placed whole why = absurd why
 
 -- ---- a child
 
@@ -92,18 +99,23 @@ some-is : (o : Option ℕ) → IsSome o → is_some o ≡ true
 some-is None h = h
 some-is (Some x) h = refl
 
+-- a child that isn't there is one node more
+one-more : (a : Arena) (p : Path) (i : ℕ) (name : Name) → IsPlaced a p i → child_of (named_children a.slots i) name ≡ None → node_count (with_child_at p name (reading a)).children ≡ 1 + node_count (reading a).children
+one-more a p i name placed fresh = child_counted p name (reading a) (stands-led a p ∙ ap is_some placed.leads) (stands-further a p i name placed.leads ∙ ap is_some fresh)
+
 -- a child that may be added by number may be added at the path
-pub may_add-at : (a : Arena) (p : Path) (i : ℕ) (name : Name) → IsPlaced a p i → MayAdd a.slots i name → MayAddAt (reading a) p name
+pub may_add-at : (a : Arena) (p : Path) (i : ℕ) (name : Name) → IsPlaced a p i → MayAdd a.slots i name → MayAddAt (HasRoom a) (reading a) p name
 may_add-at a p i name placed may = record {
   fresh = stands-further a p i name placed.leads ∙ ap is_some may.fresh;
-  few = omega (arith, nodes-counted a placed.rooted, may.few);
+  room = omega (arith, nodes-counted a placed.rooted, may.few, one-more a p i name placed may.fresh);
   shallow = omega (arith, deep-as a p i placed, may.shallow);
 }
 
 -- a refusal by number is one at the path
-pub why_not_added-at : (a : Arena) (p : Path) (i : ℕ) (name : Name) (kind : FaultKind) → IsPlaced a p i → WhyNoNode kind a.slots i name → WhyNotAddedAt kind (reading a) p name
+pub why_not_added-at : (a : Arena) (p : Path) (i : ℕ) (name : Name) (kind : FaultKind) → IsPlaced a p i → WhyNoNode kind a.slots i name → WhyNotAddedAt (HasRoom a) kind (reading a) p name
 why_not_added-at a p i name NoMemory placed why = may_add-at a p i name placed why
 why_not_added-at a p i name Duplicate placed why = stands-further a p i name placed.leads ∙ some-is (child_of (named_children a.slots i) name) why
-why_not_added-at a p i name Limit placed (fresh, inl many) = (stands-further a p i name placed.leads ∙ ap is_some fresh, inl (omega (arith, nodes-counted a placed.rooted, many)))
+why_not_added-at a p i name Limit placed (fresh, inl many) =
+    (stands-further a p i name placed.leads ∙ ap is_some fresh, inl (λ room. omega (arith, nodes-counted a placed.rooted, many, room, one-more a p i name placed fresh)))
 why_not_added-at a p i name Limit placed (fresh, inr deep) = (stands-further a p i name placed.leads ∙ ap is_some fresh, inr (omega (arith, deep-as a p i placed, deep)))
 why_not_added-at a p i name _ placed why = absurd why

@@ -1,15 +1,13 @@
 -- What is left to land, as one node after another lands on its site.
-use Rattle.std.proofs.Common.{◌≡◌, ℕ, ◌<◌, ◌≤◌, List, [], ◌∷◌, length, map, Option, ◌⊎◌, inl, inr, ap, subst, arith}
+use Rattle.std.proofs.Common.{◌≡◌, ℕ, ◌<◌, List, [], ◌∷◌, length, map, Option, ◌⊎◌, inl, inr, sym, ap, subst}
 use Rattle.std.specs.Prelude.{true}
 use Rattle.std.specs.List.{AllByRecursion}
 use Rattle.dt_model.specs.Path.{Path}
 use Rattle.dt_model.specs.Tree.{Reading, stands_in}
-use Rattle.dt_model.specs.Valid.{node_count}
 use Rattle.dt_flat.specs.Arena.{Slot}
-use Rattle.dt_landing.specs.Steps.{land_node, MayLandNode}
+use Rattle.dt_landing.specs.Steps.{land_node, MayLandNode, FullAtNode}
 use Rattle.dt_overlay.specs.declared.fragments.Fragment.{Fragment}
-use Rattle.dt_overlay.specs.Landed.{landed_at, land_each, MayLandEach}
-use Rattle.dt_overlay.proofs.LandingNodes.{node_counts}
+use Rattle.dt_overlay.specs.Landed.{landed_at, land_each, MayLandEach, FullAtEach}
 
 -- what the fragments bring, by number
 abbrev pub contents : List Fragment → List ℕ
@@ -26,46 +24,48 @@ contents_over fragments sites (inl e) = inl (ap contents e)
 contents_over fragments sites (inr e) = inr e
 
 -- what is left does to the tree so far what all do to the first one
-pub record EachLeft (numbers : List (Option ℕ)) (slots : List Slot) (nodes : List ℕ) (sites : List Path) (t whole : Reading) : Type 0 where
+pub record EachLeft (full : Reading → Reading → Type 0) (numbers : List (Option ℕ)) (slots : List Slot) (nodes : List ℕ) (sites : List Path) (t whole : Reading) (crowded : Type 0) : Type 0 where
   pub lands : land_each numbers slots nodes sites t ≡ whole
   pub may : MayLandEach numbers slots nodes sites t
   pub there : AllByRecursion (λ k. k < length slots) nodes
-
--- no landing takes nodes away
-each_counts : (numbers : List (Option ℕ)) (slots : List Slot) (nodes : List ℕ) (sites : List Path) (t : Reading) → node_count t.children ≤ node_count (land_each numbers slots nodes sites t).children
-each_counts numbers slots [] sites t = omega arith
-each_counts numbers slots (k ∷ ks) [] t = omega arith
-each_counts numbers slots (k ∷ ks) (q ∷ sites) t =
-    let first = node_counts q (landed_at numbers slots k) t in
-    let rest = each_counts numbers slots ks sites (land_node q (landed_at numbers slots k) t) in
-    omega (arith, first, rest)
+  pub stuck : FullAtEach full numbers slots nodes sites t → crowded
 
 -- what is true of the first node that is left
-pub record IsNextLanding (numbers : List (Option ℕ)) (slots : List Slot) (k : ℕ) (q : Path) (t whole : Reading) : Type 0 where
+pub record IsNextLanding (full : Reading → Reading → Type 0) (numbers : List (Option ℕ)) (slots : List Slot) (k : ℕ) (q : Path) (t : Reading) (crowded : Type 0) : Type 0 where
   pub there : k < length slots
   pub stands : stands_in t q ≡ true
   pub may : MayLandNode q (landed_at numbers slots k) t
-  pub landed : node_count (land_node q (landed_at numbers slots k) t).children ≤ node_count whole.children
+  pub landed : FullAtNode full q (landed_at numbers slots k) t → crowded
 
-module _ (numbers : List (Option ℕ)) (slots : List Slot) (whole : Reading) where
+module _ (full : Reading → Reading → Type 0) (numbers : List (Option ℕ)) (slots : List Slot) (whole : Reading) (crowded : Type 0) where
+  abbrev Left : List ℕ → List Path → Reading → Type 0
+  Left nodes sites t = EachLeft full numbers slots nodes sites t whole crowded
+
   -- it lands as the first of both lists
-  left_first : (nodes ks : List ℕ) (k : ℕ) (sites qs : List Path) (q : Path) (t : Reading) → nodes ≡ k ∷ ks → sites ≡ q ∷ qs → EachLeft numbers slots nodes sites t whole → EachLeft numbers slots (k ∷ ks) (q ∷ qs) t whole
+  left_first : (nodes ks : List ℕ) (k : ℕ) (sites qs : List Path) (q : Path) (t : Reading) → nodes ≡ k ∷ ks → sites ≡ q ∷ qs → Left nodes sites t → Left (k ∷ ks) (q ∷ qs) t
   left_first nodes ks k sites qs q t e f so_far =
-      subst (λ (xs : List ℕ). EachLeft numbers slots xs (q ∷ qs) t whole) e (subst (λ (ys : List Path). EachLeft numbers slots nodes ys t whole) f so_far)
+      subst (λ (xs : List ℕ). Left xs (q ∷ qs) t) e (subst (λ (ys : List Path). Left nodes ys t) f so_far)
 
-  pub next_landing : (nodes ks : List ℕ) (k : ℕ) (sites qs : List Path) (q : Path) (t : Reading) → nodes ≡ k ∷ ks → sites ≡ q ∷ qs → EachLeft numbers slots nodes sites t whole → IsNextLanding numbers slots k q t whole
+  pub next_landing : (nodes ks : List ℕ) (k : ℕ) (sites qs : List Path) (q : Path) (t : Reading) → nodes ≡ k ∷ ks → sites ≡ q ∷ qs → Left nodes sites t → IsNextLanding full numbers slots k q t crowded
   next_landing nodes ks k sites qs q t e f so_far =
       let more = left_first nodes ks k sites qs q t e f so_far in
-      let t' = land_node q (landed_at numbers slots k) t in
       record {
         there = more.there.0;
         stands = more.may.0;
         may = more.may.1;
-        landed = subst (λ (r : Reading). node_count t'.children ≤ node_count r.children) more.lands (each_counts numbers slots ks qs t');
+        landed = λ h. more.stuck (inl h);
       }
 
   -- one of the lists is over
-  pub each_over : (nodes : List ℕ) (sites : List Path) (t : Reading) → (nodes ≡ []) ⊎ (sites ≡ []) → EachLeft numbers slots nodes sites t whole → t ≡ whole
-  each_over nodes sites t (inl e) so_far = (subst (λ (xs : List ℕ). EachLeft numbers slots xs sites t whole) e so_far).lands
+  pub each_over : (nodes : List ℕ) (sites : List Path) (t : Reading) → (nodes ≡ []) ⊎ (sites ≡ []) → Left nodes sites t → t ≡ whole
+  each_over nodes sites t (inl e) so_far = (subst (λ (xs : List ℕ). Left xs sites t) e so_far).lands
   each_over [] sites t (inr e) so_far = so_far.lands
-  each_over (k ∷ ks) sites t (inr e) so_far = (subst (λ (ys : List Path). EachLeft numbers slots (k ∷ ks) ys t whole) e so_far).lands
+  each_over (k ∷ ks) sites t (inr e) so_far = (subst (λ (ys : List Path). Left (k ∷ ks) ys t) e so_far).lands
+
+-- one node has landed
+pub each_step : (full : Reading → Reading → Type 0) (numbers : List (Option ℕ)) (slots : List Slot) (whole : Reading) (crowded : Type 0) (nodes ks : List ℕ) (k : ℕ) (sites qs : List Path) (q : Path) (t t' : Reading)
+    → nodes ≡ k ∷ ks → sites ≡ q ∷ qs → t' ≡ land_node q (landed_at numbers slots k) t → EachLeft full numbers slots nodes sites t whole crowded → EachLeft full numbers slots ks qs t' whole crowded
+each_step full numbers slots whole crowded nodes ks k sites qs q t t' e f landed so_far =
+    let more = left_first full numbers slots whole crowded nodes ks k sites qs q t e f so_far in
+    subst (λ (r : Reading). EachLeft full numbers slots ks qs r whole crowded) (sym landed)
+    (record { lands = more.lands; may = more.may.2; there = more.there.1; stuck = λ h. more.stuck (inr h) })

@@ -1,62 +1,81 @@
 -- What is left to land of a node, as its properties and its children land one after another.
-use Rattle.std.proofs.Common.{◌≡◌, ℕ, zero, suc, ◌+◌, ◌<◌, ◌≤◌, Bool, true, false, cond, eqb, List, [], ◌∷◌, ◌++◌, length, map, drop, Option, Some, option_map, ◌⊎◌, inl, inr, refl, sym, ap, subst, ◌∙◌, arith, true≢false}
+use Rattle.std.proofs.Common.{◌≡◌, ℕ, zero, suc, ◌<◌, Bool, true, false, cond, eqb, List, [], ◌∷◌, ◌++◌, length, map, drop, Option, Some, option_map, ◌⊎◌, inl, inr, refl, sym, ap, subst, ◌∙◌, arith, true≢false}
 use Rattle.std.specs.List.{AllByRecursion}
-use Rattle.dt_model.specs.Limits.{most_names, most_nodes}
+use Rattle.dt_model.specs.Limits.{most_names}
 use Rattle.dt_model.specs.Names.{Name, IsNodeName, IsPropertyName}
 use Rattle.dt_model.specs.Path.{Path}
-use Rattle.dt_model.specs.Tree.{Property, Forest, no_nodes, branch, Reading, Node, root_of, stands_in}
-use Rattle.dt_model.specs.Valid.{AreNodes, IsValid, node_count}
+use Rattle.dt_model.specs.Tree.{Property, Forest, no_nodes, branch, Reading, root_of, stands_in}
+use Rattle.dt_model.specs.Valid.{AreNodes, IsValid}
 use Rattle.dt_model.specs.Changes.{with_child_at, with_property_at}
+use Rattle.dt_names.specs.declared.fault.Fault.{Fault}
 use Rattle.dt_names.specs.declared.fault.FaultKind.{FaultKind}
-use Rattle.dt_names.specs.declared.fault.FaultKind.TheVariants.{NoMemory, Limit, Duplicate}
+use Rattle.dt_names.specs.declared.fault.FaultKind.TheVariants.{NoMemory, Limit, Duplicate, BlobPhandle}
 use Rattle.dt_flat.specs.Arena.{Arena, Slot, reading, name_of, properties, children_among, children, forest_among, node_from}
 use Rattle.dt_flat.proofs.ByPath.{has, first_slot, reading_at}
 use Rattle.dt_laws.proofs.KeptNames.{IsGoodNode, good_below}
-use Rattle.dt_landing.specs.Steps.{land_properties, land_nodes, land_node, MayLandProperties, MayLandNodes, MayLandNode}
+use Rattle.dt_landing.specs.Steps.{land_properties, land_nodes, land_node, MayLandProperties, MayLandNodes, MayLandNode, FullAtProperties, FullAtNodes, FullAtNode}
 use Rattle.dt_landing.specs.Writing.{landed_property}
-use Rattle.dt_landing.proofs.SingleChanges.{child_stands, child_kept, child_counted, property_kept, properties_kept, properties_counted, nodes_kept, nodes_counted}
+use Rattle.dt_landing.proofs.SingleChanges.{child_stands, child_kept, property_kept, properties_kept, nodes_kept}
 use Rattle.dt_overlay.specs.Landed.{number_of, landed_among, landed_at}
-use Rattle.dt_overlay.specs.Targets.{WhyNotAddedAt}
+use Rattle.dt_overlay.specs.Targets.{IsWant, MaySetAt, WhyNotAddedAt, WhyNotSetAt}
+
+-- ---- no room
+
+-- a want in the middle is one of the whole
+pub want_whole : (part whole : Type 0) (e : Fault) → (part → whole) → IsWant part e → IsWant whole e
+want_whole part whole e h (at, inl memory) = (at, inl memory)
+want_whole part whole e h (at, inr (limit, full)) = (at, inr (limit, h full))
 
 -- ---- properties
 
--- what is left of the properties does to the tree so far what all of them do to the first one
-pub record PropertiesLeft (q : Path) (number : Option ℕ) (left : List Property) (t whole : Reading) : Type 0 where
+-- What is left of the properties does to the tree so far what all of them do to the first one; where there is no room for one of them, there
+-- is none for the whole.
+pub record PropertiesLeft (full : Reading → Reading → Type 0) (q : Path) (number : Option ℕ) (left : List Property) (t whole : Reading) (crowded : Type 0) : Type 0 where
   pub lands : land_properties q (map (landed_property number) left) t ≡ whole
   pub may : MayLandProperties q (map (landed_property number) left) t
   pub stands : stands_in t q ≡ true
   pub named : AllByRecursion (λ p. IsPropertyName p.name) left
+  pub stuck : FullAtProperties full q (map (landed_property number) left) t → crowded
+
+-- there is no room for the next one
+pub properties_stuck : (full : Reading → Reading → Type 0) (q : Path) (number : Option ℕ) (left rest : List Property) (p : Property) (t whole : Reading) (crowded : Type 0) → left ≡ p ∷ rest
+    → PropertiesLeft full q number left t whole crowded → full t (with_property_at q p.name (landed_property number p).value t) → crowded
+properties_stuck full q number left rest p t whole crowded e so_far h =
+    let more : PropertiesLeft full q number (p ∷ rest) t whole crowded = subst (λ (ps : List Property). PropertiesLeft full q number ps t whole crowded) e so_far in
+    more.stuck (inl h)
 
 -- one more is set
-pub properties_step : (q : Path) (number : Option ℕ) (left rest : List Property) (p : Property) (t t' whole : Reading) → left ≡ p ∷ rest → PropertiesLeft q number left t whole
-    → t' ≡ with_property_at q p.name (landed_property number p).value t → PropertiesLeft q number rest t' whole
-properties_step q number left rest p t t' whole e so_far set =
-    let more : PropertiesLeft q number (p ∷ rest) t whole = subst (λ (ps : List Property). PropertiesLeft q number ps t whole) e so_far in
-    subst (λ (r : Reading). PropertiesLeft q number rest r whole) (sym set)
+pub properties_step : (full : Reading → Reading → Type 0) (q : Path) (number : Option ℕ) (left rest : List Property) (p : Property) (t t' whole : Reading) (crowded : Type 0) → left ≡ p ∷ rest
+    → PropertiesLeft full q number left t whole crowded → t' ≡ with_property_at q p.name (landed_property number p).value t → PropertiesLeft full q number rest t' whole crowded
+properties_step full q number left rest p t t' whole crowded e so_far set =
+    let more : PropertiesLeft full q number (p ∷ rest) t whole crowded = subst (λ (ps : List Property). PropertiesLeft full q number ps t whole crowded) e so_far in
+    subst (λ (r : Reading). PropertiesLeft full q number rest r whole crowded) (sym set)
     (record {
       lands = more.lands;
       may = more.may.1;
       stands = property_kept q p.name (landed_property number p).value t q more.stands;
       named = more.named.1;
+      stuck = λ h. more.stuck (inr h);
     })
 
 -- ---- a node
 
--- no landing takes nodes away
-pub node_counts : (q : Path) (n : Node) (t : Reading) → node_count t.children ≤ node_count (land_node q n t).children
-node_counts q n t =
-    let same : node_count (land_properties q n.properties t).children ≡ node_count t.children = properties_counted q n.properties t in
-    let more : node_count (land_properties q n.properties t).children ≤ node_count (land_node q n t).children = nodes_counted q n.children (land_properties q n.properties t) in
-    omega (arith, same, more)
+-- a child isn't added for want of memory or of room
+pub add_want : (has_room : Reading → Type 0) (full : Type 0) (t : Reading) (p : Path) (name : Name) (kind : FaultKind) → stands_in t (p ++ name ∷ []) ≡ false → length p < most_names
+    → (¬ has_room (with_child_at p name t) → full) → WhyNotAddedAt has_room kind t p name → (kind ≡ NoMemory) ⊎ ((kind ≡ Limit) × full)
+add_want has_room full t p name NoMemory fresh shallow is why = inl refl
+add_want has_room full t p name Duplicate fresh shallow is why = absurd (true≢false (sym why ∙ fresh))
+add_want has_room full t p name Limit fresh shallow is (_, inl none) = inr (refl, is none)
+add_want has_room full t p name Limit fresh shallow is (_, inr deep) = absurd (omega (arith, deep, shallow))
+add_want has_room full t p name _ fresh shallow is why = absurd why
 
--- a child isn't added for want of memory or for the number of nodes
-pub why_limit : (t : Reading) (p : Path) (name : Name) (kind : FaultKind) → stands_in t p ≡ true → stands_in t (p ++ name ∷ []) ≡ false → length p < most_names → WhyNotAddedAt kind t p name
-    → (kind ≡ NoMemory) ⊎ ((kind ≡ Limit) × (most_nodes < 1 + node_count (with_child_at p name t).children))
-why_limit t p name NoMemory stands fresh shallow why = inl refl
-why_limit t p name Duplicate stands fresh shallow why = absurd (true≢false (sym why ∙ fresh))
-why_limit t p name Limit stands fresh shallow (_, inl many) = inr (refl, omega (arith, many, child_counted p name t stands fresh))
-why_limit t p name Limit stands fresh shallow (_, inr deep) = absurd (omega (arith, deep, shallow))
-why_limit t p name _ stands fresh shallow why = absurd why
+-- nor is a property set that may be
+pub set_want : (has_room : Reading → Type 0) (full : Type 0) (t : Reading) (p : Path) (name : Name) (value : List ℕ) (kind : FaultKind) → MaySetAt t p name value
+    → (¬ has_room (with_property_at p name value t) → full) → WhyNotSetAt has_room kind t p name value → (kind ≡ NoMemory) ⊎ ((kind ≡ Limit) × full)
+set_want has_room full t p name value NoMemory may is why = inl refl
+set_want has_room full t p name value BlobPhandle may is why = absurd (why may)
+set_want has_room full t p name value Limit may is why = inr (refl, is why.1)
+set_want has_room full t p name value _ may is why = absurd why
 
 -- ---- the nodes below one
 
@@ -132,76 +151,81 @@ pub properties_may : (numbers : List (Option ℕ)) (slots : List Slot) (node : �
 properties_may numbers slots node number q t ps e own may =
     subst (λ (qs : List Property). MayLandProperties q qs t) (λ i. map (landed_property (sym e i)) (sym own i)) may.0
 
--- what is left of the children does to the tree so far what all of them do to the first one
-pub record NodesLeft (numbers : List (Option ℕ)) (slots : List Slot) (node : ℕ) (q : Path) (left : List ℕ) (t whole : Reading) : Type 0 where
+-- What is left of the children does to the tree so far what all of them do to the first one; where there is no room on the way, there is none
+-- for the whole.
+pub record NodesLeft (full : Reading → Reading → Type 0) (numbers : List (Option ℕ)) (slots : List Slot) (node : ℕ) (q : Path) (left : List ℕ) (t whole : Reading) (crowded : Type 0) : Type 0 where
   pub lands : land_nodes q (landed_trees numbers slots left) t ≡ whole
   pub may : MayLandNodes q (landed_trees numbers slots left) t
   pub stands : stands_in t q ≡ true
   pub children : AllByRecursion (IsChildOf slots node) left
+  pub stuck : FullAtNodes full q (landed_trees numbers slots left) t → crowded
+
+-- the properties of a node that lands aren't all set
+pub node_stuck : (full : Reading → Reading → Type 0) (numbers : List (Option ℕ)) (slots : List Slot) (node : ℕ) (q : Path) (number : Option ℕ) (ps : List Property) (t : Reading)
+    → number ≡ number_of numbers node → ps ≡ properties slots node → FullAtProperties full q (map (landed_property number) ps) t → FullAtNode full q (landed_at numbers slots node) t
+node_stuck full numbers slots node q number ps t is own h =
+    inl (subst (λ (qs : List Property). FullAtProperties full q qs t) (λ i. map (landed_property (is i)) (own i)) h)
 
 -- the properties of the node have landed
-pub nodes_begin : (numbers : List (Option ℕ)) (slots : List Slot) (node : ℕ) (q : Path) (left : List ℕ) (number : Option ℕ) (ps : List Property) (t t1 : Reading) → left ≡ children slots node
+pub nodes_begin : (full : Reading → Reading → Type 0) (numbers : List (Option ℕ)) (slots : List Slot) (node : ℕ) (q : Path) (left : List ℕ) (number : Option ℕ) (ps : List Property) (t t1 : Reading) → left ≡ children slots node
     → number ≡ number_of numbers node → ps ≡ properties slots node → t1 ≡ land_properties q (map (landed_property number) ps) t → stands_in t q ≡ true → MayLandNode q (landed_at numbers slots node) t
-    → AllByRecursion (IsChildOf slots node) (children slots node) → NodesLeft numbers slots node q left t1 (land_node q (landed_at numbers slots node) t)
-nodes_begin numbers slots node q left number ps t t1 e is own set stands may under =
+    → AllByRecursion (IsChildOf slots node) (children slots node) → NodesLeft full numbers slots node q left t1 (land_node q (landed_at numbers slots node) t) (FullAtNode full q (landed_at numbers slots node) t)
+nodes_begin full numbers slots node q left number ps t t1 e is own set stands may under =
     let n = landed_at numbers slots node in
     let landed : t1 ≡ land_properties q n.properties t = set ∙ (λ i. land_properties q (map (landed_property (is i)) (own i)) t) in
     let trees = landed_below numbers slots node in
-    subst (λ (ks : List ℕ). NodesLeft numbers slots node q ks t1 (land_node q n t)) (sym e)
-    (subst (λ (r : Reading). NodesLeft numbers slots node q (children slots node) r (land_node q n t)) (sym landed)
+    subst (λ (ks : List ℕ). NodesLeft full numbers slots node q ks t1 (land_node q n t) (FullAtNode full q n t)) (sym e)
+    (subst (λ (r : Reading). NodesLeft full numbers slots node q (children slots node) r (land_node q n t) (FullAtNode full q n t)) (sym landed)
     (record {
       lands = ap (λ (f : Forest). land_nodes q f (land_properties q n.properties t)) (sym trees);
       may = subst (λ (f : Forest). MayLandNodes q f (land_properties q n.properties t)) trees may.1;
       stands = properties_kept q n.properties t q stands;
       children = under;
+      stuck = λ h. inr (subst (λ (f : Forest). FullAtNodes full q f (land_properties q n.properties t)) (sym trees) h);
     }))
 
 -- what is true of the first of the children that are left, once it is there with its path
-pub record IsNextChild (numbers : List (Option ℕ)) (slots : List Slot) (node : ℕ) (q : Path) (k : ℕ) (own : Path) (t whole : Reading) : Type 0 where
+pub record IsNextChild (full : Reading → Reading → Type 0) (numbers : List (Option ℕ)) (slots : List Slot) (node : ℕ) (q : Path) (k : ℕ) (own : Path) (before t : Reading) (crowded : Type 0) : Type 0 where
   pub child : IsChildOf slots node k
   pub shallow : length q < most_names
   pub may : MayLandNode own (landed_at numbers slots k) t
   pub stands : stands_in t own ≡ true
-  pub added : node_count t.children ≤ node_count whole.children
-  pub landed : node_count (land_node own (landed_at numbers slots k) t).children ≤ node_count whole.children
+  pub added : full before t → crowded
+  pub landed : FullAtNode full own (landed_at numbers slots k) t → crowded
 
-module _ (numbers : List (Option ℕ)) (slots : List Slot) (node : ℕ) (q : Path) (whole : Reading) where
-  left_first : (left rest : List ℕ) (k : ℕ) (t : Reading) → left ≡ k ∷ rest → NodesLeft numbers slots node q left t whole → NodesLeft numbers slots node q (k ∷ rest) t whole
-  left_first left rest k t e so_far = subst (λ (ks : List ℕ). NodesLeft numbers slots node q ks t whole) e so_far
+module _ (full : Reading → Reading → Type 0) (numbers : List (Option ℕ)) (slots : List Slot) (node : ℕ) (q : Path) (whole : Reading) (crowded : Type 0) where
+  abbrev Left : List ℕ → Reading → Type 0
+  Left left t = NodesLeft full numbers slots node q left t whole crowded
+
+  left_first : (left rest : List ℕ) (k : ℕ) (t : Reading) → left ≡ k ∷ rest → Left left t → Left (k ∷ rest) t
+  left_first left rest k t e so_far = subst (λ (ks : List ℕ). Left ks t) e so_far
 
   pub next_child : (left rest : List ℕ) (k : ℕ) (name : Name) (own : Path) (t t1 : Reading) → left ≡ k ∷ rest → name ≡ name_of slots k → own ≡ q ++ name ∷ [] → t1 ≡ with_child_at q name t
-      → NodesLeft numbers slots node q left t whole → IsNextChild numbers slots node q k own t1 whole
+      → Left left t → IsNextChild full numbers slots node q k own t t1 crowded
   next_child left rest k name own t t1 e named way added so_far =
       let more = left_first left rest k t e so_far in
       let x = name_of slots k in
       let path : own ≡ q ++ x ∷ [] = way ∙ ap (λ (y : Name). q ++ y ∷ []) named in
       let is : t1 ≡ with_child_at q x t = added ∙ ap (λ (y : Name). with_child_at q y t) named in
-      subst (λ (p : Path). IsNextChild numbers slots node q k p t1 whole) (sym path)
-      (subst (λ (r : Reading). IsNextChild numbers slots node q k (q ++ x ∷ []) r whole) (sym is)
+      subst (λ (p : Path). IsNextChild full numbers slots node q k p t t1 crowded) (sym path)
+      (subst (λ (r : Reading). IsNextChild full numbers slots node q k (q ++ x ∷ []) t r crowded) (sym is)
       (record {
         child = more.children.0;
         shallow = more.may.0;
         may = (more.may.1, more.may.2);
         stands = child_stands q x t more.stands;
-        added = counted k (q ++ x ∷ []) (with_child_at q x t) rest more.lands;
-        landed = beside k (q ++ x ∷ []) (with_child_at q x t) rest more.lands;
+        added = λ h. more.stuck (inl h);
+        landed = landed x more.stuck;
       }))
     where
-      beside : (k : ℕ) (p : Path) (r : Reading) (rest : List ℕ) → land_nodes q (landed_trees numbers slots rest) (land_node p (landed_at numbers slots k) r) ≡ whole
-          → node_count (land_node p (landed_at numbers slots k) r).children ≤ node_count whole.children
-      beside k p r rest is =
-          let n = land_node p (landed_at numbers slots k) r in
-          subst (λ (z : Reading). node_count n.children ≤ node_count z.children) is (nodes_counted q (landed_trees numbers slots rest) n)
-
-      counted : (k : ℕ) (p : Path) (r : Reading) (rest : List ℕ) → land_nodes q (landed_trees numbers slots rest) (land_node p (landed_at numbers slots k) r) ≡ whole
-          → node_count r.children ≤ node_count whole.children
-      counted k p r rest is =
-          let inside : node_count r.children ≤ node_count (land_node p (landed_at numbers slots k) r).children = node_counts p (landed_at numbers slots k) r in
-          omega (arith, inside, beside k p r rest is)
+      landed : (x : Name) → (FullAtNodes full q (branch x (landed_at numbers slots k).properties (landed_at numbers slots k).children (landed_trees numbers slots rest)) t → crowded)
+          → FullAtNode full (q ++ x ∷ []) (landed_at numbers slots k) (with_child_at q x t) → crowded
+      landed x stuck (inl h) = stuck (inr (inl h))
+      landed x stuck (inr h) = stuck (inr (inr (inl h)))
 
   -- a child has landed
   pub nodes_step : (left rest : List ℕ) (k : ℕ) (name : Name) (own : Path) (t t1 t2 : Reading) → left ≡ k ∷ rest → name ≡ name_of slots k → own ≡ q ++ name ∷ [] → t1 ≡ with_child_at q name t
-      → t2 ≡ land_node own (landed_at numbers slots k) t1 → NodesLeft numbers slots node q left t whole → NodesLeft numbers slots node q rest t2 whole
+      → t2 ≡ land_node own (landed_at numbers slots k) t1 → Left left t → Left rest t2
   nodes_step left rest k name own t t1 t2 e named way added landed so_far =
       let more = left_first left rest k t e so_far in
       let x = name_of slots k in
@@ -210,16 +234,11 @@ module _ (numbers : List (Option ℕ)) (slots : List Slot) (node : ℕ) (q : Pat
       let path : own ≡ p = way ∙ ap (λ (y : Name). q ++ y ∷ []) named in
       let is : t1 ≡ with_child_at q x t = added ∙ ap (λ (y : Name). with_child_at q y t) named in
       let whole_landed : t2 ≡ land_node p n (with_child_at q x t) = landed ∙ (λ i. land_node (path i) n (is i)) in
-      subst (λ (r : Reading). NodesLeft numbers slots node q rest r whole) (sym whole_landed)
+      subst (λ (r : Reading). Left rest r) (sym whole_landed)
       (record {
         lands = more.lands;
         may = more.may.3;
         stands = nodes_kept p n.children (land_properties p n.properties (with_child_at q x t)) q (properties_kept p n.properties (with_child_at q x t) q (child_kept q x t q more.stands));
         children = more.children.1;
+        stuck = λ h. more.stuck (inr (inr (inr h)));
       })
-
--- a refusal in the middle is one of the whole
-pub why_whole : (kind : FaultKind) (part whole : Reading) → node_count part.children ≤ node_count whole.children
-    → (kind ≡ NoMemory) ⊎ ((kind ≡ Limit) × (most_nodes < 1 + node_count part.children)) → (kind ≡ NoMemory) ⊎ ((kind ≡ Limit) × (most_nodes < 1 + node_count whole.children))
-why_whole kind part whole h (inl memory) = inl memory
-why_whole kind part whole h (inr limit) = inr (limit.0, omega (arith, h, limit.1))

@@ -1,17 +1,14 @@
 -- Nodes of an object that land one after another.
-use Rattle.std.proofs.Common.{◌≡◌, ℕ, zero, suc, ◌≤◌, Bool, true, false, cond, eqb, List, [], ◌∷◌, ◌++◌, length, drop, map, codes, refl, sym, ap, subst, ◌∙◌, ◌⊎◌, inl, inr, append_assoc, append-nil, arith}
+use Rattle.std.proofs.Common.{◌≡◌, ℕ, zero, suc, ◌≤◌, Bool, true, false, cond, eqb, List, [], ◌∷◌, ◌++◌, length, drop, map, refl, sym, ap, subst, ◌∙◌, inl, inr, append_assoc, append-nil, arith}
 use Rattle.std.specs.Prelude.{is_some, if◌then◌else◌}
-use Rattle.std.specs.List.{AllByRecursion}
 use Rattle.std.proofs.lemmas.List.{length-append, map-append}
 use Rattle.dt_model.specs.Limits.{most_nodes}
-use Rattle.dt_model.specs.Names.{Name}
 use Rattle.dt_model.specs.Path.{Path}
-use Rattle.dt_model.specs.Tree.{branch, Reading, Placed, preorder, value_of}
+use Rattle.dt_model.specs.Tree.{branch, Reading, Placed, preorder}
 use Rattle.dt_names.specs.declared.fault.FaultKind.{FaultKind}
 use Rattle.dt_flat.specs.Arena.{Slot, name_of, properties, children, children_among, below, forest_among}
 use Rattle.dt_joining.specs.Walk.{number_there, with_place, with_places, has_phandle, least_free}
-use Rattle.dt_joining.proofs.Places.{numbers}
-use Rattle.dt_landing.specs.Landings.{MayLand, MayAllLand, IsStuck}
+use Rattle.dt_landing.specs.Landings.{MayAllLand, IsStuck}
 use Rattle.dt_model.specs.Numbers.{numbers_of}
 use Rattle.dt_overlay.specs.declared.places.Places.{Places}
 use Rattle.dt_overlay.specs.Known.{IsKnown, HasRoom, placed, trees_of}

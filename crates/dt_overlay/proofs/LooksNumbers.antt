@@ -1,5 +1,5 @@
 -- The number of a place, and the next that is free.
-use Rattle.std.proofs.Common.{◌≡◌, ◌↔◌, ℕ, ◌+◌, ◌*◌, ◌≤◌, Bool, true, false, List, ◌∷◌, ◌++◌, [], map, length, Option, Some, None, refl, sym, ap, subst, ◌∙◌, codes, true≢false, arith}
+use Rattle.std.proofs.Common.{◌≡◌, ◌↔◌, ℕ, ◌+◌, ◌*◌, ◌≤◌, Bool, false, List, ◌∷◌, ◌++◌, [], Option, Some, None, refl, sym, ap, ◌∙◌, codes, true≢false, arith}
 use Rattle.std.specs.Prelude.{is_some, option_map, if◌then◌else◌, IsSome, IfSome}
 use Rattle.std.specs.Option.{option_copied, option_or}
 use Rattle.std.specs.Borrow.{Bor}
@@ -8,7 +8,7 @@ use Rattle.std.proofs.lemmas.List.{length-append, length-map}
 use Rattle.dt_model.specs.Limits.{most_nodes}
 use Rattle.dt_model.specs.Lists.{IsIn}
 use Rattle.dt_model.specs.Names.{Name, IsNodeName}
-use Rattle.dt_model.specs.Numbers.{numbers_of, number_in, IsLeastFree}
+use Rattle.dt_model.specs.Numbers.{numbers_of, number_in}
 use Rattle.dt_model.specs.Path.{Path}
 use Rattle.dt_model.specs.Tree.{Property, Reading, value_of, value_in}
 use Rattle.dt_model.specs.Valid.{IsValid, IsWithinLimits, IsPhandle}

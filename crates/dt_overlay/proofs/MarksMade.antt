@@ -13,7 +13,7 @@ use Rattle.dt_model.specs.Path.{Path, path_eq}
 use Rattle.dt_model.specs.Object.{Cell, local_cells, AreFixups}
 use Rattle.dt_model.specs.Tree.{Property, Reading, value_in}
 use Rattle.dt_model.specs.Applied.{Write as ModelWrite, label_write, local_write, number_at, symbol}
-use Rattle.dt_model.proofs.Tests.{bytes_eq_refl, bytes_eq_true, path_eq_refl, path_eq_true}
+use Rattle.dt_model.proofs.Tests.{path_eq_refl, path_eq_true}
 use Rattle.dt_flat.specs.Arena.{Arena, Slot, IsRooted, node_from, reading}
 use Rattle.dt_flat.proofs.Descent.{path-same, path-within}
 use Rattle.dt_joining.specs.Walk.{is_target, target_label}
@@ -23,7 +23,7 @@ use Rattle.dt_overlay.specs.declared.numbers.Brought.{Brought}
 use Rattle.dt_overlay.specs.Applying.{IsReadAs}
 use Rattle.dt_overlay.specs.Plans.{IsWriteOf, AreWritesOf}
 use Rattle.dt_overlay.specs.Marks.{IsMark, AreMarked}
-use Rattle.dt_overlay.proofs.Elements.{get-set_same, get-set_other, get_within, replicate-get}
+use Rattle.dt_overlay.proofs.Elements.{get-set_same, get-set_other, replicate-get}
 use Rattle.dt_overlay.specs.declared.marks.TargetMark.{TargetMark}
 use Rattle.dt_overlay.specs.declared.marks.TargetMark.TheVariants.{Bare, Own, Label}
 use Rattle.dt_overlay.specs.declared.writes.Write.{Write}

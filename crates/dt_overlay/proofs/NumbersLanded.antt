@@ -1,5 +1,5 @@
 -- The numbers of nodes that land.
-use Rattle.std.proofs.Common.{◌≡◌, ℕ, zero, suc, ◌+◌, ◌<◌, ◌≤◌, Bool, true, false, ◌&&◌, List, [], ◌∷◌, ◌++◌, length, get_or, map, take, drop, replicate, codes, Option, Some, None, refl, sym, ap, subst, ◌∙◌, ◌⊎◌, inl, inr, append-nil, true≢false, arith}
+use Rattle.std.proofs.Common.{◌≡◌, ℕ, zero, suc, ◌+◌, ◌<◌, ◌≤◌, Bool, true, false, ◌&&◌, List, [], ◌∷◌, ◌++◌, length, get_or, map, take, drop, codes, Option, Some, None, refl, sym, ap, subst, ◌∙◌, ◌⊎◌, inl, inr, append-nil, true≢false, arith}
 use Rattle.std.specs.Prelude.{slice_get, slice_set, is_some}
 use Rattle.std.specs.List.{filter}
 use Rattle.std.proofs.lemmas.Bool.{cases_lt}
@@ -8,27 +8,25 @@ use Rattle.dt_model.specs.Lists.{IsIn}
 use Rattle.dt_model.specs.Names.{Name}
 use Rattle.dt_model.specs.Path.{Path}
 use Rattle.dt_model.specs.Merged.{Site, landing}
-use Rattle.dt_model.specs.Numbers.{number_in, is_brought, needs_number, new_paths}
+use Rattle.dt_model.specs.Numbers.{number_in, is_brought, needs_number}
 use Rattle.dt_model.specs.Object.{Cell, fragment_names}
 use Rattle.dt_model.specs.Tree.{Reading, Placed, nodes_of, stands_in, value_in, value_of}
 use Rattle.dt_model.specs.Valid.{IsValid, IsWithinLimits}
 use Rattle.dt_model.proofs.Tests.{in_filter, in_map_from}
 use Rattle.dt_names.specs.declared.fault.FaultKind.{FaultKind}
 use Rattle.dt_names.specs.declared.fault.FaultKind.TheVariants.{NoMemory, Limit}
-use Rattle.dt_flat.specs.Arena.{Arena, Slot, IsRooted, reading, node_from, properties}
+use Rattle.dt_flat.specs.Arena.{Arena, IsRooted, reading, node_from, properties}
 use Rattle.dt_flat.proofs.Descent.{path-same}
-use Rattle.dt_laws.proofs.Placed.{site_names}
-use Rattle.dt_joining.specs.Walk.{Walked, nothing_walked, number_there, new_numbers, landings}
+use Rattle.dt_joining.specs.Walk.{Walked, nothing_walked, number_there, new_numbers}
 use Rattle.dt_joining.proofs.Brought.{new_has, source_is_new}
 use Rattle.dt_joining.proofs.NewNumbers.{number_given, number_new}
 use Rattle.dt_joining.proofs.Walks.{IsWalked}
-use Rattle.dt_landing.specs.Landings.{MayAllLand}
 use Rattle.dt_landing.specs.Laws.{AreShallow}
 use Rattle.dt_landing.proofs.PassedOutcomes.{shallow_landings}
 use Rattle.dt_landing.proofs.Sited.{sited_walks}
 use Rattle.dt_overlay.specs.declared.places.Places.{Places}
 use Rattle.dt_overlay.specs.Turns.{IsLooked}
-use Rattle.dt_overlay.proofs.Elements.{get-set_same, get-set_other, get_within, replicate-get}
+use Rattle.dt_overlay.proofs.Elements.{get-set_same, get-set_other, get_within}
 use Rattle.dt_overlay.proofs.Reached.{value-led}
 use Rattle.dt_overlay.proofs.SitesTurns.{front_walked, in_front}
 use Rattle.dt_overlay.proofs.SymbolLandingLabels.{lands-brought}

@@ -1,5 +1,5 @@
 -- What is kept of places after a node lands, and after a place gets its number.
-use Rattle.std.proofs.Common.{◌≡◌, ℕ, ◌+◌, ◌<◌, ◌≤◌, Bool, true, false, ◌||◌, List, [], ◌∷◌, ◌++◌, map, Option, Some, None, refl, sym, ap, subst, ◌∙◌, ◌⊎◌, inl, inr, true≢false, arith}
+use Rattle.std.proofs.Common.{◌≡◌, ℕ, ◌≤◌, Bool, true, false, ◌||◌, List, [], ◌∷◌, ◌++◌, Option, Some, None, refl, sym, ap, subst, ◌∙◌, inl, inr, true≢false, arith}
 use Rattle.std.specs.Prelude.{is_some, option_and_then, nat_eq, if◌then◌else◌}
 use Rattle.std.specs.Global.{Vec}
 use Rattle.std.specs.HashMap.{HashMap, UpdatesBy}
@@ -15,8 +15,8 @@ use Rattle.dt_model.specs.Lists.{IsIn}
 use Rattle.dt_model.specs.Names.{IsNodeName}
 use Rattle.dt_model.specs.Numbers.{numbers_of, number_in, IsLeastFree}
 use Rattle.dt_model.specs.Path.{Path, path_eq, path_value}
-use Rattle.dt_model.specs.Tree.{Reading, value_in}
-use Rattle.dt_model.proofs.Tests.{bytes_eq_refl, bytes_eq_true, path_eq_refl, path_eq_true, any_from, any_here, in_left, in_right, in_append, in_map, in_map_from}
+use Rattle.dt_model.specs.Tree.{Reading}
+use Rattle.dt_model.proofs.Tests.{bytes_eq_refl, bytes_eq_true, path_eq_refl, path_eq_true, any_from, any_here, in_left, in_right, in_append}
 use Rattle.dt_model.proofs.Texts.{one_value}
 use Rattle.dt_joining.specs.Walk.{place_given}
 use Rattle.dt_joining.proofs.Places.{numbers, number_in-last, in_last}

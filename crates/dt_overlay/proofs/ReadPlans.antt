@@ -60,27 +60,27 @@ all_held slots object (x ∷ xs) (f ∷ fs) h = (held object f x.target h.0.targ
 -- ---- faults
 
 -- the first fault of a cell that waits for a label is one of the object's
-pub label_told : (base object : Reading) (e : Fault) → HaveTargets object → (e.at ≡ None) × ((e.kind ≡ NoMemory) ⊎ HasNoFixup e.kind base object) → (e.at ≡ None) × WhyNotApplied e.kind base object
-label_told base object e targets (at, inl k) = (at, subst (λ kind. WhyNotApplied kind base object) (sym k) tt)
-label_told base object e targets (at, inr first) = (at, step e.kind first)
+pub label_told : (full : Reading → Reading → Type 0) (base object : Reading) (e : Fault) → HaveTargets object → (e.at ≡ None) × ((e.kind ≡ NoMemory) ⊎ HasNoFixup e.kind base object) → (e.at ≡ None) × WhyNotApplied full e.kind base object
+label_told full base object e targets (at, inl k) = (at, subst (λ kind. WhyNotApplied full kind base object) (sym k) tt)
+label_told full base object e targets (at, inr first) = (at, step e.kind first)
   where
-    step : (kind : FaultKind) → HasNoFixup kind base object → WhyNotApplied kind base object
+    step : (kind : FaultKind) → HasNoFixup kind base object → WhyNotApplied full kind base object
     step BadFixup h = (targets, h)
     step NoSymbol h = (targets, h)
     step BadSymbol h = (targets, inl h)
     step _ h = absurd h.why
 
 -- so is that of a cell of the object's own nodes, where there is none of those
-pub local_told : (base object : Reading) (e : Fault) → HaveTargets object → AreFixedUp base object → (e.at ≡ None) × ((e.kind ≡ NoMemory) ⊎ ((e.kind ≡ BadLocalFixup)
-    × ((p : Path) × (stands_in object (codes "__local_fixups__" ∷ p) ≡ true) × ((IsMirror object p) → ⊥)))) → (e.at ≡ None) × WhyNotApplied e.kind base object
-local_told base object e targets fixups (at, inl k) = (at, subst (λ kind. WhyNotApplied kind base object) (sym k) tt)
-local_told base object e targets fixups (at, inr (k, why)) = (at, subst (λ kind. WhyNotApplied kind base object) (sym k) (targets, fixups, why))
+pub local_told : (full : Reading → Reading → Type 0) (base object : Reading) (e : Fault) → HaveTargets object → AreFixedUp base object → (e.at ≡ None) × ((e.kind ≡ NoMemory) ⊎ ((e.kind ≡ BadLocalFixup)
+    × ((p : Path) × (stands_in object (codes "__local_fixups__" ∷ p) ≡ true) × ((IsMirror object p) → ⊥)))) → (e.at ≡ None) × WhyNotApplied full e.kind base object
+local_told full base object e targets fixups (at, inl k) = (at, subst (λ kind. WhyNotApplied full kind base object) (sym k) tt)
+local_told full base object e targets fixups (at, inr (k, why)) = (at, subst (λ kind. WhyNotApplied full kind base object) (sym k) (targets, fixups, why))
 
 -- and that of a label, where there is none of both
-pub symbol_told : (base object : Reading) (e : Fault) → HaveTargets object → AreFixedUp base object → AreMirrors object → (e.at ≡ None) × ((e.kind ≡ NoMemory) ⊎ ((e.kind ≡ BadSymbol)
-    × ((x : Property) × IsIn x (symbols_in object) × ((IsSymbol object x.value) → ⊥)))) → (e.at ≡ None) × WhyNotApplied e.kind base object
-symbol_told base object e targets fixups mirrors (at, inl k) = (at, subst (λ kind. WhyNotApplied kind base object) (sym k) tt)
-symbol_told base object e targets fixups mirrors (at, inr (k, why)) = (at, subst (λ kind. WhyNotApplied kind base object) (sym k) (targets, inr (fixups, mirrors, why)))
+pub symbol_told : (full : Reading → Reading → Type 0) (base object : Reading) (e : Fault) → HaveTargets object → AreFixedUp base object → AreMirrors object → (e.at ≡ None) × ((e.kind ≡ NoMemory) ⊎ ((e.kind ≡ BadSymbol)
+    × ((x : Property) × IsIn x (symbols_in object) × ((IsSymbol object x.value) → ⊥)))) → (e.at ≡ None) × WhyNotApplied full e.kind base object
+symbol_told full base object e targets fixups mirrors (at, inl k) = (at, subst (λ kind. WhyNotApplied full kind base object) (sym k) tt)
+symbol_told full base object e targets fixups mirrors (at, inr (k, why)) = (at, subst (λ kind. WhyNotApplied full kind base object) (sym k) (targets, inr (fixups, mirrors, why)))
 
 -- ---- cells
 

@@ -1,5 +1,5 @@
 -- The sites of fragments, one after another.
-use Rattle.std.proofs.Common.{◌≡◌, ℕ, ◌+◌, ◌<◌, ◌≤◌, get_or, List, [], ◌∷◌, ◌++◌, length, map, drop, Option, Some, None, refl, sym, ap, subst, ◌∙◌, ◌⊎◌, inl, inr, append_assoc, append-nil, arith}
+use Rattle.std.proofs.Common.{◌≡◌, ℕ, ◌+◌, ◌<◌, ◌≤◌, get_or, List, [], ◌∷◌, ◌++◌, length, map, drop, refl, sym, ap, subst, ◌∙◌, inl, inr, append_assoc, append-nil}
 use Rattle.std.specs.List.{AllByRecursion}
 use Rattle.std.proofs.lemmas.List.{drop_all, map-append}
 use Rattle.dt_model.specs.Names.{Name, IsNodeName}
@@ -8,7 +8,7 @@ use Rattle.dt_model.specs.Merged.{Site}
 use Rattle.dt_model.specs.Object.{Cell, fragment_names}
 use Rattle.dt_model.specs.Tree.{Reading}
 use Rattle.dt_names.specs.declared.fault.FaultKind.{FaultKind}
-use Rattle.dt_flat.specs.Arena.{Arena, Slot, reading}
+use Rattle.dt_flat.specs.Arena.{Arena, reading}
 use Rattle.dt_flat.proofs.Linking.{drop_item}
 use Rattle.dt_joining.specs.Walk.{Walked, nothing_walked, site, landed_on}
 use Rattle.dt_landing.specs.Landings.{AreSited, WhyNoSite, HasNoSite}

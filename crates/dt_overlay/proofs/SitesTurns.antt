@@ -1,33 +1,32 @@
 -- What is known when a fragment's turn comes.
-use Rattle.std.proofs.Common.{◌≡◌, ◌≢◌, ℕ, ◌<◌, ◌≤◌, Bool, true, false, List, [], ◌∷◌, ◌++◌, length, map, take, drop, codes, Option, Some, None, refl, sym, ap, subst, ◌∙◌, ◌⊎◌, inl, inr, append_assoc, append-nil, true≢false, arith}
-use Rattle.std.specs.Prelude.{is_some, option_map, slice_get}
-use Rattle.std.specs.List.{AllByRecursion, flat_map}
-use Rattle.std.proofs.lemmas.List.{length-append, length-map, map-append}
+use Rattle.std.proofs.Common.{◌≡◌, ℕ, ◌<◌, ◌≤◌, false, List, [], ◌∷◌, ◌++◌, length, map, take, Option, Some, refl, sym, ap, subst, ◌∙◌, inl, inr, append_assoc, append-nil, arith}
+use Rattle.std.specs.Prelude.{option_map}
+use Rattle.std.specs.List.{AllByRecursion}
+use Rattle.std.proofs.lemmas.List.{length-map, map-append}
 use Rattle.std.proofs.lemmas.List.Concat.{flat_map-append}
-use Rattle.dt_model.specs.Limits.{most_names, most_nodes}
+use Rattle.dt_model.specs.Limits.{most_names}
 use Rattle.dt_model.specs.Lists.{IsIn}
 use Rattle.dt_model.specs.Names.{Name, IsNodeName}
 use Rattle.dt_model.specs.Path.{Path, is_bookkeeping}
 use Rattle.dt_model.specs.Overlay.{content}
-use Rattle.dt_model.specs.Merged.{Site, landing}
+use Rattle.dt_model.specs.Merged.{Site}
 use Rattle.dt_model.specs.Object.{Cell, fragment_names, nodes_from}
-use Rattle.dt_model.specs.Tree.{Forest, no_nodes, branch, Reading, Placed, Node, preorder, node_at, stands_in}
+use Rattle.dt_model.specs.Tree.{Forest, no_nodes, branch, Reading, Placed, Node, preorder}
 use Rattle.dt_model.specs.Valid.{IsValid, IsWithinLimits, AreDistinct}
-use Rattle.dt_model.proofs.Tests.{each_in, in_right, in_append, in_map, in_map_from}
+use Rattle.dt_model.proofs.Tests.{each_in, in_right, in_map, in_map_from}
 use Rattle.dt_model.proofs.Distinct.{distinct_left}
 use Rattle.dt_model.proofs.Flat.{from_flat}
 use Rattle.dt_model.proofs.Distinct.{in_flat}
-use Rattle.dt_flat.specs.Arena.{Arena, Slot, reading, node_from, below}
+use Rattle.dt_flat.specs.Arena.{Arena, reading, node_from, below}
 use Rattle.dt_flat.proofs.ByPath.{has, reading_at}
 use Rattle.dt_flat.proofs.Distinctness.{all-back}
 use Rattle.dt_laws.proofs.Placed.{site_names}
 use Rattle.dt_joining.specs.Walk.{Walked, nothing_walked, site, landing_at, landings, landed_on, with_places}
 use Rattle.dt_joining.proofs.Brought.{fragments_distinct, lands_below}
 use Rattle.dt_joining.proofs.NewNumbers.{few_walked}
-use Rattle.dt_joining.proofs.Places.{places}
 use Rattle.dt_joining.proofs.Standing.{content_stands}
 use Rattle.dt_joining.proofs.Walks.{IsWalked, nothing_is_walked, walked_more}
-use Rattle.dt_landing.specs.Landings.{target_in, MayLand, MayAllLand, AreSited, HasNoSite}
+use Rattle.dt_landing.specs.Landings.{target_in, MayLand, MayAllLand, AreSited}
 use Rattle.dt_landing.proofs.Landed.{lands_listed, landing_stands, plain_site}
 use Rattle.dt_landing.proofs.Sited.{sited_walks}
 use Rattle.dt_overlay.specs.declared.marks.TargetMark.{TargetMark}

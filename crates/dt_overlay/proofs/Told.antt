@@ -8,10 +8,11 @@ use Rattle.dt_names.specs.declared.fault.FaultKind.{FaultKind}
 use Rattle.dt_names.specs.declared.fault.FaultKind.TheVariants.{NoMemory, Limit, NoTarget, ReservedPlace}
 use Rattle.dt_flat.specs.Arena.{Arena, reading}
 use Rattle.dt_joining.specs.Walk.{Walked, nothing_walked, site, landings, landed_on}
-use Rattle.dt_landing.specs.Landings.{WhyNotLands, IsStuck, WhyNoSite, HasNoSite}
-use Rattle.dt_landing.specs.Refusals.{HasNoSites, IsOverfull, WhyNotApplied}
+use Rattle.dt_landing.specs.Landings.{WhyNotLands, IsStuck, HasNoSite}
+use Rattle.dt_landing.specs.Refusals.{HasNoSites, IsCrowded, WhyNotApplied}
 use Rattle.dt_overlay.specs.declared.applying.Plan.{Plan}
 use Rattle.dt_overlay.specs.declared.numbers.Brought.{Brought}
+use Rattle.dt_overlay.specs.Targets.{IsWant}
 use Rattle.dt_overlay.specs.Applying.{IsReadAs, IsLeftBy}
 
 -- ---- sites
@@ -36,32 +37,32 @@ none_kind k base object fixups w (f ∷ fs) (inl (inl why)) = inl why.0
 none_kind k base object fixups w (f ∷ fs) (inl (inr why)) = stuck_kind k (landings object (site f why.0)) why.2
 none_kind k base object fixups w (f ∷ fs) (inr h) = none_kind k base object fixups (landed_on base object w f h.0) fs h.3
 
-sites_told : (base object : Reading) (k : FaultKind) → HasNoSites k base object → IsOfSites k → WhyNotApplied k base object
-sites_told base object k h (inl is) = subst (λ k. HasNoSites k base object → WhyNotApplied k base object) (sym is) (λ h. h) h
-sites_told base object k h (inr (inl is)) = subst (λ k. HasNoSites k base object → WhyNotApplied k base object) (sym is) (λ h. h) h
-sites_told base object k h (inr (inr is)) = subst (λ k. HasNoSites k base object → WhyNotApplied k base object) (sym is) (λ h. inl h) h
+sites_told : (full : Reading → Reading → Type 0) (base object : Reading) (k : FaultKind) → HasNoSites k base object → IsOfSites k → WhyNotApplied full k base object
+sites_told full base object k h (inl is) = subst (λ k. HasNoSites k base object → WhyNotApplied full k base object) (sym is) (λ h. h) h
+sites_told full base object k h (inr (inl is)) = subst (λ k. HasNoSites k base object → WhyNotApplied full k base object) (sym is) (λ h. h) h
+sites_told full base object k h (inr (inr is)) = subst (λ k. HasNoSites k base object → WhyNotApplied full k base object) (sym is) (λ h. inl h) h
 
 -- a fault of the look is one of the object
-pub site_told : (base : Reading) (tree : Arena) (b : Brought) (p : Plan) (r : IsReadAs base tree b p) (e : Fault)
+pub site_told : (full : Reading → Reading → Type 0) (base : Reading) (tree : Arena) (b : Brought) (p : Plan) (r : IsReadAs base tree b p) (e : Fault)
     → (e.at ≡ None) × ((e.kind ≡ NoMemory) ⊎ HasNoSite e.kind base (reading tree) r.fixups nothing_walked (fragment_names (reading tree).children))
-    → (e.at ≡ None) × WhyNotApplied e.kind base (reading tree)
-site_told base tree b p r e (at, inl k) = (at, subst (λ kind. WhyNotApplied kind base (reading tree)) (sym k) tt)
-site_told base tree b p r e (at, inr why) = (
+    → (e.at ≡ None) × WhyNotApplied full e.kind base (reading tree)
+site_told full base tree b p r e (at, inl k) = (at, subst (λ kind. WhyNotApplied full kind base (reading tree)) (sym k) tt)
+site_told full base tree b p r e (at, inr why) = (
   at,
-  sites_told base (reading tree) e.kind (record { well = r.well; fixups = r.fixups; listed = r.listed; why = why })
+  sites_told full base (reading tree) e.kind (record { well = r.well; fixups = r.fixups; listed = r.listed; why = why })
       (none_kind e.kind base (reading tree) r.fixups nothing_walked (fragment_names (reading tree).children) why),
 )
 
 -- ---- the end
 
-pub landing_told : (base object : Reading) (e : Fault) → (e.at ≡ None) × ((e.kind ≡ NoMemory) ⊎ ((e.kind ≡ Limit) × IsOverfull base object)) → (e.at ≡ None) × WhyNotApplied e.kind base object
-landing_told base object e (at, inl k) = (at, subst (λ kind. WhyNotApplied kind base object) (sym k) tt)
-landing_told base object e (at, inr (k, over)) = (at, subst (λ kind. WhyNotApplied kind base object) (sym k) (inr over))
+pub landing_told : (full : Reading → Reading → Type 0) (base object : Reading) (e : Fault) → IsWant (IsCrowded full base object) e → (e.at ≡ None) × WhyNotApplied full e.kind base object
+landing_told full base object e (at, inl k) = (at, subst (λ kind. WhyNotApplied full kind base object) (sym k) tt)
+landing_told full base object e (at, inr (k, over)) = (at, subst (λ kind. WhyNotApplied full kind base object) (sym k) (inr over))
 
-pub landing_left : (base object new : Reading) (e : Fault) → (e.at ≡ None) × ((e.kind ≡ NoMemory) ⊎ ((e.kind ≡ Limit) × IsOverfull base object)) → IsLeftBy e.kind base object new
-landing_left base object new e (at, inl k) = inl k
-landing_left base object new e (at, inr (k, over)) = inr (inl (k, over))
+pub landing_left : (full : Reading → Reading → Type 0) (base object new : Reading) (e : Fault) → IsWant (IsCrowded full base object) e → IsLeftBy full e.kind base object new
+landing_left full base object new e (at, inl k) = inl k
+landing_left full base object new e (at, inr (k, over)) = inr (inl (k, over))
 
 -- want of memory is told as it is
-pub memory_told : (base object : Reading) (e : Fault) → (e.kind ≡ NoMemory) × (e.at ≡ None) → (e.at ≡ None) × WhyNotApplied e.kind base object
-memory_told base object e (k, at) = (at, subst (λ kind. WhyNotApplied kind base object) (sym k) tt)
+pub memory_told : (full : Reading → Reading → Type 0) (base object : Reading) (e : Fault) → (e.kind ≡ NoMemory) × (e.at ≡ None) → (e.at ≡ None) × WhyNotApplied full e.kind base object
+memory_told full base object e (k, at) = (at, subst (λ kind. WhyNotApplied full kind base object) (sym k) tt)

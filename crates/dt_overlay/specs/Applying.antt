@@ -1,8 +1,7 @@
 -- What is known of an object on the way, while it is applied.
-use Rattle.std.specs.Prelude.{◌≡◌, ◌⊎◌, ℕ, List, [], map}
+use Rattle.std.specs.Prelude.{◌≡◌, ◌⊎◌, List, [], map}
 use Rattle.std.specs.List.{AllByRecursion, flat_map}
 use Rattle.dt_model.specs.Names.{Name}
-use Rattle.dt_model.specs.Path.{Path}
 use Rattle.dt_model.specs.Tree.{Reading}
 use Rattle.dt_model.specs.Valid.{IsWithinLimits}
 use Rattle.dt_model.specs.Merged.{Site}
@@ -14,10 +13,10 @@ use Rattle.dt_flat.specs.Arena.{Arena, reading}
 use Rattle.dt_joining.specs.Walk.{Walked, nothing_walked, new_numbers}
 use Rattle.dt_landing.specs.Landings.{AreSited}
 use Rattle.dt_landing.specs.Objects.{HasCell, IsWellFormed, symbols_in}
-use Rattle.dt_landing.specs.Refusals.{IsOverfull}
+use Rattle.dt_landing.specs.Refusals.{IsCrowded}
 use Rattle.dt_overlay.specs.declared.applying.Plan.{Plan}
 use Rattle.dt_overlay.specs.declared.numbers.Brought.{Brought}
-use Rattle.dt_overlay.specs.Known.{IsKnown, landed_paths}
+use Rattle.dt_overlay.specs.Known.{IsKnown}
 use Rattle.dt_overlay.specs.Plans.{AreBrought, AreFragmentsOf, AreSymbolsOf, AreWritesOf, IsReady, symbol_brought}
 
 -- nothing is planned so far
@@ -61,6 +60,6 @@ pub record IsWrittenAs (base object : Reading) (tree : Arena) (b : Brought) (p :
   pub ready : IsReady object (writes base object fixups (new_numbers base object end)) (new_numbers base object end) tree p.fragments.items b
   pub symbols : AreSymbolsOf tree.slots p.symbols.items (flat_map (symbol_brought object) (symbols_in object))
 
--- a fault leaves the base as it was, unless memory is wanted, or the nodes are too many
-abbrev pub IsLeftBy : FaultKind → (base object new : Reading) → Type 0
-IsLeftBy kind base object new = (kind ≡ NoMemory) ⊎ ((kind ≡ Limit) × IsOverfull base object) ⊎ (new ≡ base)
+-- a fault leaves the base as it was, unless memory is wanted, or room on the way
+abbrev pub IsLeftBy : (Reading → Reading → Type 0) → FaultKind → (base object new : Reading) → Type 0
+IsLeftBy full kind base object new = (kind ≡ NoMemory) ⊎ ((kind ≡ Limit) × IsCrowded full base object) ⊎ (new ≡ base)

@@ -1,9 +1,9 @@
 -- The nodes of a tree as they land, by their numbers in the tree.
-use Rattle.std.specs.Prelude.{◌≡◌, ℕ, true, suc, ◌==◌, List, [], ◌∷◌, map, drop, slice_get, Option, None, unwrap_or, if◌then◌else◌}
+use Rattle.std.specs.Prelude.{◌≡◌, ◌⊎◌, ℕ, true, suc, ◌==◌, List, [], ◌∷◌, map, drop, slice_get, Option, None, unwrap_or, if◌then◌else◌}
 use Rattle.dt_model.specs.Path.{Path}
 use Rattle.dt_model.specs.Tree.{Forest, no_nodes, branch, Reading, Node, stands_in}
 use Rattle.dt_flat.specs.Arena.{Slot, properties}
-use Rattle.dt_landing.specs.Steps.{land_node, MayLandNode}
+use Rattle.dt_landing.specs.Steps.{land_node, MayLandNode, FullAtNode}
 use Rattle.dt_landing.specs.Writing.{landed_property}
 
 -- the new number of a node, if it gets one
@@ -39,3 +39,10 @@ MayLandEach numbers slots (k ∷ ks) [] t = Unit {0}
 MayLandEach numbers slots (k ∷ ks) (q ∷ sites) t =
     (stands_in t q ≡ true) × MayLandNode q (landed_at numbers slots k) t
     × MayLandEach numbers slots ks sites (land_node q (landed_at numbers slots k) t)
+
+-- a change on the way for which there is no room
+abbrev pub FullAtEach : (Reading → Reading → Type 0) → List (Option ℕ) → List Slot → List ℕ → List Path → Reading → Type 0
+FullAtEach full numbers slots [] sites t = ⊥
+FullAtEach full numbers slots (k ∷ ks) [] t = ⊥
+FullAtEach full numbers slots (k ∷ ks) (q ∷ sites) t =
+    FullAtNode full q (landed_at numbers slots k) t ⊎ FullAtEach full numbers slots ks sites (land_node q (landed_at numbers slots k) t)

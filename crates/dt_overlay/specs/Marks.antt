@@ -1,8 +1,7 @@
 -- How the targets of fragments are to be read.
-use Rattle.std.specs.Prelude.{◌≡◌, ℕ, ◌==◌, ◌&&◌, Bool, true, false, List, [], ◌∷◌, slice_get, slice_set, Option, Some, None, if◌then◌else◌, codes}
+use Rattle.std.specs.Prelude.{◌≡◌, ℕ, ◌==◌, ◌&&◌, Bool, true, false, List, [], ◌∷◌, slice_get, slice_set, Some, None, if◌then◌else◌, codes}
 use Rattle.std.specs.List.{list_any}
 use Rattle.std.specs.Str.{bytes_eq}
-use Rattle.dt_model.specs.Lists.{last_of}
 use Rattle.dt_model.specs.Names.{Name}
 use Rattle.dt_model.specs.Object.{Cell, local_cells}
 use Rattle.dt_model.specs.Tree.{Reading}

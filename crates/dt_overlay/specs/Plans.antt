@@ -1,5 +1,5 @@
 -- What the code keeps of an object while it is applied, and what that stands for.
-use Rattle.std.specs.Prelude.{◌≡◌, ◌↔◌, ℕ, ◌<◌, List, [], ◌∷◌, ◌++◌, length, map, replicate, slice_get, Option, Some, None, true, is_some, option_and_then, unwrap_or, if◌then◌else◌, codes}
+use Rattle.std.specs.Prelude.{◌≡◌, ◌↔◌, ℕ, List, [], ◌∷◌, ◌++◌, length, map, replicate, slice_get, Option, Some, None, true, is_some, option_and_then, unwrap_or, if◌then◌else◌, codes}
 use Rattle.std.specs.List.{AllByRecursion, flat_map}
 use Rattle.dt_model.specs.Names.{Name}
 use Rattle.dt_model.specs.Path.{Path, below}

@@ -1,5 +1,5 @@
 -- What is known when a fragment's turn comes.
-use Rattle.std.specs.Prelude.{◌≡◌, ℕ, ◌<◌, ◌≤◌, true, List, [], ◌∷◌, ◌++◌, length, map, Some}
+use Rattle.std.specs.Prelude.{◌≡◌, ◌<◌, ◌≤◌, true, List, [], ◌∷◌, ◌++◌, length, map, Some}
 use Rattle.dt_model.specs.Limits.{most_names}
 use Rattle.dt_model.specs.Lists.{IsIn}
 use Rattle.std.specs.List.{AllByRecursion}

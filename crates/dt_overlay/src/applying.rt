@@ -8,12 +8,13 @@ ghost use Rattle.dt_flat.specs.Arena.{reading};
 ghost use Rattle.dt_read.specs.Placed.{reading_of};
 ghost use Rattle.dt_landing.specs.Objects.{IsWellFormed};
 ghost use Rattle.dt_landing.specs.Landings.{HasNoSite};
-ghost use Rattle.dt_landing.specs.Refusals.{IsOverfull, WhyNotApplied};
+ghost use Rattle.dt_landing.specs.Refusals.{IsCrowded, WhyNotApplied};
 ghost use Rattle.dt_model.specs.Tree.{Reading};
 ghost use Rattle.dt_names.specs.declared.fault.FaultKind.TheVariants.{NoMemory, Limit};
 ghost use Rattle.dt_overlay.specs.Plans.{IsUnbrought};
 ghost use Rattle.dt_overlay.specs.Applying.{IsEmptyPlan, IsReadAs, IsSitedAs, IsWrittenAs, IsLeftBy};
 ghost use Rattle.dt_overlay.specs.Known.{IsKnown};
+ghost use Rattle.dt_overlay.specs.Targets.{HasNoRoom, IsWant};
 
 use crate::Target;
 use crate::fixups::list_fixups;
@@ -28,7 +29,7 @@ use crate::symbol_landing::set_symbols;
 use crate::symbols::{Symbol, list_symbols};
 use crate::writes::{Write, write_cells};
 use dt_flat::FlatTree;
-use dt_landing::{fragments_are_merged, nodes_are_kept, sited_is_applied, symbols_are_merged};
+use dt_landing::{fragments_are_merged, sited_is_applied};
 use dt_names::{Fault, NodeName, Path};
 use dt_read::Blob;
 use std::alloc::Global;
@@ -88,7 +89,7 @@ fn read<T: Target>(
     ensures sites { OnOk result (plan.new.sites ≡ plan.old.sites) }
     ensures places { OnOk result (plan.new.places ≡ plan.old.places) }
     ensures refused { IfErr result (λ fault. (fault.at ≡ None)
-        × WhyNotApplied fault.kind (T.reading target.now) (reading object.now)) }
+        × WhyNotApplied (HasNoRoom T.reading T.has_room) fault.kind (T.reading target.now) (reading object.now)) }
 {
     object.validity();
     list_fragments(alloc, object, &mut plan.fragments)?;
@@ -166,13 +167,10 @@ fn land_planned<T: Target>(
     ensures applied { (read : Reading) → IsWrittenAs (T.reading target.old) read object.now brought.now plan.old →
         OnOk result (IsApplied (T.reading target.old) read (T.reading target.new)) }
     ensures refused { (read : Reading) → IsWrittenAs (T.reading target.old) read object.now brought.now plan.old →
-        IfErr result (λ fault. (fault.at ≡ None) × ((fault.kind ≡ NoMemory)
-        ⊎ ((fault.kind ≡ Limit) × IsOverfull (T.reading target.old) read))) }
+        IfErr result (IsWant (IsCrowded (HasNoRoom T.reading T.has_room) (T.reading target.old) read)) }
 {
     sited_is_applied();
     fragments_are_merged();
-    symbols_are_merged();
-    nodes_are_kept();
     target.validity();
     object.validity();
     land_all(
@@ -210,8 +208,8 @@ fn carry_out<T: Target>(
     ensures applied { OnOk result (IsApplied (T.reading target.old) (reading object.old) (T.reading target.new)) }
     ensures well { OnOk result (IsWellFormed (T.reading target.old) (reading object.old)) }
     ensures refused { IfErr result (λ fault. (fault.at ≡ None)
-        × WhyNotApplied fault.kind (T.reading target.old) (reading object.old)) }
-    ensures left { IfErr result (λ fault. IsLeftBy fault.kind (T.reading target.old) (reading object.old) (T.reading target.new)) }
+        × WhyNotApplied (HasNoRoom T.reading T.has_room) fault.kind (T.reading target.old) (reading object.old)) }
+    ensures left { IfErr result (λ fault. IsLeftBy (HasNoRoom T.reading T.has_room) fault.kind (T.reading target.old) (reading object.old) (T.reading target.new)) }
 {
     read(alloc, target, symbols, object, brought, plan)?;
     look(alloc, target, object, brought, plan)?;
@@ -232,8 +230,8 @@ fn carry_out_planned<T: Target>(
     ensures applied { OnOk result (IsApplied (T.reading target.old) (reading object.old) (T.reading target.new)) }
     ensures well { OnOk result (IsWellFormed (T.reading target.old) (reading object.old)) }
     ensures refused { IfErr result (λ fault. (fault.at ≡ None)
-        × WhyNotApplied fault.kind (T.reading target.old) (reading object.old)) }
-    ensures left { IfErr result (λ fault. IsLeftBy fault.kind (T.reading target.old) (reading object.old) (T.reading target.new)) }
+        × WhyNotApplied (HasNoRoom T.reading T.has_room) fault.kind (T.reading target.old) (reading object.old)) }
+    ensures left { IfErr result (λ fault. IsLeftBy (HasNoRoom T.reading T.has_room) fault.kind (T.reading target.old) (reading object.old) (T.reading target.new)) }
 {
     let mut plan = Plan::new(alloc);
     let done = carry_out(alloc, target, symbols, object, brought, &mut plan);
@@ -247,8 +245,8 @@ fn apply_tree<T: Target>(alloc: Global, target: &mut T, object: &mut FlatTree) -
     ensures applied { OnOk result (IsApplied (T.reading target.old) (reading object.old) (T.reading target.new)) }
     ensures well { OnOk result (IsWellFormed (T.reading target.old) (reading object.old)) }
     ensures refused { IfErr result (λ fault. (fault.at ≡ None)
-        × WhyNotApplied fault.kind (T.reading target.old) (reading object.old)) }
-    ensures left { IfErr result (λ fault. IsLeftBy fault.kind (T.reading target.old) (reading object.old) (T.reading target.new)) }
+        × WhyNotApplied (HasNoRoom T.reading T.has_room) fault.kind (T.reading target.old) (reading object.old)) }
+    ensures left { IfErr result (λ fault. IsLeftBy (HasNoRoom T.reading T.has_room) fault.kind (T.reading target.old) (reading object.old) (T.reading target.new)) }
 {
     let symbols = symbols_path(alloc)?;
     let mut brought = Brought::new(alloc, object.node_count())?;
@@ -269,14 +267,15 @@ fn apply_tree<T: Target>(alloc: Global, target: &mut T, object: &mut FlatTree) -
 /// the same of a cell of the object's own nodes, or the number in it is that of no node that it may name; `BadSymbol`, a label of
 /// the object isn't a text, or names a node that isn't there; then fragment by fragment `NoTarget`, its target is no node of the
 /// tree, and none that an earlier fragment brings, `ReservedPlace`, something lands in a bookkeeping node, `Limit`, on a path of
-/// more than 64 names. After these the tree is unchanged. `Limit`, what comes of an object without these faults has more than
-/// 65,536 nodes, and `NoMemory` may leave a part of the object in it.
+/// more than 64 names. After these the tree is unchanged. `Limit`, an object has none of these faults, and on the way there was no room for a
+/// change in the tree as it then stood (of a `FlatTree` that is so exactly where more than 65,536 nodes would come of the object), and
+/// `NoMemory` may leave a part of the object in it.
 pub fn apply<T: Target>(alloc: Global, target: &mut T, object: &Blob<'_>) -> Result<(), Fault>
     ensures applied { OnOk result (IsApplied (T.reading target.old) (reading_of object.now) (T.reading target.new)) }
     ensures well { OnOk result (IsWellFormed (T.reading target.old) (reading_of object.now)) }
     ensures refused { IfErr result (λ fault. (fault.at ≡ None)
-        × WhyNotApplied fault.kind (T.reading target.old) (reading_of object.now)) }
-    ensures left { IfErr result (λ fault. IsLeftBy fault.kind (T.reading target.old) (reading_of object.now) (T.reading target.new)) }
+        × WhyNotApplied (HasNoRoom T.reading T.has_room) fault.kind (T.reading target.old) (reading_of object.now)) }
+    ensures left { IfErr result (λ fault. IsLeftBy (HasNoRoom T.reading T.has_room) fault.kind (T.reading target.old) (reading_of object.now) (T.reading target.new)) }
 {
     let mut tree = object.to_flat(alloc)?;
     let done = apply_tree(alloc, target, &mut tree);

@@ -3,7 +3,7 @@
 ghost use Rattle.std.specs.Prelude.{◌≡◌, true};
 ghost use Rattle.dt_flat.specs.Arena.{reading as arena_reading};
 ghost use Rattle.dt_model.specs.Tree.{stands_in};
-ghost use Rattle.dt_overlay.specs.FlatTargets.{IsPlaced};
+ghost use Rattle.dt_overlay.specs.FlatTargets.{HasRoom, IsPlaced, TreeRoomIsCounted};
 
 use crate::target::Target;
 use dt_flat::{FlatTree, NodeId};
@@ -24,6 +24,8 @@ fn node_at(tree: &FlatTree, path: &Path) -> NodeId
 
 impl Target for FlatTree {
     ghost reading = { arena_reading };
+
+    ghost has_room = { HasRoom };
 
     fn validity(&self) {
         FlatTree::validity(self);
@@ -48,6 +50,7 @@ impl Target for FlatTree {
     }
 
     fn set_prop(&mut self, path: &Path, name: &PropName<'_>, value: &[u8]) -> Result<(), Fault> {
+        FlatTree::validity(self);
         let node = node_at(self, path);
         FlatTree::set_prop(self, node, name, value)
     }
@@ -65,7 +68,14 @@ impl Target for FlatTree {
         offset: usize,
         number: u32,
     ) -> Result<(), Fault> {
+        FlatTree::validity(self);
         let node = node_at(self, path);
         FlatTree::patch_cell(self, node, name, offset, number)
     }
 }
+
+/// What there is room for in a `FlatTree` is told by the number of nodes: an object isn't applied to one for want of room exactly where
+/// more than 65,536 nodes would come of it (`dt_landing::room_is_counted`).
+pub fn tree_room_is_counted()
+    ensures { TreeRoomIsCounted }
+{}

@@ -1,16 +1,16 @@
 //! Landing what the fragments bring.
 
-ghost use Rattle.std.specs.Prelude.{◌≡◌, ◌+◌, ◌<◌, ◌++◌, ◌∷◌, ◌⊎◌, [], true, None, length, map, OnOk, IfOk, IfErr};
+ghost use Rattle.std.specs.Prelude.{◌≡◌, ◌+◌, ◌<◌, ◌++◌, ◌∷◌, ◌⊎◌, [], true, length, map, OnOk, IfOk, IfErr};
 ghost use Rattle.std.specs.List.{AllByRecursion};
-ghost use Rattle.dt_model.specs.Limits.{most_names, most_nodes};
+ghost use Rattle.dt_model.specs.Limits.{most_names};
 ghost use Rattle.dt_model.specs.Names.{IsNodeName, IsPropertyName};
 ghost use Rattle.dt_model.specs.Tree.{stands_in};
-ghost use Rattle.dt_model.specs.Valid.{node_count};
 ghost use Rattle.dt_model.specs.Changes.{with_child_at, with_property_at};
 ghost use Rattle.dt_names.specs.declared.fault.FaultKind.TheVariants.{NoMemory, Limit};
-ghost use Rattle.dt_landing.specs.Steps.{land_properties, land_node, MayLandProperties, MayLandNode, MaySetValue};
+ghost use Rattle.dt_landing.specs.Steps.{land_properties, land_node, MayLandProperties, MayLandNode, MaySetValue, FullAtProperties, FullAtNode};
 ghost use Rattle.dt_landing.specs.Writing.{landed_property};
-ghost use Rattle.dt_overlay.specs.Landed.{landed_at, land_each, MayLandEach};
+ghost use Rattle.dt_overlay.specs.Landed.{landed_at, land_each, MayLandEach, FullAtEach};
+ghost use Rattle.dt_overlay.specs.Targets.{HasNoRoom, IsWant};
 
 use crate::Target;
 use crate::fragments::Fragment;
@@ -33,7 +33,8 @@ fn land_property<T: Target>(
         (landed_property number (record { name = name.now; value = value.now })).value (T.reading target.old) }
     ensures set { OnOk result (T.reading target.new ≡ with_property_at path.now name.now
         (landed_property number (record { name = name.now; value = value.now })).value (T.reading target.old)) }
-    ensures refused { IfErr result (λ fault. (fault.kind ≡ NoMemory) × (fault.at ≡ None)) }
+    ensures refused { IfErr result (IsWant (HasNoRoom T.reading T.has_room (T.reading target.old) (with_property_at path.now name.now
+        (landed_property number (record { name = name.now; value = value.now })).value (T.reading target.old)))) }
 {
     let property = PropName::new(name)?;
     if name == b"phandle".as_slice() {
@@ -54,7 +55,8 @@ fn set_properties<T: Target>(
     requires may { MayLandProperties path.now (map (landed_property number) props) (T.reading target.old) }
     ensures landed { OnOk result
         (T.reading target.new ≡ land_properties path.now (map (landed_property number) props.entry) (T.reading target.old)) }
-    ensures refused { IfErr result (λ fault. (fault.kind ≡ NoMemory) × (fault.at ≡ None)) }
+    ensures refused { IfErr result (IsWant (FullAtProperties (HasNoRoom T.reading T.has_room) path.now (map (landed_property number) props.entry)
+        (T.reading target.old))) }
 {
     for (name, value) in props {
         land_property(target, path, name, value, number)?;
@@ -74,8 +76,8 @@ fn add_child<T: Target>(
     requires shallow { length parent.now < most_names }
     ensures path { IfOk result (λ path. path ≡ parent.now ++ name.now ∷ []) }
     ensures added { OnOk result (T.reading target.new ≡ with_child_at parent.now name.now (T.reading target.old)) }
-    ensures refused { IfErr result (λ fault. (fault.at ≡ None) × ((fault.kind ≡ NoMemory) ⊎ ((fault.kind ≡ Limit)
-        × (most_nodes < 1 + node_count (with_child_at parent.now name.now (T.reading target.old)).children)))) }
+    ensures refused { IfErr result (IsWant (HasNoRoom T.reading T.has_room (T.reading target.old)
+        (with_child_at parent.now name.now (T.reading target.old)))) }
 {
     let path = child_path(alloc, parent, name)?;
     if !target.find(&path) {
@@ -99,8 +101,8 @@ fn land<T: Target>(
     requires may { MayLandNode path.now (landed_at numbers.now object.now.slots node) (T.reading target.old) }
     ensures landed { OnOk result
         (T.reading target.new ≡ land_node path.now (landed_at numbers.now object.now.slots node) (T.reading target.old)) }
-    ensures refused { IfErr result (λ fault. (fault.at ≡ None) × ((fault.kind ≡ NoMemory) ⊎ ((fault.kind ≡ Limit)
-        × (most_nodes < 1 + node_count (land_node path.now (landed_at numbers.now object.now.slots node) (T.reading target.old)).children)))) }
+    ensures refused { IfErr result (IsWant (FullAtNode (HasNoRoom T.reading T.has_room) path.now
+        (landed_at numbers.now object.now.slots node) (T.reading target.old))) }
 {
     object.validity();
     set_properties(target, path, object.props(node), numbers[node])?;
@@ -111,8 +113,7 @@ fn land<T: Target>(
     Ok(())
 }
 
-/// Lands what the fragments bring, each on its site. `Limit`: the tree would have more than 65,536 nodes. `NoMemory`: memory was
-/// refused.
+/// Lands what the fragments bring, each on its site. `Limit`: there is no room. `NoMemory`: memory was refused.
 pub fn land_all<T: Target>(
     alloc: Global,
     target: &mut T,
@@ -126,9 +127,8 @@ pub fn land_all<T: Target>(
     requires may { MayLandEach numbers.now object.now.slots (map (λ x. x.content) fragments.now) sites.now (T.reading target.old) }
     ensures landed { OnOk result (T.reading target.new
         ≡ land_each numbers.now object.now.slots (map (λ x. x.content) fragments.now) sites.now (T.reading target.old)) }
-    ensures refused { IfErr result (λ fault. (fault.at ≡ None) × ((fault.kind ≡ NoMemory) ⊎ ((fault.kind ≡ Limit)
-        × (most_nodes < 1 + node_count (land_each numbers.now object.now.slots (map (λ x. x.content) fragments.now) sites.now
-        (T.reading target.old)).children)))) }
+    ensures refused { IfErr result (IsWant (FullAtEach (HasNoRoom T.reading T.has_room) numbers.now object.now.slots
+        (map (λ x. x.content) fragments.now) sites.now (T.reading target.old))) }
 {
     for (fragment, site) in fragments.iter().zip(sites) {
         land(alloc, target, object, numbers, fragment.content, site)?;

@@ -19,4 +19,5 @@ mod texts;
 mod writes;
 
 pub use applying::apply;
+pub use flat_target::tree_room_is_counted;
 pub use target::Target;

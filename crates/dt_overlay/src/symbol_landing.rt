@@ -1,17 +1,17 @@
 //! The labels of the nodes that landed.
 
-ghost use Rattle.std.specs.Prelude.{◌≡◌, ◌+◌, ◌<◌, ◌∷◌, ◌⊎◌, [], true, List, None, codes, OnOk, IfErr};
+ghost use Rattle.std.specs.Prelude.{◌≡◌, ◌+◌, ◌<◌, ◌∷◌, ◌⊎◌, [], true, List, codes, OnOk, IfErr};
 ghost use Rattle.dt_model.specs.Applied.{with_symbols_merged, landed_symbols};
 ghost use Rattle.dt_model.specs.Changes.{with_child_at, with_property_at};
-ghost use Rattle.dt_model.specs.Limits.{most_nodes};
 ghost use Rattle.dt_model.specs.Merged.{Site};
 ghost use Rattle.dt_model.specs.Path.{path_value};
 ghost use Rattle.dt_model.specs.Path.{Path as Names};
 ghost use Rattle.dt_model.specs.Tree.{Reading, stands_in};
-ghost use Rattle.dt_model.specs.Valid.{node_count};
 ghost use Rattle.dt_names.specs.declared.fault.FaultKind.TheVariants.{NoMemory, Limit};
 ghost use Rattle.dt_landing.specs.Objects.{symbols_in};
+ghost use Rattle.dt_landing.specs.Steps.{FullAtSymbols};
 ghost use Rattle.dt_overlay.specs.SymbolLanding.{AreToLand, LandsAt};
+ghost use Rattle.dt_overlay.specs.Targets.{HasNoRoom, IsWant};
 
 use crate::Target;
 use crate::numbers::Brought;
@@ -26,8 +26,8 @@ use std::alloc::Global;
 fn add_symbols<T: Target>(alloc: Global, target: &mut T, symbols: &Path) -> Result<(), Fault>
     requires symbols { symbols.now ≡ codes "__symbols__" ∷ [] }
     ensures added { OnOk result (T.reading target.new ≡ with_child_at [] (codes "__symbols__") (T.reading target.old)) }
-    ensures refused { IfErr result (λ fault. (fault.at ≡ None) × ((fault.kind ≡ NoMemory) ⊎ ((fault.kind ≡ Limit)
-        × (most_nodes < 1 + node_count (with_child_at [] (codes "__symbols__") (T.reading target.old)).children)))) }
+    ensures refused { IfErr result (IsWant (HasNoRoom T.reading T.has_room (T.reading target.old)
+        (with_child_at [] (codes "__symbols__") (T.reading target.old)))) }
 {
     if target.find(symbols) {
         return Ok(());
@@ -51,7 +51,9 @@ fn set_symbol<T: Target>(
     requires lands { (path : Names) × LandsAt object.now brought.now sites.now symbol.now path }
     ensures set { (path : Names) → LandsAt object.now brought.now sites.now symbol.now path →
         OnOk result (T.reading target.new ≡ with_property_at symbols.now symbol.now.label.items (path_value path) (T.reading target.old)) }
-    ensures refused { IfErr result (λ fault. (fault.kind ≡ NoMemory) × (fault.at ≡ None)) }
+    ensures refused { (path : Names) → LandsAt object.now brought.now sites.now symbol.now path →
+        IfErr result (IsWant (HasNoRoom T.reading T.has_room (T.reading target.old)
+        (with_property_at symbols.now symbol.now.label.items (path_value path) (T.reading target.old)))) }
 {
     object.validity();
     let Some(path) = landing(alloc, object, brought, sites, symbol.node)? else {
@@ -61,8 +63,8 @@ fn set_symbol<T: Target>(
     target.set_prop(symbols, &PropName::new(&symbol.label)?, value)
 }
 
-/// Sets the labels of the nodes that landed in `__symbols__`, which is added where there is any. `Limit`: the tree would have more
-/// than 65,536 nodes. `NoMemory`: memory was refused.
+/// Sets the labels of the nodes that landed in `__symbols__`, which is added where there is any. `Limit`: there is no room.
+/// `NoMemory`: memory was refused.
 pub fn set_symbols<T: Target>(
     alloc: Global,
     target: &mut T,
@@ -78,8 +80,7 @@ pub fn set_symbols<T: Target>(
     ensures set { (read : Reading) (found : List Site) → AreToLand read found object.now brought.now sites.now labels.now →
         OnOk result (T.reading target.new ≡ with_symbols_merged (landed_symbols read found (symbols_in read)) (T.reading target.old)) }
     ensures refused { (read : Reading) (found : List Site) → AreToLand read found object.now brought.now sites.now labels.now →
-        IfErr result (λ fault. (fault.at ≡ None) × ((fault.kind ≡ NoMemory) ⊎ ((fault.kind ≡ Limit)
-        × (most_nodes < 1 + node_count (with_symbols_merged (landed_symbols read found (symbols_in read)) (T.reading target.old)).children)))) }
+        IfErr result (IsWant (FullAtSymbols (HasNoRoom T.reading T.has_room) (landed_symbols read found (symbols_in read)) (T.reading target.old))) }
 {
     if labels.is_empty() {
         return Ok(());

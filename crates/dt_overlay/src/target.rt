@@ -9,7 +9,7 @@ ghost use Rattle.dt_model.specs.Tree.{Reading, stands_in, value_in};
 ghost use Rattle.dt_model.specs.Valid.{IsValid, IsWithinLimits};
 ghost use Rattle.dt_names.specs.declared.fault.FaultKind.TheVariants.{NoMemory};
 ghost use Rattle.dt_landing.specs.Objects.{HasCells, HasNumber};
-ghost use Rattle.dt_overlay.specs.Targets.{MayAddAt, MaySetAt, WhyNotAddedAt, WhyNotSetAt};
+ghost use Rattle.dt_overlay.specs.Targets.{MayAddAt, HasRoomAt, WhyNotAddedAt, WhyNotSetAt};
 
 use dt_names::{Fault, NodeName, Path, PropName};
 use std::alloc::Global;
@@ -18,6 +18,10 @@ use std::alloc::Global;
 pub trait Target {
     /// The tree.
     ghost reading: { Self → Reading };
+
+    /// What there is room for: trees that this one may become by a change. Of a `FlatTree` it is told by the number of nodes; of another
+    /// target it may hang on more than its reading.
+    ghost has_room: { Self → Reading → Type 0 };
 
     /// What is true of each tree: a blob may hold it (Devicetree Specification v0.4, chapters 2 and 5), it is within the limits,
     /// and each `phandle` is the cell of a number. Does nothing.
@@ -43,26 +47,25 @@ pub trait Target {
         ensures refused { IfErr result (λ fault. (fault.kind ≡ NoMemory) × (fault.at ≡ None)) };
 
     /// Sets a property of a path's node: one that is there keeps its place, a new one goes last. `BlobPhandle`: the property is
-    /// `phandle`, and the value isn't four bytes of a number from 1 to 0xfffffffe that no other node has. `NoMemory`: memory was
-    /// refused. At a fault the tree is unchanged.
+    /// `phandle`, and the value isn't four bytes of a number from 1 to 0xfffffffe that no other node has; else `Limit`: there is no
+    /// room. `NoMemory`: memory was refused. At a fault the tree is unchanged.
     fn set_prop(&mut self, path: &Path, name: &PropName<'_>, value: &[u8]) -> Result<(), Fault>
         requires { stands_in (reading self.old) path.now ≡ true }
         ensures ok { OnOk result (reading self.new ≡ with_property_at path.now name.now value.now (reading self.old)) }
-        ensures allowed { IsOk result → MaySetAt (reading self.old) path.now name.now value.now }
+        ensures allowed { IsOk result → HasRoomAt (has_room self.old) (reading self.old) path.now name.now value.now }
         ensures err { OnErr result (reading self.new ≡ reading self.old) }
         ensures refused { IfErr result (λ fault.
-            WhyNotSetAt fault.kind (reading self.old) path.now name.now value.now × (fault.at ≡ None)) };
+            WhyNotSetAt (has_room self.old) fault.kind (reading self.old) path.now name.now value.now × (fault.at ≡ None)) };
 
-    /// Adds a child at the end of the children of a path's node. `Duplicate`: the node has a child of that name. `Limit`: the
-    /// tree has 65,536 nodes, or the path 64 names. `NoMemory`: memory was refused. Where the first two hold, it answers
-    /// `Duplicate`. At a fault the tree is unchanged.
+    /// Adds a child at the end of the children of a path's node. `Duplicate`: the node has a child of that name; else `Limit`: there is
+    /// no room, or the path has 64 names. `NoMemory`: memory was refused. At a fault the tree is unchanged.
     fn add_node(&mut self, parent: &Path, name: &NodeName<'_>) -> Result<(), Fault>
         requires { stands_in (reading self.old) parent.now ≡ true }
         ensures ok { OnOk result (reading self.new ≡ with_child_at parent.now name.now (reading self.old)) }
-        ensures allowed { IsOk result → MayAddAt (reading self.old) parent.now name.now }
+        ensures allowed { IsOk result → MayAddAt (has_room self.old) (reading self.old) parent.now name.now }
         ensures err { OnErr result (reading self.new ≡ reading self.old) }
         ensures refused { IfErr result (λ fault.
-            WhyNotAddedAt fault.kind (reading self.old) parent.now name.now × (fault.at ≡ None)) };
+            WhyNotAddedAt (has_room self.old) fault.kind (reading self.old) parent.now name.now × (fault.at ≡ None)) };
 
     /// Writes a number, the highest byte first, at an offset of the value of a property of a path's node. Faults are those of
     /// `set_prop` for the value that the property then has.
@@ -77,9 +80,9 @@ pub trait Target {
         ensures ok { (value : List ℕ) → value_in (reading self.old) path.now name.now ≡ Some value →
             OnOk result (reading self.new ≡ with_property_at path.now name.now (with_cell value offset number) (reading self.old)) }
         ensures allowed { (value : List ℕ) → value_in (reading self.old) path.now name.now ≡ Some value →
-            IsOk result → MaySetAt (reading self.old) path.now name.now (with_cell value offset number) }
+            IsOk result → HasRoomAt (has_room self.old) (reading self.old) path.now name.now (with_cell value offset number) }
         ensures err { OnErr result (reading self.new ≡ reading self.old) }
         ensures refused { (value : List ℕ) → value_in (reading self.old) path.now name.now ≡ Some value →
             IfErr result (λ fault.
-            WhyNotSetAt fault.kind (reading self.old) path.now name.now (with_cell value offset number) × (fault.at ≡ None)) };
+            WhyNotSetAt (has_room self.old) fault.kind (reading self.old) path.now name.now (with_cell value offset number) × (fault.at ≡ None)) };
 }

@@ -16,7 +16,10 @@ pub returns-in_err-apply-clause-refused : goal.returns-in_err-apply-clause-refus
 returns-in_err-apply-clause-refused c =
     let e = err_from_is_err_and c.from_residual-in_err-apply.result c.from_residual-in_err-apply.ensures.1 in
     let read : IsRead c.args.object.now (reading_of c.in_ok-object.object) = record { reads = c.in_ok-object.ensures.reads; within = c.in_ok-object.ensures.within } in
-    rw (e.1, e.2) (read_not_applied (reading c.args.tree.now) (reading_of c.in_ok-object.object) c.args.object.now c.in_err-apply.field-0.0 read c.in_err-apply.ensures.refused)
+    let why = c.in_err-apply.ensures.refused in
+    rw (e.1, e.2)
+    (read_not_applied (reading c.args.tree.now) (reading_of c.in_ok-object.object) c.args.object.now c.in_err-apply.field-0.0 read
+    (why.0, c.tree_room_is_counted.ensures c.in_err-apply.field-0.0.kind (reading c.args.tree.now) (reading_of c.in_ok-object.object) why.1))
 
 pub returns-clause-applied : goal.returns-clause-applied
 returns-clause-applied c = (

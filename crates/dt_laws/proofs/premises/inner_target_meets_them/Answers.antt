@@ -1,4 +1,4 @@
-use Rattle.std.proofs.Common.{[], rules}
+use Rattle.std.proofs.Common.{[]}
 use Rattle.dt_model.specs.Rows.{inner_sites}
 use Rattle.dt_laws.specs.Premises.{controller_base, inner_target_object}
 use Rattle.dt_laws.proofs.CheckedCases.{meet_them, object_defined}

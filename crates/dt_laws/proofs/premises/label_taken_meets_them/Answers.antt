@@ -1,4 +1,4 @@
-use Rattle.std.proofs.Common.{[], rules}
+use Rattle.std.proofs.Common.{[]}
 use Rattle.dt_model.specs.Rows.{two_cells_sites}
 use Rattle.dt_laws.specs.Premises.{referring_base, label_taken_object}
 use Rattle.dt_laws.proofs.CheckedCases.{meet_them, object_defined}

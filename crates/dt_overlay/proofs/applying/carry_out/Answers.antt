@@ -2,6 +2,7 @@ use Rattle.std.proofs.lemmas.Result.{err_from_is_err_and}
 use Rattle.dt_flat.specs.Arena.{reading}
 use Rattle.dt_overlay.proofs.ReadPlans.{if_err}
 use Rattle.dt_overlay.proofs.Told.{site_told, landing_told, landing_left}
+use Rattle.dt_overlay.specs.Targets.{HasNoRoom}
 use Rattle.dt_overlay.proofs.applying.carry_out.Goals as goal
 
 pub returns-in_err-look-clause-refused : goal.returns-in_err-look-clause-refused
@@ -9,7 +10,7 @@ returns-in_err-look-clause-refused g c =
     let read = c.in_ok-read.ensures.read in
     let e = err_from_is_err_and c.from_residual-in_err-look.result c.from_residual-in_err-look.ensures.1 in
     rw (e.1, e.2)
-    (site_told (g.T.Target.reading c.args.target.now) c.args.object.now c.read.new.brought c.read.new.plan read c.in_err-look.field-0.0 (c.in_err-look.ensures.refused read))
+    (site_told (HasNoRoom g.T.Target.reading g.T.Target.has_room) (g.T.Target.reading c.args.target.now) c.args.object.now c.read.new.brought c.read.new.plan read c.in_err-look.field-0.0 (c.in_err-look.ensures.refused read))
 
 pub write_numbers-requires : goal.write_numbers-requires
 write_numbers-requires g c =
@@ -32,12 +33,12 @@ pub returns-clause-refused : goal.returns-clause-refused
 returns-clause-refused g c =
     let base = g.T.Target.reading c.args.target.now in
     let read = c.in_ok-read.ensures.read in
-    if_err c.land_planned.result (landing_told base (reading c.args.object.now))
+    if_err c.land_planned.result (landing_told (HasNoRoom g.T.Target.reading g.T.Target.has_room) base (reading c.args.object.now))
     (c.land_planned.ensures.refused (reading c.args.object.now) (c.in_ok-write_numbers.ensures.written base c.read.new.brought c.read.new.plan read (c.in_ok-look.ensures.sited read) c.in_ok-look.ensures.kept))
 
 pub returns-clause-left : goal.returns-clause-left
 returns-clause-left g c =
     let base = g.T.Target.reading c.args.target.now in
     let read = c.in_ok-read.ensures.read in
-    if_err c.land_planned.result (landing_left base (reading c.args.object.now) (g.T.Target.reading c.land_planned.new.target))
+    if_err c.land_planned.result (landing_left (HasNoRoom g.T.Target.reading g.T.Target.has_room) base (reading c.args.object.now) (g.T.Target.reading c.land_planned.new.target))
     (c.land_planned.ensures.refused (reading c.args.object.now) (c.in_ok-write_numbers.ensures.written base c.read.new.brought c.read.new.plan read (c.in_ok-look.ensures.sited read) c.in_ok-look.ensures.kept))

@@ -1,4 +1,4 @@
-use Rattle.std.proofs.Common.{◌≡◌, List, [], sym, ap, subst}
+use Rattle.std.proofs.Common.{List, [], subst}
 use Rattle.std.proofs.lemmas.Result.{err_from_is_err_and}
 use Rattle.dt_model.specs.Object.{fragment_names}
 use Rattle.dt_flat.specs.Arena.{reading}
@@ -6,6 +6,7 @@ use Rattle.dt_overlay.specs.Plans.{ListsFixups, ListsLocalFixups, ListsSymbols}
 use Rattle.dt_overlay.specs.declared.symbols.Symbol.{Symbol}
 use Rattle.dt_overlay.specs.declared.writes.Write.{Write}
 use Rattle.dt_overlay.proofs.ReadPlans.{on_ok, if_err, all_held, label_told, local_told, symbol_told, read_as}
+use Rattle.dt_overlay.specs.Targets.{HasNoRoom}
 use Rattle.dt_overlay.proofs.applying.read.Goals as goal
 
 pub returns-in_err-list_fixups-clause-refused : goal.returns-in_err-list_fixups-clause-refused
@@ -13,7 +14,7 @@ returns-in_err-list_fixups-clause-refused g c =
     let a = c.args.object.now in
     let e = err_from_is_err_and c.from_residual-in_err-list_fixups.result c.from_residual-in_err-list_fixups.ensures.1 in
     rw (e.1, e.2)
-    (label_told (g.T.Target.reading c.args.target.now) (reading a) c.in_err-list_fixups.field-0.0
+    (label_told (HasNoRoom g.T.Target.reading g.T.Target.has_room) (g.T.Target.reading c.args.target.now) (reading a) c.in_err-list_fixups.field-0.0
     (all_held a.slots (reading a) c.list_fragments.new.out.items (fragment_names (reading a).children) c.in_ok-list_fragments.ensures.listed) c.in_err-list_fixups.ensures.refused)
 
 pub returns-in_err-list_local_fixups-clause-refused : goal.returns-in_err-list_local_fixups-clause-refused
@@ -21,7 +22,7 @@ returns-in_err-list_local_fixups-clause-refused g c =
     let e = err_from_is_err_and c.from_residual-in_err-list_local_fixups.result c.from_residual-in_err-list_local_fixups.ensures.1 in
     let a = c.args.object.now in
     rw (e.1, e.2)
-    (local_told (g.T.Target.reading c.args.target.now) (reading a) c.in_err-list_local_fixups.field-0.0
+    (local_told (HasNoRoom g.T.Target.reading g.T.Target.has_room) (g.T.Target.reading c.args.target.now) (reading a) c.in_err-list_local_fixups.field-0.0
     (all_held a.slots (reading a) c.list_fragments.new.out.items (fragment_names (reading a).children) c.in_ok-list_fragments.ensures.listed) c.in_ok-list_fixups.ensures.listed.well
     (c.in_err-list_local_fixups.ensures.refused [] c.bring_all.ensures.brought))
 
@@ -42,6 +43,6 @@ returns-clause-refused g c =
     let base = g.T.Target.reading c.args.target.now in
     let locals = c.in_ok-list_local_fixups.ensures.listed [] c.bring_all.ensures.brought in
     if_err c.list_symbols.result
-    (λ fault why. symbol_told base (reading a) fault
+    (λ fault why. symbol_told (HasNoRoom g.T.Target.reading g.T.Target.has_room) base (reading a) fault
     (all_held a.slots (reading a) c.list_fragments.new.out.items (fragment_names (reading a).children) c.in_ok-list_fragments.ensures.listed) c.in_ok-list_fixups.ensures.listed.well locals.well why)
     c.list_symbols.ensures.refused

@@ -1,15 +1,15 @@
-use Rattle.std.proofs.Common.{◌≡◌, ◌<◌, ◌∷◌, ◌++◌, ◌∙◌, ◌⊎◌, ℕ, List, [], inl, inr, sym, ap, subst, map, length, arith}
+use Rattle.std.proofs.Common.{◌<◌, ◌∷◌, ◌++◌, ◌∙◌, ℕ, List, [], inl, inr, sym, ap, subst, map, length, arith}
 use Rattle.std.specs.List.{AllByRecursion}
 use Rattle.std.proofs.lemmas.List.Elements.{recursion_from_All}
 use Rattle.std.proofs.lemmas.Result.{err_from_is_err_and}
 use Rattle.dt_model.specs.Names.{IsNodeName}
 use Rattle.dt_model.specs.Tree.{Forest, Placed, preorder}
-use Rattle.dt_flat.specs.Arena.{children, below}
+use Rattle.dt_flat.specs.Arena.{children}
 use Rattle.dt_landing.specs.Landings.{MayAllLand, IsStuck}
 use Rattle.dt_overlay.specs.Known.{HasRoom, IsKnown, trees_of}
 use Rattle.dt_joining.specs.Walk.{with_places}
 use Rattle.dt_overlay.proofs.LooksNames.{node_named}
-use Rattle.dt_overlay.proofs.LooksLanded.{below_is, room_first, room_behind, left_begun, left_on, left_failed, left_ended, left_siblings}
+use Rattle.dt_overlay.proofs.LooksLanded.{below_is, room_first, left_begun, left_on, left_failed, left_ended, left_siblings}
 use Rattle.dt_overlay.proofs.looks.+lands.Goals as goal
 
 pub land_child-child_path-requires : goal.land_child-child_path-requires

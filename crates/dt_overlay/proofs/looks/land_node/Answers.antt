@@ -1,6 +1,5 @@
-use Rattle.std.proofs.Common.{◌≡◌, ◌∙◌, List, ℕ, [], ◌∷◌, ◌++◌, Bool, true, inl, refl, sym, ap, subst, codes}
+use Rattle.std.proofs.Common.{◌≡◌, ◌∙◌, [], ◌∷◌, ◌++◌, Bool, true, inl, refl, sym, subst, codes}
 use Rattle.std.specs.Prelude.{is_some, if◌then◌else◌}
-use Rattle.dt_model.specs.Path.{Path}
 use Rattle.dt_model.specs.Tree.{value_of}
 use Rattle.dt_flat.specs.Arena.{properties}
 use Rattle.dt_joining.specs.Walk.{with_place}

@@ -2,7 +2,6 @@ use Rattle.std.proofs.Common.{◌≡◌, ◌∙◌, List, ℕ, false, sym, ap, s
 use Rattle.std.specs.Prelude.{is_some}
 use Rattle.dt_model.specs.Path.{Path}
 use Rattle.dt_joining.specs.Walk.{number_there}
-use Rattle.dt_joining.proofs.Places.{none_there}
 use Rattle.dt_overlay.specs.Known.{IsKnown}
 use Rattle.dt_overlay.proofs.LooksNumbers.{last_low, place_given_next, none_there_at}
 use Rattle.dt_overlay.proofs.looks.number_place.Goals as goal

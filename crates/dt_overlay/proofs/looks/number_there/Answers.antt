@@ -1,4 +1,4 @@
-use Rattle.std.proofs.Common.{rules, ◌≡◌, ◌∙◌, Some, sym, ap, codes}
+use Rattle.std.proofs.Common.{rules, ◌≡◌, Some, codes}
 use Rattle.dt_model.specs.Tree.{value_in}
 use Rattle.dt_overlay.proofs.LooksNumbers.{number_read}
 use Rattle.dt_overlay.proofs.looks.number_there.Goals as goal

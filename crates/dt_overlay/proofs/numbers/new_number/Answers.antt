@@ -1,4 +1,4 @@
-use Rattle.std.proofs.Common.{◌≡◌, ◌∙◌, ℕ, Option, refl, sym, ap}
+use Rattle.std.proofs.Common.{◌∙◌, ℕ, Option, refl, sym, ap}
 use Rattle.std.specs.Prelude.{option_and_then, unwrap_or}
 use Rattle.dt_model.specs.Path.{Path}
 use Rattle.dt_model.specs.Numbers.{number_in}

@@ -1,19 +1,12 @@
-use Rattle.std.proofs.Common.{◌≡◌, ◌∙◌, ◌<◌, ◌≤◌, ◌+◌, ◌⊎◌, ℕ, List, Option, Some, None, true, false, codes, length, take, map, refl, sym, ap, subst, inl, inr, arith}
-use Rattle.std.specs.Prelude.{is_some, slice_set}
+use Rattle.std.proofs.Common.{◌∙◌, ◌+◌, codes, length, refl, sym, ap, subst, arith}
+use Rattle.std.specs.Prelude.{is_some}
 use Rattle.std.proofs.lemmas.List.{length-set}
 use Rattle.std.proofs.lemmas.Result.{err_from_is_err_and}
-use Rattle.dt_model.specs.Limits.{most_names}
-use Rattle.dt_model.specs.Path.{Path}
-use Rattle.dt_model.specs.Merged.{landing}
 use Rattle.dt_model.specs.Object.{fragment_names}
-use Rattle.dt_model.specs.Tree.{value_of}
-use Rattle.dt_names.specs.declared.fault.FaultKind.{FaultKind}
-use Rattle.dt_names.specs.declared.fault.FaultKind.TheVariants.{NoMemory, Limit}
 use Rattle.dt_flat.specs.Arena.{reading, properties}
 use Rattle.dt_flat.proofs.Descent.{path-within}
 use Rattle.dt_joining.specs.Walk.{new_numbers}
 use Rattle.dt_joining.proofs.Brought.{fragments_distinct}
-use Rattle.dt_landing.specs.Laws.{AreShallow}
 use Rattle.dt_overlay.specs.Known.{landed_paths}
 use Rattle.dt_overlay.specs.Plans.{IsKeptFor}
 use Rattle.dt_overlay.specs.declared.numbers.Brought.{Brought}

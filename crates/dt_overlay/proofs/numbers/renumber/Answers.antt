@@ -1,4 +1,4 @@
-use Rattle.std.proofs.Common.{◌≡◌, ◌∙◌, ◌++◌, ◌+◌, ◌<◌, length, ℕ, suc, List, refl, sym, ap, subst, map, take, drop, arith}
+use Rattle.std.proofs.Common.{◌≡◌, ◌∙◌, ◌++◌, ◌+◌, ◌<◌, length, ℕ, suc, refl, sym, ap, subst, map, take, drop, arith}
 use Rattle.std.specs.Prelude.{slice_set}
 use Rattle.dt_flat.specs.Arena.{reading}
 use Rattle.dt_overlay.specs.Plans.{own_number, renumbered}

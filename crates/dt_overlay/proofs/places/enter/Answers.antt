@@ -1,4 +1,4 @@
-use Rattle.std.proofs.Common.{rules, ◌≡◌, true, false, None, Some, refl, ◌∙◌, sym, ap}
+use Rattle.std.proofs.Common.{rules, ◌≡◌, true, false, None, refl}
 use Rattle.std.specs.Prelude.{is_some}
 use Rattle.dt_overlay.specs.Known.{kept_at}
 use Rattle.dt_overlay.proofs.PlacesKept.{kept_after, entered, entered_there}

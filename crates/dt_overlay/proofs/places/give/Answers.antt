@@ -1,4 +1,4 @@
-use Rattle.std.proofs.Common.{rules, ◌≡◌, Some, refl, ◌∙◌, sym, ap}
+use Rattle.std.proofs.Common.{Some, refl, ◌∙◌, ap}
 use Rattle.std.specs.Prelude.{nat_eq, if◌then◌else◌}
 use Rattle.indexmap.specs.IndexMap.{get}
 use Rattle.dt_model.specs.Path.{Path}

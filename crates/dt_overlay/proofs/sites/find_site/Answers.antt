@@ -1,13 +1,12 @@
-use Rattle.std.proofs.Common.{◌≡◌, List, [], ◌∷◌, ◌++◌, ◌∙◌, Some, false, map, inl, inr, sym, ap, subst}
+use Rattle.std.proofs.Common.{◌≡◌, List, ◌∷◌, ◌++◌, ◌∙◌, Some, map, inl, inr, sym, subst}
 use Rattle.std.proofs.lemmas.Result.{err_from_is_err_and}
-use Rattle.dt_model.specs.Path.{is_bookkeeping}
 use Rattle.dt_model.specs.Tree.{Placed}
 use Rattle.dt_names.specs.declared.fault.FaultKind.{FaultKind}
 use Rattle.dt_names.specs.declared.fault.FaultKind.TheVariants.{ReservedPlace}
 use Rattle.dt_flat.specs.Arena.{reading}
 use Rattle.dt_joining.specs.Walk.{site, landings, with_places}
 use Rattle.dt_landing.specs.Landings.{target_in, MayAllLand, IsStuck}
-use Rattle.dt_overlay.specs.Known.{IsKnown, HasRoom, content_at, landed_paths}
+use Rattle.dt_overlay.specs.Known.{IsKnown, HasRoom, landed_paths}
 use Rattle.dt_overlay.proofs.SitesTurns.{turn_walked, content_is, room_for, known_behind}
 use Rattle.dt_overlay.proofs.sites.find_site.Goals as goal
 

@@ -1,21 +1,20 @@
-use Rattle.std.proofs.Common.{◌≡◌, ◌∙◌, ◌≤◌, ◌∷◌, [], ℕ, List, Option, Some, None, length, codes, refl, sym, ap, subst, arith}
+use Rattle.std.proofs.Common.{◌≡◌, ◌∙◌, ◌∷◌, [], ℕ, List, Option, Some, None, codes, sym, ap, subst, arith}
 use Rattle.std.specs.Option.{option_or}
-use Rattle.std.specs.Prelude.{slice_get, option_and_then}
+use Rattle.std.specs.Prelude.{option_and_then}
 use Rattle.std.specs.List.{list_any}
 use Rattle.dt_model.specs.Object.{local_cells}
 use Rattle.std.proofs.lemmas.Option.{get_or_from_slice_get}
 use Rattle.std.proofs.lemmas.Result.{IfOk-weaker}
 use Rattle.dt_model.specs.Path.{Path}
-use Rattle.dt_model.specs.Tree.{Reading, nodes_of, value_in, value_of}
+use Rattle.dt_model.specs.Tree.{Reading, nodes_of, value_of}
 use Rattle.dt_model.specs.Applied.{node_named, landed_named, number_at}
 use Rattle.dt_flat.specs.Arena.{properties, reading}
 use Rattle.dt_joining.specs.Walk.{target_of, named_node, target_label, is_target}
 use Rattle.dt_landing.specs.Landings.{target_in}
 use Rattle.dt_landing.specs.Objects.{HoldsNumber}
-use Rattle.dt_overlay.specs.Known.{landed_paths}
 use Rattle.dt_overlay.specs.Marks.{IsMark}
 use Rattle.dt_overlay.specs.Plans.{IsTargetOf}
-use Rattle.dt_overlay.specs.declared.fragments.FragmentTarget.TheVariants.{Number, Path as TargetPath}
+use Rattle.dt_overlay.specs.declared.fragments.FragmentTarget.TheVariants.{Path as TargetPath}
 use Rattle.dt_overlay.specs.declared.marks.TargetMark.TheVariants.{Bare}
 use Rattle.dt_overlay.proofs.Reached.{value-led}
 use Rattle.dt_overlay.proofs.SitesTurns.{turn_landings}

@@ -4,8 +4,9 @@ use Rattle.dt_model.specs.Names.{Name}
 use Rattle.dt_model.specs.Path.{Path}
 use Rattle.dt_model.specs.Tree.{stands_in}
 use Rattle.dt_landing.proofs.SingleChanges.{child_there}
-use Rattle.dt_overlay.specs.Targets.{WhyNotAddedAt}
-use Rattle.dt_overlay.proofs.LandingNodes.{why_limit}
+use Rattle.dt_model.specs.Changes.{with_child_at}
+use Rattle.dt_overlay.specs.Targets.{HasNoRoom, WhyNotAddedAt}
+use Rattle.dt_overlay.proofs.LandingNodes.{add_want}
 use Rattle.dt_overlay.proofs.symbol_landing.add_symbols.Goals as goal
 
 pub returns-then-find-clause-added : goal.returns-then-find-clause-added
@@ -21,7 +22,8 @@ returns-clause-refused g c =
     IfErr-weaker c.add_node.result _ _
     (λ fault why. (
       why.1,
-      why_limit t [] (codes "__symbols__") fault.kind refl fresh (omega arith)
-          (subst (λ (p : Path). WhyNotAddedAt fault.kind t p (codes "__symbols__")) c.root-root.ensures
-          (subst (λ (n : Name). WhyNotAddedAt fault.kind t c.root-root.result n) name why.0)),
+      add_want (g.T.Target.has_room c.args.target.now) ((HasNoRoom g.T.Target.reading g.T.Target.has_room) t (with_child_at [] (codes "__symbols__") t)) t [] (codes "__symbols__") fault.kind fresh (omega arith)
+          (λ none. (c.args.target.now, refl, none))
+          (subst (λ (p : Path). WhyNotAddedAt (g.T.Target.has_room c.args.target.now) fault.kind t p (codes "__symbols__")) c.root-root.ensures
+          (subst (λ (n : Name). WhyNotAddedAt (g.T.Target.has_room c.args.target.now) fault.kind t c.root-root.result n) name why.0)),
     )) c.add_node.ensures.refused

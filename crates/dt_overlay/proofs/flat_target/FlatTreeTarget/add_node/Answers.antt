@@ -4,6 +4,7 @@ use Rattle.dt_names.specs.declared.fault.Fault.{Fault}
 use Rattle.dt_flat.specs.Arena.{reading}
 use Rattle.dt_flat.specs.Refusals.{WhyNoNode}
 use Rattle.dt_flat.proofs.Changing.{child_by_path}
+use Rattle.dt_overlay.specs.FlatTargets.{HasRoom}
 use Rattle.dt_overlay.specs.Targets.{WhyNotAddedAt}
 use Rattle.dt_overlay.proofs.Changeable.{may_add-at, why_not_added-at}
 use Rattle.dt_overlay.proofs.flat_target.FlatTreeTarget.add_node.Goals as goal
@@ -14,7 +15,7 @@ returns-in_err-add_node-clause-refused c =
     let i = c.node_at-node.result in
     let name = c.args.name.now in
     let told : IfErr c.from_residual.result (λ (fault : Fault). WhyNoNode fault.kind a.slots i name × (fault.at ≡ None)) = search rules in
-    IfErr-weaker c.from_residual.result (λ (fault : Fault). WhyNoNode fault.kind a.slots i name × (fault.at ≡ None)) (λ (fault : Fault). WhyNotAddedAt fault.kind (reading a) c.args.parent.now name × (fault.at ≡ None))
+    IfErr-weaker c.from_residual.result (λ (fault : Fault). WhyNoNode fault.kind a.slots i name × (fault.at ≡ None)) (λ (fault : Fault). WhyNotAddedAt (HasRoom a) fault.kind (reading a) c.args.parent.now name × (fault.at ≡ None))
     (λ fault why. (why_not_added-at a c.args.parent.now i name fault.kind c.node_at-node.ensures why.0, why.1)) told
 
 pub returns-clause-ok : goal.returns-clause-ok
