@@ -4,7 +4,7 @@ and of memory.
 
     python3 bench/boards.py crates/dtool/out/dtool FOLDER [RUNS]
 
-A folder of real boards is made of a Linux source tree, each board behind the C preprocessor:
+With tools/dtc in place of the program it is seen what that script makes of them, the dialect of dtc included. A folder of real boards is made of a Linux source tree, each board behind the C preprocessor:
 
     apt-get install linux-source && tar -xf /usr/src/linux-source-*.tar.xz
     python3 bench/boards.py make linux-source-* FOLDER
@@ -146,9 +146,16 @@ def difference(ours, theirs, moved):
     return None
 
 
+def came_from(path):
+    """The folder of a board's source in the Linux tree, by the first line marker: where dtc looks for /include/."""
+    with open(path, "rb") as source:
+        return os.path.dirname(source.readline().decode(errors="replace").split('"')[1:2][0]) or "."
+
+
 def compare(tool, path, runs):
     """What came of one source: a word for it, and the ratios of time and memory where both compiled it."""
-    commands = [tool, "compile", path], ["dtc", "-q", "-@", "-I", "dts", "-O", "dtb", path]
+    words = ["-q", "-@", "-I", "dts", "-O", "dtb", "-i", came_from(path), path]
+    commands = [tool, *words] if os.path.basename(tool) == "dtc" else [tool, "compile", path], ["dtc", *words]
     ours, theirs = (min((run(command) for _ in range(runs)), key=lambda r: r[3]) for command in commands)
     if ours[1] or theirs[1]:
         return ("dtool refuses" if ours[1] else "compiles") + (", dtc refuses" if theirs[1] else ", dtc compiles"), ours[2], None

@@ -1,0 +1,36 @@
+# The part of a blob, or the node, that a place of it belongs to: reads its bytes as decimal numbers, as `od -An -v -tu1` writes them.
+# Variables: place, shown (the blob's name), fault, style.
+
+function word(at) { return ((bytes[at] * 256 + bytes[at + 1]) * 256 + bytes[at + 2]) * 256 + bytes[at + 3] }
+
+function name_at(at,    name) { name = ""; while (at < count && bytes[at] != 0) name = name sprintf("%c", bytes[at++]); ended = at; return name }
+
+function path(    text, i) { text = ""; for (i = 2; i <= depth; i++) text = text "/" names[i]; return text == "" ? "/" : text }
+
+# The structure block, token by token, up to the one with the place.
+function in_structure(at, end,    token, from, property) {
+    strings = word(12)
+    while (at < end && at < count) {
+        from = at; token = word(at); at += 4; property = ""
+        if (token == 1) { names[++depth] = name_at(at); at = ended + 4 - ended % 4 }
+        else if (token == 3) { property = name_at(strings + word(at + 4)); at += 8 + int((word(at) + 3) / 4) * 4 }
+        if (place >= from && place < at) return "node " path() (property == "" ? "" : ", property " property)
+        if (token == 2) depth--
+        else if (token != 1 && token != 3 && token != 4) break
+    }
+    return "node " path() ", in the structure block"
+}
+
+function part() {
+    if (place < 40 || count < 40) return "the header"
+    if (place >= word(8) && place < word(8) + word(36)) return in_structure(word(8), word(8) + word(36))
+    if (place >= word(12) && place < word(12) + word(32)) return "the strings block, behind " word(12)
+    if (place >= word(16)) return "the memory reservations"
+    return "between the blocks"
+}
+
+{ for (i = 1; i <= NF; i++) bytes[count++] = $i + 0 }
+
+END {
+    print (style == "error" ? "Error: " : "") shown ": " (fault == "" ? "" : fault ": ") "byte " place ", " part()
+}
