@@ -1,3 +1,4 @@
 pub mod RangesMap
 pub mod Rising
+pub mod Sent
 pub mod Listed

@@ -2,7 +2,9 @@
 #![tactic(auto)]
 
 mod cells;
+mod dma;
 mod listing;
 mod translating;
 
+pub use dma::dma_region;
 pub use listing::{Regions, region};

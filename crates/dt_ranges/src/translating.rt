@@ -12,7 +12,7 @@ use dt_view::{TreeView, cells, cells_after, is_pci};
 use dt_worlds::{BusAddress, RangeCells, Region};
 
 /// Whether an address is one of that many cells.
-fn fits(address: u128, cells: u32) -> bool
+pub fn fits(address: u128, cells: u32) -> bool
     requires { cells ≤ 4 }
     ensures { result ≡ nat_lt address (2 ^ (32 * cells)) }
 {

@@ -12,7 +12,7 @@ use Rattle.dt_model.specs.Path.{Path}
 use Rattle.dt_worlds.specs.Above.{front}
 use Rattle.dt_worlds.specs.Answers.{Answer, refuse, answer, ◌>>=◌, Agrees}
 use Rattle.dt_worlds.specs.World.{Quad, Value, World}
-use Rattle.dt_worlds.specs.Regions.{figure_of, joined_to, joined, cells_at, first_cell, only_cell, few, count_of, address_count, size_count, bus_cells, is_pci_text, is_pci, entries, entries_of, mapped_by, mapped, fitting, by_ranges, unless_pci, risen, translated, region_at, entry_at, listed, region}
+use Rattle.dt_worlds.specs.Regions.{figure_of, joined_to, joined, cells_at, first_cell, only_cell, few, count_of, address_count, size_count, bus_cells, is_pci_text, is_pci, entries, entries_of, mapped_by, mapped, fitting, by_ranges, unless_pci, risen, translated, region_at, entry_at, listed, region, sent, dma_region}
 use Rattle.dt_worlds.proofs.Agreeing.{Same, agree_bind, agree_refl, agree_same, IsSeen, AreSeen, IsValueSeen, IsMaybeSeen, Refines, seen_figure, seen_take, seen_drop}
 
 pub agree_if : {A : Type 0} (b : Bool) (x x' y y' : Answer A) → Agrees (Same A) x x' → Agrees (Same A) y y' → Agrees (Same A) (if b then x else y) (if b then x' else y')
@@ -168,3 +168,13 @@ pub region_agrees : (v w : World) → Refines v w → (p : Path) (index : ℕ) �
 region_agrees v w r [] index = refl
 region_agrees v w r (n ∷ names) index =
     agree_bind (IsMaybeSeen w) (Same Region) (v.value (n ∷ names) (codes "reg")) (w.value (n ∷ names) (codes "reg")) _ _ (r.value (n ∷ names) (codes "reg")) (listed_agrees v w r (front (n ∷ names)) index)
+
+-- nor of a region for DMA
+pub dma_region_agrees : (v w : World) → Refines v w → (p : Path) (address size : ℕ) → Agrees (Same Region) (dma_region v p address size) (dma_region w p address size)
+dma_region_agrees v w r [] address size = refl
+dma_region_agrees v w r (n ∷ names) address size =
+    let bus = front (n ∷ names) in
+    agree_same (bus_cells v bus) (bus_cells w bus) _ _ (counts_agree v w r bus)
+    (λ own. agree_same (fitting own.address (record { address = address; whole = true })) (fitting own.address (record { address = address; whole = true })) _ _
+    (agree_refl (fitting own.address (record { address = address; whole = true })))
+    (λ at. region_at_agrees v w r (codes "dma-ranges") bus at.address size))

@@ -7,13 +7,14 @@ use Rattle.dt_laws.specs.Applying.{IsOf}
 use Rattle.dt_worlds.specs.declared.regions.Region.{Region}
 use Rattle.dt_worlds.specs.Answers.{Answer, Agrees}
 use Rattle.dt_worlds.specs.World.{World, tree_world, node_written, meaning_world}
-use Rattle.dt_worlds.specs.Regions.{region}
+use Rattle.dt_worlds.specs.Regions.{region, dma_region}
 use Rattle.dt_worlds.specs.Interrupts.{Route, IsInterruptParent, IsRoute}
 
--- Whatever of a region or of a route the meaning determines, an answer or a fault, the tree's is the same. In the list there may be any of
+-- Whatever of a region, also of one for DMA, or of a route the meaning determines, an answer or a fault, the tree's is the same. In the list there may be any of
 -- the meaning's nodes: the more there are, the more written numbers find theirs.
 pub record IsResolvedIn (t : Reading) (m : Meaning) : Type 0 where
   pub regions : (nodes : List Path) (p : Path) (index : ℕ) → Agrees (λ (a b : Region). a ≡ b) (region (meaning_world m nodes) p index) (region (tree_world t) p index)
+  pub dma_regions : (nodes : List Path) (p : Path) (address size : ℕ) → Agrees (λ (a b : Region). a ≡ b) (dma_region (meaning_world m nodes) p address size) (dma_region (tree_world t) p address size)
   pub routes : (nodes : List Path) (p : Path) (index : ℕ) (meant told : Answer Route) → IsRoute (meaning_world m nodes) p index meant → IsRoute (tree_world t) p index told
       → Agrees (λ (a b : Route). a ≡ b) meant told
 

@@ -152,3 +152,14 @@ listed w bus index (Some v) =
 abbrev pub region : World → Path → ℕ → Answer Region
 region w [] index = refuse NoReg
 region w (n ∷ names) index = w.value (n ∷ names) (codes "reg") >>= listed w (front (n ∷ names)) index
+
+-- ---- DMA
+
+-- what a device puts on its bus, as an address of the root's bus, by the cells of the bus
+abbrev pub sent : World → Path → ℕ → ℕ → BusCells → Answer Region
+sent w bus address size own = fitting own.address (record { address = address; whole = true }) >>= λ at. region_at w (codes "dma-ranges") bus at.address size
+
+-- the region that a device reaches by DMA at an address and a size on its bus (2.3.9)
+abbrev pub dma_region : World → Path → ℕ → ℕ → Answer Region
+dma_region w [] address size = refuse NoReg
+dma_region w (n ∷ names) address size = bus_cells w (front (n ∷ names)) >>= sent w (front (n ∷ names)) address size

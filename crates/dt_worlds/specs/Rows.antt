@@ -67,6 +67,25 @@ device = codes "soc" ∷ codes "bus" ∷ codes "u@1f00" ∷ []
 abbrev pub processor : Path
 processor = codes "cpus" ∷ codes "c@0" ∷ []
 
+-- / { #address-cells = <2>; #size-cells = <2>;
+--     soc { #address-cells = <1>; #size-cells = <1>; dma-ranges = <0x80000000 0x1 0x0 0x1000>; d { }; }; };
+-- In `soc` these properties stand for `dma-ranges`.
+abbrev pub sender : List Part → List Place
+sender ranges =
+    root ∷ (bus_of 2 2 ++ child (codes "soc") ∷ (bus_of 1 1 ++ property (codes "dma-ranges") ranges ∷ child (codes "d") ∷ close ∷ close ∷ close ∷ []))
+
+abbrev pub sender_tree : List Property → Reading
+sender_tree ranges = tree (bus_in 2 2) (branch (codes "soc") (bus_in 1 1 ++ ranges) (branch (codes "d") [] no_nodes no_nodes) no_nodes)
+
+abbrev pub dma_ranges : List ℕ
+dma_ranges = 0x80000000 ∷ 1 ∷ 0 ∷ 0x1000 ∷ []
+
+abbrev pub dma_ranges_in : List Property
+dma_ranges_in = set (codes "dma-ranges") (cells dma_ranges) ∷ []
+
+abbrev pub dma_device : Path
+dma_device = codes "soc" ∷ codes "d" ∷ []
+
 -- / { #address-cells = <1>; #size-cells = <1>;
 --     b { #address-cells = <1>; #size-cells = <1>; ranges = <0 0xfffffff0 0x100>; u { reg = <0x10 4>; }; v { reg = <0xf 4>; }; };
 --     x { reg = [00 00 00 00 00 00]; }; };

@@ -9,6 +9,6 @@ mod rows;
 pub use laws::{meaning_is_resolved, parent_is_one, route_is_one, written_numbers_are_found};
 pub use regions::{BusAddress, BusCells, RangeCells, Region};
 pub use rows::{
-    addresses_at_the_end, addresses_of_a_board, numbers_used_as_phandles, parents_in_circles,
-    routes_through_a_nexus, specifiers_compared_late,
+    addresses_at_the_end, addresses_of_a_board, addresses_sent_by_a_device,
+    numbers_used_as_phandles, parents_in_circles, routes_through_a_nexus, specifiers_compared_late,
 };

@@ -8,13 +8,14 @@ ghost use Rattle.dt_names.specs.declared.fault.FaultKind.TheVariants.{
   BadMap,
   Loop,
   NoRanges,
+  NoReg,
   NotMapped,
   Overflow,
   PciBus,
 };
 ghost use Rattle.dt_worlds.specs.Answers.{answer, refuse, undetermined};
 ghost use Rattle.dt_worlds.specs.World.{World, tree_world, meaning_world};
-ghost use Rattle.dt_worlds.specs.Regions.{region};
+ghost use Rattle.dt_worlds.specs.Regions.{region, dma_region};
 ghost use Rattle.dt_worlds.specs.Interrupts.{IsRoute};
 ghost use Rattle.dt_worlds.specs.Rows.{
   below_root,
@@ -26,14 +27,20 @@ ghost use Rattle.dt_worlds.specs.Rows.{
   circle_tree,
   controller,
   device,
+  dma_device,
+  dma_ranges,
+  dma_ranges_in,
   high_tree,
   named_specifier,
   nexus,
   nexus_tree,
+  numbers,
   pci,
   processor,
   raw_parent,
   raw_parent_tree,
+  sender,
+  sender_tree,
   wide_tree,
   world_of,
 };
@@ -59,6 +66,20 @@ pub fn addresses_at_the_end()
     ensures pci_below { region (tree_world (high_tree (pci ∷ []))) (codes "b" ∷ codes "v" ∷ []) 0 ≡ refuse PciBus }
     ensures wide { region (tree_world wide_tree) (below_root (codes "u")) 0
         ≡ answer (record { address = 0xffffffffffffffffffffffffffffffff; size = 1; whole = true }) }
+{}
+
+/// What a device reaches by DMA: whole, cut, outside all ranges, with more cells than its bus has, on the root's own bus, and where a bus has no
+/// `dma-ranges`; the same in the source.
+pub fn addresses_sent_by_a_device()
+    ensures whole { dma_region (tree_world (sender_tree dma_ranges_in)) dma_device 0x80000010 16 ≡ answer (record { address = 0x100000010; size = 16; whole = true }) }
+    ensures cut { dma_region (tree_world (sender_tree dma_ranges_in)) dma_device 0x80000000 0x1001 ≡ answer (record { address = 0x100000000; size = 0x1001; whole = false }) }
+    ensures outside { dma_region (tree_world (sender_tree dma_ranges_in)) dma_device 0 1 ≡ refuse NotMapped }
+    ensures wide { dma_region (tree_world (sender_tree dma_ranges_in)) dma_device 0x100000000 1 ≡ refuse Overflow }
+    ensures root_bus { dma_region (tree_world (sender_tree dma_ranges_in)) (below_root (codes "soc")) 16 0 ≡ answer (record { address = 16; size = 0; whole = true }) }
+    ensures root { dma_region (tree_world (sender_tree dma_ranges_in)) [] 0 0 ≡ refuse NoReg }
+    ensures no_ranges { dma_region (tree_world (sender_tree [])) dma_device 0 1 ≡ refuse NoRanges }
+    ensures whole_meant { dma_region (world_of (sender (numbers dma_ranges)) (sender_tree dma_ranges_in)) dma_device 0x80000010 16 ≡ answer (record { address = 0x100000010; size = 16; whole = true }) }
+    ensures outside_meant { dma_region (world_of (sender (numbers dma_ranges)) (sender_tree dma_ranges_in)) dma_device 0 1 ≡ refuse NotMapped }
 {}
 
 /// Routes through a map with a mask, from a node without `interrupt-parent`, and by `interrupts-extended`, which wins; the same in the source.

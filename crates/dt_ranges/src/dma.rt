@@ -1,0 +1,40 @@
+//! Regions that devices reach by DMA (Devicetree Specification v0.4, 2.3.9).
+
+ghost use Rattle.std.specs.Prelude.{◌≡◌};
+ghost use Rattle.dt_read.specs.Placed.{path_at, reading_of, IsNode};
+ghost use Rattle.dt_worlds.specs.Answers.{told};
+ghost use Rattle.dt_worlds.specs.World.{tree_world};
+ghost use Rattle.dt_worlds.specs.Regions.{dma_region};
+
+use crate::translating::{fits, region_at};
+use dt_names::{Fault, FaultKind, NodeId};
+use dt_view::{TreeView, cells};
+use dt_worlds::Region;
+
+/// The region of the root's bus that a device reaches where it puts an address on its bus for DMA (Devicetree Specification v0.4, 2.3.9): the address
+/// there and the size, both in bytes, and whether the whole of it is mapped without a break. The address goes up bus by bus, each time by the first
+/// entry of `dma-ranges` that holds it. Takes no memory; of a `Blob` each bus costs a walk up to it.
+///
+/// # Errors
+///
+/// `NoReg`: the root, which is on no bus. `BadCells`: the counts of a bus, or the length of `dma-ranges`. `Overflow`: the node's bus has no cells for the
+/// address. And of each bus on the way up `PciBus`, which comes first, `NoRanges`, where it has no `dma-ranges`, `NotMapped`, and `Overflow`, where the
+/// bus above has no cells for the address. The first of these on the way; none has a place.
+pub fn dma_region<V: TreeView>(
+    view: &V,
+    node: NodeId,
+    address: u128,
+    size: u128,
+) -> Result<Region, Fault>
+    requires { IsNode (V.tree view.now) node }
+    ensures { told result ≡ dma_region (tree_world (reading_of (V.tree view.now))) (path_at (V.tree view.now) node) address size }
+{
+    let Some(bus) = view.parent(node) else {
+        return Err(Fault::of(FaultKind::NoReg));
+    };
+    let own = cells(view, bus)?;
+    if !fits(address, own.address) {
+        return Err(Fault::of(FaultKind::Overflow));
+    }
+    region_at(view, b"dma-ranges", bus, address, size)
+}
