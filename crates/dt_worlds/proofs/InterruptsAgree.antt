@@ -123,7 +123,7 @@ entry_of_agrees w cs ds h q n = rw (seen_length w cs ds h) (step (nat_lt (length
     step false = (record { sent = record { node = q; specifier = take n ds }; rest = drop n ds }, refl, record { sent = record { node = refl; specifier = seen_take w n cs ds h }; rest = seen_drop w n cs ds h })
 
 -- from values that are the same
-agree_at : {A C D : Type 0} (S : C → D → Type 0) (x y : Answer A) (f : A → Answer C) (g : A → Answer D) → Agrees (Same A) x y → ((a : A) → Agrees S (f a) (g a)) → Agrees S (x >>= f) (y >>= g)
+pub agree_at : {A C D : Type 0} (S : C → D → Type 0) (x y : Answer A) (f : A → Answer C) (g : A → Answer D) → Agrees (Same A) x y → ((a : A) → Agrees S (f a) (g a)) → Agrees S (x >>= f) (y >>= g)
 agree_at {A} {C} {D} S x y f g h k = agree_bind (Same A) S x y f g h (λ a b e. subst (λ (z : A). Agrees S (f a) (g z)) e (k a))
 
 first_entry_agrees : (v w : World) → Refines v w → (f g : Path → Answer ℕ) → ((q : Path) → Agrees (Same ℕ) (f q) (g q)) → (ragged : Bool) (cs ds : List Quad) → AreSeen w cs ds → Agrees (IsEntrySeen w) (first_entry v f ragged cs) (first_entry w g ragged ds)
@@ -173,7 +173,7 @@ row_of_agrees w es fs cs ds k h q n = rw (seen_length w cs ds h) (step (nat_lt (
     )
 
 -- the widths of rows are the same in both worlds
-abbrev AreWidthsSame : (f g : Path → Answer RowCells) → Type 0
+abbrev pub AreWidthsSame : (f g : Path → Answer RowCells) → Type 0
 AreWidthsSame f g = (q : Path) → Agrees (Same RowCells) (f q) (g q)
 
 row_at_parent_agrees : (v w : World) → Refines v w → (f g : Path → Answer RowCells) → AreWidthsSame f g → (es fs cs ds : List Quad) → AreSeen w es fs → AreSeen w cs ds → Agrees (IsRowSeen w) (map_row_at_parent v f es cs) (map_row_at_parent w g fs ds)
@@ -194,7 +194,7 @@ interrupt_widths_agree v w r q =
     (λ a. agree_same (specifier_count v q) (specifier_count w q) _ _ (specifier_count_agrees v w r q)
     (λ s. agree_refl (answer (record { address = a; specifier = s }))))
 
-as_numbers_agree : (w : World) (cs ds : List Quad) → AreSeen w cs ds → Agrees (Same (List ℕ)) (as_numbers cs) (as_numbers ds)
+pub as_numbers_agree : (w : World) (cs ds : List Quad) → AreSeen w cs ds → Agrees (Same (List ℕ)) (as_numbers cs) (as_numbers ds)
 as_numbers_agree w [] [] h = ([], refl, refl)
 as_numbers_agree w [] (d ∷ ds) h = absurd h
 as_numbers_agree w (c ∷ cs) [] h = absurd h
@@ -210,7 +210,7 @@ matches_agrees w cs ds ks ls ms ns h i j =
     (λ ys. agree_same (as_numbers ms) (as_numbers ns) _ _ (as_numbers_agree w ms ns j)
     (λ zs. agree_refl (answer (equal_under xs ys zs)))))
 
-first_match_agrees : (v w : World) → Refines v w → (f g : Path → Answer RowCells) → AreWidthsSame f g → (ragged : Bool) (width : ℕ) (key key' mask mask' : List Quad) → AreSeen w key key' → AreSeen w mask mask' → (skipped : ℕ) (cs ds : List Quad) → AreSeen w cs ds
+pub first_match_agrees : (v w : World) → Refines v w → (f g : Path → Answer RowCells) → AreWidthsSame f g → (ragged : Bool) (width : ℕ) (key key' mask mask' : List Quad) → AreSeen w key key' → AreSeen w mask mask' → (skipped : ℕ) (cs ds : List Quad) → AreSeen w cs ds
     → Agrees (IsRowSeen w) (first_match v f ragged width key mask skipped cs) (first_match w g ragged width key' mask' skipped ds)
 first_match_agrees v w r f g e ragged width key key' mask mask' hk hm skipped [] [] h = refl
 first_match_agrees v w r f g e ragged width key key' mask mask' hk hm skipped [] (d ∷ ds) h = absurd h
@@ -226,7 +226,7 @@ first_match_agrees v w r f g e ragged width key key' mask mask' hk hm zero (c �
     behind a b k true more = (b, refl, k)
     behind a b k false more = subst (λ (n : ℕ). Agrees (IsRowSeen w) (first_match v f ragged width key mask (a.size - 1) cs) (first_match w g ragged width key' mask' (n - 1) ds)) (sym k.size) (more (a.size - 1))
 
-mask_of_agrees : (w : World) (width : ℕ) (a b : Option Value) → IsMaybeSeen w a b → Agrees (AreSeen w) (mask_of width a) (mask_of width b)
+pub mask_of_agrees : (w : World) (width : ℕ) (a b : Option Value) → IsMaybeSeen w a b → Agrees (AreSeen w) (mask_of width a) (mask_of width b)
 mask_of_agrees w width None None h = ([], refl, tt)
 mask_of_agrees w width None (Some b) h = absurd h
 mask_of_agrees w width (Some a) None h = absurd h

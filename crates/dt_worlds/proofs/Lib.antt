@@ -1,6 +1,7 @@
 pub mod Agreeing
 pub mod RegionsAgree
 pub mod InterruptsAgree
+pub mod SpecifiersAgree
 pub mod Worlds
 pub mod OneRoute
 pub mod Ending

@@ -12,7 +12,7 @@ use Rattle.dt_model.specs.Path.{Path}
 use Rattle.dt_worlds.specs.Above.{front}
 use Rattle.dt_worlds.specs.Answers.{Answer, refuse, answer, ◌>>=◌, Agrees}
 use Rattle.dt_worlds.specs.World.{Quad, Value, World}
-use Rattle.dt_worlds.specs.Regions.{figure_of, joined_to, joined, cells_at, first_cell, only_cell, few, count_of, address_count, size_count, bus_cells, is_pci_text, is_pci, entries, entries_of, mapped_by, mapped, fitting, by_ranges, unless_pci, risen, translated, region_at, entry_at, listed, region, sent, dma_region}
+use Rattle.dt_worlds.specs.Regions.{figure_of, joined_to, joined, cells_at, first_cell, only_cell, few, count_of, address_count, size_count, bus_cells, is_pci_text, is_pci, entries, entries_of, mapped_by, mapped, fitting, by_ranges, unless_pci, risen, translated, region_at, entry_at, listed, region, dma_region}
 use Rattle.dt_worlds.proofs.Agreeing.{Same, agree_bind, agree_refl, agree_same, IsSeen, AreSeen, IsValueSeen, IsMaybeSeen, Refines, seen_figure, seen_take, seen_drop}
 
 pub agree_if : {A : Type 0} (b : Bool) (x x' y y' : Answer A) → Agrees (Same A) x x' → Agrees (Same A) y y' → Agrees (Same A) (if b then x else y) (if b then x' else y')

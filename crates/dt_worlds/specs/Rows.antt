@@ -196,3 +196,51 @@ named_specifier row =
     root ∷ child (codes "nx") ∷ label (codes "n") ∷ property address_cells (number 0) ∷ property interrupt_cells (number 1)
     ∷ property (codes "interrupt-map") (number 1 ++ row) ∷ close
     ∷ child (codes "d") ∷ property (codes "interrupts-extended") (phandle_of (codes "n") ++ phandle_of (codes "n")) ∷ close ∷ close ∷ []
+
+-- ---- specifiers of other kinds
+
+-- / { g: gpio { #gpio-cells = <2>; };
+--     c: conn { #gpio-cells = <2>; gpio-map = <0 0 &g 5 0>, <1 0 &g 7 0>; gpio-map-mask = <0xf 0>; gpio-map-pass-thru = <0 1>; };
+--     d { led-gpios = <&c 1 1>, <&g 3 0>, <&c 0x10 1>, <&c 2 0>; }; };
+abbrev pub gpio_cells : Name
+gpio_cells = codes "#gpio-cells"
+
+abbrev pub leds : Name
+leds = codes "led-gpios"
+
+abbrev pub connector : List Place
+connector =
+    root ∷ child (codes "gpio") ∷ label (codes "g") ∷ property gpio_cells (number 2) ∷ close
+    ∷ child (codes "conn") ∷ label (codes "c") ∷ property gpio_cells (number 2)
+    ∷ property (codes "gpio-map") (numbers (0 ∷ 0 ∷ []) ++ (phandle_of (codes "g") ++ (numbers (5 ∷ 0 ∷ 1 ∷ 0 ∷ []) ++ (phandle_of (codes "g") ++ numbers (7 ∷ 0 ∷ [])))))
+    ∷ property (codes "gpio-map-mask") (numbers (0xf ∷ 0 ∷ [])) ∷ property (codes "gpio-map-pass-thru") (numbers (0 ∷ 1 ∷ [])) ∷ close
+    ∷ child (codes "d") ∷ property leds
+    (phandle_of (codes "c") ++ (numbers (1 ∷ 1 ∷ []) ++ (phandle_of (codes "g") ++ (numbers (3 ∷ 0 ∷ [])
+    ++ (phandle_of (codes "c") ++ (numbers (0x10 ∷ 1 ∷ []) ++ (phandle_of (codes "c") ++ numbers (2 ∷ 0 ∷ []))))))))
+    ∷ close ∷ close ∷ []
+
+abbrev pub connector_tree : Reading
+connector_tree =
+    tree []
+    (branch (codes "gpio") (set gpio_cells (cell 2) ∷ set (codes "phandle") (cell 1) ∷ []) no_nodes
+    (branch (codes "conn")
+    (set gpio_cells (cell 2) ∷ set (codes "gpio-map") (cells (0 ∷ 0 ∷ 1 ∷ 5 ∷ 0 ∷ 1 ∷ 0 ∷ 1 ∷ 7 ∷ 0 ∷ []))
+    ∷ set (codes "gpio-map-mask") (cells (0xf ∷ 0 ∷ [])) ∷ set (codes "gpio-map-pass-thru") (cells (0 ∷ 1 ∷ [])) ∷ set (codes "phandle") (cell 2) ∷ []) no_nodes
+    (branch (codes "d") (set leds (cells (2 ∷ 1 ∷ 1 ∷ 1 ∷ 3 ∷ 0 ∷ 2 ∷ 0x10 ∷ 1 ∷ 2 ∷ 2 ∷ 0 ∷ [])) ∷ []) no_nodes no_nodes)))
+
+abbrev pub provider : Path
+provider = below_root (codes "gpio")
+
+-- / { c: c { #x-cells = <1>; x-map = <1 &c 2>; x-map-mask = <0>; }; d { x = <&c 1>; }; }; a map that leads to itself
+abbrev pub round : List Place
+round =
+    root ∷ child (codes "c") ∷ label (codes "c") ∷ property (codes "#x-cells") (number 1)
+    ∷ property (codes "x-map") (number 1 ++ (phandle_of (codes "c") ++ number 2)) ∷ property (codes "x-map-mask") (number 0) ∷ close
+    ∷ child (codes "d") ∷ property (codes "x") (phandle_of (codes "c") ++ number 1) ∷ close ∷ close ∷ []
+
+abbrev pub round_tree : Reading
+round_tree =
+    tree []
+    (branch (codes "c")
+    (set (codes "#x-cells") (cell 1) ∷ set (codes "x-map") (cells (1 ∷ 1 ∷ 2 ∷ [])) ∷ set (codes "x-map-mask") (cell 0) ∷ set (codes "phandle") (cell 1) ∷ []) no_nodes
+    (branch (codes "d") (set (codes "x") (cells (1 ∷ 1 ∷ [])) ∷ []) no_nodes no_nodes))

@@ -7,6 +7,8 @@ ghost use Rattle.dt_names.specs.declared.fault.FaultKind.TheVariants.{
   BadCells,
   BadMap,
   Loop,
+  NoInterrupts,
+  NoMapEntry,
   NoRanges,
   NoReg,
   NotMapped,
@@ -17,6 +19,7 @@ ghost use Rattle.dt_worlds.specs.Answers.{answer, refuse, undetermined};
 ghost use Rattle.dt_worlds.specs.World.{World, tree_world, meaning_world};
 ghost use Rattle.dt_worlds.specs.Regions.{region, dma_region};
 ghost use Rattle.dt_worlds.specs.Interrupts.{IsRoute};
+ghost use Rattle.dt_worlds.specs.Specifiers.{specifier_route};
 ghost use Rattle.dt_worlds.specs.Rows.{
   below_root,
   board,
@@ -25,20 +28,26 @@ ghost use Rattle.dt_worlds.specs.Rows.{
   circle_of_root,
   circle_of_root_tree,
   circle_tree,
+  connector,
+  connector_tree,
   controller,
   device,
   dma_device,
   dma_ranges,
   dma_ranges_in,
   high_tree,
+  leds,
   named_specifier,
   nexus,
   nexus_tree,
   numbers,
   pci,
   processor,
+  provider,
   raw_parent,
   raw_parent_tree,
+  round,
+  round_tree,
   sender,
   sender_tree,
   wide_tree,
@@ -113,4 +122,24 @@ pub fn numbers_used_as_phandles()
 pub fn specifiers_compared_late()
     ensures cut { IsRoute (world_of (named_specifier []) raw_parent_tree) (below_root (codes "d")) 0 (refuse BadMap) }
     ensures compared { IsRoute (world_of (named_specifier (phandle_of (codes "n") ++ number 1)) raw_parent_tree) (below_root (codes "d")) 0 undetermined }
+{}
+
+/// Specifiers of a connector, through a map with a mask and pass-thru, and of a provider; what no row fits, and no entry; the same in the source.
+pub fn specifiers_through_a_connector()
+    ensures mapped { specifier_route (tree_world connector_tree) (below_root (codes "d")) leds (codes "gpio") 0 ≡ answer (record { controller = provider; cells = 7 ∷ 1 ∷ []; hops = 1 }) }
+    ensures direct { specifier_route (tree_world connector_tree) (below_root (codes "d")) leds (codes "gpio") 1 ≡ answer (record { controller = provider; cells = 3 ∷ 0 ∷ []; hops = 0 }) }
+    ensures masked { specifier_route (tree_world connector_tree) (below_root (codes "d")) leds (codes "gpio") 2 ≡ answer (record { controller = provider; cells = 5 ∷ 1 ∷ []; hops = 1 }) }
+    ensures no_row { specifier_route (tree_world connector_tree) (below_root (codes "d")) leds (codes "gpio") 3 ≡ refuse NoMapEntry }
+    ensures no_entry { specifier_route (tree_world connector_tree) (below_root (codes "d")) leds (codes "gpio") 4 ≡ refuse NoInterrupts }
+    ensures absent { specifier_route (tree_world connector_tree) [] leds (codes "gpio") 0 ≡ refuse NoInterrupts }
+    ensures other_kind { specifier_route (tree_world connector_tree) (below_root (codes "d")) leds (codes "clock") 0 ≡ refuse BadCells }
+    ensures mapped_meant { specifier_route (world_of connector connector_tree) (below_root (codes "d")) leds (codes "gpio") 0 ≡ answer (record { controller = provider; cells = 7 ∷ 1 ∷ []; hops = 1 }) }
+    ensures direct_meant { specifier_route (world_of connector connector_tree) (below_root (codes "d")) leds (codes "gpio") 1 ≡ answer (record { controller = provider; cells = 3 ∷ 0 ∷ []; hops = 0 }) }
+    ensures no_row_meant { specifier_route (world_of connector connector_tree) (below_root (codes "d")) leds (codes "gpio") 3 ≡ refuse NoMapEntry }
+{}
+
+/// A map that leads to its own node, in a tree and in its source: the 65th hop is a loop.
+pub fn specifiers_that_go_round()
+    ensures told { specifier_route (tree_world round_tree) (below_root (codes "d")) (codes "x") (codes "x") 0 ≡ refuse Loop }
+    ensures meant { specifier_route (world_of round round_tree) (below_root (codes "d")) (codes "x") (codes "x") 0 ≡ refuse Loop }
 {}

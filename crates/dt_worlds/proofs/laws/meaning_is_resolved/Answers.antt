@@ -1,6 +1,7 @@
 use Rattle.dt_worlds.specs.World.{tree_world, meaning_world}
 use Rattle.dt_worlds.proofs.RegionsAgree.{region_agrees, dma_region_agrees}
 use Rattle.dt_worlds.proofs.InterruptsAgree.{route_agrees}
+use Rattle.dt_worlds.proofs.SpecifiersAgree.{specifier_route_agrees}
 use Rattle.dt_worlds.proofs.Worlds.{tree_refines}
 use Rattle.dt_worlds.proofs.laws.meaning_is_resolved.Goals as goal
 
@@ -9,4 +10,5 @@ returns c = λ t m number of. record {
   regions = λ nodes p index. region_agrees (meaning_world m nodes) (tree_world t) (tree_refines t m number nodes of) p index;
   dma_regions = λ nodes p address size. dma_region_agrees (meaning_world m nodes) (tree_world t) (tree_refines t m number nodes of) p address size;
   routes = λ nodes p index meant told h k. route_agrees (meaning_world m nodes) (tree_world t) (tree_refines t m number nodes of) p index meant told h k;
+  specifiers = λ nodes p property kind index. specifier_route_agrees (meaning_world m nodes) (tree_world t) (tree_refines t m number nodes of) p property kind index;
 }
