@@ -1,7 +1,6 @@
 -- A node's line, from its path on.
-use Rattle.std.proofs.Common.{◌≡◌, ◌++◌, ℕ, Bool, true, false, cond, List, [], refl, sym, subst}
-use Rattle.std.specs.Prelude.{Result, Ok, Err, IfErr}
-use Rattle.std.specs.Result.{IsErrAnd}
+use Rattle.std.proofs.Common.{◌≡◌, ◌++◌, ℕ, Bool, true, false, cond, List, [], refl}
+use Rattle.std.specs.Prelude.{Result, Ok, Err}
 use Rattle.dt_model.specs.Path.{Path, path_text}
 use Rattle.dt_names.specs.declared.fault.Fault.{Fault}
 use Rattle.dt_worlds.specs.Answers.{told}
