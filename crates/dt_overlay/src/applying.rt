@@ -267,9 +267,9 @@ fn apply_tree<T: Target>(alloc: Global, target: &mut T, object: &mut FlatTree) -
 /// the same of a cell of the object's own nodes, or the number in it is that of no node that it may name; `BadSymbol`, a label of
 /// the object isn't a text, or names a node that isn't there; then fragment by fragment `NoTarget`, its target is no node of the
 /// tree, and none that an earlier fragment brings, `ReservedPlace`, something lands in a bookkeeping node, `Limit`, on a path of
-/// more than 64 names. After these the tree is unchanged. `Limit`, an object has none of these faults, and on the way there was no room for a
-/// change in the tree as it then stood (of a `FlatTree` that is so exactly where more than 65,536 nodes would come of the object), and
-/// `NoMemory` may leave a part of the object in it.
+/// more than 64 names. After these the tree is unchanged. `Limit`, an object has none of these faults, and on the way a tree of this
+/// kind that reads as this one then did has no room for a change (of a `FlatTree` that is so exactly where more than 65,536 nodes would come of the
+/// object), and `NoMemory` may leave a part of the object in it.
 pub fn apply<T: Target>(alloc: Global, target: &mut T, object: &Blob<'_>) -> Result<(), Fault>
     ensures applied { OnOk result (IsApplied (T.reading target.old) (reading_of object.now) (T.reading target.new)) }
     ensures well { OnOk result (IsWellFormed (T.reading target.old) (reading_of object.now)) }

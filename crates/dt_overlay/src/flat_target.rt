@@ -74,8 +74,8 @@ impl Target for FlatTree {
     }
 }
 
-/// What there is room for in a `FlatTree` is told by the number of nodes: an object isn't applied to one for want of room exactly where
-/// more than 65,536 nodes would come of it (`dt_landing::room_is_counted`).
+/// What there is room for in a `FlatTree` is told by the number of nodes: an object isn't applied to one for want of room only where more than
+/// 65,536 nodes would come of it. There it is refused for that, memory aside, as `dt_landing`'s `room_is_counted` and `one_refusal` say.
 pub fn tree_room_is_counted()
     ensures { TreeRoomIsCounted }
 {}
