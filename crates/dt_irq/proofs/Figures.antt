@@ -1,10 +1,10 @@
 -- The cells of bytes as numbers.
-use Rattle.std.proofs.Common.{◌≡◌, ℕ, suc, zero, ◌+◌, ◌/◌, List, [], ◌∷◌, ◌++◌, take, drop, length, refl, sym, ap, ◌∙◌, arith}
+use Rattle.std.proofs.Common.{◌≡◌, ℕ, suc, zero, ◌+◌, ◌/◌, ◌<◌, List, [], ◌∷◌, ◌++◌, drop, length, get_or, refl, sym, ap, ◌∙◌, arith}
 use Rattle.dt_worlds.specs.Answers.{answer}
 use Rattle.dt_worlds.specs.World.{Quad, figure, pointer, torn, quads_of}
 use Rattle.dt_worlds.specs.Interrupts.{as_numbers}
 use Rattle.dt_worlds.proofs.QuadsOfBytes.{quad_count}
-use Rattle.dt_irq.specs.Cells.{figures, numbers_of}
+use Rattle.dt_irq.specs.Cells.{figures, numbers_of, quads}
 
 -- those of a blob are all used as numbers
 pub are_numbers : (bytes : List ℕ) → as_numbers (quads_of bytes) ≡ answer (numbers_of bytes)
@@ -14,12 +14,29 @@ are_numbers (a ∷ b ∷ []) = refl
 are_numbers (a ∷ []) = refl
 are_numbers [] = refl
 
-pub both_are_numbers : (bytes more : List ℕ) → as_numbers (quads_of bytes ++ quads_of more) ≡ answer (numbers_of bytes ++ numbers_of more)
-both_are_numbers (a ∷ b ∷ c ∷ d ∷ bytes) more = rw (both_are_numbers bytes more) refl
-both_are_numbers (a ∷ b ∷ c ∷ []) more = are_numbers more
-both_are_numbers (a ∷ b ∷ []) more = are_numbers more
-both_are_numbers (a ∷ []) more = are_numbers more
-both_are_numbers [] more = are_numbers more
+-- numbers are used as themselves
+pub numbers_are : (ns : List ℕ) → as_numbers (quads ns) ≡ answer ns
+numbers_are [] = refl
+numbers_are (n ∷ ns) = rw (numbers_are ns) refl
+
+pub quads_count : (ns : List ℕ) → length (quads ns) ≡ length ns
+quads_count [] = refl
+quads_count (n ∷ ns) = ap suc (quads_count ns)
+
+-- and those of a blob are its cells
+pub quads_are : (bytes : List ℕ) → quads (numbers_of bytes) ≡ quads_of bytes
+quads_are (a ∷ b ∷ c ∷ d ∷ bytes) = rw (quads_are bytes) refl
+quads_are (a ∷ b ∷ c ∷ []) = refl
+quads_are (a ∷ b ∷ []) = refl
+quads_are (a ∷ []) = refl
+quads_are [] = refl
+
+pub both_are : (bytes more : List ℕ) → quads (numbers_of bytes ++ numbers_of more) ≡ quads_of bytes ++ quads_of more
+both_are bytes more = apart (numbers_of bytes) (numbers_of more) ∙ ap (λ qs. qs ++ quads (numbers_of more)) (quads_are bytes) ∙ ap (λ qs. quads_of bytes ++ qs) (quads_are more)
+  where
+    apart : (ns ms : List ℕ) → quads (ns ++ ms) ≡ quads ns ++ quads ms
+    apart [] ms = refl
+    apart (n ∷ ns) ms = ap (λ qs. figure n ∷ qs) (apart ns ms)
 
 pub figures_drop : (n : ℕ) (cells : List Quad) → figures (drop n cells) ≡ drop n (figures cells)
 figures_drop zero cells = refl
@@ -32,6 +49,14 @@ pub next_figure : (bytes : List ℕ) (i k : ℕ) → drop i (quads_of bytes) ≡
 next_figure bytes i k e =
     sym (figures_drop i (quads_of bytes)) ∙ ap figures e ∙ ap (λ ns. k ∷ ns) (figures_drop (i + 1) (quads_of bytes))
 
+number_next : (ns : List ℕ) (i : ℕ) → i < length ns → drop i ns ≡ get_or ns i 0 ∷ drop (suc i) ns
+number_next [] i lt = absurd (omega arith)
+number_next (n ∷ ns) zero lt = refl
+number_next (n ∷ ns) (suc i) lt = number_next ns i (omega arith)
+
+pub next_number : (ns : List ℕ) (i : ℕ) → i < length ns → drop i ns ≡ get_or ns i 0 ∷ drop (i + 1) ns
+next_number ns i lt = number_next ns i lt ∙ ap (λ n. get_or ns i 0 ∷ drop n ns) (let e : suc i ≡ i + 1 = omega arith in e)
+
 count_figures : (cells : List Quad) → length (figures cells) ≡ length cells
 count_figures [] = refl
 count_figures (figure k ∷ cells) = ap suc (count_figures cells)
@@ -40,16 +65,6 @@ count_figures (torn ∷ cells) = ap suc (count_figures cells)
 
 pub figure_count : (bytes : List ℕ) → length (numbers_of bytes) ≡ length bytes / 4
 figure_count bytes = count_figures (quads_of bytes) ∙ quad_count bytes
-
-figures_in_parts : (n : ℕ) (cells : List Quad) → figures (take n cells) ++ figures (drop n cells) ≡ figures cells
-figures_in_parts zero cells = refl
-figures_in_parts (suc n) [] = refl
-figures_in_parts (suc n) (figure k ∷ cells) = ap (λ ns. k ∷ ns) (figures_in_parts n cells)
-figures_in_parts (suc n) (pointer p ∷ cells) = ap (λ ns. 0 ∷ ns) (figures_in_parts n cells)
-figures_in_parts (suc n) (torn ∷ cells) = ap (λ ns. 0 ∷ ns) (figures_in_parts n cells)
-
-pub numbers_in_parts : (n : ℕ) (bytes first after : List ℕ) → quads_of first ≡ take n (quads_of bytes) → quads_of after ≡ drop n (quads_of bytes) → numbers_of first ++ numbers_of after ≡ numbers_of bytes
-numbers_in_parts n bytes first after e f = ap (λ qs. figures qs ++ numbers_of after) e ∙ ap (λ qs. figures (take n (quads_of bytes)) ++ figures qs) f ∙ figures_in_parts n (quads_of bytes)
 
 pub no_numbers : (bytes : List ℕ) → length bytes ≡ 0 → numbers_of bytes ≡ []
 no_numbers [] none = refl

@@ -3,8 +3,11 @@ pub mod Comparing
 pub mod Listing
 pub mod Matching
 pub mod Telling
-pub mod Hops
+pub mod MapSteps
 pub mod Ways
 pub mod Zeros
 pub mod Senders
 pub mod Lefts
+pub mod Merging
+pub mod Providing
+pub mod LongNames

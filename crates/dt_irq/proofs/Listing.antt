@@ -7,9 +7,9 @@ use Rattle.dt_names.specs.declared.fault.Fault.{Fault}
 use Rattle.dt_names.specs.declared.fault.FaultKind.TheVariants.{BadCells, BadMap, NoInterrupts}
 use Rattle.dt_worlds.specs.Answers.{Answer, refused, refuse, answer, ◌>>=◌}
 use Rattle.dt_worlds.specs.World.{Quad, Value, World}
-use Rattle.dt_worlds.specs.Regions.{address_count, entries, entries_of, entry_at}
+use Rattle.dt_worlds.specs.Regions.{entries, entries_of, entry_at}
 use Rattle.dt_worlds.proofs.Entries.{eq_false, entries_whole}
-use Rattle.dt_worlds.specs.Interrupts.{Sent, Entry, entry_of, first_entry, entry_sent, listed_at, specifier_count, RowCells, MapRow, map_row_of, map_row, interrupt_row_cells}
+use Rattle.dt_worlds.specs.Interrupts.{Sent, Entry, entry_of, first_entry, entry_sent, listed_at, specifier_count, RowCells, MapRow, map_row_of, map_row}
 
 -- an entry whose phandle and count were read
 read_entry : (w : World) (count : Path → Answer ℕ) (ragged : Bool) (list : List Quad) (cell : Quad) (cells : List Quad) (q : Path) (n : ℕ) → list ≡ cell ∷ cells → w.node cell ≡ answer q → count q ≡ answer n
@@ -29,32 +29,29 @@ entry_is w count ragged list cell cells q n e node few le = read_entry w count r
 
 -- ---- rows
 
-row_cells_are : (w : World) (q : Path) (a s : ℕ) → address_count w q 0 ≡ answer a → specifier_count w q ≡ answer s → interrupt_row_cells w q ≡ answer (record { address = a; specifier = s })
-row_cells_are w q a s address specifier =
-    ap (λ (x : Answer ℕ). x >>= λ n. specifier_count w q >>= λ k. answer (let r : RowCells = record { address = n; specifier = k } in r)) address
-    ∙ ap (λ (x : Answer ℕ). x >>= λ k. answer (let r : RowCells = record { address = a; specifier = k } in r)) specifier
-
 pub row_is_short : (w : World) (widths : Path → Answer RowCells) (width : ℕ) (cells : List Quad) → drop width cells ≡ [] → map_row w widths width cells ≡ refuse BadMap
 row_is_short w widths width cells none = rw none refl
 
-read_row : (w : World) (width : ℕ) (cells : List Quad) (cell : Quad) (behind : List Quad) (q : Path) (a s : ℕ) → drop width cells ≡ cell ∷ behind → w.node cell ≡ answer q → address_count w q 0 ≡ answer a → specifier_count w q ≡ answer s
-    → map_row w (interrupt_row_cells w) width cells ≡ map_row_of (take width cells) behind q (record { address = a; specifier = s })
-read_row w width cells cell behind q a s e node address specifier =
-    let more : List Quad → Path → Answer MapRow = λ rest p. interrupt_row_cells w p >>= map_row_of (take width cells) rest p in
-    rw e (ap (λ (x : Answer Path). x >>= more behind) node ∙ ap (λ (x : Answer RowCells). x >>= map_row_of (take width cells) behind q) (row_cells_are w q a s address specifier))
+read_row : (w : World) (widths : Path → Answer RowCells) (width : ℕ) (cells : List Quad) (cell : Quad) (behind : List Quad) (q : Path) (own : RowCells) → drop width cells ≡ cell ∷ behind → w.node cell ≡ answer q → widths q ≡ answer own
+    → map_row w widths width cells ≡ map_row_of (take width cells) behind q own
+read_row w widths width cells cell behind q own e node are =
+    let more : List Quad → Path → Answer MapRow = λ rest p. widths p >>= map_row_of (take width cells) rest p in
+    rw e (ap (λ (x : Answer Path). x >>= more behind) node ∙ ap (λ (x : Answer RowCells). x >>= map_row_of (take width cells) behind q) are)
 
-pub row_is_cut : (w : World) (width : ℕ) (cells : List Quad) (cell : Quad) (behind : List Quad) (q : Path) (a s : ℕ) → drop width cells ≡ cell ∷ behind → w.node cell ≡ answer q → address_count w q 0 ≡ answer a → specifier_count w q ≡ answer s
-    → length behind < a + s → map_row w (interrupt_row_cells w) width cells ≡ refuse BadMap
-row_is_cut w width cells cell behind q a s e node address specifier lt = read_row w width cells cell behind q a s e node address specifier ∙ (rw (lt-ltb (length behind) (a + s) lt) refl)
+pub row_is_cut : (w : World) (widths : Path → Answer RowCells) (width : ℕ) (cells : List Quad) (cell : Quad) (behind : List Quad) (q : Path) (own : RowCells) → drop width cells ≡ cell ∷ behind → w.node cell ≡ answer q → widths q ≡ answer own
+    → length behind < own.address + own.specifier → map_row w widths width cells ≡ refuse BadMap
+row_is_cut w widths width cells cell behind q own e node are lt = read_row w widths width cells cell behind q own e node are ∙ (rw (lt-ltb (length behind) (own.address + own.specifier) lt) refl)
 
-pub row_is : (w : World) (width : ℕ) (cells : List Quad) (cell : Quad) (behind : List Quad) (q : Path) (a s : ℕ) → drop width cells ≡ cell ∷ behind → w.node cell ≡ answer q → address_count w q 0 ≡ answer a → specifier_count w q ≡ answer s
-    → a + s ≤ length behind → length (take width cells) ≡ width
-    → map_row w (interrupt_row_cells w) width cells ≡ answer (record { compared = take width cells; parent = q; unit = take a behind; specifier = take s (drop a behind); size = width + 1 + a + s })
-row_is w width cells cell behind q a s e node address specifier le long =
-    read_row w width cells cell behind q a s e node address specifier
-    ∙ (rw (le-ltb (length behind) (a + s) le) (ap (λ n. answer (record { compared = take width cells; parent = q; unit = take a behind; specifier = take s (drop a behind); size = n })) (ap (λ n. n + 1 + (a + s)) long ∙ regroup)))
+pub row_is : (w : World) (widths : Path → Answer RowCells) (width : ℕ) (cells : List Quad) (cell : Quad) (behind : List Quad) (q : Path) (own : RowCells) → drop width cells ≡ cell ∷ behind → w.node cell ≡ answer q → widths q ≡ answer own
+    → own.address + own.specifier ≤ length behind → length (take width cells) ≡ width
+    → map_row w widths width cells
+    ≡ answer (record { compared = take width cells; parent = q; unit = take own.address behind; specifier = take own.specifier (drop own.address behind); size = width + 1 + own.address + own.specifier })
+row_is w widths width cells cell behind q own e node are le long =
+    read_row w widths width cells cell behind q own e node are
+    ∙ (rw (le-ltb (length behind) (own.address + own.specifier) le)
+    (ap (λ n. answer (record { compared = take width cells; parent = q; unit = take own.address behind; specifier = take own.specifier (drop own.address behind); size = n })) (ap (λ n. n + 1 + (own.address + own.specifier)) long ∙ regroup)))
   where
-    regroup : width + 1 + (a + s) ≡ width + 1 + a + s
+    regroup : width + 1 + (own.address + own.specifier) ≡ width + 1 + own.address + own.specifier
     regroup = omega arith
 
 pub no_cells : (cells : List Quad) → length cells ≡ 0 → cells ≡ []

@@ -1,10 +1,10 @@
 -- Cells of a blob as numbers, and how they are compared.
-use Rattle.std.specs.Prelude.{ℕ, Bool, ◌==◌, List, [], ◌∷◌, codes}
+use Rattle.std.specs.Prelude.{ℕ, Bool, ◌==◌, List, [], ◌∷◌, map, codes}
 use Rattle.std.specs.Int.Bits.{bit_and}
 use Rattle.dt_model.specs.Path.{Path}
 use Rattle.dt_worlds.specs.Answers.{Answer, answer, ◌>>=◌}
 use Rattle.dt_worlds.specs.World.{Quad, figure, pointer, torn, World, quads_of}
-use Rattle.dt_worlds.specs.Interrupts.{mask_of, unit_of}
+use Rattle.dt_worlds.specs.Interrupts.{unit_of}
 
 abbrev pub figures : List Quad → List ℕ
 figures [] = []
@@ -16,14 +16,14 @@ figures (torn ∷ cells) = 0 ∷ figures cells
 abbrev pub numbers_of : List ℕ → List ℕ
 numbers_of bytes = figures (quads_of bytes)
 
+-- numbers as cells
+abbrev pub quads : List ℕ → List Quad
+quads ns = map (λ n. figure n) ns
+
 -- two cells are equal in the bits of a mask's first cell; an empty mask is all ones
 abbrev pub agree : ℕ → ℕ → List ℕ → Bool
 agree x y [] = x == y
 agree x y (m ∷ mask) = bit_and x m == bit_and y m
-
--- the mask of a nexus, for so many cells
-abbrev pub mask_at : World → Path → ℕ → Answer (List Quad)
-mask_at w nexus width = w.value nexus (codes "interrupt-map-mask") >>= mask_of width
 
 -- the cells of a node's `reg`, as its unit address
 abbrev pub unit_at : World → Path → Answer (List Quad)

@@ -10,8 +10,9 @@ ghost use Rattle.dt_worlds.specs.Interrupts.{listed_at, IsSent};
 ghost use Rattle.dt_irq.specs.Left.{bytes_left, AreEntriesOf, AreListed, AreSentFrom, IsSentFrom};
 ghost use Rattle.dt_irq.specs.Seen.{sent_in, IsSpecified};
 
-use crate::parents::{interrupt_parent, specifier_cells};
-use crate::sending::{Sent, extended, first_entry};
+use crate::parents::interrupt_parent;
+use crate::sending::{Sent, entry_sent, first_entry};
+use crate::spaces::{Space, interrupt_cells};
 use dt_names::{Fault, FaultKind, NodeId};
 use dt_view::{TreeView, cells_after, first_cells};
 
@@ -39,7 +40,7 @@ impl<'v> Listed<'v> {
         ensures left { IfOk result (AreEntriesOf (V.tree view.now) list.now) }
         ensures refused { IfErr result (λ fault. (i : ℕ) → listed_at (tree_world (reading_of (V.tree view.now))) i (value_of_bytes list.now) (path_at (V.tree view.now) parent) ≡ refused fault) }
     {
-        let cells = specifier_cells(view, parent)?;
+        let cells = interrupt_cells(view, parent)?;
         if list.len() % (4 * cells) != 0 {
             return Err(Fault::of(FaultKind::BadCells));
         }
@@ -117,7 +118,7 @@ impl<'v> Entries<'v> {
         ensures specified { IfOk result (λ sent. IsSpecified (V.tree view.now) sent.node sent.specifier.now) }
     {
         match *self {
-            Entries::Extended(rest) => extended(view, rest, index),
+            Entries::Extended(rest) => entry_sent(view, Space::Interrupts, rest, index),
             Entries::Plain(listed) => match listed.nth(view, index) {
                 Some(sent) => Ok(sent),
                 None => Err(Fault::of(FaultKind::NoInterrupts)),
@@ -139,7 +140,7 @@ impl<'v> Entries<'v> {
                 if rest.is_empty() {
                     return None;
                 }
-                match first_entry(view, rest) {
+                match first_entry(view, Space::Interrupts, rest) {
                     Ok(entry) => {
                         *self = Entries::Extended(entry.rest);
                         Some(Ok(entry.sent))

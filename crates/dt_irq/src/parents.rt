@@ -1,12 +1,11 @@
-//! Interrupt parents, and the cells of their specifiers (Devicetree Specification v0.4, 2.4.1).
+//! Interrupt parents (Devicetree Specification v0.4, 2.4.1).
 
-ghost use Rattle.std.specs.Prelude.{◌≡◌, ◌≤◌, IfOk, IfSome, option_map};
+ghost use Rattle.std.specs.Prelude.{◌≡◌, IfOk, IfSome, option_map};
 ghost use Rattle.dt_read.specs.Placed.{path_at, reading_of, IsNode};
-ghost use Rattle.dt_worlds.specs.Answers.{told, told_as};
+ghost use Rattle.dt_worlds.specs.Answers.{told_as};
 ghost use Rattle.dt_worlds.specs.World.{figure, node_of_figure, tree_world};
-ghost use Rattle.dt_worlds.specs.Interrupts.{specifier_count, step_of, IsInterruptParent};
+ghost use Rattle.dt_worlds.specs.Interrupts.{step_of, IsInterruptParent};
 
-use crate::reached::MOST_CELLS;
 use dt_names::{Fault, FaultKind, NodeId};
 use dt_view::{TreeView, one_cell};
 
@@ -61,21 +60,4 @@ pub fn interrupt_parent<V: TreeView>(view: &V, node: NodeId) -> Result<NodeId, F
         }
     }
     Err(Fault::of(FaultKind::Loop))
-}
-
-/// The cells of a specifier at a node: 1 to 8. `BadCells` where `#interrupt-cells` says something else, or is absent.
-pub fn specifier_cells<V: TreeView>(view: &V, node: NodeId) -> Result<usize, Fault>
-    requires { IsNode (V.tree view.now) node }
-    ensures is { told result ≡ specifier_count (tree_world (reading_of (V.tree view.now))) (path_at (V.tree view.now) node) }
-    ensures some { IfOk result (λ n. 1 ≤ n) }
-    ensures few { IfOk result (λ n. n ≤ 8) }
-{
-    let Some(value) = view.value(node, b"#interrupt-cells") else {
-        return Err(Fault::of(FaultKind::BadCells));
-    };
-    let count = one_cell(value)? as usize;
-    if count < 1 || count > MOST_CELLS {
-        return Err(Fault::of(FaultKind::BadCells));
-    }
-    Ok(count)
 }

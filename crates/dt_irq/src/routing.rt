@@ -1,36 +1,21 @@
 //! Routes, from the node that sends an interrupt to its controller (Devicetree Specification v0.4, 2.4).
 
-ghost use Rattle.std.specs.Prelude.{◌≡◌, ◌+◌, ◌-◌, ◌<◌, ◌≤◌, ◌/◌, ◌++◌, ℕ, length, replicate, IfOk, IfErr, IfSome, OnOk, MatchOption};
+ghost use Rattle.std.specs.Prelude.{◌≡◌, ◌+◌, ◌<◌, ℕ, IfOk, IfErr, IfSome, OnOk, MatchOption};
 ghost use Rattle.dt_model.specs.Path.{Path};
 ghost use Rattle.dt_names.specs.declared.fault.FaultKind.TheVariants.{NoInterrupts};
 ghost use Rattle.dt_read.specs.Placed.{path_at, reading_of, IsNode};
 ghost use Rattle.dt_worlds.specs.Answers.{answer, refuse, refused, told_as};
 ghost use Rattle.dt_worlds.specs.World.{quads_of, tree_world};
 ghost use Rattle.dt_worlds.specs.Interrupts.{IsRoute, most_hops, routed};
-ghost use Rattle.dt_irq.specs.Cells.{numbers_of, unit_at};
+ghost use Rattle.dt_irq.specs.Cells.{unit_at};
 ghost use Rattle.dt_irq.specs.RoutesLeft.{AreLeft, IsLeft, length_left};
 ghost use Rattle.dt_irq.specs.Seen.{interrupt_in, route_in, HasArrived, IsSpecified};
 
+use crate::hops::{Interrupt, hop};
 use crate::lists::Entries;
-use crate::reached::{MOST_CELLS, Route};
-use crate::rows::{Interrupt, hop};
+use crate::reached::{MOST_HOPS, Route, cells_of};
 use dt_names::{Fault, FaultKind, NodeId};
-use dt_view::{TreeView, cell_at};
-
-/// The most interrupt maps of a route.
-const MOST_HOPS: usize = 64;
-
-/// The cells of a specifier, with zeros behind them.
-fn cells_of(specifier: &[u8]) -> [u32; MOST_CELLS]
-    requires { length specifier.now ≤ 32 }
-    ensures { result ≡ numbers_of specifier.now ++ replicate (8 - length specifier.now / 4) 0 }
-{
-    let mut cells = [0; MOST_CELLS];
-    for i in 0..specifier.len() / 4 {
-        cells[i] = cell_at(specifier, i);
-    }
-    cells
-}
+use dt_view::TreeView;
 
 /// The route of an interrupt that was sent to a node.
 fn routed<'v, V: TreeView>(view: &'v V, sent: Interrupt<'v>) -> Result<Route, Fault>

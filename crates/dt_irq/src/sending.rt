@@ -1,13 +1,15 @@
-//! Phandles with specifiers, as `interrupts-extended` lists them (Devicetree Specification v0.4, 2.4.1.4).
+//! Phandles with specifiers, as `interrupts-extended` and the properties of providers' users list them (Devicetree Specification v0.4, 2.4.1.4 and 2.5).
 
 ghost use Rattle.std.specs.Prelude.{◌≡◌, ◌<◌, length, None, IfOk, if◌then◌else◌};
 ghost use Rattle.dt_read.specs.Placed.{path_at, reading_of, IsNode};
 ghost use Rattle.dt_worlds.specs.World.{quads_of, tree_world, value_of_bytes};
-ghost use Rattle.dt_worlds.specs.Interrupts.{entry_sent, first_entry, is_ragged, specifier_count};
+ghost use Rattle.dt_worlds.specs.Interrupts.{entry_sent, first_entry, is_ragged};
 ghost use Rattle.dt_worlds.specs.Answers.{told_as};
 ghost use Rattle.dt_irq.specs.Seen.{entry_in, sent_in, IsSpecified};
+ghost use Rattle.dt_irq.specs.Spaces.{count_in};
 
-use crate::parents::{node_of, specifier_cells};
+use crate::parents::node_of;
+use crate::spaces::Space;
 use dt_names::{Fault, FaultKind, NodeId};
 use dt_view::{TreeView, cell_at, cells_after, first_cells};
 
@@ -38,10 +40,14 @@ pub fn at_the_end(rest: &[u8], nothing: FaultKind, cut: FaultKind) -> Fault
     }
 }
 
-/// The first entry of a list, as `interrupts-extended` has them.
-pub fn first_entry<'v, V: TreeView>(view: &V, list: &'v [u8]) -> Result<Entry<'v>, Fault>
+/// The first entry of a list.
+pub fn first_entry<'v, V: TreeView>(
+    view: &V,
+    space: Space<'_>,
+    list: &'v [u8],
+) -> Result<Entry<'v>, Fault>
     ensures is { told_as (entry_in (V.tree view.now)) result
-        ≡ first_entry (tree_world (reading_of (V.tree view.now))) (specifier_count (tree_world (reading_of (V.tree view.now)))) (is_ragged (value_of_bytes list.now)) (quads_of list.now) }
+        ≡ first_entry (tree_world (reading_of (V.tree view.now))) (count_in space.entry (tree_world (reading_of (V.tree view.now)))) (is_ragged (value_of_bytes list.now)) (quads_of list.now) }
     ensures there { IfOk result (λ e. IsSpecified (V.tree view.now) e.sent.node e.sent.specifier.now) }
     ensures ragged { IfOk result (λ e. is_ragged (value_of_bytes e.rest.now) ≡ is_ragged (value_of_bytes list.now)) }
     ensures shorter { IfOk result (λ e. length e.rest.now < length list.now) }
@@ -50,7 +56,7 @@ pub fn first_entry<'v, V: TreeView>(view: &V, list: &'v [u8]) -> Result<Entry<'v
         return Err(at_the_end(list, FaultKind::NoInterrupts, FaultKind::BadCells));
     }
     let node = node_of(view, cell_at(list, 0))?;
-    let count = specifier_cells(view, node)?;
+    let count = space.specifier_cells(view, node)?;
     let cells = cells_after(list, 1);
     if cells.len() / 4 < count {
         return Err(Fault::of(FaultKind::BadCells));
@@ -62,15 +68,20 @@ pub fn first_entry<'v, V: TreeView>(view: &V, list: &'v [u8]) -> Result<Entry<'v
     })
 }
 
-/// The entry of `interrupts-extended` that an index names, those before it read in order.
-pub fn extended<'v, V: TreeView>(view: &V, list: &'v [u8], index: u64) -> Result<Sent<'v>, Fault>
+/// The entry of a list that an index names, those before it read in order.
+pub fn entry_sent<'v, V: TreeView>(
+    view: &V,
+    space: Space<'_>,
+    list: &'v [u8],
+    index: u64,
+) -> Result<Sent<'v>, Fault>
     ensures is { told_as (sent_in (V.tree view.now)) result
-        ≡ entry_sent (tree_world (reading_of (V.tree view.now))) (specifier_count (tree_world (reading_of (V.tree view.now)))) (is_ragged (value_of_bytes list.now)) index (quads_of list.now) }
+        ≡ entry_sent (tree_world (reading_of (V.tree view.now))) (count_in space.entry (tree_world (reading_of (V.tree view.now)))) (is_ragged (value_of_bytes list.now)) index (quads_of list.now) }
     ensures there { IfOk result (λ s. IsSpecified (V.tree view.now) s.node s.specifier.now) }
 {
     let mut rest = list;
     for _passed in 0..index {
-        rest = first_entry(view, rest)?.rest;
+        rest = first_entry(view, space, rest)?.rest;
     }
-    Ok(first_entry(view, rest)?.sent)
+    Ok(first_entry(view, space, rest)?.sent)
 }

@@ -3,11 +3,11 @@ use Rattle.std.proofs.Common.{◌≡◌, ◌≢◌, ℕ, Bool, true, false, List
 use Rattle.std.specs.Prelude.{is_some, option_and_then}
 use Rattle.std.specs.List.{AllByRecursion}
 use Rattle.std.specs.Str.{bytes_eq}
-use Rattle.dt_model.specs.Names.{Name}
+use Rattle.dt_model.specs.Names.{Name, IsPropertyName}
 use Rattle.dt_model.specs.Path.{Path}
 use Rattle.dt_model.specs.Lists.{IsIn}
-use Rattle.dt_model.specs.Tree.{Forest, no_nodes, branch, Reading, value_of, Node, sibling, node_below, root_of, node_at, stands_in, value_in, Placed, preorder, nodes_of}
-use Rattle.dt_model.specs.Valid.{AreDistinct, names, AreNodes, IsValid}
+use Rattle.dt_model.specs.Tree.{Property, Forest, no_nodes, branch, Reading, value_of, Node, sibling, node_below, root_of, node_at, stands_in, value_in, Placed, preorder, nodes_of}
+use Rattle.dt_model.specs.Valid.{AreDistinct, AreProperties, names, AreNodes, IsValid}
 use Rattle.dt_model.proofs.Tests.{bytes_eq_refl, bytes_eq_true, bytes_eq_other, in_left, in_right, in_append}
 
 -- the node of a path that begins with this name
@@ -152,3 +152,30 @@ value_stands t p name v h = step (node_at t p) refl
     step : (y : Option Node) → node_at t p ≡ y → stands_in t p ≡ true
     step None e = absurd (let z : None ≡ Some v = rw e at h in cc)
     step (Some c) e = rw e refl
+
+-- ---- the properties of a listed node
+
+properties_below : (path : Path) (f : Forest) (n : Placed) → AreNodes f → IsIn n (preorder path f) → AreProperties n.properties
+properties_below path no_nodes n ok i = absurd i
+properties_below path (branch x properties children siblings) n ok (inl same) = subst (λ (z : Placed). AreProperties z.properties) (sym same) ok.1
+properties_below path (branch x properties children siblings) n ok (inr i) =
+    elim (in_append n (preorder (path ++ x ∷ []) children) (preorder path siblings) i) [
+      | inl k ↦ properties_below (path ++ x ∷ []) children n ok.2 k
+      | inr k ↦ properties_below path siblings n ok.4 k
+    ]
+
+pub properties_listed : (t : Reading) (n : Placed) → IsValid t → IsIn n (nodes_of t) → AreProperties n.properties
+properties_listed t n valid (inl same) = subst (λ (z : Placed). AreProperties z.properties) (sym same) valid.properties
+properties_listed t n valid (inr i) = properties_below [] t.children n valid.nodes i
+
+has_name : (ps : List Property) (name : Name) (v : List ℕ) → AllByRecursion (λ p. IsPropertyName p.name) ps → value_of ps name ≡ Some v → IsPropertyName name
+has_name [] name v named e = absurd (let z : None ≡ Some v = e in cc)
+has_name (p ∷ ps) name v named e = step (has_name ps name v named.1) (bytes_eq name p.name) refl
+  where
+    step : (value_of ps name ≡ Some v → IsPropertyName name) → (b : Bool) → bytes_eq name p.name ≡ b → IsPropertyName name
+    step later true is = subst IsPropertyName (sym (bytes_eq_true name p.name is)) named.0
+    step later false is = later (rw is at e)
+
+-- what has a value in a tree is a property's name
+pub value_has_name : (t : Reading) (p : Path) (name : Name) (v : List ℕ) → IsValid t → value_in t p name ≡ Some v → IsPropertyName name
+value_has_name t p name v valid e = let at = value_listed t p name v e in has_name (at.0).properties name v (properties_listed t at.0 valid at.1).named at.3

@@ -14,7 +14,7 @@ use Rattle.dt_model.specs.Valid.{AreDistinct, AreProperties, AreNodes, IsValid}
 use Rattle.dt_model.proofs.Distinct.{in_flat}
 use Rattle.dt_model.proofs.Flat.{from_flat}
 use Rattle.dt_laws.proofs.Lasts.{last_passes, stands_by, names_by, value_by}
-use Rattle.dt_model.proofs.Listed.{listed_stands, stands_listed, listed_value, value_listed}
+use Rattle.dt_model.proofs.Listed.{listed_stands, stands_listed, listed_value, value_listed, properties_listed}
 use Rattle.dt_laws.proofs.Meanings.{no_twice}
 use Rattle.dt_model.proofs.Tests.{in_append, in_map, each_in, bytes_eq_refl, bytes_eq_true, path_eq_refl}
 use Rattle.dt_printed.proofs.ReadPlaces.{property_events, node_events, events_of}
@@ -109,19 +109,6 @@ property_listed (p ∷ ps) x v e = step (property_listed ps x v) (bytes_eq x p.n
     step later true k h = let same : p.value ≡ v = (let z : Some p.value ≡ Some v = h in cc) in inl (ap (λ y. record { name = y; value = v }) (bytes_eq_true x p.name k) ∙ ap (λ w. record { name = p.name; value = w }) (sym same))
     step later false k h = inr (later h)
 
-properties_below : (path : Path) (f : Forest) (n : Placed) → AreNodes f → IsIn n (preorder path f) → AreProperties n.properties
-properties_below path no_nodes n ok i = absurd i
-properties_below path (branch x properties children siblings) n ok (inl same) = subst (λ (z : Placed). AreProperties z.properties) (sym same) ok.1
-properties_below path (branch x properties children siblings) n ok (inr i) =
-    elim (in_append n (preorder (path ++ x ∷ []) children) (preorder path siblings) i) [
-      | inl k ↦ properties_below (path ++ x ∷ []) children n ok.2 k
-      | inr k ↦ properties_below path siblings n ok.4 k
-    ]
-
-pub properties_of : (t : Reading) (n : Placed) → IsValid t → IsIn n (nodes_of t) → AreProperties n.properties
-properties_of t n valid (inl same) = subst (λ (z : Placed). AreProperties z.properties) (sym same) valid.properties
-properties_of t n valid (inr i) = properties_below [] t.children n valid.nodes i
-
 -- ---- what stands
 
 same_answers : (a b : Bool) → (a ≡ true → b ≡ true) → (b ≡ true → a ≡ true) → a ≡ b
@@ -178,7 +165,7 @@ module _ (t : Reading) (valid : IsValid t) where
             let eq : q ≡ reverse n.path = cc in
             let ex : x ≡ p.name = cc in
             let ev : v ≡ map one p.value = cc in
-            let there = listed_value t n p.name valid w.1 ∙ listed_property n.properties p (properties_of t n valid w.1).distinct d.1 in
+            let there = listed_value t n p.name valid w.1 ∙ listed_property n.properties p (properties_listed t n valid w.1).distinct d.1 in
             (p.value, ap (λ r. value_in t (reverse r) x) eq ∙ ap (λ r. value_in t r x) (reverse-reverse n.path) ∙ ap (value_in t n.path) ex ∙ there, ev)
       ]
 

@@ -13,10 +13,10 @@ use Rattle.dt_model.specs.Ordered.{AreChildrenInOrder, ArePropertiesInOrder}
 use Rattle.dt_model.specs.Tree.{Property, Forest, no_nodes, branch, Reading, Node, sibling, node_below, root_of, node_at, value_of, value_in, Placed, preorder, nodes_of}
 use Rattle.dt_model.specs.Valid.{IsValid, names}
 use Rattle.dt_model.proofs.Cases.{then_some, some_there}
-use Rattle.dt_model.proofs.Listed.{at_listed}
+use Rattle.dt_model.proofs.Listed.{at_listed, properties_listed}
 use Rattle.dt_model.proofs.Preorder.{paths_distinct}
 use Rattle.dt_model.proofs.Tests.{each_from, in_map, in_map_from, bytes_eq_refl, bytes_eq_true}
-use Rattle.dt_printed.proofs.TreeEvents.{own, reverse_child, event_of, stands_same, value_same, listed_property, property_listed, properties_of}
+use Rattle.dt_printed.proofs.TreeEvents.{own, reverse_child, event_of, stands_same, value_same, listed_property, property_listed}
 use Rattle.dt_printed.proofs.TreeOrder.{PassNone, since_none, falls_same, blocks_fall, node_blocks, properties_fall}
 
 -- ---- children and their paths
@@ -174,7 +174,7 @@ module _ (t : Reading) (valid : IsValid t) where
   properties_in_order p n e =
       let here : Placed = record { path = p; properties = n.properties } in
       let listed = at_listed t p n e in
-      let d = (properties_of t here valid listed).distinct in
+      let d = (properties_listed t here valid listed).distinct in
       record {
         sound = each_from (λ x. is_some (value_at es (reverse p) x) ≡ true) (map (λ (x : Property). x.name) n.properties)
             (λ x i.

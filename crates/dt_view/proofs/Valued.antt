@@ -15,7 +15,7 @@ use Rattle.dt_model.specs.Names.{Name}
 use Rattle.dt_model.specs.Path.{Path}
 use Rattle.dt_model.specs.Tree.{Property, Forest, no_nodes, branch, Placed, Node, sibling, node_below, root_of, node_at, nodes_of, value_of, value_in}
 use Rattle.dt_model.specs.Valid.{IsValid, AreNodes, AreDistinct}
-use Rattle.dt_model.proofs.Listed.{stands_listed}
+use Rattle.dt_model.proofs.Listed.{stands_listed, at_listed, properties_listed}
 use Rattle.dt_model.proofs.Tests.{in_append}
 use Rattle.dt_read.specs.Placed.{PlacedTree, reading_of, path_at, place_of, properties_of, properties_at, IsAt, IsNode}
 use Rattle.dt_read.specs.Walked.{Step, opens, steps_of}
@@ -86,27 +86,13 @@ value_of_more [] p x differ = by (bytes_eq x p.name) refl
     by false is = refl
 value_of_more (q ∷ done) p x differ = ap (cond (bytes_eq x q.name) (Some q.value)) (value_of_more done p x differ)
 
--- a sibling's properties are called differently, and so are those below it
-sibling_fine : (fs : Forest) (x : Name) (c : Node) → AreNodes fs → sibling fs x ≡ Some c → AreDistinct (map (λ q. q.name) c.properties) × AreNodes c.children
-sibling_fine no_nodes x c a e = absurd (let z : None ≡ Some c = e in cc)
-sibling_fine (branch name properties children siblings) x c a e = by (bytes_eq x name) e (sibling_fine siblings x c a.4)
-  where
-    by : (b : Bool) → cond b (Some (record { properties = properties; children = children })) (sibling siblings x) ≡ Some c → (sibling siblings x ≡ Some c → AreDistinct (map (λ q. q.name) c.properties) × AreNodes c.children)
-        → AreDistinct (map (λ q. q.name) c.properties) × AreNodes c.children
-    by true f more = subst (λ (n : Node). AreDistinct (map (λ q. q.name) n.properties) × AreNodes n.children) (same_Some _ c f) ((a.1).distinct, a.2)
-    by false f more = more f
-
-distinct_below : (n : Node) (p : Path) → AreDistinct (map (λ q. q.name) n.properties) → AreNodes n.children → AreDistinct (map (λ q. q.name) (properties_of (node_below n p)))
-distinct_below n [] d a = d
-distinct_below n (x ∷ p) d a = by (sibling n.children x) refl (λ c e f. distinct_below c p e f)
-  where
-    by : (o : Option Node) → sibling n.children x ≡ o → ((c : Node) → AreDistinct (map (λ q. q.name) c.properties) → AreNodes c.children → AreDistinct (map (λ q. q.name) (properties_of (node_below c p))))
-        → AreDistinct (map (λ q. q.name) (properties_of (option_and_then (λ c. node_below c p) o)))
-    by None e more = tt
-    by (Some c) e more = let fine = sibling_fine n.children x c a e in more c fine.0 fine.1
-
+-- a node's properties are called differently
 pub distinct_at : (t : PlacedTree) (p : Path) → IsValid (reading_of t) → AreDistinct (map (λ q. q.name) (properties_at t p))
-distinct_at t p valid = distinct_below (root_of (reading_of t)) p valid.properties.distinct valid.nodes
+distinct_at t p valid = by (node_at (reading_of t) p) refl
+  where
+    by : (o : Option Node) → node_at (reading_of t) p ≡ o → AreDistinct (map (λ q. q.name) (properties_of o))
+    by None e = tt
+    by (Some c) e = (properties_listed (reading_of t) (record { path = p; properties = c.properties }) valid (at_listed (reading_of t) p c e)).distinct
 
 pub none_kept : (node : ℕ) (properties : List Property) (old : List (Key × Bor (List ℕ))) → AreKept node properties [] old old
 none_kept node properties old = record { from = λ k x v e. inl e; kept = λ k x e. e; own = λ x e. absurd (true≢false (sym e)) }

@@ -2,12 +2,13 @@
 use Rattle.std.proofs.Common.{◌≡◌, ℕ, suc, zero, ◌+◌, ◌-◌, ◌*◌, ◌%◌, Bool, true, false, not, ◌==◌, inl, inr, List, [], ◌∷◌, ◌++◌, take, drop, length, refl, sym, ap, ◌∙◌, subst, Option, Some, None, arith}
 use Rattle.std.specs.Prelude.{if◌then◌else◌, codes, nat_lt, is_some}
 use Rattle.dt_names.specs.declared.fault.FaultKind.TheVariants.{BadCells, NoInterrupts, Loop, BadMap, NoUnitAddress}
+use Rattle.dt_model.specs.Names.{Name}
 use Rattle.dt_model.specs.Path.{Path}
 use Rattle.dt_worlds.specs.Above.{parent_of}
 use Rattle.dt_worlds.specs.Answers.{Answer, undetermined, refused, answer, refuse, ◌>>=◌, Agrees}
 use Rattle.dt_worlds.specs.World.{Quad, Value, World}
 use Rattle.dt_worlds.specs.Regions.{figure_of, only_cell, address_count, entries_of, entry_at}
-use Rattle.dt_worlds.specs.Interrupts.{step_by, step_of, Lead, nowhere, arrived, onward, step_to, steps_from, after_step, ended, IsInterruptParent, specifier_size, specifier_count_of, specifier_count, Sent, Entry, entry_of, first_entry, entry_sent, is_ragged, listed_at, IsSentBy, Interrupt, RowCells, MapRow, map_row_of, map_row_at_parent, map_row, interrupt_row_cells, as_numbers, equal_under, matches, first_match, mask_of, led, hop, Route, at_node, arrival, routed, unit_of, most_hops, route_of_sent, IsRoute}
+use Rattle.dt_worlds.specs.Interrupts.{step_by, step_of, Lead, nowhere, arrived, onward, step_to, steps_from, after_step, ended, IsInterruptParent, specifier_size, size_told, size_at, specifier_count, Sent, Entry, entry_of, first_entry, entry_sent, is_ragged, listed_at, IsSentBy, Interrupt, RowCells, MapRow, map_row_of, map_row_at_parent, map_row, interrupt_row_cells, as_numbers, equal_under, matches, first_match, mask_of, led, hop, Route, at_node, arrival, routed, unit_of, most_hops, route_of_sent, IsRoute}
 use Rattle.dt_worlds.proofs.Agreeing.{Same, agree_bind, agree_refl, agree_same, IsSeen, AreSeen, IsValueSeen, IsMaybeSeen, Refines, seen_figure, seen_take, seen_drop, seen_length, seen_append}
 use Rattle.dt_worlds.proofs.RegionsAgree.{only_cell_agrees, only_number_agrees, address_count_agrees, AreAllSeen, entries_of_agree, entry_agrees}
 
@@ -98,14 +99,17 @@ parent_seen v w r p (answer a) q' (inl (n, e)) k = (a, one_parent w p q' (answer
 parent_seen v w r p (refused fault) q' (inr (l, none)) k = one_parent w p q' (refused fault) k (inr (l, λ n. subst (λ (x : Option (Answer Path)). EndsAgree x (ended w n p)) (none n) (ended_agrees v w r n p)))
 parent_seen v w r p (answer a) q' (inr (l, none)) k = absurd (let z : answer a ≡ refuse Loop = l in cc)
 
-specifier_count_of_agrees : (w : World) (a b : Option Value) → IsMaybeSeen w a b → Agrees (Same ℕ) (specifier_count_of a) (specifier_count_of b)
-specifier_count_of_agrees w None None h = refl
-specifier_count_of_agrees w None (Some b) h = absurd h
-specifier_count_of_agrees w (Some a) None h = absurd h
-specifier_count_of_agrees w (Some a) (Some b) h = agree_same (only_cell a >>= figure_of) (only_cell b >>= figure_of) specifier_size specifier_size (only_number_agrees w a b h) (λ n. agree_refl (specifier_size n))
+size_told_agrees : (w : World) (least : ℕ) (a b : Option Value) → IsMaybeSeen w a b → Agrees (Same ℕ) (size_told least a) (size_told least b)
+size_told_agrees w least None None h = refl
+size_told_agrees w least None (Some b) h = absurd h
+size_told_agrees w least (Some a) None h = absurd h
+size_told_agrees w least (Some a) (Some b) h = agree_same (only_cell a >>= figure_of) (only_cell b >>= figure_of) (specifier_size least) (specifier_size least) (only_number_agrees w a b h) (λ n. agree_refl (specifier_size least n))
+
+pub size_agrees : (v w : World) → Refines v w → (least : ℕ) (name : Name) (p : Path) → Agrees (Same ℕ) (size_at least name v p) (size_at least name w p)
+size_agrees v w r least name p = agree_bind (IsMaybeSeen w) (Same ℕ) (v.value p name) (w.value p name) (size_told least) (size_told least) (r.value p name) (size_told_agrees w least)
 
 specifier_count_agrees : (v w : World) → Refines v w → (p : Path) → Agrees (Same ℕ) (specifier_count v p) (specifier_count w p)
-specifier_count_agrees v w r p = agree_bind (IsMaybeSeen w) (Same ℕ) (v.value p (codes "#interrupt-cells")) (w.value p (codes "#interrupt-cells")) specifier_count_of specifier_count_of (r.value p (codes "#interrupt-cells")) (specifier_count_of_agrees w)
+specifier_count_agrees v w r p = size_agrees v w r 1 (codes "#interrupt-cells") p
 
 pub record IsSentSeen (w : World) (a b : Sent) : Type 0 where
   pub node : b.node ≡ a.node

@@ -7,5 +7,6 @@ pub mod OneRoute
 pub mod Ending
 pub mod Circles
 pub mod Told
+pub mod Named
 pub mod QuadsOfBytes
 pub mod Entries

@@ -6,21 +6,14 @@ use Rattle.dt_model.specs.Names.{Name}
 use Rattle.dt_model.specs.Path.{Path}
 use Rattle.dt_worlds.specs.Answers.{Answer, answer, refuse, ◌>>=◌, Agrees}
 use Rattle.dt_worlds.specs.World.{Quad, figure, Value, World}
-use Rattle.dt_worlds.specs.Regions.{figure_of, only_cell}
+use Rattle.dt_worlds.specs.Regions.{figure_of}
 use Rattle.dt_worlds.specs.Interrupts.{Sent, entry_sent, is_ragged, MapRow, as_numbers, first_match, mask_of, Route, most_hops}
-use Rattle.dt_worlds.specs.Specifiers.{cells_name, map_name, mask_name, pass_name, provider_size, provider_count_of, provider_count, provider_of, provider_row_cells, passed, passed_cell, merged, led_by, provider_hop, provided_at, provision, provided, specifier_route}
+use Rattle.dt_worlds.specs.Specifiers.{cells_name, map_name, mask_name, pass_name, provider_count, provider_of, provider_row_cells, passed, passed_cell, merged, led_by, provider_hop, provided_at, provision, provided, specifier_route}
 use Rattle.dt_worlds.proofs.Agreeing.{Same, agree_bind, agree_refl, agree_same, IsSeen, AreSeen, IsValueSeen, IsMaybeSeen, Refines, seen_figure, seen_length}
-use Rattle.dt_worlds.proofs.RegionsAgree.{only_number_agrees}
-use Rattle.dt_worlds.proofs.InterruptsAgree.{IsSentSeen, IsRowSeen, AreWidthsSame, agree_at, entry_sent_agrees, first_match_agrees, mask_of_agrees, as_numbers_agree}
-
-count_of_agrees : (w : World) (a b : Option Value) → IsMaybeSeen w a b → Agrees (Same ℕ) (provider_count_of a) (provider_count_of b)
-count_of_agrees w None None h = refl
-count_of_agrees w None (Some b) h = absurd h
-count_of_agrees w (Some a) None h = absurd h
-count_of_agrees w (Some a) (Some b) h = agree_same (only_cell a >>= figure_of) (only_cell b >>= figure_of) provider_size provider_size (only_number_agrees w a b h) (λ n. agree_refl (provider_size n))
+use Rattle.dt_worlds.proofs.InterruptsAgree.{IsSentSeen, IsRowSeen, AreWidthsSame, agree_at, size_agrees, entry_sent_agrees, first_match_agrees, mask_of_agrees, as_numbers_agree}
 
 count_agrees : (v w : World) → Refines v w → (kind : Name) (p : Path) → Agrees (Same ℕ) (provider_count v kind p) (provider_count w kind p)
-count_agrees v w r kind p = agree_bind (IsMaybeSeen w) (Same ℕ) (v.value p (cells_name kind)) (w.value p (cells_name kind)) provider_count_of provider_count_of (r.value p (cells_name kind)) (count_of_agrees w)
+count_agrees v w r kind p = size_agrees v w r 0 (cells_name kind) p
 
 ragged_same : (w : World) (a b : Value) → IsValueSeen w a b → is_ragged b ≡ is_ragged a
 ragged_same w a b h = ap (λ (n : ℕ). not (n % 4 == 0)) h.size

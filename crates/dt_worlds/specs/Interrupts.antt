@@ -2,6 +2,7 @@
 use Rattle.std.specs.Prelude.{◌≡◌, ℕ, zero, suc, ◌+◌, ◌-◌, ◌*◌, ◌%◌, Bool, true, false, not, ◌&&◌, ◌==◌, ◌⊎◌, nat_le, nat_lt, List, [], ◌∷◌, ◌++◌, length, take, drop, codes, Option, Some, None, is_some, if◌then◌else◌}
 use Rattle.std.specs.Int.Bits.{bit_and}
 use Rattle.dt_names.specs.declared.fault.FaultKind.TheVariants.{BadCells, NoInterrupts, NoParent, Loop, BadMap, NoMapEntry, NoUnitAddress}
+use Rattle.dt_model.specs.Names.{Name}
 use Rattle.dt_model.specs.Path.{Path}
 use Rattle.dt_worlds.specs.Above.{parent_of}
 use Rattle.dt_worlds.specs.Answers.{Answer, undetermined, refused, answer, refuse, ◌>>=◌}
@@ -48,17 +49,22 @@ ended w (suc n) p = after_step (ended w n) (steps_from w p)
 abbrev pub IsInterruptParent : World → Path → Answer Path → Type 0
 IsInterruptParent w p r = ((n : ℕ) × (ended w n p ≡ Some r)) ⊎ ((r ≡ refuse Loop) × ((n : ℕ) → ended w n p ≡ None))
 
--- the number of cells of a specifier: one to eight (2.4.1.2)
-abbrev pub specifier_size : ℕ → Answer ℕ
-specifier_size n = if nat_le 1 n && nat_le n 8 then answer n else refuse BadCells
+-- the number of cells of a specifier: this many at least, and eight at most (that it is eight is this project's choice)
+abbrev pub specifier_size : ℕ → ℕ → Answer ℕ
+specifier_size least n = if nat_le least n && nat_le n 8 then answer n else refuse BadCells
 
--- the number of cells that a node has in `#interrupt-cells`, which has to be there
-abbrev pub specifier_count_of : Option Value → Answer ℕ
-specifier_count_of None = refuse BadCells
-specifier_count_of (Some v) = only_cell v >>= figure_of >>= specifier_size
+-- the number that a value tells, which has to be there
+abbrev pub size_told : ℕ → Option Value → Answer ℕ
+size_told least None = refuse BadCells
+size_told least (Some v) = only_cell v >>= figure_of >>= specifier_size least
 
+-- the number that a node has in a property
+abbrev pub size_at : ℕ → Name → World → Path → Answer ℕ
+size_at least name w p = w.value p name >>= size_told least
+
+-- the number of cells of an interrupt's specifier at a node, by `#interrupt-cells`: one at least (2.4.1.2)
 abbrev pub specifier_count : World → Path → Answer ℕ
-specifier_count w p = w.value p (codes "#interrupt-cells") >>= specifier_count_of
+specifier_count = size_at 1 (codes "#interrupt-cells")
 
 -- a specifier at a node
 pub record Sent : Type 0 where

@@ -4,5 +4,6 @@ pub mod World
 pub mod Regions
 pub mod Interrupts
 pub mod Specifiers
+pub mod Faults
 pub mod Laws
 pub mod Rows

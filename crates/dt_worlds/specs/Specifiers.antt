@@ -1,14 +1,14 @@
 -- Routes of specifiers of any kind, such as those of GPIOs, clocks and resets, through the maps of connectors (Devicetree Specification v0.4,
 -- 2.5). The kind is the word that the names of the properties are made with.
-use Rattle.std.specs.Prelude.{ℕ, zero, suc, ◌+◌, ◌-◌, ◌==◌, nat_le, List, [], ◌∷◌, ◌++◌, length, codes, Option, Some, None, if◌then◌else◌}
+use Rattle.std.specs.Prelude.{ℕ, zero, suc, ◌+◌, ◌-◌, ◌==◌, List, [], ◌∷◌, ◌++◌, length, codes, Option, Some, None, if◌then◌else◌}
 use Rattle.std.specs.Int.Bits.{bit_and, bit_or}
-use Rattle.dt_names.specs.declared.fault.FaultKind.TheVariants.{BadCells, NoInterrupts, Loop}
+use Rattle.dt_names.specs.declared.fault.FaultKind.TheVariants.{NoInterrupts, Loop}
 use Rattle.dt_model.specs.Names.{Name}
 use Rattle.dt_model.specs.Path.{Path}
 use Rattle.dt_worlds.specs.Answers.{Answer, answer, refuse, ◌>>=◌}
 use Rattle.dt_worlds.specs.World.{Quad, figure, Value, World}
-use Rattle.dt_worlds.specs.Regions.{figure_of, only_cell}
-use Rattle.dt_worlds.specs.Interrupts.{Sent, entry_sent, is_ragged, RowCells, MapRow, as_numbers, first_match, mask_of, Route, most_hops}
+use Rattle.dt_worlds.specs.Regions.{figure_of}
+use Rattle.dt_worlds.specs.Interrupts.{size_at, Sent, entry_sent, is_ragged, RowCells, MapRow, as_numbers, first_match, mask_of, Route, most_hops}
 
 -- `#KIND-cells`, `KIND-map`, `KIND-map-mask` and `KIND-map-pass-thru` (2.5.1)
 abbrev pub cells_name : Name → Name
@@ -23,16 +23,9 @@ mask_name kind = kind ++ codes "-map-mask"
 abbrev pub pass_name : Name → Name
 pass_name kind = kind ++ codes "-map-pass-thru"
 
--- the number of cells of a provider's specifiers, none to eight (that it is eight at most is this project's choice), which has to be there
-abbrev pub provider_size : ℕ → Answer ℕ
-provider_size n = if nat_le n 8 then answer n else refuse BadCells
-
-abbrev pub provider_count_of : Option Value → Answer ℕ
-provider_count_of None = refuse BadCells
-provider_count_of (Some v) = only_cell v >>= figure_of >>= provider_size
-
+-- the number of cells of a provider's specifiers, which may have none (2.5.1)
 abbrev pub provider_count : World → Name → Path → Answer ℕ
-provider_count w kind p = w.value p (cells_name kind) >>= provider_count_of
+provider_count w kind = size_at 0 (cells_name kind) w
 
 -- the entry that an index names of a property, which is a list of phandles with specifiers; without it there is none
 abbrev pub provider_of : World → Name → ℕ → Option Value → Answer Sent

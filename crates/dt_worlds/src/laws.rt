@@ -1,5 +1,7 @@
 //! What a meaning determines of addresses and routes, each blob of it has.
 
+ghost use Rattle.dt_model.specs.Tree.{Reading};
+ghost use Rattle.dt_worlds.specs.Faults.{AreNamed};
 ghost use Rattle.dt_worlds.specs.Laws.{MeaningIsResolved, ParentIsOne, RouteIsOne, WrittenNumbersAreFound};
 
 /// Whatever a meaning determines of a region or a route, an answer or a fault, is so in the tree of each blob that represents it.
@@ -20,4 +22,9 @@ pub fn parent_is_one()
 /// An index names one route of a tree's node, or is refused for one reason, and not both.
 pub fn route_is_one()
     ensures { RouteIsOne }
+{}
+
+/// A tree refuses a region, also one for DMA, and a specifier's route for faults that their rules name, none of which has a place.
+pub fn faults_are_named()
+    ensures { (t : Reading) → AreNamed t }
 {}

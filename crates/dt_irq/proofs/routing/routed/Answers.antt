@@ -10,7 +10,7 @@ use Rattle.dt_worlds.proofs.Told.{refuses}
 use Rattle.dt_irq.specs.Cells.{numbers_of}
 use Rattle.dt_irq.specs.Seen.{interrupt_in, route_in}
 use Rattle.dt_irq.proofs.Figures.{are_numbers, figure_count}
-use Rattle.dt_irq.proofs.Hops.{arrives, no_map, too_far, goes_on}
+use Rattle.dt_irq.proofs.MapSteps.{arrives, no_map, too_far, goes_on}
 use Rattle.dt_worlds.proofs.Told.{told_fault}
 use Rattle.dt_irq.proofs.Telling.{some_value, no_value, copied_some}
 use Rattle.dt_irq.proofs.Zeros.{take_front}

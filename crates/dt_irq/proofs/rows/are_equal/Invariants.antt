@@ -6,4 +6,4 @@ use Rattle.dt_irq.proofs.rows.are_equal.Given as goal
 
 abbrev pub invariant-loop-i : goal.invariant-loop-i
 invariant-loop-i l =
-    equal_under (drop l.i (numbers_of l.left)) (drop l.i (numbers_of l.right)) (drop l.i (numbers_of l.mask)) ≡ equal_under (numbers_of l.left) (numbers_of l.right) (numbers_of l.mask)
+    equal_under (drop l.i (numbers_of l.compared)) (drop l.i l.key) (drop l.i (numbers_of l.mask)) ≡ equal_under (numbers_of l.compared) l.key (numbers_of l.mask)

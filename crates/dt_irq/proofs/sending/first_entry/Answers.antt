@@ -3,10 +3,11 @@ use Rattle.std.proofs.lemmas.List.{length-drop}
 use Rattle.dt_names.specs.declared.fault.FaultKind.TheVariants.{BadCells}
 use Rattle.dt_read.specs.Placed.{path_at, reading_of}
 use Rattle.dt_worlds.specs.World.{figure, quads_of, tree_world, value_of_bytes}
-use Rattle.dt_worlds.specs.Interrupts.{specifier_count, is_ragged}
+use Rattle.dt_worlds.specs.Interrupts.{is_ragged}
 use Rattle.dt_worlds.specs.Answers.{answer}
 use Rattle.dt_worlds.proofs.Told.{refuses}
 use Rattle.dt_worlds.proofs.QuadsOfBytes.{quad_count}
+use Rattle.dt_irq.specs.Spaces.{count_in}
 use Rattle.dt_irq.proofs.Listing.{entry_is_cut, entry_is}
 use Rattle.dt_irq.proofs.sending.first_entry.Goals as goal
 
@@ -17,7 +18,7 @@ returns-then-cells-count-clause-is g c =
     let cells = c.cells_after-cells.result.now in
     let count = quad_count cells in
     refuses c.of.result BadCells c.of.ensures.kind c.of.ensures.at
-    ∙ sym (entry_is_cut w (specifier_count w) (is_ragged (value_of_bytes c.args.list.now)) (quads_of c.args.list.now) (figure c.cell_at.result) (quads_of cells) (path_at t c.in_ok-node.node) c.in_ok-count.count
+    ∙ sym (entry_is_cut w (count_in c.args.space w) (is_ragged (value_of_bytes c.args.list.now)) (quads_of c.args.list.now) (figure c.cell_at.result) (quads_of cells) (path_at t c.in_ok-node.node) c.in_ok-count.count
     (c.cell_at.ensures ∙ ap (λ qs. figure c.cell_at.result ∷ qs) (sym c.cells_after-cells.ensures.cells)) (sym c.in_ok-node.ensures.is) (sym c.in_ok-count.ensures.is) (omega (arith, count)))
 
 pub returns-clause-is : goal.returns-clause-is
@@ -29,7 +30,7 @@ returns-clause-is g c =
     let specifier = c.first_cells-specifier.ensures.cells in
     let rest = c.cells_after.ensures.cells in
     (λ i. answer (record { sent = record { node = path_at t c.in_ok-node.node; specifier = specifier i }; rest = rest i }))
-    ∙ sym (entry_is w (specifier_count w) (is_ragged (value_of_bytes c.args.list.now)) (quads_of c.args.list.now) (figure c.cell_at.result) (quads_of cells) (path_at t c.in_ok-node.node) c.in_ok-count.count
+    ∙ sym (entry_is w (count_in c.args.space w) (is_ragged (value_of_bytes c.args.list.now)) (quads_of c.args.list.now) (figure c.cell_at.result) (quads_of cells) (path_at t c.in_ok-node.node) c.in_ok-count.count
     (c.cell_at.ensures ∙ ap (λ qs. figure c.cell_at.result ∷ qs) (sym c.cells_after-cells.ensures.cells)) (sym c.in_ok-node.ensures.is) (sym c.in_ok-count.ensures.is) (omega (arith, count)))
 
 pub returns-clause-ragged : goal.returns-clause-ragged

@@ -11,7 +11,7 @@ pub returns-in-Extended-clause-is : goal.returns-in-Extended-clause-is
 returns-in-Extended-clause-is g c = λ p i left.
     let t = g.V.TreeView.tree c.args.view.now in
     let are = subst (AreSentFrom t p i) c.in-Extended.is left in
-    subst (IsSent (tree_world (reading_of t)) p (i + c.args.index)) (sym c.extended.ensures.is) (are c.args.index)
+    subst (IsSent (tree_world (reading_of t)) p (i + c.args.index)) (sym c.entry_sent.ensures.is) (are c.args.index)
 
 pub returns-in-Some-clause-is : goal.returns-in-Some-clause-is
 returns-in-Some-clause-is g c = λ p i left.

@@ -5,8 +5,8 @@ use Rattle.dt_worlds.specs.World.{tree_world, value_of_bytes}
 use Rattle.dt_worlds.proofs.Told.{refuses}
 use Rattle.dt_worlds.proofs.QuadsOfBytes.{quad_count}
 use Rattle.dt_irq.specs.Seen.{interrupt_in}
-use Rattle.dt_irq.proofs.Hops.{too_short, hop_is}
-use Rattle.dt_irq.proofs.rows.hop.Goals as goal
+use Rattle.dt_irq.proofs.MapSteps.{too_short, hop_is}
+use Rattle.dt_irq.proofs.hops.hop.Goals as goal
 
 pub returns-then-at-address-clause-is : goal.returns-then-at-address-clause-is
 returns-then-at-address-clause-is g c =

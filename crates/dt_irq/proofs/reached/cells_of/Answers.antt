@@ -3,7 +3,7 @@ use Rattle.std.proofs.lemmas.List.{take_all}
 use Rattle.dt_irq.specs.Cells.{numbers_of}
 use Rattle.dt_irq.proofs.Figures.{next_figure, figure_count}
 use Rattle.dt_irq.proofs.Zeros.{filled}
-use Rattle.dt_irq.proofs.routing.cells_of.Goals as goal
+use Rattle.dt_irq.proofs.reached.cells_of.Goals as goal
 
 pub loop-i-preserved : goal.loop-i-preserved
 loop-i-preserved c =

@@ -7,8 +7,7 @@ use Rattle.dt_names.specs.declared.fault.FaultKind.TheVariants.{BadMap, Loop, No
 use Rattle.dt_worlds.specs.Answers.{Answer, refuse, answer, ◌>>=◌}
 use Rattle.dt_worlds.specs.World.{Quad, Value, World}
 use Rattle.dt_worlds.specs.Regions.{address_count}
-use Rattle.dt_worlds.specs.Interrupts.{Interrupt, MapRow, Route, as_numbers, first_match, hop, interrupt_row_cells, is_ragged, led, routed, specifier_count, at_node}
-use Rattle.dt_irq.specs.Cells.{mask_at}
+use Rattle.dt_worlds.specs.Interrupts.{Interrupt, MapRow, Route, as_numbers, first_match, hop, interrupt_row_cells, is_ragged, led, mask_of, routed, specifier_count, at_node}
 
 -- a row leads to its parent
 abbrev pub goes_to : MapRow → Interrupt
@@ -18,7 +17,7 @@ abbrev pub by_row : Answer MapRow → Answer Interrupt
 by_row x = x >>= λ r. answer (goes_to r)
 
 -- what a mask that was read leads to
-pub led_by : (w : World) (nexus : Path) (unit specifier mask : List Quad) (v : Value) (n k : ℕ) → mask_at w nexus (n + k) ≡ answer mask
+pub led_by : (w : World) (nexus : Path) (unit specifier mask : List Quad) (v : Value) (n k : ℕ) → (w.value nexus (codes "interrupt-map-mask") >>= mask_of (n + k)) ≡ answer mask
     → led w nexus unit specifier v n k ≡ by_row (first_match w (interrupt_row_cells w) (is_ragged v) (n + k) (take n unit ++ specifier) mask 0 v.cells)
 led_by w nexus unit specifier mask v n k e =
     ap (λ (x : Answer (List Quad)). x >>= λ m. by_row (first_match w (interrupt_row_cells w) (is_ragged v) (n + k) (take n unit ++ specifier) m 0 v.cells)) e
