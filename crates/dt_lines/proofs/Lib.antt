@@ -4,3 +4,5 @@ pub mod WordTexts
 pub mod Going
 pub mod Nodes
 pub mod OneListing
+pub mod Questions
+pub mod OneAnswer

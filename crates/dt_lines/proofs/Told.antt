@@ -1,12 +1,12 @@
 -- A node's line, from its path on.
 use Rattle.std.proofs.Common.{◌≡◌, ◌++◌, ℕ, Bool, true, false, cond, List, [], refl}
 use Rattle.std.specs.Prelude.{Result, Ok, Err}
-use Rattle.dt_model.specs.Path.{Path, path_text}
+use Rattle.dt_model.specs.Path.{Path}
 use Rattle.dt_names.specs.declared.fault.Fault.{Fault}
 use Rattle.dt_worlds.specs.Answers.{told}
-use Rattle.dt_lines.specs.Lines.{line}
+use Rattle.dt_lines.specs.Lines.{line, place_words}
 
-pub line_begins : {A : Type 0} (words : A → List ℕ) (p : Path) (i : ℕ) (r : Result A Fault) → (rest : List ℕ) × (line words p i (told r) ≡ path_text p ++ rest)
+pub line_begins : {A : Type 0} (words : A → List ℕ) (p : Path) (i : ℕ) (r : Result A Fault) → (rest : List ℕ) × (line words p i (told r) ≡ place_words p i ++ rest)
 line_begins words p i (Ok a) = (_, refl)
 line_begins words p i (Err fault) = (_, refl)
 

@@ -3,3 +3,4 @@ pub mod Paths
 pub mod AllLines
 pub mod Given
 pub mod Listed
+pub mod Asked

@@ -15,9 +15,9 @@ abbrev pub joined : List (Bor (List ℕ)) → List ℕ
 joined [] = []
 joined (piece ∷ pieces) = piece.now ++ joined pieces
 
--- an index, behind a path
+-- an index, between a path and what is told of it
 abbrev pub index_words : ℕ → List ℕ
-index_words i = codes " " ++ decimal i
+index_words i = codes " " ++ (decimal i ++ codes " ")
 
 -- a number in hexadecimal with the fewest digits, behind something else
 abbrev pub number_words : List ℕ → List ℕ
@@ -25,11 +25,11 @@ number_words bytes = codes " 0x" ++ significant (hexadecimal bytes)
 
 -- a fault without a place: `fault N Name`
 abbrev pub fault_words : Fault → List ℕ
-fault_words fault = codes " " ++ (fault_text fault ++ 10 ∷ [])
+fault_words fault = fault_text fault ++ 10 ∷ []
 
 -- a region: its address, its size, and whether the whole of it is mapped
 abbrev pub region_words : Region → List ℕ
-region_words r = number_words (to_be_bytes w128 r.address) ++ (number_words (to_be_bytes w128 r.size) ++ (if r.whole then codes " whole\n" else codes " cut\n"))
+region_words r = (codes "0x" ++ significant (hexadecimal (to_be_bytes w128 r.address))) ++ (number_words (to_be_bytes w128 r.size) ++ (if r.whole then codes " whole\n" else codes " cut\n"))
 
 abbrev pub cells_words : List ℕ → List ℕ
 cells_words [] = []
@@ -37,10 +37,14 @@ cells_words (cell ∷ cells) = number_words (to_be_bytes w32 cell) ++ cells_word
 
 -- a route: the controller, the cells of the specifier there, and how many maps it went through
 abbrev pub route_words : Route → List ℕ
-route_words r = codes " " ++ (path_text r.controller ++ (cells_words r.cells ++ (codes " hops " ++ (decimal r.hops ++ codes "\n"))))
+route_words r = path_text r.controller ++ (cells_words r.cells ++ (codes " hops " ++ (decimal r.hops ++ codes "\n")))
 
--- a node's line for an index
+-- what a node's line for an index begins with
+abbrev pub place_words : Path → ℕ → List ℕ
+place_words p i = path_text p ++ index_words i
+
+-- the line
 abbrev pub line : {A : Type 0} → (A → List ℕ) → Path → ℕ → Answer A → List ℕ
 line words p i undetermined = []
-line words p i (refused fault) = path_text p ++ (index_words i ++ fault_words fault)
-line words p i (answer a) = path_text p ++ (index_words i ++ words a)
+line words p i (refused fault) = place_words p i ++ fault_words fault
+line words p i (answer a) = place_words p i ++ words a

@@ -1,6 +1,7 @@
-//! The lines that tell the regions and the routes of a blob's nodes.
+//! The lines that tell the regions and the routes of a blob's nodes, and what one node answers to one question.
 #![tactic(auto)]
 
+mod asking;
 mod laws;
 mod listing;
 mod paths;
@@ -9,5 +10,6 @@ mod regions;
 mod routes;
 mod words;
 
-pub use laws::one_listing;
+pub use asking::{Question, ask};
+pub use laws::{one_answering, one_listing};
 pub use listing::{Listing, irqs, regs};

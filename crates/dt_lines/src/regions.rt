@@ -10,8 +10,7 @@ ghost use Rattle.dt_lines.specs.AllLines.{is_fault, is_bad_cells, is_no_reg, reg
 ghost use Rattle.dt_lines.specs.Given.{ArePassed, AreRefused};
 ghost use Rattle.dt_ranges.specs.Left.{AreLeft};
 
-use crate::paths::put_path;
-use crate::words::{put_fault, put_region};
+use crate::words::{put_fault, put_place, put_region};
 use dt_decompile::Buffer;
 use dt_names::{Fault, FaultKind, NodeId, Sink};
 use dt_ranges::Regions;
@@ -31,10 +30,10 @@ fn put_line<V: TreeView, S: Sink>(
     ensures passed { OnOk result (IsPassed (S.taken out.old) (S.taken out.new) buffer.old (line region_words (path_at (V.tree view.now) node) index (told region.now)) buffer.new) }
     ensures refused { IfErr result (λ fault. IsRefused fault (buffer.old ++ line region_words (path_at (V.tree view.now) node) index (told region.now)) (S.taken out.old) (S.taken out.new)) }
 {
-    put_path(view, buffer, out, node)?;
+    put_place(view, buffer, out, node, index)?;
     match *region {
-        Ok(region) => put_region(buffer, out, index, region),
-        Err(fault) => put_fault(buffer, out, index, fault),
+        Ok(region) => put_region(buffer, out, region),
+        Err(fault) => put_fault(buffer, out, fault),
     }
 }
 

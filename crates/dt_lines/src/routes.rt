@@ -11,8 +11,7 @@ ghost use Rattle.dt_lines.specs.Lines.{line, route_words};
 ghost use Rattle.dt_lines.specs.AllLines.{is_no_interrupts, routes_told, AreFrom, AreBegun};
 ghost use Rattle.dt_lines.specs.Given.{ArePassed, AreRefused};
 
-use crate::paths::put_path;
-use crate::words::{put_fault, put_route};
+use crate::words::{put_fault, put_place, put_route};
 use dt_decompile::Buffer;
 use dt_irq::{Route, Routes};
 use dt_names::{Fault, FaultKind, NodeId, Sink};
@@ -32,8 +31,8 @@ fn put_line<V: TreeView, S: Sink>(
     ensures passed { OnOk result (IsPassed (S.taken out.old) (S.taken out.new) buffer.old (line route_words (path_at (V.tree view.now) node) index (answer (route_in (V.tree view.now) route.now))) buffer.new) }
     ensures refused { IfErr result (λ failure. IsRefused failure (buffer.old ++ line route_words (path_at (V.tree view.now) node) index (answer (route_in (V.tree view.now) route.now))) (S.taken out.old) (S.taken out.new)) }
 {
-    put_path(view, buffer, out, node)?;
-    put_route(view, buffer, out, index, route)
+    put_place(view, buffer, out, node, index)?;
+    put_route(view, buffer, out, route)
 }
 
 // Whether the fault is that of an interrupt that isn't there.
@@ -59,8 +58,8 @@ fn put_last<V: TreeView, S: Sink>(
     if is_behind(&fault) {
         return Ok(());
     }
-    put_path(view, buffer, out, node)?;
-    put_fault(buffer, out, index, fault)
+    put_place(view, buffer, out, node, index)?;
+    put_fault(buffer, out, fault)
 }
 
 // Writes the lines of a node's interrupts.

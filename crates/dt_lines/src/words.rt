@@ -1,36 +1,53 @@
-//! What a line tells behind a node's path.
+//! The words of a line.
 
 ghost use Rattle.std.specs.Prelude.{◌≡◌, ◌++◌, ◌∷◌, [], OnOk, IfErr, codes, if◌then◌else◌};
 ghost use Rattle.std.specs.Int.{w128, w32, to_be_bytes};
 ghost use Rattle.dt_model.specs.Printed.{hexadecimal};
 ghost use Rattle.dt_names.specs.Sink.{IsRefused};
+ghost use Rattle.dt_read.specs.Placed.{path_at, IsNode};
 ghost use Rattle.dt_decompile.specs.Passed.{IsPassed};
 ghost use Rattle.dt_irq.specs.Seen.{route_in, HasArrived};
-ghost use Rattle.dt_lines.specs.Lines.{joined, cells_words, index_words, fault_words, region_words, route_words};
+ghost use Rattle.dt_lines.specs.Lines.{joined, cells_words, fault_words, place_words, region_words, route_words};
 
 use crate::paths::put_path;
 use crate::pieces::put_pieces;
 use dt_decompile::{Buffer, without_zeros, write_digits};
 use dt_irq::Route;
-use dt_names::{Fault, Sink};
+use dt_names::{Fault, NodeId, Sink};
 use dt_view::TreeView;
 use dt_worlds::Region;
 
+// The pieces of a number between other words.
+fn pieces_around<'a>(before: &'a [u8], digits: &'a str, behind: &'a [u8]) -> [&'a [u8]; 3]
+    ensures { joined result ≡ before.entry.now ++ (digits.entry.now ++ behind.entry.now) }
+{
+    [before, digits.as_bytes(), behind]
+}
+
+/// Writes what a node's line for an index begins with.
+pub fn put_place<V: TreeView, S: Sink>(
+    view: &V,
+    buffer: &mut Buffer,
+    out: &mut S,
+    node: NodeId,
+    index: u64,
+) -> Result<(), Fault>
+    requires { IsNode (V.tree view.now) node }
+    ensures passed { OnOk result (IsPassed (S.taken out.old) (S.taken out.new) buffer.old (place_words (path_at (V.tree view.now) node) index) buffer.new) }
+    ensures refused { IfErr result (λ failure. IsRefused failure (buffer.old ++ place_words (path_at (V.tree view.now) node) index) (S.taken out.old) (S.taken out.new)) }
+{
+    let mut digits = itoa::Buffer::new();
+    let index = digits.format(index);
+    put_path(view, buffer, out, node)?;
+    put_pieces(buffer, out, &pieces_around(b" ", index, b" "))
+}
+
 // The pieces of a fault.
-fn fault_pieces<'a>(
-    index: &'a str,
-    number: &'a str,
-    name: &'a str,
-    at: &'a str,
-    place: &'a str,
-) -> [&'a [u8]; 9]
-    ensures { joined result ≡ (codes " " ++ index.entry.now)
-        ++ (codes " " ++ (((codes "fault " ++ (number.entry.now ++ (codes " " ++ name.entry.now))) ++ (at.entry.now ++ place.entry.now)) ++ 10 ∷ [])) }
+fn fault_pieces<'a>(number: &'a str, name: &'a str, at: &'a str, place: &'a str) -> [&'a [u8]; 7]
+    ensures { joined result ≡ ((codes "fault " ++ (number.entry.now ++ (codes " " ++ name.entry.now))) ++ (at.entry.now ++ place.entry.now)) ++ 10 ∷ [] }
 {
     [
-        b" ",
-        index.as_bytes(),
-        b" fault ",
+        b"fault ",
         number.as_bytes(),
         b" ",
         name.as_bytes(),
@@ -40,61 +57,31 @@ fn fault_pieces<'a>(
     ]
 }
 
-/// Writes an index and a fault.
-pub fn put_fault<S: Sink>(
-    buffer: &mut Buffer,
-    out: &mut S,
-    index: u64,
-    fault: Fault,
-) -> Result<(), Fault>
-    ensures passed { OnOk result (IsPassed (S.taken out.old) (S.taken out.new) buffer.old (index_words index ++ fault_words fault) buffer.new) }
-    ensures refused { IfErr result (λ failure. IsRefused failure (buffer.old ++ (index_words index ++ fault_words fault)) (S.taken out.old) (S.taken out.new)) }
+/// Writes a fault.
+pub fn put_fault<S: Sink>(buffer: &mut Buffer, out: &mut S, fault: Fault) -> Result<(), Fault>
+    ensures passed { OnOk result (IsPassed (S.taken out.old) (S.taken out.new) buffer.old (fault_words fault) buffer.new) }
+    ensures refused { IfErr result (λ failure. IsRefused failure (buffer.old ++ fault_words fault) (S.taken out.old) (S.taken out.new)) }
 {
-    let mut index_digits = itoa::Buffer::new();
     let mut number_digits = itoa::Buffer::new();
     let mut place_digits = itoa::Buffer::new();
-    let index = index_digits.format(index);
     let number = number_digits.format(fault.number());
     match fault.at {
-        None => put_pieces(
-            buffer,
-            out,
-            &fault_pieces(index, number, fault.name(), "", ""),
-        ),
+        None => put_pieces(buffer, out, &fault_pieces(number, fault.name(), "", "")),
         Some(place) => put_pieces(
             buffer,
             out,
-            &fault_pieces(
-                index,
-                number,
-                fault.name(),
-                " at ",
-                place_digits.format(place),
-            ),
+            &fault_pieces(number, fault.name(), " at ", place_digits.format(place)),
         ),
     }
 }
 
 // The pieces of a region.
-fn region_pieces<'a>(
-    index: &'a str,
-    address: &'a [u8],
-    size: &'a [u8],
-    whole: bool,
-) -> [&'a [u8]; 7]
-    ensures { joined result ≡ (codes " " ++ index.entry.now)
-        ++ ((codes " 0x" ++ address.entry.now) ++ ((codes " 0x" ++ size.entry.now) ++ (if whole then codes " whole\n" else codes " cut\n"))) }
+fn region_pieces<'a>(address: &'a [u8], size: &'a [u8], whole: bool) -> [&'a [u8]; 5]
+    ensures { joined result ≡ (codes "0x" ++ address.entry.now)
+        ++ ((codes " 0x" ++ size.entry.now) ++ (if whole then codes " whole\n" else codes " cut\n")) }
 {
     let extent: &[u8] = if whole { b" whole\n" } else { b" cut\n" };
-    [
-        b" ",
-        index.as_bytes(),
-        b" 0x",
-        address,
-        b" 0x",
-        size,
-        extent,
-    ]
+    [b"0x", address, b" 0x", size, extent]
 }
 
 // The digits of a number, zeros in front among them.
@@ -106,28 +93,17 @@ fn digits_of(number: u128) -> [u8; 32]
     digits
 }
 
-/// Writes an index and a region.
-pub fn put_region<S: Sink>(
-    buffer: &mut Buffer,
-    out: &mut S,
-    index: u64,
-    region: Region,
-) -> Result<(), Fault>
-    ensures passed { OnOk result (IsPassed (S.taken out.old) (S.taken out.new) buffer.old (index_words index ++ region_words region) buffer.new) }
-    ensures refused { IfErr result (λ failure. IsRefused failure (buffer.old ++ (index_words index ++ region_words region)) (S.taken out.old) (S.taken out.new)) }
+/// Writes a region.
+pub fn put_region<S: Sink>(buffer: &mut Buffer, out: &mut S, region: Region) -> Result<(), Fault>
+    ensures passed { OnOk result (IsPassed (S.taken out.old) (S.taken out.new) buffer.old (region_words region) buffer.new) }
+    ensures refused { IfErr result (λ failure. IsRefused failure (buffer.old ++ region_words region) (S.taken out.old) (S.taken out.new)) }
 {
-    let mut digits = itoa::Buffer::new();
     let address = digits_of(region.address);
     let size = digits_of(region.size);
     put_pieces(
         buffer,
         out,
-        &region_pieces(
-            digits.format(index),
-            without_zeros(&address),
-            without_zeros(&size),
-            region.whole,
-        ),
+        &region_pieces(without_zeros(&address), without_zeros(&size), region.whole),
     )
 }
 
@@ -152,30 +128,19 @@ fn put_cells<S: Sink>(buffer: &mut Buffer, out: &mut S, cells: &[u32]) -> Result
     Ok(())
 }
 
-// The pieces of a number between other words.
-fn pieces_around<'a>(before: &'a [u8], digits: &'a str, behind: &'a [u8]) -> [&'a [u8]; 3]
-    ensures { joined result ≡ before.entry.now ++ (digits.entry.now ++ behind.entry.now) }
-{
-    [before, digits.as_bytes(), behind]
-}
-
-/// Writes an index and a route.
+/// Writes a route.
 pub fn put_route<V: TreeView, S: Sink>(
     view: &V,
     buffer: &mut Buffer,
     out: &mut S,
-    index: u64,
     route: &Route,
 ) -> Result<(), Fault>
     requires { HasArrived (V.tree view.now) route.now }
-    ensures passed { OnOk result (IsPassed (S.taken out.old) (S.taken out.new) buffer.old (index_words index ++ route_words (route_in (V.tree view.now) route.now)) buffer.new) }
-    ensures refused { IfErr result (λ failure. IsRefused failure (buffer.old ++ (index_words index ++ route_words (route_in (V.tree view.now) route.now))) (S.taken out.old) (S.taken out.new)) }
+    ensures passed { OnOk result (IsPassed (S.taken out.old) (S.taken out.new) buffer.old (route_words (route_in (V.tree view.now) route.now)) buffer.new) }
+    ensures refused { IfErr result (λ failure. IsRefused failure (buffer.old ++ route_words (route_in (V.tree view.now) route.now)) (S.taken out.old) (S.taken out.new)) }
 {
-    let mut index_digits = itoa::Buffer::new();
-    let mut hops_digits = itoa::Buffer::new();
-    let index = index_digits.format(index);
-    let hops = hops_digits.format(route.hops);
-    put_pieces(buffer, out, &pieces_around(b" ", index, b" "))?;
+    let mut digits = itoa::Buffer::new();
+    let hops = digits.format(route.hops);
     put_path(view, buffer, out, route.controller)?;
     put_cells(buffer, out, &route.cells[..route.len])?;
     put_pieces(buffer, out, &pieces_around(b" hops ", hops, b"\n"))

@@ -8,7 +8,19 @@ use Rattle.dt_model.specs.Tree.{Reading}
 use Rattle.dt_names.specs.declared.fault.Fault.{Fault}
 use Rattle.dt_names.specs.declared.fault.FaultKind.{FaultKind}
 use Rattle.dt_names.specs.declared.fault.FaultKind.TheVariants.{NoMemory, BadVersionTag, WriteFault}
+use Rattle.dt_model.specs.Path.{Path}
 use Rattle.dt_read.specs.Kinds.{kind_of}
+use Rattle.dt_worlds.specs.Answers.{Answer, undetermined, refused, answer, ◌>>=◌}
+use Rattle.dt_worlds.specs.World.{tree_world}
+use Rattle.dt_worlds.specs.Regions.{dma_region}
+use Rattle.dt_worlds.specs.Specifiers.{specifier_route}
+use Rattle.dt_worlds.specs.Faults.{IsRegionFault, IsSpecifierFault, IsRefusedFor}
+use Rattle.dt_worlds.proofs.Named.{are_named}
+use Rattle.dt_lines.specs.Asked as asked
+use Rattle.dt_lines.specs.Asked.{answer_words, WhyNoNode, WhyUnanswered}
+use Rattle.dt_lines.specs.Lines.{region_words, route_words}
+use Rattle.dt_lines.specs.declared.asking.Question.{Question}
+use Rattle.dt_lines.specs.declared.asking.Question.TheVariants as ask
 use Rattle.dt_chain.specs.Applied.{IsNoBlob, WhyNoBlobApplied}
 use Rattle.dt_chain.specs.Built.{WhyNoObject, WhyNoBlobBuilt}
 use Rattle.dt_chain.specs.Compiled as compiled
@@ -88,3 +100,36 @@ no_object text e (inr why) = (compiler_only e.kind (overlays.compiler_kind text 
 
 pub text_not_built : (text : List ℕ) (texts : List (List ℕ)) (k : ℕ) (e : Fault) → WhyNoBlobBuilt text texts k e → IsOfInput e
 text_not_built = of_all (no_tree base) no_object
+
+-- ---- an answer
+
+of_region : (kind : FaultKind) → IsRegionFault kind → IsUnwritten kind
+of_region WriteFault named = absurd named
+of_region _ named = tt
+
+of_specifier : (kind : FaultKind) → IsSpecifierFault kind → IsUnwritten kind
+of_specifier WriteFault named = absurd named
+of_specifier _ named = tt
+
+of_node : (kind : FaultKind) (t : Reading) (text : List ℕ) → WhyNoNode kind t text → IsUnwritten kind
+of_node WriteFault t text why = absurd why
+of_node _ t text why = tt
+
+-- what is told in words is refused as it is
+refused_as : {A : Type 0} (is : FaultKind → Type 0) (x : Answer A) (words : A → List ℕ) (e : Fault) → IsRefusedFor is x → (x >>= λ a. answer (words a)) ≡ refused e → is e.kind × (e.at ≡ None)
+refused_as is undetermined words e named h = absurd (let z : undetermined ≡ refused e = h in cc)
+refused_as is (refused fault) words e named h = let same : fault ≡ e = (let z : refused fault ≡ refused e = h in cc) in subst (λ (f : Fault). is f.kind × (f.at ≡ None)) same named
+refused_as is (answer a) words e named h = absurd (let z : answer (words a) ≡ refused e = h in cc)
+
+of_answer : (question : Question) (t : Reading) (p : Path) (e : Fault) → answer_words question (tree_world t) p ≡ refused e → IsOfInput e
+of_answer (ask.Dma address size) t p e h =
+    let named = refused_as IsRegionFault (dma_region (tree_world t) p address size) region_words e ((are_named t).dma_regions p address size) h in
+    (of_region e.kind named.0, λ _. named.1)
+of_answer (ask.Specifier property kind index) t p e h =
+    let named = refused_as IsSpecifierFault (specifier_route (tree_world t) p property.now kind.now index) route_words e ((are_named t).specifiers p property.now kind.now index) h in
+    (of_specifier e.kind named.0, λ _. named.1)
+
+pub not_answered : (question : Question) (bytes text : List ℕ) (e : Fault) → WhyUnanswered question bytes text e → IsOfInput e
+not_answered question bytes text e (asked.no_blob f kind first) = subst (λ (k : FaultKind). IsOfInput (record { kind = k; at = e.at })) (sym kind) (of_bytes f e.at)
+not_answered question bytes text e (asked.no_node t reads within why at) = (of_node e.kind t text why, λ _. at)
+not_answered question bytes text e (asked.no_answer is) = of_answer question is.tree is.path e is.is

@@ -14,8 +14,12 @@ use Rattle.dt_chain.specs.Blobs as blobs
 use Rattle.dt_chain.specs.Built.{IsBlobBuilt, WhyNoBlobBuilt}
 use Rattle.dt_chain.specs.Compiled.{IsCompiled, WhyNotCompiled, IsCompilerFault}
 use Rattle.dt_chain.proofs.Places.{memory_unplaced, blob_unplaced}
+use Rattle.dt_worlds.specs.Answers.{answer}
+use Rattle.dt_lines.specs.Asked as asked
+use Rattle.dt_lines.specs.Asked.{IsAnswer, WhyUnanswered, WhyNotAsked}
 use Rattle.dt_lines.specs.Listed as listed
 use Rattle.dt_lines.specs.Listed.{AreLinesOf, AreOwn, AreOwnBegun, WhyNotListed}
+use Rattle.dt_lines.specs.declared.asking.Question.{Question}
 use Rattle.dt_lines.specs.declared.listing.Listing.{Listing}
 use Rattle.dt_lines.specs.declared.listing.Listing.TheVariants.{Regions, Routes}
 use Rattle.dt_lines.proofs.Nodes.{all_are_begun}
@@ -24,8 +28,8 @@ use Rattle.dt_run.specs.Job.{IsBegun, IsListed, IsListedFirst, IsWritten, TakesM
 use Rattle.dt_run.specs.Showing.{WhyNotShown}
 use Rattle.dt_run.specs.Telling.{WhyNotTold, no_blob, cut}
 use Rattle.dt_words.specs.declared.command_line.Job.{Job}
-use Rattle.dt_words.specs.declared.command_line.Job.TheVariants.{Compile, CompileRaw, Apply, Build, Print, Check, Regs, Irqs}
-use Rattle.dt_run.proofs.InputFaults.{IsOfInput, blob_not_applied, compiler_only, inside, text_not_built}
+use Rattle.dt_words.specs.declared.command_line.Job.TheVariants.{Compile, CompileRaw, Apply, Build, Print, Check, Regs, Irqs, Dma, Spec}
+use Rattle.dt_run.proofs.InputFaults.{IsOfInput, blob_not_applied, compiler_only, inside, not_answered, text_not_built}
 
 -- ---- a fault of the first input
 
@@ -71,6 +75,8 @@ begins Apply hex inputs bytes is = is
 begins Build hex inputs bytes is = is
 begins Print hex inputs bytes is = is
 begins Check hex inputs bytes is = is
+begins (Dma path address size) hex inputs bytes is = is
+begins (Spec path property kind index) hex inputs bytes is = is
 begins Regs hex [] bytes is = absurd is
 begins Regs hex (blob ∷ []) bytes is = all_listed Regions blob bytes is
 begins Regs hex (x ∷ y ∷ inputs) bytes is = absurd is
@@ -175,6 +181,28 @@ module _ (old new : Taken) (hex : Bool) (blob : List ℕ) where
       → OnOk r ((bytes : List ℕ) × IsListed listing blob bytes × Takes bytes old new)
   lines_written listing (Ok done) (lines, are, taken) = (concat lines, (lines, are, refl), taken)
   lines_written listing (Err e) written = tt
+
+-- ---- what one node answers
+
+module _ (old new : Taken) (hex : Bool) (blob : List ℕ) (job : Job) (question : Question) (path : List ℕ) where
+  -- the job tells what the node answers to the question
+  abbrev Tells : Type 0
+  Tells = (line : List ℕ) → IsAnswer question blob path (answer line) → IsWritten job hex (blob ∷ []) line
+
+  pub answered : Tells → (r : Result (Unit {0}) Fault) → OnOk r ((line : List ℕ) × IsAnswer question blob path (answer line) × Takes line old new)
+      → OnOk r ((bytes : List ℕ) × IsWritten job hex (blob ∷ []) bytes × Takes bytes old new)
+  answered tells (Ok done) (line, is, taken) = (line, tells line is, taken)
+  answered tells (Err e) written = tt
+
+  pub not_asked : (fault : Fault) → TakesMemory job → ((e : Fault) → WhyUnanswered question blob path e → WhyNotMade 0 e.kind e.at job (blob ∷ [])) → Tells
+      → WhyNotAsked question blob path old new fault → WhyNotPerformed 0 fault.kind fault.at job hex (blob ∷ []) old new
+  not_asked fault takes made tells (asked.unanswered why same) =
+      not_made job hex (blob ∷ []) old new 0 fault.kind fault.at takes (omega arith) (not_answered question blob path fault why) (made fault why) same
+  not_asked fault takes made tells (asked.no_memory is same) =
+      subst (λ (e : Fault). WhyNotPerformed 0 e.kind e.at job hex (blob ∷ []) old new) (sym is) (takes, omega arith, refl, same)
+  not_asked fault takes made tells (asked.cut line is refused) =
+      subst (λ (kind : FaultKind). WhyNotPerformed 0 kind fault.at job hex (blob ∷ []) old new) (sym refused.kind)
+      (refl, refused.nowhere, line, begins job hex (blob ∷ []) line (tells line is), refused.cut)
 
 -- ---- a text that tells of it
 

@@ -15,11 +15,15 @@ use Rattle.dt_chain.specs.Applied.{IsBlobApplied, WhyNoBlobApplied}
 use Rattle.dt_chain.specs.Blobs as blobs
 use Rattle.dt_chain.specs.Built.{IsBlobBuilt, WhyNoBlobBuilt}
 use Rattle.dt_chain.specs.Compiled.{IsCompiled, WhyNotCompiled, IsCompilerFault}
+use Rattle.dt_worlds.specs.Answers.{answer}
+use Rattle.dt_lines.specs.Asked.{IsAnswer, WhyUnanswered}
 use Rattle.dt_lines.specs.Listed.{AreLinesOf, AreFirstOf}
+use Rattle.dt_lines.specs.declared.asking.Question.{Question}
+use Rattle.dt_lines.specs.declared.asking.Question.TheVariants as ask
 use Rattle.dt_lines.specs.declared.listing.Listing.{Listing}
 use Rattle.dt_lines.specs.declared.listing.Listing.TheVariants.{Regions, Routes}
 use Rattle.dt_words.specs.declared.command_line.Job.{Job}
-use Rattle.dt_words.specs.declared.command_line.Job.TheVariants.{Compile, CompileRaw, Apply, Build, Print, Check, Regs, Irqs}
+use Rattle.dt_words.specs.declared.command_line.Job.TheVariants.{Compile, CompileRaw, Apply, Build, Print, Check, Regs, Irqs, Dma, Spec}
 
 -- how a blob is written: as it is, or as hexadecimal and a line feed
 abbrev pub encoded : Bool → List ℕ → List ℕ
@@ -53,8 +57,21 @@ IsListed listing blob bytes = (lines : List (List ℕ)) × AreLinesOf listing bl
 abbrev pub IsListedFirst : Listing → (blob bytes : List ℕ) → Type 0
 IsListedFirst listing blob bytes = (lines : List (List ℕ)) × AreFirstOf listing blob lines × (bytes ≡ concat lines)
 
+-- the question of a specifier, by the texts of a property and of a kind
+abbrev pub IsOfSpecifier : (property kind : List ℕ) → ℕ → Question → Type 0
+IsOfSpecifier property kind index (ask.Dma address size) = ⊥
+IsOfSpecifier property kind index (ask.Specifier p k i) = (p.now ≡ property) × (k.now ≡ kind) × (i ≡ index)
+
+-- the line of what a node reaches by DMA, or of where a specifier of it comes to
+abbrev pub IsToldOfDma : (path : List ℕ) → (address size : ℕ) → (blob bytes : List ℕ) → Type 0
+IsToldOfDma path address size blob bytes = IsAnswer (ask.Dma address size) blob path (answer bytes)
+
+abbrev pub IsToldOfSpecifier : (path property kind : List ℕ) → ℕ → (blob bytes : List ℕ) → Type 0
+IsToldOfSpecifier path property kind index blob bytes = (question : Question) × IsOfSpecifier property kind index question × IsAnswer question blob path (answer bytes)
+
 -- What the job writes of the inputs: the blob of a base or of an overlay; that of a source as it stands; that of a base with
--- objects applied, or with the overlays of sources; the source of a blob; a line; or the lines of its regions or routes.
+-- objects applied, or with the overlays of sources; the source of a blob; a line; the lines of its regions or routes; or the line of
+-- what one of its nodes answers.
 abbrev pub IsWritten : Job → Bool → List (List ℕ) → List ℕ → Type 0
 IsWritten Compile hex (text ∷ []) bytes = (blob : List ℕ) × blobs.IsBlobOf text blob × (bytes ≡ encoded hex blob)
 IsWritten Compile hex _ bytes = ⊥
@@ -72,6 +89,10 @@ IsWritten Regs hex (blob ∷ []) bytes = IsListed Regions blob bytes
 IsWritten Regs hex _ bytes = ⊥
 IsWritten Irqs hex (blob ∷ []) bytes = IsListed Routes blob bytes
 IsWritten Irqs hex _ bytes = ⊥
+IsWritten (Dma path address size) hex (blob ∷ []) bytes = IsToldOfDma path.now address size blob bytes
+IsWritten (Dma path address size) hex _ bytes = ⊥
+IsWritten (Spec path property kind index) hex (blob ∷ []) bytes = IsToldOfSpecifier path.now property.now kind.now index blob bytes
+IsWritten (Spec path property kind index) hex _ bytes = ⊥
 
 -- what a job has to write when its sink fails: all that it writes, or the first lines
 abbrev pub IsBegun : Job → Bool → List (List ℕ) → List ℕ → Type 0
@@ -85,6 +106,8 @@ IsBegun Regs hex (blob ∷ []) bytes = IsListedFirst Regions blob bytes
 IsBegun Regs hex _ bytes = ⊥
 IsBegun Irqs hex (blob ∷ []) bytes = IsListedFirst Routes blob bytes
 IsBegun Irqs hex _ bytes = ⊥
+IsBegun (Dma path address size) hex inputs bytes = IsWritten (Dma path address size) hex inputs bytes
+IsBegun (Spec path property kind index) hex inputs bytes = IsWritten (Spec path property kind index) hex inputs bytes
 
 -- the fault is the first one of bytes that are no blob
 abbrev pub WhyNoBlob : FaultKind → Option ℕ → List ℕ → Type 0
@@ -108,6 +131,11 @@ WhyNotMade k kind at Regs (blob ∷ []) = (k ≡ 0) × WhyNoBlob kind at blob
 WhyNotMade k kind at Regs _ = ⊥
 WhyNotMade k kind at Irqs (blob ∷ []) = (k ≡ 0) × WhyNoBlob kind at blob
 WhyNotMade k kind at Irqs _ = ⊥
+WhyNotMade k kind at (Dma path address size) (blob ∷ []) = (k ≡ 0) × WhyUnanswered (ask.Dma address size) blob path.now (record { kind = kind; at = at })
+WhyNotMade k kind at (Dma path address size) _ = ⊥
+WhyNotMade k kind at (Spec path property word index) (blob ∷ []) =
+    (k ≡ 0) × (question : Question) × IsOfSpecifier property.now word.now index question × WhyUnanswered question blob path.now (record { kind = kind; at = at })
+WhyNotMade k kind at (Spec path property word index) _ = ⊥
 
 -- the job takes memory
 abbrev pub TakesMemory : Job → Type 0
@@ -119,6 +147,8 @@ TakesMemory Print = ⊥
 TakesMemory Check = ⊥
 TakesMemory Regs = Unit {0}
 TakesMemory Irqs = Unit {0}
+TakesMemory (Dma path address size) = Unit {0}
+TakesMemory (Spec path property kind index) = Unit {0}
 
 -- Why a job's output wasn't written, and of which input: memory was refused at one, to a job that takes some, or while hexadecimal is
 -- made, which is of input 0, and nothing was written; or the sink failed, and took a front of it, which is of input 0; or an input is

@@ -1,15 +1,16 @@
 //! What the tool does with its inputs.
 
-ghost use Rattle.std.specs.Prelude.{List, ℕ, length, map, OnOk, IfErr};
+ghost use Rattle.std.specs.Prelude.{◌≡◌, List, ℕ, length, map, OnOk, IfErr};
 ghost use Rattle.dt_names.specs.Sink.{Takes};
-ghost use Rattle.dt_run.specs.Job.{IsWritten, WhyNotPerformed};
+ghost use Rattle.dt_lines.specs.declared.asking.Question.TheVariants.{Dma};
+ghost use Rattle.dt_run.specs.Job.{IsOfSpecifier, IsWritten, WhyNotPerformed};
 ghost use Rattle.dt_words.specs.Asked.{IsAsked};
 
 use crate::checking::check;
 use crate::printing::print;
 use crate::showing::{of_first, show};
 use dt_chain::{apply_list, build, compile, compile_raw};
-use dt_lines::{irqs, regs};
+use dt_lines::{Question, ask, irqs, regs};
 use dt_names::{Fault, Sink};
 use dt_words::Job;
 use std::alloc::Global;
@@ -24,15 +25,15 @@ use std::alloc::Global;
 /// Nothing is written but at `WriteFault`, where the sink took a front of what was to be written.
 pub fn perform<S: Sink>(
     alloc: Global,
-    job: Job,
+    job: Job<'_>,
     hex: bool,
     inputs: &[&[u8]],
     out: &mut S,
 ) -> Result<(), (usize, Fault)>
     requires { IsAsked job (length inputs.now) }
-    ensures written { OnOk result ((bytes : List ℕ) × IsWritten job hex (map (λ input. input.now) inputs.now) bytes
+    ensures written { OnOk result ((bytes : List ℕ) × IsWritten job.entry hex (map (λ input. input.now) inputs.now) bytes
         × Takes bytes (S.taken out.old) (S.taken out.new)) }
-    ensures refused { IfErr result (λ e. WhyNotPerformed e.0 e.1.kind e.1.at job hex (map (λ input. input.now) inputs.now)
+    ensures refused { IfErr result (λ e. WhyNotPerformed e.0 e.1.kind e.1.at job.entry hex (map (λ input. input.now) inputs.now)
         (S.taken out.old) (S.taken out.new)) }
 {
     let (first, others) = (inputs[0], &inputs[1..]);
@@ -45,5 +46,43 @@ pub fn perform<S: Sink>(
         Job::Check => of_first(check(first, out)),
         Job::Regs => of_first(regs(alloc, first, out)),
         Job::Irqs => of_first(irqs(alloc, first, out)),
+        Job::Dma {
+            path,
+            address,
+            size,
+        } => of_first(ask(alloc, first, path.as_bytes(), by_dma(address, size), out)),
+        Job::Spec {
+            path,
+            property,
+            kind,
+            index,
+        } => of_first(ask(
+            alloc,
+            first,
+            path.as_bytes(),
+            by_specifier(property, kind, index),
+            out,
+        )),
+    }
+}
+
+// The question of an address that is put on a bus.
+fn by_dma(address: u64, size: u64) -> Question<'static>
+    ensures { result ≡ Dma address size }
+{
+    Question::Dma {
+        address: address.into(),
+        size: size.into(),
+    }
+}
+
+// The question of a specifier.
+fn by_specifier<'a>(property: &'a str, kind: &'a str, index: u64) -> Question<'a>
+    ensures { IsOfSpecifier property.entry.now kind.entry.now index result }
+{
+    Question::Specifier {
+        property: property.as_bytes(),
+        kind: kind.as_bytes(),
+        index,
     }
 }

@@ -3,7 +3,7 @@ use Rattle.std.specs.Prelude.{◌≡◌, ◌≤◌, ℕ}
 use native.Mathlib.Bridge.{le_prop}
 use native.Mathlib.Nat.{ℕ_set}
 use Rattle.dt_words.specs.declared.command_line.Job.{Job}
-use Rattle.dt_words.specs.declared.command_line.Job.TheVariants.{Compile, CompileRaw, Apply, Build, Print, Check, Regs, Irqs}
+use Rattle.dt_words.specs.declared.command_line.Job.TheVariants.{Compile, CompileRaw, Apply, Build, Print, Check, Regs, Irqs, Dma, Spec}
 
 -- a job takes so many inputs
 abbrev pub IsAsked : Job → ℕ → Type 0
@@ -15,6 +15,8 @@ IsAsked Print count = count ≡ 1
 IsAsked Check count = count ≡ 1
 IsAsked Regs count = count ≡ 1
 IsAsked Irqs count = count ≡ 1
+IsAsked (Dma path address size) count = count ≡ 1
+IsAsked (Spec path property kind index) count = count ≡ 1
 
 -- that is a fact, of which there is one
 pub IsAsked-prop : (job : Job) (count : ℕ) → IsProp (IsAsked job count)
@@ -26,3 +28,5 @@ IsAsked-prop Print count = ℕ_set count 1
 IsAsked-prop Check count = ℕ_set count 1
 IsAsked-prop Regs count = ℕ_set count 1
 IsAsked-prop Irqs count = ℕ_set count 1
+IsAsked-prop (Dma path address size) count = ℕ_set count 1
+IsAsked-prop (Spec path property kind index) count = ℕ_set count 1

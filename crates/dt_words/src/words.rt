@@ -1,13 +1,18 @@
 //! The words of the command line.
 
-ghost use Rattle.std.specs.Prelude.{◌≡◌, ◌∷◌, None, Some, false, Bool, List, codes, map, option_map, IfOk, IfErr, MatchOption};
+ghost use Rattle.std.specs.Prelude.{◌≡◌, ◌∷◌, ℕ, None, Some, false, Bool, List, codes, map, option_map, IfOk, IfErr, MatchOption};
 ghost use Rattle.clap.specs.Words.{App, Row, Rule, Text, app_of, first_of, found_of, new_app, rows_of, rule_of, subcommand_of, subcommand_rows_of, with_rule, with_subcommand};
 ghost use Rattle.dt_words.specs.Words.{
   AreFiles,
+  AsksOneNode,
   HasFlags,
+  HasWords,
   IsCommand,
   IsFlag,
   IsLine,
+  IsNumber,
+  LacksDma,
+  LacksSpec,
   Names,
   NamesNone,
   Tells,
@@ -19,23 +24,27 @@ ghost use Rattle.dt_words.specs.Words.{
   check_command,
   command_of,
   compile_command,
+  dma_command,
   dtool,
   file_word,
   first_word,
   hex_flag,
   irqs_command,
+  number_word,
   overlay_command,
   overlay_word,
   print_command,
   raw_flag,
   regs_command,
+  spec_command,
   takes_overlays,
+  text_word,
 };
 ghost use Rattle.dt_words.specs.declared.words.LineFault.TheVariants.{Memory};
 
 use crate::command_line::{Job, Line};
 use clap::error::ErrorKind;
-use clap::{Arg, ArgAction, ArgMatches, Command};
+use clap::{Arg, ArgAction, ArgMatches, Command, value_parser};
 use std::alloc::{AllocError, Global};
 use std::convert::AsStr;
 use thiserror::Error;
@@ -60,6 +69,18 @@ Exit status:
   0  all was done
   1  an input has a fault, or can't be read, or the output can't be written
   2  the words are no command, or ask for help";
+
+/// What the help of `dma` ends with.
+const DMA_HELP: &str = "\
+For example, the address 0x80000010 and 16 bytes:
+  dtool dma board.dtb /soc/dma@0 2147483664 16
+prints `0xADDRESS 0xSIZE whole`, or `cut` where not all of it is mapped.";
+
+/// What the help of `spec` ends with.
+const SPEC_HELP: &str = "\
+For example, the GPIO of the second entry of `reset-gpios`:
+  dtool spec board.dtb /soc/phy@0 reset-gpios gpio 1
+prints `PROVIDER 0xCELL.. hops N`, behind N maps of connectors.";
 
 impl From<AllocError> for LineFault {
     ghost from_gives = { λ _ fault. fault ≡ Memory };
@@ -142,9 +163,21 @@ fn line_in<'a>(alloc: Global, matches: &ArgMatches<'a>) -> Result<Option<Line<'a
 }
 
 /// The job of a command, and whether its blob is written as hexadecimal.
-fn job_of(command: &str, found: &ArgMatches<'_>) -> Option<(Job, bool)>
-    ensures { MatchOption result ((job : Job) → command.now ≡ command_of job → ⊥)
-        (λ asked. (command.now ≡ command_of asked.0) × HasFlags asked.0 (rows_of (found_of found.now)) asked.1) }
+fn job_of<'a>(command: &str, found: &ArgMatches<'a>) -> Option<(Job<'a>, bool)>
+    ensures { MatchOption result ((job : Job) → command.now ≡ command_of job → HasWords job (rows_of (found_of found.now)) → ⊥)
+        (λ asked. (command.now ≡ command_of asked.0) × HasFlags asked.0 (rows_of (found_of found.now)) asked.1 × HasWords asked.0 (rows_of (found_of found.now))) }
+{
+    match command {
+        "dma" => without_hex(dma_of(found)),
+        "spec" => without_hex(spec_of(found)),
+        _ => plain_job_of(command, found),
+    }
+}
+
+/// The same of a command that has files alone.
+fn plain_job_of<'a>(command: &str, found: &ArgMatches<'a>) -> Option<(Job<'a>, bool)>
+    ensures { MatchOption result ((job : Job) → command.now ≡ command_of job → AsksOneNode job)
+        (λ asked. (command.now ≡ command_of asked.0) × HasFlags asked.0 (rows_of (found_of found.now)) asked.1 × HasWords asked.0 (rows_of (found_of found.now))) }
 {
     match command {
         "compile" => Some((compiling(found.get_flag("raw")), found.get_flag("hex"))),
@@ -158,14 +191,75 @@ fn job_of(command: &str, found: &ArgMatches<'_>) -> Option<(Job, bool)>
     }
 }
 
+/// A job that writes no blob.
+fn without_hex<'a>(job: Option<Job<'a>>) -> Option<(Job<'a>, bool)>
+    ensures { MatchOption job.entry (result ≡ None) (λ job. result ≡ Some (job, false)) }
+{
+    match job {
+        Some(job) => Some((job, false)),
+        None => None,
+    }
+}
+
+/// What is asked by the words of `dma`, where all are there.
+fn dma_of<'a>(found: &ArgMatches<'a>) -> Option<Job<'a>>
+    ensures { MatchOption result (LacksDma (rows_of (found_of found.now))) (λ job. (command_of job ≡ codes "dma") × HasFlags job (rows_of (found_of found.now)) false × HasWords job (rows_of (found_of found.now))) }
+{
+    let Some(path) = found.get_str("PATH") else {
+        return None;
+    };
+    let Some(address) = number_of(found, "ADDRESS") else {
+        return None;
+    };
+    let Some(size) = number_of(found, "SIZE") else {
+        return None;
+    };
+    Some(Job::Dma {
+        path,
+        address,
+        size,
+    })
+}
+
+/// What is asked by the words of `spec`, where all are there.
+fn spec_of<'a>(found: &ArgMatches<'a>) -> Option<Job<'a>>
+    ensures { MatchOption result (LacksSpec (rows_of (found_of found.now))) (λ job. (command_of job ≡ codes "spec") × HasFlags job (rows_of (found_of found.now)) false × HasWords job (rows_of (found_of found.now))) }
+{
+    let Some(path) = found.get_str("PATH") else {
+        return None;
+    };
+    let Some(property) = found.get_str("PROP") else {
+        return None;
+    };
+    let Some(kind) = found.get_str("KIND") else {
+        return None;
+    };
+    let Some(index) = number_of(found, "INDEX") else {
+        return None;
+    };
+    Some(Job::Spec {
+        path,
+        property,
+        kind,
+        index,
+    })
+}
+
+/// The number that a word is.
+fn number_of(found: &ArgMatches<'_>, id: &str) -> Option<u64>
+    ensures { MatchOption result ((n : ℕ) → IsNumber id.now (rows_of (found_of found.now)) n → ⊥) (λ n. IsNumber id.now (rows_of (found_of found.now)) n) }
+{
+    found.get_one(id)
+}
+
 /// The files of a job, where there is the first.
 fn files_of<'a>(
     alloc: Global,
-    job: Job,
+    job: Job<'_>,
     found: &ArgMatches<'a>,
 ) -> Result<Option<Vec<&'a str>>, AllocError>
-    ensures { IfOk result (λ files. MatchOption files (first_of (first_word job) (rows_of (found_of found.now)) ≡ None)
-        (λ files. AreFiles job (rows_of (found_of found.now)) (map (λ file. file.now) files.items))) }
+    ensures { IfOk result (λ files. MatchOption files (first_of (first_word job.entry) (rows_of (found_of found.now)) ≡ None)
+        (λ files. AreFiles job.entry (rows_of (found_of found.now)) (map (λ file. file.now) files.items))) }
 {
     if takes_overlays(job) {
         let overlays = found.get_strs("OVERLAY").unwrap_or(&[]);
@@ -176,8 +270,8 @@ fn files_of<'a>(
 }
 
 /// Whether a job takes overlays, beside a base.
-fn takes_overlays(job: Job) -> bool
-    ensures { result ≡ takes_overlays job }
+fn takes_overlays(job: Job<'_>) -> bool
+    ensures { result ≡ takes_overlays job.entry }
 {
     matches!(job, Job::Apply | Job::Build)
 }
@@ -201,9 +295,9 @@ fn in_order<'a>(
 }
 
 /// The job of a source: the flag `--raw` is there or not.
-fn compiling(raw: bool) -> Job
+fn compiling(raw: bool) -> Job<'static>
     ensures { (rows : List Row) (hex : Bool) → IsFlag (codes "hex") rows hex → IsFlag (codes "raw") rows raw →
-        (command_of result ≡ codes "compile") × HasFlags result rows hex }
+        (command_of result ≡ codes "compile") × HasFlags result rows hex × HasWords result rows }
 {
     if raw { Job::CompileRaw } else { Job::Compile }
 }
@@ -214,6 +308,25 @@ fn file<'a>(alloc: Global, help: &'a str) -> Arg<'a>
     ensures own { result.global ≡ false }
 {
     Arg::new(alloc, "FILE").required(true).help(help)
+}
+
+/// A word that must be there.
+fn text<'a>(alloc: Global, id: &'a str, help: &'a str) -> Arg<'a>
+    ensures rule { rule_of result ≡ text_word id.entry.now }
+    ensures own { result.global ≡ false }
+{
+    Arg::new(alloc, id).required(true).help(help)
+}
+
+/// A word that must be there, and a number.
+fn number<'a>(alloc: Global, id: &'a str, help: &'a str) -> Arg<'a>
+    ensures rule { rule_of result ≡ number_word id.entry.now }
+    ensures own { result.global ≡ false }
+{
+    Arg::new(alloc, id)
+        .required(true)
+        .value_parser(value_parser!(u64))
+        .help(help)
 }
 
 /// The word for a base's file.
@@ -378,6 +491,67 @@ fn irqs<'a>(alloc: Global) -> Result<Command<'a>, AllocError>
         .arg(file(alloc, "The blob; the word stdin is standard input"))
 }
 
+/// `dma FILE PATH ADDRESS SIZE`.
+fn dma<'a>(alloc: Global) -> Result<Command<'a>, AllocError>
+    ensures { IfOk result (IsCommand dma_command) }
+{
+    let command = Command::new(alloc, "dma")
+        .about("Tells where an address that a device puts on its bus for DMA is on the root's bus")
+        .after_help(DMA_HELP);
+    let command = with_word(
+        Ok(command),
+        file(alloc, "The blob; the word stdin is standard input"),
+    );
+    let command = with_word(
+        command,
+        text(
+            alloc,
+            "PATH",
+            "The path of the device's node, such as /soc/dma@0",
+        ),
+    );
+    let command = with_word(
+        command,
+        number(alloc, "ADDRESS", "The address on the device's bus, decimal"),
+    );
+    with_word(command, number(alloc, "SIZE", "The size in bytes, decimal"))
+}
+
+/// `spec FILE PATH PROP KIND INDEX`.
+fn spec<'a>(alloc: Global) -> Result<Command<'a>, AllocError>
+    ensures { IfOk result (IsCommand spec_command) }
+{
+    let command = Command::new(alloc, "spec")
+        .about(
+            "Tells the provider of a specifier, such as that of a GPIO, a clock or a reset, and the specifier there",
+        )
+        .after_help(SPEC_HELP);
+    let command = with_word(
+        Ok(command),
+        file(alloc, "The blob; the word stdin is standard input"),
+    );
+    let command = with_word(
+        command,
+        text(alloc, "PATH", "The path of the node that has the property"),
+    );
+    let command = with_word(
+        command,
+        text(
+            alloc,
+            "PROP",
+            "The property, a list of phandles with specifiers",
+        ),
+    );
+    let command = with_word(
+        command,
+        text(alloc, "KIND", "The kind, as in #KIND-cells and KIND-map"),
+    );
+    with_word(
+        command,
+        number(alloc, "INDEX", "The index of the entry, from 0, decimal"),
+    )
+}
+
 /// The tool without its commands.
 fn without_commands<'a>(alloc: Global) -> Command<'a>
     ensures { app_of result ≡ bare }
@@ -434,5 +608,7 @@ fn tool<'a>(alloc: Global) -> Result<Command<'a>, AllocError>
     let tool = and_command(tool, print(alloc));
     let tool = and_command(tool, check(alloc));
     let tool = and_command(tool, regs(alloc));
-    and_command(tool, irqs(alloc))
+    let tool = and_command(tool, irqs(alloc));
+    let tool = and_command(tool, dma(alloc));
+    and_command(tool, spec(alloc))
 }

@@ -24,11 +24,24 @@ const TEXT: &[u8] = b"/dts-v1/;\n/ {\n};\n";
 const COUNTS: &[u8] = b"ok nodes 1 properties 0 reservations 0\n";
 
 const BOARD: &[u8] =
-    b"/dts-v1/; / { #address-cells = <1>; #size-cells = <1>; i: ic { interrupt-controller; #interrupt-cells = <1>; }; d { reg = <16 2>, <32 1>; interrupt-parent = <&i>; interrupts = <5>; }; };";
+    b"/dts-v1/; / { #address-cells = <1>; #size-cells = <1>; i: ic { interrupt-controller; #interrupt-cells = <1>; }; d { reg = <16 2>, <32 1>; interrupt-parent = <&i>; interrupts = <5>; links = <&i 5>; }; };";
 
 const REGIONS: &[u8] = b"/d 0 0x10 0x2 whole\n/d 1 0x20 0x1 whole\n";
 
 const ROUTES: &[u8] = b"/d 0 /ic 0x5 hops 0\n";
+
+const SENT: Job<'static> = Job::Dma {
+    path: "/d",
+    address: 16,
+    size: 2,
+};
+
+const PROVIDED: Job<'static> = Job::Spec {
+    path: "/d",
+    property: "links",
+    kind: "interrupt",
+    index: 0,
+};
 
 // Is interrupted at each other call, takes at most `step` bytes at the others, and fails once, when it holds `room`.
 #[derive(Drop)]
@@ -80,7 +93,7 @@ fn is_cut(refused: Option<Fault>, room: usize, held: &[u8], whole: &[u8]) -> boo
 }
 
 // Whether a job is cut where the writer fails, at each byte, and is whole where it doesn't.
-fn is_cut_anywhere(alloc: Global, job: Job, hex: bool, input: &[u8], whole: &[u8]) -> bool {
+fn is_cut_anywhere(alloc: Global, job: Job<'_>, hex: bool, input: &[u8], whole: &[u8]) -> bool {
     [1, 3, 100].into_iter().all(|step| {
         (0..=whole.len()).all(|room| {
             let mut out = Out::new(make_narrow(alloc, step, room));
@@ -112,6 +125,8 @@ fn are_lines_cut(alloc: Global) -> bool {
     };
     is_cut_anywhere(alloc, Job::Regs, true, &blob, REGIONS)
         && is_cut_anywhere(alloc, Job::Irqs, true, &blob, ROUTES)
+        && is_cut_anywhere(alloc, SENT, true, &blob, b"0x10 0x2 whole\n")
+        && is_cut_anywhere(alloc, PROVIDED, true, &blob, b"/ic 0x5 hops 0\n")
 }
 
 #[test]
@@ -123,7 +138,7 @@ fn jobs_into_a_sink_that_fails(rt: HostRuntime) -> Result<(), Fail> {
 }
 
 // Whether a job refuses its inputs with this fault of this one, and writes nothing.
-fn is_refused(alloc: Global, job: Job, inputs: &[&[u8]], input: usize, fault: Fault) -> bool
+fn is_refused(alloc: Global, job: Job<'_>, inputs: &[&[u8]], input: usize, fault: Fault) -> bool
     requires { IsAsked job (length inputs.now) }
 {
     let mut out = Out::new(make_narrow(alloc, 1, 100));
@@ -315,7 +330,7 @@ fn the_longest_input(rt: HostRuntime) {
 }
 
 // Whether the words, parted by blanks, ask for this.
-fn asks_for(alloc: Global, text: &str, job: Job, hex: bool, files: &[&str]) -> bool {
+fn asks_for(alloc: Global, text: &str, job: Job<'_>, hex: bool, files: &[&str]) -> bool {
     let Ok(words) = text.split(' ').collect::<Vec<&str>>(alloc) else {
         return false;
     };
@@ -325,11 +340,32 @@ fn asks_for(alloc: Global, text: &str, job: Job, hex: bool, files: &[&str]) -> b
     }
 }
 
-const COMMANDS: [(&str, Job, bool, &[&str]); 14] = [
+const COMMANDS: [(&str, Job<'static>, bool, &[&str]); 16] = [
     ("dtool print a.dtb", Job::Print, false, &["a.dtb"]),
     ("dtool check a.dtb", Job::Check, false, &["a.dtb"]),
     ("dtool regs a.dtb", Job::Regs, false, &["a.dtb"]),
     ("dtool irqs a.dtb", Job::Irqs, false, &["a.dtb"]),
+    (
+        "dtool dma a.dtb /soc/d 18446744073709551615 +2",
+        Job::Dma {
+            path: "/soc/d",
+            address: u64::MAX,
+            size: 2,
+        },
+        false,
+        &["a.dtb"],
+    ),
+    (
+        "dtool spec a.dtb /d led-gpios gpio 3",
+        Job::Spec {
+            path: "/d",
+            property: "led-gpios",
+            kind: "gpio",
+            index: 3,
+        },
+        false,
+        &["a.dtb"],
+    ),
     ("dtool compile stdin", Job::Compile, false, &["stdin"]),
     ("dtool compile --hex a.dts", Job::Compile, true, &["a.dts"]),
     ("dtool compile a.dts --hex", Job::Compile, true, &["a.dts"]),
@@ -369,7 +405,7 @@ fn words_that_are_a_command(rt: HostRuntime) {
     }
 }
 
-const NO_COMMANDS: [&str; 23] = [
+const NO_COMMANDS: [&str; 30] = [
     "",
     "dtool",
     "dtool compile",
@@ -390,6 +426,13 @@ const NO_COMMANDS: [&str; 23] = [
     "dtool regs --hex a.dtb",
     "dtool irqs",
     "dtool irqs a.dtb b.dtb",
+    "dtool dma a.dtb /soc/d 0",
+    "dtool dma a.dtb /soc/d 0x10 1",
+    "dtool dma a.dtb /soc/d 18446744073709551616 1",
+    "dtool dma --hex a.dtb /soc/d 0 1",
+    "dtool spec a.dtb /d led-gpios gpio",
+    "dtool spec a.dtb /d led-gpios gpio -1",
+    "dtool spec a.dtb /d led-gpios gpio 0 1",
     "dtool --help",
     "dtool help",
     "dtool compile --help",

@@ -1,11 +1,14 @@
-use Rattle.std.proofs.Common.{◌≡◌, ◌≤◌, ◌-◌, ℕ, List, ◌∷◌, [], length, map, take, drop, get_or, subst, arith, Bor}
+use Rattle.std.proofs.Common.{◌≡◌, ◌≤◌, ◌-◌, ℕ, List, ◌∷◌, [], length, map, take, drop, get_or, refl, subst, arith, Bor}
 use Rattle.dt_names.specs.Sink.{Takes}
-use Rattle.dt_run.specs.Job.{IsCounted, IsListed, IsPrinted, WhyNotPerformed}
+use Rattle.dt_names.specs.declared.fault.Fault.{Fault}
+use Rattle.dt_worlds.specs.Answers.{answer}
+use Rattle.dt_lines.specs.Asked.{IsAnswer, WhyUnanswered}
+use Rattle.dt_run.specs.Job.{IsCounted, IsListed, IsPrinted, IsWritten, WhyNotMade, WhyNotPerformed}
 use Rattle.dt_words.specs.Asked.{IsAsked}
 use Rattle.dt_words.specs.declared.command_line.Job.{Job}
-use Rattle.dt_words.specs.declared.command_line.Job.TheVariants.{Compile, CompileRaw, Apply, Build, Print, Check, Regs, Irqs}
+use Rattle.dt_words.specs.declared.command_line.Job.TheVariants.{Compile, CompileRaw, Apply, Build, Print, Check, Regs, Irqs, Dma, Spec}
 use Rattle.dt_lines.specs.declared.listing.Listing.TheVariants.{Regions, Routes}
-use Rattle.dt_run.proofs.Performing.{applied, blob_refused, blob_written, built, compiled, compiled_raw, first_and_others, first_done, first_refused, lines_written, not_applied, not_built, not_compiled, not_compiled_raw, not_listed, not_told, only_first}
+use Rattle.dt_run.proofs.Performing.{answered, applied, blob_refused, blob_written, built, compiled, compiled_raw, first_and_others, first_done, first_refused, lines_written, not_applied, not_asked, not_built, not_compiled, not_compiled_raw, not_listed, not_told, only_first}
 use Rattle.std.proofs.lemmas.Result.{IfErr-weaker}
 use Rattle.dt_run.proofs.job.perform.Goals as goal
 
@@ -182,3 +185,73 @@ returns-in-Irqs-clause-refused g c =
     (first_refused c.irqs.result c.of_first-in-Irqs.result (λ k fault. WhyNotPerformed k fault.kind fault.at Irqs c.args.hex (blob ∷ []) old new)
     c.of_first-in-Irqs.ensures
     (IfErr-weaker c.irqs.result _ _ (λ fault why. not_listed old new c.args.hex blob Irqs Routes fault tt tt (λ text is. is) why) c.irqs.ensures.refused))
+
+pub returns-in-Dma-clause-written : goal.returns-in-Dma-clause-written
+returns-in-Dma-clause-written g c =
+    let xs = c.args.inputs.now in
+    let blob = first_of xs in
+    let old = g.S.Sink.taken c.args.out.now in
+    let new = g.S.Sink.taken c.ask.new.out in
+    let job = Dma c.in-Dma.path c.in-Dma.address c.in-Dma.size in
+    let question = c.by_dma.result in
+    let path = c.as_bytes.result.now in
+    let asked : length xs ≡ 1 = subst (λ (j : Job). IsAsked j (length xs)) c.in-Dma.is c.requires in
+    let tells : (line : List ℕ) → IsAnswer question blob path (answer line) → IsWritten job c.args.hex (blob ∷ []) line =
+    λ line is. subst (λ q. IsAnswer q blob c.in-Dma.path.now (answer line)) c.by_dma.ensures (subst (λ t. IsAnswer question blob t (answer line)) c.as_bytes.ensures.value is) in
+    rw (c.in-Dma.is, only_first none xs asked)
+    (first_done c.ask.result c.of_first-in-Dma.result ((bytes : List ℕ) × IsWritten job c.args.hex (blob ∷ []) bytes × Takes bytes old new)
+    c.of_first-in-Dma.ensures (answered old new c.args.hex blob job question path tells c.ask.result c.ask.ensures.written))
+
+pub returns-in-Dma-clause-refused : goal.returns-in-Dma-clause-refused
+returns-in-Dma-clause-refused g c =
+    let xs = c.args.inputs.now in
+    let blob = first_of xs in
+    let old = g.S.Sink.taken c.args.out.now in
+    let new = g.S.Sink.taken c.ask.new.out in
+    let job = Dma c.in-Dma.path c.in-Dma.address c.in-Dma.size in
+    let question = c.by_dma.result in
+    let path = c.as_bytes.result.now in
+    let asked : length xs ≡ 1 = subst (λ (j : Job). IsAsked j (length xs)) c.in-Dma.is c.requires in
+    let tells : (line : List ℕ) → IsAnswer question blob path (answer line) → IsWritten job c.args.hex (blob ∷ []) line =
+    λ line is. subst (λ q. IsAnswer q blob c.in-Dma.path.now (answer line)) c.by_dma.ensures (subst (λ t. IsAnswer question blob t (answer line)) c.as_bytes.ensures.value is) in
+    let made : (e : Fault) → WhyUnanswered question blob path e → WhyNotMade 0 e.kind e.at job (blob ∷ []) =
+    (λ e why. (refl, subst (λ q. WhyUnanswered q blob c.in-Dma.path.now e) c.by_dma.ensures (subst (λ t. WhyUnanswered question blob t e) c.as_bytes.ensures.value why))) in
+    rw (c.in-Dma.is, only_first none xs asked)
+    (first_refused c.ask.result c.of_first-in-Dma.result (λ k fault. WhyNotPerformed k fault.kind fault.at job c.args.hex (blob ∷ []) old new)
+    c.of_first-in-Dma.ensures
+    (IfErr-weaker c.ask.result _ _ (λ fault why. not_asked old new c.args.hex blob job question path fault tt made tells why) c.ask.ensures.refused))
+
+pub returns-in-Spec-clause-written : goal.returns-in-Spec-clause-written
+returns-in-Spec-clause-written g c =
+    let xs = c.args.inputs.now in
+    let blob = first_of xs in
+    let old = g.S.Sink.taken c.args.out.now in
+    let new = g.S.Sink.taken c.ask-in-Spec.new.out in
+    let job = Spec c.in-Spec.path c.in-Spec.property c.in-Spec.kind c.in-Spec.index in
+    let question = c.by_specifier.result in
+    let path = c.as_bytes-in-Spec.result.now in
+    let asked : length xs ≡ 1 = subst (λ (j : Job). IsAsked j (length xs)) c.in-Spec.is c.requires in
+    let tells : (line : List ℕ) → IsAnswer question blob path (answer line) → IsWritten job c.args.hex (blob ∷ []) line =
+    λ line is. (question, c.by_specifier.ensures, subst (λ t. IsAnswer question blob t (answer line)) c.as_bytes-in-Spec.ensures.value is) in
+    rw (c.in-Spec.is, only_first none xs asked)
+    (first_done c.ask-in-Spec.result c.of_first-in-Spec.result ((bytes : List ℕ) × IsWritten job c.args.hex (blob ∷ []) bytes × Takes bytes old new)
+    c.of_first-in-Spec.ensures (answered old new c.args.hex blob job question path tells c.ask-in-Spec.result c.ask-in-Spec.ensures.written))
+
+pub returns-in-Spec-clause-refused : goal.returns-in-Spec-clause-refused
+returns-in-Spec-clause-refused g c =
+    let xs = c.args.inputs.now in
+    let blob = first_of xs in
+    let old = g.S.Sink.taken c.args.out.now in
+    let new = g.S.Sink.taken c.ask-in-Spec.new.out in
+    let job = Spec c.in-Spec.path c.in-Spec.property c.in-Spec.kind c.in-Spec.index in
+    let question = c.by_specifier.result in
+    let path = c.as_bytes-in-Spec.result.now in
+    let asked : length xs ≡ 1 = subst (λ (j : Job). IsAsked j (length xs)) c.in-Spec.is c.requires in
+    let tells : (line : List ℕ) → IsAnswer question blob path (answer line) → IsWritten job c.args.hex (blob ∷ []) line =
+    λ line is. (question, c.by_specifier.ensures, subst (λ t. IsAnswer question blob t (answer line)) c.as_bytes-in-Spec.ensures.value is) in
+    let made : (e : Fault) → WhyUnanswered question blob path e → WhyNotMade 0 e.kind e.at job (blob ∷ []) =
+    (λ e why. (refl, question, c.by_specifier.ensures, subst (λ t. WhyUnanswered question blob t e) c.as_bytes-in-Spec.ensures.value why)) in
+    rw (c.in-Spec.is, only_first none xs asked)
+    (first_refused c.ask-in-Spec.result c.of_first-in-Spec.result (λ k fault. WhyNotPerformed k fault.kind fault.at job c.args.hex (blob ∷ []) old new)
+    c.of_first-in-Spec.ensures
+    (IfErr-weaker c.ask-in-Spec.result _ _ (λ fault why. not_asked old new c.args.hex blob job question path fault tt made tells why) c.ask-in-Spec.ensures.refused))

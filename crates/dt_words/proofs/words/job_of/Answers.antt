@@ -1,23 +1,18 @@
-use Rattle.std.proofs.Common.{rules, ◌≡◌, ◌∙◌, sym, codes}
+use Rattle.std.proofs.Common.{rules, ◌≡◌, codes}
 use Rattle.clap.specs.Words.{found_of, rows_of}
-use Rattle.dt_words.proofs.WordLemmas.{is_flag}
+use Rattle.dt_words.proofs.WordLemmas.{is_commands, no_dma, no_spec}
 use Rattle.dt_words.proofs.words.job_of.Goals as goal
 
-pub returns-in-compile : goal.returns-in-compile
-returns-in-compile c =
-    let found = found_of c.args.found.now in
-    let hex = is_flag found (codes "hex") _ c.get_flag-in-compile.ensures.value c.get_flag-in-compile.ensures.other in
-    let raw = is_flag found (codes "raw") _ c.get_flag.ensures.value c.get_flag.ensures.other in
-    let job = c.compiling.ensures (rows_of found) c.get_flag-in-compile.result hex raw in
-    let name : c.args.command.now ≡ codes "compile" = search rules in
-    (name ∙ sym job.0, job.1)
+pub returns-in-dma : goal.returns-in-dma
+returns-in-dma c =
+    let command = c.args.command.now in
+    let rows = rows_of (found_of c.args.found.now) in
+    let name : command ≡ codes "dma" = search rules in
+    is_commands command rows (codes "dma") name (no_dma command rows name) c.dma_of.result c.without_hex.result c.without_hex.ensures c.dma_of.ensures
 
-pub returns-in-apply : goal.returns-in-apply
-returns-in-apply c =
-    let name : c.args.command.now ≡ codes "apply" = search rules in
-    (name, is_flag (found_of c.args.found.now) (codes "hex") _ c.get_flag-in-apply.ensures.value c.get_flag-in-apply.ensures.other)
-
-pub returns-in-build : goal.returns-in-build
-returns-in-build c =
-    let name : c.args.command.now ≡ codes "build" = search rules in
-    (name, is_flag (found_of c.args.found.now) (codes "hex") _ c.get_flag-in-build.ensures.value c.get_flag-in-build.ensures.other)
+pub returns-in-spec : goal.returns-in-spec
+returns-in-spec c =
+    let command = c.args.command.now in
+    let rows = rows_of (found_of c.args.found.now) in
+    let name : command ≡ codes "spec" = search rules in
+    is_commands command rows (codes "spec") name (no_spec command rows name) c.spec_of.result c.without_hex-in-spec.result c.without_hex-in-spec.ensures c.spec_of.ensures
