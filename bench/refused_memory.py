@@ -75,7 +75,7 @@ int posix_memalign(void **to, size_t align, size_t size) {
 }
 """
 SOURCES = {
-    "base": b"""/dts-v1/; /memreserve/ 4096 8192; / { gic: ic@1 { phandle = <7>; }; u: uart@2 { irq = <&gic 1>; old; dead { x; }; }; };
+    "base": b"""/dts-v1/; /memreserve/ 4096 8192; / { gic: ic@1 { phandle = <7>; #irq-cells = <1>; }; u: uart@2 { irq = <&gic 1>; old; dead { x; }; }; };
         &u { s = "on", [01 02], <(1 + 2) '!'>, &gic; /delete-property/ old; /delete-node/ dead; };""",
     "first": b"""/dts-v1/; /plugin/; &u { new: dev@1 { irq = <&gic 2>, <&new 3>; }; }; &{/ic@1} { wide; };""",
     "second": b"""/dts-v1/; /plugin/; &new { s = "x"; }; &{/} { n { p = <&new &gic>; }; };""",
@@ -150,6 +150,8 @@ def jobs(dtool, room):
     yield [dtool, "check", blobs[1]], b""
     yield [dtool, "regs", blobs[0]], b""
     yield [dtool, "irqs", blobs[0]], b""
+    yield [dtool, "dma", blobs[0], "/uart@2", "16", "8"], b""
+    yield [dtool, "spec", blobs[0], "/uart@2", "irq", "irq", "0"], b""
 
 
 def sweep(title, words, given, shim, is_told, options):

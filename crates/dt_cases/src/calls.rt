@@ -47,6 +47,7 @@ fn call_on_trees(
         "apply" | "build" => chains::call(alloc, name, input, others, out),
         "print" | "printed" | "again" | "values" => printing::call(alloc, name, words, input, out),
         "regs" | "irqs" => resolving::call(alloc, name, input, out),
+        "dma" | "spec" => resolving::ask_node(alloc, name, words, input, out),
         "node-at" => resolving::node(words, input, out),
         "views" => resolving::views(alloc, input, out),
         "fixups" | "local-fixups" => marks::call(alloc, name, input, out),

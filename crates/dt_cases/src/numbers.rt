@@ -21,6 +21,14 @@ fn magnitude(digits: &str) -> Option<u64> {
     }
 }
 
+/// A number of up to 128 bits: decimal, or hexadecimal behind `0x`.
+pub fn wide(word: &str) -> Option<u128> {
+    match word.strip_prefix("0x") {
+        Some(digits) => u128::from_str_radix(digits, 16).ok(),
+        None => word.parse::<u128>().ok(),
+    }
+}
+
 /// A number of an index.
 pub fn index(word: &str) -> Option<usize> {
     usize::try_from(number(word)?).ok()

@@ -1,17 +1,19 @@
 //! Addresses and interrupts of blobs, and nodes by their paths.
 
-ghost use Rattle.std.specs.Prelude.{◌<◌, length};
+ghost use Rattle.std.specs.Prelude.{◌<◌, length, IfOk};
 ghost use Rattle.dt_read.specs.Placed.{IsNode};
 ghost use Rattle.dt_irq.specs.Seen.{HasArrived};
 
+use crate::numbers::{number, wide};
 use crate::outcome::{Lines, Outcome, Stop};
 use dt_flat::FlatTree;
-use dt_irq::{Route, route};
-use dt_lines::{irqs, regs};
-use dt_names::{NodeId, Out};
-use dt_ranges::region;
+use dt_irq::{Route, route, specifier_route};
+use dt_lines::{Question, ask, irqs, regs};
+use dt_names::{Fault, NodeId, Out};
+use dt_ranges::{dma_region, region};
 use dt_read::Blob;
 use dt_view::{Index, TreeView, node_at, one_cell};
+use dt_worlds::Region;
 use std::alloc::Global;
 
 /// `regs` tells the regions of a blob, and `irqs` its routes.
@@ -23,6 +25,51 @@ pub fn call(alloc: Global, name: &str, blob: &[u8], out: &mut Outcome) -> Result
     }
     out.lines().name(&lines.into_inner());
     Ok(())
+}
+
+/// `dma PATH ADDRESS SIZE` and `spec PATH PROP KIND INDEX` tell what the node of a path answers.
+pub fn ask_node(
+    alloc: Global,
+    name: &str,
+    words: &str,
+    blob: &[u8],
+    out: &mut Outcome,
+) -> Result<(), Stop> {
+    let Some((path, words)) = words.split_once(' ') else {
+        return Err(Stop::Malformed);
+    };
+    let Some(question) = question_of(name, words) else {
+        return Err(Stop::Malformed);
+    };
+    let mut line = Out::new(Vec::new(alloc));
+    ask(alloc, blob, path.as_bytes(), question, &mut line)?;
+    out.lines().name(&line.into_inner());
+    Ok(())
+}
+
+fn question_of<'a>(name: &str, words: &'a str) -> Option<Question<'a>> {
+    match name {
+        "dma" => dma_of(words),
+        _ => specifier_of(words),
+    }
+}
+
+fn dma_of(words: &str) -> Option<Question<'_>> {
+    let (address, size) = words.split_once(' ')?;
+    Some(Question::Dma {
+        address: wide(address)?,
+        size: wide(size)?,
+    })
+}
+
+fn specifier_of(words: &str) -> Option<Question<'_>> {
+    let (property, words) = words.split_once(' ')?;
+    let (kind, index) = words.split_once(' ')?;
+    Some(Question::Specifier {
+        property: property.as_bytes(),
+        kind: kind.as_bytes(),
+        index: number(index)?,
+    })
 }
 
 /// Tells of the node of a path what a blob has around it.
@@ -70,16 +117,23 @@ fn compare_at(
     Ok(())
 }
 
-/// What a view tells of the node of a path: what stands around it, the node of its number, and its first regions and routes.
+/// What a view tells of the node of a path: what stands around it, the node of its number, its first regions and routes, also those for DMA and of
+/// GPIOs.
 fn told_by<V: TreeView>(alloc: Global, view: &V, path: &[u8]) -> Result<String, Stop> {
     let mut lines = Lines::new(alloc);
     let node = node_at(view, path)?;
     put_around(view, node, &mut lines);
     put_numbered(view, node, &mut lines);
     for index in 0..3 {
-        put_region(view, node, index, &mut lines);
-        put_route(view, node, index, &mut lines);
+        put_region(region(view, node, index), &mut lines);
+        put_route(view, route(view, node, index), &mut lines);
+        put_route(
+            view,
+            specifier_route(view, node, b"gpios", b"gpio", index),
+            &mut lines,
+        );
     }
+    put_region(dma_region(view, node, 0x1000, 2), &mut lines);
     lines.into_text()
 }
 
@@ -126,10 +180,8 @@ fn put_numbered<V: TreeView>(view: &V, node: NodeId, lines: &mut Lines)
     }
 }
 
-fn put_region<V: TreeView>(view: &V, node: NodeId, index: u64, lines: &mut Lines)
-    requires { IsNode (V.tree view.now) node }
-{
-    match region(view, node, index) {
+fn put_region(region: Result<Region, Fault>, lines: &mut Lines) {
+    match region {
         Ok(region) => writeln!(
             lines,
             "{:#x} {:#x} {}",
@@ -139,10 +191,10 @@ fn put_region<V: TreeView>(view: &V, node: NodeId, index: u64, lines: &mut Lines
     }
 }
 
-fn put_route<V: TreeView>(view: &V, node: NodeId, index: u64, lines: &mut Lines)
-    requires { IsNode (V.tree view.now) node }
+fn put_route<V: TreeView>(view: &V, route: Result<Route, Fault>, lines: &mut Lines)
+    requires { IfOk route (HasArrived (V.tree view.now)) }
 {
-    match route(view, node, index) {
+    match route {
         Ok(route) => put_arrival(view, &route, lines),
         Err(fault) => writeln!(lines, "{fault}"),
     }
