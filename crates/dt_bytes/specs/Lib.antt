@@ -1,1 +1,2 @@
+-- what callers read, in this order
 pub mod Places

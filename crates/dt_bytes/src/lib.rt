@@ -1,4 +1,12 @@
-//! Numbers in bytes, and texts that end at a NUL.
+//! Numbers in bytes, the highest byte first, and texts that end at a NUL. It has no values of its own: bytes are slices, and a place in
+//! them is an offset from their start.
+//!
+//! ```text
+//! put32(&mut bytes, 1, 0xd00dfeed)    // of six zeros it makes 00 d0 0d fe ed 00
+//! be32(&bytes, 1)                     // Some(0xd00dfeed); None where fewer than four bytes stand there
+//! ```
+//!
+//! The first is a case of bytes.cases (docs/CASES.md).
 #![tactic(auto)]
 
 ghost use Rattle.std.specs.Prelude.{◌≡◌, ◌≤◌, ◌<◌, ◌+◌, ◌↔◌, ◌++◌, take, drop, length, IsTrue, IfSome};

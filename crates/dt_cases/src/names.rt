@@ -1,7 +1,7 @@
 //! Names, labels and paths.
 
 use crate::outcome::{Outcome, Stop};
-use dt_names::{Label, NodeName, NodePath, Out, Path, PropName};
+use dt_names::{Label, NodeName, Out, Path, PathRef, PropName};
 use std::alloc::Global;
 
 /// `node-name`, `property-name` and `label` tell whether bytes are one; `path` tells how many names a path has, and each of
@@ -18,7 +18,7 @@ pub fn call(
         "node-name" => tell_itself(NodeName::new(input)?.as_bytes(), input, out),
         "property-name" => tell_itself(PropName::new(input)?.as_bytes(), input, out),
         "label" => tell_itself(Label::new(input)?.as_bytes(), input, out),
-        "node-path" => match NodePath::new(input) {
+        "node-path" => match PathRef::new(input) {
             Some(path) => tell_itself(path.text(), input, out),
             None => out.tell("none"),
         },

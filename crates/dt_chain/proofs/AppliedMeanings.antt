@@ -15,10 +15,9 @@ use Rattle.dt_joining.specs.InTurn.{InTurnIsFold}
 use Rattle.dt_joining.specs.Joining.{SitesAreOne}
 use Rattle.dt_landing.specs.Outcomes.{RefusedIsUndefined}
 use Rattle.dt_write.specs.Written.{written}
-use Rattle.dt_chain.specs.Inputs as inputs
-use Rattle.dt_chain.specs.Inputs.{IsOutcome, IsBlobOfAll, AreSteps, WhyNoneOfAll}
-use Rattle.dt_chain.specs.Applied.{IsRead, IsNoBlob, WhyNoBlobApplied}
-use Rattle.dt_chain.specs.Chains.{IsBlobOfMeaning, IsBlobOfOverlay, AreBlobsOfOverlays, ApplyingIsMerging, RefusedIsNoMerge}
+use Rattle.dt_chain.specs.Apply as inputs
+use Rattle.dt_chain.specs.Apply.{IsOutcome, IsBlobOfAll, AreSteps, WhyNoneOfAll, IsRead, IsNoBlob, WhyNoBlobApplied}
+use Rattle.dt_chain.specs.Laws.{IsBlobOfMeaning, IsBlobOfOverlay, AreBlobsOfOverlays, ApplyingIsMerging, RefusedIsNoMerge}
 use Rattle.dt_chain.proofs.Outcomes.{WrittenReads}
 use Rattle.dt_chain.proofs.ChainOutcomes.{IsFine, steps_fine}
 use Rattle.dt_chain.proofs.ChainMeanings.{AreEach, steps_merge, stopped_merge_not}

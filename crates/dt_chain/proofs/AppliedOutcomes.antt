@@ -7,8 +7,8 @@ use Rattle.dt_landing.specs.Outcomes as landing
 use Rattle.dt_landing.specs.Outcomes.{LimitIsExceeded, OneRefusal}
 use Rattle.dt_joining.specs.InTurn.{AppliedIsOne}
 use Rattle.dt_read.specs.Kinds.{kind_of}
-use Rattle.dt_chain.specs.Applied.{IsRead, IsNoBlob}
-use Rattle.dt_chain.specs.Chains.{OneBlobApplied, AppliedIsNotRefused, OneRefusalToApply}
+use Rattle.dt_chain.specs.Apply.{IsRead, IsNoBlob}
+use Rattle.dt_chain.specs.Laws.{OneBlobApplied, AppliedIsNotRefused, OneRefusalToApply}
 use Rattle.dt_chain.proofs.ChainOutcomes as chain
 use Rattle.dt_chain.proofs.ChainOutcomes.{HasOne, HasFine, HasOrLacks, LacksOnce}
 

@@ -8,8 +8,7 @@ use Rattle.dt_laws.specs.OverlayTrees.{OneObject, OverlayRefusalIsOne, OverlayIs
 use Rattle.dt_grammar.specs.Grammar.{Says}
 use Rattle.dt_grammar.specs.Parsed.{IsParsed}
 use Rattle.dt_parse.proofs.Parsing.{source_kind}
-use Rattle.dt_chain.specs.Blobs.{WhyNoBlob, no_memory, unparsed, as_base, as_overlay}
-use Rattle.dt_chain.specs.Compiled.{IsCompilerFault}
+use Rattle.dt_chain.specs.Compile.{WhyNoBlob, no_memory, unparsed, as_base, as_overlay, IsCompilerFault}
 use Rattle.dt_chain.specs.Laws.{OneBlob, CompiledIsNotRefused, OneRefusal}
 use Rattle.dt_chain.proofs.Stages as base_stages
 use Rattle.dt_chain.proofs.Stages.{of_source}

@@ -11,12 +11,10 @@ use Rattle.dt_landing.specs.Outcomes.{AppliedIsNotRefused, LimitIsExceeded, OneR
 use Rattle.dt_joining.specs.InTurn.{AppliedIsOne}
 use Rattle.dt_grammar.specs.Parsed.{WhyNotParsed}
 use Rattle.dt_write.specs.Written.{written}
-use Rattle.dt_chain.specs.Means.{TextHasTree}
-use Rattle.dt_chain.specs.Compiled.{WhyNoTree}
-use Rattle.dt_chain.specs.CompiledOverlay as overlay
-use Rattle.dt_chain.specs.CompiledOverlay.{WhyNotCompiledOverlay}
-use Rattle.dt_chain.specs.Built.{HasBaseTree, HasObject, WhyNoObject}
-use Rattle.dt_chain.specs.Chains.{OneBlobBuilt, BuiltIsNotRefused, OneRefusalToBuild}
+use Rattle.dt_chain.specs.Compile.{TextHasTree, WhyNoTree, WhyNotCompiledOverlay}
+use Rattle.dt_chain.specs.Compile as compile
+use Rattle.dt_chain.specs.Build.{HasBaseTree, HasObject, WhyNoObject}
+use Rattle.dt_chain.specs.Laws.{OneBlobBuilt, BuiltIsNotRefused, OneRefusalToBuild}
 use Rattle.dt_chain.proofs.Outcomes as bases
 use Rattle.dt_chain.proofs.Outcomes.{SaidOnce, SaidOnly, FaultOnce}
 use Rattle.dt_chain.proofs.OverlayOutcomes as overlays
@@ -66,10 +64,10 @@ module _ (once : SaidOnce) where
       module _ (fault : FaultOnce) (no_tree_once : NoTreeOnce) (one : OverlayRefusalIsOne) (meant : OverlayIsNotRefused) where
         -- a text that is no source isn't refused as an overlay's
         unparsed_only : (text : List ℕ) (e f : Fault) → WhyNotParsed text e → WhyNotCompiledOverlay text f → e.kind ≢ NoMemory → f.kind ≢ NoMemory → ⊥
-        unparsed_only text e _ why overlay.no_memory wanted wanted' = wanted' refl
-        unparsed_only text e _ why (overlay.refused s kind parsed other) wanted wanted' = wanted (only text s e parsed why)
-        unparsed_only text e _ why (overlay.large t h more) wanted wanted' = wanted (only text h.says e h.parsed why)
-        unparsed_only text e _ why (overlay.big t h more) wanted wanted' = wanted (only text h.says e h.parsed why)
+        unparsed_only text e _ why compile.no_memory wanted wanted' = wanted' refl
+        unparsed_only text e _ why (compile.refused s kind parsed other) wanted wanted' = wanted (only text s e parsed why)
+        unparsed_only text e _ why (compile.large t h more) wanted wanted' = wanted (only text h.says e h.parsed why)
+        unparsed_only text e _ why (compile.big t h more) wanted wanted' = wanted (only text h.says e h.parsed why)
 
         no_object_once : LacksOnce WhyNoObject
         no_object_once text e f (inl why) (inl other) wanted wanted' = fault text e f why other wanted wanted'

@@ -15,8 +15,8 @@ use Rattle.dt_joining.specs.Joining.{SitesAreOne}
 use Rattle.dt_joining.specs.Walk.{new_numbers}
 use Rattle.dt_landing.proofs.RefusedOutcomes.{comes_of}
 use Rattle.dt_landing.specs.Outcomes.{RefusedIsUndefined}
-use Rattle.dt_chain.specs.Inputs as inputs
-use Rattle.dt_chain.specs.Inputs.{AreSteps, WhyNoStep, IsStopped}
+use Rattle.dt_chain.specs.Apply as inputs
+use Rattle.dt_chain.specs.Apply.{AreSteps, WhyNoStep, IsStopped}
 use Rattle.dt_chain.proofs.ChainOutcomes.{IsFine}
 
 -- each input is one of an overlay

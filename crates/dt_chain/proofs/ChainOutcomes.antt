@@ -11,8 +11,8 @@ use Rattle.dt_landing.specs.Outcomes.{AppliedIsNotRefused, LimitIsExceeded, OneR
 use Rattle.dt_landing.specs.Refusals.{has_many, WhyNotApplied}
 use Rattle.dt_write.specs.Written.{written}
 use Rattle.dt_names.specs.Fault.{placeless}
-use Rattle.dt_chain.specs.Inputs as inputs
-use Rattle.dt_chain.specs.Inputs.{IsStep, AreSteps, IsOutcome, IsBlobOfAll, WhyNoStep, IsStopped, WhyNoneOfAll}
+use Rattle.dt_chain.specs.Apply as inputs
+use Rattle.dt_chain.specs.Apply.{IsStep, AreSteps, IsOutcome, IsBlobOfAll, WhyNoStep, IsStopped, WhyNoneOfAll}
 
 -- a tree to which objects may be applied
 pub record IsFine (t : Reading) : Type 0 where
@@ -155,21 +155,21 @@ module _ (has_base has_object : List ℕ → Reading → Type 0) where
 
     module _ (base_refused_once : LacksOnce lacks_base) (object_refused_once : LacksOnce lacks_object) (refusal : OneRefusal) where
       -- an input is refused for one fault
-      step_refused_once : (t : Reading) (x : List ℕ) (e f : Fault) → IsFine t → WhyNoStep has_object lacks_object t x e → WhyNoStep has_object lacks_object t x f
-          → e.kind ≢ NoMemory → e.kind ≢ Limit → f.kind ≢ NoMemory → f.kind ≢ Limit → e ≡ f
-      step_refused_once t x _ f fine inputs.no_memory also wanted low wanted' low' = absurd (wanted refl)
-      step_refused_once t x _ f fine (inputs.no_object e why) also wanted low wanted' low' = step f also wanted'
+      step_refused_once : (t : Reading) (x : List ℕ) (e f : Fault) → WhyNoStep has_object lacks_object t x e → WhyNoStep has_object lacks_object t x f
+          → e.kind ≢ NoMemory → f.kind ≢ NoMemory → e ≡ f
+      step_refused_once t x _ f inputs.no_memory also wanted wanted' = absurd (wanted refl)
+      step_refused_once t x _ f (inputs.no_object e why) also wanted wanted' = step f also wanted'
         where
           step : (f : Fault) → WhyNoStep has_object lacks_object t x f → f.kind ≢ NoMemory → e ≡ f
           step _ inputs.no_memory w = absurd (w refl)
           step _ (inputs.no_object g other) w = object_refused_once x e g why other wanted w
           step _ (inputs.not_applied object kind h other) w = absurd (wanted (object_not x object e h why))
-      step_refused_once t x _ f fine (inputs.not_applied object kind h why) also wanted low wanted' low' = step f also wanted' low'
+      step_refused_once t x _ f (inputs.not_applied object kind h why) also wanted wanted' = step f also wanted'
         where
-          step : (f : Fault) → WhyNoStep has_object lacks_object t x f → f.kind ≢ NoMemory → f.kind ≢ Limit → placeless kind ≡ f
-          step _ inputs.no_memory w l = absurd (w refl)
-          step _ (inputs.no_object g other) w l = absurd (w (object_not x object g h other))
-          step _ (inputs.not_applied object' kind' h' other) w l =
+          step : (f : Fault) → WhyNoStep has_object lacks_object t x f → f.kind ≢ NoMemory → placeless kind ≡ f
+          step _ inputs.no_memory w = absurd (w refl)
+          step _ (inputs.no_object g other) w = absurd (w (object_not x object g h other))
+          step _ (inputs.not_applied object' kind' h' other) w =
               let same : object' ≡ object = object_one x object' object h' h in
               ap placeless (refusal t object kind kind' (object_fine x object h).valid why (subst (λ (o : Reading). WhyNotApplied has_many kind' t o) same other) wanted w)
 
@@ -178,48 +178,61 @@ module _ (has_base has_object : List ℕ → Reading → Type 0) where
           → IsFine t → front ++ x ∷ back ≡ front' ++ x' ∷ back'
           → AreSteps has_object t front before → WhyNoStep has_object lacks_object before x e
           → AreSteps has_object t front' before' → WhyNoStep has_object lacks_object before' x' f
-          → e.kind ≢ NoMemory → e.kind ≢ Limit → f.kind ≢ NoMemory → f.kind ≢ Limit → (length front ≡ length front') × (e ≡ f)
-      stops_once t [] [] back back' x x' before before' e f fine split h why h' why' wanted low wanted' low' =
+          → e.kind ≢ NoMemory → f.kind ≢ NoMemory → (length front ≡ length front') × (e ≡ f)
+      stops_once t [] [] back back' x x' before before' e f fine split h why h' why' wanted wanted' =
           let same : x ≡ x' = same_head x x' back back' split in
           let first : WhyNoStep has_object lacks_object t x' e = subst (λ (u : Reading). WhyNoStep has_object lacks_object u x' e) h (subst (λ (y : List ℕ). WhyNoStep has_object lacks_object before y e) same why) in
           let second : WhyNoStep has_object lacks_object t x' f = subst (λ (u : Reading). WhyNoStep has_object lacks_object u x' f) h' why' in
-          (refl, step_refused_once t x' e f fine first second wanted low wanted' low')
-      stops_once t [] (y ∷ front') back back' x x' before before' e f fine split h why h' why' wanted low wanted' low' =
+          (refl, step_refused_once t x' e f first second wanted wanted')
+      stops_once t [] (y ∷ front') back back' x x' before before' e f fine split h why h' why' wanted wanted' =
           let same : x ≡ y = same_head x y back (front' ++ x' ∷ back') split in
           let first : WhyNoStep has_object lacks_object t y e = subst (λ (u : Reading). WhyNoStep has_object lacks_object u y e) h (subst (λ (z : List ℕ). WhyNoStep has_object lacks_object before z e) same why) in
           absurd (wanted (taken_not_refused t y e fine (record { object = h'.0; next = h'.1; of_input = h'.2; step = h'.3 }) first))
-      stops_once t (y ∷ front) [] back back' x x' before before' e f fine split h why h' why' wanted low wanted' low' =
+      stops_once t (y ∷ front) [] back back' x x' before before' e f fine split h why h' why' wanted wanted' =
           let same : x' ≡ y = sym (same_head y x' (front ++ x ∷ back) back' split) in
           let second : WhyNoStep has_object lacks_object t y f = subst (λ (u : Reading). WhyNoStep has_object lacks_object u y f) h' (subst (λ (z : List ℕ). WhyNoStep has_object lacks_object before' z f) same why') in
           absurd (wanted' (taken_not_refused t y f fine (record { object = h.0; next = h.1; of_input = h.2; step = h.3 }) second))
-      stops_once t (y ∷ front) (y' ∷ front') back back' x x' before before' e f fine split h why h' why' wanted low wanted' low' =
+      stops_once t (y ∷ front) (y' ∷ front') back back' x x' before before' e f fine split h why h' why' wanted wanted' =
           let same : y' ≡ y = sym (same_head y y' (front ++ x ∷ back) (front' ++ x' ∷ back') split) in
           let next : h'.1 ≡ h.1 = step_once base_one object_one one t h'.0 h'.1 h.0 h.1 y (subst (λ (z : List ℕ). has_object z h'.0) same h'.2) h'.3 h.2 h.3 in
           let w = stops_once h.1 front front' back back' x x' before before' e f (record { valid = h.3.valid; within = h.3.within })
           (same_tail y y' (front ++ x ∷ back) (front' ++ x' ∷ back') split) h.4 why
-          (subst (λ (u : Reading). AreSteps has_object u front' before') next h'.4) why' wanted low wanted' low' in
+          (subst (λ (u : Reading). AreSteps has_object u front' before') next h'.4) why' wanted wanted' in
           (ap suc w.0, w.1)
+
+      -- an input that is refused is before the end
+      not_at_the_end : (base : List ℕ) (xs : List (List ℕ)) (t u : Reading) (k : ℕ) (e : Fault)
+          → has_base base t → IsStopped has_object lacks_object t xs k e → IsOutcome has_base has_object base xs u → e.kind ≡ NoMemory
+      not_at_the_end base xs t u k e of_base stop outcome =
+          let same : outcome.tree ≡ t = base_one base outcome.tree t outcome.of_base of_base in
+          steps_not_stopped t xs u k e (base_fine base t of_base) (subst (λ (v : Reading). AreSteps has_object v xs u) same outcome.steps) stop
 
       pub refused_once : (base : List ℕ) (xs : List (List ℕ)) (k j : ℕ) (e f : Fault)
           → WhyNoneOfAll has_base has_object lacks_base lacks_object base xs k e → WhyNoneOfAll has_base has_object lacks_base lacks_object base xs j f
-          → e.kind ≢ NoMemory → e.kind ≢ Limit → f.kind ≢ NoMemory → f.kind ≢ Limit → (k ≡ j) × (e ≡ f)
-      refused_once base xs k j _ f (inputs.no_memory _ few) also wanted low wanted' low' = absurd (wanted refl)
-      refused_once base xs _ j e f (inputs.no_base _ why) also wanted low wanted' low' = step j f also wanted' low'
+          → e.kind ≢ NoMemory → f.kind ≢ NoMemory → (k ≡ j) × (e ≡ f)
+      refused_once base xs k j _ f (inputs.no_memory _ few) also wanted wanted' = absurd (wanted refl)
+      refused_once base xs _ j e f (inputs.no_base _ why) also wanted wanted' = step j f also wanted'
         where
-          step : (j : ℕ) (f : Fault) → WhyNoneOfAll has_base has_object lacks_base lacks_object base xs j f → f.kind ≢ NoMemory → f.kind ≢ Limit → (0 ≡ j) × (e ≡ f)
-          step j _ (inputs.no_memory _ few) w l = absurd (w refl)
-          step _ f (inputs.no_base _ other) w l = (refl, base_refused_once base e f why other wanted w)
-          step j f (inputs.stopped t _ _ of_base stop) w l = absurd (wanted (base_not base t e of_base why))
-          step _ _ (inputs.big t outcome more) w l = absurd (l refl)
-      refused_once base xs k j e f (inputs.stopped t _ _ of_base stop) also wanted low wanted' low' = step j f also wanted' low'
+          step : (j : ℕ) (f : Fault) → WhyNoneOfAll has_base has_object lacks_base lacks_object base xs j f → f.kind ≢ NoMemory → (0 ≡ j) × (e ≡ f)
+          step j _ (inputs.no_memory _ few) w = absurd (w refl)
+          step _ f (inputs.no_base _ other) w = (refl, base_refused_once base e f why other wanted w)
+          step j f (inputs.stopped t _ _ of_base stop) w = absurd (wanted (base_not base t e of_base why))
+          step _ _ (inputs.big t outcome more) w = absurd (wanted (base_not base outcome.tree e outcome.of_base why))
+      refused_once base xs k j e f (inputs.stopped t _ _ of_base stop) also wanted wanted' = step j f also wanted'
         where
-          step : (j : ℕ) (f : Fault) → WhyNoneOfAll has_base has_object lacks_base lacks_object base xs j f → f.kind ≢ NoMemory → f.kind ≢ Limit → (k ≡ j) × (e ≡ f)
-          step j _ (inputs.no_memory _ few) w l = absurd (w refl)
-          step _ f (inputs.no_base _ other) w l = absurd (w (base_not base t f of_base other))
-          step j f (inputs.stopped t' _ _ of_base' stop') w l =
+          step : (j : ℕ) (f : Fault) → WhyNoneOfAll has_base has_object lacks_base lacks_object base xs j f → f.kind ≢ NoMemory → (k ≡ j) × (e ≡ f)
+          step j _ (inputs.no_memory _ few) w = absurd (w refl)
+          step _ f (inputs.no_base _ other) w = absurd (w (base_not base t f of_base other))
+          step j f (inputs.stopped t' _ _ of_base' stop') w =
               let same : t' ≡ t = base_one base t' t of_base' of_base in
               let s = stops_once t stop.front stop'.front stop.back stop'.back stop.input stop'.input stop.before stop'.before e f (base_fine base t of_base)
-              (sym stop.are ∙ stop'.are) stop.steps stop.why (subst (λ (u : Reading). AreSteps has_object u stop'.front stop'.before) same stop'.steps) stop'.why wanted low w l in
+              (sym stop.are ∙ stop'.are) stop.steps stop.why (subst (λ (u : Reading). AreSteps has_object u stop'.front stop'.before) same stop'.steps) stop'.why wanted w in
               (stop.number ∙ ap suc s.0 ∙ sym stop'.number, s.1)
-          step _ _ (inputs.big t' outcome more) w l = absurd (l refl)
-      refused_once base xs _ j _ f (inputs.big t outcome more) also wanted low wanted' low' = absurd (low refl)
+          step _ _ (inputs.big u outcome more) w = absurd (wanted (not_at_the_end base xs t u k e of_base stop outcome))
+      refused_once base xs _ j _ f (inputs.big u outcome more) also wanted wanted' = step j f also wanted'
+        where
+          step : (j : ℕ) (f : Fault) → WhyNoneOfAll has_base has_object lacks_base lacks_object base xs j f → f.kind ≢ NoMemory → (length xs ≡ j) × (placeless Limit ≡ f)
+          step j _ (inputs.no_memory _ few) w = absurd (w refl)
+          step _ f (inputs.no_base _ other) w = absurd (w (base_not base outcome.tree f outcome.of_base other))
+          step j f (inputs.stopped t _ _ of_base stop) w = absurd (w (not_at_the_end base xs t u j f of_base stop outcome))
+          step _ _ (inputs.big t also more') w = (refl, refl)

@@ -5,7 +5,9 @@ pub mod BuiltMeanings
 pub mod BuiltOutcomes
 pub mod ChainMeanings
 pub mod ChainOutcomes
+pub mod CompiledMeanings
 pub mod Inputs
+pub mod LimitOutcomes
 pub mod Objects
 pub mod Outcomes
 pub mod OverlayOutcomes

@@ -11,9 +11,8 @@ use Rattle.dt_landing.specs.Refusals.{has_many, WhyNotApplied}
 use Rattle.dt_grammar.specs.Grammar.{Says}
 use Rattle.dt_write.specs.Written.{written}
 use Rattle.dt_names.specs.Fault.{placeless}
-use Rattle.dt_chain.specs.Inputs.{WhyNoStep, no_memory, no_base, no_object, not_applied}
-use Rattle.dt_chain.specs.Applied.{IsRead, IsNoBlob, WhyNoBlobApplied}
-use Rattle.dt_chain.specs.Built.{HasObject, WhyNoObject}
+use Rattle.dt_chain.specs.Apply.{WhyNoStep, no_memory, no_base, no_object, not_applied, IsRead, IsNoBlob, WhyNoBlobApplied}
+use Rattle.dt_chain.specs.Build.{HasObject, WhyNoObject}
 use Rattle.dt_chain.specs.Steps.{OfEachText}
 use Rattle.dt_chain.proofs.Stages.{fault_is}
 use Rattle.dt_chain.proofs.OverlayStages.{HasTree}
@@ -22,11 +21,6 @@ use Rattle.dt_chain.proofs.Turns.{Goes}
 -- want of memory is told without a place
 pub memory_told : (fault : Fault) → (fault.kind ≡ NoMemory) × (fault.at ≡ None) → fault ≡ placeless NoMemory
 memory_told fault why = sym (ap placeless (sym why.0) ∙ fault_is fault None why.1)
-
--- a base that isn't read
-pub not_read : (base : List ℕ) (objects : List (List ℕ)) (fault : Fault) → (fault ≡ placeless NoMemory) ⊎ IsNoBlob base fault → WhyNoBlobApplied base objects 0 fault
-not_read base objects fault (inl e) = subst (WhyNoBlobApplied base objects 0) (sym e) (no_memory 0 (omega arith))
-not_read base objects fault (inr why) = no_base fault why
 
 -- an object that is read isn't applied for this reason
 pub read_not_applied : (t object : Reading) (input : List ℕ) (fault : Fault) → IsRead input object → (fault.at ≡ None) × WhyNotApplied has_many fault.kind t object

@@ -1,6 +1,6 @@
 -- A text is compiled to one blob, or is refused for one reason.
 use Rattle.std.proofs.Common.{◌≡◌, ◌≢◌, ℕ, ◌+◌, ◌<◌, ◌≤◌, inl, inr, List, ◌∷◌, [], length, refl, sym, ap, subst, ◌∙◌, true≢false, codes, arith}
-use Rattle.std.specs.List.{AllByRecursion}
+use Rattle.dt_model.specs.Format.{Reads}
 use Rattle.dt_names.specs.Fault.{IsOneRefusal}
 use Rattle.dt_names.specs.declared.fault.Fault.{Fault}
 use Rattle.dt_names.specs.declared.fault.FaultKind.{FaultKind}
@@ -9,18 +9,17 @@ use Rattle.dt_model.specs.Limits.{most_nodes, most_bytes}
 use Rattle.dt_model.specs.Source.{Mode, base, raw, SourceMeans}
 use Rattle.dt_model.specs.Tree.{Reading}
 use Rattle.dt_model.specs.Valid.{IsValid, IsWithinLimits, node_count}
-use Rattle.dt_model.specs.Instance.{IsTreeOf, IsInstanceOf, with_symbols, added}
+use Rattle.dt_model.specs.Instance.{IsTreeOf, IsInstanceOf, added}
 use Rattle.dt_model.specs.Refused.{too_many, IsRefusedFor}
-use Rattle.dt_laws.specs.CompiledTrees.{OneTree, TreeIsValid, BaseTreeRepresents, MeantIsNotRefused, FewAreNotRefused}
+use Rattle.dt_laws.specs.CompiledTrees.{OneTree, MeantIsNotRefused, FewAreNotRefused}
 use Rattle.dt_grammar.specs.Grammar.{Says}
 use Rattle.dt_grammar.specs.Parsed.{IsParsed, WhyNotParsed}
 use Rattle.dt_source.specs.Refusals.{WhyNotNamed, fault_of, place_of}
 use Rattle.dt_source.proofs.Outcomes.{Sorted, sorted}
 use Rattle.dt_write.specs.Written.{written}
-use Rattle.dt_chain.specs.Means.{TextHasTree}
-use Rattle.dt_chain.specs.Compiled.{IsCompiled, WhyNoTree, WhyNotCompiled, no_memory, unparsed, unnamed, many, no_tree, big}
+use Rattle.dt_chain.specs.Compile.{TextHasTree, IsCompiled, WhyNoTree, WhyNotCompiled, no_memory, unparsed, unnamed, many, no_tree, big}
 use Rattle.dt_names.specs.Fault.{placeless}
-use Rattle.dt_chain.specs.Laws.{OneMeaning, BaseRepresents, RawIsInstance}
+use Rattle.dt_chain.specs.Laws.{OneMeaning}
 use Rattle.dt_chain.proofs.Stages.{one_more}
 
 -- a text says one thing
@@ -34,6 +33,10 @@ SaidOnly = (text : List ℕ) (s : Says) (e : Fault) → IsParsed text s → WhyN
 -- or it has one fault
 abbrev pub FaultOnce : Type 0
 FaultOnce = (text : List ℕ) (e f : Fault) → WhyNotParsed text e → WhyNotParsed text f → ¬ e.kind ≡ NoMemory → ¬ f.kind ≡ NoMemory → e ≡ f
+
+-- the blob of a valid tree is read as it
+abbrev pub WrittenReads : Type 0
+WrittenReads = (t : Reading) → IsValid t → length (written t) ≤ most_bytes → Reads (written t) t
 
 -- ---- one meaning, one tree
 
@@ -189,55 +192,3 @@ module _ (once : SaidOnce) (only : SaidOnly) (fault : FaultOnce) (one : NamedOnc
       step _ no_memory w = absurd (w refl)
       step _ (no_tree g other) w = with_tree mode text t g h w other
       step _ (big u k more) w = refl
-
--- ---- what the blob is
-
--- the places of a text of bytes are places, and some
-abbrev pub PlacesAre : Type 0
-PlacesAre = (text : List ℕ) (s : Says) → AllByRecursion (λ b. b < 256) text → IsParsed text s → AllByRecursion Rattle.dt_model.specs.Source.IsPlace s.places
-
-abbrev pub SomeAre : Type 0
-SomeAre = (text : List ℕ) (s : Says) → IsParsed text s → 0 < length s.places
-
--- the blob of a valid tree is read as it
-abbrev pub WrittenReads : Type 0
-WrittenReads = (t : Reading) → IsValid t → length (written t) ≤ most_bytes → Rattle.dt_model.specs.Format.Reads (written t) t
-
-read_as : PlacesAre → SomeAre → TreeIsValid → WrittenReads → (mode : Mode) (text blob : List ℕ) → AllByRecursion (λ b. b < 256) text → (h : IsCompiled mode text blob)
-    → Rattle.dt_model.specs.Format.Reads blob h.tree
-read_as places some valid reads mode text blob bytes h =
-    let s = h.of_text.says in
-    let ok = valid mode s.reservations s.places h.tree (some text s h.of_text.parsed) (places text s bytes h.of_text.parsed) h.of_text.tree in
-    subst (λ (b : List ℕ). Rattle.dt_model.specs.Format.Reads b h.tree) (sym h.is) (reads h.tree ok (subst (λ (b : List ℕ). length b ≤ most_bytes) h.is h.size))
-
-pub no_boot_cpu : (symbols : List Rattle.dt_model.specs.Tree.Property) (t : Reading) → (with_symbols symbols t).boot_cpu ≡ t.boot_cpu
-no_boot_cpu [] t = refl
-no_boot_cpu (s ∷ symbols) t = refl
-
-pub base_represents : PlacesAre → SomeAre → TreeIsValid → WrittenReads → BaseTreeRepresents → BaseRepresents
-base_represents places some valid reads represents text blob bytes h =
-    let s = h.of_text.says in
-    let r = represents s.reservations s.places h.tree (places text s bytes h.of_text.parsed) h.of_text.tree in
-    record {
-      meaning = r.0;
-      means = record { says = s; parsed = h.of_text.parsed; plain = h.of_text.plain; means = r.2 };
-      tree = h.tree;
-      reads = read_as places some valid reads base text blob bytes h;
-      number = r.1;
-      represents = r.3;
-      boot_cpu = ap (λ (u : Reading). u.boot_cpu) h.of_text.tree.is ∙ no_boot_cpu h.of_text.tree.symbols h.of_text.tree.bare ∙ h.of_text.tree.instance.boot_cpu;
-    }
-
-pub raw_is_instance : PlacesAre → SomeAre → TreeIsValid → WrittenReads → RawIsInstance
-raw_is_instance places some valid reads text blob bytes h =
-    let i = h.of_text.tree.instance in
-    let same = h.of_text.tree.is in
-    record {
-      meaning = i.meaning;
-      means = record { says = h.of_text.says; parsed = h.of_text.parsed; plain = h.of_text.plain; means = i.means };
-      tree = h.tree;
-      reads = read_as places some valid reads raw text blob bytes h;
-      number = i.number;
-      instance = subst (λ (u : Reading). Rattle.dt_model.specs.Instance.IsInstance u i.meaning i.number) (sym same) i.instance;
-      boot_cpu = ap (λ (u : Reading). u.boot_cpu) same ∙ i.boot_cpu;
-    }

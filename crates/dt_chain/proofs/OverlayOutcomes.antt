@@ -4,24 +4,20 @@ use Rattle.dt_names.specs.declared.fault.Fault.{Fault}
 use Rattle.dt_names.specs.declared.fault.FaultKind.{FaultKind}
 use Rattle.dt_names.specs.declared.fault.FaultKind.TheVariants.{NoMemory, Limit}
 use Rattle.dt_model.specs.Limits.{most_bytes}
-use Rattle.dt_model.specs.Format.{Reads}
 use Rattle.dt_model.specs.OverlaySource.{OverlayMeans}
 use Rattle.dt_model.specs.Tree.{Reading}
 use Rattle.dt_model.specs.Valid.{IsWithinLimits}
-use Rattle.dt_model.specs.Instance.{symbols_of, instance_of}
 use Rattle.dt_model.specs.Fixups.{IsObjectOf}
-use Rattle.dt_laws.specs.OverlayTrees.{OneOverlay, OneObject, OverlayRefusalIsOne, OverlayIsNotRefused, ObjectIsNotRefused, ObjectIsValid}
-use Rattle.dt_laws.specs.ShortValues.{ReadValuesAreShort, ShortObjectEncodes}
+use Rattle.dt_laws.specs.OverlayTrees.{OneOverlay, OneObject, OverlayRefusalIsOne, OverlayIsNotRefused, ObjectIsNotRefused}
 use Rattle.dt_grammar.specs.Grammar.{Says}
 use Rattle.dt_grammar.specs.Parsed.{IsParsed}
 use Rattle.dt_source.specs.Refusals.{WhyNoOverlay, overlay_fault_of}
 use Rattle.dt_source.proofs.OverlayOutcomes.{Sorted, sorted, overlay_refused_once}
 use Rattle.dt_write.specs.Written.{written}
-use Rattle.dt_chain.specs.Means.{OverlayTextHasTree}
+use Rattle.dt_chain.specs.Compile.{OverlayTextHasTree, IsCompiledOverlay, WhyNotCompiledOverlay, no_memory, refused, large, big}
 use Rattle.dt_names.specs.Fault.{placeless}
-use Rattle.dt_chain.specs.CompiledOverlay.{IsCompiledOverlay, WhyNotCompiledOverlay, no_memory, refused, large, big}
-use Rattle.dt_chain.specs.Laws.{OneOverlayMeaning, OverlayIsObject}
-use Rattle.dt_chain.proofs.Outcomes.{SaidOnce, PlacesAre, WrittenReads, limit_told, no_boot_cpu, of_kind}
+use Rattle.dt_chain.specs.Laws.{OneOverlayMeaning}
+use Rattle.dt_chain.proofs.Outcomes.{SaidOnce, limit_told, of_kind}
 
 -- ---- one meaning, one tree
 
@@ -110,23 +106,3 @@ module _ (once : SaidOnce) (one : OverlayRefusalIsOne) (not : OverlayIsNotRefuse
   refused_once text _ f (refused s kind parsed why) also wanted wanted' = with_source text s kind f parsed why wanted wanted' also
   refused_once text _ f (large t h more) also wanted wanted' = with_tree text t f h wanted' also
   refused_once text _ f (big t h more) also wanted wanted' = with_tree text t f h wanted' also
-
--- ---- what the blob is
-
-pub overlay_is_object : PlacesAre → ObjectIsValid → WrittenReads → ShortObjectEncodes → ReadValuesAreShort → OverlayIsObject
-overlay_is_object places valid reads encodes short text blob bytes h =
-    let s = h.of_text.says in
-    let ps = places text s bytes h.of_text.parsed in
-    let object = h.of_text.tree in
-    let ok = valid s.places h.tree ps object h.within.count in
-    let read = subst (λ (b : List ℕ). Reads b h.tree) (sym h.is) (reads h.tree ok (subst (λ (b : List ℕ). length b ≤ most_bytes) h.is h.size)) in
-    let r = encodes s.places h.tree ps object h.within.count (short blob h.tree read) in
-    record {
-      overlay = r.0;
-      means = record { says = s; parsed = h.of_text.parsed; plugin = h.of_text.plugin; reservations = h.of_text.reservations; means = r.2 };
-      tree = h.tree;
-      reads = read;
-      number = r.1;
-      encodes = r.3;
-      boot_cpu = ap (λ (u : Reading). u.boot_cpu) object.is ∙ no_boot_cpu (symbols_of object.named) (instance_of object.numbers object.named);
-    }

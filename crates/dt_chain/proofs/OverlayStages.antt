@@ -26,10 +26,8 @@ use Rattle.dt_flat.specs.Arena.{Arena, named_children, child_of, reading}
 use Rattle.dt_marks.specs.Refusals.{WhyNoFixups}
 use Rattle.dt_write.specs.Written.{written}
 use Rattle.dt_write.specs.Refusals.{WhyNoBlob}
-use Rattle.dt_chain.specs.Means.{OverlayTextHasTree}
-use Rattle.dt_chain.specs.Compiled.{IsCompilerFault}
+use Rattle.dt_chain.specs.Compile.{OverlayTextHasTree, IsCompilerFault, IsCompiledOverlay, WhyNotCompiledOverlay, no_memory, refused, large, big}
 use Rattle.dt_names.specs.Fault.{placeless}
-use Rattle.dt_chain.specs.CompiledOverlay.{IsCompiledOverlay, WhyNotCompiledOverlay, no_memory, refused, large, big}
 use Rattle.dt_chain.specs.Steps.{OfEachText, HasOverlay, IsNumbered, WhyNotLabelled, HasRooms, IsMarked, WhyNotMarked}
 use Rattle.dt_chain.proofs.Stages.{fault_is, no_sibling, no_child, not_there, too_many}
 

@@ -9,12 +9,8 @@ use Rattle.dt_grammar.specs.Parsed as grammar
 use Rattle.dt_grammar.specs.Parsed.{WhyNotParsed}
 use Rattle.dt_parse.proofs.Parsing.{never_memory}
 use Rattle.dt_source.specs.Refusals.{place_of}
-use Rattle.dt_chain.specs.Compiled as compiled
-use Rattle.dt_chain.specs.Compiled.{WhyNoTree, WhyNotCompiled}
-use Rattle.dt_chain.specs.CompiledOverlay as overlay
-use Rattle.dt_chain.specs.CompiledOverlay.{WhyNotCompiledOverlay}
-use Rattle.dt_chain.specs.Blobs as blobs
-use Rattle.dt_chain.specs.Blobs.{WhyNoBlob}
+use Rattle.dt_chain.specs.Compile as compile
+use Rattle.dt_chain.specs.Compile.{WhyNoTree, WhyNotCompiled, WhyNotCompiledOverlay, WhyNoBlob}
 
 unlexed : (text : List ℕ) (e : Fault) → WhyNotLexed text e → e.kind ≡ NoMemory → e.at ≡ None
 unlexed text e lexing.no_memory h = refl
@@ -28,24 +24,24 @@ unparsed text e (grammar.untagged tokens l x n) h = cc
 unparsed text e (grammar.broken tokens before left kind l x t s b) h = absurd (never_memory b h)
 
 tree_unplaced : (mode : Mode) (text : List ℕ) (e : Fault) → WhyNoTree mode text e → e.kind ≡ NoMemory → e.at ≡ None
-tree_unplaced mode text _ compiled.no_memory h = refl
-tree_unplaced mode text _ (compiled.unparsed e why) h = unparsed text e why h
-tree_unplaced mode text _ (compiled.unnamed s kind parsed why) h = ap place_of h
-tree_unplaced mode text _ (compiled.many t k more) h = refl
+tree_unplaced mode text _ compile.no_memory h = refl
+tree_unplaced mode text _ (compile.unparsed e why) h = unparsed text e why h
+tree_unplaced mode text _ (compile.unnamed s kind parsed why) h = ap place_of h
+tree_unplaced mode text _ (compile.many t k more) h = refl
 
 pub memory_unplaced : (mode : Mode) (text : List ℕ) (e : Fault) → WhyNotCompiled mode text e → e.kind ≡ NoMemory → e.at ≡ None
-memory_unplaced mode text _ compiled.no_memory h = refl
-memory_unplaced mode text _ (compiled.no_tree e why) h = tree_unplaced mode text e why h
-memory_unplaced mode text _ (compiled.big t k more) h = refl
+memory_unplaced mode text _ compile.no_memory h = refl
+memory_unplaced mode text _ (compile.no_tree e why) h = tree_unplaced mode text e why h
+memory_unplaced mode text _ (compile.big t k more) h = refl
 
 overlay_unplaced : (text : List ℕ) (e : Fault) → WhyNotCompiledOverlay text e → e.kind ≡ NoMemory → e.at ≡ None
-overlay_unplaced text _ overlay.no_memory h = refl
-overlay_unplaced text _ (overlay.refused s kind parsed why) h = ap place_of h
-overlay_unplaced text _ (overlay.large t k more) h = refl
-overlay_unplaced text _ (overlay.big t k more) h = refl
+overlay_unplaced text _ compile.no_memory h = refl
+overlay_unplaced text _ (compile.refused s kind parsed why) h = ap place_of h
+overlay_unplaced text _ (compile.large t k more) h = refl
+overlay_unplaced text _ (compile.big t k more) h = refl
 
 pub blob_unplaced : (text : List ℕ) (e : Fault) → WhyNoBlob text e → e.kind ≡ NoMemory → e.at ≡ None
-blob_unplaced text _ blobs.no_memory h = refl
-blob_unplaced text _ (blobs.unparsed e why) h = unparsed text e why h
-blob_unplaced text _ (blobs.as_base s e parsed plain why) h = memory_unplaced base text e why h
-blob_unplaced text _ (blobs.as_overlay s e parsed plugin why) h = overlay_unplaced text e why h
+blob_unplaced text _ compile.no_memory h = refl
+blob_unplaced text _ (compile.unparsed e why) h = unparsed text e why h
+blob_unplaced text _ (compile.as_base s e parsed plain why) h = memory_unplaced base text e why h
+blob_unplaced text _ (compile.as_overlay s e parsed plugin why) h = overlay_unplaced text e why h

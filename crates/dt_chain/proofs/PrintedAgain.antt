@@ -15,11 +15,10 @@ use Rattle.dt_printed.specs.Laws.{TextIsParsed, TextIsTree, ReadTreesHoldBytes}
 use Rattle.dt_model.specs.Printed.{printed}
 use Rattle.dt_printed.specs.Said.{said, HasBytes}
 use Rattle.dt_write.specs.Written.{written}
-use Rattle.dt_chain.specs.Applied.{IsRead}
-use Rattle.dt_chain.specs.Compiled.{IsCompiled, WhyNotCompiled, no_memory, no_tree, big}
+use Rattle.dt_chain.specs.Apply.{IsRead}
+use Rattle.dt_chain.specs.Compile.{IsCompiled, WhyNotCompiled, no_memory, no_tree, big, TextHasTree}
 use Rattle.dt_names.specs.Fault.{placeless}
-use Rattle.dt_chain.specs.Means.{TextHasTree}
-use Rattle.dt_chain.specs.Printing.{OneText, DecompiledIsNotRefused, OneRefusalToDecompile, without_boot_cpu, PrintedIsCompiledAgain}
+use Rattle.dt_chain.specs.Laws.{OneText, DecompiledIsNotRefused, OneRefusalToDecompile, without_boot_cpu, PrintedIsCompiledAgain}
 use Rattle.dt_chain.proofs.AppliedOutcomes.{OneReading, fault_once}
 use Rattle.dt_chain.proofs.Outcomes.{SaidOnce, SaidOnly, WrittenReads, tree_once, tree_not_refused}
 

@@ -27,8 +27,7 @@ use Rattle.dt_flat.proofs.ByPath.{has, sibling_below}
 use Rattle.dt_marks.specs.Refusals.{WhyNoSymbols}
 use Rattle.dt_write.specs.Written.{written}
 use Rattle.dt_write.specs.Refusals.{WhyNoBlob}
-use Rattle.dt_chain.specs.Means.{TextHasTree}
-use Rattle.dt_chain.specs.Compiled.{IsCompiled, WhyNoTree, WhyNotCompiled, IsCompilerFault, no_memory, unparsed, unnamed, many, no_tree, big}
+use Rattle.dt_chain.specs.Compile.{TextHasTree, IsCompiled, WhyNoTree, WhyNotCompiled, IsCompilerFault, no_memory, unparsed, unnamed, many, no_tree, big}
 use Rattle.dt_names.specs.Fault.{placeless}
 use Rattle.dt_chain.specs.Steps.{OfEachText, HasNamed, IsNumbered, HasRoom, WhyNotLabelled}
 

@@ -1,13 +1,9 @@
-pub mod Means
-pub mod Compiled
-pub mod CompiledOverlay
-pub mod Blobs
-pub mod Steps
-pub mod Inputs
-pub mod Applied
-pub mod Built
+-- what callers read, in this order
+pub mod Compile
+pub mod Apply
+pub mod Build
+pub mod Decompile
 pub mod Laws
-pub mod Chains
-pub mod Printing
-pub mod Input
-pub mod Resolved
+pub mod Limits
+-- inside
+pub mod Steps

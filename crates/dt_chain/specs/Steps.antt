@@ -15,7 +15,7 @@ use Rattle.dt_names.specs.declared.fault.FaultKind.{FaultKind}
 use Rattle.dt_names.specs.declared.fault.FaultKind.TheVariants.{NoMemory, Limit}
 use Rattle.dt_grammar.specs.Grammar.{Says}
 use Rattle.dt_grammar.specs.Parsed.{IsParsed}
-use Rattle.dt_source.specs.Building.{HasTree}
+use Rattle.dt_source.specs.Meant.{HasTree}
 
 -- what holds of each text that says this
 abbrev pub OfEachText : Says → (List ℕ → Type 0) → Type 0

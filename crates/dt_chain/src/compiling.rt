@@ -7,22 +7,10 @@ ghost use Rattle.dt_model.specs.Source.{base, raw};
 ghost use Rattle.dt_model.specs.Tree.{Reading};
 ghost use Rattle.dt_names.specs.declared.fault.FaultKind.TheVariants.{NoMemory};
 ghost use Rattle.dt_source.specs.Refusals.{mode_said, WhyNotNamed, place_of};
-ghost use Rattle.dt_chain.specs.Applied.{IsRead};
-ghost use Rattle.dt_chain.specs.Blobs.{IsBlobOf, WhyNoBlob};
-ghost use Rattle.dt_chain.specs.Built.{HasObject};
-ghost use Rattle.dt_chain.specs.Compiled.{IsCompiled, WhyNoTree, WhyNotCompiled, IsCompilerFault};
-ghost use Rattle.dt_chain.specs.CompiledOverlay.{IsCompiledOverlay, WhyNotCompiledOverlay};
-ghost use Rattle.dt_chain.specs.Means.{TextHasTree, OverlayTextHasTree};
-ghost use Rattle.dt_chain.specs.Steps.{
-  OfEachText,
-  HasNamed,
-  IsNumbered,
-  HasRoom,
-  WhyNotLabelled,
-  HasRooms,
-  IsMarked,
-  WhyNotMarked,
-};
+ghost use Rattle.dt_chain.specs.Apply.{IsRead};
+ghost use Rattle.dt_chain.specs.Compile.{IsBlobOf, WhyNoBlob, IsCompiled, WhyNoTree, WhyNotCompiled, IsCompilerFault, IsCompiledOverlay, WhyNotCompiledOverlay, TextHasTree, OverlayTextHasTree};
+ghost use Rattle.dt_chain.specs.Build.{HasObject};
+ghost use Rattle.dt_chain.specs.Steps.{OfEachText, HasNamed, IsNumbered, HasRoom, WhyNotLabelled, HasRooms, IsMarked, WhyNotMarked};
 
 use dt_flat::FlatTree;
 use dt_laws::{overlay_source_is_an_overlay, source_is_a_meaning, tree_is_meant};

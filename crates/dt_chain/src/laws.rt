@@ -9,33 +9,37 @@ ghost use Rattle.dt_chain.specs.Laws.{
   OneRawBlob,
   RawIsNotRefused,
   OneRawRefusal,
-  BaseRepresents,
-  RawIsInstance,
-  OverlayIsObject,
-};
-ghost use Rattle.dt_chain.specs.Chains.{
-  OneRefusalToApply,
-  OneRefusalToBuild,
   OneBlobApplied,
   AppliedIsNotRefused,
+  OneRefusalToApply,
   OneBlobBuilt,
   BuiltIsNotRefused,
-  ApplyingIsMerging,
-  RefusedIsNoMerge,
-  BuildingIsMerging,
-  NotBuiltIsNoMeaning,
-};
-ghost use Rattle.dt_chain.specs.Resolved.{ApplyingIsResolved, BuildingIsResolved, CompilingIsResolved};
-ghost use Rattle.dt_chain.specs.Printing.{
+  OneRefusalToBuild,
   OneText,
   DecompiledIsNotRefused,
   OneRefusalToDecompile,
+  BaseRepresents,
+  RawIsInstance,
+  OverlayIsObject,
+  NotCompiledIsNoMeaning,
+  RawNotCompiledIsNoMeaning,
+  ApplyingIsMerging,
+  RefusedIsNoMerge,
+  OneMergedMeaning,
+  BuildingIsMerging,
+  NotBuiltIsNoMeaning,
+  BuildingIsResolved,
+  ApplyingIsResolved,
+  CompilingIsResolved,
   PrintedIsCompiledAgain,
 };
+ghost use Rattle.dt_chain.specs.Limits.{CompilingIsLimited, RawIsLimited, ApplyingIsLimited, BuildingIsLimited};
 
 use dt_format::{blob_has_no_fault, first_fault_is_one};
 use dt_joining::{applied_is_one, in_turn_is_fold, sites_are_one};
-use dt_landing::{applied_is_not_refused, limit_is_exceeded, one_refusal, refused_is_undefined};
+use dt_landing::{
+    applied_is_not_refused, limit_is_exceeded, one_refusal, refused_is_undefined, room_is_counted,
+};
 use dt_laws::{
     compiled_base_represents, compiled_is_not_refused, compiled_tree_is_one,
     compiled_tree_is_valid, object_encodes, object_is_one, object_is_valid, overlay_is_one,
@@ -74,23 +78,31 @@ pub fn one_outcome()
     overlay_refusal_is_one();
 }
 
-/// The blob that a base's text is compiled to is read as a tree that represents what the text means; a raw source's as
-/// the instance of what it means, and nothing else; an overlay's as an object of what it means, which can be applied.
+/// What a base's text is compiled to is a blob of what the text means, so that overlays may be applied to it; a raw source's is read as the
+/// instance of what it means, and nothing else; an overlay's is an object of the overlay that it means, which may be applied. Memory and
+/// limits aside, a text is refused only where it means nothing.
 pub fn what_compiling_means()
     ensures base { BaseRepresents }
     ensures raw { RawIsInstance }
     ensures overlay { OverlayIsObject }
+    ensures refused { NotCompiledIsNoMeaning }
+    ensures raw_refused { RawNotCompiledIsNoMeaning }
 {
+    dt_parse::one_outcome();
     parsed_has_places();
     compiled_tree_is_valid();
     compiled_base_represents();
+    compiled_is_not_refused();
+    source_is_a_meaning();
     object_is_valid();
     object_encodes();
+    overlay_source_is_an_overlay();
+    overlay_refusal_is_one();
     written_reads();
 }
 
-/// Applying objects to a base answers one blob, or refuses, and not both, unless memory is wanted; memory and limits aside it refuses one
-/// input for one fault; and so does building.
+/// Applying objects to a base answers one blob, or refuses one input for one fault, and not both, unless memory is wanted; and so does
+/// building.
 pub fn one_blob()
     ensures applied { OneBlobApplied }
     ensures applied_only { AppliedIsNotRefused }
@@ -114,6 +126,18 @@ pub fn one_blob()
     object_is_one();
 }
 
+/// Exactly when a limit is told: by `compile` and `compile_raw` of a text that is too long, or whose expressions, bodies, paths, nodes or blob
+/// are; by `apply_list` and `build` of the first input that is so itself, or with which those before it have too many nodes, a path that is
+/// too long, or a blob that is.
+pub fn what_limits_mean()
+    ensures compiled { CompilingIsLimited }
+    ensures raw { RawIsLimited }
+    ensures applied { ApplyingIsLimited }
+    ensures built { BuildingIsLimited }
+{
+    room_is_counted();
+}
+
 /// Whoever wrote the blobs: what applying objects of overlays to a base answers is read as a tree that represents the base's
 /// meaning with the overlays merged into it one after another, by numbers that extend the base's; and memory and limits aside, it
 /// is refused only where that merge isn't defined.
@@ -129,10 +153,11 @@ pub fn what_applying_means()
     written_reads();
 }
 
-/// What building answers is read as a tree that represents what the base's text followed by the overlays' texts means, each
+/// What building answers is read as a tree that represents the one thing that the base's text followed by the overlays' texts means, each
 /// keyed node having one number of its own that stands in every reference to it; and memory and limits aside, it is refused
 /// only where one of the texts means nothing, or one of the merges isn't defined.
 pub fn what_building_means()
+    ensures one { OneMergedMeaning }
     ensures merged { BuildingIsMerging }
     ensures refused { NotBuiltIsNoMeaning }
 {
@@ -164,8 +189,6 @@ pub fn what_building_resolves()
     what_building_means();
     what_applying_means();
     what_compiling_means();
-    parsed_has_places();
-    source_is_a_meaning();
     meaning_is_resolved();
 }
 

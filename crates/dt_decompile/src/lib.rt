@@ -1,4 +1,11 @@
-//! The text of a blob.
+//! The text of a blob, of DTS version 1 (Devicetree Specification v0.4, chapter 6), and the buffer through which texts go to a sink.
+//!
+//! ```text
+//! let blob = Blob::check(bytes)?;             // of `/dts-v1/; / { n { reg = <0 0x10>; }; };`
+//! text_of(&blob, &mut out)                    // n { reg = <0x0 0x10>; }, each node and property in a line of its own
+//! ```
+//!
+//! Such texts are cases of printed.cases (docs/CASES.md).
 #![tactic(auto)]
 
 mod buffer;

@@ -9,7 +9,9 @@ use dt_names::{Fault, FaultKind};
 /// The element of 8, 16, 32 or 64 bits that a value is written as: its low bits. A value fits where it is below 2^bits, or
 /// where its bits from there up are all ones, as those of a small negative number are (Devicetree Specification v0.4, 6.3).
 ///
-/// Refused: OutOfRange, without a place, where the value doesn't fit.
+/// # Errors
+///
+/// `OutOfRange` where the value doesn't fit, without a place.
 pub fn fit(value: u64, bits: u32) -> Result<u64, Fault>
     requires { IsWidth bits }
     ensures fits { IsOk result ↔ Fits bits value }

@@ -138,7 +138,9 @@ impl Stack {
 /// shift by 64 or more gives 0, and comparisons, `!`, `&&` and `||` give 0 or 1 (Devicetree Specification v0.4, 6.3). Each
 /// part is evaluated, also one that `&&`, `||` or `?` doesn't choose. It takes no memory.
 ///
-/// Refused: DivideByZero, without a place, where a part divides by 0 or takes a remainder by 0.
+/// # Errors
+///
+/// `DivideByZero` where a part divides by 0 or takes a remainder by 0, without a place.
 pub fn eval(expression: &Expr) -> Result<u64, Fault>
     ensures exact { (e : Expression) → steps e ≡ expression.now →
         MatchResult result (λ n. value e ≡ Some n) (λ fault. (value e ≡ None) × (fault.kind ≡ DivideByZero) × (fault.at ≡ None)) }

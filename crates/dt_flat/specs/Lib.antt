@@ -1,7 +1,9 @@
+-- what callers read, in this order
 pub mod Arena
 pub mod Kept
-pub mod Linked
 pub mod Numbers
-pub mod Planted
 pub mod Refusals
+pub mod Planted
 pub mod Sound
+-- inside
+pub mod Linked

@@ -1,5 +1,16 @@
-//! A devicetree as an ordered tree of nodes with byte values (Devicetree Specification v0.4, chapter 2), built node by
-//! node and property by property. Each tree is one that a blob may hold, within the limits on nodes and depth.
+//! A devicetree in memory that can be changed: an ordered tree of nodes with byte values (Devicetree Specification v0.4, chapter 2), built
+//! node by node and property by property. In the field's words it is *unflattened*, for a flat tree is a blob: a [`FlatTree`] has its name from
+//! being one that a blob may hold, within the limits on nodes and depth. `dt_write` makes a blob of it, and `dt_read` makes it of a blob. A
+//! node is named by its number, in the order in which nodes were made; the root is 0.
+//!
+//! ```text
+//! let mut tree = FlatTree::new(alloc, 0);
+//! let uart = tree.add_node(tree.root(), &NodeName::new(b"uart@10")?)?;    // 1
+//! tree.set_prop(uart, &PropName::new(b"reg")?, &[0, 0, 0, 16])?;
+//! tree.child(tree.root(), b"uart@10")                                     // Some(1)
+//! ```
+//!
+//! Such changes, and what then is read, are cases of trees.cases (docs/CASES.md).
 #![tactic(auto)]
 
 mod children;

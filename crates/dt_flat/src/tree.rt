@@ -93,8 +93,12 @@ impl FlatTree {
         }
     }
 
-    /// Adds a memory reservation at the end (Devicetree Specification v0.4, 5.3). `OutOfRange`: both numbers are 0, which
-    /// would end the list. `NoMemory`: memory was refused. At a fault the tree is unchanged.
+    /// Adds a memory reservation at the end (Devicetree Specification v0.4, 5.3).
+    ///
+    /// # Errors
+    ///
+    /// `OutOfRange` where both numbers are 0, which would end the list; and `NoMemory`. None has a place. At a fault the tree is
+    /// unchanged.
     pub fn reserve(&mut self, address: u64, size: u64) -> Result<(), Fault>
         ensures ok { OnOk result
             (self.new ≡ record self.old { reservations = self.old.reservations ++ (address, size) ∷ [] }) }
@@ -109,9 +113,12 @@ impl FlatTree {
         Ok(())
     }
 
-    /// Adds a child at the end of a node's children, and answers its number. `Duplicate`: the node has a child of that
-    /// name. `Limit`: the tree has 65,536 nodes, or the path of the node 64 names. `NoMemory`: memory was refused. Where
-    /// the first two hold, it answers `Duplicate`. At a fault the tree is unchanged.
+    /// Adds a child at the end of a node's children, and answers its number.
+    ///
+    /// # Errors
+    ///
+    /// In this order: `Duplicate` where the node has a child of that name; `Limit` where the tree has 65,536 nodes, or the path of
+    /// the node 64 names; and `NoMemory`. None has a place. At a fault the tree is unchanged.
     pub fn add_node(&mut self, parent: NodeId, name: &NodeName<'_>) -> Result<NodeId, Fault>
         requires { parent < length self.old.slots }
         ensures ok { IfOk result (λ node. (node ≡ length self.old.slots)
@@ -134,9 +141,12 @@ impl FlatTree {
         Ok(node)
     }
 
-    /// Sets a property of a node: one that is there keeps its place, a new one goes last. `BlobPhandle`: the property is
-    /// `phandle`, and the value isn't four bytes of a number from 1 to 0xfffffffe that no other node has (Devicetree
-    /// Specification v0.4, 2.3.3). `NoMemory`: memory was refused. At a fault the tree is unchanged.
+    /// Sets a property of a node: one that is there keeps its place, a new one goes last.
+    ///
+    /// # Errors
+    ///
+    /// `BlobPhandle` where the property is `phandle`, and the value isn't four bytes of a number from 1 to 0xfffffffe that no other
+    /// node has (Devicetree Specification v0.4, 2.3.3); and `NoMemory`. None has a place. At a fault the tree is unchanged.
     pub fn set_prop(&mut self, node: NodeId, name: &PropName<'_>, value: &[u8]) -> Result<(), Fault>
         requires { node < length self.old.slots }
         ensures ok { OnOk result
@@ -178,8 +188,11 @@ impl FlatTree {
         Ok(())
     }
 
-    /// Writes a number, the highest byte first, at an offset of the value of a property. `BlobPhandle`, `NoMemory`: as for
-    /// `set_prop` of the value that the property then has. At a fault the tree is unchanged.
+    /// Writes a number, the highest byte first, at an offset of the value of a property.
+    ///
+    /// # Errors
+    ///
+    /// Those of `set_prop` of the value that the property then has. At a fault the tree is unchanged.
     pub fn patch_cell(
         &mut self,
         node: NodeId,
@@ -312,7 +325,11 @@ impl FlatTree {
         find_number(&self.phandles, number)
     }
 
-    /// The path of a node. `NoMemory`: memory was refused.
+    /// The path of a node.
+    ///
+    /// # Errors
+    ///
+    /// `NoMemory`, without a place.
     pub fn path(&self, alloc: Global, node: NodeId) -> Result<Path, Fault>
         requires { node < length self.now.slots }
         ensures value { IfOk result (λ path. node_from self.now.slots 0 path ≡ Some node) }

@@ -12,7 +12,7 @@ ghost use Rattle.dt_fragments.specs.Fragments.{target_said, fragment_said, WhyNo
 ghost use Rattle.dt_named.specs.Said.{reference_said, value_said, property_said, node_said};
 
 use dt_named::{NamedNode, NamedProperty, NamedReference, NamedValue};
-use dt_names::{Fault, FaultKind, NodeId, NodePath};
+use dt_names::{Fault, FaultKind, NodeId, PathRef};
 use std::alloc::Global;
 
 /// What a fragment names as its target.
@@ -76,7 +76,7 @@ fn path_text<'v>(value: &'v NamedValue<'_>) -> Option<&'v [u8]>
     if *last != 0 {
         return None;
     }
-    NodePath::new(text)?;
+    PathRef::new(text)?;
     Some(text)
 }
 

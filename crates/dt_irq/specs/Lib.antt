@@ -1,6 +1,8 @@
+-- what callers read, in this order
 pub mod Cells
-pub mod Spaces
-pub mod Merging
 pub mod Seen
 pub mod Left
 pub mod RoutesLeft
+-- inside
+pub mod Spaces
+pub mod Merging

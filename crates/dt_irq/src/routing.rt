@@ -65,8 +65,12 @@ pub struct Routes<'v> {
 }
 
 impl<'v> Routes<'v> {
-    /// The routes of a node, from its first interrupt on. A fault is each interrupt's: `NoInterrupts` of a node without `interrupts` and
-    /// `interrupts-extended`, one on the way to the interrupt parent, or `BadCells` of a list that isn't whole entries.
+    /// The routes of a node, from its first interrupt on.
+    ///
+    /// # Errors
+    ///
+    /// That of each of its interrupts: `NoInterrupts` of a node without `interrupts` and `interrupts-extended`, one on the way to the interrupt
+    /// parent, or `BadCells` of a list that isn't whole entries.
     pub fn of<V: TreeView>(view: &'v V, node: NodeId) -> Result<Routes<'v>, Fault>
         requires { IsNode (V.tree view.now) node }
         ensures left { IfOk result (AreLeft (V.tree view.now) (path_at (V.tree view.now) node) 0) }

@@ -1,4 +1,14 @@
-//! What a source of a devicetree says, item by item, in the order of its text (Devicetree Specification v0.4, chapter 6).
+//! What a source of a devicetree says, item by item, in the order of its text (Devicetree Specification v0.4, chapter 6). A [`Source`] is
+//! what `dt_parse::parse` answers: whether it is an overlay's, its memory reservations, and its items, which are nodes that open and close,
+//! labels, properties and deletions. Names and bytes are parts of the text.
+//!
+//! ```text
+//! for item in source.items() {            // of `/dts-v1/; / { a: b { c = <1>; }; };`
+//!     match item { .. }                   // the root opens, b opens, the label a, c, b closes, the root closes
+//! }
+//! ```
+//!
+//! Such sources are cases of grammar.cases (docs/CASES.md).
 #![tactic(auto)]
 
 mod source;

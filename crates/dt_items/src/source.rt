@@ -11,14 +11,14 @@ ghost use Rattle.dt_items.specs.Said.{reservation_said, place_said, said};
 ghost use Rattle.dt_items.specs.Spelled.{IsSpelled};
 
 use dt_grammar::{source_has_places, source_is_nested};
-use dt_names::{Label, NodeName, NodePath, PropName};
+use dt_names::{Label, NodeName, PathRef, PropName};
 use std::marker::Model;
 
 /// A node as a source refers to it: `&label`, or `&{/path}` (Devicetree Specification v0.4, 6.3).
 #[derive(Drop)]
 pub enum Reference<'a> {
     Label(Label<'a>),
-    Path(NodePath<'a>),
+    Path(PathRef<'a>),
 }
 
 /// How a reference stands in a value.

@@ -1,5 +1,7 @@
-pub mod Found
+-- what callers read, in this order
+pub mod Walk
 pub mod InTurn
 pub mod Joining
 pub mod Rows
-pub mod Walk
+-- inside
+pub mod Found

@@ -1,7 +1,8 @@
+-- what callers read, in this order
 pub mod Landings
-pub mod Laws
 pub mod Objects
-pub mod Outcomes
-pub mod Refusals
 pub mod Steps
+pub mod Laws
+pub mod Refusals
+pub mod Outcomes
 pub mod Writing

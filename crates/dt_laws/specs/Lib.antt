@@ -1,15 +1,17 @@
+-- what callers read, in this order
 pub mod Applying
 pub mod Merging
 pub mod Sources
 pub mod NamedTrees
-pub mod NamedSample
 pub mod CompiledTrees
 pub mod OverlayTrees
-pub mod ObjectSample
 pub mod Bodies
-pub mod SampleSources
 pub mod Fragments
-pub mod Premises
 pub mod ShortValues
 pub mod OverlayChecks
 pub mod LeastNumbers
+-- inside
+pub mod NamedSample
+pub mod ObjectSample
+pub mod SampleSources
+pub mod Premises

@@ -136,7 +136,9 @@ pub fn character_value(word: &[u8]) -> u8
 /// modulo 256, and `\` before another byte as that byte. The NUL that ends a text's value isn't among them. `token` is the
 /// bytes of a `TokenKind::Text`, with their quotes.
 ///
-/// Where memory is refused that is the error, and nothing is appended.
+/// # Errors
+///
+/// Where memory is refused; then nothing is appended.
 pub fn push_text(token: &[u8], out: &mut Vec<u8>) -> Result<(), AllocError>
     ensures ok { OnOk result (out.new.items ≡ out.old.items ++ text_bytes token.now) }
     ensures err { OnErr result (out.new.items ≡ out.old.items) }

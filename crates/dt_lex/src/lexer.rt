@@ -85,10 +85,11 @@ fn fault_at(flaw: Flaw, place: usize) -> Fault
 /// The tokens of a text (Devicetree Specification v0.4, chapter 6), in its order and with their places, in bytes from its
 /// start; what is skipped gives none.
 ///
-/// Refused are a text of more than 16,777,216 bytes: Limit; and a text with a flaw, for the first one: BadToken at a byte at
-/// which no token begins, at a comment, a text or a character that isn't closed, and at `/include/`, `/incbin/` and
-/// `/omit-if-no-ref/`; BadInteger at the first byte of an integer with a digit that its base lacks, or of 2^64 or more.
-/// NoMemory only where memory is refused.
+/// # Errors
+///
+/// `Limit`, without a place, for a text of more than 16,777,216 bytes; else the first flaw: `BadToken` at a byte at which no token begins, at
+/// a comment, a text or a character that isn't closed, and at `/include/`, `/incbin/` and `/omit-if-no-ref/`; `BadInteger` at the first byte of
+/// an integer with a digit that its base lacks, or of 2^64 or more. `NoMemory`, without a place, may be met at any time.
 pub fn tokens(alloc: Global, text: &[u8]) -> Result<Vec<Token>, Fault>
     // What is answered is the text's token list.
     ensures ok { IfOk result (λ v. (length text.now ≤ most_bytes) × IsLexed text.now (Ok v.items)) }

@@ -1,6 +1,8 @@
+-- what callers read, in this order
 pub mod Lines
-pub mod Paths
 pub mod AllLines
-pub mod Given
 pub mod Listed
 pub mod Asked
+-- inside
+pub mod Paths
+pub mod Given

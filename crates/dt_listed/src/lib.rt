@@ -1,5 +1,11 @@
 //! What the bookkeeping nodes of an object say (dtc's notes on overlay objects): the texts that their values are cut into, the paths
-//! that symbols name, and the cells that they list, by labels and by nodes. All but `symbol_path` takes no memory.
+//! that symbols name, and the cells that they list, by labels and by nodes. All but `symbol_path` takes no memory. A [`ListedCell`] is a
+//! node of the `Blob`, by its place, one of its properties, and an offset in that one's value.
+//!
+//! ```text
+//! cell_text(b"/fragment@0/__overlay__/d:p:1")     // the path, p, 1
+//! for cell in fixups(&blob) { .. }                // each cell by a label, or why its text is off
+//! ```
 #![tactic(auto)]
 
 mod cuts;

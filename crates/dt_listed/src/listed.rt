@@ -8,7 +8,7 @@ ghost use Rattle.dt_listed.specs.ListedViews.{listed_view};
 
 use crate::cuts::cut;
 use crate::reading::number;
-use dt_names::{NodeId, NodePath, PropName};
+use dt_names::{NodeId, PathRef, PropName};
 use dt_read::Blob;
 
 /// A cell that an object lists: the node, the name of the node's property, and the offset in the property's value.
@@ -27,7 +27,7 @@ pub fn has_cell(value: &[u8], offset: usize) -> bool
 }
 
 // The node of a path.
-fn node_of(blob: &Blob<'_>, path: &NodePath<'_>) -> Option<NodeId>
+fn node_of(blob: &Blob<'_>, path: &PathRef<'_>) -> Option<NodeId>
     ensures { result ≡ place_of blob.now path.now }
 {
     let mut node = blob.root();
@@ -68,7 +68,7 @@ fn cell_at<'a>(
 {
     blob.validity();
     PropName::new(property).ok()?;
-    let path = NodePath::new(path)?;
+    let path = PathRef::new(path)?;
     let node = node_of(blob, &path)?;
     let value = blob.value(node, property)?;
     cell_within(node, property, value, digits)

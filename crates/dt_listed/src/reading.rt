@@ -7,7 +7,7 @@ ghost use Rattle.dt_listed.specs.Cuts.{IsNumeralOf};
 ghost use Rattle.dt_listed.specs.Texts.{AreTexts, IsPathValue, WhyNoSymbolPath};
 
 use crate::cuts::{Texts, cut};
-use dt_names::{Fault, FaultKind, NodePath, Path, PropName};
+use dt_names::{Fault, FaultKind, Path, PathRef, PropName};
 use std::alloc::Global;
 
 /// Cuts a value into texts. None where it has none, or bytes behind the last NUL. Takes no memory.
@@ -24,7 +24,7 @@ pub fn texts(value: &[u8]) -> Option<Texts<'_>>
 /// overlay objects).
 #[derive(Drop)]
 pub struct CellText<'a> {
-    pub path: NodePath<'a>,
+    pub path: PathRef<'a>,
     pub property: &'a [u8],
     pub offset: usize,
 }
@@ -47,7 +47,7 @@ pub fn cell_text(text: &[u8]) -> Option<CellText<'_>>
 {
     let (path, rest) = cut(text, b':')?;
     let (property, digits) = cut(rest, b':')?;
-    let path = NodePath::new(path)?;
+    let path = PathRef::new(path)?;
     PropName::new(property).ok()?;
     let offset = number(digits)?;
     Some(CellText {
@@ -57,8 +57,11 @@ pub fn cell_text(text: &[u8]) -> Option<CellText<'_>>
     })
 }
 
-/// The path of the node that a symbol names: its value is the path's text with a NUL. `BadSymbol`: it is no path's.
-/// `Limit`: the path has more than 64 names. `NoMemory`: memory was refused. No fault has a place.
+/// The path of the node that a symbol names: its value is the path's text with a NUL.
+///
+/// # Errors
+///
+/// `BadSymbol` where it is no path's; `Limit` where the path has more than 64 names; and `NoMemory`. None has a place.
 pub fn symbol_path(alloc: Global, value: &[u8]) -> Result<Path, Fault>
     ensures value { IfOk result (λ path. IsPathValue value.now path × (length path ≤ most_names)) }
     ensures refused { IfErr result (λ fault. WhyNoSymbolPath fault.kind value.now × (fault.at ≡ None)) }

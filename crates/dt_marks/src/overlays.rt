@@ -17,9 +17,12 @@ use std::alloc::Global;
 /// such children, the last two, each where it isn't empty (dtc's notes on overlay objects). `__fixups__` has for each label
 /// that the source doesn't give the places of the cells that wait for its node, as texts `path:property:offset`, labels and
 /// cells in the order of the source's tree. `__local_fixups__` has the nodes and properties that hold numbers of the
-/// overlay's own nodes, each property with the offsets of those as cells. `Limit`: the tree would have more than 65,536 nodes
-/// with these, or a path of more than 64 names. `NoMemory`: memory was refused. No fault has a place. At a fault the tree may
-/// have a part of this.
+/// overlay's own nodes, each property with the offsets of those as cells.
+///
+/// # Errors
+///
+/// `Limit` where the tree would have more than 65,536 nodes with these, or a path of more than 64 names; and `NoMemory`. None has a
+/// place. At a fault the tree may have a part of this.
 pub fn add_fixups(alloc: Global, tree: &mut FlatTree, named: &NamedTree<'_>) -> Result<(), Fault>
     requires fixups { child_of (named_children tree.old.slots 0) (codes "__fixups__") ≡ None }
     requires locals { child_of (named_children tree.old.slots 0) (codes "__local_fixups__") ≡ None }

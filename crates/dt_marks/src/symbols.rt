@@ -110,8 +110,12 @@ fn add_node(tree: &mut FlatTree, path: &mut LastPath, nodes: &[NamedNode<'_>]) -
 
 /// Adds the labels of a tree to a tree without a child `__symbols__` of the root: as the properties of such a child, the
 /// last one, each with the path of its node as a text, in preorder and in the order in which they were given (dtc's notes
-/// on overlay objects). Where no label stands, nothing is added. `Limit`: there is a label, and the tree has 65,536 nodes.
-/// `NoMemory`: memory was refused. No fault has a place. At a fault the tree may have a part of this.
+/// on overlay objects). Where no label stands, nothing is added.
+///
+/// # Errors
+///
+/// `Limit` where there is a label, and the tree has 65,536 nodes; and `NoMemory`. None has a place. At a fault the tree may have a part
+/// of this.
 pub fn add_symbols(alloc: Global, tree: &mut FlatTree, named: &NamedTree<'_>) -> Result<(), Fault>
     requires { child_of (named_children tree.old.slots 0) (codes "__symbols__") ≡ None }
     ensures added { OnOk result (reading tree.new ≡ with_symbols (symbols_of (tree_of named.now)) (reading tree.old)) }

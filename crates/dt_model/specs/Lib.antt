@@ -1,12 +1,12 @@
+-- what callers read, in this order
 pub mod Limits
 pub mod Names
 pub mod Path
-pub mod Meaning
 pub mod Tree
 pub mod Valid
+pub mod Meaning
 pub mod Format
 pub mod Lexing
-pub mod Parsing
 pub mod Samples
 pub mod Represents
 pub mod Event
@@ -31,3 +31,5 @@ pub mod Fixups
 pub mod Checks
 pub mod Rows
 pub mod Printed
+-- inside
+pub mod Parsing

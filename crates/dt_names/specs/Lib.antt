@@ -1,3 +1,4 @@
+-- what callers read, in this order
 pub mod Fault
 pub mod Paths
 pub mod Sink

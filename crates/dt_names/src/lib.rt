@@ -1,5 +1,14 @@
-//! Names of devicetree nodes and properties, labels, paths and phandles, the limits and the faults of the crates above, and
-//! streams of bytes that fail for good.
+//! What the other crates speak with: names of nodes and properties, labels, paths and phandles, the limits and the faults, and streams of
+//! bytes that fail for good. A name, a label and a [`PathRef`] borrow the bytes that were taken as one; a [`Path`] owns its text, and has at
+//! most 64 names; a [`Fault`] is a kind and, where it has one, a place in bytes.
+//!
+//! ```text
+//! let path = Path::parse(alloc, b"/soc/uart@10")?;    // two names, soc and uart@10
+//! path.push(&NodeName::new(b"port")?)?;
+//! Path::parse(alloc, b"/soc/");                       // fault 49 BadName
+//! ```
+//!
+//! The first and the last are cases of names.cases (docs/CASES.md).
 #![tactic(auto)]
 
 mod fault;
@@ -13,7 +22,7 @@ mod stream;
 pub use fault::{Fault, FaultKind};
 pub use laws::{one_outcome, one_path};
 pub use name::{Label, NodeName, PropName, is_bookkeeping_name};
-pub use path::{NodePath, Path, PathNames};
+pub use path::{Path, PathNames, PathRef};
 pub use phandle::phandle_of;
 pub use stream::{Feed, In, Out, Sink, put_all};
 

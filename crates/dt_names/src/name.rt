@@ -130,7 +130,11 @@ fn is_label(bytes: &[u8]) -> bool
 }
 
 impl<'a> NodeName<'a> {
-    /// The bytes as a node's name; a fault of the kind `BadName`, and without a place, where they are none.
+    /// The bytes as a node's name.
+    ///
+    /// # Errors
+    ///
+    /// `BadName`, without a place, where they are none.
     pub fn new(bytes: &'a [u8]) -> Result<NodeName<'a>, Fault>
         ensures valid { IsOk result ↔ IsNodeName bytes.now }
         ensures value { IfOk result (λ name. name ≡ bytes.now) }
@@ -153,7 +157,11 @@ impl<'a> NodeName<'a> {
 }
 
 impl<'a> PropName<'a> {
-    /// The bytes as a property's name; a fault of the kind `BadName`, and without a place, where they are none.
+    /// The bytes as a property's name.
+    ///
+    /// # Errors
+    ///
+    /// `BadName`, without a place, where they are none.
     pub fn new(bytes: &'a [u8]) -> Result<PropName<'a>, Fault>
         ensures valid { IsOk result ↔ IsPropertyName bytes.now }
         ensures value { IfOk result (λ name. name ≡ bytes.now) }
@@ -176,8 +184,11 @@ impl<'a> PropName<'a> {
 }
 
 impl<'a> Label<'a> {
-    /// The bytes as a label (Devicetree Specification v0.4, 6.2); a fault of the kind `BadName`, and without a place, where
-    /// they are none.
+    /// The bytes as a label (Devicetree Specification v0.4, 6.2).
+    ///
+    /// # Errors
+    ///
+    /// `BadName`, without a place, where they are none.
     pub fn new(bytes: &'a [u8]) -> Result<Label<'a>, Fault>
         ensures valid { IsOk result ↔ IsLabel bytes.now }
         ensures value { IfOk result (λ label. label ≡ bytes.now) }

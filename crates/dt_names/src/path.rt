@@ -41,11 +41,11 @@ impl Model for Path {
 /// The path of a node as it is written, of any number of names: `/` for the root, or else each name with a `/` before it
 /// (Devicetree Specification v0.4, 2.2.3). It is seen as the list of the names.
 #[derive(Drop)]
-pub struct NodePath<'a> {
+pub struct PathRef<'a> {
     text: &'a [u8],
 }
 
-impl<'a> Model for NodePath<'a> {
+impl<'a> Model for PathRef<'a> {
     ghost use Rattle.std.specs.Prelude.{List, ℕ};
     ghost use Rattle.dt_names.specs.Paths.{path_in, IsPathOf};
 
@@ -116,19 +116,19 @@ fn add(text: &mut Vec<u8>, name: &[u8]) -> Result<(), AllocError>
     Ok(())
 }
 
-impl<'a> NodePath<'a> {
+impl<'a> PathRef<'a> {
     /// The path of a text; none where the text is of no path. Takes no memory.
-    pub fn new(text: &'a [u8]) -> Option<NodePath<'a>>
+    pub fn new(text: &'a [u8]) -> Option<PathRef<'a>>
         ensures { MatchOption result ((path : Names) → ¬ IsPathOf text.now path) (IsPathOf text.now) }
     {
         if text.is_empty() {
             return None;
         }
         if text == b"/".as_slice() {
-            return Some(NodePath { text });
+            return Some(PathRef { text });
         }
         count_names(text)?;
-        Some(NodePath { text })
+        Some(PathRef { text })
     }
 
     /// The path's text: `/` for the root, or else each name with a `/` before it.
@@ -182,9 +182,12 @@ impl Path {
         }
     }
 
-    /// The path of a text: `/`, or each name with a `/` before it (Devicetree Specification v0.4, 2.2.3). `Limit`: the text
-    /// is of a path of more than 64 names. `BadName`: it is no path's text at all. `NoMemory`: memory was refused, where
-    /// nothing else refuses. No fault has a place.
+    /// The path of a text: `/`, or each name with a `/` before it (Devicetree Specification v0.4, 2.2.3).
+    ///
+    /// # Errors
+    ///
+    /// `Limit` where the text is of a path of more than 64 names; `BadName` where it is no path's text at all; and `NoMemory`, where
+    /// nothing else refuses. None has a place.
     pub fn parse(alloc: Global, text: &[u8]) -> Result<Path, Fault>
         ensures text { IfOk result (λ path. text.now ≡ path_text path) }
         ensures names { IfOk result (λ path. AllByRecursion IsNodeName path) }
@@ -207,8 +210,11 @@ impl Path {
         Ok(Path { text, count })
     }
 
-    /// Adds the name of a child, at the end. `Limit`: the path has 64 names. `NoMemory`: it has fewer, and memory was
-    /// refused. At a fault, which has no place, the path is unchanged.
+    /// Adds the name of a child, at the end.
+    ///
+    /// # Errors
+    ///
+    /// `Limit` where the path has 64 names; and `NoMemory`, where it has fewer. None has a place. At a fault the path is unchanged.
     pub fn push(&mut self, name: &NodeName<'_>) -> Result<(), Fault>
         ensures ok { OnOk result (self.new ≡ self.old ++ name.now ∷ []) }
         ensures room { IsOk result → length self.old < most_names }
@@ -224,6 +230,10 @@ impl Path {
     }
 
     /// The same path, with bytes of its own.
+    ///
+    /// # Errors
+    ///
+    /// Where memory is refused.
     pub fn copy(&self, alloc: Global) -> Result<Path, AllocError>
         ensures { IfOk result (λ path. path ≡ self.now) }
     {

@@ -1,14 +1,16 @@
-pub mod Applying
-pub mod Fixups
-pub mod FlatTargets
+-- what callers read, in this order
 pub mod Known
+pub mod Plans
+pub mod Applying
+pub mod Targets
+pub mod FlatTargets
+-- inside
+pub mod Fixups
 pub mod Landed
 pub mod LocalFixups
 pub mod Marks
 pub mod NumbersGiven
-pub mod Plans
 pub mod SymbolLanding
 pub mod Symbols
-pub mod Targets
 pub mod Turns
 pub mod Writing

@@ -23,7 +23,7 @@ use dt_flat::FlatTree;
 use dt_listed::{
     CellText, cell_text, cell_texts_are_texts, cut, has_cell, symbol_path, texts, texts_are_one,
 };
-use dt_names::{Fault, FaultKind, NodeId, NodePath, Path, phandle_of};
+use dt_names::{Fault, FaultKind, NodeId, Path, PathRef, phandle_of};
 use std::alloc::Global;
 
 // The value of the property of whose cell a text tells, wherever in it the cell is.
@@ -33,7 +33,7 @@ fn value_of<'a>(object: &'a FlatTree, text: &[u8]) -> Option<&'a [u8]>
     object.validity();
     let (path, rest) = cut(text, b':')?;
     let (property, _) = cut(rest, b':')?;
-    let path = NodePath::new(path)?;
+    let path = PathRef::new(path)?;
     let node = node_of(object, &path)?;
     object.value(node, property)
 }

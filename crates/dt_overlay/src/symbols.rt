@@ -14,7 +14,7 @@ use crate::fragments::content_of;
 use crate::texts::node_of;
 use dt_flat::FlatTree;
 use dt_listed::cut;
-use dt_names::{Fault, FaultKind, NodeId, NodePath};
+use dt_names::{Fault, FaultKind, NodeId, PathRef};
 use memchr::memchr;
 use std::alloc::Global;
 
@@ -82,7 +82,7 @@ fn symbol_names(object: &FlatTree, text: &[u8]) -> SymbolNames
     if !is_within_fragment(object, text) {
         return SymbolNames::Nothing;
     }
-    let Some(path) = NodePath::new(text) else {
+    let Some(path) = PathRef::new(text) else {
         return SymbolNames::Missing;
     };
     match node_of(object, &path) {

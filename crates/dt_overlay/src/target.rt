@@ -40,15 +40,21 @@ pub trait Target {
         ensures { option_copied result ≡ value_in (reading self.now) path.now name.now };
 
     /// The path of the node that has the number as its `phandle` (Devicetree Specification v0.4, 2.3.3), None where none has it.
-    /// `NoMemory`: memory was refused.
+    ///
+    /// # Errors
+    ///
+    /// `NoMemory`, without a place.
     fn by_phandle(&self, alloc: Global, number: u32) -> Result<Option<Path>, Fault>
         ensures found { IfOk result (λ found. MatchOption found ((p : Names) → HasNumber (reading self.now) p number → ⊥)
             (λ path. HasNumber (reading self.now) path number)) }
         ensures refused { IfErr result (λ fault. (fault.kind ≡ NoMemory) × (fault.at ≡ None)) };
 
-    /// Sets a property of a path's node: one that is there keeps its place, a new one goes last. `BlobPhandle`: the property is
-    /// `phandle`, and the value isn't four bytes of a number from 1 to 0xfffffffe that no other node has; else `Limit`: there is no
-    /// room. `NoMemory`: memory was refused. At a fault the tree is unchanged.
+    /// Sets a property of a path's node: one that is there keeps its place, a new one goes last.
+    ///
+    /// # Errors
+    ///
+    /// `BlobPhandle` where the property is `phandle`, and the value isn't four bytes of a number from 1 to 0xfffffffe that no other node
+    /// has; else `Limit` where there is no room; and `NoMemory`. None has a place. At a fault the tree is unchanged.
     fn set_prop(&mut self, path: &Path, name: &PropName<'_>, value: &[u8]) -> Result<(), Fault>
         requires { stands_in (reading self.old) path.now ≡ true }
         ensures ok { OnOk result (reading self.new ≡ with_property_at path.now name.now value.now (reading self.old)) }
@@ -57,8 +63,12 @@ pub trait Target {
         ensures refused { IfErr result (λ fault.
             WhyNotSetAt (has_room self.old) fault.kind (reading self.old) path.now name.now value.now × (fault.at ≡ None)) };
 
-    /// Adds a child at the end of the children of a path's node. `Duplicate`: the node has a child of that name; else `Limit`: there is
-    /// no room, or the path has 64 names. `NoMemory`: memory was refused. At a fault the tree is unchanged.
+    /// Adds a child at the end of the children of a path's node.
+    ///
+    /// # Errors
+    ///
+    /// `Duplicate` where the node has a child of that name; else `Limit` where there is no room, or the path has 64 names; and `NoMemory`.
+    /// None has a place. At a fault the tree is unchanged.
     fn add_node(&mut self, parent: &Path, name: &NodeName<'_>) -> Result<(), Fault>
         requires { stands_in (reading self.old) parent.now ≡ true }
         ensures ok { OnOk result (reading self.new ≡ with_child_at parent.now name.now (reading self.old)) }
@@ -67,8 +77,11 @@ pub trait Target {
         ensures refused { IfErr result (λ fault.
             WhyNotAddedAt (has_room self.old) fault.kind (reading self.old) parent.now name.now × (fault.at ≡ None)) };
 
-    /// Writes a number, the highest byte first, at an offset of the value of a property of a path's node. Faults are those of
-    /// `set_prop` for the value that the property then has.
+    /// Writes a number, the highest byte first, at an offset of the value of a property of a path's node.
+    ///
+    /// # Errors
+    ///
+    /// Those of `set_prop` for the value that the property then has.
     fn patch_cell(
         &mut self,
         path: &Path,

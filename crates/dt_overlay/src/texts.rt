@@ -10,7 +10,7 @@ ghost use Rattle.dt_flat.specs.Arena.{node_from};
 ghost use Rattle.dt_names.specs.declared.fault.FaultKind.TheVariants.{NoMemory, Limit};
 
 use dt_flat::FlatTree;
-use dt_names::{Fault, NodeId, NodeName, NodePath, Path};
+use dt_names::{Fault, NodeId, NodeName, Path, PathRef};
 use std::alloc::{AllocError, Global};
 
 /// Is the value the text of a path with a NUL?
@@ -18,13 +18,13 @@ pub fn is_path_value(value: &[u8]) -> bool
     ensures { IsTrue result ↔ ((p : Names) × (value.now ≡ path_value p) × AllByRecursion IsNodeName p) }
 {
     match value.split_last() {
-        Some((0, text)) => NodePath::new(text).is_some(),
+        Some((0, text)) => PathRef::new(text).is_some(),
         _ => false,
     }
 }
 
 /// The node of a path.
-pub fn node_of(tree: &FlatTree, path: &NodePath<'_>) -> Option<NodeId>
+pub fn node_of(tree: &FlatTree, path: &PathRef<'_>) -> Option<NodeId>
     ensures { result ≡ node_from tree.now.slots 0 path.now }
 {
     let mut node = tree.root();

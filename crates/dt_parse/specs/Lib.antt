@@ -1,11 +1,6 @@
-pub use Rattle.dt_grammar.specs.Words
-pub use Rattle.dt_grammar.specs.Grammar
-pub use Rattle.dt_grammar.specs.Unchecked
-pub use Rattle.dt_grammar.specs.Strict
-pub use Rattle.dt_grammar.specs.Wanted
-pub use Rattle.dt_grammar.specs.Descent
-pub use Rattle.dt_grammar.specs.Faults
+-- what callers read, in this order
 pub mod Reading
+-- inside
 pub mod Machine
 pub mod Turns
 pub mod Standing

@@ -310,8 +310,9 @@ fn top_in(waiting: &Vec<Pending>) -> Option<Pending>
 /// Specification v0.4, 6.3). Answers its steps in postfix order, and the tokens behind it. However deep the parentheses are
 /// nested, nothing recurses; how many tokens they are and whether something divides by 0 isn't looked at.
 ///
-/// Refused are tokens that begin with no number, with `Syntax` and how many tokens are left from the first on at which none
-/// goes on; and, with `Memory`, any where memory is refused.
+/// # Errors
+///
+/// `Syntax` where the tokens begin with no number, and how many tokens are left from the first on at which none goes on; and `Memory`.
 pub(crate) fn primary<'a>(
     alloc: Global,
     tokens: &'a [Token],

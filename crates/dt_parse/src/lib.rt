@@ -1,4 +1,12 @@
-//! Sources of devicetree: the grammar of DTS version 1 (Devicetree Specification v0.4, chapter 6).
+//! Sources of devicetree: the grammar of DTS version 1 (Devicetree Specification v0.4, chapter 6). It answers a `Source`, which dt_items
+//! tells of, or the first fault and its place.
+//!
+//! ```text
+//! let source = parse(alloc, b"/dts-v1/; / { a: b { c = <(1 + 2) &a>; }; };")?;
+//! source.is_overlay()                     // false; source.items() are what it says, in its order
+//! ```
+//!
+//! Such a source is a case of grammar.cases, with the items that it says (docs/CASES.md).
 #![tactic(auto)]
 
 mod body;

@@ -163,21 +163,23 @@ fn fault_of(stop: Stop, text: &[u8], tokens: &[Token]) -> Fault
 /// What a text says in the grammar of DTS version 1 (Devicetree Specification v0.4, chapter 6). It is read from its first token
 /// to its last, once; however deep bodies and parentheses stand in each other, nothing recurses.
 ///
-/// Refused are a text without a token list, with the fault and the place of `dt_lex::tokens`: Limit, BadToken, BadInteger; and
-/// else the first token at which a fault shows, with its first byte as the place:
-/// - BadVersionTag: its first two tokens aren't `/dts-v1/` and `;`; the place is 0.
-/// - Syntax: no source begins with the tokens through this one, were a body's properties and children allowed in any order; or,
-///   with the text's length as the place, the text ends too early.
-/// - BadName: a name, a label, or a reference's label or path isn't one. What a name has to be depends on the token behind it;
-///   where that is Syntax, nothing.
-/// - BadReferenceWidth: a reference in a cell list whose elements aren't of 32 bits.
-/// - PropertyAfterNode: the `=` or `;` behind a property's name, or a `/delete-property/`, where a child or its deletion stood
-///   before in the body.
-/// - DivideByZero, OutOfRange: a number divides by 0, or doesn't fit its element; the second number of a reservation of two
-///   zeros, too.
-/// - Limit, without a place: the 1,025th token of a number, or the `{` of a body inside 65 others.
+/// # Errors
 ///
-/// NoMemory only where memory is refused.
+/// Those of `dt_lex::tokens`, with their places: `Limit`, `BadToken`, `BadInteger`; else the first token at which a fault shows, with its first
+/// byte as the place:
+/// - `BadVersionTag`: its first two tokens aren't `/dts-v1/` and `;`; the place is 0.
+/// - `Syntax`: no source begins with the tokens through this one, were a body's properties and children allowed in any order; or,
+///   with the text's length as the place, the text ends too early.
+/// - `BadName`: a name, a label, or a reference's label or path isn't one. What a name has to be depends on the token behind it;
+///   where that is Syntax, nothing.
+/// - `BadReferenceWidth`: a reference in a cell list whose elements aren't of 32 bits.
+/// - `PropertyAfterNode`: the `=` or `;` behind a property's name, or a `/delete-property/`, where a child or its deletion stood
+///   before in the body.
+/// - `DivideByZero`, `OutOfRange`: a number divides by 0, or doesn't fit its element; the second number of a reservation of two
+///   zeros, too.
+/// - `Limit`, without a place: the 1,025th token of a number, or the `{` of a body inside 65 others.
+///
+/// `NoMemory`, without a place, may be met at any time.
 pub fn parse<'a>(alloc: Global, text: &'a [u8]) -> Result<Source<'a>, Fault>
     // What is answered is what the text says in the grammar.
     ensures ok { IfOk result (λ s. IsParsed text.now s) }

@@ -5,7 +5,7 @@ ghost use Rattle.dt_grammar.specs.Unchecked.{a_path, path_of_names, ended_names}
 ghost use Rattle.dt_grammar.specs.Strict.{IsReferenceText};
 ghost use Rattle.dt_grammar.specs.Paths.{braced};
 
-use dt_names::NodePath;
+use dt_names::PathRef;
 
 /// What stands between `&{` and `}`; none where the bytes begin or end in another way.
 fn between_braces(bytes: &[u8]) -> Option<&[u8]>
@@ -19,9 +19,9 @@ fn between_braces(bytes: &[u8]) -> Option<&[u8]>
 }
 
 /// The path that a reference's bytes are by; none where they aren't `&{`, a path's text and `}`. Takes no memory.
-pub fn referred_path(bytes: &[u8]) -> Option<NodePath<'_>>
+pub fn referred_path(bytes: &[u8]) -> Option<PathRef<'_>>
     ensures { MatchOption result (¬ IsReferenceText a_path bytes.now)
         (λ path. IsReferenceText a_path bytes.now × (path ≡ path_of_names (ended_names (drop 3 bytes.now)))) }
 {
-    NodePath::new(between_braces(bytes)?)
+    PathRef::new(between_braces(bytes)?)
 }

@@ -1,3 +1,4 @@
+-- inside
 pub mod Asking
 pub mod Least
 pub mod Growth

@@ -30,8 +30,11 @@ impl Model for Numbering {
 
 /// The numbers of a tree's nodes (Devicetree Specification v0.4, 2.3.3): a node that has a label, to which a value refers,
 /// or in which a number is written gets one. A written number stays, and each other node gets, in preorder, the least
-/// number from 1 that is neither written nor given before (a choice of this project). `NoMemory`: memory was refused, and
-/// nothing else is in the way. The fault has no place.
+/// number from 1 that is neither written nor given before (a choice of this project).
+///
+/// # Errors
+///
+/// `NoMemory`, without a place.
 pub fn number(alloc: Global, tree: &NamedTree<'_>) -> Result<Numbering, Fault>
     ensures numbers { IfOk result (λ n. IsNumbering (asked_in (tree_of tree.now)) n) }
     ensures refused { IfErr result (λ fault. (fault.kind ≡ NoMemory) × (fault.at ≡ None)) }

@@ -1,3 +1,4 @@
-pub mod Laws
+-- what callers read, in this order
 pub mod Said
 pub mod Words
+pub mod Laws

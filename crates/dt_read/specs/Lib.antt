@@ -1,20 +1,22 @@
+-- what callers read, in this order
 pub mod Placed
 pub mod Marks
 pub mod Parsing
 pub mod Walked
+pub mod StepsLeft
+pub mod Kinds
+pub mod Pairs
+-- inside
 pub mod TreeCode
 pub mod TreeTokens
 pub mod Order
 pub mod View
-pub mod StepsLeft
-pub mod Kinds
 pub mod Scan
 pub mod Distinct
 pub mod Keys
 pub mod Filter
 pub mod Classes
 pub mod Phandle
-pub mod Pairs
+pub mod Growth
 pub mod Blocks
 pub mod Counting
-pub mod Growth

@@ -70,9 +70,12 @@ impl<'a> Blob<'a> {
     ghost use Rattle.dt_model.specs.Tree.{value_in, nodes_of};
     ghost use Rattle.dt_read.specs.Placed.{place_of, last_name, properties_at, child_names, first_place_of, names_behind};
 
-    /// Reads a blob (Devicetree Specification v0.4, chapter 5), or answers its first fault, in the order in which it is
-    /// read: the header, the reservations, the tokens of the structure block, names that differ, and phandles. A fault of a
-    /// token has the token's place; a limit hasn't. Takes no memory.
+    /// Reads a blob (Devicetree Specification v0.4, chapter 5). Takes no memory.
+    ///
+    /// # Errors
+    ///
+    /// The blob's first fault, in the order in which it is read: the header, the reservations, the tokens of the structure block, names
+    /// that differ, and phandles. A fault of a token has the token's place; a limit hasn't.
     pub fn check(bytes: &'a [u8]) -> Result<Blob<'a>, Fault>
         ensures reads { IfOk result (λ b. Reads bytes.now (reading_of b)) }
         ensures within { IfOk result (λ b. IsWithin bytes.now (reading_of b)) }
@@ -213,8 +216,11 @@ impl<'a> Blob<'a> {
         self.structure.steps_in(node)
     }
 
-    /// The tree as one that can be changed, with the order of its nodes and properties. It wants memory, and nothing else is
-    /// in its way.
+    /// The tree as one that can be changed, with the order of its nodes and properties.
+    ///
+    /// # Errors
+    ///
+    /// `NoMemory`, without a place.
     pub fn to_flat(&self, alloc: Global) -> Result<FlatTree, Fault>
         ensures reads { IfOk result (λ tree. reading tree ≡ reading_of self.now) }
         ensures refused { IfErr result (λ fault. (fault.kind ≡ NoMemory) × (fault.at ≡ None)) }

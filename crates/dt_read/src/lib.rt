@@ -1,4 +1,14 @@
-//! The checked reader of flattened devicetree blobs.
+//! The checked reader of flattened devicetree blobs (Devicetree Specification v0.4, chapter 5). A [`Blob`] is bytes that were checked once,
+//! whole; every look at it then gives parts of them, without memory. A node is named by its place, the offset of its first token in the
+//! blob: `root`, `child`, `children` and `next_sibling` give it, and so does each step of a walk.
+//!
+//! ```text
+//! let blob = Blob::check(bytes)?;                         // of the blob of `/dts-v1/; / { a = <1>; n { }; };`
+//! let node = blob.child(blob.root(), b"n");               // Some(place)
+//! let value = blob.value(blob.root(), b"a");              // Some([0, 0, 0, 1])
+//! ```
+//!
+//! Such blobs, damaged and whole, are cases of blobs.cases (docs/CASES.md).
 #![tactic(auto)]
 
 mod blob;

@@ -21,14 +21,11 @@ use Rattle.dt_lines.specs.Asked.{answer_words, WhyNoNode, WhyUnanswered}
 use Rattle.dt_lines.specs.Lines.{region_words, route_words}
 use Rattle.dt_lines.specs.declared.asking.Question.{Question}
 use Rattle.dt_lines.specs.declared.asking.Question.TheVariants as ask
-use Rattle.dt_chain.specs.Applied.{IsNoBlob, WhyNoBlobApplied}
-use Rattle.dt_chain.specs.Built.{WhyNoObject, WhyNoBlobBuilt}
-use Rattle.dt_chain.specs.Compiled as compiled
-use Rattle.dt_chain.specs.Compiled.{IsCompilerFault, WhyNoTree, WhyNotCompiled}
-use Rattle.dt_chain.specs.CompiledOverlay as overlay
-use Rattle.dt_chain.specs.CompiledOverlay.{WhyNotCompiledOverlay}
-use Rattle.dt_chain.specs.Inputs as inputs
-use Rattle.dt_chain.specs.Inputs.{WhyNoStep, WhyNoneOfAll, IsStopped}
+use Rattle.dt_chain.specs.Apply.{IsNoBlob, WhyNoBlobApplied, WhyNoStep, WhyNoneOfAll, IsStopped}
+use Rattle.dt_chain.specs.Build.{WhyNoObject, WhyNoBlobBuilt}
+use Rattle.dt_chain.specs.Compile as compile
+use Rattle.dt_chain.specs.Compile.{IsCompilerFault, WhyNoTree, WhyNotCompiled, WhyNotCompiledOverlay}
+use Rattle.dt_chain.specs.Apply as inputs
 use Rattle.dt_chain.proofs.OverlayStages as overlays
 use Rattle.dt_chain.proofs.Places.{memory_unplaced}
 use Rattle.dt_chain.proofs.Stages as bases
@@ -84,18 +81,18 @@ blob_not_applied = of_all no_blob no_blob
 
 no_tree : (mode : Mode) (text : List ℕ) (e : Fault) → WhyNoTree mode text e → IsOfInput e
 no_tree mode text e why =
-    let whole : WhyNotCompiled mode text e = compiled.no_tree e why in
+    let whole : WhyNotCompiled mode text e = compile.no_tree e why in
     (compiler_only e.kind (bases.compiler_kind mode text e whole), memory_unplaced mode text e whole)
 
 overlay_unplaced : (text : List ℕ) (e : Fault) → WhyNotCompiledOverlay text e → e.kind ≡ NoMemory → e.at ≡ None
-overlay_unplaced text _ overlay.no_memory h = refl
-overlay_unplaced text _ (overlay.refused s BadVersionTag parsed why) h = cc
-overlay_unplaced text _ (overlay.refused s _ parsed why) h = refl
-overlay_unplaced text _ (overlay.large t few more) h = refl
-overlay_unplaced text _ (overlay.big t few more) h = refl
+overlay_unplaced text _ compile.no_memory h = refl
+overlay_unplaced text _ (compile.refused s BadVersionTag parsed why) h = cc
+overlay_unplaced text _ (compile.refused s _ parsed why) h = refl
+overlay_unplaced text _ (compile.large t few more) h = refl
+overlay_unplaced text _ (compile.big t few more) h = refl
 
 no_object : (text : List ℕ) (e : Fault) → WhyNoObject text e → IsOfInput e
-no_object text e (inl why) = no_tree base text e (compiled.unparsed e why)
+no_object text e (inl why) = no_tree base text e (compile.unparsed e why)
 no_object text e (inr why) = (compiler_only e.kind (overlays.compiler_kind text e why), overlay_unplaced text e why)
 
 pub text_not_built : (text : List ℕ) (texts : List (List ℕ)) (k : ℕ) (e : Fault) → WhyNoBlobBuilt text texts k e → IsOfInput e

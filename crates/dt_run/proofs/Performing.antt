@@ -9,10 +9,10 @@ use Rattle.dt_names.specs.declared.fault.Fault.{Fault}
 use Rattle.dt_names.specs.declared.fault.FaultKind.{FaultKind}
 use Rattle.dt_names.specs.declared.fault.FaultKind.TheVariants.{NoMemory, WriteFault}
 use Rattle.dt_read.specs.Kinds.{kind_of}
-use Rattle.dt_chain.specs.Applied.{IsBlobApplied, WhyNoBlobApplied}
-use Rattle.dt_chain.specs.Blobs as blobs
-use Rattle.dt_chain.specs.Built.{IsBlobBuilt, WhyNoBlobBuilt}
-use Rattle.dt_chain.specs.Compiled.{IsCompiled, WhyNotCompiled, IsCompilerFault}
+use Rattle.dt_chain.specs.Apply.{IsBlobApplied, WhyNoBlobApplied}
+use Rattle.dt_chain.specs.Compile as compile
+use Rattle.dt_chain.specs.Build.{IsBlobBuilt, WhyNoBlobBuilt}
+use Rattle.dt_chain.specs.Compile.{IsCompiled, WhyNotCompiled, IsCompilerFault}
 use Rattle.dt_chain.proofs.Places.{memory_unplaced, blob_unplaced}
 use Rattle.dt_worlds.specs.Answers.{answer}
 use Rattle.dt_lines.specs.Asked as asked
@@ -24,9 +24,9 @@ use Rattle.dt_lines.specs.declared.listing.Listing.{Listing}
 use Rattle.dt_lines.specs.declared.listing.Listing.TheVariants.{Regions, Routes}
 use Rattle.dt_lines.proofs.Nodes.{all_are_begun}
 use Rattle.dt_model.specs.Tree.{nodes_of}
-use Rattle.dt_run.specs.Job.{IsBegun, IsListed, IsListedFirst, IsWritten, TakesMemory, WhyNoBlob, WhyNotMade, WhyNotPerformed, encoded}
+use Rattle.dt_run.specs.Job.{IsBegun, IsListed, IsListedFirst, IsWritten, TakesMemory, WhyNotMade, WhyNotPerformed, encoded}
+use Rattle.dt_streams.specs.Told.{WhyNoBlob, WhyNotTold, no_blob, cut}
 use Rattle.dt_run.specs.Showing.{WhyNotShown}
-use Rattle.dt_run.specs.Telling.{WhyNotTold, no_blob, cut}
 use Rattle.dt_words.specs.declared.command_line.Job.{Job}
 use Rattle.dt_words.specs.declared.command_line.Job.TheVariants.{Compile, CompileRaw, Apply, Build, Print, Check, Regs, Irqs, Dma, Spec}
 use Rattle.dt_run.proofs.InputFaults.{IsOfInput, blob_not_applied, compiler_only, inside, not_answered, text_not_built}
@@ -204,17 +204,6 @@ module _ (old new : Taken) (hex : Bool) (blob : List ℕ) (job : Job) (question 
       subst (λ (kind : FaultKind). WhyNotPerformed 0 kind fault.at job hex (blob ∷ []) old new) (sym refused.kind)
       (refl, refused.nowhere, line, begins job hex (blob ∷ []) line (tells line is), refused.cut)
 
--- ---- a text that tells of it
-
-module _ (bytes text : List ℕ) (Is : List ℕ → Type 0) (is : Is text) (old new : Taken) where
-  pub told : (r : Result (Unit {0}) Fault) → OnOk r (Takes text old new) → OnOk r ((t : List ℕ) × Is t × Takes t old new)
-  told (Ok done) taken = (text, is, taken)
-  told (Err fault) taken = tt
-
-  pub untold : (r : Result (Unit {0}) Fault) → IfErr r (λ fault. IsRefused fault text old new) → IfErr r (λ fault. WhyNotTold fault bytes Is old new)
-  untold (Ok done) refused = tt
-  untold (Err fault) refused = cut text is refused
-
 -- ---- the inputs
 
 pub only_first : (d : Bor (List ℕ)) (xs : List (Bor (List ℕ))) → length xs ≡ 1 → map (λ x. x.now) xs ≡ (get_or xs 0 d).now ∷ []
@@ -234,17 +223,17 @@ module _ (hex : Bool) (text : List ℕ) (done : Result (Vec ℕ Global) Fault) (
   abbrev OfFirst : Type 0
   OfFirst = MatchResult done (λ x. made ≡ Ok x) (λ fault. made ≡ Err (0, fault))
 
-  pub compiled : OfFirst → IfOk done (λ blob. blobs.IsBlobOf text blob.items) → IsMade Compile hex (text ∷ []) made
+  pub compiled : OfFirst → IfOk done (λ blob. compile.IsBlobOf text blob.items) → IsMade Compile hex (text ∷ []) made
   compiled same is = first_made done made (λ blob. IsWritten Compile hex (text ∷ []) (encoded hex blob.items)) same (go done is) where
-    go : (r : Result (Vec ℕ Global) Fault) → IfOk r (λ blob. blobs.IsBlobOf text blob.items) →
+    go : (r : Result (Vec ℕ Global) Fault) → IfOk r (λ blob. compile.IsBlobOf text blob.items) →
         IfOk r (λ blob. IsWritten Compile hex (text ∷ []) (encoded hex blob.items))
     go (Ok blob) is = (blob.items, is, refl)
     go (Err e) is = tt
 
-  pub not_compiled : OfFirst → IfErr done (λ e. blobs.WhyNoBlob text e) → IfErr done (λ e. IsCompilerFault e.kind) →
+  pub not_compiled : OfFirst → IfErr done (λ e. compile.WhyNoBlob text e) → IfErr done (λ e. IsCompilerFault e.kind) →
       IfErr made (λ e. IsInput Compile hex (text ∷ []) e.0 e.1)
   not_compiled same why own = first_refused done made (IsInput Compile hex (text ∷ [])) same (go done why own) where
-    go : (r : Result (Vec ℕ Global) Fault) → IfErr r (λ e. blobs.WhyNoBlob text e) → IfErr r (λ e. IsCompilerFault e.kind) →
+    go : (r : Result (Vec ℕ Global) Fault) → IfErr r (λ e. compile.WhyNoBlob text e) → IfErr r (λ e. IsCompilerFault e.kind) →
         IfErr r (λ e. IsInput Compile hex (text ∷ []) 0 e)
     go (Ok blob) why own = tt
     go (Err e) why own = (omega arith, (compiler_only e.kind own, blob_unplaced text e why), (refl, why, own))

@@ -4,7 +4,7 @@ use Rattle.dt_names.specs.declared.fault.Fault.{Fault}
 use Rattle.dt_names.specs.declared.fault.FaultKind.TheVariants.{NoMemory}
 use Rattle.dt_names.specs.Sink.{Taken}
 use Rattle.dt_names.proofs.Faults.{own_placeless, is_placeless}
-use Rattle.dt_run.specs.Files.{Tells, AreLoaded, WhyNotLoaded}
+use Rattle.dt_streams.specs.Files.{Loads, AreLoaded, WhyNotLoaded}
 use Rattle.dt_run.specs.Job.{WhyNotPerformed}
 use Rattle.dt_run.specs.Run.{WhyNotDone, WhyNotMadeOf, names_of, no_memory, unperformed, unloaded, unmade}
 use Rattle.dt_words.specs.declared.command_line.Line.{Line}
@@ -21,16 +21,16 @@ pub unmade_here : (line : Line) (texts : List (List ℕ)) (sink : Taken) (fault 
 unmade_here line texts sink fault kind at =
     subst (λ (f : Fault). WhyNotMadeOf line texts sink sink 0 f) (sym (is_placeless fault NoMemory kind at)) (no_memory refl)
 
-pub undone_of : {V : Type 0} (tells : Tells) (line : Line) (names given texts : List (List ℕ)) (old new : Taken) (result : Result V (ℕ × Fault)) →
-    names ≡ names_of line → given ≡ texts → AreLoaded tells names texts → IfErr result (λ e. WhyNotMadeOf line given old new e.0 e.1) →
-    IfErr result (λ e. WhyNotDone tells line old new e.0 e.1)
-undone_of tells line names given texts old new (Ok v) own same loaded why = why
-undone_of tells line names given texts old new (Err e) own same loaded why =
-    unmade texts e.0 e.1 (subst (λ (ns : List (List ℕ)). AreLoaded tells ns texts) own loaded)
+pub undone_of : {F : Type 0} {V : Type 0} (loads : Loads F) (before behind : F) (line : Line) (names given texts : List (List ℕ)) (old new : Taken) (result : Result V (ℕ × Fault)) →
+    names ≡ names_of line → given ≡ texts → AreLoaded loads names before texts behind → IfErr result (λ e. WhyNotMadeOf line given old new e.0 e.1) →
+    IfErr result (λ e. WhyNotDone loads before behind line old new e.0 e.1)
+undone_of loads before behind line names given texts old new (Ok v) own same loaded why = why
+undone_of loads before behind line names given texts old new (Err e) own same loaded why =
+    unmade texts e.0 e.1 (subst (λ (ns : List (List ℕ)). AreLoaded loads ns before texts behind) own loaded)
     (subst (λ (ts : List (List ℕ)). WhyNotMadeOf line ts old new e.0 e.1) same why)
 
-pub not_loaded : (tells : Tells) (line : Line) (names : List (List ℕ)) (sink : Taken) (k : ℕ) (fault : Fault) → names ≡ names_of line →
-    WhyNotLoaded tells names k fault.kind → fault.at ≡ None → WhyNotDone tells line sink sink k fault
-not_loaded tells line names sink k fault own why at =
-    subst (λ (f : Fault). WhyNotDone tells line sink sink k f) (sym (own_placeless fault at))
-    (unloaded k fault.kind (subst (λ (ns : List (List ℕ)). WhyNotLoaded tells ns k fault.kind) own why) refl)
+pub not_loaded : {F : Type 0} (loads : Loads F) (before behind : F) (line : Line) (names : List (List ℕ)) (sink : Taken) (k : ℕ) (fault : Fault) → names ≡ names_of line →
+    WhyNotLoaded loads names k before fault.kind behind → fault.at ≡ None → WhyNotDone loads before behind line sink sink k fault
+not_loaded loads before behind line names sink k fault own why at =
+    subst (λ (f : Fault). WhyNotDone loads before behind line sink sink k f) (sym (own_placeless fault at))
+    (unloaded k fault.kind (subst (λ (ns : List (List ℕ)). WhyNotLoaded loads ns k before fault.kind behind) own why) refl)

@@ -11,10 +11,10 @@ use Rattle.dt_names.specs.declared.fault.FaultKind.{FaultKind}
 use Rattle.dt_names.specs.declared.fault.FaultKind.TheVariants.{NoMemory, WriteFault}
 use Rattle.dt_model.specs.Printed.{printed}
 use Rattle.dt_read.specs.Kinds.{kind_of}
-use Rattle.dt_chain.specs.Applied.{IsBlobApplied, WhyNoBlobApplied}
-use Rattle.dt_chain.specs.Blobs as blobs
-use Rattle.dt_chain.specs.Built.{IsBlobBuilt, WhyNoBlobBuilt}
-use Rattle.dt_chain.specs.Compiled.{IsCompiled, WhyNotCompiled, IsCompilerFault}
+use Rattle.dt_chain.specs.Apply.{IsBlobApplied, WhyNoBlobApplied}
+use Rattle.dt_chain.specs.Compile as compile
+use Rattle.dt_chain.specs.Build.{IsBlobBuilt, WhyNoBlobBuilt}
+use Rattle.dt_chain.specs.Compile.{IsCompiled, WhyNotCompiled, IsCompilerFault}
 use Rattle.dt_worlds.specs.Answers.{answer}
 use Rattle.dt_lines.specs.Asked.{IsAnswer, WhyUnanswered}
 use Rattle.dt_lines.specs.Listed.{AreLinesOf, AreFirstOf}
@@ -22,32 +22,13 @@ use Rattle.dt_lines.specs.declared.asking.Question.{Question}
 use Rattle.dt_lines.specs.declared.asking.Question.TheVariants as ask
 use Rattle.dt_lines.specs.declared.listing.Listing.{Listing}
 use Rattle.dt_lines.specs.declared.listing.Listing.TheVariants.{Regions, Routes}
+use Rattle.dt_streams.specs.Told.{IsPrinted, IsCounted, WhyNoBlob}
 use Rattle.dt_words.specs.declared.command_line.Job.{Job}
 use Rattle.dt_words.specs.declared.command_line.Job.TheVariants.{Compile, CompileRaw, Apply, Build, Print, Check, Regs, Irqs, Dma, Spec}
 
 -- how a blob is written: as it is, or as hexadecimal and a line feed
 abbrev pub encoded : Bool → List ℕ → List ℕ
 encoded hex blob = if hex then encode_lower blob ++ 10 ∷ [] else blob
-
--- the source of a blob's tree
-pub record IsPrinted (blob text : List ℕ) : Type 0 where
-  pub tree : Reading
-  pub reads : Reads blob tree
-  pub within : IsWithin blob tree
-  pub is : text ≡ printed tree
-
--- `ok nodes N properties P reservations R`, and a line feed
-abbrev pub counts_line : Reading → List ℕ
-counts_line t =
-    codes "ok nodes " ++ decimal (length (nodes_of t)) ++ codes " properties "
-    ++ decimal (sum_by (λ n. length n.properties) (nodes_of t)) ++ codes " reservations " ++ decimal (length t.reservations) ++ 10 ∷ []
-
--- the line of a blob's tree
-pub record IsCounted (blob bytes : List ℕ) : Type 0 where
-  pub tree : Reading
-  pub reads : Reads blob tree
-  pub within : IsWithin blob tree
-  pub line : bytes ≡ counts_line tree
 
 -- the lines of a blob's regions, or of its routes
 abbrev pub IsListed : Listing → (blob bytes : List ℕ) → Type 0
@@ -73,7 +54,7 @@ IsToldOfSpecifier path property kind index blob bytes = (question : Question) ×
 -- objects applied, or with the overlays of sources; the source of a blob; a line; the lines of its regions or routes; or the line of
 -- what one of its nodes answers.
 abbrev pub IsWritten : Job → Bool → List (List ℕ) → List ℕ → Type 0
-IsWritten Compile hex (text ∷ []) bytes = (blob : List ℕ) × blobs.IsBlobOf text blob × (bytes ≡ encoded hex blob)
+IsWritten Compile hex (text ∷ []) bytes = (blob : List ℕ) × compile.IsBlobOf text blob × (bytes ≡ encoded hex blob)
 IsWritten Compile hex _ bytes = ⊥
 IsWritten CompileRaw hex (text ∷ []) bytes = (blob : List ℕ) × IsCompiled raw text blob × (bytes ≡ encoded hex blob)
 IsWritten CompileRaw hex _ bytes = ⊥
@@ -109,13 +90,9 @@ IsBegun Irqs hex _ bytes = ⊥
 IsBegun (Dma path address size) hex inputs bytes = IsWritten (Dma path address size) hex inputs bytes
 IsBegun (Spec path property kind index) hex inputs bytes = IsWritten (Spec path property kind index) hex inputs bytes
 
--- the fault is the first one of bytes that are no blob
-abbrev pub WhyNoBlob : FaultKind → Option ℕ → List ℕ → Type 0
-WhyNoBlob kind at bytes = (f : BlobFault) × (kind ≡ kind_of f) × IsFirstFault bytes f at
-
 -- why an input, counted from 0, is refused
 abbrev pub WhyNotMade : ℕ → FaultKind → Option ℕ → Job → List (List ℕ) → Type 0
-WhyNotMade k kind at Compile (text ∷ []) = (k ≡ 0) × blobs.WhyNoBlob text (record { kind = kind; at = at }) × IsCompilerFault kind
+WhyNotMade k kind at Compile (text ∷ []) = (k ≡ 0) × compile.WhyNoBlob text (record { kind = kind; at = at }) × IsCompilerFault kind
 WhyNotMade k kind at Compile _ = ⊥
 WhyNotMade k kind at CompileRaw (text ∷ []) = (k ≡ 0) × WhyNotCompiled raw text (record { kind = kind; at = at }) × IsCompilerFault kind
 WhyNotMade k kind at CompileRaw _ = ⊥

@@ -1,7 +1,5 @@
-pub mod Files
+-- what callers read, in this order
 pub mod Job
-pub mod Checking
-pub mod Showing
 pub mod Run
-pub mod Report
-pub mod Telling
+-- inside
+pub mod Showing

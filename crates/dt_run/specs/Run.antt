@@ -6,9 +6,9 @@ use Rattle.dt_names.specs.Sink.{Taken, Takes, IsUntouched, IsCutShort}
 use Rattle.dt_names.specs.declared.fault.Fault.{Fault}
 use Rattle.dt_names.specs.declared.fault.FaultKind.{FaultKind}
 use Rattle.dt_names.specs.declared.fault.FaultKind.TheVariants.{NoMemory}
-use Rattle.dt_run.specs.Files.{Tells, AreLoaded, WhyNotLoaded}
+use Rattle.dt_streams.specs.Files.{Loads, AreLoaded, WhyNotLoaded}
 use Rattle.dt_run.specs.Job.{IsWritten, WhyNotPerformed}
-use Rattle.dt_run.specs.Report.{fault_line}
+use Rattle.dt_streams.specs.Report.{fault_line}
 use Rattle.dt_words.specs.declared.command_line.Line.{Line}
 use Rattle.dt_words.specs.declared.words.LineFault.{LineFault}
 use Rattle.dt_words.specs.declared.words.LineFault.TheVariants.{Memory, Words}
@@ -32,19 +32,19 @@ pub data WhyNotMadeOf (line : Line) (texts : List (List ℕ)) (old new : Taken) 
       WhyNotMadeOf line texts old new k fault
 
 -- the line's job was done on what is loaded for its files
-pub record IsDone (tells : Tells) (line : Line) (old new : Taken) : Type 0 where
+pub record IsDone {F : Type 0} (loads : Loads F) (before behind : F) (line : Line) (old new : Taken) : Type 0 where
   pub texts : List (List ℕ)
-  pub loaded : AreLoaded tells (names_of line) texts
+  pub loaded : AreLoaded loads (names_of line) before texts behind
   pub made : IsMadeOf line texts old new
 
 -- why it wasn't, and of which input
-pub data WhyNotDone (tells : Tells) (line : Line) (old new : Taken) : ℕ → Fault → Type 0 where
+pub data WhyNotDone {F : Type 0} (loads : Loads F) (before behind : F) (line : Line) (old new : Taken) : ℕ → Fault → Type 0 where
   -- a file isn't loaded, and nothing was written
-  unloaded : (k : ℕ) (kind : FaultKind) → WhyNotLoaded tells (names_of line) k kind → IsUntouched old new →
-      WhyNotDone tells line old new k (placeless kind)
+  unloaded : (k : ℕ) (kind : FaultKind) → WhyNotLoaded loads (names_of line) k before kind behind → IsUntouched old new →
+      WhyNotDone loads before behind line old new k (placeless kind)
   -- all are, but the job isn't done on them
-  unmade : (texts : List (List ℕ)) (k : ℕ) (fault : Fault) → AreLoaded tells (names_of line) texts →
-      WhyNotMadeOf line texts old new k fault → WhyNotDone tells line old new k fault
+  unmade : (texts : List (List ℕ)) (k : ℕ) (fault : Fault) → AreLoaded loads (names_of line) before texts behind →
+      WhyNotMadeOf line texts old new k fault → WhyNotDone loads before behind line old new k fault
 
 -- how a run ends
 pub data Ending : Type 0 where
@@ -61,13 +61,14 @@ status_of done = 0
 status_of (faulty input fault) = 1
 status_of (no_command error) = 2
 
--- a run on this answer to the words of the command line, and on these files, ends so, and writes this
-abbrev pub Ends : Tells → Result Line LineFault → (old new : Taken) → Ending → Type 0
-Ends tells line old new done = (asked : Line) × (line ≡ Ok asked) × IsDone tells asked old new
-Ends tells line old new (faulty k fault) =
-    ((line ≡ Err Memory) × (k ≡ 0) × (fault ≡ placeless NoMemory) × IsUntouched old new)
-    ⊎ ((asked : Line) × (line ≡ Ok asked) × WhyNotDone tells asked old new k fault)
-Ends tells line old new (no_command error) = (line ≡ Err (Words error)) × IsUntouched old new
+-- A run on this answer to the words of the command line, and on these files, ends so, and writes this: the files are loaded before anything is
+-- written, and none is asked for where the words are no command.
+abbrev pub Ends : {F : Type 0} → Loads F → (before behind : F) → Result Line LineFault → (old new : Taken) → Ending → Type 0
+Ends loads before behind line old new done = (asked : Line) × (line ≡ Ok asked) × IsDone loads before behind asked old new
+Ends loads before behind line old new (faulty k fault) =
+    ((line ≡ Err Memory) × (k ≡ 0) × (fault ≡ placeless NoMemory) × IsUntouched old new × (behind ≡ before))
+    ⊎ ((asked : Line) × (line ≡ Ok asked) × WhyNotDone loads before behind asked old new k fault)
+Ends loads before behind line old new (no_command error) = (line ≡ Err (Words error)) × IsUntouched old new × (behind ≡ before)
 
 -- a sink got all of a text, and works as before; or a front of it, and has failed
 abbrev pub IsSaid : List ℕ → (old new : Taken) → Type 0

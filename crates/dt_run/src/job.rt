@@ -6,12 +6,11 @@ ghost use Rattle.dt_lines.specs.declared.asking.Question.TheVariants.{Dma};
 ghost use Rattle.dt_run.specs.Job.{IsOfSpecifier, IsWritten, WhyNotPerformed};
 ghost use Rattle.dt_words.specs.Asked.{IsAsked};
 
-use crate::checking::check;
-use crate::printing::print;
 use crate::showing::{of_first, show};
 use dt_chain::{apply_list, build, compile, compile_raw};
 use dt_lines::{Question, ask, irqs, regs};
 use dt_names::{Fault, Sink};
+use dt_streams::{check, print};
 use dt_words::Job;
 use std::alloc::Global;
 

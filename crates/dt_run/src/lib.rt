@@ -1,19 +1,16 @@
 //! A run of the tool, from the words of its command line on: the line that they ask for, the files that it names, the job that is done on
-//! them, and how a fault is told. It is proved over any files and any sinks; `dtool` gives it the system's.
+//! them, and how a fault is told. It is proved over any [`Files`] and any sinks; `dtool` gives it the system's.
+//!
+//! ```text
+//! run(alloc, line(alloc, words), &mut files, &mut out, &mut err)
+//! // the exit status: 0; 1 at a fault, which err is told as `dtool: input 0: fault 24 UnresolvedReference`; 2 where the words are no command
+//! ```
 #![tactic(auto)]
 
-mod checking;
-mod files;
 mod job;
-mod printing;
-mod prompt;
-mod reporting;
 mod running;
 mod showing;
-mod text;
 
-pub use files::{Files, SystemFiles, load_all};
+pub use dt_streams::{Files, Prompt, SystemFiles, load_all, report};
 pub use job::perform;
-pub use prompt::Prompt;
-pub use reporting::report;
 pub use running::run;

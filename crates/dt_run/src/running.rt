@@ -2,15 +2,14 @@
 
 ghost use Rattle.std.specs.Prelude.{◌≡◌, OnOk, IfErr, length, map};
 ghost use Rattle.dt_run.specs.Run.{Ending, Ends, IsDone, IsMadeOf, IsReported, IsSaid, WhyNotDone, WhyNotMadeOf, faulty, names_of, no_command, status_of};
-ghost use Rattle.dt_run.specs.Report.{fault_line};
+ghost use Rattle.dt_streams.specs.Report.{fault_line};
 
-use crate::files::{Files, load_all, slices};
 use crate::job::perform;
-use crate::reporting::report;
 use clap::Error;
 use dt_names::{Fault, FaultKind, Sink, put_all};
+use dt_streams::{Files, load_all, report};
 use dt_words::{Line, LineFault};
-use std::alloc::Global;
+use std::alloc::{AllocError, Global};
 use std::fmt::Display;
 
 /// Loads the files of a line in order, before anything else, and does its job on them. Answers the exit status: 0; 1 at a fault, which
@@ -24,7 +23,7 @@ pub fn run<'a, F: Files, O: Sink, E: Sink>(
     err: &mut E,
 ) -> u8
     ensures { (ending : Ending) × (result ≡ status_of ending)
-        × Ends (F.tells files.old) line.entry (O.taken out.old) (O.taken out.new) ending
+        × Ends F.loads files.old files.new line.entry (O.taken out.old) (O.taken out.new) ending
         × IsReported (⟦<Error as Display>⟧.output) ending (E.taken err.old) (E.taken err.new) }
 {
     match line {
@@ -44,8 +43,8 @@ fn work<F: Files, O: Sink>(
     files: &mut F,
     out: &mut O,
 ) -> Result<(), (usize, Fault)>
-    ensures done { OnOk result (IsDone (F.tells files.old) line.now (O.taken out.old) (O.taken out.new)) }
-    ensures refused { IfErr result (λ e. WhyNotDone (F.tells files.old) line.now (O.taken out.old) (O.taken out.new) e.0 e.1) }
+    ensures done { OnOk result (IsDone F.loads files.old files.new line.now (O.taken out.old) (O.taken out.new)) }
+    ensures refused { IfErr result (λ e. WhyNotDone F.loads files.old files.new line.now (O.taken out.old) (O.taken out.new) e.0 e.1) }
 {
     let texts = load_all(alloc, files, line.files.as_slice())?;
     answer(alloc, line, texts.as_slice(), out)
@@ -66,6 +65,13 @@ fn answer<O: Sink>(
         Ok(inputs) => perform(alloc, line.job, line.hex, inputs.as_slice(), out),
         Err(_) => Err((0, Fault::of(FaultKind::NoMemory))),
     }
+}
+
+/// The bytes of the texts.
+fn slices<'a>(alloc: Global, texts: &'a [Vec<u8>]) -> Result<Vec<&'a [u8]>, AllocError>
+    ensures { IfOk result (λ inputs. map (λ input. input.now) inputs.items ≡ map (λ text. text.items) texts.entry.now) }
+{
+    texts.iter().map(|text| text.as_slice()).collect(alloc)
 }
 
 /// Tells a fault of an input, and answers the exit status.

@@ -8,7 +8,7 @@ use Rattle.dt_model.specs.Source.{Mode}
 use Rattle.dt_laws.specs.CompiledTrees.{RefusalIsOne}
 use Rattle.dt_laws.specs.NamedTrees.{NamedIsNotRefused}
 use Rattle.dt_grammar.specs.Grammar.{Says}
-use Rattle.dt_source.specs.Building.{HasTree}
+use Rattle.dt_source.specs.Meant.{HasTree}
 use Rattle.dt_source.specs.Refusals.{WhyNotNamed, IsFaultOf, fault_of}
 
 -- memory is wanted; or it is an overlay's; or its places are refused

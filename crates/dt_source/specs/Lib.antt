@@ -1,8 +1,11 @@
+-- what callers read, in this order
+pub mod Refusals
+pub mod Meant
+-- inside
 pub mod Grown
-pub mod Growing
 pub mod Table
 pub mod Shape
-pub mod Refusals
+pub mod Growing
 pub mod Reading
 pub mod Owned
 pub mod Listing

@@ -9,7 +9,7 @@ ghost use Rattle.dt_source.specs.OverlayReading.{target_value};
 
 use dt_fragments::fragment_names;
 use dt_items::{Form, Item, Piece, Reference, Value};
-use dt_names::{Label, NodePath};
+use dt_names::{Label, PathRef};
 use std::alloc::{AllocError, Global};
 
 /// Names for new fragments, in the order in which they get them, and what the target of each block holds.
@@ -52,7 +52,7 @@ fn cell_of<'a>(alloc: Global, label: &Label<'a>) -> Result<Value<'a>, AllocError
 }
 
 /// The text of a path, and a NUL.
-fn text_of<'a>(alloc: Global, path: &NodePath<'_>) -> Result<Value<'a>, AllocError>
+fn text_of<'a>(alloc: Global, path: &PathRef<'_>) -> Result<Value<'a>, AllocError>
     ensures { IfOk result (λ value. value_said value ≡ map one (path_value path.now)) }
 {
     let mut bytes = path.text().to_vec(alloc)?;

@@ -5,7 +5,8 @@ ghost use Rattle.dt_model.specs.Limits.{most_nodes};
 ghost use Rattle.dt_model.specs.Named.{tree_of};
 ghost use Rattle.dt_names.specs.declared.fault.FaultKind.TheVariants.{Limit};
 ghost use Rattle.dt_items.specs.Said.{place_said, reservation_said};
-ghost use Rattle.dt_source.specs.Building.{AreNodesOf, MayBeWhole, HasTree};
+ghost use Rattle.dt_source.specs.Building.{AreNodesOf, MayBeWhole};
+ghost use Rattle.dt_source.specs.Meant.{HasTree};
 ghost use Rattle.dt_source.specs.Refusals.{mode_said, WhyNotNamed, WhyNotRead, place_of};
 ghost use Rattle.dt_named.specs.Said.{IsTree, list_said, node_said};
 

@@ -6,8 +6,8 @@ ghost use Rattle.dt_model.specs.NamedOverlay.{NamedFragment};
 ghost use Rattle.dt_model.specs.Source.{Mode};
 ghost use Rattle.dt_names.specs.Fault.{IsExclusive, IsOneRefusal};
 ghost use Rattle.dt_grammar.specs.Grammar.{Says};
-ghost use Rattle.dt_source.specs.Building.{HasTree};
-ghost use Rattle.dt_source.specs.Fragments.{HasOverlay};
+ghost use Rattle.dt_source.specs.Meant.{HasTree};
+ghost use Rattle.dt_source.specs.Meant.{HasOverlay};
 ghost use Rattle.dt_source.specs.Refusals.{WhyNotNamed, WhyNoOverlay};
 
 use dt_laws::{

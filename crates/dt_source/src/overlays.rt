@@ -10,7 +10,8 @@ ghost use Rattle.dt_names.specs.declared.fault.FaultKind.TheVariants.{Limit};
 ghost use Rattle.dt_items.specs.Said.{place_said};
 ghost use Rattle.dt_source.specs.Building.{MayBeWhole};
 ghost use Rattle.dt_fragments.specs.Fragments.{fragment_said};
-ghost use Rattle.dt_source.specs.Fragments.{ListedOverlay, AreOverlayNodes};
+ghost use Rattle.dt_source.specs.Fragments.{AreOverlayNodes};
+ghost use Rattle.dt_source.specs.Meant.{ListedOverlay};
 ghost use Rattle.dt_source.specs.Refusals.{WhyNoOverlay, WhyNoOverlayRead, place_of};
 ghost use Rattle.dt_named.specs.Said.{IsTree, list_said, node_said};
 
@@ -39,7 +40,7 @@ pub struct NamedOverlay<'a> {
 impl<'a> Model for NamedOverlay<'a> {
     ghost use Rattle.std.specs.Prelude.{map};
     ghost use Rattle.dt_fragments.specs.Fragments.{fragment_said};
-    ghost use Rattle.dt_source.specs.Fragments.{ListedOverlay};
+    ghost use Rattle.dt_source.specs.Meant.{ListedOverlay};
 
     ghost Value = { ListedOverlay };
 

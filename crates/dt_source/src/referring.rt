@@ -10,7 +10,7 @@ ghost use Rattle.dt_source.specs.Shape.{given_at};
 
 use crate::growing::Growing;
 use dt_items::Reference;
-use dt_names::NodePath;
+use dt_names::PathRef;
 
 /// How a cell's reference by a label that names no node is read.
 #[derive(Clone, Copy)]
@@ -60,7 +60,7 @@ impl<'s, 'a> Growing<'s, 'a> {
     }
 
     /// The node of a path.
-    fn at_path(&self, path: &NodePath<'_>) -> Option<usize>
+    fn at_path(&self, path: &PathRef<'_>) -> Option<usize>
         requires { IsSound self.now }
         ensures { MatchOption result ((node : ℕ) → ¬ Leads self.now.nodes.items (reverse path.now) node)
             (Leads self.now.nodes.items (reverse path.now)) }

@@ -1,3 +1,5 @@
+-- what callers read, in this order
 pub mod Views
+-- inside
 pub mod Tables
 pub mod Trees

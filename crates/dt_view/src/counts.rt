@@ -19,7 +19,11 @@ const MOST_CELLS: u32 = 4;
 /// The text `pci` with its NUL, as one cell.
 const PCI: u32 = 0x7063_6900;
 
-/// The number in a value of four bytes. `BadCells` where it has another length.
+/// The number in a value of four bytes.
+///
+/// # Errors
+///
+/// `BadCells`, without a place, where it has another length.
 pub fn one_cell(value: &[u8]) -> Result<u32, Fault>
     ensures is { told result ≡ only_number (value_of_bytes value.now) }
     ensures kind { IfErr result (λ fault. fault.kind ≡ BadCells) }

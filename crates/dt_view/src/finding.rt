@@ -5,10 +5,10 @@ ghost use Rattle.dt_read.specs.Placed.{place_of, IsNode};
 ghost use Rattle.dt_view.specs.Views.{IsFoundBy, WhyNotFound};
 
 use crate::view::TreeView;
-use dt_names::{Fault, FaultKind, NodeId, NodePath};
+use dt_names::{Fault, FaultKind, NodeId, PathRef};
 
 // The node of a path.
-fn node_of<V: TreeView>(view: &V, path: &NodePath<'_>) -> Option<NodeId>
+fn node_of<V: TreeView>(view: &V, path: &PathRef<'_>) -> Option<NodeId>
     ensures is { result ≡ place_of (V.tree view.now) path.now }
     ensures node { IfSome result (IsNode (V.tree view.now)) }
 {
@@ -31,7 +31,7 @@ pub fn node_at<V: TreeView>(view: &V, text: &[u8]) -> Result<NodeId, Fault>
     ensures node { IfOk result (IsNode (V.tree view.now)) }
     ensures refused { IfErr result (λ fault. WhyNotFound fault.kind (V.tree view.now) text.now × (fault.at ≡ None)) }
 {
-    let Some(path) = NodePath::new(text) else {
+    let Some(path) = PathRef::new(text) else {
         return Err(Fault::of(FaultKind::BadName));
     };
     node_of(view, &path).ok_or(Fault::of(FaultKind::NoNode))

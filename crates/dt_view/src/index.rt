@@ -48,7 +48,11 @@ impl<'a> Index<'a> {
     ghost use Rattle.dt_read.specs.Placed.{last_name, path_at, place_of, reading_of, IsAt, IsNode};
     ghost use Rattle.dt_view.specs.Views.{first_child_of, next_sibling_of, IsAbove};
 
-    /// Makes the index of a blob, in one walk through its tree. It wants memory, and nothing else is in its way.
+    /// Makes the index of a blob, in one walk through its tree.
+    ///
+    /// # Errors
+    ///
+    /// `NoMemory`, without a place.
     pub fn new(alloc: Global, blob: &'a Blob<'a>) -> Result<Index<'a>, Fault>
         ensures is { IfOk result (λ index. index ≡ blob.now) }
         ensures refused { IfErr result (λ fault. (fault.kind ≡ NoMemory) × (fault.at ≡ None)) }

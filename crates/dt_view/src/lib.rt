@@ -1,4 +1,13 @@
-//! Trees as the resolvers of addresses and interrupts see them, whatever holds them.
+//! Trees as the resolvers of addresses and interrupts see them, whatever holds them. A [`TreeView`] is a `Blob`, a `FlatTree` or an
+//! [`Index`], a blob with tables in which the node above and the node of a phandle are found at once; a node is named as its own crate names
+//! it, and `node_at` finds the one of a path's text.
+//!
+//! ```text
+//! let node = node_at(&blob, b"/ab/x/y")?;     // of `/dts-v1/; / { p; a { q; }; ab { x { y { }; }; z { }; }; b@1 { }; };`
+//! let above = blob.parent(node);              // that of /ab/x
+//! ```
+//!
+//! Such looks are cases of views.cases (docs/CASES.md).
 #![tactic(auto)]
 
 mod blob;

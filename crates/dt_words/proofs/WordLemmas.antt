@@ -48,8 +48,9 @@ module _ (app : App) (same : app ≡ dtool) (words : List Text) where
 
 -- ---- what is found
 
-pub is_flag : (f : Found) (flag : Text) (is : Bool) → (one_text f flag ≡ Some (codes "true") → is ≡ true) → (one_text f flag ≡ Some (codes "false") → is ≡ false) → IsFlag flag (rows_of f) is
-is_flag f flag is there not_there = record {
+pub is_flag : (f : Found) (flag : Text) (is : Bool) → (one_text f flag ≡ None → is ≡ false) → (one_text f flag ≡ Some (codes "true") → is ≡ true) → (one_text f flag ≡ Some (codes "false") → is ≡ false) → IsFlag flag (rows_of f) is
+is_flag f flag is none there not_there = record {
+  none = λ e. none (one_text-rows f flag ∙ e);
   there = λ e. there (one_text-rows f flag ∙ e);
   not_there = λ e. not_there (one_text-rows f flag ∙ e);
 }

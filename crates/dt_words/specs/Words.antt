@@ -1,5 +1,5 @@
 -- What the words of a command line ask for, as clap reads them.
-use Rattle.std.specs.Prelude.{◌≡◌, ◌≢◌, ◌⊎◌, ◌<◌, ◌-◌, ◌^◌, ℕ, [], ◌∷◌, List, Bool, Option, Some, true, false, codes, map, unwrap_or, if◌then◌else◌}
+use Rattle.std.specs.Prelude.{◌≡◌, ◌≢◌, ◌⊎◌, ◌<◌, ◌-◌, ◌^◌, ℕ, [], ◌∷◌, List, Bool, Option, Some, None, true, false, codes, map, unwrap_or, if◌then◌else◌}
 use Rattle.std.specs.Borrow.{Bor}
 use Rattle.std.specs.Str.Parse.{IsNumeral, digits_value, without_leading_plus}
 use Rattle.clap.specs.declared.builder.command.Command.{Command, out-Command}
@@ -112,6 +112,7 @@ command_of (Spec path property kind index) = codes "spec"
 
 -- a flag is there or not, as this says
 pub record IsFlag (flag : Text) (rows : List Row) (is : Bool) : Type 0 where
+  pub none : one_of flag rows ≡ None → is ≡ false
   pub there : one_of flag rows ≡ Some (codes "true") → is ≡ true
   pub not_there : one_of flag rows ≡ Some (codes "false") → is ≡ false
 

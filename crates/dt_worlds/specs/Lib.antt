@@ -1,3 +1,4 @@
+-- what callers read, in this order
 pub mod Answers
 pub mod Above
 pub mod World

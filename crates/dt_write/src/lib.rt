@@ -1,4 +1,11 @@
 //! A tree as a blob, the flattened format of the Devicetree Specification v0.4, chapter 5.
+//!
+//! ```text
+//! let tree = FlatTree::new(alloc, 0);
+//! write_blob(alloc, &tree)                    // Ok: the 72 bytes of the empty tree, d00dfeed 00000048 ..
+//! ```
+//!
+//! It is the first case of sources.cases (docs/CASES.md).
 #![tactic(auto)]
 
 ghost use Rattle.std.specs.Prelude.{◌≡◌, ◌≤◌, length, IfOk, IfErr, None};
@@ -21,7 +28,10 @@ use std::alloc::Global;
 
 /// The blob of a tree: header, reservations, structure, strings, nothing between them (Devicetree Specification v0.4,
 /// chapter 5). Version 17, last compatible version 16, each name once in the order of first use, no NOP, zeros as padding.
-/// Refused: NoMemory, and Limit where the blob would be longer than 16,777,216 bytes.
+///
+/// # Errors
+///
+/// `Limit` where the blob would be longer than 16,777,216 bytes; and `NoMemory`. None has a place.
 pub fn write_blob(alloc: Global, tree: &FlatTree) -> Result<Vec<u8>, Fault>
     ensures written { IfOk result (λ blob. blob.items ≡ written (reading tree.now)) }
     ensures reads { IfOk result (λ blob. Reads blob.items (reading tree.now)) }

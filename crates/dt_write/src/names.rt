@@ -52,7 +52,10 @@ impl Names {
     }
 
     /// Where the name begins, in bytes from the start of the strings block; a name that isn't there is put at its end.
-    /// Refused: NoMemory, and Limit where the strings block would be longer than 16,777,216 bytes.
+    ///
+    /// # Errors
+    ///
+    /// `Limit` where the strings block would be longer than 16,777,216 bytes; and `NoMemory`.
     pub fn offset(&mut self, name: &[u8]) -> Result<usize, Fault>
         ensures names { OnOk result (self.new ≡ used self.old name.now) }
         ensures offset { IfOk result (λ offset. offset ≡ offset_of self.new name.now) }

@@ -482,7 +482,7 @@ struct Shelf {
 }
 
 impl Files for Shelf {
-    ghost tells = { λ _ _ _. ⊤ };
+    ghost loads = { λ _ _ _ _. ⊤ };
 
     fn load(&mut self, name: &str) -> Result<Vec<u8>, Fault> {
         self.asked = self.asked.saturating_add(1);

@@ -6,7 +6,7 @@ use Rattle.dt_model.specs.Limits.{most_bytes}
 use Rattle.dt_model.specs.Source.{base}
 use Rattle.dt_write.specs.Written.{written}
 use Rattle.dt_write.specs.Refusals.{WhyNoBlob}
-use Rattle.dt_chain.specs.Compiled.{IsCompiled, WhyNotCompiled, no_tree}
+use Rattle.dt_chain.specs.Compile.{IsCompiled, WhyNotCompiled, no_tree}
 use Rattle.dt_chain.specs.Steps.{OfEachText}
 use Rattle.dt_chain.proofs.Stages.{not_written, is_written, if_err, if_ok_both}
 use Rattle.dt_chain.proofs.compiling.base_blob.Goals as goal

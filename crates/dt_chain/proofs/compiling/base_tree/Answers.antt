@@ -4,7 +4,7 @@ use Rattle.dt_names.specs.declared.fault.Fault.{Fault}
 use Rattle.dt_flat.specs.Arena.{reading}
 use Rattle.dt_model.specs.Named.{tree_of}
 use Rattle.dt_model.specs.Source.{base}
-use Rattle.dt_chain.specs.Compiled.{WhyNoTree}
+use Rattle.dt_chain.specs.Compile.{WhyNoTree}
 use Rattle.dt_chain.specs.Steps.{OfEachText, IsNumbered, WhyNotLabelled}
 use Rattle.dt_chain.proofs.Stages.{HasTree, base_has_room, tree_of_text, not_named, not_labelled, if_ok, if_err}
 use Rattle.dt_chain.proofs.compiling.base_tree.Goals as goal

@@ -2,9 +2,7 @@ use Rattle.std.proofs.Common.{sym}
 use Rattle.std.proofs.lemmas.Result.{err_from_is_err_and}
 use Rattle.dt_names.specs.declared.fault.Fault.{Fault}
 use Rattle.dt_model.specs.Source.{base}
-use Rattle.dt_chain.specs.Blobs.{WhyNoBlob, unparsed, as_base, as_overlay}
-use Rattle.dt_chain.specs.Compiled.{WhyNotCompiled, IsCompilerFault}
-use Rattle.dt_chain.specs.CompiledOverlay.{WhyNotCompiledOverlay}
+use Rattle.dt_chain.specs.Compile.{WhyNoBlob, unparsed, as_base, as_overlay, WhyNotCompiled, IsCompilerFault, WhyNotCompiledOverlay}
 use Rattle.dt_chain.specs.Steps.{OfEachText}
 use Rattle.dt_chain.proofs.Stages.{if_err}
 use Rattle.dt_chain.proofs.Blobs.{blob_kind}

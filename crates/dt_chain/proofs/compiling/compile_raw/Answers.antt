@@ -1,7 +1,7 @@
 use Rattle.std.proofs.lemmas.Result.{err_from_is_err_and}
 use Rattle.dt_names.specs.declared.fault.Fault.{Fault}
 use Rattle.dt_model.specs.Source.{raw}
-use Rattle.dt_chain.specs.Compiled.{WhyNotCompiled, unparsed, no_tree, IsCompilerFault}
+use Rattle.dt_chain.specs.Compile.{WhyNotCompiled, unparsed, no_tree, IsCompilerFault}
 use Rattle.dt_chain.specs.Steps.{OfEachText}
 use Rattle.dt_chain.proofs.Stages.{compiler_kind, if_err}
 use Rattle.dt_chain.proofs.compiling.compile_raw.Goals as goal

@@ -1,5 +1,5 @@
 use Rattle.dt_model.specs.Named.{tree_of}
-use Rattle.dt_source.specs.Building.{HasTree}
+use Rattle.dt_source.specs.Meant.{HasTree}
 use Rattle.dt_source.specs.Refusals.{mode_said}
 use Rattle.dt_chain.specs.Steps.{HasNamed}
 use Rattle.dt_chain.proofs.Stages.{if_ok}

@@ -5,7 +5,7 @@ use Rattle.dt_names.specs.declared.fault.FaultKind.TheVariants.{NoMemory}
 use Rattle.dt_flat.specs.Arena.{reading}
 use Rattle.dt_model.specs.Named.{tree_of}
 use Rattle.dt_model.specs.Source.{raw}
-use Rattle.dt_chain.specs.Compiled.{WhyNoTree}
+use Rattle.dt_chain.specs.Compile.{WhyNoTree}
 use Rattle.dt_chain.specs.Steps.{OfEachText, IsNumbered}
 use Rattle.dt_chain.proofs.Stages.{HasTree, tree_of_text, not_named, not_numbered, if_ok, if_err}
 use Rattle.dt_chain.proofs.compiling.raw_tree.Goals as goal

@@ -1,5 +1,8 @@
-use Rattle.dt_chain.proofs.BuiltMeanings.{building_is_merging, not_built_is_no_meaning}
+use Rattle.dt_chain.proofs.BuiltMeanings.{merged_once, building_is_merging, not_built_is_no_meaning}
 use Rattle.dt_chain.proofs.laws.what_building_means.Goals as goal
+
+pub returns-clause-one : goal.returns-clause-one
+returns-clause-one c = merged_once c.one_outcome.ensures.said c.overlay_is_one.ensures c.sites_are_one.ensures
 
 pub returns-clause-merged : goal.returns-clause-merged
 returns-clause-merged c =

@@ -8,6 +8,4 @@ pub returns-clause-applied : goal.returns-clause-applied
 returns-clause-applied c = applying_is_resolved c.what_applying_means.ensures.merged c.meaning_is_resolved.ensures
 
 pub returns-clause-compiled : goal.returns-clause-compiled
-returns-clause-compiled c =
-    compiling_is_resolved c.parsed_has_places.ensures.places c.parsed_has_places.ensures.some c.source_is_a_meaning.ensures.meaning c.source_is_a_meaning.ensures.plain
-    c.what_compiling_means.ensures.base c.meaning_is_resolved.ensures
+returns-clause-compiled c = compiling_is_resolved c.what_compiling_means.ensures.base c.meaning_is_resolved.ensures

@@ -3,7 +3,8 @@ use Rattle.dt_names.specs.Sink.{Takes}
 use Rattle.dt_names.specs.declared.fault.Fault.{Fault}
 use Rattle.dt_worlds.specs.Answers.{answer}
 use Rattle.dt_lines.specs.Asked.{IsAnswer, WhyUnanswered}
-use Rattle.dt_run.specs.Job.{IsCounted, IsListed, IsPrinted, IsWritten, WhyNotMade, WhyNotPerformed}
+use Rattle.dt_run.specs.Job.{IsListed, IsWritten, WhyNotMade, WhyNotPerformed}
+use Rattle.dt_streams.specs.Told.{IsCounted, IsPrinted}
 use Rattle.dt_words.specs.Asked.{IsAsked}
 use Rattle.dt_words.specs.declared.command_line.Job.{Job}
 use Rattle.dt_words.specs.declared.command_line.Job.TheVariants.{Compile, CompileRaw, Apply, Build, Print, Check, Regs, Irqs, Dma, Spec}

@@ -13,7 +13,7 @@ returns-in-Ok g c =
 pub returns-in-Err-Memory : goal.returns-in-Err-Memory
 returns-in-Err-Memory g c =
     let fault = is_placeless c.of.result _ c.of.ensures.kind c.of.ensures.at in
-    (faulty 0 c.of.result, c.tell-in-Err-Memory.ensures.status, inl (c.in-Err-Memory.is ∙ ap Err c.in-Err-Memory.field-0-is, refl, fault, refl), c.tell-in-Err-Memory.ensures.said)
+    (faulty 0 c.of.result, c.tell-in-Err-Memory.ensures.status, inl (c.in-Err-Memory.is ∙ ap Err c.in-Err-Memory.field-0-is, refl, fault, refl, refl), c.tell-in-Err-Memory.ensures.said)
 
 pub returns : goal.returns
-returns g c = (no_command c.in-Err-Words.error, c.tell_words.ensures.status, (c.in-Err-Words.is ∙ ap Err c.in-Err-Words.field-0-is, refl), c.tell_words.ensures.said)
+returns g c = (no_command c.in-Err-Words.error, c.tell_words.ensures.status, (c.in-Err-Words.is ∙ ap Err c.in-Err-Words.field-0-is, refl, refl), c.tell_words.ensures.said)

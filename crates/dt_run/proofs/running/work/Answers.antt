@@ -8,10 +8,10 @@ returns-in_err-texts-clause-refused g c =
     let p = err_from_is_err_and c.from_residual.result c.from_residual.ensures.1 in
     let (why, at) = c.in_err-texts.ensures.refused in
     let own = ap (λ (xs : List (Bor (List ℕ))). map (λ name. name.now) xs) c.as_slice.ensures.value in
-    rw (p.1, p.2) (not_loaded _ _ _ _ _ _ own why at)
+    rw (p.1, p.2) (not_loaded _ _ _ _ _ _ _ _ own why at)
 
 pub returns-clause-refused : goal.returns-clause-refused
 returns-clause-refused g c =
     let own = ap (λ (xs : List (Bor (List ℕ))). map (λ name. name.now) xs) c.as_slice.ensures.value in
     let same = ap (λ (xs : List (Vec ℕ Global)). map (λ text. text.items) xs) c.as_slice-2.ensures.value in
-    undone_of _ _ _ _ _ _ _ c.answer.result own same c.in_ok-texts.ensures.texts c.answer.ensures.refused
+    undone_of _ _ _ _ _ _ _ _ _ c.answer.result own same c.in_ok-texts.ensures.texts c.answer.ensures.refused

@@ -6,7 +6,8 @@ use Rattle.dt_model.specs.Limits.{most_nodes}
 use Rattle.dt_model.specs.Named.{NodeReference, NamedList, tree_of}
 use Rattle.dt_model.specs.NamedOf.{IsNamedOf}
 use Rattle.dt_model.specs.Source.{Place}
-use Rattle.dt_source.specs.Building.{AreNodesOf, MayBeWhole, HasTree}
+use Rattle.dt_source.specs.Building.{AreNodesOf, MayBeWhole}
+use Rattle.dt_source.specs.Meant.{HasTree}
 use Rattle.dt_source.specs.Refusals.{mode_said, WhyNotNamed, place_of}
 use Rattle.dt_named.specs.Said.{IsTree, list_said, node_said}
 use Rattle.dt_source.proofs.BuiltTrees.{tree_means, may_be_whole, many_are_refused, too_many_named, answered_result, refused_result}

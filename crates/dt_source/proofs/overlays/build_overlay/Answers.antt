@@ -11,7 +11,8 @@ use Rattle.dt_names.specs.declared.fault.Fault.{Fault}
 use Rattle.dt_names.specs.declared.fault.FaultKind.TheVariants.{Limit}
 use Rattle.dt_items.specs.Said.{reservation_said}
 use Rattle.dt_fragments.specs.Fragments.{IsUnchecked, fragment_said}
-use Rattle.dt_source.specs.Fragments.{ListedOverlay, AreOverlayNodes}
+use Rattle.dt_source.specs.Fragments.{AreOverlayNodes}
+use Rattle.dt_source.specs.Meant.{ListedOverlay}
 use Rattle.dt_source.specs.Refusals.{WhyNoOverlay, WhyNoOverlayRead, place_of}
 use Rattle.dt_named.specs.Said.{IsTree, list_said, node_said}
 use Rattle.dt_named.specs.declared.named.NamedNode.{NamedNode}

@@ -1,9 +1,0 @@
--- The sink took the texts before the index.
-use Rattle.std.proofs.Common.{◌≡◌, ℕ, List, ◌++◌, drop}
-use Rattle.dt_names.specs.Sink.{Takes}
-use Rattle.dt_lines.specs.Lines.{joined}
-use Rattle.dt_run.proofs.text.put_pieces.Given as goal
-
-abbrev pub invariant-loop-piece : goal.invariant-loop-piece
-invariant-loop-piece g l =
-    (front : List ℕ) × (joined l.pieces ≡ front ++ joined (drop l.piece-index l.pieces)) × Takes front (g.S.Sink.taken l.initial.sink) (g.S.Sink.taken l.sink)

@@ -1,0 +1,3 @@
+mod Loading
+mod Pieces
+mod Tellings
