@@ -1,6 +1,6 @@
 //! A run of the program, from what the words of the command line ask for on.
 
-ghost use Rattle.std.specs.Prelude.{◌≡◌, OnOk, IfErr, length, map};
+ghost use Rattle.std.specs.Prelude.{◌≡◌, OnOk, IfOk, IfErr, length, map};
 ghost use Rattle.dt_run.specs.Run.{Ending, Ends, IsDone, IsMadeOf, IsReported, IsSaid, WhyNotDone, WhyNotMadeOf, faulty, names_of, no_command, status_of};
 ghost use Rattle.dt_streams.specs.Report.{fault_line};
 
