@@ -95,7 +95,7 @@ impl<'a> Fixups<'a> {
     ghost use Rattle.dt_listed.specs.FixupsLeft.{fixups_left};
 
     /// Those of some labels.
-    pub fn new(blob: &'a Blob<'a>, rest: Option<Props<'a>>) -> Fixups<'a>
+    pub(crate) fn new(blob: &'a Blob<'a>, rest: Option<Props<'a>>) -> Fixups<'a>
         ensures { result ≡ fixups_left blob.now rest.entry [] [] }
     {
         Fixups {

@@ -205,7 +205,11 @@ impl<'a> LocalFixups<'a> {
     ghost use Rattle.dt_listed.specs.LocalFixupsLeft.{walk_told, MayWalk};
 
     /// Those of a walk through a mirror, whose open nodes have these counterparts.
-    pub fn new(blob: &'a Blob<'a>, steps: Steps<'a>, open_nodes: OpenNodes) -> LocalFixups<'a>
+    pub(crate) fn new(
+        blob: &'a Blob<'a>,
+        steps: Steps<'a>,
+        open_nodes: OpenNodes,
+    ) -> LocalFixups<'a>
         requires { MayWalk blob.now open_nodes steps }
         ensures { result ≡ walk_told blob.now open_nodes steps.entry }
     {

@@ -24,7 +24,7 @@ use Rattle.dt_overlay.specs.Applying.{IsWrittenAs}
 use Rattle.dt_overlay.specs.Landed.{land_each, MayLandEach, FullAtEach}
 use Rattle.dt_overlay.specs.SymbolLanding.{AreToLand}
 use Rattle.dt_overlay.proofs.CarriedLandings.{contents_there, each_is_fragments, each_may_land, each_stuck}
-use Rattle.dt_overlay.specs.Targets.{IsWant}
+use Rattle.dt_targets.specs.Targets.{IsWant}
 use Rattle.dt_overlay.proofs.LandingNodes.{want_whole}
 use Rattle.dt_overlay.proofs.WritesPaths.{EachHasPath}
 

@@ -8,7 +8,7 @@ use Rattle.dt_model.specs.Tree.{value_of, value_in}
 use Rattle.dt_flat.specs.Arena.{Arena, properties, node_from, reading}
 use Rattle.dt_listed.specs.Texts.{IsPathValue}
 use Rattle.dt_landing.specs.Objects.{HoldsNumber, HasTarget}
-use Rattle.dt_overlay.proofs.Reached.{value-led}
+use Rattle.dt_targets.proofs.Reached.{value-led}
 
 module _ (a : Arena) (f : Name) (i : ℕ) (leads : node_from a.slots 0 (f ∷ []) ≡ Some i) where
   -- a value of the node is the fragment's

@@ -17,7 +17,7 @@ use Rattle.dt_landing.specs.Steps.{land_properties, land_nodes, land_node, MayLa
 use Rattle.dt_landing.specs.Writing.{landed_property}
 use Rattle.dt_landing.proofs.SingleChanges.{child_stands, child_kept, property_kept, properties_kept, nodes_kept}
 use Rattle.dt_overlay.specs.Landed.{number_of, landed_among, landed_at}
-use Rattle.dt_overlay.specs.Targets.{IsWant, MaySetAt, WhyNotAddedAt, WhyNotSetAt}
+use Rattle.dt_targets.specs.Targets.{IsWant, MaySetAt, WhyNotAddedAt, WhyNotSetAt}
 
 -- ---- no room
 

@@ -16,7 +16,7 @@ use Rattle.dt_landing.specs.Objects.{HasCell, IsLocalCell, IsLocalFixup}
 use Rattle.dt_overlay.specs.declared.writes.Write.{Write as KeptWrite}
 use Rattle.dt_overlay.specs.Plans.{AreWritesOf}
 use Rattle.dt_overlay.specs.LocalFixups.{IsLocalFault, ListsCells, ListsOffsets, ListsProperties, IsLocalNumber, Left, offset_cell, property_cells}
-use Rattle.dt_overlay.proofs.Reached.{value-led}
+use Rattle.dt_targets.proofs.Reached.{value-led}
 
 -- a fault is handed on, which has a further reason
 pub fault_for : (A B : Type 0) (fault : Fault) → (A → B) → IsLocalFault A fault → IsLocalFault B fault

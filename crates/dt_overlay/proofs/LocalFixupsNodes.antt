@@ -23,7 +23,7 @@ use Rattle.dt_landing.specs.Objects.{IsLocalFixup, IsMirror}
 use Rattle.dt_overlay.specs.declared.writes.Write.{Write as KeptWrite}
 use Rattle.dt_overlay.specs.Plans.{ListsLocalFixups}
 use Rattle.dt_overlay.specs.LocalFixups.{AreCounterparts, AreMirrors, HasBadMirror, IsChildOf, ListsCells, ListsProperties, ListsMirror, ListsMirrors, property_cells, mirror_cells, mirror_of, child_path}
-use Rattle.dt_overlay.proofs.Reached.{stands-led}
+use Rattle.dt_targets.proofs.Reached.{stands-led}
 use Rattle.dt_overlay.proofs.LocalFixupsLists.{cells-none, cells-append}
 
 -- ---- children

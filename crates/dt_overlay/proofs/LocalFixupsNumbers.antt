@@ -19,7 +19,7 @@ use Rattle.dt_landing.specs.Objects.{IsLocalCell}
 use Rattle.dt_overlay.specs.declared.numbers.Brought.{Brought}
 use Rattle.dt_overlay.specs.Plans.{AreBrought}
 use Rattle.dt_overlay.specs.LocalFixups.{AreBroughtBy, IsLocalNumber, brings}
-use Rattle.dt_overlay.proofs.Reached.{has-number, number-had}
+use Rattle.dt_targets.proofs.Reached.{has-number, number-had}
 
 -- ---- which fragment brings a node
 

@@ -24,10 +24,10 @@ use Rattle.dt_joining.proofs.Walks.{IsWalked}
 use Rattle.dt_landing.specs.Laws.{AreShallow}
 use Rattle.dt_landing.proofs.PassedOutcomes.{shallow_landings}
 use Rattle.dt_landing.proofs.Sited.{sited_walks}
-use Rattle.dt_overlay.specs.declared.places.Places.{Places}
+use Rattle.dt_targets.specs.declared.places.Places.{Places}
 use Rattle.dt_overlay.specs.Turns.{IsLooked}
 use Rattle.dt_overlay.proofs.Elements.{get-set_same, get-set_other, get_within}
-use Rattle.dt_overlay.proofs.Reached.{value-led}
+use Rattle.dt_targets.proofs.Reached.{value-led}
 use Rattle.dt_overlay.proofs.SitesTurns.{front_walked, in_front}
 use Rattle.dt_overlay.proofs.SymbolLandingLabels.{lands-brought}
 

@@ -21,10 +21,10 @@ use Rattle.dt_model.proofs.Listed.{stands_listed, listed_stands}
 use Rattle.dt_model.proofs.Finding.{node_of_text, landed_named_from, landed_named_some}
 use Rattle.dt_landing.proofs.PlainSymbols.{named_text}
 use Rattle.dt_landing.proofs.Depths.{within_depth}
-use Rattle.dt_overlay.specs.declared.places.Places.{Places}
-use Rattle.dt_overlay.specs.Known.{kept_at, IsKnown, landed_paths}
+use Rattle.dt_targets.specs.declared.places.Places.{Places}
+use Rattle.dt_targets.specs.Known.{kept_at, IsKnown, landed_paths}
 use Rattle.dt_overlay.specs.Turns.{AreLandings}
-use Rattle.dt_overlay.proofs.LooksNames.{stands_named}
+use Rattle.dt_targets.proofs.LooksNames.{stands_named}
 
 -- one of two
 pub either_some : {A : Type 0} (a b : Option A) (x : A) → option_or a b ≡ Some x → (a ≡ Some x) ⊎ (b ≡ Some x)

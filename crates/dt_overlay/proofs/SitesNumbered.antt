@@ -12,7 +12,7 @@ use Rattle.dt_names.specs.declared.fault.FaultKind.{FaultKind}
 use Rattle.dt_names.specs.declared.fault.FaultKind.TheVariants.{NoMemory, Limit}
 use Rattle.dt_flat.specs.Arena.{Arena, reading, node_from, phandle_at}
 use Rattle.dt_overlay.specs.Turns.{LandsTooDeep}
-use Rattle.dt_overlay.proofs.Reached.{stands-led, number-had}
+use Rattle.dt_targets.proofs.Reached.{stands-led, number-had}
 
 -- no node has the number
 pub none_numbered : (a : Arena) (n : ℕ) → IsValid (reading a) → n < 2 ^ 32 → ((k : ℕ) → (None ≡ Some k) ↔ (phandle_at a.slots k ≡ Some n)) → node_numbered (nodes_of (reading a)) n ≡ None

@@ -31,10 +31,10 @@ use Rattle.dt_landing.proofs.Landed.{lands_listed, landing_stands, plain_site}
 use Rattle.dt_landing.proofs.Sited.{sited_walks}
 use Rattle.dt_overlay.specs.declared.marks.TargetMark.{TargetMark}
 use Rattle.dt_overlay.specs.declared.numbers.Brought.{Brought}
-use Rattle.dt_overlay.specs.declared.places.Places.{Places}
-use Rattle.dt_overlay.specs.Known.{IsKnown, HasRoom, placed, content_at, landed_paths}
+use Rattle.dt_targets.specs.declared.places.Places.{Places}
+use Rattle.dt_targets.specs.Known.{IsKnown, HasRoom, placed, content_at, landed_paths}
 use Rattle.dt_overlay.specs.Turns.{IsTurn, AreLandings, LandsTooDeep}
-use Rattle.dt_overlay.proofs.LooksNames.{stands_named}
+use Rattle.dt_targets.proofs.LooksNames.{stands_named}
 
 -- ---- one list of fragments behind another
 

@@ -20,7 +20,7 @@ use Rattle.dt_model.proofs.Texts.{one_text, node_name_has_no}
 use Rattle.dt_listed.specs.Cuts.{Lacks}
 use Rattle.dt_listed.proofs.TextCuts.{cut_once, never_cut}
 use Rattle.dt_landing.specs.Objects.{IsOfFragment}
-use Rattle.dt_overlay.proofs.Reached.{stands-led}
+use Rattle.dt_targets.proofs.Reached.{stands-led}
 use Rattle.dt_overlay.proofs.FixupsNumbers.{found_by_text}
 use Rattle.dt_overlay.proofs.SymbolsFragments.{IsContentText, alone, longer, overlay_without_slash, fragment_without_slash, parts_of, of_parts}
 

@@ -12,7 +12,7 @@ use Rattle.dt_landing.specs.Landings.{WhyNotLands, IsStuck, HasNoSite}
 use Rattle.dt_landing.specs.Refusals.{HasNoSites, IsCrowded, WhyNotApplied}
 use Rattle.dt_overlay.specs.declared.applying.Plan.{Plan}
 use Rattle.dt_overlay.specs.declared.numbers.Brought.{Brought}
-use Rattle.dt_overlay.specs.Targets.{IsWant}
+use Rattle.dt_targets.specs.Targets.{IsWant}
 use Rattle.dt_overlay.specs.Applying.{IsReadAs, IsLeftBy}
 
 -- ---- sites

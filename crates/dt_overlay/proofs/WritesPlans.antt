@@ -21,7 +21,7 @@ use Rattle.dt_overlay.specs.declared.fragments.Fragment.{Fragment}
 use Rattle.dt_overlay.specs.declared.numbers.Brought.{Brought}
 use Rattle.dt_overlay.specs.declared.symbols.Symbol.{Symbol}
 use Rattle.dt_overlay.specs.declared.writes.Write.{Write as KeptWrite}
-use Rattle.dt_overlay.proofs.Reached.{value-led}
+use Rattle.dt_targets.proofs.Reached.{value-led}
 use Rattle.dt_overlay.proofs.WritesKept.{HaveOneShape}
 
 module _ (slots new : List Slot) (keeps : HaveOneShape slots new) where

@@ -16,7 +16,7 @@ use Rattle.dt_landing.specs.Objects.{HasCell, IsWellFormed, symbols_in}
 use Rattle.dt_landing.specs.Refusals.{IsCrowded}
 use Rattle.dt_overlay.specs.declared.applying.Plan.{Plan}
 use Rattle.dt_overlay.specs.declared.numbers.Brought.{Brought}
-use Rattle.dt_overlay.specs.Known.{IsKnown}
+use Rattle.dt_targets.specs.Known.{IsKnown}
 use Rattle.dt_overlay.specs.Plans.{AreBrought, AreFragmentsOf, AreSymbolsOf, AreWritesOf, IsReady, symbol_brought}
 
 -- nothing is planned so far

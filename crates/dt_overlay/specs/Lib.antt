@@ -1,9 +1,6 @@
 -- what callers read, in this order
-pub mod Known
 pub mod Plans
 pub mod Applying
-pub mod Targets
-pub mod FlatTargets
 -- inside
 pub mod Fixups
 pub mod Landed

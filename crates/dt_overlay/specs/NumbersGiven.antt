@@ -1,6 +1,5 @@
 -- Nodes of a tree in preorder, by their numbers in the tree, and what is kept of the fragments that bring them.
-use Rattle.std.specs.Prelude.{◌≡◌, ℕ, suc, ◌+◌, ◌<◌, ◌==◌, true, false, List, [], ◌∷◌, ◌++◌, drop, slice_set, Option, Some, if◌then◌else◌, nat_eq}
-use Rattle.std.specs.List.{list_any}
+use Rattle.std.specs.Prelude.{ℕ, suc, ◌+◌, ◌==◌, List, [], ◌∷◌, ◌++◌, drop, slice_set, Option, Some, if◌then◌else◌}
 use Rattle.dt_flat.specs.Arena.{Slot}
 use Rattle.dt_overlay.specs.declared.fragments.Fragment.{Fragment}
 
@@ -14,14 +13,6 @@ walk_among i (n ∷ ns) p = if n.parent == p then i ∷ (walk_among (suc i) ns i
 -- a node, and those below it
 abbrev pub walk : List Slot → ℕ → List ℕ
 walk slots k = k ∷ walk_among (suc k) (drop (suc k) slots) k
-
--- ---- numbers
-
--- the least number above another that is not taken
-pub record IsNext (taken : List ℕ) (last n : ℕ) : Type 0 where
-  pub above : last < n
-  pub free : list_any (nat_eq n) taken ≡ false
-  pub between : (k : ℕ) → last < k → k < n → list_any (nat_eq k) taken ≡ true
 
 -- ---- fragments
 

@@ -14,8 +14,8 @@ use Rattle.dt_landing.specs.Landings.{target_in, MayAllLand, AreSited}
 use Rattle.dt_overlay.specs.declared.fragments.Fragment.{Fragment}
 use Rattle.dt_overlay.specs.declared.marks.TargetMark.{TargetMark}
 use Rattle.dt_overlay.specs.declared.numbers.Brought.{Brought}
-use Rattle.dt_overlay.specs.declared.places.Places.{Places}
-use Rattle.dt_overlay.specs.Known.{IsKnown, landed_paths}
+use Rattle.dt_targets.specs.declared.places.Places.{Places}
+use Rattle.dt_targets.specs.Known.{IsKnown, landed_paths}
 use Rattle.dt_overlay.specs.Marks.{AreMarked}
 use Rattle.dt_overlay.specs.Plans.{AreBrought, IsFragmentOf}
 

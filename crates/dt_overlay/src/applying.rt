@@ -13,17 +13,15 @@ ghost use Rattle.dt_model.specs.Tree.{Reading};
 ghost use Rattle.dt_names.specs.declared.fault.FaultKind.TheVariants.{NoMemory, Limit};
 ghost use Rattle.dt_overlay.specs.Plans.{IsUnbrought};
 ghost use Rattle.dt_overlay.specs.Applying.{IsEmptyPlan, IsReadAs, IsSitedAs, IsWrittenAs, IsLeftBy};
-ghost use Rattle.dt_overlay.specs.Known.{IsKnown};
-ghost use Rattle.dt_overlay.specs.Targets.{HasNoRoom, IsWant};
+ghost use Rattle.dt_targets.specs.Known.{IsKnown};
+ghost use Rattle.dt_targets.specs.Targets.{HasNoRoom, IsWant};
 
-use crate::Target;
 use crate::fixups::list_fixups;
 use crate::fragments::{Fragment, list_fragments};
 use crate::landing::land_all;
 use crate::local_fixups::list_local_fixups;
 use crate::marks::target_marks;
 use crate::numbers::{Brought, bring_all, number_all, renumber};
-use crate::places::Places;
 use crate::sites::find_sites;
 use crate::symbol_landing::set_symbols;
 use crate::symbols::{Symbol, list_symbols};
@@ -32,6 +30,7 @@ use dt_flat::FlatTree;
 use dt_landing::{fragments_are_merged, sited_is_applied};
 use dt_names::{Fault, NodeName, Path};
 use dt_read::Blob;
+use dt_targets::{Places, Target};
 use std::alloc::Global;
 
 /// What an object does to a base.

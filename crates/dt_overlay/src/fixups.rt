@@ -16,14 +16,13 @@ ghost use Rattle.dt_landing.specs.Refusals.{WhyNoFixup, HasNoFixup};
 ghost use Rattle.dt_overlay.specs.Plans.{ListsFixups};
 ghost use Rattle.dt_overlay.specs.Fixups.{cell_told, HasTold, ListsTold, ListsCells, ListsLabels, WhyNoNumber};
 
-use crate::Target;
-use crate::texts::node_of;
 use crate::writes::Write;
 use dt_flat::FlatTree;
 use dt_listed::{
     CellText, cell_text, cell_texts_are_texts, cut, has_cell, symbol_path, texts, texts_are_one,
 };
 use dt_names::{Fault, FaultKind, NodeId, Path, PathRef, phandle_of};
+use dt_targets::{Target, node_of};
 use std::alloc::Global;
 
 // The value of the property of whose cell a text tells, wherever in it the cell is.

@@ -9,9 +9,9 @@ ghost use Rattle.dt_names.specs.declared.fault.FaultKind.TheVariants.{NoMemory, 
 ghost use Rattle.dt_landing.specs.Objects.{HasTarget};
 ghost use Rattle.dt_overlay.specs.Plans.{IsTargetOf, AreFragmentsOf};
 
-use crate::texts::is_path_value;
 use dt_flat::FlatTree;
 use dt_names::{Fault, FaultKind, NodeId, is_bookkeeping_name};
+use dt_targets::is_path_value;
 use std::alloc::Global;
 
 /// What a fragment tells of its target.

@@ -10,13 +10,12 @@ ghost use Rattle.dt_names.specs.declared.fault.FaultKind.TheVariants.{NoMemory, 
 ghost use Rattle.dt_landing.specs.Steps.{land_properties, land_node, MayLandProperties, MayLandNode, MaySetValue, FullAtProperties, FullAtNode};
 ghost use Rattle.dt_landing.specs.Writing.{landed_property};
 ghost use Rattle.dt_overlay.specs.Landed.{landed_at, land_each, MayLandEach, FullAtEach};
-ghost use Rattle.dt_overlay.specs.Targets.{HasNoRoom, IsWant};
+ghost use Rattle.dt_targets.specs.Targets.{HasNoRoom, IsWant};
 
-use crate::Target;
 use crate::fragments::Fragment;
-use crate::texts::child_path;
 use dt_flat::{FlatTree, NodeId, Props};
 use dt_names::{Fault, NodeName, Path, PropName};
+use dt_targets::{Target, child_path};
 use std::alloc::Global;
 
 // Sets a property of the node that lands: a `phandle` to its new number.

@@ -11,14 +11,12 @@ ghost use Rattle.dt_overlay.specs.Turns.{IsLooked};
 ghost use Rattle.dt_overlay.specs.NumbersGiven.{walk, with_fragment};
 ghost use Rattle.dt_overlay.specs.Plans.{AreFragmentsOf, AreBrought, IsUnbrought, own_number, renumbered};
 
-use crate::Target;
 use crate::fragments::Fragment;
-use crate::looks::number_there;
-use crate::places::Places;
 use crate::sites::landing;
 use crate::writes::Write;
 use dt_flat::FlatTree;
 use dt_names::{Fault, NodeId, Path};
+use dt_targets::{Places, Target, number_there};
 use std::alloc::{AllocError, Global};
 
 /// What becomes of the nodes of an object, by their numbers in its tree.

@@ -17,22 +17,19 @@ ghost use Rattle.dt_flat.specs.Arena.{node_from, properties, reading};
 ghost use Rattle.dt_joining.specs.Walk.{Walked, nothing_walked, is_target, target_label, named_node};
 ghost use Rattle.dt_joining.specs.Walk.{place_given as place_known};
 ghost use Rattle.dt_landing.specs.Landings.{target_in, AreSited, WhyNoSite, HasNoSite};
-ghost use Rattle.dt_overlay.specs.Known.{kept_at, IsKnown, landed_paths};
+ghost use Rattle.dt_targets.specs.Known.{kept_at, IsKnown, landed_paths};
 ghost use Rattle.dt_overlay.specs.Marks.{IsMark, AreMarked};
 ghost use Rattle.dt_overlay.specs.Plans.{IsKeptFor, AreBrought, AreFragmentsOf};
 ghost use Rattle.dt_overlay.specs.Turns.{IsTurn, IsTurnOf, IsSitedOn, AreLandings, LandsTooDeep};
 ghost use Rattle.dt_overlay.specs.declared.marks.TargetMark.{TargetMark};
 
-use crate::Target;
 use crate::fragments::{Fragment, FragmentTarget};
-use crate::looks::{is_bookkeeping, land_content};
 use crate::marks::TargetMark;
 use crate::numbers::Brought;
-use crate::places::{Places, has_landed, place_given};
-use crate::texts::join;
 use dt_flat::FlatTree;
 use dt_listed::symbol_path;
 use dt_names::{Fault, FaultKind, NodeId, Path};
+use dt_targets::{Places, Target, has_landed, is_bookkeeping, join, land_content, place_given};
 use std::alloc::Global;
 
 /// The path on which a node of the object lands, where its fragment is one of those that have sites.

@@ -11,15 +11,14 @@ ghost use Rattle.dt_names.specs.declared.fault.FaultKind.TheVariants.{NoMemory, 
 ghost use Rattle.dt_landing.specs.Objects.{symbols_in};
 ghost use Rattle.dt_landing.specs.Steps.{FullAtSymbols};
 ghost use Rattle.dt_overlay.specs.SymbolLanding.{AreToLand, LandsAt};
-ghost use Rattle.dt_overlay.specs.Targets.{HasNoRoom, IsWant};
+ghost use Rattle.dt_targets.specs.Targets.{HasNoRoom, IsWant};
 
-use crate::Target;
 use crate::numbers::Brought;
 use crate::sites::landing;
 use crate::symbols::Symbol;
-use crate::texts::put_path;
 use dt_flat::FlatTree;
 use dt_names::{Fault, NodeName, Path, PropName};
+use dt_targets::{Target, put_path};
 use std::alloc::Global;
 
 // Adds `__symbols__` where it isn't there.

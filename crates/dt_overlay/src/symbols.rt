@@ -11,10 +11,10 @@ ghost use Rattle.dt_overlay.specs.Plans.{ListsSymbols};
 ghost use Rattle.dt_overlay.specs.Symbols.{IsFirstName, IsNamed, ListsNamed};
 
 use crate::fragments::content_of;
-use crate::texts::node_of;
 use dt_flat::FlatTree;
 use dt_listed::cut;
 use dt_names::{Fault, FaultKind, NodeId, PathRef};
+use dt_targets::node_of;
 use memchr::memchr;
 use std::alloc::Global;
 

@@ -68,7 +68,7 @@ impl<'a> Model for Reservations<'a> {
 }
 
 impl<'a> Reservations<'a> {
-    pub fn new(rest: &'a [u8]) -> Reservations<'a>
+    pub(crate) fn new(rest: &'a [u8]) -> Reservations<'a>
         ensures { result ≡ pairs_of rest.now }
     {
         Reservations { rest }

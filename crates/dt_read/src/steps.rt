@@ -59,7 +59,7 @@ impl<'a> Model for Steps<'a> {
 }
 
 impl<'a> Steps<'a> {
-    pub fn new(cursor: Cursor<'a>) -> Steps<'a>
+    pub(crate) fn new(cursor: Cursor<'a>) -> Steps<'a>
         ensures { result ≡ steps_left cursor.entry }
     {
         Steps { cursor }

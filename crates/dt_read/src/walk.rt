@@ -70,7 +70,7 @@ impl<'a> Model for Props<'a> {
 impl<'a> Props<'a> {
     ghost use Rattle.dt_read.specs.Parsing.{left_by};
 
-    pub fn new(cursor: Cursor<'a>) -> Props<'a>
+    pub(crate) fn new(cursor: Cursor<'a>) -> Props<'a>
         ensures { result ≡ (left_by cursor.entry).properties }
     {
         Props { cursor }
@@ -121,7 +121,7 @@ impl<'a> Model for Siblings<'a> {
 impl<'a> Siblings<'a> {
     ghost use Rattle.dt_read.specs.TreeTokens.{heads_left, AreSiblings};
 
-    pub fn new(cursor: Cursor<'a>) -> Siblings<'a>
+    pub(crate) fn new(cursor: Cursor<'a>) -> Siblings<'a>
         requires { AreSiblings cursor }
         ensures { result ≡ heads_left cursor.entry }
     {
@@ -170,7 +170,7 @@ impl<'a> Model for Children<'a> {
 impl<'a> Children<'a> {
     ghost use Rattle.std.specs.Prelude.{map};
 
-    pub fn new(siblings: Siblings<'a>) -> Children<'a>
+    pub(crate) fn new(siblings: Siblings<'a>) -> Children<'a>
         ensures { result ≡ map (λ head. head.0) siblings.entry }
     {
         Children { siblings }

@@ -3,7 +3,7 @@ use Rattle.std.specs.Prelude.{None, IfErr}
 use Rattle.dt_model.specs.Tree.{Reading}
 use Rattle.dt_landing.specs.Refusals.{WhyNotApplied}
 use Rattle.dt_overlay.specs.Applying.{IsLeftBy}
-use Rattle.dt_overlay.specs.Targets.{HasNoRoom}
+use Rattle.dt_targets.specs.Targets.{HasNoRoom}
 use Rattle.dt_overlay.proofs.applying.apply.Goals as goal
 
 pub returns-clause-refused : goal.returns-clause-refused

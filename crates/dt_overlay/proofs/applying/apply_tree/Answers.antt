@@ -1,7 +1,7 @@
 use Rattle.std.proofs.lemmas.Result.{err_from_is_err_and}
 use Rattle.dt_flat.specs.Arena.{reading}
 use Rattle.dt_overlay.proofs.Told.{memory_told}
-use Rattle.dt_overlay.specs.Targets.{HasNoRoom}
+use Rattle.dt_targets.specs.Targets.{HasNoRoom}
 use Rattle.dt_overlay.proofs.applying.apply_tree.Goals as goal
 
 pub returns-in_err-symbols-clause-refused : goal.returns-in_err-symbols-clause-refused

@@ -2,7 +2,7 @@ use Rattle.std.proofs.lemmas.Result.{err_from_is_err_and}
 use Rattle.dt_flat.specs.Arena.{reading}
 use Rattle.dt_overlay.proofs.ReadPlans.{if_err}
 use Rattle.dt_overlay.proofs.Told.{site_told, landing_told, landing_left}
-use Rattle.dt_overlay.specs.Targets.{HasNoRoom}
+use Rattle.dt_targets.specs.Targets.{HasNoRoom}
 use Rattle.dt_overlay.proofs.applying.carry_out.Goals as goal
 
 pub returns-in_err-look-clause-refused : goal.returns-in_err-look-clause-refused

@@ -7,7 +7,7 @@ use Rattle.dt_overlay.specs.declared.symbols.Symbol.{Symbol}
 use Rattle.dt_overlay.specs.SymbolLanding.{AreToLand}
 use Rattle.dt_overlay.proofs.CarriedOut.{nodes_there, these_may_land, told_landing, told_symbols, to_land, all_carried}
 use Rattle.dt_overlay.proofs.ReadPlans.{on_ok, if_err}
-use Rattle.dt_overlay.specs.Targets.{HasNoRoom}
+use Rattle.dt_targets.specs.Targets.{HasNoRoom}
 use Rattle.dt_overlay.proofs.applying.land_planned.Goals as goal
 
 pub land_all-requires-clause-nodes : goal.land_all-requires-clause-nodes

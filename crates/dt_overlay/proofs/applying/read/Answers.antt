@@ -6,7 +6,7 @@ use Rattle.dt_overlay.specs.Plans.{ListsFixups, ListsLocalFixups, ListsSymbols}
 use Rattle.dt_overlay.specs.declared.symbols.Symbol.{Symbol}
 use Rattle.dt_overlay.specs.declared.writes.Write.{Write}
 use Rattle.dt_overlay.proofs.ReadPlans.{on_ok, if_err, all_held, label_told, local_told, symbol_told, read_as}
-use Rattle.dt_overlay.specs.Targets.{HasNoRoom}
+use Rattle.dt_targets.specs.Targets.{HasNoRoom}
 use Rattle.dt_overlay.proofs.applying.read.Goals as goal
 
 pub returns-in_err-list_fixups-clause-refused : goal.returns-in_err-list_fixups-clause-refused

@@ -3,7 +3,7 @@ use Rattle.dt_flat.specs.Arena.{reading}
 use Rattle.dt_flat.proofs.Descent.{path-within}
 use Rattle.dt_landing.specs.Objects.{HasCell}
 use Rattle.dt_overlay.specs.Fixups.{cell_told}
-use Rattle.dt_overlay.proofs.Reached.{value-led, no-value-led}
+use Rattle.dt_targets.proofs.Reached.{value-led, no-value-led}
 use Rattle.dt_overlay.proofs.fixups.cell_at.Goals as goal
 
 pub returns-in_err-node : goal.returns-in_err-node

@@ -5,7 +5,7 @@ use Rattle.std.proofs.lemmas.Result.{err_from_is_err_and}
 use Rattle.dt_model.specs.Changes.{with_child_at}
 use Rattle.dt_flat.specs.Arena.{children}
 use Rattle.dt_landing.specs.Steps.{land_node, FullAtNode}
-use Rattle.dt_overlay.specs.Targets.{HasNoRoom}
+use Rattle.dt_targets.specs.Targets.{HasNoRoom}
 use Rattle.dt_overlay.specs.Landed.{landed_at}
 use Rattle.dt_overlay.proofs.LandingNodes.{good_node, properties_named, properties_may, children_are, next_child, nodes_begin, nodes_step, node_stuck, want_whole}
 use Rattle.dt_overlay.proofs.landing.+land.Goals as goal

@@ -1,6 +1,6 @@
 use Rattle.std.proofs.Common.{◌-◌, length}
 use Rattle.dt_landing.specs.Steps.{land_node, FullAtNode}
-use Rattle.dt_overlay.specs.Targets.{HasNoRoom}
+use Rattle.dt_targets.specs.Targets.{HasNoRoom}
 use Rattle.dt_overlay.specs.Landed.{landed_at}
 use Rattle.dt_overlay.proofs.LandingNodes.{NodesLeft}
 use Rattle.dt_overlay.proofs.landing.+land.Given as goal

@@ -3,7 +3,7 @@ use Rattle.std.proofs.lemmas.Result.{err_from_is_err_and}
 use Rattle.dt_model.specs.Tree.{stands_in}
 use Rattle.dt_model.specs.Changes.{with_child_at}
 use Rattle.dt_landing.proofs.SingleChanges.{child_there}
-use Rattle.dt_overlay.specs.Targets.{HasNoRoom, WhyNotAddedAt}
+use Rattle.dt_targets.specs.Targets.{HasNoRoom, WhyNotAddedAt}
 use Rattle.dt_overlay.proofs.LandingNodes.{add_want}
 use Rattle.dt_overlay.proofs.landing.add_child.Goals.{then-not-find+in_ok-new+in_ok-add_node, else-not-find}
 use Rattle.dt_overlay.proofs.landing.add_child.Goals as goal

@@ -6,7 +6,7 @@ use Rattle.std.proofs.lemmas.Slice.Zip.{either_empty_from_Zip}
 use Rattle.dt_model.specs.Path.{Path}
 use Rattle.dt_landing.specs.Steps.{FullAtNode}
 use Rattle.dt_overlay.specs.Landed.{landed_at, land_each, FullAtEach}
-use Rattle.dt_overlay.specs.Targets.{HasNoRoom}
+use Rattle.dt_targets.specs.Targets.{HasNoRoom}
 use Rattle.dt_overlay.specs.declared.fragments.Fragment.{Fragment}
 use Rattle.dt_overlay.proofs.LandingNodes.{want_whole}
 use Rattle.dt_overlay.proofs.LandingEach.{contents, contents_there, contents_over, EachLeft, next_landing, each_over}

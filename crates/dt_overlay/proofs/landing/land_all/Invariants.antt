@@ -1,7 +1,7 @@
 use Rattle.std.specs.Iterator.Adapters.{zip_first, zip_second}
 use Rattle.std.specs.Slice.Iter.{iter_rest}
 use Rattle.dt_overlay.specs.Landed.{land_each, FullAtEach}
-use Rattle.dt_overlay.specs.Targets.{HasNoRoom}
+use Rattle.dt_targets.specs.Targets.{HasNoRoom}
 use Rattle.dt_overlay.proofs.LandingEach.{contents, EachLeft}
 use Rattle.dt_overlay.proofs.landing.land_all.Given as goal
 

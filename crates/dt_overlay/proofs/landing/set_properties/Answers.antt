@@ -2,7 +2,7 @@ use Rattle.std.proofs.Common.{map}
 use Rattle.std.proofs.lemmas.Result.{err_from_is_err_and}
 use Rattle.dt_landing.specs.Steps.{land_properties, FullAtProperties}
 use Rattle.dt_landing.specs.Writing.{landed_property}
-use Rattle.dt_overlay.specs.Targets.{HasNoRoom}
+use Rattle.dt_targets.specs.Targets.{HasNoRoom}
 use Rattle.dt_overlay.proofs.LandingNodes.{properties_step, properties_stuck, want_whole}
 use Rattle.dt_overlay.proofs.landing.set_properties.Goals as goal
 

@@ -1,6 +1,6 @@
 use Rattle.std.proofs.Common.{map}
 use Rattle.dt_landing.specs.Steps.{land_properties, FullAtProperties}
-use Rattle.dt_overlay.specs.Targets.{HasNoRoom}
+use Rattle.dt_targets.specs.Targets.{HasNoRoom}
 use Rattle.dt_landing.specs.Writing.{landed_property}
 use Rattle.dt_overlay.proofs.LandingNodes.{PropertiesLeft}
 use Rattle.dt_overlay.proofs.landing.set_properties.Given as goal

@@ -7,12 +7,12 @@ use Rattle.dt_flat.specs.Arena.{reading, properties}
 use Rattle.dt_flat.proofs.Descent.{path-within}
 use Rattle.dt_joining.specs.Walk.{new_numbers}
 use Rattle.dt_joining.proofs.Brought.{fragments_distinct}
-use Rattle.dt_overlay.specs.Known.{landed_paths}
+use Rattle.dt_targets.specs.Known.{landed_paths}
 use Rattle.dt_overlay.specs.Plans.{IsKeptFor}
 use Rattle.dt_overlay.specs.declared.numbers.Brought.{Brought}
-use Rattle.dt_overlay.proofs.LooksNumbers.{value_there}
+use Rattle.dt_targets.proofs.LooksNumbers.{value_there}
 use Rattle.dt_overlay.proofs.NumbersLanded.{AreSoFar, memory_alone, all_front, all_shallow, number_landed, number_bare, number_nowhere, so_far_bare, so_far_set}
-use Rattle.dt_overlay.proofs.Reached.{stands-led}
+use Rattle.dt_targets.proofs.Reached.{stands-led}
 use Rattle.dt_overlay.proofs.numbers.number_all.Goals.{then-is_some+in_ok-path+in-Some+in_ok-brought, then-is_some+in_ok-path+in_default, else-is_some}
 use Rattle.dt_overlay.proofs.numbers.number_all.Goals as goal
 

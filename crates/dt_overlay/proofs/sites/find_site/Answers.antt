@@ -6,7 +6,7 @@ use Rattle.dt_names.specs.declared.fault.FaultKind.TheVariants.{ReservedPlace}
 use Rattle.dt_flat.specs.Arena.{reading}
 use Rattle.dt_joining.specs.Walk.{site, landings, with_places}
 use Rattle.dt_landing.specs.Landings.{target_in, MayAllLand, IsStuck}
-use Rattle.dt_overlay.specs.Known.{IsKnown, HasRoom, landed_paths}
+use Rattle.dt_targets.specs.Known.{IsKnown, HasRoom, landed_paths}
 use Rattle.dt_overlay.proofs.SitesTurns.{turn_walked, content_is, room_for, known_behind}
 use Rattle.dt_overlay.proofs.sites.find_site.Goals as goal
 

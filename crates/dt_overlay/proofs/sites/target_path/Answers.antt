@@ -16,7 +16,7 @@ use Rattle.dt_overlay.specs.Marks.{IsMark}
 use Rattle.dt_overlay.specs.Plans.{IsTargetOf}
 use Rattle.dt_overlay.specs.declared.fragments.FragmentTarget.TheVariants.{Path as TargetPath}
 use Rattle.dt_overlay.specs.declared.marks.TargetMark.TheVariants.{Bare}
-use Rattle.dt_overlay.proofs.Reached.{value-led}
+use Rattle.dt_targets.proofs.Reached.{value-led}
 use Rattle.dt_overlay.proofs.SitesTurns.{turn_landings}
 use Rattle.dt_overlay.proofs.sites.target_path.Goals as goal
 

@@ -5,7 +5,7 @@ use Rattle.dt_model.specs.Path.{Path}
 use Rattle.dt_model.specs.Tree.{stands_in}
 use Rattle.dt_landing.proofs.SingleChanges.{child_there}
 use Rattle.dt_model.specs.Changes.{with_child_at}
-use Rattle.dt_overlay.specs.Targets.{HasNoRoom, WhyNotAddedAt}
+use Rattle.dt_targets.specs.Targets.{HasNoRoom, WhyNotAddedAt}
 use Rattle.dt_overlay.proofs.LandingNodes.{add_want}
 use Rattle.dt_overlay.proofs.symbol_landing.add_symbols.Goals as goal
 

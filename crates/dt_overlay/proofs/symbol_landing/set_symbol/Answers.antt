@@ -6,7 +6,7 @@ use Rattle.dt_model.specs.Path.{path_value}
 use Rattle.dt_flat.proofs.Descent.{path-within}
 use Rattle.dt_joining.proofs.Brought.{fragments_distinct}
 use Rattle.dt_overlay.proofs.SymbolLandingLabels.{whole_front, only_memory}
-use Rattle.dt_overlay.specs.Targets.{HasNoRoom, MaySetAt}
+use Rattle.dt_targets.specs.Targets.{HasNoRoom, MaySetAt}
 use Rattle.dt_overlay.proofs.LandingNodes.{set_want}
 use Rattle.dt_overlay.proofs.symbol_landing.set_symbol.Goals as goal
 

@@ -7,7 +7,7 @@ use Rattle.dt_model.specs.Tree.{stands_in}
 use Rattle.dt_model.specs.Applied.{landed_symbols, with_symbols_merged}
 use Rattle.dt_landing.specs.Objects.{symbols_in}
 use Rattle.dt_landing.specs.Steps.{FullAtSymbols}
-use Rattle.dt_overlay.specs.Targets.{HasNoRoom}
+use Rattle.dt_targets.specs.Targets.{HasNoRoom}
 use Rattle.dt_overlay.proofs.LandingNodes.{want_whole}
 use Rattle.dt_overlay.proofs.SymbolLandingLabels.{labels_land}
 use Rattle.dt_overlay.proofs.SymbolLandingLeft.{first_left, none_set, labels_begin, labels_stuck, next_label, label_stuck, labels_step, labels_over}

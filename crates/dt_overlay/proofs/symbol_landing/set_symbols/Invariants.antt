@@ -6,7 +6,7 @@ use Rattle.dt_model.specs.Applied.{with_symbols_merged, landed_symbols}
 use Rattle.dt_landing.specs.Objects.{symbols_in}
 use Rattle.dt_landing.specs.Steps.{FullAtSymbols}
 use Rattle.dt_overlay.specs.SymbolLanding.{AreToLand}
-use Rattle.dt_overlay.specs.Targets.{HasNoRoom}
+use Rattle.dt_targets.specs.Targets.{HasNoRoom}
 use Rattle.dt_overlay.proofs.SymbolLandingLeft.{LabelsLeft}
 use Rattle.dt_overlay.proofs.symbol_landing.set_symbols.Given as goal
 

@@ -1,5 +1,0 @@
-use Rattle.dt_overlay.proofs.Reached.{cells-led}
-use Rattle.dt_overlay.proofs.flat_target.FlatTreeTarget.validity.Goals as goal
-
-pub returns-clause-cells : goal.returns-clause-cells
-returns-clause-cells c = cells-led c.args.self.now c.validity.ensures.cells

@@ -1,0 +1,4 @@
+-- what callers read, in this order
+pub mod Targets
+pub mod FlatTargets
+pub mod Known

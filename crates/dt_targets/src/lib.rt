@@ -1,0 +1,21 @@
+//! Trees that take overlays, and the places of them on which an object's nodes land (dtc's notes on overlay objects). A [`Target`] is a
+//! tree whose nodes are named by their paths, as a `FlatTree` is; [`Places`] has the places on which nodes have landed so far, each once, with
+//! the number that it got.
+//!
+//! ```text
+//! target.find(&path);                                         // whether a node of the path stands
+//! land_content(alloc, &tree, &object, node, &path, &mut places)?; // what a fragment brings lands: each place once, and gets its number
+//! ```
+#![tactic(auto)]
+
+mod flat_target;
+mod looks;
+mod places;
+mod target;
+mod texts;
+
+pub use flat_target::tree_room_is_counted;
+pub use looks::{is_bookkeeping, land_content, number_there};
+pub use places::{Places, has_landed, place_given};
+pub use target::Target;
+pub use texts::{child_path, is_path_value, join, node_of, put_path};
