@@ -1,6 +1,5 @@
 -- The lines that tell a region, a route, or why there is none.
 use Rattle.std.specs.Prelude.{ℕ, List, [], ◌∷◌, ◌++◌, codes, decimal, if◌then◌else◌}
-use Rattle.std.specs.Borrow.{Bor}
 use Rattle.std.specs.Int.{w32, w128, to_be_bytes}
 use Rattle.dt_model.specs.Path.{Path, path_text}
 use Rattle.dt_model.specs.Printed.{hexadecimal, significant}
@@ -9,11 +8,6 @@ use Rattle.dt_names.specs.declared.fault.Fault.{Fault}
 use Rattle.dt_worlds.specs.declared.regions.Region.{Region}
 use Rattle.dt_worlds.specs.Answers.{Answer, undetermined, refused, answer}
 use Rattle.dt_worlds.specs.Interrupts.{Route}
-
--- pieces, one behind the other
-abbrev pub joined : List (Bor (List ℕ)) → List ℕ
-joined [] = []
-joined (piece ∷ pieces) = piece.now ++ joined pieces
 
 -- an index, between a path and what is told of it
 abbrev pub index_words : ℕ → List ℕ

@@ -1,9 +1,8 @@
 //! Pieces of a line.
 
 ghost use Rattle.std.specs.Prelude.{◌++◌, OnOk, IfErr};
-ghost use Rattle.dt_names.specs.Sink.{IsRefused};
+ghost use Rattle.dt_names.specs.Sink.{IsRefused, joined};
 ghost use Rattle.dt_decompile.specs.Passed.{IsPassed};
-ghost use Rattle.dt_lines.specs.Lines.{joined};
 
 use dt_decompile::Buffer;
 use dt_names::{Fault, Sink};

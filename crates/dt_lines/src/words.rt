@@ -3,11 +3,11 @@
 ghost use Rattle.std.specs.Prelude.{◌≡◌, ◌++◌, ◌∷◌, [], OnOk, IfErr, codes, if◌then◌else◌};
 ghost use Rattle.std.specs.Int.{w128, w32, to_be_bytes};
 ghost use Rattle.dt_model.specs.Printed.{hexadecimal};
-ghost use Rattle.dt_names.specs.Sink.{IsRefused};
+ghost use Rattle.dt_names.specs.Sink.{IsRefused, joined};
 ghost use Rattle.dt_read.specs.Placed.{path_at, IsNode};
 ghost use Rattle.dt_decompile.specs.Passed.{IsPassed};
 ghost use Rattle.dt_irq.specs.Seen.{route_in, HasArrived};
-ghost use Rattle.dt_lines.specs.Lines.{joined, cells_words, fault_words, place_words, region_words, route_words};
+ghost use Rattle.dt_lines.specs.Lines.{cells_words, fault_words, place_words, region_words, route_words};
 
 use crate::paths::put_path;
 use crate::pieces::put_pieces;

@@ -1,8 +1,14 @@
 -- What is said of a sink before and after some calls.
-use Rattle.std.specs.Prelude.{◌≡◌, ◌<◌, ℕ, List, Bool, true, Option, None, length, take}
+use Rattle.std.specs.Prelude.{◌≡◌, ◌<◌, ℕ, List, [], ◌∷◌, ◌++◌, Bool, true, Option, None, length, take}
+use Rattle.std.specs.Borrow.{Bor}
 use Rattle.std.specs.Io.KnownBytes.{Appends}
 use Rattle.dt_names.specs.declared.fault.Fault.{Fault}
 use Rattle.dt_names.specs.declared.fault.FaultKind.TheVariants.{WriteFault}
+
+-- what pieces come to, one behind the other
+abbrev pub joined : List (Bor (List ℕ)) → List ℕ
+joined [] = []
+joined (piece ∷ pieces) = piece.now ++ joined pieces
 
 -- what a sink has taken: the bytes that it holds, where they are known, and whether it has failed
 pub record Taken : Type 0 where

@@ -1,7 +1,7 @@
 -- Texts that are written one behind the other.
 use Rattle.std.proofs.Common.{◌≡◌, ℕ, ◌+◌, ◌<◌, List, ◌++◌, drop, length, get_or, sym, ap, ◌∙◌, append_assoc, Bor}
 use Rattle.std.proofs.lemmas.List.{at_drop_more}
-use Rattle.dt_lines.specs.Lines.{joined}
+use Rattle.dt_names.specs.Sink.{joined}
 
 module _ (pieces : List (Bor (List ℕ))) (i : ℕ) (d : Bor (List ℕ)) (inside : i < length pieces) (front bytes : List ℕ) where
   -- behind what went before stands the text at the index

@@ -1,9 +1,8 @@
 //! What a blob holds, in a line.
 
 ghost use Rattle.std.specs.Prelude.{◌≡◌, codes, ◌++◌, ◌∷◌, [], List, ℕ, OnOk, IfErr};
-ghost use Rattle.dt_names.specs.Sink.{Takes, IsRefused};
+ghost use Rattle.dt_names.specs.Sink.{Takes, IsRefused, joined};
 ghost use Rattle.dt_streams.specs.Told.{line_of, IsCounted, WhyNotTold};
-ghost use Rattle.dt_lines.specs.Lines.{joined};
 
 use crate::text::put_pieces;
 use dt_names::{Fault, Sink};

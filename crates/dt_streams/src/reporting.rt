@@ -1,8 +1,7 @@
 //! How a fault is told.
 
 ghost use Rattle.std.specs.Prelude.{◌≡◌, codes, ◌++◌, ◌∷◌, [], OnOk, IfErr};
-ghost use Rattle.dt_names.specs.Sink.{Takes, IsRefused};
-ghost use Rattle.dt_lines.specs.Lines.{joined};
+ghost use Rattle.dt_names.specs.Sink.{Takes, IsRefused, joined};
 ghost use Rattle.dt_streams.specs.Report.{fault_line};
 
 use crate::text::put_pieces;

@@ -1,8 +1,7 @@
 //! Texts in pieces.
 
 ghost use Rattle.std.specs.Prelude.{OnOk, IfErr};
-ghost use Rattle.dt_names.specs.Sink.{Takes, IsRefused};
-ghost use Rattle.dt_lines.specs.Lines.{joined};
+ghost use Rattle.dt_names.specs.Sink.{Takes, IsRefused, joined};
 
 use dt_names::{Fault, Sink, put_all};
 

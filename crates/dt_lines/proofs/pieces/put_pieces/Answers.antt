@@ -1,7 +1,7 @@
 use Rattle.std.proofs.Common.{◌++◌, ◌∙◌, ◌+◌, List, ℕ, drop, ap}
 use Rattle.std.proofs.lemmas.List.{at_drop_more}
 use Rattle.dt_decompile.proofs.Passing.{passed_then, exits_at, turned}
-use Rattle.dt_lines.specs.Lines.{joined}
+use Rattle.dt_names.specs.Sink.{joined}
 use Rattle.dt_lines.proofs.pieces.put_pieces.Goals as goal
 
 pub returns-in_err-put-clause-refused : goal.returns-in_err-put-clause-refused

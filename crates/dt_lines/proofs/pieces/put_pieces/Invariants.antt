@@ -1,7 +1,7 @@
 -- A front of the pieces passed.
 use Rattle.std.proofs.Common.{◌≡◌, List, ℕ, ◌++◌, drop}
 use Rattle.dt_decompile.specs.Passed.{IsPassed}
-use Rattle.dt_lines.specs.Lines.{joined}
+use Rattle.dt_names.specs.Sink.{joined}
 use Rattle.dt_lines.proofs.pieces.put_pieces.Given as goal
 
 abbrev pub invariant-loop-piece : goal.invariant-loop-piece

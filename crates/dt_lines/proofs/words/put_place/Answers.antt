@@ -2,7 +2,8 @@ use Rattle.std.proofs.Common.{◌++◌, codes, ap}
 use Rattle.dt_model.specs.Path.{path_text}
 use Rattle.dt_read.specs.Placed.{path_at}
 use Rattle.dt_decompile.proofs.Passing.{exits_first, passed_last, refused_last}
-use Rattle.dt_lines.specs.Lines.{index_words, joined}
+use Rattle.dt_names.specs.Sink.{joined}
+use Rattle.dt_lines.specs.Lines.{index_words}
 use Rattle.dt_lines.proofs.WordTexts.{around_text}
 use Rattle.std.proofs.Common.{refl}
 use Rattle.dt_lines.proofs.words.put_place.Goals as goal

@@ -1,9 +1,8 @@
 use Rattle.std.proofs.Common.{◌++◌, List, ℕ, ap, subst, ◌∙◌}
 use Rattle.std.specs.Prelude.{OnOk, IfErr}
 use Rattle.dt_model.specs.Printed.{significant}
-use Rattle.dt_names.specs.Sink.{IsRefused}
+use Rattle.dt_names.specs.Sink.{IsRefused, joined}
 use Rattle.dt_decompile.specs.Passed.{IsPassed}
-use Rattle.dt_lines.specs.Lines.{joined}
 use Rattle.dt_lines.proofs.WordTexts.{region_text}
 use Rattle.dt_lines.proofs.words.put_region.Goals as goal
 

@@ -2,7 +2,8 @@ use Rattle.std.proofs.Common.{◌≡◌, ◌++◌, codes, decimal, take, refl, a
 use Rattle.dt_model.specs.Path.{path_text}
 use Rattle.dt_read.specs.Placed.{path_at}
 use Rattle.dt_decompile.proofs.Passing.{passed_then, exits_first, exits_at, passed_last, refused_last, turned}
-use Rattle.dt_lines.specs.Lines.{joined, cells_words}
+use Rattle.dt_names.specs.Sink.{joined}
+use Rattle.dt_lines.specs.Lines.{cells_words}
 use Rattle.dt_lines.proofs.WordTexts.{around_text}
 use Rattle.dt_lines.proofs.words.put_route.Goals as goal
 

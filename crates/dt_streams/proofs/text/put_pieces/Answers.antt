@@ -1,7 +1,7 @@
 use Rattle.std.proofs.Common.{◌++◌, ◌+◌, drop}
 use Rattle.std.proofs.lemmas.Result.{err_from_is_err_and}
 use Rattle.dt_names.proofs.Sinks.{takes_then, refused_behind}
-use Rattle.dt_lines.specs.Lines.{joined}
+use Rattle.dt_names.specs.Sink.{joined}
 use Rattle.dt_streams.proofs.Pieces.{grown, next}
 use Rattle.dt_streams.proofs.text.put_pieces.Goals as goal
 

@@ -1,7 +1,6 @@
 -- The sink took the texts before the index.
 use Rattle.std.proofs.Common.{◌≡◌, ℕ, List, ◌++◌, drop}
-use Rattle.dt_names.specs.Sink.{Takes}
-use Rattle.dt_lines.specs.Lines.{joined}
+use Rattle.dt_names.specs.Sink.{Takes, joined}
 use Rattle.dt_streams.proofs.text.put_pieces.Given as goal
 
 abbrev pub invariant-loop-piece : goal.invariant-loop-piece
