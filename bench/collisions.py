@@ -4,8 +4,8 @@
     python3 bench/collisions.py crates/dtool/out/dtool
 
 The names are made against a table of 2^20 bits that is filled by SipHash-1-3 with both keys 0 of a name's sort, its owner and its
-bytes, as a reader without a seed would: all fall in one class of four, and set bits below 2^16 only. The table is soon full there, and
-each further name has to be compared with all before it. A C compiler makes the search, which takes some seconds."""
+bytes, as a reader without a seed would: all fall in one class of two, and set bits below 2^17 only. The table is soon full there, and
+many further names have to be compared with all before them. A C compiler makes the search, which takes some seconds."""
 import os
 import random
 import subprocess
@@ -44,8 +44,8 @@ static inline uint64_t finished(state s, uint64_t tail) {
     s = round_of(round_of(round_of(s)));
     return s.v0 ^ s.v1 ^ s.v2 ^ s.v3;
 }
-/* the class is hash % 4; the three bits are the hash's parts of 20 bits */
-static const uint64_t FIXED = 3 | 15ull << 16 | 15ull << 36 | 15ull << 56;
+/* the class is hash % 2; the five bits are told by 20 bits of the hash each, from each tenth on */
+static const uint64_t FIXED = 1 | 7ull << 17 | 7ull << 27 | 7ull << 37 | 7ull << 47 | 7ull << 57;
 int main(int argc, char **argv) {
     long left = atol(argv[1]);
     state s = {0x736f6d6570736575, 0x646f72616e646f6d, 0x6c7967656e657261, 0x7465646279746573};

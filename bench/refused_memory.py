@@ -80,7 +80,8 @@ SOURCES = {
     "first": b"""/dts-v1/; /plugin/; &u { new: dev@1 { irq = <&gic 2>, <&new 3>; }; }; &{/ic@1} { wide; };""",
     "second": b"""/dts-v1/; /plugin/; &new { s = "x"; }; &{/} { n { p = <&new &gic>; }; };""",
 }
-LARGE = re.compile(r"^(\*x?) (\d+\.\.)?(\d+) ", re.M)
+LARGE = re.compile(r"^\*x? (?:\d+\.\.)?(\d+) (.*)", re.M)
+DAMAGE = re.compile(r"^(.*, )?damage$", re.M)
 REFUSED = re.compile(r"(input \d+: )?fault 1 NoMemory|fault 90 WriteFault")
 NO_MEMORY = re.compile(r"dtool: input [0-2]: fault 1 NoMemory\n")
 
@@ -90,8 +91,8 @@ def small_tables(data, folder):
     for name in sorted(os.listdir(data)):
         with open(os.path.join(data, name)) as table:
             blocks = table.read().split("\n\n")
-        kept = [it for it in blocks if all(int(n) < 1000 for *_, n in LARGE.findall(it)) and "\ndamage\n" not in f"\n{it}"
-                and "set-size" not in it]
+        kept = [it for it in blocks if all(int(n) < 1000 and int(n) * len(text) < 100_000 for n, text in LARGE.findall(it))
+                and not DAMAGE.search(it) and "set-size" not in it]
         with open(os.path.join(folder, name), "w") as to:
             to.write("\n\n".join(kept) + "\n")
 

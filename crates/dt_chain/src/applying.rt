@@ -5,7 +5,7 @@ ghost use Rattle.dt_chain.specs.Apply.{IsRead, IsNoBlob, IsBlobApplied, WhyNoBlo
 
 use crate::in_turn::{Inputs, blob_of};
 use dt_flat::FlatTree;
-use dt_names::Fault;
+use dt_names::{Fault, Seed};
 use dt_overlay::{apply, tree_room_is_counted};
 use dt_read::Blob;
 use std::alloc::Global;
@@ -52,9 +52,9 @@ impl Inputs for Blobs {
 
     ghost lacks_object = { IsNoBlob };
 
-    fn base_tree(alloc: Global, base: &[u8]) -> Result<FlatTree, Fault> {
+    fn base_tree(alloc: Global, base: &[u8], others: Seed) -> Result<FlatTree, Fault> {
         let blob = Blob::check(base)?;
-        blob.to_flat(alloc)
+        blob.to_seeded_flat(alloc, blob.seed().with(others))
     }
 
     fn apply_to(alloc: Global, tree: &mut FlatTree, input: &[u8]) -> Result<(), Fault> {

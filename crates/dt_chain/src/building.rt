@@ -13,7 +13,7 @@ use crate::in_turn::{Inputs, blob_of};
 use dt_flat::FlatTree;
 use dt_format::blob_has_no_fault;
 use dt_model::one_reading;
-use dt_names::Fault;
+use dt_names::{Fault, Seed};
 use dt_parse::parse;
 use std::alloc::Global;
 
@@ -45,8 +45,9 @@ impl Inputs for Sources {
 
     ghost lacks_object = { WhyNoObject };
 
-    fn base_tree(alloc: Global, base: &[u8]) -> Result<FlatTree, Fault> {
-        let source = parse(alloc, base)?;
+    fn base_tree(alloc: Global, base: &[u8], others: Seed) -> Result<FlatTree, Fault> {
+        let mut source = parse(alloc, base)?;
+        source.add_seed(others);
         let tree = base_tree(alloc, &source)?;
         tree.validity();
         Ok(tree)

@@ -9,7 +9,7 @@ ghost use Rattle.dt_names.specs.declared.fault.FaultKind.TheVariants.{NoMemory};
 ghost use Rattle.dt_chain.specs.Apply.{IsStep, AreSteps, WhyNoStep, IsStopped, IsBlobOfAll, WhyNoneOfAll};
 
 use dt_flat::FlatTree;
-use dt_names::Fault;
+use dt_names::{Fault, Seed};
 use dt_write::write_blob;
 use std::alloc::Global;
 
@@ -25,8 +25,8 @@ pub(crate) trait Inputs {
 
     ghost lacks_object: { List ℕ → AFault → Type 0 };
 
-    /// The tree of a base.
-    fn base_tree(alloc: Global, base: &[u8]) -> Result<FlatTree, Fault>
+    /// The tree of a base, into which names and numbers of inputs that have the seed will come.
+    fn base_tree(alloc: Global, base: &[u8], others: Seed) -> Result<FlatTree, Fault>
         ensures tree { IfOk result (λ tree. has_base base.now (reading tree)) }
         ensures refused { IfErr result (λ fault. (fault ≡ placeless NoMemory) ⊎ lacks_base base.now fault) };
 
@@ -45,7 +45,7 @@ pub(crate) fn blob_of<I: Inputs>(
     ensures blob { IfOk result (λ blob. IsBlobOfAll I.has_base I.has_object base.now (map (λ x. x.now) inputs.now) blob.items) }
     ensures refused { IfErr result (λ e. WhyNoneOfAll I.has_base I.has_object I.lacks_base I.lacks_object base.now (map (λ x. x.now) inputs.now) e.0 e.1) }
 {
-    let mut tree = match I::base_tree(alloc, base) {
+    let mut tree = match I::base_tree(alloc, base, Seed::of_all(inputs)) {
         Ok(tree) => tree,
         Err(fault) => return Err((0, fault)),
     };

@@ -1,15 +1,14 @@
 -- Which node has a number.
 use Rattle.std.specs.Prelude.{◌≡◌, ℕ, ◌==◌, if◌then◌else◌, List, Option, Some, None, nat_eq, Bool, false}
-use Rattle.std.specs.declared.hash.FoldHasher.{FoldHasher}
-use Rattle.std.specs.declared.hash.BuildHasherDefault.{BuildHasherDefault}
 use Rattle.std.specs.Int.{w32, from_be_bytes}
 use Rattle.indexmap.specs.IndexMap.{IndexMap, get}
 use Rattle.dt_model.specs.Valid.{IsPhandle}
+use Rattle.dt_names.specs.declared.seed.Seed.{Seed}
 use Rattle.dt_flat.specs.Arena.{Slot, phandle_at}
 
 -- a table from numbers to nodes
 abbrev pub Table : Type 0
-Table = IndexMap ℕ ℕ (BuildHasherDefault FoldHasher)
+Table = IndexMap ℕ ℕ Seed
 
 -- the node that the table has at a number
 abbrev pub holder : Table → ℕ → Option ℕ

@@ -5,6 +5,7 @@ ghost use Rattle.std.specs.Iterator.{YieldsFirst, item_count};
 ghost use Rattle.dt_flat.specs.Arena.{Child, child_of, children_behind, first_node};
 
 use crate::NodeId;
+use dt_names::Seed;
 use indexmap::IndexMap;
 use std::alloc::{AllocError, Global};
 use std::marker::Model;
@@ -12,7 +13,7 @@ use std::marker::Model;
 /// Names and numbers of children, in the order in which they were added.
 #[derive(Drop)]
 pub struct ChildTable {
-    nodes: IndexMap<Vec<u8>, NodeId>,
+    nodes: IndexMap<Vec<u8>, NodeId, Seed>,
 }
 
 impl Model for ChildTable {
@@ -26,12 +27,12 @@ impl Model for ChildTable {
 }
 
 impl ChildTable {
-    /// A table of no children.
-    pub fn new(alloc: Global) -> Self
+    /// A table of no children, whose names are hashed behind a seed.
+    pub fn new(alloc: Global, seed: Seed) -> Self
         ensures { result ≡ [] }
     {
         ChildTable {
-            nodes: IndexMap::new(alloc),
+            nodes: IndexMap::with_hasher(alloc, seed),
         }
     }
 

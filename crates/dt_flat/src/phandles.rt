@@ -8,12 +8,12 @@ ghost use Rattle.dt_model.specs.Meaning.{cell};
 ghost use Rattle.dt_model.specs.Valid.{IsPhandle};
 
 use crate::NodeId;
-use dt_names::phandle_of;
+use dt_names::{Seed, phandle_of};
 use indexmap::IndexMap;
 use std::alloc::{AllocError, Global};
 
 /// Which node has a number.
-pub type Phandles = IndexMap<u32, NodeId>;
+pub type Phandles = IndexMap<u32, NodeId, Seed>;
 
 /// The node that has the number.
 pub fn find_number(phandles: &Phandles, number: u32) -> Option<NodeId>

@@ -10,6 +10,7 @@ ghost use Rattle.dt_flat.specs.Arena.{Slot, named_children, child_of, with_child
 use crate::NodeId;
 use crate::children::ChildTable;
 use crate::properties::PropertyTable;
+use dt_names::Seed;
 use std::alloc::{AllocError, Global};
 use std::marker::Model;
 
@@ -26,6 +27,7 @@ pub struct Place {
 /// All nodes by their numbers. The root stands beside the others, so that a tree of a root alone takes no memory.
 #[derive(Drop)]
 pub struct Places {
+    seed: Seed,
     root: Place,
     others: Vec<Place>,
 }
@@ -43,7 +45,7 @@ impl Model for Places {
 }
 
 impl Place {
-    fn new(alloc: Global, parent: NodeId, depth: usize, name: Vec<u8>) -> Self
+    fn new(alloc: Global, seed: Seed, parent: NodeId, depth: usize, name: Vec<u8>) -> Self
         ensures parent { result.parent ≡ parent }
         ensures depth { result.depth ≡ depth }
         ensures name { result.name.items ≡ name.items }
@@ -54,8 +56,8 @@ impl Place {
             parent,
             depth,
             name,
-            properties: PropertyTable::new(alloc),
-            children: ChildTable::new(alloc),
+            properties: PropertyTable::new(alloc, seed),
+            children: ChildTable::new(alloc, seed),
         }
     }
 }
@@ -150,14 +152,20 @@ fn patch(
 }
 
 impl Places {
-    /// A root alone.
-    pub fn new(alloc: Global) -> Self
+    /// A root alone. All names will be hashed behind the seed.
+    pub fn new(alloc: Global, seed: Seed) -> Self
         ensures { result ≡ record { parent = 0; depth = 0; name = []; properties = [] } ∷ [] }
     {
         Places {
-            root: Place::new(alloc, 0, 0, Vec::new(alloc)),
+            seed,
+            root: Place::new(alloc, seed, 0, 0, Vec::new(alloc)),
             others: Vec::new(alloc),
         }
+    }
+
+    /// What names are hashed behind.
+    pub fn seed(&self) -> Seed {
+        self.seed
     }
 
     /// The number of the root.
@@ -202,7 +210,7 @@ impl Places {
         let kept = Vec::from_slice(alloc, name)?;
         list_next(&mut self.root, &mut self.others, alloc, parent, name)?;
         self.others
-            .push_reserved(Place::new(alloc, parent, depth, kept));
+            .push_reserved(Place::new(alloc, self.seed, parent, depth, kept));
         Ok(())
     }
 

@@ -6,6 +6,7 @@ ghost use Rattle.dt_model.specs.Applied.{with_cell};
 ghost use Rattle.dt_model.specs.Changes.{set_property};
 ghost use Rattle.dt_model.specs.Tree.{value_of};
 
+use dt_names::Seed;
 use indexmap::IndexMap;
 use std::alloc::{AllocError, Global};
 use std::marker::Model;
@@ -13,7 +14,7 @@ use std::marker::Model;
 /// Properties in the order in which they were first set.
 #[derive(Drop)]
 pub struct PropertyTable {
-    values: IndexMap<Vec<u8>, Vec<u8>>,
+    values: IndexMap<Vec<u8>, Vec<u8>, Seed>,
 }
 
 impl Model for PropertyTable {
@@ -35,12 +36,12 @@ fn write_cell(bytes: &mut [u8], offset: usize, number: u32)
 }
 
 impl PropertyTable {
-    /// A table of no properties.
-    pub fn new(alloc: Global) -> Self
+    /// A table of no properties, whose names are hashed behind a seed.
+    pub fn new(alloc: Global, seed: Seed) -> Self
         ensures { result ≡ [] }
     {
         PropertyTable {
-            values: IndexMap::new(alloc),
+            values: IndexMap::with_hasher(alloc, seed),
         }
     }
 

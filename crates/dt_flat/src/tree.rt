@@ -18,7 +18,7 @@ use crate::places::Places;
 use crate::properties::Props;
 use crate::ways::path_of;
 use dt_names::limits::{MOST_NAMES, MOST_NODES};
-use dt_names::{Fault, FaultKind, NodeName, Path, PropName};
+use dt_names::{Fault, FaultKind, NodeName, Path, PropName, Seed};
 use std::alloc::{AllocError, Global};
 use std::marker::Model;
 
@@ -84,13 +84,26 @@ impl FlatTree {
     pub fn new(alloc: Global, boot_cpu: u32) -> FlatTree
         ensures { result ≡ root_alone boot_cpu }
     {
+        FlatTree::seeded(alloc, Seed::fixed(), boot_cpu)
+    }
+
+    /// A tree of a root alone, as [`FlatTree::new`] makes it, into which names and numbers of strangers will come: they are hashed behind the
+    /// seed of all inputs that bring them.
+    pub fn seeded(alloc: Global, seed: Seed, boot_cpu: u32) -> FlatTree
+        ensures { result ≡ root_alone boot_cpu }
+    {
         FlatTree {
             alloc,
             boot_cpu,
             reservations: Vec::new(alloc),
-            places: Places::new(alloc),
-            phandles: Phandles::new(alloc),
+            places: Places::new(alloc, seed),
+            phandles: Phandles::with_hasher(alloc, seed),
         }
+    }
+
+    /// What the tree's names and numbers are hashed behind.
+    pub fn seed(&self) -> Seed {
+        self.places.seed()
     }
 
     /// Adds a memory reservation at the end (Devicetree Specification v0.4, 5.3).

@@ -4,11 +4,10 @@ use Rattle.std.specs.Borrow.{Bor}
 use Rattle.std.specs.Global.{Vec}
 use Rattle.std.specs.HashSet.{HashSet, contains_by}
 use Rattle.std.specs.Str.{bytes_eq}
-use Rattle.std.specs.declared.hash.FoldHasher.{FoldHasher}
-use Rattle.std.specs.declared.hash.BuildHasherDefault.{BuildHasherDefault}
 use Rattle.dt_model.specs.Names.{Name}
 use Rattle.dt_model.specs.OverlaySource.{fragment_name, free_from}
 use Rattle.dt_model.specs.Source.{Place, root, block, delete_node, child, label, property, delete_property, delete_child, close, is_among}
+use Rattle.dt_names.specs.declared.seed.Seed.{Seed}
 
 -- ---- one place
 
@@ -47,7 +46,7 @@ abbrev pub borrowed : List (Bor (List ℕ)) → List Name
 borrowed names = map (λ (n : Bor (List ℕ)). n.now) names
 
 abbrev pub NameSet : Type 0
-NameSet = HashSet (Bor (List ℕ)) (BuildHasherDefault FoldHasher)
+NameSet = HashSet (Bor (List ℕ)) Seed
 
 abbrev pub has_name : NameSet → Name → Bool
 has_name names x = contains_by (λ (n : Bor (List ℕ)). bytes_eq x n.now) names

@@ -9,6 +9,7 @@ ghost use Rattle.dt_items.specs.Said.{place_said};
 ghost use Rattle.dt_fragments.specs.FragmentNames.{borrowed, depth_behind, has_name, made_names, root_child, texts, IsSetOf};
 
 use dt_items::Item;
+use dt_names::Seed;
 use itoa::Buffer;
 use std::alloc::{AllocError, Global};
 use std::collections::HashSet;
@@ -57,7 +58,7 @@ fn root_children<'a>(alloc: Global, items: &[Item<'a>]) -> Result<Vec<&'a [u8]>,
 }
 
 /// One more name.
-fn add_name<'a>(names: &mut HashSet<&'a [u8]>, name: &'a [u8]) -> Result<(), AllocError>
+fn add_name<'a>(names: &mut HashSet<&'a [u8], Seed>, name: &'a [u8]) -> Result<(), AllocError>
     ensures { OnOk result ((x : Name) → has_name names.new x ≡ (bytes_eq x name.now || has_name names.old x)) }
 {
     names.insert(name)?;
@@ -65,10 +66,14 @@ fn add_name<'a>(names: &mut HashSet<&'a [u8]>, name: &'a [u8]) -> Result<(), All
 }
 
 /// The names as a set.
-fn hashed<'a>(alloc: Global, names: &[&'a [u8]]) -> Result<HashSet<&'a [u8]>, AllocError>
+fn hashed<'a>(
+    alloc: Global,
+    seed: Seed,
+    names: &[&'a [u8]],
+) -> Result<HashSet<&'a [u8], Seed>, AllocError>
     ensures { IfOk result (IsSetOf (borrowed names.now)) }
 {
-    let mut hashed = HashSet::new(alloc);
+    let mut hashed = HashSet::with_hasher(alloc, seed);
     for name in names {
         add_name(&mut hashed, name)?;
     }
@@ -89,7 +94,7 @@ fn fragment_name(alloc: Global, number: u128) -> Result<Vec<u8>, AllocError>
 #[derive(Drop)]
 struct Written<'a> {
     names: Vec<&'a [u8]>,
-    hashed: HashSet<&'a [u8]>,
+    hashed: HashSet<&'a [u8], Seed>,
 }
 
 impl<'a> Model for Written<'a> {
@@ -105,12 +110,12 @@ impl<'a> Model for Written<'a> {
 }
 
 impl<'a> Written<'a> {
-    fn new(alloc: Global, items: &[Item<'a>]) -> Result<Written<'a>, AllocError>
+    fn new(alloc: Global, seed: Seed, items: &[Item<'a>]) -> Result<Written<'a>, AllocError>
         ensures names { IfOk result (λ written. written ≡ root_children None (map place_said items.now)) }
         ensures few { IfOk result (λ written. length written < 2 ^ 64) }
     {
         let names = root_children(alloc, items)?;
-        let hashed = hashed(alloc, &names)?;
+        let hashed = hashed(alloc, seed, &names)?;
         Ok(Written { names, hashed })
     }
 
@@ -181,14 +186,15 @@ impl<'a> Written<'a> {
     }
 }
 
-/// The names that so many new fragments get, in the order in which they get them.
+/// The names that so many new fragments get, in the order in which they get them. The names of the items are hashed behind the seed.
 pub fn fragment_names(
     alloc: Global,
+    seed: Seed,
     items: &[Item<'_>],
     count: usize,
 ) -> Result<Vec<Vec<u8>>, AllocError>
     ensures { IfOk result (λ names. texts names.items ≡ made_names (root_children None (map place_said items.now)) count 0) }
 {
-    let written = Written::new(alloc, items)?;
+    let written = Written::new(alloc, seed, items)?;
     written.made_names(alloc, count)
 }

@@ -11,7 +11,7 @@ ghost use Rattle.dt_items.specs.Said.{reservation_said, place_said, said};
 ghost use Rattle.dt_items.specs.Spelled.{IsSpelled};
 
 use dt_grammar::{source_has_places, source_is_nested};
-use dt_names::{Label, NodeName, PathRef, PropName};
+use dt_names::{Label, NodeName, PathRef, PropName, Seed};
 use std::marker::Model;
 
 /// A node as a source refers to it: `&label`, or `&{/path}` (Devicetree Specification v0.4, 6.3).
@@ -80,6 +80,7 @@ pub struct Reservation {
 /// stand inside 64 others at most; in a body the properties stand before the children; there is a statement.
 #[derive(Drop)]
 pub struct Source<'a> {
+    seed: Seed,
     plugin: bool,
     reservations: Vec<Reservation>,
     items: Vec<Item<'a>>,
@@ -98,16 +99,34 @@ impl<'a> Model for Source<'a> {
 }
 
 impl<'a> Source<'a> {
-    /// What was read of some tokens.
-    pub fn of(plugin: bool, reservations: Vec<Reservation>, items: Vec<Item<'a>>) -> Source<'a>
+    /// What was read of some tokens, with the seed of their text.
+    pub fn of(
+        seed: Seed,
+        plugin: bool,
+        reservations: Vec<Reservation>,
+        items: Vec<Item<'a>>,
+    ) -> Source<'a>
         requires { IsSpelled (said plugin reservations.items items.items) }
         ensures { result ≡ said plugin reservations.items items.entry.items }
     {
         Source {
+            seed,
             plugin,
             reservations,
             items,
         }
+    }
+
+    /// What the names and the numbers of the text are hashed behind.
+    pub fn seed(&self) -> Seed {
+        self.seed
+    }
+
+    /// Names and numbers of one more input will come among those of the text.
+    pub fn add_seed(&mut self, other: Seed)
+        ensures { self.new ≡ self.old }
+    {
+        self.seed = self.seed.with(other);
     }
 
     /// What is true of each source: some tokens spell it; what its places name are names, and their bytes are bytes; they are

@@ -178,6 +178,6 @@ pub fn add_outside(alloc: Global, tree: &mut FlatTree, nodes: &[NamedNode<'_>]) 
         (λ fault. WhyNotPlanted fault.kind (with_outside tree.old.slots (map node_said nodes.now)) × (fault.at ≡ None)) }
 {
     let mut path = LastPath::root(alloc)?;
-    let mut table = Waiting::new(alloc);
+    let mut table = Waiting::new(alloc, tree.seed());
     add_listed(tree, &mut table, &mut path, nodes)
 }

@@ -4,13 +4,14 @@ ghost use Rattle.std.specs.Prelude.{◌≡◌, ◌<◌, ◌+◌, ◌++◌, [], l
 ghost use Rattle.dt_flat.specs.Kept.{properties_kept};
 ghost use Rattle.dt_marks.specs.Waiting.{with_text, place_text};
 
+use dt_names::Seed;
 use indexmap::IndexMap;
 use itoa::Buffer;
 use std::alloc::{AllocError, Global};
 use std::marker::Model;
 
 /// Texts by the labels under which they are listed.
-type Texts = IndexMap<Vec<u8>, Vec<u8>>;
+type Texts = IndexMap<Vec<u8>, Vec<u8>, Seed>;
 
 /// The texts of the cells that wait, by the labels of the nodes for which they wait, in the order in which the labels come
 /// first. It is seen as properties.
@@ -67,13 +68,13 @@ fn put_place(
 }
 
 impl Waiting {
-    /// No cells.
-    pub fn new(alloc: Global) -> Self
+    /// No cells. The labels will be hashed behind the seed.
+    pub fn new(alloc: Global, seed: Seed) -> Self
         ensures { result ≡ [] }
     {
         Waiting {
             alloc,
-            texts: Texts::new(alloc),
+            texts: Texts::with_hasher(alloc, seed),
             place: Vec::new(alloc),
         }
     }

@@ -5,7 +5,7 @@ ghost use Rattle.dt_model.specs.Named.{list_of, tree_of};
 ghost use Rattle.dt_model.specs.NamedOf.{IsNamed};
 ghost use Rattle.dt_named.specs.Said.{IsTree, list_said, node_said};
 
-use dt_names::NodeId;
+use dt_names::{NodeId, Seed};
 use std::borrow::CowSlice;
 use std::marker::Model;
 
@@ -55,6 +55,7 @@ pub struct NamedNode<'a> {
 /// 2.3.3) that no other node has.
 #[derive(Drop)]
 pub struct NamedTree<'a> {
+    seed: Seed,
     reservations: Vec<(u64, u64)>,
     nodes: Vec<NamedNode<'a>>,
 }
@@ -71,15 +72,21 @@ impl<'a> Model for NamedTree<'a> {
 }
 
 impl<'a> NamedTree<'a> {
-    /// The tree of these nodes.
-    pub fn of(reservations: Vec<(u64, u64)>, nodes: Vec<NamedNode<'a>>) -> NamedTree<'a>
+    /// The tree of these nodes, with the seed of the text that they come from.
+    pub fn of(seed: Seed, reservations: Vec<(u64, u64)>, nodes: Vec<NamedNode<'a>>) -> NamedTree<'a>
         requires { IsTree (list_said reservations.items nodes.items) }
         ensures { result ≡ list_said reservations.items nodes.entry.items }
     {
         NamedTree {
+            seed,
             reservations,
             nodes,
         }
+    }
+
+    /// What the tree's names and numbers are hashed behind.
+    pub fn seed(&self) -> Seed {
+        self.seed
     }
 
     /// The memory reservations, as pairs of an address and a size in bytes (Devicetree Specification v0.4, 5.3).

@@ -17,6 +17,7 @@ pub mod limits;
 mod name;
 mod path;
 mod phandle;
+mod seed;
 mod stream;
 
 pub use fault::{Fault, FaultKind};
@@ -24,6 +25,7 @@ pub use laws::{one_outcome, one_path};
 pub use name::{Label, NodeName, PropName, is_bookkeeping_name};
 pub use path::{Path, PathNames, PathRef};
 pub use phandle::phandle_of;
+pub use seed::Seed;
 pub use stream::{Feed, In, Out, Sink, put_all};
 
 /// A node by its number: in a tree that is built, nodes are numbered in the order in which they were made; in a blob,

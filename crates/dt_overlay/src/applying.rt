@@ -28,7 +28,7 @@ use crate::symbols::{Symbol, list_symbols};
 use crate::writes::{Write, write_cells};
 use dt_flat::FlatTree;
 use dt_landing::{fragments_are_merged, sited_is_applied};
-use dt_names::{Fault, NodeName, Path};
+use dt_names::{Fault, NodeName, Path, Seed};
 use dt_read::Blob;
 use dt_targets::{Places, Target};
 use std::alloc::Global;
@@ -46,7 +46,7 @@ struct Plan {
 }
 
 impl Plan {
-    fn new(alloc: Global) -> Plan
+    fn new(alloc: Global, seed: Seed) -> Plan
         ensures { IsEmptyPlan result }
     {
         Plan {
@@ -55,7 +55,7 @@ impl Plan {
             label_writes: Vec::new(alloc),
             symbols: Vec::new(alloc),
             sites: Vec::new(alloc),
-            places: Places::new(alloc),
+            places: Places::new(alloc, seed),
             value: Vec::new(alloc),
         }
     }
@@ -232,7 +232,7 @@ fn carry_out_planned<T: Target>(
         × WhyNotApplied (HasNoRoom T.reading T.has_room) fault.kind (T.reading target.old) (reading object.old)) }
     ensures left { IfErr result (λ fault. IsLeftBy (HasNoRoom T.reading T.has_room) fault.kind (T.reading target.old) (reading object.old) (T.reading target.new)) }
 {
-    let mut plan = Plan::new(alloc);
+    let mut plan = Plan::new(alloc, object.seed().with(target.seed()));
     let done = carry_out(alloc, target, symbols, object, brought, &mut plan);
     // Let go of by hand: what goes at an exit by itself is proved there field by field.
     drop(plan);

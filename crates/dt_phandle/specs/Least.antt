@@ -2,12 +2,11 @@
 use Rattle.std.specs.Prelude.{◌≡◌, ℕ, ◌<◌, ◌≤◌, true, List, ◌++◌, Option, Some, nat_eq}
 use Rattle.std.specs.List.{list_any, AllByRecursion}
 use Rattle.std.specs.HashSet.{HashSet, contains}
-use Rattle.std.specs.declared.hash.FoldHasher.{FoldHasher}
-use Rattle.std.specs.declared.hash.BuildHasherDefault.{BuildHasherDefault}
 use Rattle.dt_model.specs.Numbering.{Asked, AreNumbersFor, IsNumbering}
+use Rattle.dt_names.specs.declared.seed.Seed.{Seed}
 
 abbrev pub NumberSet : Type 0
-NumberSet = HashSet ℕ (BuildHasherDefault FoldHasher)
+NumberSet = HashSet ℕ Seed
 
 -- the set has these numbers
 abbrev pub IsSetOf : List ℕ → NumberSet → Type 0

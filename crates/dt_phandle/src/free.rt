@@ -10,13 +10,14 @@ ghost use Rattle.dt_phandle.specs.Asking.{asked_said};
 ghost use Rattle.dt_phandle.specs.Least.{AreLeft, IsTaken, IsSetOf};
 
 use crate::asked::Asked;
+use dt_names::Seed;
 use std::alloc::{AllocError, Global};
 use std::collections::HashSet;
 
 /// The numbers that may still be given: those from `next` on that aren't written.
 #[derive(Drop)]
 pub struct FreeNumbers {
-    pub written: HashSet<u32>,
+    pub written: HashSet<u32, Seed>,
     pub next: u32,
 }
 
@@ -54,7 +55,7 @@ impl FreeNumbers {
 }
 
 // The numbers that are written.
-fn add_written(written: &mut HashSet<u32>, asked: &[Asked]) -> Result<(), AllocError>
+fn add_written(written: &mut HashSet<u32, Seed>, asked: &[Asked]) -> Result<(), AllocError>
     requires { IsEmpty written.old }
     ensures numbers { OnOk result (IsSetOf (written_numbers (map asked_said asked.now)) written.new) }
     ensures size { OnOk result (hash_set_len written.new ≤ length asked.now) }
@@ -84,13 +85,17 @@ fn give(
     Ok(())
 }
 
-/// The numbers of nodes that ask for these.
-pub fn numbers_for(alloc: Global, asked: &[Asked]) -> Result<Vec<Option<u32>>, AllocError>
+/// The numbers of nodes that ask for these. Those that are written are hashed behind the seed.
+pub fn numbers_for(
+    alloc: Global,
+    seed: Seed,
+    asked: &[Asked],
+) -> Result<Vec<Option<u32>>, AllocError>
     requires { length asked.now ≤ most_nodes }
     ensures { IfOk result (λ numbers. IsNumbering (map asked_said asked.now) numbers.items) }
 {
     let mut free = FreeNumbers {
-        written: HashSet::new(alloc),
+        written: HashSet::with_hasher(alloc, seed),
         next: 1,
     };
     add_written(&mut free.written, asked)?;

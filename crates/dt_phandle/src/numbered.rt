@@ -209,7 +209,7 @@ pub fn instance(
     ensures count { IfOk result (λ made. length made.slots ≡ length tree.now.nodes) }
     ensures refused { IfErr result (λ fault. (fault.kind ≡ NoMemory) × (fault.at ≡ None)) }
 {
-    let mut made = FlatTree::new(alloc, 0);
+    let mut made = FlatTree::seeded(alloc, tree.seed(), 0);
     let mut bytes = Vec::new(alloc);
     fill(&mut made, &mut bytes, tree, numbering)?;
     Ok(made)

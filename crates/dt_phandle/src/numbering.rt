@@ -41,7 +41,7 @@ pub fn number(alloc: Global, tree: &NamedTree<'_>) -> Result<Numbering, Fault>
 {
     tree.validity();
     let asked = asked_among(alloc, tree.nodes())?;
-    let numbers = numbers_for(alloc, &asked)?;
+    let numbers = numbers_for(alloc, tree.seed(), &asked)?;
     Ok(Numbering { numbers })
 }
 

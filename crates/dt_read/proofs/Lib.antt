@@ -23,5 +23,6 @@ pub mod KeyCounts
 pub mod Novelty
 pub mod PhandleKeys
 pub mod NameKeys
+pub mod NamesApart
 pub mod NodePlaces
 pub mod Behind

@@ -22,17 +22,17 @@ use Rattle.dt_read.proofs.Apart.{below_is_node, root_is_node}
 
 -- ---- the keys of nodes
 
-abbrev child_key : ℕ → Name → Key
+abbrev pub child_key : ℕ → Name → Key
 child_key owner name = record { sort = sorts.Child; owner = owner; bytes = name }
 
-abbrev property_key : ℕ → Property → Key
+abbrev pub property_key : ℕ → Property → Key
 property_key owner p = record { sort = sorts.Property; owner = owner; bytes = p.name }
 
-abbrev own_keys : ℕ → List Property → List Key
+abbrev pub own_keys : ℕ → List Property → List Key
 own_keys owner properties = map (property_key owner) properties
 
 -- those of siblings, whose parent has that place, and of all below them
-abbrev node_keys : ℕ → Nodes → List Key
+abbrev pub node_keys : ℕ → Nodes → List Key
 node_keys owner no_nodes = []
 node_keys owner (node place name properties children siblings) =
     child_key owner name ∷ (own_keys place properties ++ (node_keys place children ++ node_keys owner siblings))
@@ -72,7 +72,7 @@ tree_read tree =
 
 -- ---- where keys differ, names differ
 
-own_names : (owner : ℕ) (properties : List Property) → AreDistinct (own_keys owner properties) → AreDistinct (property_names properties)
+pub own_names : (owner : ℕ) (properties : List Property) → AreDistinct (own_keys owner properties) → AreDistinct (property_names properties)
 own_names owner [] d = tt
 own_names owner (p ∷ properties) d = (others properties d.0, own_names owner properties d.1)
   where
@@ -80,7 +80,7 @@ own_names owner (p ∷ properties) d = (others properties d.0, own_names owner p
     others [] a = tt
     others (q ∷ ps) a = (λ e. a.0 (λ i. record { sort = sorts.Property; owner = owner; bytes = e i }), others ps a.1)
 
-sibling_names : (owner : ℕ) (nodes : Nodes) → AreDistinct (node_keys owner nodes) → AreDistinct (head_names (heads_of nodes))
+pub sibling_names : (owner : ℕ) (nodes : Nodes) → AreDistinct (node_keys owner nodes) → AreDistinct (head_names (heads_of nodes))
 sibling_names owner no_nodes d = tt
 sibling_names owner (node place name properties children siblings) d =
     let below = distinct-back (own_keys place properties) (node_keys place children ++ node_keys owner siblings) d.1 in
@@ -169,7 +169,7 @@ below_are owner (node place name properties children siblings) low high r =
           (all-append (IsBelow owner low high) (node_keys place children) (node_keys owner siblings) inner later),
     )
 
-own_apart : (owner : ℕ) (properties : List Property) → AreDistinct (property_names properties) → AreDistinct (own_keys owner properties)
+pub own_apart : (owner : ℕ) (properties : List Property) → AreDistinct (property_names properties) → AreDistinct (own_keys owner properties)
 own_apart owner [] d = tt
 own_apart owner (p ∷ properties) d = (others properties d.0, own_apart owner properties d.1)
   where
@@ -203,7 +203,7 @@ first_apart owner name (node place other properties children siblings) low high 
       beside owner name place properties children siblings r.1 (omega arith) r.2 (first_apart owner name siblings r.1 high r.3 (omega arith) a.1),
     )
 
-keys_apart : (owner : ℕ) (nodes : Nodes) (low high : ℕ) → Rise low nodes high → owner < low → AreDistinct (head_names (heads_of nodes))
+pub keys_apart : (owner : ℕ) (nodes : Nodes) (low high : ℕ) → Rise low nodes high → owner < low → AreDistinct (head_names (heads_of nodes))
     → ((place : ℕ) (parts : Parts) → HasBelow nodes place parts → AreDistinctParts parts) → AreDistinct (node_keys owner nodes)
 keys_apart owner no_nodes low high r lt d h = tt
 keys_apart owner (node place name properties children siblings) low high r lt d h =

@@ -1,10 +1,13 @@
 -- No more than 65 nodes of a checked tree are open at once.
+use Rattle.std.proofs.lemmas.Bool.{false≢true}
 use Rattle.std.proofs.Common.{◌≡◌, ℕ, suc, ◌-◌, List, [], ◌∷◌, ◌++◌, map, sym, subst, append_assoc, arith}
 use Rattle.dt_model.specs.Tree.{Property}
 use Rattle.dt_model.specs.Valid.{IsNoDeeper}
 use Rattle.dt_read.specs.Placed.{Nodes, no_nodes, node, forest_of}
-use Rattle.dt_read.specs.Marks.{Mark, end_mark, prop_mark, last_mark, Root, marks_of_nodes, marks_of}
-use Rattle.dt_read.specs.Keys.{AreShallow}
+use Rattle.dt_read.specs.Marks.{Mark, begin_mark, end_mark, prop_mark, nop_mark, last_mark, Root, marks_of_nodes, marks_of}
+use Rattle.dt_read.specs.Keys.{AreShallow, AreShallowFor}
+use Rattle.dt_read.specs.declared.keys.Wanted.{Wanted}
+use Rattle.dt_read.specs.declared.keys.Wanted.TheVariants.{Own}
 
 shallow_properties : (count : ℕ) (properties : List Property) (rest : List Mark) → AreShallow count rest → AreShallow count (map prop_mark properties ++ rest)
 shallow_properties count [] rest s = s
@@ -31,3 +34,21 @@ shallow_tree tree d =
     let regroup : (map prop_mark tree.properties ++ (marks_of_nodes tree.children ++ end_mark ∷ [])) ++ last_mark ∷ []
     ≡ map prop_mark tree.properties ++ (marks_of_nodes tree.children ++ end_mark ∷ (last_mark ∷ [])) = simp append_assoc in
     (omega arith, subst (AreShallow 1) (sym regroup) (shallow_properties 1 tree.properties _ inside))
+
+-- the same of the tokens from which keys come
+pub shallow_for : (wanted : Wanted) (count : ℕ) (marks : List Mark) → AreShallow count marks → AreShallowFor wanted count marks
+shallow_for wanted count [] s = tt
+shallow_for wanted count (begin_mark place name ∷ marks) s = λ e. (s.0, shallow_for wanted (suc count) marks s.1)
+shallow_for wanted count (end_mark ∷ marks) s = λ e. shallow_for wanted (count - 1) marks s
+shallow_for wanted count (prop_mark p ∷ marks) s = shallow_for wanted count marks s
+shallow_for wanted count (nop_mark ∷ marks) s = shallow_for wanted count marks s
+shallow_for wanted count (last_mark ∷ marks) s = λ e. shallow_for wanted count marks s
+
+-- a node's own keys end before another node is opened
+pub shallow_own : (count : ℕ) (marks : List Mark) → AreShallowFor Own count marks
+shallow_own count [] = tt
+shallow_own count (begin_mark place name ∷ marks) = λ e. absurd (false≢true (sym e))
+shallow_own count (end_mark ∷ marks) = λ e. absurd (false≢true (sym e))
+shallow_own count (prop_mark p ∷ marks) = shallow_own count marks
+shallow_own count (nop_mark ∷ marks) = shallow_own count marks
+shallow_own count (last_mark ∷ marks) = λ e. absurd (false≢true (sym e))

@@ -12,4 +12,5 @@ is_set words number = has_bit_at words (number % (length words * 64))
 
 -- all bits of the hash are set
 abbrev pub holds : List ℕ → ℕ → Bool
-holds words hash = is_set words hash && is_set words (hash / 2 ^ 20) && is_set words (hash / 2 ^ 40)
+holds words hash =
+    is_set words hash && is_set words (hash / 2 ^ 10) && is_set words (hash / 2 ^ 20) && is_set words (hash / 2 ^ 30) && is_set words (hash / 2 ^ 40)

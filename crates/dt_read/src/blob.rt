@@ -23,13 +23,14 @@ use crate::steps::Steps;
 use crate::structure::Structure;
 use crate::walk::{Children, Props};
 use dt_flat::FlatTree;
-use dt_names::{Fault, FaultKind};
+use dt_names::{Fault, FaultKind, Seed};
 use std::alloc::Global;
 use std::marker::Model;
 
 /// A blob that reads as a tree. It is seen as that tree, with the places of its nodes.
 #[derive(Drop)]
 pub struct Blob<'a> {
+    seed: Seed,
     structure: Structure<'a>,
     reservations: &'a [u8],
     boot_cpu: u32,
@@ -95,6 +96,7 @@ impl<'a> Blob<'a> {
             return Err(Fault::of(FaultKind::BlobPhandle));
         }
         Ok(Blob {
+            seed: Seed::from(seed),
             structure,
             reservations: blocks.reservations,
             boot_cpu: blocks.boot_cpu,
@@ -216,6 +218,11 @@ impl<'a> Blob<'a> {
         self.structure.steps_in(node)
     }
 
+    /// What the blob's names and numbers are hashed behind: the seed of all bytes that bring them.
+    pub fn seed(&self) -> Seed {
+        self.seed
+    }
+
     /// The tree as one that can be changed, with the order of its nodes and properties.
     ///
     /// # Errors
@@ -225,6 +232,24 @@ impl<'a> Blob<'a> {
         ensures reads { IfOk result (λ tree. reading tree ≡ reading_of self.now) }
         ensures refused { IfErr result (λ fault. (fault.kind ≡ NoMemory) × (fault.at ≡ None)) }
     {
-        flat_of(alloc, &self.structure, self.reservations, self.boot_cpu)
+        self.to_seeded_flat(alloc, self.seed)
+    }
+
+    /// The same, into which names and numbers of other inputs will come: the seed is that of all of them.
+    ///
+    /// # Errors
+    ///
+    /// `NoMemory`, without a place.
+    pub fn to_seeded_flat(&self, alloc: Global, seed: Seed) -> Result<FlatTree, Fault>
+        ensures reads { IfOk result (λ tree. reading tree ≡ reading_of self.now) }
+        ensures refused { IfErr result (λ fault. (fault.kind ≡ NoMemory) × (fault.at ≡ None)) }
+    {
+        flat_of(
+            alloc,
+            seed,
+            &self.structure,
+            self.reservations,
+            self.boot_cpu,
+        )
     }
 }

@@ -80,7 +80,8 @@ impl<'a> Cursor<'a> {
 
     /// The same place.
     pub fn copy(&self) -> Cursor<'a>
-        ensures { result ≡ self.now }
+        ensures same { result ≡ self.now }
+        ensures few { length result < 2 ^ 32 }
     {
         Cursor {
             strings: self.strings,

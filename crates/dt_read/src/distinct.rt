@@ -1,25 +1,59 @@
-//! Keys that differ, found with no memory: a table of bits tells most keys that are new, and an exact walk the others.
+//! Keys that differ, found with no memory: a table of bits tells most keys that are new, and an exact walk the others. Few names of a tree
+//! are compared all at once; of many, first those of children, of which there are at most as many as nodes, and then the properties of one
+//! node after another. So a table is gone through again only for more than 32,768 children or properties of one node, and each token a few times.
 
-ghost use Rattle.std.specs.Prelude.{◌≡◌, ◌↔◌, ◌<◌, ◌^◌, ◌%◌, ℕ, Some, IsTrue, length, take};
+ghost use Rattle.std.specs.Prelude.{◌≡◌, ◌↔◌, ◌<◌, ◌^◌, ◌%◌, ◌++◌, ◌∷◌, [], ℕ, Some, IsTrue, length, take};
 ghost use Rattle.std.specs.Bool.{OnTrue, OnFalse};
 ghost use Rattle.std.specs.List.{slice_get};
 ghost use Rattle.dt_model.specs.Lists.{IsIn};
 ghost use Rattle.dt_model.specs.Valid.{AreDistinct};
 ghost use Rattle.dt_read.specs.Order.{HasRisingPlaces};
-ghost use Rattle.dt_read.specs.Distinct.{HasDistinctNames};
-ghost use Rattle.dt_read.specs.Keys.{said, keys_of};
+ghost use Rattle.dt_read.specs.Distinct.{property_names, HasDistinctNames, AreDistinctInEach};
+ghost use Rattle.dt_read.specs.Keys.{said};
+ghost use Rattle.dt_read.specs.Marks.{last_mark, marks_of};
+ghost use Rattle.dt_read.specs.Parsing.{left_by};
 ghost use Rattle.dt_read.specs.Classes.{hash_of, IsNewIn};
 
+use crate::cursor::Cursor;
 use crate::filter::{put, seems_to_hold};
 use crate::keys::{Key, Keys, Wanted};
 use crate::structure::Structure;
+use crate::token::Token;
+use dt_names::NodeId;
 use std::hash::{DefaultHasher, Hash, Hasher};
 
 // The table's words: 2^20 bits, 128 KiB.
 const WORDS: usize = 16_384;
 
 // As many keys as the table tells apart with few errors.
-const KEYS_OF_A_CLASS: usize = 16_384;
+const KEYS_OF_A_CLASS: usize = 32_768;
+
+/// A table of bits, and how many keys it may hold by now.
+#[derive(Drop)]
+pub struct Table {
+    words: [u64; WORDS],
+    count: usize,
+}
+
+impl Table {
+    pub fn new() -> Table {
+        Table {
+            words: [0; WORDS],
+            count: 0,
+        }
+    }
+
+    /// Makes room for so many keys: the table is emptied where it would hold too many.
+    fn make_room(&mut self, count: usize) {
+        let full = self.count.saturating_add(count);
+        if full > KEYS_OF_A_CLASS {
+            self.words.fill(0);
+            self.count = count;
+        } else {
+            self.count = full;
+        }
+    }
+}
 
 fn hashed(key: &Key, seed: u64) -> u64
     ensures { result ≡ hash_of seed (said key.now) }
@@ -54,8 +88,7 @@ fn is_among(mut keys: Keys, count: usize, key: &Key) -> bool
 
 // Whether no key of a class, by the remainder of its hash, is equal to an earlier one.
 fn is_distinct_class(
-    structure: &Structure,
-    wanted: Wanted,
+    first: &Keys<'_>,
     seed: u64,
     class: u64,
     classes: u64,
@@ -65,17 +98,16 @@ fn is_distinct_class(
     requires some { 0 < length words.old }
     requires few { length words.old < 2 ^ 32 }
     ensures size { length words.new ≡ length words.old }
-    ensures apart { OnTrue result ((i : ℕ) (k : _) → slice_get (keys_of wanted structure.now) i ≡ Some k →
-        hash_of seed k % classes ≡ class → IsNewIn (keys_of wanted structure.now) i k) }
-    ensures equal { OnFalse result (AreDistinct (keys_of wanted structure.now) → ⊥) }
+    ensures apart { OnTrue result ((i : ℕ) (k : _) → slice_get first.now i ≡ Some k →
+        hash_of seed k % classes ≡ class → IsNewIn first.now i k) }
+    ensures equal { OnFalse result (AreDistinct first.now → ⊥) }
 {
-    words.fill(0);
     let mut before = 0usize;
-    let mut keys = Keys::of(structure, wanted);
+    let mut keys = first.copy();
     while let Some(key) = keys.next() {
         let hash = hashed(&key, seed);
         if hash % classes == class {
-            if seems_to_hold(words, hash) && is_among(Keys::of(structure, wanted), before, &key) {
+            if seems_to_hold(words, hash) && is_among(first.copy(), before, &key) {
                 return false;
             }
             put(words, hash);
@@ -85,14 +117,37 @@ fn is_distinct_class(
     true
 }
 
-/// Whether the keys of a tree differ. The seed, and how many keys there seem to be, decide only how long it takes.
-pub fn are_distinct(structure: &Structure, wanted: Wanted, seed: u64, count: usize) -> bool
-    ensures { IsTrue result ↔ AreDistinct (keys_of wanted structure.now) }
+/// Whether keys differ. The seed, how many keys there seem to be, and what the table holds, decide only how long it takes.
+pub fn are_distinct(first: &Keys<'_>, seed: u64, count: usize, table: &mut Table) -> bool
+    ensures { IsTrue result ↔ AreDistinct first.now }
 {
     let classes = (count / KEYS_OF_A_CLASS + 1) as u64;
-    let mut words = [0u64; WORDS];
     for class in 0..classes {
-        if !is_distinct_class(structure, wanted, seed, class, classes, &mut words) {
+        table.make_room(count.min(KEYS_OF_A_CLASS));
+        if !is_distinct_class(first, seed, class, classes, &mut table.words) {
+            return false;
+        }
+    }
+    true
+}
+
+// Whether the names of the properties differ of the node of a place, behind whose BEGIN_NODE the cursor stands.
+fn has_distinct_properties(cursor: &Cursor<'_>, place: NodeId, seed: u64, table: &mut Table) -> bool
+    ensures { IsTrue result ↔ AreDistinct (property_names (left_by cursor.now).properties) }
+{
+    let own = Keys::own(cursor.copy(), place);
+    let count = own.copy().count();
+    are_distinct(&own, seed, count, table)
+}
+
+// Whether they do so in each node.
+fn have_distinct_properties(structure: &Structure, seed: u64, table: &mut Table) -> bool
+    ensures { IsTrue result ↔ AreDistinctInEach (marks_of structure.now ++ last_mark ∷ []) }
+{
+    let mut cursor = structure.start();
+    while let Some((place, token)) = cursor.next() {
+        let begins = matches!(token, Token::BeginNode(_));
+        if begins && !has_distinct_properties(&cursor, place, seed, table) {
             return false;
         }
     }
@@ -104,6 +159,14 @@ pub fn has_distinct_names(structure: &Structure, seed: u64) -> bool
     requires { HasRisingPlaces structure.now }
     ensures { IsTrue result ↔ HasDistinctNames structure.now }
 {
-    let count = Keys::of(structure, Wanted::Names).count();
-    are_distinct(structure, Wanted::Names, seed, count)
+    let mut table = Table::new();
+    let names = Keys::of(structure, Wanted::Names);
+    let count = names.copy().count();
+    if count <= KEYS_OF_A_CLASS {
+        return are_distinct(&names, seed, count, &mut table);
+    }
+    let children = Keys::of(structure, Wanted::Children);
+    let count = children.copy().count();
+    are_distinct(&children, seed, count, &mut table)
+        && have_distinct_properties(structure, seed, &mut table)
 }

@@ -1,4 +1,5 @@
-//! A table of bits that holds hashes: it never lacks one that was put in, and may seem to hold another.
+//! A table of bits that holds hashes: it never lacks one that was put in, and may seem to hold another. Of 2^20 bits five are set for each
+//! hash, so that one of 32,768 others seems to be held seldom: once in 16,000.
 
 ghost use Rattle.std.specs.Prelude.{◌≡◌, ◌<◌, ◌^◌, ℕ, true, length};
 ghost use Rattle.dt_read.specs.Filter.{is_set, holds};
@@ -30,7 +31,11 @@ pub fn seems_to_hold(words: &[u64], hash: u64) -> bool
     requires few { length words.now < 2 ^ 32 }
     ensures { result ≡ holds words.now hash }
 {
-    has_bit(words, hash) && has_bit(words, hash >> 20) && has_bit(words, hash >> 40)
+    has_bit(words, hash)
+        && has_bit(words, hash >> 10)
+        && has_bit(words, hash >> 20)
+        && has_bit(words, hash >> 30)
+        && has_bit(words, hash >> 40)
 }
 
 /// Puts a hash into the table.
@@ -42,6 +47,8 @@ pub fn put(words: &mut [u64], hash: u64)
     ensures kept { (h : ℕ) → holds words.old h ≡ true → holds words.new h ≡ true }
 {
     set_bit(words, hash);
+    set_bit(words, hash >> 10);
     set_bit(words, hash >> 20);
+    set_bit(words, hash >> 30);
     set_bit(words, hash >> 40);
 }

@@ -16,7 +16,7 @@ use crate::pairs::first_pair;
 use crate::structure::Structure;
 use crate::token::Token;
 use dt_flat::{FlatTree, may_be_planted, planted_reads};
-use dt_names::{Fault, NodeName, PropName};
+use dt_names::{Fault, NodeName, PropName, Seed};
 use std::alloc::Global;
 
 // A node begins, which is the root where none is open.
@@ -109,9 +109,11 @@ fn fill(tree: &mut FlatTree, structure: &Structure<'_>, reservations: &[u8]) -> 
     plant(tree, structure.start())
 }
 
-/// The tree of a structure block, with reservations up to a pair of zeros. It wants memory, and nothing else is in its way.
+/// The tree of a structure block, with reservations up to a pair of zeros. It wants memory, and nothing else is in its way. Its names and
+/// numbers are hashed behind the seed.
 pub fn flat_of(
     alloc: Global,
+    seed: Seed,
     structure: &Structure<'_>,
     reservations: &[u8],
     boot_cpu: u32,
@@ -121,7 +123,7 @@ pub fn flat_of(
         reading tree ≡ reading_with boot_cpu (pairs_of reservations.now) structure.now) }
     ensures refused { IfErr result (λ fault. (fault.kind ≡ NoMemory) × (fault.at ≡ None)) }
 {
-    let mut tree = FlatTree::new(alloc, boot_cpu);
+    let mut tree = FlatTree::seeded(alloc, seed, boot_cpu);
     fill(&mut tree, structure, reservations)?;
     Ok(tree)
 }

@@ -1,9 +1,10 @@
 //! What has to differ in a blob: names of siblings and of a node's properties, and phandles.
 
-ghost use Rattle.std.specs.Prelude.{◌≡◌, ◌<◌, ◌^◌, ℕ, length, option_map};
+ghost use Rattle.std.specs.Prelude.{◌≡◌, ◌<◌, ◌^◌, ◌∷◌, [], ℕ, false, length, option_map, MatchOption};
 ghost use Rattle.std.specs.Iterator.{YieldsFirstBy, item_count};
 ghost use Rattle.dt_read.specs.View.{view_at};
-ghost use Rattle.dt_read.specs.Keys.{said, key_of, keys_of};
+ghost use Rattle.dt_read.specs.Keys.{said, key_of, ends as ends_at, keys_in, keys_of, AreShallowFor, IsAtEnd};
+ghost use Rattle.dt_read.specs.declared.keys.Wanted.TheVariants.{Own};
 
 use crate::NodeId;
 use crate::cursor::Cursor;
@@ -35,7 +36,13 @@ pub struct Key<'a> {
 /// Which keys are read.
 #[derive(Clone, Copy)]
 pub enum Wanted {
+    /// Those of all children and of all properties.
     Names,
+    /// Those of all children.
+    Children,
+    /// Those of one node's properties, which come first of the tokens.
+    Own,
+    /// Those of all phandles.
     Phandles,
 }
 
@@ -44,8 +51,8 @@ fn key_at<'a>(wanted: Wanted, open_nodes: &OpenNodes, token: Token<'a>) -> Optio
     ensures { (place : ℕ) → option_map said result ≡ key_of wanted open_nodes.now (view_at place token.entry) }
 {
     let (sort, bytes) = match (wanted, token) {
-        (Wanted::Names, Token::BeginNode(name)) => (Sort::Child, name),
-        (Wanted::Names, Token::Property(name, _)) => (Sort::Property, name),
+        (Wanted::Names | Wanted::Children, Token::BeginNode(name)) => (Sort::Child, name),
+        (Wanted::Names | Wanted::Own, Token::Property(name, _)) => (Sort::Property, name),
         (Wanted::Phandles, Token::Property(name, value)) if name == b"phandle".as_slice() => {
             return Some(Key {
                 sort: Sort::Phandle,
@@ -59,6 +66,31 @@ fn key_at<'a>(wanted: Wanted, open_nodes: &OpenNodes, token: Token<'a>) -> Optio
     Some(Key { sort, owner, bytes })
 }
 
+// Whether a node's own keys end at a token.
+fn ends(wanted: Wanted, token: Token<'_>) -> bool
+    ensures { (place : ℕ) → result ≡ ends_at wanted (view_at place token.entry) }
+{
+    match (wanted, token) {
+        (Wanted::Own, Token::Property(_, _) | Token::Nop) => false,
+        (Wanted::Own, _) => true,
+        _ => false,
+    }
+}
+
+// Reads a token, where the keys don't end there.
+fn next_token<'a>(wanted: Wanted, cursor: &mut Cursor<'a>) -> Option<(usize, Token<'a>)>
+    ensures next { MatchOption result (IsAtEnd wanted cursor.old × (cursor.new ≡ cursor.old))
+        (λ found. (cursor.old ≡ view_at found.0 found.1 ∷ cursor.new) × (ends_at wanted (view_at found.0 found.1) ≡ false)) }
+{
+    let mut ahead = cursor.copy();
+    let (place, token) = ahead.next()?;
+    if ends(wanted, token) {
+        return None;
+    }
+    *cursor = ahead;
+    Some((place, token))
+}
+
 /// The keys from a place on, in the order of the tokens. It is seen as the keys that are left.
 #[derive(Drop)]
 pub struct Keys<'a> {
@@ -70,7 +102,7 @@ pub struct Keys<'a> {
 impl<'a> Model for Keys<'a> {
     ghost use Rattle.std.specs.Prelude.{List, length};
     ghost use Rattle.std.specs.Coded.{coded_list};
-    ghost use Rattle.dt_read.specs.Keys.{Key, AreShallow, coded_key, keys_in};
+    ghost use Rattle.dt_read.specs.Keys.{Key, AreShallowFor, coded_key, keys_in};
 
     ghost Value = { List Key };
 
@@ -78,7 +110,7 @@ impl<'a> Model for Keys<'a> {
 
     ghost view = { λ k. keys_in k.wanted k.open_nodes k.cursor };
 
-    ghost invariant = { λ k. AreShallow (length k.open_nodes) k.cursor };
+    ghost invariant = { λ k. AreShallowFor k.wanted (length k.open_nodes) k.cursor };
 }
 
 impl<'a> Keys<'a> {
@@ -93,6 +125,31 @@ impl<'a> Keys<'a> {
             open_nodes: OpenNodes::new(),
         }
     }
+
+    /// Those of the properties of the node of a place, behind whose BEGIN_NODE the cursor stands.
+    pub fn own(cursor: Cursor<'a>, place: NodeId) -> Keys<'a>
+        ensures { result ≡ keys_in Own (place ∷ []) cursor.entry }
+    {
+        let mut open_nodes = OpenNodes::new();
+        open_nodes.push(place);
+        Keys {
+            wanted: Wanted::Own,
+            cursor,
+            open_nodes,
+        }
+    }
+
+    /// The same keys.
+    pub fn copy(&self) -> Keys<'a>
+        ensures same { result ≡ self.now }
+        ensures few { length result < 2 ^ 32 }
+    {
+        Keys {
+            wanted: self.wanted,
+            cursor: self.cursor.copy(),
+            open_nodes: self.open_nodes.copy(),
+        }
+    }
 }
 
 impl<'a> Iterator for Keys<'a> {
@@ -103,7 +160,7 @@ impl<'a> Iterator for Keys<'a> {
     ghost remaining = { item_count (λ s. s) };
 
     fn next(&mut self) -> Option<Key<'a>> {
-        while let Some((place, token)) = self.cursor.next() {
+        while let Some((place, token)) = next_token(self.wanted, &mut self.cursor) {
             let key = key_at(self.wanted, &self.open_nodes, token);
             match token {
                 Token::BeginNode(_) => self.open_nodes.push(place),

@@ -35,6 +35,16 @@ impl OpenNodes {
         }
     }
 
+    /// The same nodes.
+    pub fn copy(&self) -> OpenNodes
+        ensures { result ≡ self.now }
+    {
+        OpenNodes {
+            numbers: self.numbers,
+            top: self.top,
+        }
+    }
+
     /// A node begins.
     pub fn push(&mut self, number: usize)
         requires { length self.old < most_bodies }

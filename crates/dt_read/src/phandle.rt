@@ -4,7 +4,7 @@ ghost use Rattle.std.specs.Prelude.{◌↔◌, ◌++◌, ◌∷◌, [], IsTrue};
 ghost use Rattle.dt_read.specs.Marks.{last_mark, marks_of};
 ghost use Rattle.dt_read.specs.Phandle.{phandles_in, ArePhandles};
 
-use crate::distinct::are_distinct;
+use crate::distinct::{Table, are_distinct};
 use crate::keys::{Keys, Wanted};
 use crate::structure::Structure;
 use dt_names::phandle_of;
@@ -23,5 +23,10 @@ pub fn are_phandles(structure: &Structure, seed: u64) -> bool
     if count < 2 {
         return true;
     }
-    are_distinct(structure, Wanted::Phandles, seed, count)
+    are_distinct(
+        &Keys::of(structure, Wanted::Phandles),
+        seed,
+        count,
+        &mut Table::new(),
+    )
 }

@@ -61,8 +61,8 @@ status_of done = 0
 status_of (faulty input fault) = 1
 status_of (no_command error) = 2
 
--- A run on this answer to the words of the command line, and on these files, ends so, and writes this: the files are loaded before anything is
--- written, and none is asked for where the words are no command.
+-- A run on this answer to the words of the command line, and on these files, ends so, and writes this: nothing where a file isn't loaded,
+-- and none is asked for where the words are no command.
 abbrev pub Ends : {F : Type 0} → Loads F → (before behind : F) → Result Line LineFault → (old new : Taken) → Ending → Type 0
 Ends loads before behind line old new done = (asked : Line) × (line ≡ Ok asked) × IsDone loads before behind asked old new
 Ends loads before behind line old new (faulty k fault) =

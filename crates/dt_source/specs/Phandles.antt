@@ -2,18 +2,17 @@
 use Rattle.std.specs.Prelude.{◌≡◌, ℕ, ◌<◌, Bool, false, true, not, ◌&&◌, List, Option, None, Some, is_some, option_and_then, slice_get, nat_eq, if◌then◌else◌, codes}
 use Rattle.std.specs.Str.{bytes_eq}
 use Rattle.std.specs.HashSet.{HashSet, contains}
-use Rattle.std.specs.declared.hash.FoldHasher.{FoldHasher}
-use Rattle.std.specs.declared.hash.BuildHasherDefault.{BuildHasherDefault}
 use Rattle.dt_model.specs.Source.{written}
 use Rattle.dt_names.specs.declared.fault.Fault.{Fault}
 use Rattle.dt_names.specs.declared.fault.FaultKind.{FaultKind}
 use Rattle.dt_names.specs.declared.fault.FaultKind.TheVariants as fault
+use Rattle.dt_names.specs.declared.seed.Seed.{Seed}
 use Rattle.dt_items.specs.Said.{value_said}
 use Rattle.dt_source.specs.declared.growing.Property.{Property}
 
 -- a set of numbers
 abbrev pub Set : Type 0
-Set = HashSet ℕ (BuildHasherDefault FoldHasher)
+Set = HashSet ℕ Seed
 
 abbrev pub has : Set → ℕ → Bool
 has seen n = contains nat_eq seen n

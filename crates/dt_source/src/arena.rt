@@ -9,7 +9,7 @@ ghost use Rattle.dt_source.specs.OverlayReading.{target_value};
 
 use dt_fragments::fragment_names;
 use dt_items::{Form, Item, Piece, Reference, Value};
-use dt_names::{Label, PathRef};
+use dt_names::{Label, PathRef, Seed};
 use std::alloc::{AllocError, Global};
 
 /// Names for new fragments, in the order in which they get them, and what the target of each block holds.
@@ -88,11 +88,11 @@ pub(crate) fn targets<'a>(alloc: Global, items: &[Item<'a>]) -> Result<Vec<Value
 
 impl<'a> Arena<'a> {
     /// What the tree of these items borrows.
-    pub fn new(alloc: Global, items: &[Item<'a>]) -> Result<Arena<'a>, AllocError>
+    pub fn new(alloc: Global, seed: Seed, items: &[Item<'a>]) -> Result<Arena<'a>, AllocError>
         ensures { IfOk result (λ arena. IsArena (map place_said items.now) arena) }
     {
         let values = targets(alloc, items)?;
-        let names = fragment_names(alloc, items, values.len())?;
+        let names = fragment_names(alloc, seed, items, values.len())?;
         Ok(Arena { names, values })
     }
 }

@@ -17,19 +17,24 @@ use dt_laws::{list_is_of_its_tree, many_stand, meant_is_named, root_stands};
 use dt_model::nested_places;
 use dt_named::{NamedNode, NamedTree};
 use dt_names::limits::MOST_NODES;
-use dt_names::{Fault, FaultKind};
+use dt_names::{Fault, FaultKind, Seed};
 use std::alloc::{AllocError, Global};
 
 // The nodes of a source's items.
-fn nodes_of<'a>(alloc: Global, mode: Mode, items: &[Item<'a>]) -> Result<Vec<NamedNode<'a>>, Fault>
+fn nodes_of<'a>(
+    alloc: Global,
+    seed: Seed,
+    mode: Mode,
+    items: &[Item<'a>],
+) -> Result<Vec<NamedNode<'a>>, Fault>
     requires { 0 < length items.now }
     ensures { MatchResult result
         (λ nodes. AreNodesOf (mode_said mode) (map place_said items.now) (map node_said nodes.items))
         (WhyNotRead (mode_said mode) (map place_said items.now)) }
 {
     root_stands();
-    let growing = grow(alloc, mode, items)?;
-    named_nodes(alloc, &growing)
+    let growing = grow(alloc, seed, mode, items)?;
+    named_nodes(alloc, seed, &growing)
 }
 
 // The reservations as pairs.
@@ -45,6 +50,7 @@ fn pairs(alloc: Global, reservations: &[Reservation]) -> Result<Vec<(u64, u64)>,
 
 // The tree of the nodes, where they aren't too many.
 pub(crate) fn whole<'a>(
+    seed: Seed,
     reservations: Vec<(u64, u64)>,
     nodes: Vec<NamedNode<'a>>,
 ) -> Result<NamedTree<'a>, Fault>
@@ -56,7 +62,7 @@ pub(crate) fn whole<'a>(
     if MOST_NODES < nodes.len() {
         return Err(Fault::of(FaultKind::Limit));
     }
-    Ok(NamedTree::of(reservations, nodes))
+    Ok(NamedTree::of(seed, reservations, nodes))
 }
 
 /// The tree that a source means (Devicetree Specification v0.4, chapter 6): its bodies merged in the order of the text, its
@@ -86,6 +92,6 @@ pub fn build_base<'a>(
     meant_is_named();
     many_stand();
     let reservations = pairs(alloc, source.reservations())?;
-    let nodes = nodes_of(alloc, mode, source.items())?;
-    whole(reservations, nodes)
+    let nodes = nodes_of(alloc, source.seed(), mode, source.items())?;
+    whole(source.seed(), reservations, nodes)
 }

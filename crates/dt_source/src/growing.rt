@@ -9,6 +9,7 @@ ghost use Rattle.dt_source.specs.Growing.{shape, nodes_listed, properties_listed
 
 use crate::table::{Last, NameTable, Table};
 use dt_items::Value;
+use dt_names::Seed;
 use std::alloc::{AllocError, Global};
 
 /// The name of a node: as it is written in the text, or made for a new fragment.
@@ -76,8 +77,8 @@ fn write<T: Drop>(things: &mut Vec<T>, place: usize, thing: T)
 }
 
 impl<'s, 'a> Growing<'s, 'a> {
-    /// No tree yet.
-    pub fn new(alloc: Global) -> Self
+    /// No tree yet. Names will be hashed behind the seed.
+    pub fn new(alloc: Global, seed: Seed) -> Self
         ensures nodes { result.nodes.items ≡ [] }
         ensures properties { result.properties.items ≡ [] }
         ensures givings { result.givings.items ≡ [] }
@@ -89,9 +90,9 @@ impl<'s, 'a> Growing<'s, 'a> {
             nodes: Vec::new(alloc),
             properties: Vec::new(alloc),
             givings: Vec::new(alloc),
-            children: Table::new(alloc),
-            places: Table::new(alloc),
-            labels: NameTable::new(alloc),
+            children: Table::new(alloc, seed),
+            places: Table::new(alloc, seed),
+            labels: NameTable::new(alloc, seed),
         }
     }
 

@@ -13,12 +13,13 @@ use crate::listing::{Row, rows};
 use crate::phandles::check_phandles;
 use crate::referring::Unnamed;
 use dt_named::NamedNode;
-use dt_names::Fault;
+use dt_names::{Fault, Seed};
 use std::alloc::{AllocError, Global};
 
 /// Adds the nodes of the rows to none, and looks at the numbers that are written in them.
 fn fill<'a>(
     alloc: Global,
+    seed: Seed,
     growing: &Growing<'_, 'a>,
     belongings: &Belongings,
     rows: &[Row],
@@ -31,13 +32,15 @@ fn fill<'a>(
         (λ _. AreFilled growing.now belongings.now rows.now (map node_said nodes.new.items))
         (λ fault. IsUnfilled growing.now belongings.now rows.now fault) }
 {
+    let numbers = &belongings.numbers;
     add_nodes(alloc, growing, belongings, Unnamed::Refused, rows, nodes)?;
-    check_phandles(alloc, &growing.properties, &belongings.numbers)
+    check_phandles(alloc, seed, &growing.properties, numbers)
 }
 
 /// The nodes of the rows, each with what it has, where this is what belongs to them.
 fn filled_nodes<'a>(
     alloc: Global,
+    seed: Seed,
     growing: &Growing<'_, 'a>,
     belongings: &Belongings,
     rows: &[Row],
@@ -51,13 +54,14 @@ fn filled_nodes<'a>(
         (λ fault. IsUnlisted growing.now fault) }
 {
     let mut nodes = Vec::with_capacity(alloc, rows.len())?;
-    fill(alloc, growing, belongings, rows, &mut nodes)?;
+    fill(alloc, seed, growing, belongings, rows, &mut nodes)?;
     Ok(nodes)
 }
 
 /// The same, where nothing is known but the rows.
 fn nodes_of_rows<'a>(
     alloc: Global,
+    seed: Seed,
     growing: &Growing<'_, 'a>,
     rows: &[Row],
 ) -> Result<Vec<NamedNode<'a>>, Fault>
@@ -68,13 +72,14 @@ fn nodes_of_rows<'a>(
         (λ fault. IsUnlisted growing.now fault) }
 {
     let belongings = Belongings::new(alloc, growing, rows)?;
-    filled_nodes(alloc, growing, &belongings, rows)
+    filled_nodes(alloc, seed, growing, &belongings, rows)
 }
 
 /// The nodes that stand in preorder, each with what it has. `UnresolvedReference` where a reference names no node; else
 /// `BadPhandle` where a `phandle` writes no number; else `DuplicatePhandle` where two nodes write one number.
 pub(crate) fn named_nodes<'a>(
     alloc: Global,
+    seed: Seed,
     growing: &Growing<'_, 'a>,
 ) -> Result<Vec<NamedNode<'a>>, Fault>
     requires { IsSound growing.now }
@@ -83,7 +88,7 @@ pub(crate) fn named_nodes<'a>(
         (λ fault. IsUnlisted growing.now fault) }
 {
     let rows = rows(alloc, &growing.nodes)?;
-    nodes_of_rows(alloc, growing, &rows)
+    nodes_of_rows(alloc, seed, growing, &rows)
 }
 
 /// The nodes of the rows of an overlay's tree, each with what it has, where this is what belongs to them.

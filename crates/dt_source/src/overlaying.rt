@@ -15,7 +15,7 @@ use crate::arena::{Arena, Used};
 use crate::growing::Growing;
 use crate::reading::{Mode, Reading};
 use dt_items::{Form, Item, Piece, Reference, Value};
-use dt_names::{Fault, FaultKind};
+use dt_names::{Fault, FaultKind, Seed};
 use std::alloc::{AllocError, Global};
 
 /// Whether a piece ends with a reference by a label in a cell list.
@@ -256,6 +256,7 @@ fn read_overlay_items<'s, 'a>(
 /// or want of memory (NoMemory). No fault has a place.
 pub(crate) fn grow_overlay<'s, 'a>(
     alloc: Global,
+    seed: Seed,
     items: &'s [Item<'a>],
     arena: &'s Arena<'a>,
 ) -> Result<Growing<'s, 'a>, Fault>
@@ -265,7 +266,7 @@ pub(crate) fn grow_overlay<'s, 'a>(
         × IsGrown g.nodes.items g.properties.items g.givings.items s.source.events) × IsSound g)
         (OverlayTells (all_overlay (map place_said items.now))) }
 {
-    let mut reading = Reading::new(alloc);
+    let mut reading = Reading::new(alloc, seed);
     reading.begin()?;
     read_overlay_items(&mut reading, items, arena)?;
     let Reading { growing, bodies: _ } = reading;

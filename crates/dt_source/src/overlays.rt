@@ -26,7 +26,7 @@ use dt_laws::{
     overlay_is_placed, overlay_nodes_are_shallow, overlay_values_are_plain,
 };
 use dt_named::{NamedNode, NamedTree};
-use dt_names::{Fault, FaultKind};
+use dt_names::{Fault, FaultKind, Seed};
 use std::alloc::Global;
 use std::marker::Model;
 
@@ -64,7 +64,7 @@ impl<'a> NamedOverlay<'a> {
 }
 
 // The nodes of an overlay's items.
-fn nodes_of<'a>(alloc: Global, items: &[Item<'a>]) -> Result<Vec<NamedNode<'a>>, Fault>
+fn nodes_of<'a>(alloc: Global, seed: Seed, items: &[Item<'a>]) -> Result<Vec<NamedNode<'a>>, Fault>
     requires { AllByRecursion IsPlace (map place_said items.now) }
     ensures { MatchResult result
         (λ nodes. AreOverlayNodes (map place_said items.now) (map node_said nodes.items))
@@ -72,14 +72,15 @@ fn nodes_of<'a>(alloc: Global, items: &[Item<'a>]) -> Result<Vec<NamedNode<'a>>,
 {
     overlay_nodes_are_shallow();
     overlay_values_are_plain();
-    let arena = Arena::new(alloc, items)?;
-    let growing = grow_overlay(alloc, items, &arena)?;
+    let arena = Arena::new(alloc, seed, items)?;
+    let growing = grow_overlay(alloc, seed, items, &arena)?;
     overlay_nodes(alloc, &growing)
 }
 
 // The overlay of nodes, where they aren't too many, and fragments.
 fn whole_overlay<'a>(
     alloc: Global,
+    seed: Seed,
     nodes: Vec<NamedNode<'a>>,
     fragments: Vec<Fragment<'a>>,
 ) -> Result<NamedOverlay<'a>, Fault>
@@ -89,7 +90,7 @@ fn whole_overlay<'a>(
         × IsTree (list_said [] nodes.entry.items))
         (λ fault. (fault.kind ≡ Limit) × (fault.at ≡ None) × (most_nodes < length nodes.entry.items)) }
 {
-    let tree = whole(Vec::new(alloc), nodes)?;
+    let tree = whole(seed, Vec::new(alloc), nodes)?;
     Ok(NamedOverlay { tree, fragments })
 }
 
@@ -122,7 +123,7 @@ pub fn build_overlay<'a>(alloc: Global, source: &Source<'a>) -> Result<NamedOver
     overlay_is_placed();
     overlay_is_named();
     checked_overlay_is_meant();
-    let nodes = nodes_of(alloc, source.items())?;
+    let nodes = nodes_of(alloc, source.seed(), source.items())?;
     let fragments = checked_fragments(alloc, &nodes)?;
-    whole_overlay(alloc, nodes, fragments)
+    whole_overlay(alloc, source.seed(), nodes, fragments)
 }

@@ -8,7 +8,7 @@ ghost use Rattle.dt_source.specs.Phandles.{is_numbered, is_phandle, is_unwritten
 
 use crate::growing::Property;
 use dt_items::Value;
-use dt_names::{Fault, FaultKind, phandle_of};
+use dt_names::{Fault, FaultKind, Seed, phandle_of};
 use std::alloc::{AllocError, Global};
 use std::collections::HashSet;
 
@@ -72,7 +72,7 @@ fn check_written(properties: &[Property<'_, '_>], numbers: &[Option<usize>]) -> 
 }
 
 /// One more number; whether it is a new one.
-fn add_number(seen: &mut HashSet<u32>, number: u32) -> Result<bool, AllocError>
+fn add_number(seen: &mut HashSet<u32, Seed>, number: u32) -> Result<bool, AllocError>
     ensures new { IfOk result (λ new. new ≡ not (has seen.old number)) }
     ensures added { OnOk result ((n : ℕ) → has seen.new n ≡ (nat_eq n number || has seen.old n)) }
 {
@@ -82,7 +82,7 @@ fn add_number(seen: &mut HashSet<u32>, number: u32) -> Result<bool, AllocError>
 
 /// Adds the number that a property writes, if any; whether it was seen before.
 fn meet(
-    seen: &mut HashSet<u32>,
+    seen: &mut HashSet<u32, Seed>,
     property: &Property<'_, '_>,
     numbers: &[Option<usize>],
 ) -> Result<bool, AllocError>
@@ -97,7 +97,7 @@ fn meet(
 
 /// Finds no number that is written twice, where none was seen.
 fn find_twice(
-    seen: &mut HashSet<u32>,
+    seen: &mut HashSet<u32, Seed>,
     properties: &[Property<'_, '_>],
     numbers: &[Option<usize>],
 ) -> Result<(), Fault>
@@ -118,6 +118,7 @@ fn find_twice(
 /// a number. `BadPhandle` where one writes none; else `DuplicatePhandle` where two write the same.
 pub(crate) fn check_phandles(
     alloc: Global,
+    seed: Seed,
     properties: &[Property<'_, '_>],
     numbers: &[Option<usize>],
 ) -> Result<(), Fault>
@@ -126,6 +127,6 @@ pub(crate) fn check_phandles(
         (λ fault. WhyNotNumbered numbers.now properties.now fault) }
 {
     check_written(properties, numbers)?;
-    let mut seen = HashSet::new(alloc);
+    let mut seen = HashSet::with_hasher(alloc, seed);
     find_twice(&mut seen, properties, numbers)
 }

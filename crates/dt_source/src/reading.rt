@@ -15,7 +15,7 @@ ghost use Rattle.dt_source.specs.Refusals.{mode_said, Tells, WhyNotGrown};
 use crate::growing::{Growing, NameText};
 use dt_items::{Item, Reference, Value};
 use dt_names::limits::MOST_NAMES;
-use dt_names::{Fault, FaultKind, is_bookkeeping_name};
+use dt_names::{Fault, FaultKind, Seed, is_bookkeeping_name};
 use std::alloc::{AllocError, Global};
 
 /// Of what kind a source is.
@@ -71,12 +71,12 @@ fn enter(bodies: &mut Vec<OpenBody>, body: OpenBody) -> Result<(), AllocError>
 }
 
 impl<'s, 'a> Reading<'s, 'a> {
-    pub fn new(alloc: Global) -> Self
+    pub fn new(alloc: Global, seed: Seed) -> Self
         ensures whole { IsWhole result }
         ensures meaning { Holds result 0 nothing }
     {
         Reading {
-            growing: Growing::new(alloc),
+            growing: Growing::new(alloc, seed),
             bodies: Vec::new(alloc),
         }
     }
@@ -348,6 +348,7 @@ fn read_items<'s, 'a>(
 /// memory (NoMemory). No fault has a place (Devicetree Specification v0.4, 6.3).
 pub(crate) fn grow<'s, 'a>(
     alloc: Global,
+    seed: Seed,
     mode: Mode,
     items: &'s [Item<'a>],
 ) -> Result<Growing<'s, 'a>, Fault>
@@ -356,7 +357,7 @@ pub(crate) fn grow<'s, 'a>(
         × IsGrown g.nodes.items g.properties.items g.givings.items so_far.events) × IsSound g)
         (WhyNotGrown (mode_said mode) (map place_said items.now)) }
 {
-    let mut reading = Reading::new(alloc);
+    let mut reading = Reading::new(alloc, seed);
     read_items(&mut reading, mode, items)?;
     let Reading { growing, bodies: _ } = reading;
     Ok(growing)

@@ -3,6 +3,7 @@
 ghost use Rattle.std.specs.Prelude.{◌≡◌, [], OnOk};
 ghost use Rattle.dt_source.specs.Table.{entry, Puts, name_entry, PutsName};
 
+use dt_names::Seed;
 use std::alloc::{AllocError, Global};
 use std::collections::HashMap;
 
@@ -16,21 +17,21 @@ pub(crate) struct Last {
 /// From the number of an owner and a name.
 #[derive(Drop)]
 pub(crate) struct Table<'a> {
-    pub map: HashMap<(usize, &'a [u8]), Last>,
+    pub map: HashMap<(usize, &'a [u8]), Last, Seed>,
 }
 
 /// From a name to a number.
 #[derive(Drop)]
 pub(crate) struct NameTable<'a> {
-    pub map: HashMap<&'a [u8], usize>,
+    pub map: HashMap<&'a [u8], usize, Seed>,
 }
 
 impl<'a> Table<'a> {
-    pub fn new(alloc: Global) -> Self
+    pub fn new(alloc: Global, seed: Seed) -> Self
         ensures { result.map.entries ≡ [] }
     {
         Table {
-            map: HashMap::new(alloc),
+            map: HashMap::with_hasher(alloc, seed),
         }
     }
 
@@ -49,11 +50,11 @@ impl<'a> Table<'a> {
 }
 
 impl<'a> NameTable<'a> {
-    pub fn new(alloc: Global) -> Self
+    pub fn new(alloc: Global, seed: Seed) -> Self
         ensures { result.map.entries ≡ [] }
     {
         NameTable {
-            map: HashMap::new(alloc),
+            map: HashMap::with_hasher(alloc, seed),
         }
     }
 

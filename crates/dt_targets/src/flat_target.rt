@@ -7,7 +7,7 @@ ghost use Rattle.dt_targets.specs.FlatTargets.{HasRoom, IsPlaced, TreeRoomIsCoun
 
 use crate::target::Target;
 use dt_flat::{FlatTree, NodeId};
-use dt_names::{Fault, NodeName, Path, PropName};
+use dt_names::{Fault, NodeName, Path, PropName, Seed};
 use std::alloc::Global;
 
 // The node of a path that stands in the tree.
@@ -29,6 +29,10 @@ impl Target for FlatTree {
 
     fn validity(&self) {
         FlatTree::validity(self);
+    }
+
+    fn seed(&self) -> Seed {
+        FlatTree::seed(self)
     }
 
     fn find(&self, path: &Path) -> bool {

@@ -14,28 +14,28 @@ ghost use Rattle.dt_targets.specs.Known.{kept_at, IsKnown};
 ghost use Rattle.dt_targets.specs.Known.{IsNext};
 
 use crate::texts::put_path;
-use dt_names::{Fault, Path};
+use dt_names::{Fault, Path, Seed};
 use indexmap::IndexMap;
 use std::alloc::{AllocError, Global};
 
 /// The places on which nodes have landed so far, each once, by the text of its path, with the number that it got, if it got one.
 #[derive(Drop)]
 pub struct Places {
-    pub numbers: IndexMap<Vec<u8>, Option<u32>>,
+    pub numbers: IndexMap<Vec<u8>, Option<u32>, Seed>,
     /// Which place got a number.
-    pub paths: IndexMap<u32, Path>,
+    pub paths: IndexMap<u32, Path, Seed>,
     /// The last number that a place got, 0 before the first.
     pub last: u32,
 }
 
 impl Places {
-    /// Nothing has landed.
-    pub fn new(alloc: Global) -> Places
+    /// Nothing has landed. Paths and numbers will be hashed behind the seed.
+    pub fn new(alloc: Global, seed: Seed) -> Places
         ensures { (base : Reading) → IsKnown base [] [] result }
     {
         Places {
-            numbers: IndexMap::new(alloc),
-            paths: IndexMap::new(alloc),
+            numbers: IndexMap::with_hasher(alloc, seed),
+            paths: IndexMap::with_hasher(alloc, seed),
             last: 0,
         }
     }

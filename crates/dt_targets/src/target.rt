@@ -11,7 +11,7 @@ ghost use Rattle.dt_names.specs.declared.fault.FaultKind.TheVariants.{NoMemory};
 ghost use Rattle.dt_landing.specs.Objects.{HasCells, HasNumber};
 ghost use Rattle.dt_targets.specs.Targets.{MayAddAt, HasRoomAt, WhyNotAddedAt, WhyNotSetAt};
 
-use dt_names::{Fault, NodeName, Path, PropName};
+use dt_names::{Fault, NodeName, Path, PropName, Seed};
 use std::alloc::Global;
 
 /// A tree that takes an overlay. It is seen as the tree that a blob's reader has.
@@ -29,6 +29,9 @@ pub trait Target {
         ensures valid { IsValid (reading self.now) }
         ensures within { IsWithinLimits (reading self.now) }
         ensures cells { HasCells (reading self.now) };
+
+    /// What the tree's names and numbers are hashed behind: the seed of all inputs that bring them.
+    fn seed(&self) -> Seed;
 
     /// Is there a node of the path? Takes no memory.
     fn find(&self, path: &Path) -> bool

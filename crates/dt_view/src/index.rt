@@ -57,9 +57,9 @@ impl<'a> Index<'a> {
         ensures is { IfOk result (λ index. index ≡ blob.now) }
         ensures refused { IfErr result (λ fault. (fault.kind ≡ NoMemory) × (fault.at ≡ None)) }
     {
-        let mut parents = HashMap::new(alloc);
-        let mut phandles = HashMap::new(alloc);
-        let mut values = HashMap::new(alloc);
+        let mut parents = HashMap::with_hasher(alloc, blob.seed());
+        let mut phandles = HashMap::with_hasher(alloc, blob.seed());
+        let mut values = HashMap::with_hasher(alloc, blob.seed());
         let count = fill(blob, &mut parents, &mut phandles, &mut values)?;
         Ok(Index {
             blob,

@@ -9,19 +9,19 @@ ghost use Rattle.dt_read.specs.Placed.{path_at, properties_at, reading_of, IsNod
 ghost use Rattle.dt_view.specs.Tables.{at_number, AreParents, ArePhandles, IsNoted, PutsValue, AreKept, AreValues};
 
 use crate::blob::value_of;
-use dt_names::{NodeId, phandle_of};
+use dt_names::{NodeId, Seed, phandle_of};
 use dt_read::{Blob, OpenNodes, Step};
 use std::alloc::AllocError;
 use std::collections::HashMap;
 
 /// The node above each node, None above the root.
-pub type Parents = HashMap<NodeId, Option<NodeId>>;
+pub type Parents = HashMap<NodeId, Option<NodeId>, Seed>;
 
 /// The node of each phandle.
-pub type Phandles = HashMap<u32, NodeId>;
+pub type Phandles = HashMap<u32, NodeId, Seed>;
 
 /// The value of each property, by its node and its name.
-pub type Values<'a> = HashMap<(NodeId, &'a [u8]), &'a [u8]>;
+pub type Values<'a> = HashMap<(NodeId, &'a [u8]), &'a [u8], Seed>;
 
 fn put_parent(parents: &mut Parents, node: NodeId, above: Option<NodeId>) -> Result<(), AllocError>
     ensures { OnOk result ((k : ℕ) → at_number parents.new.entries k ≡ cond (nat_eq node k) (Some above) (at_number parents.old.entries k)) }

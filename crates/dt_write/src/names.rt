@@ -6,7 +6,7 @@ ghost use Rattle.dt_write.specs.Written.{used, offset_of, strings_block};
 ghost use Rattle.dt_write.specs.Refusals.{WhyNoBlob};
 
 use crate::words::fits;
-use dt_names::{Fault, FaultKind};
+use dt_names::{Fault, FaultKind, Seed};
 use indexmap::IndexMap;
 use std::alloc::{AllocError, Global};
 use std::marker::Model;
@@ -15,7 +15,7 @@ use std::marker::Model;
 #[derive(Drop)]
 pub struct Names {
     alloc: Global,
-    offsets: IndexMap<Vec<u8>, usize>,
+    offsets: IndexMap<Vec<u8>, usize, Seed>,
     size: usize,
 }
 
@@ -32,13 +32,13 @@ impl Model for Names {
 }
 
 impl Names {
-    /// No names. Takes no memory.
-    pub fn new(alloc: Global) -> Self
+    /// No names. Takes no memory. The names will be hashed behind the seed.
+    pub fn new(alloc: Global, seed: Seed) -> Self
         ensures { result ≡ [] }
     {
         Names {
             alloc,
-            offsets: IndexMap::new(alloc),
+            offsets: IndexMap::with_hasher(alloc, seed),
             size: 0,
         }
     }

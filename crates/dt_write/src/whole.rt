@@ -133,6 +133,6 @@ pub fn put_blob(alloc: Global, tree: &FlatTree, out: &mut Vec<u8>) -> Result<(),
     if tree.reservations().len() > MOST_BYTES / PAIR_SIZE {
         return Err(Fault::of(FaultKind::Limit));
     }
-    let mut names = Names::new(alloc);
+    let mut names = Names::new(alloc, tree.seed());
     put_blocks(tree, &mut names, out)
 }

@@ -5,7 +5,9 @@ ghost use Rattle.std.specs.Prelude.{⊤, length};
 ghost use Rattle.dt_words.specs.Asked.{IsAsked};
 
 use dt_chain::{compile, read_all};
+use dt_decompile::text_of;
 use dt_names::{Fault, FaultKind, Feed, In, Out, Path, Sink, put_all};
+use dt_read::Blob;
 use dt_run::{Files, Prompt, SystemFiles, load_all, perform, report, run};
 use dt_words::{Job, LineFault, line};
 use hex::decode;
@@ -43,20 +45,29 @@ const PROVIDED: Job<'static> = Job::Spec {
     index: 0,
 };
 
-// Is interrupted at each other call, takes at most `step` bytes at the others, and fails once, when it holds `room`.
+// What a writer does once that has no more room.
+#[derive(Clone, Copy)]
+enum End {
+    Fails,
+    TakesNothing,
+}
+
+// Is interrupted at each other call, takes at most `step` bytes at the others, and comes to its end once, when it holds `room`.
 #[derive(Drop)]
 struct Narrow {
     held: Vec<u8>,
     step: usize,
     room: usize,
+    end: End,
     was_interrupted: bool,
 }
 
-fn make_narrow(alloc: Global, step: usize, room: usize) -> Narrow {
+fn make_narrow(alloc: Global, step: usize, room: usize, end: End) -> Narrow {
     Narrow {
         held: Vec::new(alloc),
         step,
         room,
+        end,
         was_interrupted: false,
     }
 }
@@ -70,7 +81,10 @@ impl Write for Narrow {
         let room = self.room.saturating_sub(self.held.len());
         if room == 0 {
             self.room = usize::MAX;
-            return Err(Error::from(ErrorKind::BrokenPipe));
+            return match self.end {
+                End::Fails => Err(Error::from(ErrorKind::BrokenPipe)),
+                End::TakesNothing => Ok(0),
+            };
         }
         let taken = bytes.len().min(self.step).min(room);
         self.held.extend_from_slice(&bytes[..taken])?;
@@ -92,11 +106,19 @@ fn is_cut(refused: Option<Fault>, room: usize, held: &[u8], whole: &[u8]) -> boo
     is_told && held == whole.get(..room).unwrap_or(whole)
 }
 
-// Whether a job is cut where the writer fails, at each byte, and is whole where it doesn't.
+// How many bytes a writer takes at a call, and how it ends.
+const WRITERS: [(usize, End); 4] = [
+    (1, End::Fails),
+    (3, End::TakesNothing),
+    (100, End::Fails),
+    (100, End::TakesNothing),
+];
+
+// Whether a job is cut where the writer comes to its end, at each byte, and is whole where it doesn't.
 fn is_cut_anywhere(alloc: Global, job: Job<'_>, hex: bool, input: &[u8], whole: &[u8]) -> bool {
-    [1, 3, 100].into_iter().all(|step| {
+    WRITERS.into_iter().all(|(step, end)| {
         (0..=whole.len()).all(|room| {
-            let mut out = Out::new(make_narrow(alloc, step, room));
+            let mut out = Out::new(make_narrow(alloc, step, room, end));
             let refused = perform(alloc, job, hex, &[input], &mut out).err();
             let is_first = refused.is_none_or(|(input, _)| input == 0);
             let fault = refused.map(|(_, fault)| fault);
@@ -141,7 +163,7 @@ fn jobs_into_a_sink_that_fails(rt: HostRuntime) -> Result<(), Fail> {
 fn is_refused(alloc: Global, job: Job<'_>, inputs: &[&[u8]], input: usize, fault: Fault) -> bool
     requires { IsAsked job (length inputs.now) }
 {
-    let mut out = Out::new(make_narrow(alloc, 1, 100));
+    let mut out = Out::new(make_narrow(alloc, 1, 100, End::Fails));
     let refused = perform(alloc, job, true, inputs, &mut out).err();
     refused == Some((input, fault)) && out.into_inner().held.is_empty()
 }
@@ -171,10 +193,12 @@ fn inputs_that_are_refused(rt: HostRuntime) -> Result<(), Fail> {
 }
 
 fn is_told(alloc: Global, input: usize, fault: Fault, line: &[u8]) -> bool {
-    (0..=line.len()).all(|room| {
-        let mut err = Out::new(make_narrow(alloc, 5, room));
-        let refused = report(&mut err, input, fault).err();
-        is_cut(refused, room, &err.into_inner().held, line)
+    WRITERS.into_iter().all(|(step, end)| {
+        (0..=line.len()).all(|room| {
+            let mut err = Out::new(make_narrow(alloc, step, room, end));
+            let refused = report(&mut err, input, fault).err();
+            is_cut(refused, room, &err.into_inner().held, line)
+        })
     })
 }
 
@@ -201,10 +225,25 @@ fn is_path_cut(alloc: Global, text: &[u8]) -> bool {
     let Ok(path) = Path::parse(alloc, text) else {
         return false;
     };
-    (0..=text.len()).all(|room| {
-        let mut out = Out::new(make_narrow(alloc, 3, room));
-        let refused = path.write_to(&mut out).err();
-        is_cut(refused, room, &out.into_inner().held, text)
+    WRITERS.into_iter().all(|(step, end)| {
+        (0..=text.len()).all(|room| {
+            let mut out = Out::new(make_narrow(alloc, step, room, end));
+            let refused = path.write_to(&mut out).err();
+            is_cut(refused, room, &out.into_inner().held, text)
+        })
+    })
+}
+
+fn is_text_cut(alloc: Global, blob: &[u8], text: &[u8]) -> bool {
+    let Ok(blob) = Blob::check(blob) else {
+        return false;
+    };
+    WRITERS.into_iter().all(|(step, end)| {
+        (0..=text.len()).all(|room| {
+            let mut out = Out::new(make_narrow(alloc, step, room, end));
+            let refused = text_of(&blob, &mut out).err();
+            is_cut(refused, room, &out.into_inner().held, text)
+        })
     })
 }
 
@@ -213,9 +252,16 @@ fn paths_into_a_sink_that_fails(rt: HostRuntime) {
     assert!(rt; is_path_cut(rt.alloc(), b"/soc/uart@10") && is_path_cut(rt.alloc(), b"/"));
 }
 
+#[test]
+fn texts_into_a_sink_that_fails(rt: HostRuntime) -> Result<(), Fail> {
+    let blob = decode(rt.alloc(), BLOB)?;
+    assert!(rt; is_text_cut(rt.alloc(), blob.as_slice(), TEXT));
+    Ok(())
+}
+
 // Whether a sink tells how much it took, and fails for good.
 fn fails_for_good(alloc: Global) -> bool {
-    let mut out = Out::new(make_narrow(alloc, 1, 7));
+    let mut out = Out::new(make_narrow(alloc, 1, 7, End::Fails));
     let is_taken = put_all(&mut out, b"").is_ok()
         && put_all(&mut out, b"dtool").is_ok()
         && out.put(b"!?") == Some(1)
@@ -225,7 +271,7 @@ fn fails_for_good(alloc: Global) -> bool {
 }
 
 fn takes_nothing(alloc: Global) -> bool {
-    let mut out = Out::new(make_narrow(alloc, 0, 4));
+    let mut out = Out::new(make_narrow(alloc, 0, 4, End::Fails));
     out.put(b"") == Some(0) && out.put(b"a").is_none() && out.put(b"").is_none()
 }
 
@@ -474,11 +520,12 @@ fn files(rt: HostRuntime) -> Result<(), Fail> {
     Ok(())
 }
 
-// Files in a test: each but one holds the source, and standard input holds it too.
+// Files in a test, which give a byte at a time: each but one holds the source, and standard input holds it too. They fail once, `until` bytes on.
 #[derive(Drop)]
 struct Shelf {
     alloc: Global,
     asked: usize,
+    until: usize,
 }
 
 impl Files for Shelf {
@@ -489,18 +536,34 @@ impl Files for Shelf {
         if name == "none" {
             return Err(Fault::of(FaultKind::ReadFault));
         }
-        read_all(self.alloc, &mut In::new(SOURCE))
+        read_all(
+            self.alloc,
+            &mut In::new(make_dripping(SOURCE, 1, self.until)),
+        )
     }
 }
 
-// Whether a run on these words, parted by blanks, has this status, asks for so many files, and writes this.
-fn ends(alloc: Global, text: &str, status: u8, asked: usize, out: &[u8], err: &[u8]) -> bool {
+// What a run ends with: its status, how many files it asked for, and what it wrote.
+#[derive(Drop)]
+struct Ending<'a> {
+    status: u8,
+    asked: usize,
+    out: &'a [u8],
+    err: &'a [u8],
+}
+
+// Whether a run on these words, parted by blanks, and on files that fail so many bytes on, ends so.
+fn ends(alloc: Global, text: &str, until: usize, ending: &Ending<'_>) -> bool {
     let Ok(words) = text.split(' ').collect::<Vec<&str>>(alloc) else {
         return false;
     };
-    let mut files = Shelf { alloc, asked: 0 };
-    let mut told = Out::new(make_narrow(alloc, 7, 1000));
-    let mut made = Out::new(make_narrow(alloc, 9, 1000));
+    let mut files = Shelf {
+        alloc,
+        asked: 0,
+        until,
+    };
+    let mut told = Out::new(make_narrow(alloc, 7, 1000, End::Fails));
+    let mut made = Out::new(make_narrow(alloc, 9, 1000, End::Fails));
     let answer = run(
         alloc,
         line(alloc, words.as_slice()),
@@ -508,10 +571,32 @@ fn ends(alloc: Global, text: &str, status: u8, asked: usize, out: &[u8], err: &[
         &mut made,
         &mut told,
     );
-    answer == status
-        && files.asked == asked
-        && made.into_inner().held.as_slice() == out
-        && told.into_inner().held.as_slice() == err
+    answer == ending.status
+        && files.asked == ending.asked
+        && made.into_inner().held.as_slice() == ending.out
+        && told.into_inner().held.as_slice() == ending.err
+}
+
+// Whether a run on whole files is done.
+fn is_done(alloc: Global, text: &str, out: &[u8]) -> bool {
+    let ending = Ending {
+        status: 0,
+        asked: 1,
+        out,
+        err: b"",
+    };
+    ends(alloc, text, usize::MAX, &ending)
+}
+
+// Whether a run on files that fail so many bytes on tells this fault, asks for so many files, and writes nothing.
+fn is_faulty(alloc: Global, text: &str, until: usize, asked: usize, err: &[u8]) -> bool {
+    let ending = Ending {
+        status: 1,
+        asked,
+        out: b"",
+        err,
+    };
+    ends(alloc, text, until, &ending)
 }
 
 #[test]
@@ -520,47 +605,41 @@ fn runs(rt: HostRuntime) -> Result<(), Fail> {
     let blob = decode(alloc, BLOB)?;
     let hex =
         b"d00dfeed0000004800000038000000480000002800000011000000100000000000000000000000100000000000000000000000000000000000000001000000000000000200000009\n";
-    assert!(rt; ends(alloc, "dtool compile a.dts", 0, 1, blob.as_slice(), b""));
-    assert!(rt; ends(alloc, "dtool build --hex stdin", 0, 1, hex, b""));
-    assert!(rt;
-        ends(
-            alloc,
-            "dtool build stdin stdin",
-            1,
-            1,
-            b"",
-            b"dtool: input 1: fault 10 BadVersionTag at 0\n"
-        )
-    );
-    assert!(rt;
-        ends(
-            alloc,
-            "dtool build a.dts none stdin",
-            1,
-            2,
-            b"",
-            b"dtool: input 1: fault 91 ReadFault\n"
-        )
-    );
-    assert!(rt;
-        ends(
-            alloc,
-            "dtool check a.dts",
-            1,
-            1,
-            b"",
-            b"dtool: input 0: fault 40 ShortHeader\n"
-        )
-    );
+    assert!(rt; is_done(alloc, "dtool compile a.dts", blob.as_slice()));
+    assert!(rt; is_done(alloc, "dtool build --hex stdin", hex));
     Ok(())
+}
+
+const BAD_VERSION: &[u8] = b"dtool: input 1: fault 10 BadVersionTag at 0\n";
+
+const NO_SECOND: &[u8] = b"dtool: input 1: fault 91 ReadFault\n";
+
+const NO_FIRST: &[u8] = b"dtool: input 0: fault 91 ReadFault\n";
+
+const NO_BLOB: &[u8] = b"dtool: input 0: fault 40 ShortHeader\n";
+
+#[test]
+fn runs_that_are_refused(rt: HostRuntime) {
+    let alloc = rt.alloc();
+    let whole = usize::MAX;
+    assert!(rt; is_faulty(alloc, "dtool build stdin stdin", whole, 1, BAD_VERSION));
+    assert!(rt; is_faulty(alloc, "dtool build a.dts none stdin", whole, 2, NO_SECOND));
+    assert!(rt; is_faulty(alloc, "dtool check a.dts", whole, 1, NO_BLOB));
+    assert!(rt;
+        (0..=SOURCE.len()).all(|until| is_faulty(alloc, "dtool compile a.dts", until, 1, NO_FIRST))
+    );
 }
 
 // The status of a run on these words, where standard error takes so many bytes.
 fn status_of(alloc: Global, text: &str, room: usize) -> Option<u8> {
     let words = text.split(' ').collect::<Vec<&str>>(alloc).ok()?;
-    let mut files = Shelf { alloc, asked: 0 };
-    let mut made = Out::new(make_narrow(alloc, 9, 9));
-    let mut told = Out::new(make_narrow(alloc, 9, room));
+    let mut files = Shelf {
+        alloc,
+        asked: 0,
+        until: usize::MAX,
+    };
+    let mut made = Out::new(make_narrow(alloc, 9, 9, End::Fails));
+    let mut told = Out::new(make_narrow(alloc, 9, room, End::Fails));
     Some(run(
         alloc,
         line(alloc, words.as_slice()),

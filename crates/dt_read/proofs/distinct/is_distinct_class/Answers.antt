@@ -4,7 +4,7 @@ use Rattle.std.proofs.lemmas.Option.{slice_get_within}
 use Rattle.std.specs.List.{AllByRecursion}
 use Rattle.dt_model.specs.Lists.{IsIn}
 use Rattle.dt_read.specs.Filter.{holds}
-use Rattle.dt_read.specs.Keys.{Key, said, keys_of}
+use Rattle.dt_read.specs.Keys.{Key, said}
 use Rattle.dt_read.specs.Classes.{hash_of}
 use Rattle.dt_read.proofs.Novelty.{not_in, at_drop, drop_next, equal_earlier, new_skip, new_more, new_if_not_held}
 use Rattle.dt_read.proofs.distinct.is_distinct_class.Invariants.{SoFar}
@@ -38,14 +38,14 @@ module _ (seed classes class size : ℕ) (words : List ℕ) (all left rest : Lis
 
 pub returns-then-is_among-clause-equal : goal.returns-then-is_among-clause-equal
 returns-then-is_among-clause-equal c =
-    let all = keys_of c.args.wanted c.args.structure.now in
+    let all = c.args.first.now in
     let key = said c.in-Some.key in
     let at = at_drop all c.loop-key.before key c.next.new.self (c.loop-key.invariant.left_is ∙ c.in-Some.ensures.steps) in
-    equal_earlier all c.loop-key.before key at (subst (λ (l : List Key). IsIn key (take c.loop-key.before l)) c.of.ensures.all (c.if-is_among.ensures.0 refl))
+    equal_earlier all c.loop-key.before key at (subst (λ (l : List Key). IsIn key (take c.loop-key.before l)) c.copy.ensures.same (c.if-is_among.ensures.0 refl))
 
 pub loop-key-preserved : goal.loop-key-preserved
 loop-key-preserved c =
-    let all = keys_of c.args.wanted c.args.structure.now in
+    let all = c.args.first.now in
     let key = said c.in-Some.key in
     let before = c.loop-key.before in
     let so_far = c.loop-key.invariant in
@@ -56,7 +56,7 @@ loop-key-preserved c =
           let new : AllByRecursion (λ other. other ≢ key) (take before all) = elim w.else-seems_to_hold.branch [
             | else-seems_to_hold-via-then-seems_to_hold+else-is_among w' ↦
                 not_in key (take before all)
-                (λ among. false≢true (w'.if-is_among.ensures.1 (subst (λ (l : List Key). IsIn key (take before l)) (sym w'.of.ensures.all) among)))
+                (λ among. false≢true (w'.if-is_among.ensures.1 (subst (λ (l : List Key). IsIn key (take before l)) (sym w'.copy.ensures.same) among)))
             | else-seems_to_hold-via-else-seems_to_hold w' ↦
                 new_if_not_held (λ k. hash_of c.args.seed k % c.args.classes ≡ c.args.class) (λ k. holds c.loop-key.words (hash_of c.args.seed k) ≡ true) all before key kind
                 (λ held. false≢true (w'.if-seems_to_hold.ensures ∙ ap (holds c.loop-key.words) hash ∙ held)) so_far.new
@@ -73,7 +73,7 @@ loop-key-preserved c =
 
 pub returns-clause-apart : goal.returns-clause-apart
 returns-clause-apart c = λ i k at kind.
-    let all = keys_of c.args.wanted c.args.structure.now in
+    let all = c.args.first.now in
     let within = slice_get_within all i k at in
     let sum = c.loop-key.invariant.within in
     let none = ap length c.in_default.ensures.steps.0 in

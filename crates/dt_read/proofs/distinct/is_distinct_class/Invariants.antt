@@ -1,7 +1,7 @@
 -- The keys so far are new, and the table holds them.
 use Rattle.std.proofs.Common.{◌≡◌, ◌+◌, ◌%◌, true, List, ℕ, length, drop}
 use Rattle.dt_read.specs.Filter.{holds}
-use Rattle.dt_read.specs.Keys.{Key, keys_of}
+use Rattle.dt_read.specs.Keys.{Key}
 use Rattle.dt_read.specs.Classes.{hash_of}
 use Rattle.dt_read.proofs.Novelty.{AreNew}
 use Rattle.dt_read.proofs.distinct.is_distinct_class.Given as goal
@@ -13,7 +13,7 @@ pub record SoFar (seed classes class : ℕ) (size : ℕ) (words : List ℕ) (all
   pub new : AreNew (λ k. hash_of seed k % classes ≡ class) (λ k. holds words (hash_of seed k) ≡ true) all before
 
 abbrev pub invariant-loop-key : goal.invariant-loop-key
-invariant-loop-key l = SoFar l.seed l.classes l.class (length l.fn.words) l.words (keys_of l.wanted l.structure) l.keys l.before
+invariant-loop-key l = SoFar l.seed l.classes l.class (length l.fn.words) l.words l.first l.keys l.before
 
 abbrev pub decreases-loop-key : goal.decreases-loop-key
 decreases-loop-key l = length l.keys

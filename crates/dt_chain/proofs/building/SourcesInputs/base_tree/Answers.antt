@@ -1,5 +1,6 @@
-use Rattle.std.proofs.Common.{inr}
+use Rattle.std.proofs.Common.{inr, sym, subst}
 use Rattle.std.proofs.lemmas.Result.{err_from_is_err_and}
+use Rattle.dt_grammar.specs.Parsed.{IsParsed}
 use Rattle.dt_chain.specs.Compile.{unparsed}
 use Rattle.dt_chain.proofs.building.SourcesInputs.base_tree.Goals as goal
 
@@ -11,11 +12,11 @@ returns-in_err-source-clause-refused c =
 pub returns-in_err-tree-clause-refused : goal.returns-in_err-tree-clause-refused
 returns-in_err-tree-clause-refused c =
     let e = err_from_is_err_and c.from_residual-in_err-tree.result c.from_residual-in_err-tree.ensures.1 in
-    rw (e.1, e.2) (inr (c.in_err-tree.ensures.refused c.args.base.now c.in_ok-source.ensures.ok))
+    rw (e.1, e.2) (inr (c.in_err-tree.ensures.refused c.args.base.now (subst (IsParsed c.args.base.now) (sym c.add_seed.ensures) c.in_ok-source.ensures.ok)))
 
 pub returns-clause-tree : goal.returns-clause-tree
 returns-clause-tree c = record {
-  of_text = c.in_ok-tree.ensures.tree c.args.base.now c.in_ok-source.ensures.ok;
+  of_text = c.in_ok-tree.ensures.tree c.args.base.now (subst (IsParsed c.args.base.now) (sym c.add_seed.ensures) c.in_ok-source.ensures.ok);
   valid = c.validity.ensures.valid;
   within = c.validity.ensures.within;
 }

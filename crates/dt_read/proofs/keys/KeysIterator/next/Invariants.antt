@@ -1,10 +1,10 @@
 use Rattle.std.proofs.Common.{◌≡◌, length}
-use Rattle.dt_read.specs.Keys.{AreShallow, keys_in}
+use Rattle.dt_read.specs.Keys.{AreShallowFor, keys_in}
 use Rattle.dt_read.proofs.keys.KeysIterator.next.Given as goal
 
 abbrev pub invariant-loop-place : goal.invariant-loop-place
 invariant-loop-place l =
-    AreShallow (length l.self-inside.open_nodes) l.self-inside.cursor
+    AreShallowFor l.self-inside.wanted (length l.self-inside.open_nodes) l.self-inside.cursor
     × (keys_in l.self-inside.wanted l.self-inside.open_nodes l.self-inside.cursor
     ≡ keys_in l.initial.self-inside.wanted l.initial.self-inside.open_nodes l.initial.self-inside.cursor)
 
