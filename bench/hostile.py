@@ -273,7 +273,7 @@ def small(counts):
 def checks(timer):
     for title, counts in [
         ("32,768 properties of each of 40 nodes", [0] + [32_768] * 40),
-        ("20 properties of each of 65,000 nodes", [0] + [17] * 65_000),
+        ("17 properties of each of 65,000 nodes", [0] + [17] * 65_000),
         ("600,000 properties of a node", [600_000]),
     ]:
         blob = small(counts)
