@@ -16,6 +16,7 @@ import tempfile
 import time
 
 from check import Blob
+from measuring import timed
 
 RUNS = 3
 MOST_SECONDS = 120
@@ -27,7 +28,7 @@ SEARCH = r"""
 #include <stdint.h>
 #include <stdio.h>
 #include <stdlib.h>
-static const char LETTERS[] = "abcdefghijklmnopqrstuvwxyzABCDEFGHIJKLMNOPQRSTUVWXYZ0123456789._";
+static const char LETTERS[] = "abcdefghijklmnopqrstuvwxyz012345";
 static const uint64_t M = 0x9e3779b97f4a7c15ull;
 static inline uint64_t folded(uint64_t a, uint64_t b) {
     unsigned __int128 p = (unsigned __int128)a * b;
@@ -44,13 +45,13 @@ int main(int argc, char **argv) {
         char name[9] = "n";
         uint64_t state = first;
         for (int i = 0; i < 5; i++) {
-            name[1 + i] = LETTERS[front >> 6 * i & 63];
+            name[1 + i] = LETTERS[front >> 5 * i & 31];
             state = with_byte(state, (uint64_t)name[1 + i]);
         }
-        for (int i = 0; i < 64 && left > 0; i++) {
+        for (int i = 0; i < 32 && left > 0; i++) {
             name[6] = LETTERS[i];
             uint64_t inner = with_byte(state, (uint64_t)name[6]);
-            for (int j = 0; j < 64 && left > 0; j++) {
+            for (int j = 0; j < 32 && left > 0; j++) {
                 uint64_t hash = with_byte(inner, (uint64_t)LETTERS[j]);
                 if ((hash ^ hash >> 32) & mask) continue;
                 name[7] = LETTERS[j];
@@ -123,11 +124,9 @@ class Search:
         subprocess.run(["cc", "-O3", "-march=native", "-o", self.program, source], check=True)
 
     def names(self, state, count):
-        # A table of so many keys has this many groups of 12 places, and a key's search begins at its hash's last bits.
-        groups = 1
-        while 9 * groups < count:
-            groups *= 2
-        words = [self.program, str(state), str(count), str(groups - 1)]
+        # A table of 12 places to a group and 65,000 keys has 8,192 groups, and a key's search begins in that of its hash's last bits; a
+        # larger one has few groups more that these names begin in.
+        words = [self.program, str(state), str(count), str(8_191)]
         return subprocess.run(words, stdout=subprocess.PIPE, text=True, check=True).stdout.split()
 
 
@@ -184,15 +183,14 @@ class Timer:
 
     def seconds(self, *words):
         """The least of some runs, or None where one was stopped."""
-        least = None
+        least = float("inf")
         for _ in range(RUNS):
-            start = time.perf_counter()
-            try:
-                subprocess.run([self.tool, *words], stdout=subprocess.DEVNULL, check=True, timeout=MOST_SECONDS)
-            except subprocess.TimeoutExpired:
+            status, took = timed([self.tool, *words], subprocess.DEVNULL, None, MOST_SECONDS)
+            if status < 0:
                 return None
-            took = time.perf_counter() - start
-            least = took if least is None else min(least, took)
+            if status:
+                sys.exit(f"{' '.join(words)}: status {status}")
+            least = min(least, took)
         return least
 
 
