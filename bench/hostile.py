@@ -6,7 +6,7 @@
 Tables of names hash behind a seed that comes of all inputs of a call. The names here are made for the hash without a seed, and
 those of an object also for the seed of the base alone, which who makes an object may know: each of them begins its search in the
 same few places of a table, so that a table would be walked for each further name. A C compiler makes the search, which takes
-some seconds; it is left out where an argument `--without-search` asks for the other kinds alone."""
+a minute or two; it is left out where an argument `--without-search` asks for the other kinds alone."""
 import os
 import random
 import struct

@@ -87,7 +87,7 @@ NO_MEMORY = re.compile(r"dtool: input [0-2]: fault 1 NoMemory\n")
 
 
 def small_tables(data, folder):
-    """Copies the tables, without the cases that repeat something thousands of times and without damage."""
+    """Copies the tables, without the cases that repeat something thousands of times, or a long text often, and without damage."""
     for name in sorted(os.listdir(data)):
         with open(os.path.join(data, name)) as table:
             blocks = table.read().split("\n\n")
