@@ -2,7 +2,7 @@
 
 use crate::outcome::{Outcome, Stop};
 use crate::{
-    blobs, chains, damage, expressions, grammar, marks, names, numbers, printing, resolving,
+    blobs, chains, damage, expressions, grammar, marks, names, numbers, printing, resolving, still,
     tokens, trees,
 };
 use std::alloc::Global;
@@ -44,13 +44,17 @@ fn call_on_trees(
         "parse" | "item-count" => grammar::call(alloc, name, input, out),
         "tree" | "tree-blob" => trees::call(alloc, name, words, input, out),
         "damage" => damage::call(alloc, input, out),
-        "apply" | "build" => chains::call(alloc, name, input, others, out),
+        "apply" | "apply-bytes" | "build" => chains::call(alloc, name, input, others, out),
         "print" | "printed" | "again" | "values" => printing::call(alloc, name, words, input, out),
         "regs" | "irqs" => resolving::call(alloc, name, input, out),
         "dma" | "spec" => resolving::ask_node(alloc, name, words, input, out),
         "node-at" => resolving::node(words, input, out),
         "views" => resolving::views(alloc, input, out),
         "fixups" | "local-fixups" => marks::call(alloc, name, input, out),
+        "still" => {
+            out.tell(still::answered(alloc, words, input)?);
+            Ok(())
+        }
         _ => blobs::call(alloc, name, words, input, out),
     }
 }

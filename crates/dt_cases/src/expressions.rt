@@ -7,9 +7,7 @@ use std::alloc::Global;
 
 /// `expression` tells the value of the expression whose steps are given, or `none` where they are no expression's.
 pub fn call(alloc: Global, input: &[u8], out: &mut Outcome) -> Result<(), Stop> {
-    let text = str::from_utf8(input).map_err(|_| Stop::Malformed)?;
-    let mut steps = Vec::new(alloc);
-    push_steps(text, &mut steps)?;
+    let steps = steps_of(alloc, input)?;
     let size = steps.len();
     match Expr::new(steps) {
         Some(expression) if expression.steps().len() == size => out.tell(eval(&expression)?),
@@ -17,6 +15,18 @@ pub fn call(alloc: Global, input: &[u8], out: &mut Outcome) -> Result<(), Stop> 
         None => out.tell("none"),
     }
     Ok(())
+}
+
+/// The expression whose steps are given; None where they are no expression's.
+pub fn expression_of(alloc: Global, input: &[u8]) -> Result<Option<Expr>, Stop> {
+    Ok(Expr::new(steps_of(alloc, input)?))
+}
+
+fn steps_of(alloc: Global, input: &[u8]) -> Result<Vec<Step>, Stop> {
+    let text = str::from_utf8(input).map_err(|_| Stop::Malformed)?;
+    let mut steps = Vec::new(alloc);
+    push_steps(text, &mut steps)?;
+    Ok(steps)
 }
 
 fn push_steps(text: &str, steps: &mut Vec<Step>) -> Result<(), Stop> {

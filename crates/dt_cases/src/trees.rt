@@ -1,4 +1,4 @@
-//! Trees that are changed step by step.
+//! Trees that are changed step by step. A step that is refused leaves the tree as it was, and the next one is taken.
 
 use crate::input::bytes_of;
 use crate::numbers::{index, number};
@@ -9,8 +9,9 @@ use dt_names::{FaultKind, NodeName, PropName};
 use dt_write::write_blob;
 use std::alloc::Global;
 
-/// `tree [CPU]` tells what the steps on a new tree tell: each that is refused its fault, `read` the tree's lines, `count` how many nodes there
-/// are, and `value NODE NAME` a value. `tree-blob [CPU]` gives the blob of the tree behind the last step. Steps end with `;`. They are `reserve ADDRESS SIZE`,
+/// `tree [CPU]` tells what the steps on a new tree tell: each that is refused its fault, one that speaks of a node that isn't there `no node`, `read`
+/// the tree's lines, `count` how many nodes there are, and `value NODE NAME` a value. `tree-blob [CPU]` gives the blob of the tree behind the last
+/// step, if memory was refused to none. Steps end with `;`. They are `reserve ADDRESS SIZE`,
 /// `node PARENT NAME`, `set NODE NAME [HEX]`, `set-number NODE NAME NUMBER` and `set-size NODE NAME SIZE`, of a value of so many bytes. A node is its number: 0 is
 /// the root's, and each new node has the next one.
 pub fn call(
@@ -45,26 +46,27 @@ fn take_all(
     out: &mut Outcome,
 ) -> Result<(), Stop> {
     match name {
-        "tree" => tell_all(tree, out.lines(), alloc, steps),
+        "tree" => tell_all(tree, out.lines(), alloc, steps, true),
         _ => {
-            tell_all(tree, &mut Lines::new(alloc), alloc, steps)?;
+            tell_all(tree, &mut Lines::new(alloc), alloc, steps, false)?;
             out.give(write_blob(alloc, tree)?);
             Ok(())
         }
     }
 }
 
-/// Takes the steps, and puts what they tell.
+/// Takes the steps, and puts what they tell; also behind one to which memory was refused, where it is to go on there.
 fn tell_all(
     tree: &mut FlatTree,
     lines: &mut Lines,
     alloc: Global,
     steps: &str,
+    goes_on: bool,
 ) -> Result<(), Stop> {
     for step in steps.split_terminator(';') {
         match take(tree, lines, alloc, step.trim()) {
             Ok(()) => {}
-            Err(Stop::Refused(fault)) if fault.kind != FaultKind::NoMemory => {
+            Err(Stop::Refused(fault)) if goes_on || fault.kind != FaultKind::NoMemory => {
                 writeln!(lines, "{fault}");
             }
             Err(stop) => return Err(stop),
@@ -125,7 +127,8 @@ fn at_node(
     words: &str,
 ) -> Result<(), Stop> {
     if node >= tree.node_count() {
-        return Err(Stop::Malformed);
+        lines.put("no node\n");
+        return Ok(());
     }
     match verb {
         "node" => {

@@ -15,7 +15,7 @@ mod tests;
 
 use dt_names::Out;
 use dt_run::{Prompt, SystemFiles, run};
-use dt_words::{LineFault, line};
+use dt_words::{Line, LineFault, line};
 use std::io::ErrorKind;
 use std::process::ExitCode;
 use std::{env, io};
@@ -25,23 +25,29 @@ fn given(rt: &HostRuntime) -> io::Result<Vec<String>> {
     Ok(env::args(rt)?.collect(rt.alloc())?)
 }
 
+/// Does what a line asks for, on the system's files and streams; the exit status.
+fn run_line(rt: &HostRuntime, asked: Result<Line<'_>, LineFault>) -> u8 {
+    run(
+        rt.alloc(),
+        asked,
+        &mut SystemFiles::new(rt),
+        &mut Out::new(Prompt::new(rt.stdout())),
+        &mut Out::new(rt.stderr()),
+    )
+}
+
 /// Does what the words of the command line ask for.
 fn main(rt: HostRuntime) -> ExitCode {
     let words = given(&rt);
-    let asked = match &words {
-        Ok(words) => line(rt.alloc(), words.as_slice()),
-        Err(error) if error.kind() == ErrorKind::OutOfMemory => Err(LineFault::Memory),
+    ExitCode::from(match &words {
+        Ok(words) => run_line(&rt, line(rt.alloc(), words.as_slice())),
+        Err(error) if error.kind() == ErrorKind::OutOfMemory => run_line(
+            &rt,
+            Err(LineFault::Memory),
+        ),
         Err(error) => {
             let _ = rt.eprintln(error);
-            return ExitCode::from(2);
+            2
         }
-    };
-    let status = run(
-        rt.alloc(),
-        asked,
-        &mut SystemFiles::new(&rt),
-        &mut Out::new(Prompt::new(rt.stdout())),
-        &mut Out::new(rt.stderr()),
-    );
-    ExitCode::from(status)
+    })
 }

@@ -361,6 +361,11 @@ impl Read for Zeros {
     }
 }
 
+const ENDLESS: Zeros = Zeros {
+    left: usize::MAX,
+    step: usize::MAX,
+};
+
 // How many bytes are read of an input of so many, or why none.
 fn size_read(alloc: Global, left: usize, step: usize) -> Result<usize, Fault> {
     Ok(read_all(alloc, &mut In::new(Zeros { left, step }))?.len())
@@ -520,12 +525,13 @@ fn files(rt: HostRuntime) -> Result<(), Fail> {
     Ok(())
 }
 
-// Files in a test, which give a byte at a time: each but one holds the source, and standard input holds it too. They fail once, `until` bytes on.
+// Files in a test: each but one holds the source, and standard input holds it too; they give a byte at a time, and fail once, `until` bytes on. Or
+// they have no end.
 #[derive(Drop)]
 struct Shelf {
     alloc: Global,
     asked: usize,
-    until: usize,
+    until: Option<usize>,
 }
 
 impl Files for Shelf {
@@ -536,11 +542,22 @@ impl Files for Shelf {
         if name == "none" {
             return Err(Fault::of(FaultKind::ReadFault));
         }
-        read_all(
-            self.alloc,
-            &mut In::new(make_dripping(SOURCE, 1, self.until)),
-        )
+        match self.until {
+            Some(until) => read_all(self.alloc, &mut In::new(make_dripping(SOURCE, 1, until))),
+            None => read_all(self.alloc, &mut In::new(ENDLESS)),
+        }
     }
+}
+
+// The status of a run on these words. Its callers own what it borrows, so that its ways out are proved with nothing to let go of.
+fn run_words(
+    alloc: Global,
+    words: &[&str],
+    files: &mut Shelf,
+    made: &mut Out<Narrow>,
+    told: &mut Out<Narrow>,
+) -> u8 {
+    run(alloc, line(alloc, words), files, made, told)
 }
 
 // What a run ends with: its status, how many files it asked for, and what it wrote.
@@ -552,8 +569,8 @@ struct Ending<'a> {
     err: &'a [u8],
 }
 
-// Whether a run on these words, parted by blanks, and on files that fail so many bytes on, ends so.
-fn ends(alloc: Global, text: &str, until: usize, ending: &Ending<'_>) -> bool {
+// Whether a run on these words, parted by blanks, and on files that fail so many bytes on or have no end, ends so.
+fn ends(alloc: Global, text: &str, until: Option<usize>, ending: &Ending<'_>) -> bool {
     let Ok(words) = text.split(' ').collect::<Vec<&str>>(alloc) else {
         return false;
     };
@@ -564,14 +581,7 @@ fn ends(alloc: Global, text: &str, until: usize, ending: &Ending<'_>) -> bool {
     };
     let mut told = Out::new(make_narrow(alloc, 7, 1000, End::Fails));
     let mut made = Out::new(make_narrow(alloc, 9, 1000, End::Fails));
-    let answer = run(
-        alloc,
-        line(alloc, words.as_slice()),
-        &mut files,
-        &mut made,
-        &mut told,
-    );
-    answer == ending.status
+    run_words(alloc, &words, &mut files, &mut made, &mut told) == ending.status
         && files.asked == ending.asked
         && made.into_inner().held.as_slice() == ending.out
         && told.into_inner().held.as_slice() == ending.err
@@ -585,11 +595,11 @@ fn is_done(alloc: Global, text: &str, out: &[u8]) -> bool {
         out,
         err: b"",
     };
-    ends(alloc, text, usize::MAX, &ending)
+    ends(alloc, text, Some(usize::MAX), &ending)
 }
 
-// Whether a run on files that fail so many bytes on tells this fault, asks for so many files, and writes nothing.
-fn is_faulty(alloc: Global, text: &str, until: usize, asked: usize, err: &[u8]) -> bool {
+// Whether a run on files that fail so many bytes on or have no end tells this fault, asks for so many files, and writes nothing.
+fn is_faulty(alloc: Global, text: &str, until: Option<usize>, asked: usize, err: &[u8]) -> bool {
     let ending = Ending {
         status: 1,
         asked,
@@ -618,16 +628,40 @@ const NO_FIRST: &[u8] = b"dtool: input 0: fault 91 ReadFault\n";
 
 const NO_BLOB: &[u8] = b"dtool: input 0: fault 40 ShortHeader\n";
 
+const TOO_LONG: &[u8] = b"dtool: input 0: fault 2 Limit\n";
+
+const RUNS: [&str; 9] = [
+    "dtool compile a.dts",
+    "dtool apply a.dts",
+    "dtool build a.dts",
+    "dtool print a.dts",
+    "dtool check a.dts",
+    "dtool regs a.dts",
+    "dtool irqs a.dts",
+    "dtool dma a.dts / 0 1",
+    "dtool spec a.dts / p k 0",
+];
+
+// Whether each command tells a file that fails, whichever byte it fails at, and one that has no end.
+fn are_bad_files_told(alloc: Global) -> bool {
+    RUNS.into_iter().all(|words| {
+        is_faulty(alloc, words, None, 1, TOO_LONG)
+            && (0..=SOURCE.len()).all(|until| is_faulty(alloc, words, Some(until), 1, NO_FIRST))
+    })
+}
+
+#[test]
+fn runs_on_bad_files(rt: HostRuntime) {
+    assert!(rt; are_bad_files_told(rt.alloc()));
+}
+
 #[test]
 fn runs_that_are_refused(rt: HostRuntime) {
     let alloc = rt.alloc();
-    let whole = usize::MAX;
+    let whole = Some(usize::MAX);
     assert!(rt; is_faulty(alloc, "dtool build stdin stdin", whole, 1, BAD_VERSION));
     assert!(rt; is_faulty(alloc, "dtool build a.dts none stdin", whole, 2, NO_SECOND));
     assert!(rt; is_faulty(alloc, "dtool check a.dts", whole, 1, NO_BLOB));
-    assert!(rt;
-        (0..=SOURCE.len()).all(|until| is_faulty(alloc, "dtool compile a.dts", until, 1, NO_FIRST))
-    );
 }
 
 // The status of a run on these words, where standard error takes so many bytes.
@@ -636,17 +670,11 @@ fn status_of(alloc: Global, text: &str, room: usize) -> Option<u8> {
     let mut files = Shelf {
         alloc,
         asked: 0,
-        until: usize::MAX,
+        until: Some(usize::MAX),
     };
     let mut made = Out::new(make_narrow(alloc, 9, 9, End::Fails));
     let mut told = Out::new(make_narrow(alloc, 9, room, End::Fails));
-    Some(run(
-        alloc,
-        line(alloc, words.as_slice()),
-        &mut files,
-        &mut made,
-        &mut told,
-    ))
+    Some(run_words(alloc, &words, &mut files, &mut made, &mut told))
 }
 
 #[test]
