@@ -19,7 +19,7 @@ use Rattle.dt_laws.specs.ShortValues.{ReadValuesAreShort, ShortObjectEncodes}
 use Rattle.dt_laws.specs.Sources.{SourceIsMeaning, SourceIsPlain, OverlaySourceIsOverlay}
 use Rattle.dt_grammar.specs.Grammar.{Says}
 use Rattle.dt_grammar.specs.Parsed.{IsParsed}
-use Rattle.dt_source.specs.Refusals.{fault_of, overlay_fault_of}
+use Rattle.dt_bodies.specs.Refusals.{fault_of, overlay_fault_of}
 use Rattle.dt_source.proofs.Outcomes as named
 use Rattle.dt_source.proofs.OverlayOutcomes as named_overlays
 use Rattle.dt_write.specs.Written.{written}

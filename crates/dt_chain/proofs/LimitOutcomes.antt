@@ -15,7 +15,7 @@ use Rattle.dt_grammar.specs.Parsed.{IsParsed}
 use Rattle.dt_landing.specs.Outcomes.{RoomIsCounted}
 use Rattle.dt_landing.specs.Refusals.{has_many, WhyNotApplied}
 use Rattle.dt_read.specs.Kinds.{kind_of}
-use Rattle.dt_source.specs.Refusals.{WhyNotNamed, WhyNoOverlay, fault_of, overlay_fault_of}
+use Rattle.dt_bodies.specs.Refusals.{WhyNotNamed, WhyNoOverlay, fault_of, overlay_fault_of}
 use Rattle.dt_chain.specs.Apply as inputs
 use Rattle.dt_chain.specs.Apply.{IsRead, IsNoBlob, IsOutcome, WhyNoStep, IsStopped, WhyNoneOfAll}
 use Rattle.dt_chain.specs.Build.{HasBaseTree, HasObject, WhyNoObject}

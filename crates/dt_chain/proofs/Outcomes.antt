@@ -14,7 +14,7 @@ use Rattle.dt_model.specs.Refused.{too_many, IsRefusedFor}
 use Rattle.dt_laws.specs.CompiledTrees.{OneTree, MeantIsNotRefused, FewAreNotRefused}
 use Rattle.dt_grammar.specs.Grammar.{Says}
 use Rattle.dt_grammar.specs.Parsed.{IsParsed, WhyNotParsed}
-use Rattle.dt_source.specs.Refusals.{WhyNotNamed, fault_of, place_of}
+use Rattle.dt_bodies.specs.Refusals.{WhyNotNamed, fault_of, place_of}
 use Rattle.dt_source.proofs.Outcomes.{Sorted, sorted}
 use Rattle.dt_write.specs.Written.{written}
 use Rattle.dt_chain.specs.Compile.{TextHasTree, IsCompiled, WhyNoTree, WhyNotCompiled, no_memory, unparsed, unnamed, many, no_tree, big}

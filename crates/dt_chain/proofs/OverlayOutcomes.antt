@@ -11,7 +11,7 @@ use Rattle.dt_model.specs.Fixups.{IsObjectOf}
 use Rattle.dt_laws.specs.OverlayTrees.{OneOverlay, OneObject, OverlayRefusalIsOne, OverlayIsNotRefused, ObjectIsNotRefused}
 use Rattle.dt_grammar.specs.Grammar.{Says}
 use Rattle.dt_grammar.specs.Parsed.{IsParsed}
-use Rattle.dt_source.specs.Refusals.{WhyNoOverlay, overlay_fault_of}
+use Rattle.dt_bodies.specs.Refusals.{WhyNoOverlay, overlay_fault_of}
 use Rattle.dt_source.proofs.OverlayOutcomes.{Sorted, sorted, overlay_refused_once}
 use Rattle.dt_write.specs.Written.{written}
 use Rattle.dt_chain.specs.Compile.{OverlayTextHasTree, IsCompiledOverlay, WhyNotCompiledOverlay, no_memory, refused, large, big}

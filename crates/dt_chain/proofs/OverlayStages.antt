@@ -21,7 +21,7 @@ use Rattle.dt_model.specs.Instance.{instance_of, symbols_of, with_symbols, follo
 use Rattle.dt_model.specs.Fixups.{fixup_nodes, with_fixups}
 use Rattle.dt_laws.specs.Sources.{OverlaySourceIsOverlay}
 use Rattle.dt_grammar.specs.Grammar.{Says}
-use Rattle.dt_source.specs.Refusals.{WhyNoOverlay, overlay_fault_of, place_of}
+use Rattle.dt_bodies.specs.Refusals.{WhyNoOverlay, overlay_fault_of, place_of}
 use Rattle.dt_flat.specs.Arena.{Arena, named_children, child_of, reading}
 use Rattle.dt_marks.specs.Refusals.{WhyNoFixups}
 use Rattle.dt_write.specs.Written.{written}

@@ -8,7 +8,7 @@ use Rattle.dt_lex.specs.Lexing.{WhyNotLexed}
 use Rattle.dt_grammar.specs.Parsed as grammar
 use Rattle.dt_grammar.specs.Parsed.{WhyNotParsed}
 use Rattle.dt_parse.proofs.Parsing.{never_memory}
-use Rattle.dt_source.specs.Refusals.{place_of}
+use Rattle.dt_bodies.specs.Refusals.{place_of}
 use Rattle.dt_chain.specs.Compile as compile
 use Rattle.dt_chain.specs.Compile.{WhyNoTree, WhyNotCompiled, WhyNotCompiledOverlay, WhyNoBlob}
 

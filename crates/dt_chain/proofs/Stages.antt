@@ -21,7 +21,7 @@ use Rattle.dt_laws.specs.NamedTrees.{TreeIsMeant}
 use Rattle.dt_grammar.specs.Grammar.{Says}
 use Rattle.dt_parse.specs.Reading.{IsSourceFault}
 use Rattle.dt_parse.proofs.Parsing.{source_kind}
-use Rattle.dt_source.specs.Refusals.{WhyNotNamed, fault_of, place_of}
+use Rattle.dt_bodies.specs.Refusals.{WhyNotNamed, fault_of, place_of}
 use Rattle.dt_flat.specs.Arena.{Arena, Slot, named_children, child_of, reading}
 use Rattle.dt_flat.proofs.ByPath.{has, sibling_below}
 use Rattle.dt_marks.specs.Refusals.{WhyNoSymbols}

@@ -16,7 +16,7 @@ use Rattle.dt_names.specs.declared.fault.FaultKind.TheVariants as fault
 use Rattle.dt_grammar.specs.Grammar.{Says}
 use Rattle.dt_grammar.specs.Parsed.{IsParsed, WhyNotParsed}
 use Rattle.dt_parse.specs.Reading.{IsSourceFault}
-use Rattle.dt_source.specs.Refusals.{WhyNotNamed, WhyNoOverlay, place_of}
+use Rattle.dt_bodies.specs.Refusals.{WhyNotNamed, WhyNoOverlay, place_of}
 use Rattle.dt_write.specs.Written.{written}
 
 -- ---- what a text means

@@ -6,7 +6,7 @@ ghost use Rattle.dt_model.specs.Named.{tree_of};
 ghost use Rattle.dt_model.specs.Source.{base, raw};
 ghost use Rattle.dt_model.specs.Tree.{Reading};
 ghost use Rattle.dt_names.specs.declared.fault.FaultKind.TheVariants.{NoMemory};
-ghost use Rattle.dt_source.specs.Refusals.{mode_said, WhyNotNamed, place_of};
+ghost use Rattle.dt_bodies.specs.Refusals.{mode_said, WhyNotNamed, place_of};
 ghost use Rattle.dt_chain.specs.Apply.{IsRead};
 ghost use Rattle.dt_chain.specs.Compile.{IsBlobOf, WhyNoBlob, IsCompiled, WhyNoTree, WhyNotCompiled, IsCompilerFault, IsCompiledOverlay, WhyNotCompiledOverlay, TextHasTree, OverlayTextHasTree};
 ghost use Rattle.dt_chain.specs.Build.{HasObject};

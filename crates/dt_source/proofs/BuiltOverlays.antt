@@ -24,15 +24,15 @@ use Rattle.dt_laws.specs.NamedTrees.{ListIsOfItsTree}
 use Rattle.dt_laws.specs.OverlayTrees.{OverlayIsNamed, OverlayManyStand}
 use Rattle.dt_laws.specs.OverlayChecks.{AreBehind, ListedAreBehind, AreChecked, HasUntargeted, AreUncontained, IsTreeAfter, CheckedIsMeant, UntargetedIsRefused, UncontainedIsRefused}
 use Rattle.dt_grammar.specs.Grammar.{Says}
-use Rattle.dt_source.specs.Arena.{all_overlay}
+use Rattle.dt_bodies.specs.Arena.{all_overlay}
 use Rattle.dt_source.specs.Building.{MayBeWhole}
-use Rattle.dt_source.specs.Contents.{named_part, named_parts, all_read, read_values, IsLabelledPart, AreLabelled}
+use Rattle.dt_naming.specs.Contents.{named_part, named_parts, all_read, read_values, IsLabelledPart, AreLabelled}
 use Rattle.dt_fragments.specs.Fragments.{WhyUnchecked, IsUnchecked}
 use Rattle.dt_source.specs.Fragments.{AreOverlayNodes}
-use Rattle.dt_source.specs.Nodes.{AreNodesBy, HasUnread}
-use Rattle.dt_source.specs.OverlayReading.{OverlayTells}
-use Rattle.dt_source.specs.Refusals.{overlay_kind, overlay_fault_of, WhyNoOverlayRead, IsOverlayFaultOf, WhyNoOverlay, place_of}
-use Rattle.dt_source.specs.declared.referring.Unnamed.TheVariants.{Kept}
+use Rattle.dt_naming.specs.Nodes.{AreNodesBy, HasUnread}
+use Rattle.dt_bodies.specs.OverlayReading.{OverlayTells}
+use Rattle.dt_bodies.specs.Refusals.{overlay_kind, overlay_fault_of, WhyNoOverlayRead, IsOverlayFaultOf, WhyNoOverlay, place_of}
+use Rattle.dt_growing.specs.declared.referring.Unnamed.TheVariants.{Kept}
 use Rattle.dt_source.proofs.BuiltTrees.{count_is}
 
 -- ---- values

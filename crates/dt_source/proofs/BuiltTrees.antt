@@ -15,8 +15,8 @@ use Rattle.dt_model.specs.Valid.{IsReservation}
 use Rattle.dt_laws.specs.NamedTrees.{ListIsOfItsTree, MeantIsNamed, ManyStand}
 use Rattle.dt_grammar.specs.Grammar.{Says}
 use Rattle.dt_source.specs.Building.{AreNodesOf, MayBeWhole}
-use Rattle.dt_source.specs.Nodes.{WhyNotAfter}
-use Rattle.dt_source.specs.Refusals.{IsFaultOf, WhyNotNamed, WhyNotRead, WhyNotGrown, fault_of, place_of}
+use Rattle.dt_naming.specs.Nodes.{WhyNotAfter}
+use Rattle.dt_bodies.specs.Refusals.{IsFaultOf, WhyNotNamed, WhyNotRead, WhyNotGrown, fault_of, place_of}
 
 -- ---- how many nodes there are
 

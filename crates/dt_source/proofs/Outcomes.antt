@@ -9,7 +9,7 @@ use Rattle.dt_laws.specs.CompiledTrees.{RefusalIsOne}
 use Rattle.dt_laws.specs.NamedTrees.{NamedIsNotRefused}
 use Rattle.dt_grammar.specs.Grammar.{Says}
 use Rattle.dt_source.specs.Meant.{HasTree}
-use Rattle.dt_source.specs.Refusals.{WhyNotNamed, IsFaultOf, fault_of}
+use Rattle.dt_bodies.specs.Refusals.{WhyNotNamed, IsFaultOf, fault_of}
 
 -- memory is wanted; or it is an overlay's; or its places are refused
 abbrev pub Sorted : Mode → Says → FaultKind → Type 0

@@ -8,7 +8,7 @@ use Rattle.dt_model.specs.NamedOverlay.{NamedFragment}
 use Rattle.dt_laws.specs.OverlayTrees.{NamedOverlayIsNotRefused, OverlayRefusalIsOne}
 use Rattle.dt_grammar.specs.Grammar.{Says}
 use Rattle.dt_source.specs.Meant.{HasOverlay}
-use Rattle.dt_source.specs.Refusals.{WhyNoOverlay, IsOverlayFaultOf, overlay_fault_of}
+use Rattle.dt_bodies.specs.Refusals.{WhyNoOverlay, IsOverlayFaultOf, overlay_fault_of}
 
 -- memory is wanted; or it is no overlay's; or it reserves memory; or its places are refused
 abbrev pub Sorted : Says → FaultKind → Type 0

@@ -3,7 +3,7 @@ use Rattle.std.specs.Prelude.{◌≡◌, ◌≤◌, List, length, Ok}
 use Rattle.dt_model.specs.Limits.{most_nodes}
 use Rattle.dt_model.specs.Named.{NodeReference, Listed, NamedList}
 use Rattle.dt_model.specs.Source.{Place, Mode, SoFar, nothing, read_all}
-use Rattle.dt_source.specs.Nodes.{AreNodesAfter}
+use Rattle.dt_naming.specs.Nodes.{AreNodesAfter}
 use Rattle.dt_named.specs.Said.{IsTree}
 
 -- the places are all read, and the nodes are those of a tree that has what stands after them

@@ -7,17 +7,17 @@ ghost use Rattle.dt_names.specs.declared.fault.FaultKind.TheVariants.{Limit};
 ghost use Rattle.dt_items.specs.Said.{place_said, reservation_said};
 ghost use Rattle.dt_source.specs.Building.{AreNodesOf, MayBeWhole};
 ghost use Rattle.dt_source.specs.Meant.{HasTree};
-ghost use Rattle.dt_source.specs.Refusals.{mode_said, WhyNotNamed, WhyNotRead, place_of};
+ghost use Rattle.dt_bodies.specs.Refusals.{mode_said, WhyNotNamed, WhyNotRead, place_of};
 ghost use Rattle.dt_named.specs.Said.{IsTree, list_said, node_said};
 
-use crate::nodes::named_nodes;
-use crate::reading::{Mode, grow};
+use dt_bodies::{Mode, grow};
 use dt_items::{Item, Reservation, Source};
 use dt_laws::{list_is_of_its_tree, many_stand, meant_is_named, root_stands};
 use dt_model::nested_places;
 use dt_named::{NamedNode, NamedTree};
 use dt_names::limits::MOST_NODES;
 use dt_names::{Fault, FaultKind, Seed};
+use dt_naming::named_nodes;
 use std::alloc::{AllocError, Global};
 
 // The nodes of a source's items.

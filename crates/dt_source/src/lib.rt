@@ -6,28 +6,16 @@
 //! let tree = build_base(alloc, &source, Mode::Base)?;     // /: a, c; /n: p, q
 //! ```
 //!
-//! Such a source is a case of meanings.cases (docs/CASES.md). Inside, a node is named by its index in the tables of `Growing`, in the order in
-//! which nodes were opened, and by its place in preorder once the last item is read; items are named by their place in the source.
+//! Such a source is a case of meanings.cases (docs/CASES.md). A source's items grow into a tree (dt_growing, dt_bodies), of which named nodes are made
+//! (dt_naming); here they become a tree, or why not.
 #![tactic(auto)]
 
-mod arena;
 mod building;
-mod contents;
-mod groups;
-mod growing;
 mod laws;
-mod listing;
-mod nodes;
-mod overlaying;
 mod overlays;
-mod phandles;
-mod reading;
-mod referring;
-mod table;
-mod values;
 
 pub use building::build_base;
+pub use dt_bodies::Mode;
 pub use dt_fragments::{Fragment, Target};
 pub use laws::{one_outcome, one_overlay_outcome};
 pub use overlays::{NamedOverlay, build_overlay};
-pub use reading::Mode;

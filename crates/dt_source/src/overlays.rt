@@ -12,13 +12,11 @@ ghost use Rattle.dt_source.specs.Building.{MayBeWhole};
 ghost use Rattle.dt_fragments.specs.Fragments.{fragment_said};
 ghost use Rattle.dt_source.specs.Fragments.{AreOverlayNodes};
 ghost use Rattle.dt_source.specs.Meant.{ListedOverlay};
-ghost use Rattle.dt_source.specs.Refusals.{WhyNoOverlay, WhyNoOverlayRead, place_of};
+ghost use Rattle.dt_bodies.specs.Refusals.{WhyNoOverlay, WhyNoOverlayRead, place_of};
 ghost use Rattle.dt_named.specs.Said.{IsTree, list_said, node_said};
 
-use crate::arena::Arena;
 use crate::building::whole;
-use crate::nodes::overlay_nodes;
-use crate::overlaying::grow_overlay;
+use dt_bodies::{Arena, grow_overlay};
 use dt_fragments::{Fragment, checked_fragments};
 use dt_items::{Item, Source};
 use dt_laws::{
@@ -27,6 +25,7 @@ use dt_laws::{
 };
 use dt_named::{NamedNode, NamedTree};
 use dt_names::{Fault, FaultKind, Seed};
+use dt_naming::overlay_nodes;
 use std::alloc::Global;
 use std::marker::Model;
 

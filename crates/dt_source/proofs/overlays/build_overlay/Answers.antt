@@ -13,7 +13,7 @@ use Rattle.dt_items.specs.Said.{reservation_said}
 use Rattle.dt_fragments.specs.Fragments.{IsUnchecked, fragment_said}
 use Rattle.dt_source.specs.Fragments.{AreOverlayNodes}
 use Rattle.dt_source.specs.Meant.{ListedOverlay}
-use Rattle.dt_source.specs.Refusals.{WhyNoOverlay, WhyNoOverlayRead, place_of}
+use Rattle.dt_bodies.specs.Refusals.{WhyNoOverlay, WhyNoOverlayRead, place_of}
 use Rattle.dt_named.specs.Said.{IsTree, list_said, node_said}
 use Rattle.dt_named.specs.declared.named.NamedNode.{NamedNode}
 use Rattle.dt_source.proofs.BuiltOverlays.{are_behind, overlay_means, overlay_may_be_whole, too_many_stand, late_overlay_refused, no_overlay_read, none_reserved}

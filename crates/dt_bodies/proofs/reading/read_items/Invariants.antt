@@ -1,0 +1,13 @@
+-- What was read of the items is what the definition reads of as many.
+use Rattle.std.proofs.Common.{map, take}
+use Rattle.dt_model.specs.Source.{read_all, nothing}
+use Rattle.dt_items.specs.Said.{place_said}
+use Rattle.dt_bodies.specs.Reading.{IsWhole, GoesOn}
+use Rattle.dt_bodies.specs.Refusals.{mode_said}
+use Rattle.dt_bodies.proofs.reading.read_items.Given as goal
+
+abbrev pub invariant-loop-number : goal.invariant-loop-number
+invariant-loop-number l = record {
+  whole : IsWhole l.reading;
+  goes : GoesOn (read_all (mode_said l.mode) nothing (map place_said (take l.number l.items))) l.reading l.number;
+}

@@ -1,0 +1,11 @@
+//! The items of a source, read into a tree that grows: its bodies merged, its deletions done (Devicetree Specification v0.4, chapter 6); of an overlay's source
+//! each block that opens no node of its own opens the content of a new fragment (dtc's notes on overlay objects).
+#![tactic(auto)]
+
+mod arena;
+mod overlaying;
+mod reading;
+
+pub use arena::Arena;
+pub use overlaying::grow_overlay;
+pub use reading::{Mode, grow};

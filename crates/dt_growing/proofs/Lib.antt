@@ -1,0 +1,13 @@
+pub mod Cases
+pub mod TableLemmas
+pub mod Walks
+pub mod Numbering
+pub mod Listings
+pub mod Soundness
+pub mod Places
+pub mod Changes
+pub mod Growths
+pub mod Leading
+pub mod Grows
+pub mod Descents
+pub mod Referents

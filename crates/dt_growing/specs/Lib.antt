@@ -1,0 +1,6 @@
+-- what callers read, in this order
+pub mod Shape
+pub mod Grown
+pub mod Growing
+-- inside
+pub mod Table

@@ -1,0 +1,272 @@
+//! The values of properties with their references read.
+
+ghost use Rattle.std.specs.Prelude.{◌≡◌, ◌∷◌, [], ◌++◌, ℕ, Some, None, map, reverse, OnOk, MatchResult, MatchOption, option_map, option_and_then, unwrap_or, slice_get};
+ghost use Rattle.dt_model.specs.Path.{path_text, path_value};
+ghost use Rattle.dt_model.specs.Meaning.{byte, reference};
+ghost use Rattle.dt_model.specs.Event.{Stack};
+ghost use Rattle.dt_model.specs.Source.{Events, number_of, text_of};
+ghost use Rattle.dt_items.specs.Said.{reference_of, referring, piece_parts};
+ghost use Rattle.dt_items.specs.Said as source_said;
+ghost use Rattle.dt_named.specs.Said.{reference_said, value_said};
+ghost use Rattle.dt_growing.specs.Grown.{AreAbove, Leads};
+ghost use Rattle.dt_growing.specs.Growing.{IsSound};
+ghost use Rattle.dt_naming.specs.Contents.{names_text, kept_label, named_cell, named_part, named_parts};
+ghost use Rattle.dt_naming.specs.Resolving.{IsOf, EachNaming, IsAdded, IsUnread};
+
+use dt_growing::{Growing, Node, Unnamed};
+use dt_items::{Form, Piece, Reference, Value};
+use dt_named::{NamedPiece, NamedReference, NamedValue};
+use dt_names::{Fault, FaultKind};
+use std::alloc::{AllocError, Global};
+use std::mem;
+
+/// Adds a `/` and a name.
+fn add_name(text: &mut Vec<u8>, name: &[u8]) -> Result<(), AllocError>
+    ensures { OnOk result (text.new.items ≡ text.old.items ++ 47 ∷ name.now) }
+{
+    text.push(b'/')?;
+    text.extend_from_slice(name)?;
+    Ok(())
+}
+
+/// Adds each name of a node's path with a `/` before it.
+fn add_names(text: &mut Vec<u8>, nodes: &[Node<'_, '_>], node: usize) -> Result<(), AllocError>
+    requires { AreAbove nodes.now }
+    ensures { OnOk result ((p : Stack) → Leads nodes.now p node → text.new.items ≡ text.old.items ++ names_text p) }
+{
+    if node == 0 {
+        return Ok(());
+    }
+    if let Some(found) = nodes.get(node) {
+        add_names(text, nodes, found.parent)?;
+        add_name(text, found.name.bytes())?;
+    }
+    Ok(())
+}
+
+/// Adds the text of a node's path.
+fn add_path(text: &mut Vec<u8>, nodes: &[Node<'_, '_>], node: usize) -> Result<(), AllocError>
+    requires { AreAbove nodes.now }
+    ensures { OnOk result ((p : Stack) → Leads nodes.now p node → text.new.items ≡ text.old.items ++ path_text (reverse p)) }
+{
+    if node == 0 {
+        add_name(text, b"")?;
+    } else {
+        add_names(text, nodes, node)?;
+    }
+    Ok(())
+}
+
+/// Adds the text of a node's path, and a NUL.
+fn add_path_value(text: &mut Vec<u8>, nodes: &[Node<'_, '_>], node: usize) -> Result<(), AllocError>
+    requires { AreAbove nodes.now }
+    ensures { OnOk result ((p : Stack) → Leads nodes.now p node → text.new.items ≡ text.old.items ++ path_value (reverse p)) }
+{
+    add_path(text, nodes, node)?;
+    text.push(0)?;
+    Ok(())
+}
+
+/// The number that a node has; 0 where it has none.
+fn number_of(numbers: &[Option<usize>], node: usize) -> usize
+    ensures { result ≡ unwrap_or (option_and_then (λ number. number) (slice_get numbers.now node)) 0 }
+{
+    numbers.get(node).copied().flatten().unwrap_or(0)
+}
+
+/// Ends a piece with a reference.
+fn end_piece<'a>(
+    alloc: Global,
+    value: &mut NamedValue<'a>,
+    named: NamedReference<'a>,
+) -> Result<(), AllocError>
+    ensures { OnOk result (value_said value.new ≡ value_said value.old ++ reference (reference_said named.entry) ∷ []) }
+{
+    let before = mem::replace(&mut value.bytes, Vec::new(alloc));
+    value.pieces.push(NamedPiece {
+        before,
+        reference: named,
+    })?;
+    Ok(())
+}
+
+/// Adds bytes at the end.
+fn add_bytes(value: &mut NamedValue<'_>, bytes: &[u8]) -> Result<(), AllocError>
+    ensures { OnOk result (value_said value.new ≡ value_said value.old ++ map byte bytes.now) }
+{
+    value.bytes.extend_from_slice(bytes)?;
+    Ok(())
+}
+
+/// Adds the text of a node's path, and a NUL.
+fn add_path_bytes(
+    value: &mut NamedValue<'_>,
+    nodes: &[Node<'_, '_>],
+    node: usize,
+) -> Result<(), AllocError>
+    requires { AreAbove nodes.now }
+    ensures { OnOk result ((p : Stack) → Leads nodes.now p node → value_said value.new ≡ value_said value.old ++ map byte (path_value (reverse p))) }
+{
+    add_path_value(&mut value.bytes, nodes, node)?;
+    Ok(())
+}
+
+/// The label of a cell's reference that names no node, where it is kept.
+fn kept_label<'a>(unnamed: Unnamed, reference: &Reference<'a>) -> Option<&'a [u8]>
+    ensures { option_map (λ label. label.now) result ≡ kept_label unnamed (reference_of reference.now) }
+{
+    match unnamed {
+        Unnamed::Refused => None,
+        Unnamed::Kept => match reference {
+            Reference::Label(label) => Some(label.as_bytes()),
+            Reference::Path(_) => None,
+        },
+    }
+}
+
+/// What a cell's reference is.
+fn named_cell<'a>(
+    growing: &Growing<'_, '_>,
+    numbers: &[Option<usize>],
+    unnamed: Unnamed,
+    reference: &Reference<'a>,
+) -> Option<NamedReference<'a>>
+    requires { IsSound growing.now }
+    ensures { MatchOption result
+        ((es : Events) → IsOf growing.now es → (named_parts unnamed es reverse (number_of (reference_of reference.now) ∷ []) ≡ None))
+        (λ named. EachNaming growing.now numbers.now (λ es number. named_cell unnamed es number (reference_of reference.now) ≡ Some (reference_said named))) }
+{
+    match growing.referent(reference) {
+        Some(node) => Some(NamedReference::Node(number_of(numbers, node))),
+        None => Some(NamedReference::Label(kept_label(unnamed, reference)?)),
+    }
+}
+
+/// Adds a reference in a cell list.
+fn add_cell<'a>(
+    alloc: Global,
+    growing: &Growing<'_, '_>,
+    numbers: &[Option<usize>],
+    unnamed: Unnamed,
+    reference: &Reference<'a>,
+    value: &mut NamedValue<'a>,
+) -> Result<(), Fault>
+    requires { IsSound growing.now }
+    ensures { MatchResult result
+        (λ _. EachNaming growing.now numbers.now (λ es number.
+        IsAdded (value_said value.old) (named_part unnamed es number (number_of (reference_of reference.now))) (value_said value.new)))
+        (λ fault. IsUnread unnamed growing.now (number_of (reference_of reference.now) ∷ []) fault) }
+{
+    let Some(named) = named_cell(growing, numbers, unnamed, reference) else {
+        return Err(Fault::of(FaultKind::UnresolvedReference));
+    };
+    end_piece(alloc, value, named)?;
+    Ok(())
+}
+
+/// Adds a reference outside a cell list.
+fn add_text(
+    growing: &Growing<'_, '_>,
+    unnamed: Unnamed,
+    reference: &Reference<'_>,
+    value: &mut NamedValue<'_>,
+) -> Result<(), Fault>
+    requires sound { IsSound growing.now }
+    ensures { MatchResult result
+        (λ _. (es : Events) (number : Stack → ℕ) → IsOf growing.now es →
+        IsAdded (value_said value.old) (named_part unnamed es number (text_of (reference_of reference.now))) (value_said value.new))
+        (λ fault. IsUnread unnamed growing.now (text_of (reference_of reference.now) ∷ []) fault) }
+{
+    let Some(node) = growing.referent(reference) else {
+        return Err(Fault::of(FaultKind::UnresolvedReference));
+    };
+    add_path_bytes(value, &growing.nodes, node)?;
+    Ok(())
+}
+
+/// Adds a reference as it stands in a value.
+fn add_reference<'a>(
+    alloc: Global,
+    growing: &Growing<'_, '_>,
+    numbers: &[Option<usize>],
+    unnamed: Unnamed,
+    piece: &Piece<'a>,
+    value: &mut NamedValue<'a>,
+) -> Result<(), Fault>
+    requires { IsSound growing.now }
+    ensures { MatchResult result
+        (λ _. EachNaming growing.now numbers.now (λ es number.
+        IsAdded (value_said value.old) (named_part unnamed es number (referring piece.now.form (reference_of piece.now.reference))) (value_said value.new)))
+        (λ fault. IsUnread unnamed growing.now (referring piece.now.form (reference_of piece.now.reference) ∷ []) fault) }
+{
+    match piece.form {
+        Form::Text => add_text(growing, unnamed, &piece.reference, value),
+        Form::Cell => add_cell(alloc, growing, numbers, unnamed, &piece.reference, value),
+    }
+}
+
+/// Adds bytes, and the reference behind them.
+fn add_piece<'a>(
+    alloc: Global,
+    growing: &Growing<'_, '_>,
+    numbers: &[Option<usize>],
+    unnamed: Unnamed,
+    piece: &Piece<'a>,
+    value: &mut NamedValue<'a>,
+) -> Result<(), Fault>
+    requires sound { IsSound growing.now }
+    ensures { MatchResult result
+        (λ _. EachNaming growing.now numbers.now (λ es number.
+        IsAdded (value_said value.old) (named_parts unnamed es number (piece_parts piece.now)) (value_said value.new)))
+        (λ fault. IsUnread unnamed growing.now (piece_parts piece.now) fault) }
+{
+    add_bytes(value, &piece.before)?;
+    add_reference(alloc, growing, numbers, unnamed, piece, value)
+}
+
+/// Adds a value to nothing.
+fn add_value<'a>(
+    alloc: Global,
+    growing: &Growing<'_, '_>,
+    numbers: &[Option<usize>],
+    unnamed: Unnamed,
+    source: &Value<'a>,
+    value: &mut NamedValue<'a>,
+) -> Result<(), Fault>
+    requires sound { IsSound growing.now }
+    requires empty { value_said value.old ≡ [] }
+    ensures { MatchResult result
+        (λ _. EachNaming growing.now numbers.now (λ es number.
+        named_parts unnamed es number (source_said.value_said source.now) ≡ Some (value_said value.new)))
+        (λ fault. IsUnread unnamed growing.now (source_said.value_said source.now) fault) }
+{
+    for piece in &source.pieces {
+        add_piece(alloc, growing, numbers, unnamed, piece, value)?;
+    }
+    add_bytes(value, &source.bytes)?;
+    Ok(())
+}
+
+/// A value with its references read: a reference in a cell list is the number of its node, or its label where it names no node
+/// and such labels are kept; one outside a cell list is the text of its node's path and a NUL. `UnresolvedReference` where
+/// one isn't read.
+pub(crate) fn named_value<'a>(
+    alloc: Global,
+    growing: &Growing<'_, '_>,
+    numbers: &[Option<usize>],
+    unnamed: Unnamed,
+    source: &Value<'a>,
+) -> Result<NamedValue<'a>, Fault>
+    requires sound { IsSound growing.now }
+    ensures { MatchResult result
+        (λ value. EachNaming growing.now numbers.now (λ es number.
+        named_parts unnamed es number (source_said.value_said source.now) ≡ Some (value_said value)))
+        (λ fault. IsUnread unnamed growing.now (source_said.value_said source.now) fault) }
+{
+    let mut value = NamedValue {
+        pieces: Vec::new(alloc),
+        bytes: Vec::new(alloc),
+    };
+    add_value(alloc, growing, numbers, unnamed, source, &mut value)?;
+    Ok(value)
+}

@@ -1,6 +1,0 @@
-use Rattle.std.proofs.Common.{◌≡◌, map, take}
-use Rattle.dt_source.specs.Contents.{label_at}
-use Rattle.dt_source.proofs.contents.labels_at.Given as goal
-
-abbrev pub invariant-loop-place : goal.invariant-loop-place
-invariant-loop-place l = map (λ s. s.now) l.labels.items ≡ map (label_at l.givings) (take l.place-index l.places)

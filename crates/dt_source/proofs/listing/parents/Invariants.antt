@@ -1,6 +1,0 @@
-use Rattle.std.proofs.Common.{◌≡◌, take}
-use Rattle.dt_source.specs.Listing.{parents_of}
-use Rattle.dt_source.proofs.listing.parents.Given as goal
-
-abbrev pub invariant-loop-number : goal.invariant-loop-number
-invariant-loop-number l = l.parents.items ≡ parents_of (take l.number l.nodes)
