@@ -11,7 +11,7 @@ use Rattle.dt_model.proofs.EventSteps.{path_eq-is, bytes_eq-is, bytes_eq-refl}
 use Rattle.dt_growing.specs.Shape.{Shape, node_at, Shows}
 use Rattle.dt_bodies.specs.Reading.{is_behind, IsBody, AreOpen, StandsFor}
 use Rattle.dt_bodies.specs.declared.reading.OpenBody.{OpenBody}
-use Rattle.dt_growing.proofs.Cases.{bool_cases}
+use Rattle.dt_model.proofs.Cases.{bool_cases}
 use Rattle.dt_growing.proofs.TableLemmas.{key_is, key-refl}
 use Rattle.dt_growing.proofs.Numbering.{stands-after}
 

@@ -12,7 +12,7 @@ use Rattle.dt_model.proofs.EventSteps.{path_eq-is, path_eq-refl}
 use Rattle.dt_growing.specs.Shape.{node_at, given_at, IsForest, Shows, MakesRoot, AddsChild, OpensChild, Cuts, Defines, Undefines, Gives}
 use Rattle.dt_bodies.specs.Reading.{is_behind, AreOpen, StandsFor}
 use Rattle.dt_bodies.specs.declared.reading.OpenBody.{OpenBody}
-use Rattle.dt_growing.proofs.Cases.{bool_cases}
+use Rattle.dt_model.proofs.Cases.{bool_cases}
 use Rattle.dt_growing.proofs.Walks.{node_at-same, node_at-added, node_at-cut, node_at_below, node_at_once, root_there}
 use Rattle.dt_bodies.proofs.Steps.{shows-root, shows-child, shows-again, shows-cut, shows-define, shows-undefine, shows-give, shows-give-again}
 use Rattle.dt_bodies.proofs.Bodies.{View, Innermost, innermost, none_open, are_open-later, are_open-kept, marked, unmarked, marked_before, outside-goes, inside-goes, shallow-giving, shallow-definition, shallow-undefinition, shallow-deletion, within_long, enters}

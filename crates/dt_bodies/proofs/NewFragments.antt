@@ -11,7 +11,7 @@ use Rattle.dt_model.proofs.EventSteps.{path_eq-refl}
 use Rattle.dt_growing.specs.Shape.{node_at, IsForest, Shows, MakesRoot, AddsChild, OpensChild, Defines}
 use Rattle.dt_bodies.specs.Reading.{StandsFor}
 use Rattle.dt_bodies.specs.declared.reading.OpenBody.{OpenBody}
-use Rattle.dt_growing.proofs.Cases.{bool_cases}
+use Rattle.dt_model.proofs.Cases.{bool_cases}
 use Rattle.dt_growing.proofs.Walks.{node_at-same, node_at-added, root_there}
 use Rattle.dt_bodies.proofs.Steps.{shows-root, shows-child, shows-again, shows-define}
 use Rattle.dt_bodies.proofs.Bodies.{View, AreShallow, none_open, unmarked, marked_before, outside-goes, shallow-opening, shallow-definition, enters_with}

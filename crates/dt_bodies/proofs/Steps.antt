@@ -9,7 +9,7 @@ use Rattle.dt_model.specs.Path.{path_eq}
 use Rattle.dt_model.specs.Event.{Stack, Event, opening, giving, definition, undefinition, deletion, is_within, takes, opens, gives, defines, drops, defined, stands, names, age, property_age, label_age}
 use Rattle.dt_model.proofs.EventSteps.{path_eq-is, path_eq-refl, bytes_eq-is, bytes_eq-refl, value_at-push, age-push, property_age-push}
 use Rattle.dt_growing.specs.Shape.{Shape, begun, number_after, node_at, place_at, given_at, IsForest, Shows, MakesRoot, AddsChild, Cuts, Defines, Undefines, Gives}
-use Rattle.dt_growing.proofs.Cases.{bool_cases}
+use Rattle.dt_model.proofs.Cases.{bool_cases}
 use Rattle.dt_growing.proofs.TableLemmas.{both, key-refl}
 use Rattle.dt_growing.proofs.Walks.{option_cases, same_then, node_at-same, node_at-added, node_at-cut, node_at_once, node_at_below, before_root, after_root}
 use Rattle.dt_growing.proofs.Numbering.{begun-keeps, begun-not, aged-after, some_after, stands-after, names-after, label_age-push}

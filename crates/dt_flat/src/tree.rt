@@ -88,7 +88,7 @@ impl FlatTree {
     }
 
     /// A tree of a root alone, as [`FlatTree::new`] makes it, into which names and numbers of strangers will come: they are hashed behind the
-    /// seed of all inputs that bring them.
+    /// seed of all inputs that bring them. Takes no memory.
     pub fn seeded(alloc: Global, seed: Seed, boot_cpu: u32) -> FlatTree
         ensures { result ≡ root_alone boot_cpu }
     {

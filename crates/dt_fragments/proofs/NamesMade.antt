@@ -7,6 +7,7 @@ use Rattle.std.specs.Str.{bytes_eq}
 use Rattle.std.proofs.lemmas.Bool.{both_ways, false_from_ne_true}
 use Rattle.std.proofs.lemmas.List.{drop_more}
 use Rattle.std.proofs.lemmas.Nat.{mul-le}
+use Rattle.dt_model.proofs.Cases.{bool_cases}
 use Rattle.dt_model.proofs.EventSteps.{bytes_eq-refl, bytes_eq-is}
 use Rattle.dt_model.specs.Names.{Name}
 use Rattle.dt_model.specs.OverlaySource.{root_children, fragment_name, free_from}
@@ -14,10 +15,6 @@ use Rattle.dt_model.specs.Source.{Place, root, block, delete_node, child, label,
 use Rattle.dt_items.specs.Said.{place_said}
 use Rattle.dt_items.specs.declared.source.Item.{Item}
 use Rattle.dt_fragments.specs.FragmentNames.{borrowed, depth_behind, has_name, made_names, root_child, NameSet}
-
-pub bool_cases : (b : Bool) (P : Type 0) → (b ≡ true → P) → (b ≡ false → P) → P
-bool_cases true P f g = f refl
-bool_cases false P f g = g refl
 
 -- ---- the children of the root
 

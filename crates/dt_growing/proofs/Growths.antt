@@ -15,7 +15,7 @@ use Rattle.dt_growing.specs.declared.table.Last.{Last}
 use Rattle.dt_growing.specs.declared.growing.Node.{Node}
 use Rattle.dt_growing.specs.declared.growing.Property.{Property}
 use Rattle.dt_growing.specs.declared.growing.Giving.{Giving}
-use Rattle.dt_growing.proofs.Cases.{bool_cases}
+use Rattle.dt_model.proofs.Cases.{bool_cases}
 use Rattle.dt_growing.proofs.TableLemmas.{key_is, key-refl}
 use Rattle.dt_growing.proofs.Walks.{option_cases}
 use Rattle.dt_growing.proofs.Numbering.{begun-keeps, begun-not}

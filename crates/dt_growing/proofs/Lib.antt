@@ -1,4 +1,3 @@
-pub mod Cases
 pub mod TableLemmas
 pub mod Walks
 pub mod Numbering

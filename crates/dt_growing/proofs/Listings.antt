@@ -8,7 +8,7 @@ use Rattle.dt_model.specs.Names.{Name}
 use Rattle.dt_growing.specs.Table.{Key, entry, Puts}
 use Rattle.dt_growing.specs.Growing.{Listing, kept, found, IsIndexed, Adds, Drops, Keeps, listed}
 use Rattle.dt_growing.specs.declared.table.Last.{Last}
-use Rattle.dt_growing.proofs.Cases.{bool_cases}
+use Rattle.dt_model.proofs.Cases.{bool_cases}
 use Rattle.dt_growing.proofs.TableLemmas.{key_is, key-refl}
 use Rattle.dt_growing.proofs.Walks.{option_cases}
 

@@ -11,7 +11,7 @@ use Rattle.dt_growing.specs.Growing.{shape, IsSound}
 use Rattle.dt_growing.specs.Table.{name_entry}
 use Rattle.dt_growing.specs.declared.growing.Giving.{Giving}
 use Rattle.dt_growing.specs.declared.growing.Growing.{Growing}
-use Rattle.dt_growing.proofs.Cases.{bool_cases}
+use Rattle.dt_model.proofs.Cases.{bool_cases}
 use Rattle.dt_growing.proofs.Walks.{option_cases, node_at_once}
 use Rattle.dt_growing.proofs.Soundness.{forest}
 use Rattle.dt_growing.proofs.Leading.{leads_to}

@@ -17,7 +17,7 @@ use Rattle.dt_growing.specs.declared.growing.Node.{Node}
 use Rattle.dt_growing.specs.declared.growing.Property.{Property}
 use Rattle.dt_growing.specs.declared.growing.Giving.{Giving}
 use Rattle.dt_growing.specs.declared.growing.Growing.{Growing}
-use Rattle.dt_growing.proofs.Cases.{bool_cases}
+use Rattle.dt_model.proofs.Cases.{bool_cases}
 use Rattle.dt_growing.proofs.Listings.{found_is, indexed-added, indexed-dropped, indexed-kept, listed-push, listed-drop, listed-again, listed-written, slice_get-push_old, slice_get-push_new, slice_get-set_same, slice_get-set_other, length-set}
 
 beyond : {X : Type 0} (xs : List X) (k : ℕ) → k < length xs → slice_get xs k ≡ None → ⊥

@@ -9,7 +9,7 @@ use Rattle.dt_model.specs.Path.{path_eq}
 use Rattle.dt_model.specs.Event.{Stack, is_within}
 use Rattle.dt_model.proofs.EventSteps.{path_eq-is, path_eq-refl}
 use Rattle.dt_growing.specs.Shape.{Shape, root_of, node_at, IsForest, MakesRoot, AddsChild, Cuts}
-use Rattle.dt_growing.proofs.Cases.{bool_cases}
+use Rattle.dt_model.proofs.Cases.{bool_cases}
 use Rattle.dt_growing.proofs.TableLemmas.{key_is, key-refl}
 
 pub root_is : (n i : ℕ) → root_of n ≡ Some i → (i ≡ 0) × (0 < n)

@@ -6,6 +6,10 @@ use Rattle.std.specs.Option.{option_map, option_map_or, option_and_then}
 
 -- ---- tests
 
+pub bool_cases : (b : Bool) (P : Type 0) → (b ≡ true → P) → (b ≡ false → P) → P
+bool_cases true P f g = f refl
+bool_cases false P f g = g refl
+
 pub cond_true : (b x : Bool) → cond b true x ≡ true → (b ≡ true) ⊎ (x ≡ true)
 cond_true true x h = inl refl
 cond_true false x h = inr h

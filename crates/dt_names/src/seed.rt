@@ -43,7 +43,7 @@ impl Seed {
 }
 
 impl From<u64> for Seed {
-    /// A number that comes of the inputs as SipHash does.
+    /// Of a number that SipHash gave of the inputs, as [`Seed::of`] does: of any other, whoever knows it can pick keys whose hashes are alike.
     fn from(number: u64) -> Seed {
         let mut initial = FoldHasher::default();
         initial.write_u64(number);

@@ -115,7 +115,7 @@ fn find_twice(
 }
 
 /// Each property `phandle` of a node that stands writes a number that no other does, where the nodes that stand are those with
-/// a number. `BadPhandle` where one writes none; else `DuplicatePhandle` where two write the same.
+/// a number. `BadPhandle` where one writes none; else `DuplicatePhandle` where two write the same. Numbers are hashed behind the seed.
 pub(crate) fn check_phandles(
     alloc: Global,
     seed: Seed,
