@@ -12,6 +12,7 @@
 mod body;
 mod cursor;
 mod expression;
+mod keys;
 mod laws;
 mod number;
 mod parser;
