@@ -99,7 +99,7 @@ impl<'a> Model for Source<'a> {
 }
 
 impl<'a> Source<'a> {
-    /// What was read of some tokens, with the seed of their text.
+    /// What was read of some tokens, with the seed of its names and numbers.
     pub fn of(
         seed: Seed,
         plugin: bool,

@@ -2,8 +2,8 @@
 
 use std::hash::{BuildHasher, DefaultHasher, FoldHasher, Hasher};
 
-/// What a call's tables hash their keys behind: a number that comes of all bytes of the call's inputs. So whoever picks names or numbers
-/// whose hashes are alike changes the hashes with them. No answer hangs on it, but only how long it takes.
+/// What a call's tables hash their keys behind: a number that comes of all names and numbers that the call's inputs bring to tables. So whoever
+/// picks some whose hashes are alike changes the hashes with them. No answer hangs on it, but only how long it takes.
 #[derive(Clone, Copy)]
 pub struct Seed {
     initial: FoldHasher,
