@@ -12,11 +12,11 @@
 mod body;
 mod cursor;
 mod expression;
-mod keys;
 mod laws;
 mod number;
 mod parser;
 mod referring;
+mod seeding;
 mod statement;
 mod stop;
 mod value;

@@ -21,14 +21,14 @@ ghost use Rattle.dt_parse.specs.Leading.{Leads, Reserves};
 ghost use Rattle.dt_items.specs.Said.{reservation_said};
 
 use crate::cursor::Cursor;
-use crate::keys::seed_of;
 use crate::number::number;
+use crate::seeding::seed_of;
 use crate::statement::statements;
 use crate::stop::Stop;
 use crate::value::labels;
 use dt_items::{Item, Reservation, Source};
 use dt_lex::{Keyword, Mark, Token, TokenKind, tokens};
-use dt_names::{Fault, FaultKind, Label};
+use dt_names::{Fault, FaultKind, Label, Seed};
 use std::alloc::Global;
 
 /// Whether the tokens begin with `/dts-v1/;`.
@@ -132,8 +132,8 @@ fn reservations<'a>(
     }
 }
 
-/// Reads a source, to the end of the text.
-fn source<'a>(alloc: Global, cursor: &mut Cursor<'a, '_>) -> Result<Source<'a>, Stop>
+/// Reads a source, to the end of the text that has the seed.
+fn source<'a>(alloc: Global, seed: Seed, cursor: &mut Cursor<'a, '_>) -> Result<Source<'a>, Stop>
     requires { HaveBytes cursor.old }
     ensures ok { IfOk result (λ s. (r : RawSource) × IsRead outside Whole cursor.old (made_source r) [] × (s ≡ says_of r)) }
     ensures err { IfErr result (λ stop. IsBroken outside Whole cursor.old stop) }
@@ -142,7 +142,6 @@ fn source<'a>(alloc: Global, cursor: &mut Cursor<'a, '_>) -> Result<Source<'a>, 
     let (reservations, names) = reservations(alloc, cursor)?;
     let mut items = Vec::new(alloc);
     statements(alloc, names, cursor, &mut items)?;
-    let seed = seed_of(plugin, &items);
     Ok(Source::of(seed, plugin, reservations, items))
 }
 
@@ -194,7 +193,7 @@ pub fn parse<'a>(alloc: Global, text: &'a [u8]) -> Result<Source<'a>, Fault>
     if !is_tagged(&cursor) {
         return Err(Fault::at(FaultKind::BadVersionTag, 0));
     }
-    match source(alloc, &mut cursor) {
+    match source(alloc, seed_of(text, tokens.as_slice()), &mut cursor) {
         Ok(source) => Ok(source),
         Err(stop) => Err(fault_of(stop, text, tokens.as_slice())),
     }
