@@ -12,7 +12,7 @@ use Rattle.dt_bodies.specs.declared.arena.Arena.{Arena}
 use Rattle.dt_bodies.specs.declared.arena.Used.{Used}
 use Rattle.dt_bodies.specs.declared.reading.Reading.{Reading}
 use Rattle.dt_bodies.specs.Reading.{Holds}
-use Rattle.dt_bodies.specs.OverlayReading.{OverlayTells, OverlayGoesOn, IsNoBlock, free_number, target_value}
+use Rattle.dt_bodies.specs.OverlayReading.{TellsOverlayRefusal, OverlayGoesOn, IsNoBlock, free_number, target_value}
 use Rattle.dt_fragments.specs.FragmentNames.{made_names}
 use Rattle.dt_bodies.specs.Arena.{block_references, IsArena, IsLeft, GoesOnWith}
 
@@ -119,7 +119,7 @@ pub goes_with : (written : List Name) (o : Result OverlaySoFar OverlayRefusal) (
 goes_with written (Ok t) r n arena used rest g = (t, refl, g.0, g.1)
 goes_with written (Err e) r n arena used rest g = absurd g
 
-pub tells_first : (written : List Name) (s : OverlaySoFar) (place : Place) (rest : List Place) (fault : Fault) → OverlayTells (read_overlay written s place) fault → OverlayTells (read_overlays written s (place ∷ rest)) fault
+pub tells_first : (written : List Name) (s : OverlaySoFar) (place : Place) (rest : List Place) (fault : Fault) → TellsOverlayRefusal (read_overlay written s place) fault → TellsOverlayRefusal (read_overlays written s (place ∷ rest)) fault
 tells_first written s place rest fault (at, inl memory) = (at, inl memory)
 tells_first written s place rest fault (at, inr (r, e, kind)) = (at, inr (r, ap (λ (o : Result OverlaySoFar OverlayRefusal). and_if_read o (λ t. read_overlays written t rest)) e, kind))
 

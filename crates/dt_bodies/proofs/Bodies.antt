@@ -13,7 +13,7 @@ use Rattle.dt_bodies.specs.Reading.{is_behind, IsBody, AreOpen, StandsFor}
 use Rattle.dt_bodies.specs.declared.reading.OpenBody.{OpenBody}
 use Rattle.dt_model.proofs.Cases.{bool_cases}
 use Rattle.dt_growing.proofs.TableLemmas.{key_is, key-refl}
-use Rattle.dt_growing.proofs.Numbering.{stands-after}
+use Rattle.dt_growing.proofs.Indices.{stands-after}
 
 abbrev pub View : Type 0
 View = Shape (List Part)

@@ -32,7 +32,7 @@ root-goes-new m s t bodies n u f h none made =
       outside-goes u.bodies (Ok (enter u [] [])) empty.0,
       enters t u [] [] bodies (record { node = 0; depth = 0; item = n }) (shows-root s t u.events f h.shows made) h.shallow (omega arith) (rw made.size refl) refl (rw made.size (omega arith)) empty.1
           (λ x k e. opened 0 x k e) (λ i x k e. omega (arith, opened i x k e))
-          (λ i x k e. h.defined_before i x k (ap (λ (g : ℕ → Name → Option ℕ). g i x) (sym made.defined) ∙ e)),
+          (λ i x k e. h.defined_before i x k (ap (λ (g : ℕ → Name → Option ℕ). g i x) (sym made.properties.defined) ∙ e)),
     )
 
 -- a node that stands is opened at top level
@@ -91,7 +91,7 @@ delete-goes m s t bodies n u f h none r x p a found at cut =
         shallow = shallow-deletion u.events (x ∷ p) h.shallow;
         open_bodies = subst (AreOpen t t.size (n + 1) u.node bodies) (sym empty.0) empty.1;
         opened_before = λ i y k e. omega (arith, h.opened_before i y k (ap (λ (g : ℕ → Name → Option ℕ). g i y) (sym cut.opened) ∙ e));
-        defined_before = λ i y k e. omega (arith, h.defined_before i y k (ap (λ (g : ℕ → Name → Option ℕ). g i y) (sym cut.defined) ∙ e));
+        defined_before = λ i y k e. omega (arith, h.defined_before i y k (ap (λ (g : ℕ → Name → Option ℕ). g i y) (sym cut.properties.defined) ∙ e));
       },
     )
 
@@ -178,7 +178,7 @@ child-goes-new m s t bodies n u e x f h i free once few none o =
     (λ y. let e : None ≡ Some k = sym was ∙ ap (node_at s) (path_eq-is (x ∷ u.node) p y) ∙ there in cc)
     (λ d. now p ∙ ap (λ b. cond b (Some s.size) (node_at s p)) d ∙ there) in
     let at : node_at t (x ∷ u.node) ≡ Some s.size = now (x ∷ u.node) ∙ ap (λ b. cond b (Some s.size) (node_at s (x ∷ u.node))) (path_eq-refl (x ∷ u.node)) in
-    child-goes m s t bodies n u e x s.size h i free once few (shows-child s t u.events f h.shows u.node e.node x n i.its.node none o) stay at i.below_it (let z : t.size ≡ s.size + 1 = o.size in omega arith) o.opened o.defined
+    child-goes m s t bodies n u e x s.size h i free once few (shows-child s t u.events f h.shows u.node e.node x n i.its.node none o) stay at i.below_it (let z : t.size ≡ s.size + 1 = o.size in omega arith) o.opened o.properties.defined
 
 pub child-goes-again : (m : Mode) (s t : View) (bodies : List OpenBody) (n : ℕ) (u : SoFar) (e : OpenBody) (x : Name) (j : ℕ) → IsForest s → StandsFor s bodies n u → Inner s bodies n u e → is_reserved m u.node x ≡ false
     → is_behind e.item (s.opened e.node x) ≡ false → e.depth < most_names → s.child e.node x ≡ Some j → OpensChild s t e.node x n
@@ -187,8 +187,8 @@ child-goes-again m s t bodies n u e x j f h i free once few there o =
     let same : (p : Stack) → node_at t p ≡ node_at s p = node_at-same s t o.size o.child in
     let at : node_at s (x ∷ u.node) ≡ Some j = ap (option_and_then (λ k. s.child k x)) i.its.node ∙ there in
     let edge = f.edge e.node x j there in
-    child-goes m s t bodies n u e x j h i free once few (shows-again s t u.events f h.shows (x ∷ u.node) j at same o.place o.value o.given) (λ p k e. same p ∙ e) (same (x ∷ u.node) ∙ at)
-    edge.0 (rw o.size edge.1) o.opened o.defined
+    child-goes m s t bodies n u e x j h i free once few (shows-again s t u.events f h.shows (x ∷ u.node) j at same o.properties.property o.properties.value o.labels.given) (λ p k e. same p ∙ e) (same (x ∷ u.node) ∙ at)
+    edge.0 (rw o.size edge.1) o.opened o.properties.defined
 
 -- one more event in the same body, which keeps the nodes of the open bodies and their marks
 stays : (s t : View) (bodies : List OpenBody) (n : ℕ) (u : SoFar) (e : Event (List Part)) → StandsFor s bodies n u → Shows t (u.events ++ e ∷ []) → ((p : Stack) → stands (u.events ++ e ∷ []) p ≡ true → length p ≤ most_names)
@@ -216,17 +216,17 @@ delete_child-goes m s t bodies n u e x f h i o =
           bool_cases (is_within (x ∷ u.node) p) _
           (λ y. let long : length (x ∷ u.node) ≤ length p = within_long (x ∷ u.node) p y in absurd (omega arith))
           (λ d. now p ∙ ap (λ b. cond b None (node_at s p)) d ∙ there))
-          o.opened o.defined,
+          o.opened o.properties.defined,
     )
 
 pub undefine-goes : (m : Mode) (s t : View) (bodies : List OpenBody) (n : ℕ) (u : SoFar) (e : OpenBody) (x : Name) → IsForest s → StandsFor s bodies n u → Inner s bodies n u e
     → Undefines s t e.node x → Goes (read m u (delete_property x)) t bodies (n + 1)
 undefine-goes m s t bodies n u e x f h i o =
-    let same : (p : Stack) → node_at t p ≡ node_at s p = node_at-same s t o.size (λ i x. ap (λ (g : ℕ → Name → Option ℕ). g i x) o.child) in (
+    let same : (p : Stack) → node_at t p ≡ node_at s p = node_at-same s t o.nodes.size (λ i x. ap (λ (g : ℕ → Name → Option ℕ). g i x) o.nodes.child) in (
       and_then u (undefinition u.node x),
       inside-goes u.bodies (λ b bs. Ok (and_then u (undefinition u.node x))) i.body i.rest i.is,
-      stays s t bodies n u (undefinition u.node x) h (shows-undefine s t u.events f h.shows u.node e.node x i.its.node o) (shallow-undefinition u.events u.node x h.shallow) o.size
-          (λ p k short there. same p ∙ there) o.opened o.defined,
+      stays s t bodies n u (undefinition u.node x) h (shows-undefine s t u.events f h.shows u.node e.node x i.its.node o) (shallow-undefinition u.events u.node x h.shallow) o.nodes.size
+          (λ p k short there. same p ∙ there) o.nodes.opened o.defined,
     )
 
 pub define-twice : (m : Mode) (s : View) (bodies : List OpenBody) (n : ℕ) (u : SoFar) (e : OpenBody) (x : Name) (v : List Part) → Inner s bodies n u e → is_behind e.item (s.defined e.node x) ≡ true
@@ -238,8 +238,8 @@ pub define-goes : (m : Mode) (s t : View) (bodies : List OpenBody) (n : ℕ) (u 
     → is_behind e.item (s.defined e.node x) ≡ false → Defines s t e.node x v n → Goes (read m u (property x v)) t bodies (n + 1)
 define-goes m s t bodies n u e x v f h i once o =
     let next : Body = record { properties = x ∷ i.body.properties; children = i.body.children } in
-    let same : (p : Stack) → node_at t p ≡ node_at s p = node_at-same s t o.size (λ i x. ap (λ (g : ℕ → Name → Option ℕ). g i x) o.child) in
-    let same_opened : (k : ℕ) (y : Name) → t.opened k y ≡ s.opened k y = λ k y. ap (λ (g : ℕ → Name → Option ℕ). g k y) o.opened in (
+    let same : (p : Stack) → node_at t p ≡ node_at s p = node_at-same s t o.nodes.size (λ i x. ap (λ (g : ℕ → Name → Option ℕ). g i x) o.nodes.child) in
+    let same_opened : (k : ℕ) (y : Name) → t.opened k y ≡ s.opened k y = λ k y. ap (λ (g : ℕ → Name → Option ℕ). g k y) o.nodes.opened in (
       record { events = u.events ++ definition u.node x v ∷ []; node = u.node; bodies = next ∷ i.rest },
       inside-goes u.bodies (define u x v) i.body i.rest i.is ∙ choice (is_among x i.body.properties) (Err duplicate_property) _ (sym (i.its.properties x) ∙ once),
       record {
@@ -249,7 +249,7 @@ define-goes m s t bodies n u e x v f h i once o =
           i.outer,
           e,
           i.open_is,
-          rw o.size i.below_it,
+          rw o.nodes.size i.below_it,
           omega (arith, i.before_it),
           record {
             node = same u.node ∙ i.its.node;
@@ -277,11 +277,11 @@ labelling m s bodies n u e l i o is =
 pub label-goes-new : (m : Mode) (s t : View) (bodies : List OpenBody) (n : ℕ) (u : SoFar) (e : OpenBody) (l : Name) → IsForest s → StandsFor s bodies n u → Inner s bodies n u e
     → labelled u.events l ≡ None → ((p : Stack) → given_at s (p, l) ≡ None) → Gives s t l e.node → Goes (read m u (label l)) t bodies (n + 1)
 label-goes-new m s t bodies n u e l f h i none alone o =
-    let same : (p : Stack) → node_at t p ≡ node_at s p = node_at-same s t o.size (λ i x. ap (λ (g : ℕ → Name → Option ℕ). g i x) o.child) in (
+    let same : (p : Stack) → node_at t p ≡ node_at s p = node_at-same s t o.nodes.size (λ i x. ap (λ (g : ℕ → Name → Option ℕ). g i x) o.nodes.child) in (
       and_then u (giving l u.node),
       labelling m s bodies n u e l i None none,
-      stays s t bodies n u (giving l u.node) h (shows-give s t u.events f h.shows u.node e.node l i.its.node alone o) (shallow-giving u.events l u.node h.shallow) o.size
-          (λ p k short there. same p ∙ there) o.opened o.defined,
+      stays s t bodies n u (giving l u.node) h (shows-give s t u.events f h.shows u.node e.node l i.its.node alone o) (shallow-giving u.events l u.node h.shallow) o.nodes.size
+          (λ p k short there. same p ∙ there) o.nodes.opened o.properties.defined,
     )
 
 some_is : {A : Type 0} (o : Option A) → is_some o ≡ true → (a : A) × (o ≡ Some a)

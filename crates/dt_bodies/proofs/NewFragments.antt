@@ -42,7 +42,7 @@ child_opened s t es f h q a x item j there below (inl made) =
       above = omega arith;
       inside = let z : t.size ≡ s.size + 1 = o.size in omega arith;
       opened = o.opened;
-      defined = o.defined;
+      defined = o.properties.defined;
     }
 child_opened s t es f h q a x item j there below (inr again) =
     let o = again.1 in
@@ -50,12 +50,12 @@ child_opened s t es f h q a x item j there below (inr again) =
     let at : node_at s (x ∷ q) ≡ Some j = ap (option_and_then (λ k. s.child k x)) there ∙ again.0 in
     let edge = f.edge a x j again.0 in
     record {
-      shows = shows-again s t es f h (x ∷ q) j at same o.place o.value o.given;
+      shows = shows-again s t es f h (x ∷ q) j at same o.properties.property o.properties.value o.labels.given;
       at = same (x ∷ q) ∙ at;
       above = edge.0;
       inside = rw o.size edge.1;
       opened = o.opened;
-      defined = o.defined;
+      defined = o.properties.defined;
     }
 
 -- marks stay before what comes next
@@ -105,10 +105,10 @@ fragment-goes r s t v bodies n u fr fs ft h none some f m value a b first_is set
     first = child_opened r s u.events fr h.shows [] 0 f n a (root_there r.size some) some first_is
 
     at : node_at t (f ∷ []) ≡ Some a
-    at = node_at-same s t sets.size (λ i x. ap (λ (g : ℕ → Name → Option ℕ). g i x) sets.child) (f ∷ []) ∙ first.at
+    at = node_at-same s t sets.nodes.size (λ i x. ap (λ (g : ℕ → Name → Option ℕ). g i x) sets.nodes.child) (f ∷ []) ∙ first.at
 
     inside : a < t.size
-    inside = let below : a < s.size = first.inside in let z : t.size ≡ s.size = sets.size in omega arith
+    inside = let below : a < s.size = first.inside in let z : t.size ≡ s.size = sets.nodes.size in omega arith
 
     second : ChildOpened t v (u.events ++ made ∷ set ∷ []) (f ∷ []) a overlay n b
     second = child_opened t v (u.events ++ made ∷ set ∷ []) ft (subst (Shows t) two (shows-define s t (u.events ++ made ∷ []) fs first.shows (f ∷ []) a m value n first.at sets)) (f ∷ []) a overlay n b at inside second_is
@@ -123,7 +123,7 @@ fragment-goes r s t v bodies n u fr fs ft h none some f m value a b first_is set
     fresh x k there =
         let low : a < b = second.above in
         let one : v.opened b x ≡ t.opened b x = unmarked t.opened v.opened a n overlay second.opened b x (λ same. omega (arith, same)) in
-        let two : t.opened b x ≡ s.opened b x = ap (λ (g : ℕ → Name → Option ℕ). g b x) sets.opened in
+        let two : t.opened b x ≡ s.opened b x = ap (λ (g : ℕ → Name → Option ℕ). g b x) sets.nodes.opened in
         let three : s.opened b x ≡ r.opened b x = unmarked r.opened s.opened 0 n f first.opened b x (λ same. omega (arith, same)) in
         h.opened_before b x k (sym (one ∙ (two ∙ three)) ∙ there)
 
@@ -137,7 +137,7 @@ fragment-goes r s t v bodies n u fr fs ft h none some f m value a b first_is set
 
     opened : (i : ℕ) (x : Name) (k : ℕ) → v.opened i x ≡ Some k → k < n + 1
     opened = put_before t.opened v.opened a n overlay second.opened
-        (λ i x k there. put_before r.opened s.opened 0 n f first.opened (λ j y l d. omega (arith, h.opened_before j y l d)) i x k (ap (λ (g : ℕ → Name → Option ℕ). g i x) (sym sets.opened) ∙ there))
+        (λ i x k there. put_before r.opened s.opened 0 n f first.opened (λ j y l d. omega (arith, h.opened_before j y l d)) i x k (ap (λ (g : ℕ → Name → Option ℕ). g i x) (sym sets.nodes.opened) ∙ there))
 
     defined : (i : ℕ) (x : Name) (k : ℕ) → v.defined i x ≡ Some k → k < n + 1
     defined i x k there =
@@ -163,7 +163,7 @@ begins s t bodies f h made = record {
   shallow = shallow-opening [] [] h.shallow (omega arith);
   open_bodies = h.open_bodies;
   opened_before = λ i x k e. h.opened_before i x k (ap (λ (g : ℕ → Name → Option ℕ). g i x) (sym made.opened) ∙ e);
-  defined_before = λ i x k e. h.defined_before i x k (ap (λ (g : ℕ → Name → Option ℕ). g i x) (sym made.defined) ∙ e);
+  defined_before = λ i x k e. h.defined_before i x k (ap (λ (g : ℕ → Name → Option ℕ). g i x) (sym made.properties.defined) ∙ e);
 }
 
 pub made_root : (s t : View) (bodies : List OpenBody) (P : Type 0) → StandsFor s bodies 0 nothing → MakesRoot s t ⊎ ((0 < s.size) × P) → MakesRoot s t

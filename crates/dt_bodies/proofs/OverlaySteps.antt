@@ -11,29 +11,29 @@ use Rattle.dt_names.specs.declared.fault.Fault.{Fault}
 use Rattle.dt_items.specs.declared.source.Piece.{Piece}
 use Rattle.dt_items.specs.Said.{reference_of, referring, piece_parts, pieces_parts}
 use Rattle.dt_bodies.specs.Reading.{GoesOn}
-use Rattle.dt_bodies.specs.Refusals.{Tells}
-use Rattle.dt_bodies.specs.OverlayReading.{OverlayTells, OverlayGoesOn, free_number}
+use Rattle.dt_bodies.specs.Refusals.{TellsRefusal}
+use Rattle.dt_bodies.specs.OverlayReading.{TellsOverlayRefusal, OverlayGoesOn, free_number}
 use Rattle.dt_bodies.specs.declared.reading.Reading.{Reading}
 
 pub next_goes : (o : Result SoFar Refusal) (r : Reading) (n next : ℕ) → GoesOn o r n → OverlayGoesOn (with_next next o) r n next
 next_goes (Ok s) r n next g = (g, refl)
 next_goes (Err e) r n next g = absurd g
 
-pub next_tells : (o : Result SoFar Refusal) (next : ℕ) (fault : Fault) → Tells o fault → OverlayTells (with_next next o) fault
+pub next_tells : (o : Result SoFar Refusal) (next : ℕ) (fault : Fault) → TellsRefusal o fault → TellsOverlayRefusal (with_next next o) fault
 next_tells o next fault (at, inl memory) = (at, inl memory)
 next_tells o next fault (at, inr (r, e, kind)) = (at, inr (as_any r, ap (with_next next) e, kind))
 
-pub next_result : (o : Result SoFar Refusal) (r : Reading) (n next : ℕ) (result : Result (Unit {0}) Fault) → MatchResult result (λ _. GoesOn o r n) (Tells o) →
-    MatchResult result (λ _. OverlayGoesOn (with_next next o) r n next) (OverlayTells (with_next next o))
+pub next_result : (o : Result SoFar Refusal) (r : Reading) (n next : ℕ) (result : Result (Unit {0}) Fault) → MatchResult result (λ _. GoesOn o r n) (TellsRefusal o) →
+    MatchResult result (λ _. OverlayGoesOn (with_next next o) r n next) (TellsOverlayRefusal (with_next next o))
 next_result o r n next (Ok u) g = next_goes o r n next g
 next_result o r n next (Err e) t = next_tells o next e t
 
 pub step_result : (written : List Name) (s : OverlaySoFar) (x y : Place) (r : Reading) (n : ℕ) (result : Result (Unit {0}) Fault) → x ≡ y →
-    read_overlay written s x ≡ with_next s.next (read base s.source x) → MatchResult result (λ _. GoesOn (read base s.source x) r n) (Tells (read base s.source x)) →
-    MatchResult result (λ _. OverlayGoesOn (read_overlay written s y) r n s.next) (OverlayTells (read_overlay written s y))
+    read_overlay written s x ≡ with_next s.next (read base s.source x) → MatchResult result (λ _. GoesOn (read base s.source x) r n) (TellsRefusal (read base s.source x)) →
+    MatchResult result (λ _. OverlayGoesOn (read_overlay written s y) r n s.next) (TellsOverlayRefusal (read_overlay written s y))
 step_result written s x y r n result same e h =
-    subst (λ (z : Place). MatchResult result (λ _. OverlayGoesOn (read_overlay written s z) r n s.next) (OverlayTells (read_overlay written s z))) same
-    (subst (λ (o : Result OverlaySoFar OverlayRefusal). MatchResult result (λ _. OverlayGoesOn o r n s.next) (OverlayTells o)) (sym e) (next_result (read base s.source x) r n s.next result h))
+    subst (λ (z : Place). MatchResult result (λ _. OverlayGoesOn (read_overlay written s z) r n s.next) (TellsOverlayRefusal (read_overlay written s z))) same
+    (subst (λ (o : Result OverlaySoFar OverlayRefusal). MatchResult result (λ _. OverlayGoesOn o r n s.next) (TellsOverlayRefusal o)) (sym e) (next_result (read base s.source x) r n s.next result h))
 
 -- a property that an overlay may have
 pub plain_property : (written : List Name) (s : OverlaySoFar) (n : Name) (v : List Part) → bytes_eq n (codes "phandle") ≡ false → list_any (λ x. not (is_overlay_part x)) v ≡ false →

@@ -9,10 +9,10 @@ use Rattle.dt_items.specs.Said.{place_said}
 use Rattle.dt_items.specs.declared.source.Item.{Item}
 use Rattle.std.proofs.lemmas.List.{take_more, map-append, take-append-drop}
 use Rattle.dt_names.specs.declared.fault.Fault.{Fault}
-use Rattle.dt_growing.specs.Shape.{AreAged, node_at, place_at, given_at, Shows}
+use Rattle.dt_growing.specs.Shape.{AreAged, node_at, property_at, given_at, Shows}
 use Rattle.dt_growing.specs.Growing.{shape, IsSound}
 use Rattle.dt_bodies.specs.Reading.{Holds, GoesOn, IsWhole}
-use Rattle.dt_bodies.specs.Refusals.{refusal_kind, Tells, WhyNotGrown}
+use Rattle.dt_bodies.specs.Refusals.{refusal_kind, TellsRefusal, WhyNotGrown}
 use Rattle.dt_bodies.specs.declared.reading.OpenBody.{OpenBody}
 use Rattle.dt_bodies.specs.declared.reading.Reading.{Reading}
 use Rattle.dt_bodies.proofs.Bodies.{View}
@@ -26,7 +26,7 @@ goes_on o r n g = subst (λ o. GoesOn o r n) (sym g.1) g.2
 pub goes_on_more : (o : Result SoFar Refusal) (r : Reading) (n : ℕ) (bodies : List OpenBody) → r.bodies.items ≡ bodies → Goes o (shape r.growing) bodies n → GoesOn o r n
 goes_on_more o r n bodies e g = goes_on o r n (subst (λ bs. Goes o (shape r.growing) bs n) (sym e) g)
 
-pub tells : (o : Result SoFar Refusal) (r : Refusal) (fault : Fault) → o ≡ Err r → fault.kind ≡ refusal_kind r → fault.at ≡ None → Tells o fault
+pub tells : (o : Result SoFar Refusal) (r : Refusal) (fault : Fault) → o ≡ Err r → fault.kind ≡ refusal_kind r → fault.at ≡ None → TellsRefusal o fault
 tells o r fault e kind at = (at, inr (r, e, kind))
 
 -- ---- the bodies of a whole reading
@@ -65,8 +65,8 @@ whole_same old new h sound le is = record {
 
 -- ---- nothing stands for nothing
 
-aged_nothing : {X : Type 0} (number : X → Option ℕ) (age : X → ℕ) → ((x : X) → number x ≡ None) → ((x : X) → age x ≡ 0) → AreAged number age
-aged_nothing number age none zero = record {
+aged_nothing : {X : Type 0} (index : X → Option ℕ) (age : X → ℕ) → ((x : X) → index x ≡ None) → ((x : X) → age x ≡ 0) → AreAged index age
+aged_nothing index age none zero = record {
   old = λ x i at. let e : None ≡ Some i = sym (none x) ∙ at in cc;
   unborn = λ x _. zero x;
   order = λ x y i j at at' less. let e : None ≡ Some i = sym (none x) ∙ at in cc;
@@ -81,10 +81,10 @@ shows_nothing s z =
     let none : (p : Stack) → node_at s p ≡ None = before_root s z in
     record {
       nodes = λ p. ap is_some (none p);
-      values = λ p n. ap (λ (o : Option ℕ). option_and_then s.value (option_and_then (λ i. s.place i n) o)) (none p);
+      values = λ p n. ap (λ (o : Option ℕ). option_and_then s.value (option_and_then (λ i. s.property i n) o)) (none p);
       labels = λ p l. ap (λ (o : Option ℕ). is_some (option_and_then (λ i. s.given i l) o)) (none p);
       node_ages = aged_nothing (node_at s) (age []) none (λ p. no_age (opens p) (takes p));
-      property_ages = aged_nothing (place_at s) (λ x. property_age [] x.0 x.1) (λ x. ap (option_and_then (λ i. s.place i x.1)) (none x.0)) (λ x. no_age (defines x.0 x.1) (drops x.0 x.1));
+      property_ages = aged_nothing (property_at s) (λ x. property_age [] x.0 x.1) (λ x. ap (option_and_then (λ i. s.property i x.1)) (none x.0)) (λ x. no_age (defines x.0 x.1) (drops x.0 x.1));
       label_ages = aged_nothing (given_at s) (λ x. label_age [] x.1 x.0) (λ x. ap (option_and_then (λ i. s.given i x.1)) (none x.0)) (λ x. no_age (gives x.1 x.0) (takes x.0));
     }
 
@@ -133,6 +133,6 @@ read_refused m items i x u r b e h k =
     ∙ ap (λ o. and_if_read o (λ t. read_all m t (map place_said (drop (i + 1) items)))) (read_more m items i x u b e h ∙ k)
 
 pub told : (m : Mode) (items : List Item) (i : ℕ) (x : Item) (u : SoFar) (fault : Fault) → i < length items → x ≡ get_or items i x → read_all m nothing (map place_said (take i items)) ≡ Ok u
-    → Tells (read m u (place_said x)) fault → WhyNotGrown m (map place_said items) fault
+    → TellsRefusal (read m u (place_said x)) fault → WhyNotGrown m (map place_said items) fault
 told m items i x u fault b e h (at, inl memory) = (at, inl memory)
 told m items i x u fault b e h (at, inr (r, k, kind)) = (at, inr (r, read_refused m items i x u r b e h k, kind))

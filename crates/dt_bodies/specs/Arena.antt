@@ -6,7 +6,7 @@ use Rattle.dt_model.specs.OverlaySource.{root_children, OverlayRefusal, OverlayS
 use Rattle.dt_names.specs.declared.fault.Fault.{Fault}
 use Rattle.dt_items.specs.Said.{value_said}
 use Rattle.dt_fragments.specs.FragmentNames.{made_names, texts}
-use Rattle.dt_bodies.specs.OverlayReading.{OverlayTells, target_value}
+use Rattle.dt_bodies.specs.OverlayReading.{TellsOverlayRefusal, target_value}
 use Rattle.dt_bodies.specs.Reading.{Holds}
 use Rattle.dt_bodies.specs.declared.arena.Arena.{Arena}
 use Rattle.dt_bodies.specs.declared.arena.Used.{Used}
@@ -49,7 +49,7 @@ GoesOnWith written (Err refusal) r items arena used rest = ⊥
 abbrev pub ItemFollows : Reading → Reading → ℕ → Place → Arena → Used → Result Used Fault → Type 0
 ItemFollows old new item place arena used result =
     (written : List Name) (s : OverlaySoFar) (rest : List Place) → Holds old item s.source → IsLeft written arena used s.next (place ∷ rest) →
-    MatchResult result (λ more. GoesOnWith written (read_overlay written s place) new (item + 1) arena more rest) (OverlayTells (read_overlay written s place))
+    MatchResult result (λ more. GoesOnWith written (read_overlay written s place) new (item + 1) arena more rest) (TellsOverlayRefusal (read_overlay written s place))
 
 -- what is read of the places of an overlay's source
 abbrev pub all_overlay : List Place → Result OverlaySoFar OverlayRefusal

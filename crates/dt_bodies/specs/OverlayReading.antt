@@ -11,8 +11,8 @@ use Rattle.dt_bodies.specs.Refusals.{overlay_kind}
 use Rattle.dt_bodies.specs.declared.reading.Reading.{Reading}
 
 -- a fault without a place: memory was refused, or it tells the refusal
-abbrev pub OverlayTells : Result OverlaySoFar OverlayRefusal → Fault → Type 0
-OverlayTells outcome fault =
+abbrev pub TellsOverlayRefusal : Result OverlaySoFar OverlayRefusal → Fault → Type 0
+TellsOverlayRefusal outcome fault =
     (fault.at ≡ None) × ((fault.kind ≡ NoMemory) ⊎ ((r : OverlayRefusal) × (outcome ≡ Err r) × (fault.kind ≡ overlay_kind r)))
 
 -- the reading goes on as the definition does, to this least number of a new fragment
@@ -24,7 +24,7 @@ OverlayGoesOn (Err refusal) r items next = ⊥
 abbrev pub OverlayFollows : Reading → Reading → ℕ → Place → Result (Unit {0}) Fault → Type 0
 OverlayFollows old new item place result =
     (written : List Name) (s : OverlaySoFar) → Holds old item s.source → MatchResult result (λ _. OverlayGoesOn (read_overlay written s place) new (item + 1) s.next)
-    (OverlayTells (read_overlay written s place))
+    (TellsOverlayRefusal (read_overlay written s place))
 
 -- what the property of a new fragment holds
 abbrev pub target_value : Reference → List Part
@@ -40,7 +40,7 @@ abbrev pub BlockFollows : Reading → Reading → ℕ → Reference → Name →
 BlockFollows old new item reference name result =
     (written : List Name) (s : OverlaySoFar) → Holds old item s.source → name ≡ fragment_name (free_number written s) →
     MatchResult result (λ made. OverlayGoesOn (read_overlay written s (block reference)) new (item + 1) (cond made (free_number written s + 1) s.next))
-    (OverlayTells (read_overlay written s (block reference)))
+    (TellsOverlayRefusal (read_overlay written s (block reference)))
 
 -- the place isn't a block
 abbrev pub IsNoBlock : Place → Type 0

@@ -9,7 +9,7 @@ use Rattle.dt_names.specs.declared.fault.Fault.{Fault}
 use Rattle.dt_growing.specs.Shape.{Shape, node_at, Shows}
 use Rattle.dt_growing.specs.Grown.{Leads}
 use Rattle.dt_growing.specs.Growing.{shape, IsSound}
-use Rattle.dt_bodies.specs.Refusals.{Tells}
+use Rattle.dt_bodies.specs.Refusals.{TellsRefusal}
 use Rattle.dt_bodies.specs.declared.reading.OpenBody.{OpenBody}
 use Rattle.dt_bodies.specs.declared.reading.Reading.{Reading}
 
@@ -56,19 +56,19 @@ GoesOn (Err refusal) r items = ⊥
 -- the reading does with the item of this number what a step of the definition does
 abbrev pub Does : (SoFar → Result SoFar Refusal) → Reading → Reading → ℕ → Result (Unit {0}) Fault → Type 0
 Does step old new item result =
-    (so_far : SoFar) → Holds old item so_far → MatchResult result (λ _. GoesOn (step so_far) new (item + 1)) (Tells (step so_far))
+    (so_far : SoFar) → Holds old item so_far → MatchResult result (λ _. GoesOn (step so_far) new (item + 1)) (TellsRefusal (step so_far))
 
 -- what the definition does with what the item says
 abbrev pub Follows : Mode → Reading → Reading → ℕ → Place → Result (Unit {0}) Fault → Type 0
 Follows mode old new item place result =
-    (so_far : SoFar) → Holds old item so_far → MatchResult result (λ _. GoesOn (read mode so_far place) new (item + 1)) (Tells (read mode so_far place))
+    (so_far : SoFar) → Holds old item so_far → MatchResult result (λ _. GoesOn (read mode so_far place) new (item + 1)) (TellsRefusal (read mode so_far place))
 
 -- where no body is open, the node to which a reference refers, with the number of its names; or why there is none
 abbrev pub HasTarget : Reading → Reference → Result (ℕ × ℕ) Fault → Type 0
 HasTarget r reference result = (so_far : SoFar) (items : ℕ) → Holds r items so_far → MatchResult result
     (λ target. (length r.bodies.items ≡ 0)
     × ((p : Stack) × (referent so_far.events reference ≡ Some p) × Leads r.growing.nodes.items p target.0 × (target.1 ≡ length p)))
-    (λ fault. (mode : Mode) → Tells (read mode so_far (block reference)) fault × Tells (read mode so_far (delete_node reference)) fault)
+    (λ fault. (mode : Mode) → TellsRefusal (read mode so_far (block reference)) fault × TellsRefusal (read mode so_far (delete_node reference)) fault)
 
 -- a child of this name may be opened in the body
 pub record MayOpen (r : Reading) (name : Name) (body : OpenBody) : Type 0 where

@@ -9,7 +9,7 @@ ghost use Rattle.dt_bodies.specs.Arena.{IsArena, IsSomeLeft, ItemFollows, all_ov
 ghost use Rattle.dt_growing.specs.Grown.{IsGrown};
 ghost use Rattle.dt_growing.specs.Growing.{IsSound};
 ghost use Rattle.dt_bodies.specs.Reading.{Holds, IsWhole};
-ghost use Rattle.dt_bodies.specs.OverlayReading.{OverlayFollows, OverlayTells, BlockFollows, IsNoBlock, target_value};
+ghost use Rattle.dt_bodies.specs.OverlayReading.{OverlayFollows, TellsOverlayRefusal, BlockFollows, IsNoBlock, target_value};
 
 use crate::arena::{Arena, Used};
 use crate::reading::{Mode, Reading};
@@ -132,18 +132,18 @@ impl<'s, 'a> Reading<'s, 'a> {
     }
 
     /// An item that isn't a block by a reference.
-    pub fn overlay_step(&mut self, number: usize, item: &'s Item<'a>) -> Result<(), Fault>
+    pub fn overlay_step(&mut self, item: usize, next: &'s Item<'a>) -> Result<(), Fault>
         requires whole { IsWhole self.old }
-        requires no_block { IsNoBlock (place_said item.now) }
-        ensures meaning { OverlayFollows self.old self.new number (place_said item.now) result }
+        requires no_block { IsNoBlock (place_said next.now) }
+        ensures meaning { OverlayFollows self.old self.new item (place_said next.now) result }
         ensures whole { OnOk result (IsWhole self.new) }
         ensures grown { OnOk result (length self.old.growing.nodes.items ≤ length self.new.growing.nodes.items) }
     {
-        match item {
-            Item::Root => self.root(number),
-            Item::Child(name) => self.child(Mode::Base, number, name.as_bytes()),
+        match next {
+            Item::Root => self.root(item),
+            Item::Child(name) => self.child(Mode::Base, item, name.as_bytes()),
             Item::Label(label) => self.label(label.as_bytes()),
-            Item::Property(name, value) => self.overlay_define(number, name.as_bytes(), value),
+            Item::Property(name, value) => self.overlay_define(item, name.as_bytes(), value),
             Item::Close => self.close(),
             _ => Err(Fault::of(FaultKind::OverlayDelete)),
         }
@@ -152,7 +152,7 @@ impl<'s, 'a> Reading<'s, 'a> {
     /// A block, with the next name and the next value.
     fn block_item(
         &mut self,
-        number: usize,
+        item: usize,
         reference: &Reference<'a>,
         arena: &'s Arena<'a>,
         used: Used,
@@ -160,53 +160,37 @@ impl<'s, 'a> Reading<'s, 'a> {
         requires whole { IsWhole self.old }
         requires rooted { 0 < length self.old.growing.nodes.items }
         requires left { IsSomeLeft arena.now used (block (reference_of reference.now)) }
-        ensures meaning { ItemFollows self.old self.new number (block (reference_of reference.now)) arena.now used result }
+        ensures meaning { ItemFollows self.old self.new item (block (reference_of reference.now)) arena.now used result }
         ensures whole { OnOk result (IsWhole self.new) }
         ensures rooted { OnOk result (0 < length self.new.growing.nodes.items) }
     {
         let name = &arena.names[used.fragments];
         let value = &arena.values[used.blocks];
-        let made = self.overlay_block(number, reference, name, value)?;
+        let made = self.overlay_block(item, reference, name, value)?;
         Ok(used_more(used, made))
     }
 
-    /// An item that isn't a block uses nothing.
-    fn other_item(
-        &mut self,
-        number: usize,
-        item: &'s Item<'a>,
-        _arena: &'s Arena<'a>,
-        used: Used,
-    ) -> Result<Used, Fault>
-        requires whole { IsWhole self.old }
-        requires rooted { 0 < length self.old.growing.nodes.items }
-        requires no_block { IsNoBlock (place_said item.now) }
-        ensures meaning { ItemFollows self.old self.new number (place_said item.now) _arena.now used result }
-        ensures whole { OnOk result (IsWhole self.new) }
-        ensures rooted { OnOk result (0 < length self.new.growing.nodes.items) }
-    {
-        self.overlay_step(number, item)?;
-        Ok(used)
-    }
-
-    /// One more item.
+    /// The next item, which has this number. One that isn't a block uses nothing.
     fn overlay_item(
         &mut self,
-        number: usize,
-        item: &'s Item<'a>,
+        item: usize,
+        next: &'s Item<'a>,
         arena: &'s Arena<'a>,
         used: Used,
     ) -> Result<Used, Fault>
         requires whole { IsWhole self.old }
         requires rooted { 0 < length self.old.growing.nodes.items }
-        requires left { IsSomeLeft arena.now used (place_said item.now) }
-        ensures meaning { ItemFollows self.old self.new number (place_said item.now) arena.now used result }
+        requires left { IsSomeLeft arena.now used (place_said next.now) }
+        ensures meaning { ItemFollows self.old self.new item (place_said next.now) arena.now used result }
         ensures whole { OnOk result (IsWhole self.new) }
         ensures rooted { OnOk result (0 < length self.new.growing.nodes.items) }
     {
-        match item {
-            Item::Block(reference) => self.block_item(number, reference, arena, used),
-            _ => self.other_item(number, item, arena, used),
+        match next {
+            Item::Block(reference) => self.block_item(item, reference, arena, used),
+            _ => {
+                self.overlay_step(item, next)?;
+                Ok(used)
+            }
         }
     }
 }
@@ -239,14 +223,14 @@ fn read_overlay_items<'s, 'a>(
     requires arena { IsArena (map place_said items.now) arena.now }
     ensures { MatchResult result
         (λ _. IsWhole reading.new × (s : OverlaySoFar) × (all_overlay (map place_said items.now) ≡ Ok s) × Holds reading.new (length items.now) s.source)
-        (OverlayTells (all_overlay (map place_said items.now))) }
+        (TellsOverlayRefusal (all_overlay (map place_said items.now))) }
 {
     let mut used = Used {
         blocks: 0,
         fragments: 0,
     };
-    for (number, item) in items.iter().enumerate() {
-        used = reading.overlay_item(number, item, arena, used)?;
+    for (item, next) in items.iter().enumerate() {
+        used = reading.overlay_item(item, next, arena, used)?;
     }
     Ok(())
 }
@@ -264,7 +248,7 @@ pub fn grow_overlay<'s, 'a>(
     ensures { MatchResult result
         (λ g. ((s : OverlaySoFar) × (all_overlay (map place_said items.now) ≡ Ok s)
         × IsGrown g.nodes.items g.properties.items g.givings.items s.source.events) × IsSound g)
-        (OverlayTells (all_overlay (map place_said items.now))) }
+        (TellsOverlayRefusal (all_overlay (map place_said items.now))) }
 {
     let mut reading = Reading::new(alloc, seed);
     reading.begin()?;

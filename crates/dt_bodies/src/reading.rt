@@ -10,7 +10,7 @@ ghost use Rattle.dt_growing.specs.Grown.{Leads, IsGrown};
 ghost use Rattle.dt_growing.specs.Growing.{IsSound};
 ghost use Rattle.dt_model.specs.OverlaySource.{open_fragment};
 ghost use Rattle.dt_bodies.specs.Reading.{is_behind, Does, Follows, GoesOn, HasTarget, Holds, IsWhole, MayOpen};
-ghost use Rattle.dt_bodies.specs.Refusals.{mode_said, Tells, WhyNotGrown};
+ghost use Rattle.dt_bodies.specs.Refusals.{mode_said, TellsRefusal, WhyNotGrown};
 
 use dt_growing::{Growing, NameText};
 use dt_items::{Item, Reference, Value};
@@ -173,7 +173,7 @@ impl<'s, 'a> Reading<'s, 'a> {
         ensures may { IfOk result (MayOpen self.now name.now) }
         ensures meaning { (so_far : SoFar) (items : ℕ) → Holds self.now items so_far → MatchResult result
             (λ _. is_reserved (mode_said mode) so_far.node name.now ≡ false)
-            (Tells (read (mode_said mode) so_far (child name.now))) }
+            (TellsRefusal (read (mode_said mode) so_far (child name.now))) }
     {
         let body = self.innermost()?;
         if is_kept_back(mode, body.depth, name) {
@@ -302,19 +302,19 @@ impl<'s, 'a> Reading<'s, 'a> {
         Ok(())
     }
 
-    /// One more item.
-    fn step(&mut self, mode: Mode, number: usize, item: &'s Item<'a>) -> Result<(), Fault>
+    /// The next item, which has this number.
+    fn step(&mut self, mode: Mode, item: usize, next: &'s Item<'a>) -> Result<(), Fault>
         requires { IsWhole self.old }
-        ensures meaning { Follows (mode_said mode) self.old self.new number (place_said item.now) result }
+        ensures meaning { Follows (mode_said mode) self.old self.new item (place_said next.now) result }
         ensures whole { OnOk result (IsWhole self.new) }
     {
-        match item {
-            Item::Root => self.root(number),
-            Item::Block(reference) => self.block(number, reference),
-            Item::DeleteNode(reference) => self.delete_node(number, reference),
-            Item::Child(name) => self.child(mode, number, name.as_bytes()),
+        match next {
+            Item::Root => self.root(item),
+            Item::Block(reference) => self.block(item, reference),
+            Item::DeleteNode(reference) => self.delete_node(item, reference),
+            Item::Child(name) => self.child(mode, item, name.as_bytes()),
             Item::Label(label) => self.label(label.as_bytes()),
-            Item::Property(name, value) => self.define(number, name.as_bytes(), value),
+            Item::Property(name, value) => self.define(item, name.as_bytes(), value),
             Item::DeleteProperty(name) => self.undefine(name.as_bytes()),
             Item::DeleteChild(name) => self.delete_child(name.as_bytes()),
             Item::Close => self.close(),
@@ -335,8 +335,8 @@ fn read_items<'s, 'a>(
         × GoesOn (read_all (mode_said mode) nothing (map place_said items.now)) reading.new (length items.now))
         (WhyNotGrown (mode_said mode) (map place_said items.now)) }
 {
-    for (number, item) in items.iter().enumerate() {
-        reading.step(mode, number, item)?;
+    for (item, next) in items.iter().enumerate() {
+        reading.step(mode, item, next)?;
     }
     Ok(())
 }

@@ -38,6 +38,10 @@ are_each [] (o ∷ overlays) are = absurd are
 are_each (x ∷ objects) [] are = absurd are
 are_each (x ∷ objects) (o ∷ overlays) are = (are.0, are_each objects overlays are.1)
 
+-- the tree of a meaning's blob is of the meaning
+pub tree_is_of : (bytes : List ℕ) (m : Meaning) (number : Path → ℕ) (h : IsBlobOfMeaning bytes m number) → IsOf h.tree m number
+tree_is_of bytes m number h = record { represents = h.represents; meaning = h.meaning; plain = h.plain; valid = h.read.reads.valid }
+
 module _ (one : OneReading) where
   -- the tree of an overlay's blob is an object of the overlay
   is_object : (bytes : List ℕ) (t : Reading) (o : Overlay) → IsRead bytes t → IsBlobOfOverlay bytes o → IsObject t o
@@ -50,8 +54,7 @@ module _ (one : OneReading) where
   is_of : (bytes : List ℕ) (t : Reading) (m : Meaning) (number : Path → ℕ) → IsRead bytes t → IsBlobOfMeaning bytes m number → IsOf t m number
   is_of bytes t m number h k =
       let same : k.tree ≡ t = read_once one bytes k.tree t k.read h in
-      subst (λ (u : Reading). IsOf u m number) same
-      (record { represents = k.represents; meaning = k.meaning; plain = k.plain; valid = k.read.reads.valid })
+      subst (λ (u : Reading). IsOf u m number) same (tree_is_of bytes m number k)
 
   pub applying_is_merging : InTurnIsFold → WrittenReads → WrittenIsWithin → ApplyingIsMerging
   applying_is_merging in_turn reads within bytes objects blob m overlays number is are h =

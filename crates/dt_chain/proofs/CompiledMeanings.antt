@@ -19,7 +19,7 @@ use Rattle.dt_laws.specs.ShortValues.{ReadValuesAreShort, ShortObjectEncodes}
 use Rattle.dt_laws.specs.Sources.{SourceIsMeaning, SourceIsPlain, OverlaySourceIsOverlay}
 use Rattle.dt_grammar.specs.Grammar.{Says}
 use Rattle.dt_grammar.specs.Parsed.{IsParsed}
-use Rattle.dt_bodies.specs.Refusals.{fault_of, overlay_fault_of}
+use Rattle.dt_source.specs.Refusals.{fault_kind, overlay_fault_kind}
 use Rattle.dt_source.proofs.Outcomes as named
 use Rattle.dt_source.proofs.OverlayOutcomes as named_overlays
 use Rattle.dt_write.specs.Written.{written}
@@ -166,7 +166,7 @@ module _ (once : SaidOnce) (only : SaidOnly) where
       step (inr (inl e)) = true≢false (sym e.1 ∙ ap (λ (x : Says). x.plugin) (sym said) ∙ h.plain)
       step (inr (inr f)) =
           let means = subst (λ (x : Says). SourceMeans mode x.reservations x.places m) said h.means in
-          low (f.told ∙ ap fault_of (meant mode s.reservations s.places m f.refusal means f.refused))
+          low (f.told ∙ ap fault_kind (meant mode s.reservations s.places m f.refusal means f.refused))
   meant_not_refused meant mode text m _ h (compile.many t k more) wanted low = low refl
 
   pub overlay_not_refused : OverlayIsNotRefused → (text : List ℕ) (o : Overlay) (e : Fault) → OverlayTextMeans text o → WhyNotCompiledOverlay text e
@@ -183,7 +183,7 @@ module _ (once : SaidOnce) (only : SaidOnly) where
       step (inr (inr (inl e))) = e.2 (subst (λ (x : Says). x.reservations ≡ []) said h.reservations)
       step (inr (inr (inr f))) =
           let means = subst (λ (x : Says). OverlayMeans x.places o) said h.means in
-          low (f.told ∙ ap overlay_fault_of (meant s.places o f.refusal means f.refused))
+          low (f.told ∙ ap overlay_fault_kind (meant s.places o f.refusal means f.refused))
   overlay_not_refused meant text o _ h (compile.large t k more) wanted low = low refl
   overlay_not_refused meant text o _ h (compile.big t k more) wanted low = low refl
 

@@ -1,5 +1,5 @@
 -- A limit is told exactly where something is beyond it.
-use Rattle.std.proofs.Common.{◌≡◌, ◌⊎◌, ◌↔◌, ℕ, suc, inl, inr, List, ◌∷◌, ◌++◌, length, refl, sym, subst, ◌∙◌}
+use Rattle.std.proofs.Common.{◌≡◌, ◌⊎◌, ◌↔◌, ℕ, suc, true, inl, inr, List, [], ◌∷◌, ◌++◌, length, refl, sym, subst, ◌∙◌}
 use Rattle.dt_model.specs.Checks.{over_limit}
 use Rattle.dt_model.specs.Checks as checks
 use Rattle.dt_model.specs.OverlaySource.{as_any, overlay_delete, overlay_phandle, overlay_path, bad_fragment, outside_content}
@@ -15,7 +15,7 @@ use Rattle.dt_grammar.specs.Parsed.{IsParsed}
 use Rattle.dt_landing.specs.Outcomes.{RoomIsCounted}
 use Rattle.dt_landing.specs.Refusals.{has_many, WhyNotApplied}
 use Rattle.dt_read.specs.Kinds.{kind_of}
-use Rattle.dt_bodies.specs.Refusals.{WhyNotNamed, WhyNoOverlay, fault_of, overlay_fault_of}
+use Rattle.dt_source.specs.Refusals.{WhyNotNamed, WhyNoOverlay, IsOverlayFaultOf, fault_kind, overlay_fault_kind}
 use Rattle.dt_chain.specs.Apply as inputs
 use Rattle.dt_chain.specs.Apply.{IsRead, IsNoBlob, IsOutcome, WhyNoStep, IsStopped, WhyNoneOfAll}
 use Rattle.dt_chain.specs.Build.{HasBaseTree, HasObject, WhyNoObject}
@@ -34,7 +34,7 @@ TellsLimit why = (e : Fault) × why e × (e.kind ≡ Limit)
 -- ---- texts
 
 -- the refusals of places that are told as a limit
-limits_of : (r : SourceRefusal) → Limit ≡ fault_of r → (r ≡ at_place too_deep) ⊎ (r ≡ too_many)
+limits_of : (r : SourceRefusal) → Limit ≡ fault_kind r → (r ≡ at_place too_deep) ⊎ (r ≡ too_many)
 limits_of (at_place duplicate_property) e = absurd cc
 limits_of (at_place duplicate_node) e = absurd cc
 limits_of (at_place duplicate_label) e = absurd cc
@@ -47,7 +47,7 @@ limits_of (at_end bad_phandle) e = absurd cc
 limits_of (at_end duplicate_phandle) e = absurd cc
 limits_of too_many e = inr refl
 
-overlay_limits_of : (r : OverlaySourceRefusal) → Limit ≡ overlay_fault_of r → (r ≡ at_place (as_any too_deep)) ⊎ (r ≡ too_many)
+overlay_limits_of : (r : OverlaySourceRefusal) → Limit ≡ overlay_fault_kind r → (r ≡ at_place (as_any too_deep)) ⊎ (r ≡ too_many)
 overlay_limits_of (at_place (as_any duplicate_property)) e = absurd cc
 overlay_limits_of (at_place (as_any duplicate_node)) e = absurd cc
 overlay_limits_of (at_place (as_any duplicate_label)) e = absurd cc
@@ -110,12 +110,18 @@ object_beyond : (text : List ℕ) (e : Fault) → WhyNoObject text e → e.kind 
 object_beyond text e (inl why) h = limits.spelled e why h
 object_beyond text e (inr why) h = overlay_beyond text e why h
 
+too_deep_told : (s : Says) → s.plugin ≡ true → s.reservations ≡ [] → IsOverlayRefusedFor s.places (at_place (as_any too_deep)) → IsOverlayFaultOf s Limit
+too_deep_told s plugin none why = record { plugin = plugin; reservations = none; refusal = at_place (as_any too_deep); refused = why; told = refl }
+
+too_many_told : (s : Says) → s.plugin ≡ true → s.reservations ≡ [] → IsOverlayRefusedFor s.places too_many → IsOverlayFaultOf s Limit
+too_many_told s plugin none why = record { plugin = plugin; reservations = none; refusal = too_many; refused = why; told = refl }
+
 object_told : (text : List ℕ) → IsOverlayBeyond text → TellsLimit (WhyNoObject text)
 object_told text (limits.spelled e why h) = (e, inl why, h)
 object_told text (limits.deep s parsed plugin none why) =
-    (placeless Limit, inr (compile.refused s Limit parsed (record { plugin = plugin; reservations = none; refusal = at_place (as_any too_deep); refused = why; told = refl })), refl)
+    (placeless Limit, inr (compile.refused s Limit parsed (too_deep_told s plugin none why)), refl)
 object_told text (limits.many s parsed plugin none why) =
-    (placeless Limit, inr (compile.refused s Limit parsed (record { plugin = plugin; reservations = none; refusal = too_many; refused = why; told = refl })), refl)
+    (placeless Limit, inr (compile.refused s Limit parsed (too_many_told s plugin none why)), refl)
 object_told text (limits.marked t k more) = (placeless Limit, inr (compile.large t k more), refl)
 object_told text (limits.long t k more) = (placeless Limit, inr (compile.big t k more), refl)
 
@@ -144,13 +150,13 @@ overlay_told text (limits.spelled e why h) = (e, compile.unparsed e why, h)
 overlay_told text (limits.deep s parsed plugin none why) = (
   placeless Limit,
   compile.as_overlay s (placeless Limit) parsed plugin
-      (compile.refused s Limit parsed (record { plugin = plugin; reservations = none; refusal = at_place (as_any too_deep); refused = why; told = refl })),
+      (compile.refused s Limit parsed (too_deep_told s plugin none why)),
   refl,
 )
 overlay_told text (limits.many s parsed plugin none why) = (
   placeless Limit,
   compile.as_overlay s (placeless Limit) parsed plugin
-      (compile.refused s Limit parsed (record { plugin = plugin; reservations = none; refusal = too_many; refused = why; told = refl })),
+      (compile.refused s Limit parsed (too_many_told s plugin none why)),
   refl,
 )
 overlay_told text (limits.marked t k more) = (placeless Limit, compile.as_overlay k.says (placeless Limit) k.parsed k.plugin (compile.large t k more), refl)

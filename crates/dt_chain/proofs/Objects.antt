@@ -14,6 +14,7 @@ use Rattle.dt_names.specs.Fault.{placeless}
 use Rattle.dt_chain.specs.Apply.{WhyNoStep, no_memory, no_base, no_object, not_applied, IsRead, IsNoBlob, WhyNoBlobApplied}
 use Rattle.dt_chain.specs.Build.{HasObject, WhyNoObject}
 use Rattle.dt_chain.specs.Steps.{OfEachText}
+use Rattle.dt_chain.proofs.AppliedOutcomes.{OneReading}
 use Rattle.dt_chain.proofs.Stages.{fault_is}
 use Rattle.dt_chain.proofs.OverlayStages.{HasTree}
 use Rattle.dt_chain.proofs.Turns.{Goes}
@@ -41,10 +42,6 @@ object_written s t blob h valid within is size reads inside text parsed = (
   record { of_text = h text parsed; valid = valid; within = within; size = subst (λ (b : List ℕ). length b ≤ most_bytes) is size },
   record { reads = reads; within = inside },
 )
-
--- a blob has one reading
-abbrev pub OneReading : Type 0
-OneReading = (bytes : List ℕ) (t u : Reading) → Reads bytes t → Reads bytes u → t ≡ u
 
 -- what is read from the blob of a text's object is the object
 pub of_text : OneReading → (text blob : List ℕ) (now next : Reading) → HasObjectBlob text blob → Goes IsRead blob now next → Goes HasObject text now next

@@ -14,7 +14,7 @@ use Rattle.dt_model.specs.Refused.{too_many, IsRefusedFor}
 use Rattle.dt_laws.specs.CompiledTrees.{OneTree, MeantIsNotRefused, FewAreNotRefused}
 use Rattle.dt_grammar.specs.Grammar.{Says}
 use Rattle.dt_grammar.specs.Parsed.{IsParsed, WhyNotParsed}
-use Rattle.dt_bodies.specs.Refusals.{WhyNotNamed, fault_of, place_of}
+use Rattle.dt_source.specs.Refusals.{WhyNotNamed, fault_kind, fault_place}
 use Rattle.dt_source.proofs.Outcomes.{Sorted, sorted}
 use Rattle.dt_write.specs.Written.{written}
 use Rattle.dt_chain.specs.Compile.{TextHasTree, IsCompiled, WhyNoTree, WhyNotCompiled, no_memory, unparsed, unnamed, many, no_tree, big}
@@ -67,8 +67,8 @@ blob_once once one mode text blob other h k = h.is ∙ ap written (tree_once onc
 meant : (mode : Mode) (s : Says) (t : Reading) (h : IsTreeOf mode s.reservations s.places t) → SourceMeans mode s.reservations s.places h.instance.meaning
 meant mode s t h = h.instance.means
 
-pub limit_told : (kind : FaultKind) → kind ≡ Limit → record { kind = kind; at = place_of kind } ≡ placeless Limit
-limit_told kind e = ap (λ (k : FaultKind). let f : Fault = record { kind = k; at = place_of k } in f) e
+pub limit_told : (kind : FaultKind) → kind ≡ Limit → record { kind = kind; at = fault_place kind } ≡ placeless Limit
+limit_told kind e = ap (λ (k : FaultKind). let f : Fault = record { kind = k; at = fault_place k } in f) e
 
 -- a text that has a tree is refused for nothing but the number of its nodes
 only_many : SaidOnce → MeantIsNotRefused → (mode : Mode) (text : List ℕ) (t : Reading) (s : Says) (kind : FaultKind) → TextHasTree mode text t → IsParsed text s
@@ -78,7 +78,7 @@ only_many once not mode text t s kind h parsed wanted why = elim (sorted mode s 
   | inr (inl e) ↦ absurd (true≢false (sym e.1 ∙ ap (λ (x : Says). x.plugin) said ∙ h.plain))
   | inr (inr f) ↦
       let r = not mode s.reservations s.places tree.instance.meaning f.refusal tree.instance.means f.refused in
-      (f.told ∙ ap fault_of r, subst (IsRefusedFor mode s.places) r f.refused)
+      (f.told ∙ ap fault_kind r, subst (IsRefusedFor mode s.places) r f.refused)
 ]
   where
     said : s ≡ h.says
@@ -145,7 +145,7 @@ NamedOnce = (mode : Mode) (s : Says) → IsOneRefusal (λ kind. WhyNotNamed mode
 
 -- a source's fault
 abbrev pub of_kind : FaultKind → Fault
-of_kind k = record { kind = k; at = place_of k }
+of_kind k = record { kind = k; at = fault_place k }
 
 module _ (once : SaidOnce) (only : SaidOnly) (fault : FaultOnce) (one : NamedOnce) (not : MeantIsNotRefused) where
   -- a text that has a tree has none within the limits only as too large

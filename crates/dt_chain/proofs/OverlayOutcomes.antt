@@ -11,7 +11,7 @@ use Rattle.dt_model.specs.Fixups.{IsObjectOf}
 use Rattle.dt_laws.specs.OverlayTrees.{OneOverlay, OneObject, OverlayRefusalIsOne, OverlayIsNotRefused, ObjectIsNotRefused}
 use Rattle.dt_grammar.specs.Grammar.{Says}
 use Rattle.dt_grammar.specs.Parsed.{IsParsed}
-use Rattle.dt_bodies.specs.Refusals.{WhyNoOverlay, overlay_fault_of}
+use Rattle.dt_source.specs.Refusals.{WhyNoOverlay, overlay_fault_kind}
 use Rattle.dt_source.proofs.OverlayOutcomes.{Sorted, sorted, overlay_refused_once}
 use Rattle.dt_write.specs.Written.{written}
 use Rattle.dt_chain.specs.Compile.{OverlayTextHasTree, IsCompiledOverlay, WhyNotCompiledOverlay, no_memory, refused, large, big}
@@ -54,7 +54,7 @@ only_many once not text t s kind h parsed wanted why = step (sorted s kind why)
     step (inl e) = absurd (wanted e)
     step (inr (inl e)) = absurd (no_plugin s e.1 (subst (λ (x : Says). x.plugin ≡ true) said h.plugin))
     step (inr (inr (inl e))) = absurd (e.2 (subst (λ (x : Says). x.reservations ≡ []) said h.reservations))
-    step (inr (inr (inr f))) = f.told ∙ ap overlay_fault_of (not s.places tree.of_places.overlay f.refusal tree.of_places.means f.refused)
+    step (inr (inr (inr f))) = f.told ∙ ap overlay_fault_kind (not s.places tree.of_places.overlay f.refusal tree.of_places.means f.refused)
 
 -- ---- answered, or refused
 

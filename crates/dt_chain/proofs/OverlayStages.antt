@@ -21,7 +21,7 @@ use Rattle.dt_model.specs.Instance.{instance_of, symbols_of, with_symbols, follo
 use Rattle.dt_model.specs.Fixups.{fixup_nodes, with_fixups}
 use Rattle.dt_laws.specs.Sources.{OverlaySourceIsOverlay}
 use Rattle.dt_grammar.specs.Grammar.{Says}
-use Rattle.dt_bodies.specs.Refusals.{WhyNoOverlay, overlay_fault_of, place_of}
+use Rattle.dt_source.specs.Refusals.{WhyNoOverlay, overlay_fault_kind, fault_place}
 use Rattle.dt_flat.specs.Arena.{Arena, named_children, child_of, reading}
 use Rattle.dt_marks.specs.Refusals.{WhyNoFixups}
 use Rattle.dt_write.specs.Written.{written}
@@ -125,9 +125,9 @@ object_of_text s t r h m text parsed = record {
   tree = record { named = t; fragments = h.fragments; of_places = h.named; numbers = m.numbers; numbering = m.numbering; is = m.is };
 }
 
-pub not_built : (s : Says) (fault : Fault) → WhyNoOverlay fault.kind s × (fault.at ≡ place_of fault.kind) → OfEachText s (λ text. WhyNotCompiledOverlay text fault)
+pub not_built : (s : Says) (fault : Fault) → WhyNoOverlay fault.kind s × (fault.at ≡ fault_place fault.kind) → OfEachText s (λ text. WhyNotCompiledOverlay text fault)
 not_built s fault why text parsed =
-    subst (WhyNotCompiledOverlay text) (fault_is fault (place_of fault.kind) why.1) (refused s fault.kind parsed why.0)
+    subst (WhyNotCompiledOverlay text) (fault_is fault (fault_place fault.kind) why.1) (refused s fault.kind parsed why.0)
 
 unmarked : (s : Says) (t : Named NodeReference) (kind : FaultKind) → HasOverlay s t → WhyNotMarked kind t → OfEachText s (λ text. WhyNotCompiledOverlay text (placeless kind))
 unmarked s t NoMemory h why text parsed = no_memory
@@ -157,7 +157,7 @@ is_written s r blob h within is size text parsed = record { tree = r; of_text = 
 
 -- ---- the kinds of the compiler's faults
 
-refusal_kind : (r : OverlaySourceRefusal) → IsCompilerFault (overlay_fault_of r)
+refusal_kind : (r : OverlaySourceRefusal) → IsCompilerFault (overlay_fault_kind r)
 refusal_kind (at_place (as_any duplicate_property)) = tt
 refusal_kind (at_place (as_any duplicate_node)) = tt
 refusal_kind (at_place (as_any duplicate_label)) = tt

@@ -8,7 +8,7 @@ use Rattle.dt_lex.specs.Lexing.{WhyNotLexed}
 use Rattle.dt_grammar.specs.Parsed as grammar
 use Rattle.dt_grammar.specs.Parsed.{WhyNotParsed}
 use Rattle.dt_parse.proofs.Parsing.{never_memory}
-use Rattle.dt_bodies.specs.Refusals.{place_of}
+use Rattle.dt_source.specs.Refusals.{fault_place}
 use Rattle.dt_chain.specs.Compile as compile
 use Rattle.dt_chain.specs.Compile.{WhyNoTree, WhyNotCompiled, WhyNotCompiledOverlay, WhyNoBlob}
 
@@ -26,7 +26,7 @@ unparsed text e (grammar.broken tokens before left kind l x t s b) h = absurd (n
 tree_unplaced : (mode : Mode) (text : List ℕ) (e : Fault) → WhyNoTree mode text e → e.kind ≡ NoMemory → e.at ≡ None
 tree_unplaced mode text _ compile.no_memory h = refl
 tree_unplaced mode text _ (compile.unparsed e why) h = unparsed text e why h
-tree_unplaced mode text _ (compile.unnamed s kind parsed why) h = ap place_of h
+tree_unplaced mode text _ (compile.unnamed s kind parsed why) h = ap fault_place h
 tree_unplaced mode text _ (compile.many t k more) h = refl
 
 pub memory_unplaced : (mode : Mode) (text : List ℕ) (e : Fault) → WhyNotCompiled mode text e → e.kind ≡ NoMemory → e.at ≡ None
@@ -36,7 +36,7 @@ memory_unplaced mode text _ (compile.big t k more) h = refl
 
 overlay_unplaced : (text : List ℕ) (e : Fault) → WhyNotCompiledOverlay text e → e.kind ≡ NoMemory → e.at ≡ None
 overlay_unplaced text _ compile.no_memory h = refl
-overlay_unplaced text _ (compile.refused s kind parsed why) h = ap place_of h
+overlay_unplaced text _ (compile.refused s kind parsed why) h = ap fault_place h
 overlay_unplaced text _ (compile.large t k more) h = refl
 overlay_unplaced text _ (compile.big t k more) h = refl
 

@@ -21,7 +21,7 @@ use Rattle.dt_laws.specs.NamedTrees.{TreeIsMeant}
 use Rattle.dt_grammar.specs.Grammar.{Says}
 use Rattle.dt_parse.specs.Reading.{IsSourceFault}
 use Rattle.dt_parse.proofs.Parsing.{source_kind}
-use Rattle.dt_bodies.specs.Refusals.{WhyNotNamed, fault_of, place_of}
+use Rattle.dt_source.specs.Refusals.{WhyNotNamed, fault_kind, fault_place}
 use Rattle.dt_flat.specs.Arena.{Arena, Slot, named_children, child_of, reading}
 use Rattle.dt_flat.proofs.ByPath.{has, sibling_below}
 use Rattle.dt_marks.specs.Refusals.{WhyNoSymbols}
@@ -35,9 +35,9 @@ use Rattle.dt_chain.specs.Steps.{OfEachText, HasNamed, IsNumbered, HasRoom, WhyN
 pub fault_is : (fault : Fault) (at : Option ℕ) → fault.at ≡ at → record { kind = fault.kind; at = at } ≡ fault
 fault_is fault at e = sym (ap (λ (x : Option ℕ). let f : Fault = record { kind = fault.kind; at = x } in f) e)
 
-pub not_named : (mode : Mode) (s : Says) (fault : Fault) → WhyNotNamed mode fault.kind s × (fault.at ≡ place_of fault.kind)
+pub not_named : (mode : Mode) (s : Says) (fault : Fault) → WhyNotNamed mode fault.kind s × (fault.at ≡ fault_place fault.kind)
     → OfEachText s (λ text. WhyNoTree mode text fault)
-not_named mode s fault why text parsed = subst (WhyNoTree mode text) (fault_is fault (place_of fault.kind) why.1) (unnamed s fault.kind parsed why.0)
+not_named mode s fault why text parsed = subst (WhyNoTree mode text) (fault_is fault (fault_place fault.kind) why.1) (unnamed s fault.kind parsed why.0)
 
 -- ---- room for the labels
 
@@ -187,7 +187,7 @@ if_ok_all P Q R S T f (Err e) p q r s = tt
 
 -- ---- the kinds of the compiler's faults
 
-refusal_kind : (r : SourceRefusal) → IsCompilerFault (fault_of r)
+refusal_kind : (r : SourceRefusal) → IsCompilerFault (fault_kind r)
 refusal_kind (at_place duplicate_property) = tt
 refusal_kind (at_place duplicate_node) = tt
 refusal_kind (at_place duplicate_label) = tt

@@ -16,7 +16,7 @@ use Rattle.dt_names.specs.declared.fault.FaultKind.TheVariants as fault
 use Rattle.dt_grammar.specs.Grammar.{Says}
 use Rattle.dt_grammar.specs.Parsed.{IsParsed, WhyNotParsed}
 use Rattle.dt_parse.specs.Reading.{IsSourceFault}
-use Rattle.dt_bodies.specs.Refusals.{WhyNotNamed, WhyNoOverlay, place_of}
+use Rattle.dt_source.specs.Refusals.{WhyNotNamed, WhyNoOverlay, fault_place}
 use Rattle.dt_write.specs.Written.{written}
 
 -- ---- what a text means
@@ -69,7 +69,7 @@ pub data WhyNoTree (mode : Mode) (text : List ℕ) : Fault → Type 0 where
   unparsed : (e : Fault) → WhyNotParsed text e → WhyNoTree mode text e
   -- it is an overlay's, or it means nothing, or too much
   unnamed : (s : Says) (kind : FaultKind) → IsParsed text s → WhyNotNamed mode kind s →
-      WhyNoTree mode text (record { kind = kind; at = place_of kind })
+      WhyNoTree mode text (record { kind = kind; at = fault_place kind })
   -- with the node of its labels its tree has more than 65,536 nodes, the root among them
   many : (t : Reading) → TextHasTree mode text t → most_nodes < 1 + node_count t.children → WhyNoTree mode text (placeless fault.Limit)
 
@@ -98,7 +98,7 @@ pub data WhyNotCompiledOverlay (text : List ℕ) : Fault → Type 0 where
   no_memory : WhyNotCompiledOverlay text (placeless fault.NoMemory)
   -- it has reservations, or it means nothing, or too much
   refused : (s : Says) (kind : FaultKind) → IsParsed text s → WhyNoOverlay kind s →
-      WhyNotCompiledOverlay text (record { kind = kind; at = place_of kind })
+      WhyNotCompiledOverlay text (record { kind = kind; at = fault_place kind })
   -- with the nodes that tell its labels and its cells its tree has more than 65,536 nodes, or a path of more than 64 names
   large : (t : Reading) → OverlayTextHasTree text t → ¬ IsWithinLimits t → WhyNotCompiledOverlay text (placeless fault.Limit)
   -- the blob of its tree would be longer than 16 MiB

@@ -6,7 +6,8 @@ ghost use Rattle.dt_model.specs.Named.{tree_of};
 ghost use Rattle.dt_model.specs.Source.{base, raw};
 ghost use Rattle.dt_model.specs.Tree.{Reading};
 ghost use Rattle.dt_names.specs.declared.fault.FaultKind.TheVariants.{NoMemory};
-ghost use Rattle.dt_bodies.specs.Refusals.{mode_said, WhyNotNamed, place_of};
+ghost use Rattle.dt_bodies.specs.Refusals.{mode_said};
+ghost use Rattle.dt_source.specs.Refusals.{WhyNotNamed, fault_place};
 ghost use Rattle.dt_chain.specs.Apply.{IsRead};
 ghost use Rattle.dt_chain.specs.Compile.{IsBlobOf, WhyNoBlob, IsCompiled, WhyNoTree, WhyNotCompiled, IsCompilerFault, IsCompiledOverlay, WhyNotCompiledOverlay, TextHasTree, OverlayTextHasTree};
 ghost use Rattle.dt_chain.specs.Build.{HasObject};
@@ -104,7 +105,7 @@ pub(crate) fn overlay_blob(alloc: Global, source: &Source<'_>) -> Result<Vec<u8>
 /// The tree that a source means.
 fn named_tree<'a>(alloc: Global, source: &Source<'a>, mode: Mode) -> Result<NamedTree<'a>, Fault>
     ensures named { IfOk result (λ t. HasNamed (mode_said mode) source.now (tree_of t)) }
-    ensures refused { IfErr result (λ fault. WhyNotNamed (mode_said mode) fault.kind source.now × (fault.at ≡ place_of fault.kind)) }
+    ensures refused { IfErr result (λ fault. WhyNotNamed (mode_said mode) fault.kind source.now × (fault.at ≡ fault_place fault.kind)) }
 {
     source.spelled();
     build_base(alloc, source, mode)

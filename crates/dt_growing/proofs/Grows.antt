@@ -7,7 +7,7 @@ use Rattle.dt_model.specs.Names.{Name}
 use Rattle.dt_model.specs.Event.{Stack, stands}
 use Rattle.dt_model.specs.Source.{Part, Events}
 use Rattle.dt_items.specs.Said.{value_said}
-use Rattle.dt_growing.specs.Shape.{node_at, place_at, given_at, Shows}
+use Rattle.dt_growing.specs.Shape.{node_at, property_at, given_at, Shows}
 use Rattle.dt_growing.specs.Grown.{HasValue, HasLabel, IsGrown}
 use Rattle.dt_growing.specs.Growing.{properties_listed, shape, IsSound}
 use Rattle.dt_growing.specs.Table.{name_entry}
@@ -23,24 +23,24 @@ some_is (Some a) h = (a, refl)
 
 module _ (g : Growing) (h : IsSound g) where
   -- a value of a node that stands is the one that is found
-  pub value_to : (p : Stack) (x : Name) (v : List Part) (i : ℕ) → HasValue g.nodes.items g.properties.items p x v i → (place_at (shape g) (p, x) ≡ Some i) × ((shape g).value i ≡ Some v)
+  pub value_to : (p : Stack) (x : Name) (v : List Part) (i : ℕ) → HasValue g.nodes.items g.properties.items p x v i → (property_at (shape g) (p, x) ≡ Some i) × ((shape g).value i ≡ Some v)
   value_to p x v i e =
-      let l = properties_listed g.properties.items g.places.map.entries in
+      let l = properties_listed g.properties.items g.indices.map.entries in
       let owner : l.owner i ≡ e.property.node = ap (λ (o : Option Property). option_map_or (λ n. n.node) o 0) e.there in
       let named : l.name i ≡ x = ap (λ (o : Option Property). option_map_or (λ n. n.name.now) o []) e.there ∙ e.named in
       let stood : l.stands i ≡ true = ap (λ (o : Option Property). option_map_or (λ n. n.stands) o false) e.there ∙ e.stands in
       let last : l.last (l.owner i) (l.name i) ≡ Some i = h.properties.indexed.complete i (omega arith) (slice_get_within g.properties.items i e.property e.there) stood in
       let here : l.last e.property.node x ≡ Some i = rw (owner, named) at last in
       let at : node_at (shape g) p ≡ Some e.property.node = leads_to g h p e.property.node e.node in (
-        ap (option_and_then (λ k. (shape g).place k x)) at ∙ found_stands l e.property.node x i here stood,
+        ap (option_and_then (λ k. (shape g).property k x)) at ∙ found_stands l e.property.node x i here stood,
         ap (option_map (λ (q : Property). value_said q.value.now)) e.there ∙ ap Some e.value,
       )
 
-  pub value_from : (p : Stack) (x : Name) (v : List Part) (i : ℕ) → place_at (shape g) (p, x) ≡ Some i → (shape g).value i ≡ Some v → HasValue g.nodes.items g.properties.items p x v i
+  pub value_from : (p : Stack) (x : Name) (v : List Part) (i : ℕ) → property_at (shape g) (p, x) ≡ Some i → (shape g).value i ≡ Some v → HasValue g.nodes.items g.properties.items p x v i
   value_from p x v i e w =
-      option_and_then_some (λ k. (shape g).place k x) (node_at (shape g) p) i e
+      option_and_then_some (λ k. (shape g).property k x) (node_at (shape g) p) i e
       (λ k e1 e2.
-      let q = is_property (length g.nodes.items) g.properties.items g.places.map.entries h.properties k x i e2 in
+      let q = is_property (length g.nodes.items) g.properties.items g.indices.map.entries h.properties k x i e2 in
       let same : Some (value_said q.property.value.now) ≡ Some v = sym (ap (option_map (λ (q : Property). value_said q.value.now)) q.there) ∙ w in
       record {
         property = q.property;
@@ -73,7 +73,7 @@ module _ (g : Growing) (h : IsSound g) where
     one_node = leads_one g h;
     nodes_in_order = λ p q j k l m less. s.node_ages.order p q j k (leads_to g h p j l) (leads_to g h q k m) less;
     values_are = λ p x v e.
-        option_and_then_some (shape g).value (place_at (shape g) (p, x)) v (s.values p x ∙ e)
+        option_and_then_some (shape g).value (property_at (shape g) (p, x)) v (s.values p x ∙ e)
         (λ i e1 e2. (i, value_from p x v i e1 e2));
     values_stand = λ p x v i e. let t = value_to p x v i e in sym (s.values p x) ∙ ap (option_and_then (shape g).value) t.0 ∙ t.1;
     one_value = λ p x v w i j e f. let same : Some i ≡ Some j = sym (value_to p x v i e).0 ∙ (value_to p x w j f).0 in cc;

@@ -1,9 +1,9 @@
 pub mod TableLemmas
 pub mod Walks
-pub mod Numbering
+pub mod Indices
 pub mod Listings
 pub mod Soundness
-pub mod Places
+pub mod Found
 pub mod Changes
 pub mod Growths
 pub mod Leading

@@ -187,17 +187,17 @@ read-set f d xs k y z at e j =
     (λ n. ap (λ o. option_map_or f o d) (slice_get-set_other xs k j z (λ kj. let t : nat_eq k j ≡ true = eq-eqb k j kj in cc)))
 
 module _ {X : Type 0} (owner : X → ℕ) (name : X → Name) (stands : X → Bool) where
-  number_of_put : (old new : List (Key × Last)) (i : ℕ) (x : Name) (w : Last) → Puts old new i x w → (j : ℕ) (y : Name)
-      → option_map (λ (e : Last). e.number) (entry new j y) ≡ cond (nat_eq i j && bytes_eq x y) (Some w.number) (option_map (λ (e : Last). e.number) (entry old j y))
-  number_of_put old new i x w puts j y = ap (option_map (λ (e : Last). e.number)) (puts j y) ∙ through (nat_eq i j && bytes_eq x y)
+  index_of_put : (old new : List (Key × Last)) (i : ℕ) (x : Name) (w : Last) → Puts old new i x w → (j : ℕ) (y : Name)
+      → option_map (λ (e : Last). e.index) (entry new j y) ≡ cond (nat_eq i j && bytes_eq x y) (Some w.index) (option_map (λ (e : Last). e.index) (entry old j y))
+  index_of_put old new i x w puts j y = ap (option_map (λ (e : Last). e.index)) (puts j y) ∙ through (nat_eq i j && bytes_eq x y)
     where
-      through : (b : Bool) → option_map (λ (e : Last). e.number) (cond b (Some w) (entry old j y)) ≡ cond b (Some w.number) (option_map (λ (e : Last). e.number) (entry old j y))
+      through : (b : Bool) → option_map (λ (e : Last). e.index) (cond b (Some w) (entry old j y)) ≡ cond b (Some w.index) (option_map (λ (e : Last). e.index) (entry old j y))
       through true = refl
       through false = refl
 
-  pub listed-push : (xs : List X) (y : X) (old new : List (Key × Last)) (w : Last) → Puts old new (owner y) (name y) w → w.number ≡ length xs → stands y ≡ true
+  pub listed-push : (xs : List X) (y : X) (old new : List (Key × Last)) (w : Last) → Puts old new (owner y) (name y) w → w.index ≡ length xs → stands y ≡ true
       → Adds (listed owner name stands xs old) (listed owner name stands (xs ++ y ∷ []) new) (owner y) (name y)
-  listed-push xs y old new w puts number here = record {
+  listed-push xs y old new w puts index here = record {
     size = length-append xs (y ∷ []);
     owner = λ k below. ap (λ o. option_map_or owner o 0) (slice_get-push_old xs y k below);
     name = λ k below. ap (λ o. option_map_or name o []) (slice_get-push_old xs y k below);
@@ -205,7 +205,7 @@ module _ {X : Type 0} (owner : X → ℕ) (name : X → Name) (stands : X → Bo
     new_owner = ap (λ o. option_map_or owner o 0) (slice_get-push_new xs y (length xs) refl);
     new_name = ap (λ o. option_map_or name o []) (slice_get-push_new xs y (length xs) refl);
     new_stands = ap (λ o. option_map_or stands o false) (slice_get-push_new xs y (length xs) refl) ∙ here;
-    last = λ j z. number_of_put old new (owner y) (name y) w puts j z ∙ ap (λ n. cond (nat_eq (owner y) j && bytes_eq (name y) z) (Some n) (option_map (λ (e : Last). e.number) (entry old j z))) number;
+    last = λ j z. index_of_put old new (owner y) (name y) w puts j z ∙ ap (λ n. cond (nat_eq (owner y) j && bytes_eq (name y) z) (Some n) (option_map (λ (e : Last). e.index) (entry old j z))) index;
   }
 
   pub listed-drop : (xs : List X) (k : ℕ) (y z : X) (entries : List (Key × Last)) → slice_get xs k ≡ Some y → owner z ≡ owner y → name z ≡ name y → stands z ≡ false
@@ -224,18 +224,18 @@ module _ {X : Type 0} (owner : X → ℕ) (name : X → Name) (stands : X → Bo
   }
 
   -- a thing that stands is met again
-  last_again : (xs : List X) (old new : List (Key × Last)) (i : ℕ) (x : Name) (w : Last) → Puts old new i x w → found (listed owner name stands xs old) i x ≡ Some w.number
-      → (j : ℕ) (y : Name) → option_map (λ (e : Last). e.number) (entry new j y) ≡ option_map (λ (e : Last). e.number) (entry old j y)
+  last_again : (xs : List X) (old new : List (Key × Last)) (i : ℕ) (x : Name) (w : Last) → Puts old new i x w → found (listed owner name stands xs old) i x ≡ Some w.index
+      → (j : ℕ) (y : Name) → option_map (λ (e : Last). e.index) (entry new j y) ≡ option_map (λ (e : Last). e.index) (entry old j y)
   last_again xs old new i x w puts there j y =
-      number_of_put old new i x w puts j y
-      ∙ bool_cases (nat_eq i j && bytes_eq x y) (cond (nat_eq i j && bytes_eq x y) (Some w.number) (option_map (λ (e : Last). e.number) (entry old j y)) ≡ option_map (λ (e : Last). e.number) (entry old j y))
+      index_of_put old new i x w puts j y
+      ∙ bool_cases (nat_eq i j && bytes_eq x y) (cond (nat_eq i j && bytes_eq x y) (Some w.index) (option_map (λ (e : Last). e.index) (entry old j y)) ≡ option_map (λ (e : Last). e.index) (entry old j y))
       (λ t.
       let c : (i ≡ j) × (x ≡ y) = key_is i j x y t in
-      let last : option_map (λ (e : Last). e.number) (entry old i x) ≡ Some w.number = (found_is (listed owner name stands xs old) i x w.number there).0 in
+      let last : option_map (λ (e : Last). e.index) (entry old i x) ≡ Some w.index = (found_is (listed owner name stands xs old) i x w.index there).0 in
       rw t (sym (rw (c.0, c.1) at last)))
       (λ f. rw f refl)
 
-  pub listed-again : (xs : List X) (old new : List (Key × Last)) (i : ℕ) (x : Name) (w : Last) → Puts old new i x w → found (listed owner name stands xs old) i x ≡ Some w.number
+  pub listed-again : (xs : List X) (old new : List (Key × Last)) (i : ℕ) (x : Name) (w : Last) → Puts old new i x w → found (listed owner name stands xs old) i x ≡ Some w.index
       → Keeps (listed owner name stands xs old) (listed owner name stands xs new)
   listed-again xs old new i x w puts there = record {
     size = refl;
@@ -246,7 +246,7 @@ module _ {X : Type 0} (owner : X → ℕ) (name : X → Name) (stands : X → Bo
   }
 
   pub listed-written : (xs : List X) (k : ℕ) (y z : X) (old new : List (Key × Last)) (i : ℕ) (x : Name) (w : Last) → slice_get xs k ≡ Some y → owner z ≡ owner y → name z ≡ name y → stands z ≡ stands y
-      → Puts old new i x w → found (listed owner name stands xs old) i x ≡ Some w.number
+      → Puts old new i x w → found (listed owner name stands xs old) i x ≡ Some w.index
       → Keeps (listed owner name stands xs old) (listed owner name stands (slice_set xs k z) new)
   listed-written xs k y z old new i x w at same_owner same_name same_stands puts there = record {
     size = length-set xs k z;

@@ -105,16 +105,16 @@ root-pushed nodes new n entries h none e =
     subst (λ xs. HasNodes xs entries) (sym (e ∙ ap (λ xs. xs ++ n ∷ []) empty)) (root-made n entries (subst (λ xs. HasNodes xs entries) empty h))
 
 pub child-added : (nodes : List Node) (n : Node) (old new : List (Key × Last)) (w : Last) → HasNodes nodes old → n.parent < length nodes
-    → found (nodes_listed nodes old) n.parent (name_said n.name) ≡ None → Puts old new n.parent (name_said n.name) w → w.number ≡ length nodes → n.stands ≡ true → HasNodes (nodes ++ n ∷ []) new
-child-added nodes n old new w h inside none puts number here = record {
+    → found (nodes_listed nodes old) n.parent (name_said n.name) ≡ None → Puts old new n.parent (name_said n.name) w → w.index ≡ length nodes → n.stands ≡ true → HasNodes (nodes ++ n ∷ []) new
+child-added nodes n old new w h inside none puts index here = record {
   indexed = indexed-added 1 (nodes_listed nodes old) (nodes_listed (nodes ++ n ∷ []) new) n.parent (name_said n.name) (omega arith) h.indexed none
-      (listed-push (λ (m : Node). m.parent) (λ (m : Node). name_said m.name) (λ (m : Node). m.stands) nodes n old new w puts number here);
+      (listed-push (λ (m : Node). m.parent) (λ (m : Node). name_said m.name) (λ (m : Node). m.stands) nodes n old new w puts index here);
   above = λ k m from there. pushed_cases nodes n k m _ there (λ b e. h.above k m from e) (λ e s. rw (e, ← s) inside);
 }
 
 pub nodes-pushed : (nodes more : List Node) (n : Node) (old new : List (Key × Last)) (w : Last) → HasNodes nodes old → more ≡ nodes ++ n ∷ [] → n.parent < length nodes
-    → found (nodes_listed nodes old) n.parent (name_said n.name) ≡ None → Puts old new n.parent (name_said n.name) w → w.number ≡ length nodes → n.stands ≡ true → HasNodes more new
-nodes-pushed nodes more n old new w h e inside none puts number here = subst (λ xs. HasNodes xs new) (sym e) (child-added nodes n old new w h inside none puts number here)
+    → found (nodes_listed nodes old) n.parent (name_said n.name) ≡ None → Puts old new n.parent (name_said n.name) w → w.index ≡ length nodes → n.stands ≡ true → HasNodes more new
+nodes-pushed nodes more n old new w h e inside none puts index here = subst (λ xs. HasNodes xs new) (sym e) (child-added nodes n old new w h inside none puts index here)
 
 pub node-fallen : (nodes : List Node) (k : ℕ) (n m : Node) (entries : List (Key × Last)) → HasNodes nodes entries → slice_get nodes k ≡ Some n → m.parent ≡ n.parent → name_said m.name ≡ name_said n.name → m.stands ≡ false
     → HasNodes (slice_set nodes k m) entries
@@ -125,7 +125,7 @@ node-fallen nodes k n m entries h there parent name fell = record {
       (λ e b s. rw (← s, parent) (h.above j n from (subst (λ i. slice_get nodes i ≡ Some n) e there)));
 }
 
-pub child-again : (nodes : List Node) (old new : List (Key × Last)) (i : ℕ) (x : Name) (w : Last) → HasNodes nodes old → Puts old new i x w → found (nodes_listed nodes old) i x ≡ Some w.number → HasNodes nodes new
+pub child-again : (nodes : List Node) (old new : List (Key × Last)) (i : ℕ) (x : Name) (w : Last) → HasNodes nodes old → Puts old new i x w → found (nodes_listed nodes old) i x ≡ Some w.index → HasNodes nodes new
 child-again nodes old new i x w h puts there = record {
   indexed = indexed-kept 1 (nodes_listed nodes old) (nodes_listed nodes new) h.indexed
       (listed-again (λ (m : Node). m.parent) (λ (m : Node). name_said m.name) (λ (m : Node). m.stands) nodes old new i x w puts there);
@@ -160,21 +160,21 @@ pub properties-kept : (size more : ℕ) (properties : List Property) (entries : 
 properties-kept size more properties entries le h = record { indexed = h.indexed; owned = λ k q there. omega (arith, h.owned k q there, le) }
 
 pub property-added : (size : ℕ) (properties : List Property) (q : Property) (old new : List (Key × Last)) (w : Last) → HasProperties size properties old → q.node < size
-    → found (properties_listed properties old) q.node q.name.now ≡ None → Puts old new q.node q.name.now w → w.number ≡ length properties → q.stands ≡ true
+    → found (properties_listed properties old) q.node q.name.now ≡ None → Puts old new q.node q.name.now w → w.index ≡ length properties → q.stands ≡ true
     → HasProperties size (properties ++ q ∷ []) new
-property-added size properties q old new w h inside none puts number here = record {
+property-added size properties q old new w h inside none puts index here = record {
   indexed = indexed-added 0 (properties_listed properties old) (properties_listed (properties ++ q ∷ []) new) q.node q.name.now (omega arith) h.indexed none
-      (listed-push (λ (m : Property). m.node) (λ (m : Property). m.name.now) (λ (m : Property). m.stands) properties q old new w puts number here);
+      (listed-push (λ (m : Property). m.node) (λ (m : Property). m.name.now) (λ (m : Property). m.stands) properties q old new w puts index here);
   owned = λ k r there. pushed_cases properties q k r _ there (λ b e. h.owned k r e) (λ e s. rw (← s) inside);
 }
 
 pub properties-pushed : (size : ℕ) (properties more : List Property) (q : Property) (old new : List (Key × Last)) (w : Last) → HasProperties size properties old → more ≡ properties ++ q ∷ [] → q.node < size
-    → found (properties_listed properties old) q.node q.name.now ≡ None → Puts old new q.node q.name.now w → w.number ≡ length properties → q.stands ≡ true → HasProperties size more new
-properties-pushed size properties more q old new w h e inside none puts number here = subst (λ xs. HasProperties size xs new) (sym e) (property-added size properties q old new w h inside none puts number here)
+    → found (properties_listed properties old) q.node q.name.now ≡ None → Puts old new q.node q.name.now w → w.index ≡ length properties → q.stands ≡ true → HasProperties size more new
+properties-pushed size properties more q old new w h e inside none puts index here = subst (λ xs. HasProperties size xs new) (sym e) (property-added size properties q old new w h inside none puts index here)
 
 pub property-written : (size : ℕ) (properties : List Property) (k : ℕ) (q r : Property) (old new : List (Key × Last)) (i : ℕ) (x : Name) (w : Last) → HasProperties size properties old
     → slice_get properties k ≡ Some q → r.node ≡ q.node → r.name.now ≡ q.name.now → r.stands ≡ q.stands → Puts old new i x w
-    → found (properties_listed properties old) i x ≡ Some w.number → HasProperties size (slice_set properties k r) new
+    → found (properties_listed properties old) i x ≡ Some w.index → HasProperties size (slice_set properties k r) new
 property-written size properties k q r old new i x w h there node name stands puts last = record {
   indexed = indexed-kept 0 (properties_listed properties old) (properties_listed (slice_set properties k r) new) h.indexed
       (listed-written (λ (m : Property). m.node) (λ (m : Property). m.name.now) (λ (m : Property). m.stands) properties k q r old new i x w there node name stands puts last);
@@ -191,7 +191,7 @@ property-fallen size properties k q r entries h there node name fell = record {
 
 pub properties-written : (size : ℕ) (properties new : List Property) (k : ℕ) (q r : Property) (old more : List (Key × Last)) (i : ℕ) (x : Name) (w : Last) → HasProperties size properties old
     → slice_get properties k ≡ Some q → r.node ≡ q.node → r.name.now ≡ q.name.now → r.stands ≡ q.stands → Puts old more i x w
-    → found (properties_listed properties old) i x ≡ Some w.number → new ≡ slice_set properties k r → HasProperties size new more
+    → found (properties_listed properties old) i x ≡ Some w.index → new ≡ slice_set properties k r → HasProperties size new more
 properties-written size properties new k q r old more i x w h there node name stands puts last e =
     subst (λ xs. HasProperties size xs more) (sym e) (property-written size properties k q r old more i x w h there node name stands puts last)
 
@@ -258,7 +258,7 @@ labels-kept s t givings entries le stood h = record {
 pub label-given : (s t : Shape (List Part)) (givings : List Giving) (g : Giving) (old new : List (Bor (List ℕ) × ℕ)) (w : ℕ) → t.size ≡ s.size → ((p : Stack) → node_at t p ≡ node_at s p)
     → s.given ≡ given_to givings old → HasLabels s givings old → g.node < s.size → ((p : Stack) → given_at s (p, g.label.now) ≡ None) → PutsName old new g.label.now w → w ≡ length givings
     → HasLabels t (givings ++ g ∷ []) new
-label-given s t givings g old new w size same given h inside alone puts number = record {
+label-given s t givings g old new w size same given h inside alone puts index = record {
   sound = λ l k e.
       put_there l k (bytes_eq g.label.now l) refl (sym (puts l) ∙ e);
   owned = λ k x there. rw size (pushed_cases givings g k x _ there (λ b e. h.owned k x e) (λ e z. rw (← z) inside));
@@ -267,11 +267,11 @@ label-given s t givings g old new w size same given h inside alone puts number =
       (λ b e. stays p k x e (sym (same p) ∙ at))
       (λ e z.
       let test : bytes_eq g.label.now x.label.now ≡ true = rw (← z) (bytes_eq-refl g.label.now) in
-      puts x.label.now ∙ ap (λ c. cond c (Some w) (name_entry old x.label.now)) test ∙ ap Some (number ∙ sym e));
+      puts x.label.now ∙ ap (λ c. cond c (Some w) (name_entry old x.label.now)) test ∙ ap Some (index ∙ sym e));
 }
   where
     put_there : (l : Name) (k : ℕ) (b : Bool) → bytes_eq g.label.now l ≡ b → cond b (Some w) (name_entry old l) ≡ Some k → (x : Giving) × (slice_get (givings ++ g ∷ []) k ≡ Some x) × (x.label.now ≡ l)
-    put_there l k true t e = let wk : w ≡ k = cc in (g, slice_get-push_new givings g k (sym wk ∙ number), bytes_eq-is g.label.now l t)
+    put_there l k true t e = let wk : w ≡ k = cc in (g, slice_get-push_new givings g k (sym wk ∙ index), bytes_eq-is g.label.now l t)
     put_there l k false f e = let x = h.sound l k e in (x.0, slice_get-push_old givings g k (slice_get_within givings k x.0 x.1) ∙ x.1, x.2)
 
     stays : (p : Stack) (k : ℕ) (x : Giving) → slice_get givings k ≡ Some x → node_at s p ≡ Some x.node → name_entry new x.label.now ≡ Some k
@@ -293,8 +293,8 @@ label-given s t givings g old new w size same given h inside alone puts number =
 pub labels-given : (s t : Shape (List Part)) (givings more : List Giving) (g : Giving) (old new : List (Bor (List ℕ) × ℕ)) (w : ℕ) → t.size ≡ s.size → ((p : Stack) → node_at t p ≡ node_at s p)
     → s.given ≡ given_to givings old → HasLabels s givings old → g.node < s.size → ((p : Stack) → given_at s (p, g.label.now) ≡ None) → PutsName old new g.label.now w → w ≡ length givings
     → more ≡ givings ++ g ∷ [] → HasLabels t more new
-labels-given s t givings more g old new w size same given h inside alone puts number e =
-    subst (λ xs. HasLabels t xs new) (sym e) (label-given s t givings g old new w size same given h inside alone puts number)
+labels-given s t givings more g old new w size same given h inside alone puts index e =
+    subst (λ xs. HasLabels t xs new) (sym e) (label-given s t givings g old new w size same given h inside alone puts index)
 
 -- ---- a sound tree is a forest
 
@@ -308,11 +308,11 @@ forest g h = record {
       let cd : c.node ≡ d.node = cc in
       (sym c.parent ∙ ap (λ (n : Node). n.parent) cd ∙ d.parent, sym c.name ∙ ap (λ (n : Node). name_said n.name) cd ∙ d.name);
   placed = λ i n k e.
-      let c = is_property (length g.nodes.items) g.properties.items g.places.map.entries h.properties i n k e in
+      let c = is_property (length g.nodes.items) g.properties.items g.indices.map.entries h.properties i n k e in
       (rw (← c.node) (h.properties.owned k c.property c.there), slice_get_within g.properties.items k c.property c.there);
   placed_once = λ i n j m k e e'.
-      let c = is_property (length g.nodes.items) g.properties.items g.places.map.entries h.properties i n k e in
-      let d = is_property (length g.nodes.items) g.properties.items g.places.map.entries h.properties j m k e' in
+      let c = is_property (length g.nodes.items) g.properties.items g.indices.map.entries h.properties i n k e in
+      let d = is_property (length g.nodes.items) g.properties.items g.indices.map.entries h.properties j m k e' in
       let same : Some c.property ≡ Some d.property = sym c.there ∙ d.there in
       let cd : c.property ≡ d.property = cc in
       (sym c.node ∙ ap (λ (q : Property). q.node) cd ∙ d.node, sym c.name ∙ ap (λ (q : Property). q.name.now) cd ∙ d.name);

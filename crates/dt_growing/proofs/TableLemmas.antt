@@ -16,7 +16,7 @@ both true true h = (refl, refl)
 both true false h = cc
 both false b h = cc
 
--- the test of a number and a name is passed by exactly one key's content
+-- the test of an index and a name is passed by exactly one key's content
 pub key_is : (i j : ℕ) (x y : Name) → (nat_eq i j && bytes_eq x y) ≡ true → (i ≡ j) × (x ≡ y)
 key_is i j x y h = let p = both (nat_eq i j) (bytes_eq x y) h in (eqb-true i j p.0, (bytes_eq-Decides x y).0 p.1)
 

@@ -75,7 +75,7 @@ listed owner name stands xs entries = record {
   owner = λ k. option_map_or owner (slice_get xs k) 0;
   name = λ k. option_map_or name (slice_get xs k) [];
   stands = λ k. option_map_or stands (slice_get xs k) false;
-  last = λ i x. option_map (λ e. e.number) (entry entries i x);
+  last = λ i x. option_map (λ e. e.index) (entry entries i x);
 }
 
 abbrev pub nodes_listed : List Node → List (Key × Last) → Listing
@@ -97,20 +97,20 @@ abbrev pub given_to : List Giving → List (Bor (List ℕ) × ℕ) → ℕ → N
 given_to givings entries i l = option_and_then (to_node givings i) (name_entry entries l)
 
 abbrev pub shape_of : List Node → List (Key × Last) → List Property → List (Key × Last) → List Giving → List (Bor (List ℕ) × ℕ) → Shape (List Part)
-shape_of nodes children properties places givings labels = record {
+shape_of nodes children properties indices givings labels = record {
   size = length nodes;
   child = found (nodes_listed nodes children);
   opened = item_of children;
   count = length properties;
-  place = found (properties_listed properties places);
+  property = found (properties_listed properties indices);
   value = λ k. option_map (λ q. value_said q.value.now) (slice_get properties k);
-  defined = item_of places;
+  defined = item_of indices;
   givings = length givings;
   given = given_to givings labels;
 }
 
 abbrev pub shape : Growing → Shape (List Part)
-shape g = shape_of g.nodes.items g.children.map.entries g.properties.items g.places.map.entries g.givings.items g.labels.map.entries
+shape g = shape_of g.nodes.items g.children.map.entries g.properties.items g.indices.map.entries g.givings.items g.labels.map.entries
 
 -- ---- what holds of each tree
 
@@ -120,8 +120,8 @@ pub record HasNodes (nodes : List Node) (children : List (Key × Last)) : Type 0
   pub above : AreAbove nodes
 
 -- the properties are found by their nodes and their names
-pub record HasProperties (size : ℕ) (properties : List Property) (places : List (Key × Last)) : Type 0 where
-  pub indexed : IsIndexed 0 (properties_listed properties places)
+pub record HasProperties (size : ℕ) (properties : List Property) (indices : List (Key × Last)) : Type 0 where
+  pub indexed : IsIndexed 0 (properties_listed properties indices)
   pub owned : (k : ℕ) (q : Property) → slice_get properties k ≡ Some q → q.node < size
 
 -- a giving that is found is one of the label; and those to nodes that stand are found
@@ -132,5 +132,5 @@ pub record HasLabels (s : Shape (List Part)) (givings : List Giving) (labels : L
 
 pub record IsSound (g : Growing) : Type 0 where
   pub nodes : HasNodes g.nodes.items g.children.map.entries
-  pub properties : HasProperties (length g.nodes.items) g.properties.items g.places.map.entries
+  pub properties : HasProperties (length g.nodes.items) g.properties.items g.indices.map.entries
   pub labels : HasLabels (shape g) g.givings.items g.labels.map.entries

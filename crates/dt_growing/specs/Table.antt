@@ -1,4 +1,4 @@
--- Tables from a number and a name, or from a name alone.
+-- Tables from an index and a name, or from a name alone.
 use Rattle.std.specs.Prelude.{◌≡◌, ℕ, List, Option, Some, ◌&&◌, nat_eq, cond}
 use Rattle.std.specs.Borrow.{Bor}
 use Rattle.std.specs.Map.{lookup}
@@ -6,15 +6,15 @@ use Rattle.std.specs.Str.{bytes_eq}
 use Rattle.dt_model.specs.Names.{Name}
 use Rattle.dt_growing.specs.declared.table.Last.{Last}
 
--- a key is a number and the bytes of a name, which are borrowed
+-- a key is an index and the bytes of a name, which are borrowed
 abbrev pub Key : Type 0
 Key = ℕ × Bor (List ℕ)
 
--- the entry of the number i and the name x
+-- the entry of the index i and the name x
 abbrev pub entry : List (Key × Last) → ℕ → Name → Option Last
 entry entries i x = lookup (λ (k : Key). nat_eq i k.0 && bytes_eq x k.1.now) entries
 
--- the new entries are the old ones with w at the number i and the name x
+-- the new entries are the old ones with w at the index i and the name x
 abbrev pub Puts : List (Key × Last) → List (Key × Last) → ℕ → Name → Last → Type 0
 Puts old new i x w = (j : ℕ) (y : Name) → entry new j y ≡ cond (nat_eq i j && bytes_eq x y) (Some w) (entry old j y)
 

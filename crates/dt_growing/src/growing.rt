@@ -64,16 +64,16 @@ pub struct Growing<'s, 'a> {
     pub properties: Vec<Property<'s, 'a>>,
     pub givings: Vec<Giving<'a>>,
     pub children: Table<'s>,
-    pub places: Table<'a>,
+    pub indices: Table<'a>,
     pub labels: NameTable<'a>,
 }
 
 /// Puts a thing in the place of another.
-fn write<T: Drop>(things: &mut Vec<T>, place: usize, thing: T)
-    requires { place < length things.old.items }
-    ensures { things.new.items ≡ slice_set things.old.items place thing }
+fn write<T: Drop>(things: &mut Vec<T>, index: usize, thing: T)
+    requires { index < length things.old.items }
+    ensures { things.new.items ≡ slice_set things.old.items index thing }
 {
-    things[place] = thing;
+    things[index] = thing;
 }
 
 impl<'s, 'a> Growing<'s, 'a> {
@@ -83,7 +83,7 @@ impl<'s, 'a> Growing<'s, 'a> {
         ensures properties { result.properties.items ≡ [] }
         ensures givings { result.givings.items ≡ [] }
         ensures children { result.children.map.entries ≡ [] }
-        ensures places { result.places.map.entries ≡ [] }
+        ensures indices { result.indices.map.entries ≡ [] }
         ensures sound { IsSound result }
     {
         Growing {
@@ -91,7 +91,7 @@ impl<'s, 'a> Growing<'s, 'a> {
             properties: Vec::new(alloc),
             givings: Vec::new(alloc),
             children: Table::new(alloc, seed),
-            places: Table::new(alloc, seed),
+            indices: Table::new(alloc, seed),
             labels: NameTable::new(alloc, seed),
         }
     }
@@ -102,8 +102,8 @@ impl<'s, 'a> Growing<'s, 'a> {
         ensures { result ≡ (shape self.now).child parent name.now }
     {
         let last = self.children.get(parent, name)?;
-        if self.nodes[last.number].stands {
-            Some(last.number)
+        if self.nodes[last.index].stands {
+            Some(last.index)
         } else {
             None
         }
@@ -112,11 +112,11 @@ impl<'s, 'a> Growing<'s, 'a> {
     /// The property of a name, where one stands.
     pub fn property(&self, node: usize, name: &[u8]) -> Option<usize>
         requires { IsSound self.now }
-        ensures { result ≡ (shape self.now).place node name.now }
+        ensures { result ≡ (shape self.now).property node name.now }
     {
-        let last = self.places.get(node, name)?;
-        if self.properties[last.number].stands {
-            Some(last.number)
+        let last = self.indices.get(node, name)?;
+        if self.properties[last.index].stands {
+            Some(last.index)
         } else {
             None
         }
@@ -133,7 +133,7 @@ impl<'s, 'a> Growing<'s, 'a> {
     pub fn defined(&self, node: usize, name: &[u8]) -> Option<usize>
         ensures { result ≡ (shape self.now).defined node name.now }
     {
-        Some(self.places.get(node, name)?.item)
+        Some(self.indices.get(node, name)?.item)
     }
 
     fn make_root(&mut self) -> Result<(), AllocError>
@@ -173,19 +173,19 @@ impl<'s, 'a> Growing<'s, 'a> {
         requires sound { IsSound self.old }
         requires inside { parent < length self.old.nodes.items }
         requires absent { (shape self.old).child parent (name_said name) ≡ None }
-        ensures number { IfOk result (λ node. node ≡ length self.old.nodes.items) }
+        ensures index { IfOk result (λ node. node ≡ length self.old.nodes.items) }
         ensures added { OnOk result (AddsChild (shape self.old) (shape self.new) parent (name_said name.entry) item) }
         ensures sound { OnOk result (IsSound self.new) }
     {
-        let number = self.nodes.len();
+        let index = self.nodes.len();
         self.nodes.push(Node {
             parent,
             name,
             stands: true,
         })?;
         self.children
-            .put(parent, name.bytes(), Last { number, item })?;
-        Ok(number)
+            .put(parent, name.bytes(), Last { index, item })?;
+        Ok(index)
     }
 
     fn open_again(
@@ -197,12 +197,12 @@ impl<'s, 'a> Growing<'s, 'a> {
     ) -> Result<usize, AllocError>
         requires sound { IsSound self.old }
         requires there { (shape self.old).child parent (name_said name) ≡ Some node }
-        ensures number { IfOk result (λ n. n ≡ node) }
+        ensures index { IfOk result (λ n. n ≡ node) }
         ensures opened { OnOk result (OpensChild (shape self.old) (shape self.new) parent (name_said name.entry) item) }
         ensures sound { OnOk result (IsSound self.new) }
     {
         self.children
-            .put(parent, name.bytes(), Last { number: node, item })?;
+            .put(parent, name.bytes(), Last { index: node, item })?;
         Ok(node)
     }
 
@@ -257,30 +257,23 @@ impl<'s, 'a> Growing<'s, 'a> {
         &mut self,
         node: usize,
         name: &'a [u8],
-        place: usize,
+        index: usize,
         value: &'s Value<'a>,
         item: usize,
     ) -> Result<(), AllocError>
         requires sound { IsSound self.old }
-        requires there { (shape self.old).place node name.now ≡ Some place }
+        requires there { (shape self.old).property node name.now ≡ Some index }
         ensures defined { OnOk result (Defines (shape self.old) (shape self.new) node name.now (value_said value.now) item) }
         ensures sound { OnOk result (IsSound self.new) }
     {
-        self.places.put(
-            node,
-            name,
-            Last {
-                number: place,
-                item,
-            },
-        )?;
+        self.indices.put(node, name, Last { index, item })?;
         let property = Property {
             node,
             name,
             value,
             stands: true,
         };
-        write(&mut self.properties, place, property);
+        write(&mut self.properties, index, property);
         Ok(())
     }
 
@@ -293,18 +286,18 @@ impl<'s, 'a> Growing<'s, 'a> {
     ) -> Result<(), AllocError>
         requires sound { IsSound self.old }
         requires inside { node < length self.old.nodes.items }
-        requires absent { (shape self.old).place node name.now ≡ None }
+        requires absent { (shape self.old).property node name.now ≡ None }
         ensures defined { OnOk result (Defines (shape self.old) (shape self.new) node name.now (value_said value.now) item) }
         ensures sound { OnOk result (IsSound self.new) }
     {
-        let number = self.properties.len();
+        let index = self.properties.len();
         self.properties.push(Property {
             node,
             name,
             value,
             stands: true,
         })?;
-        self.places.put(node, name, Last { number, item })?;
+        self.indices.put(node, name, Last { index, item })?;
         Ok(())
     }
 
@@ -322,28 +315,28 @@ impl<'s, 'a> Growing<'s, 'a> {
         ensures sound { OnOk result (IsSound self.new) }
     {
         match self.property(node, name) {
-            Some(place) => self.define_again(node, name, place, value, item),
+            Some(index) => self.define_again(node, name, index, value, item),
             None => self.add_property(node, name, value, item),
         }
     }
 
-    fn drop_property(&mut self, place: usize)
+    fn drop_property(&mut self, index: usize)
         requires sound { IsSound self.old }
-        requires inside { place < length self.old.properties.items }
-        requires stands { (properties_listed self.old.properties.items self.old.places.map.entries).stands place ≡ true }
+        requires inside { index < length self.old.properties.items }
+        requires stands { (properties_listed self.old.properties.items self.old.indices.map.entries).stands index ≡ true }
         ensures dropped { Undefines (shape self.old) (shape self.new)
-            ((properties_listed self.old.properties.items self.old.places.map.entries).owner place)
-            ((properties_listed self.old.properties.items self.old.places.map.entries).name place) }
+            ((properties_listed self.old.properties.items self.old.indices.map.entries).owner index)
+            ((properties_listed self.old.properties.items self.old.indices.map.entries).name index) }
         ensures sound { IsSound self.new }
     {
-        let property = &self.properties[place];
+        let property = &self.properties[index];
         let fallen = Property {
             node: property.node,
             name: property.name,
             value: property.value,
             stands: false,
         };
-        write(&mut self.properties, place, fallen);
+        write(&mut self.properties, index, fallen);
     }
 
     /// Deletes a property, where one stands.
@@ -352,8 +345,8 @@ impl<'s, 'a> Growing<'s, 'a> {
         ensures dropped { Undefines (shape self.old) (shape self.new) node name.now }
         ensures sound { IsSound self.new }
     {
-        if let Some(place) = self.property(node, name) {
-            self.drop_property(place);
+        if let Some(index) = self.property(node, name) {
+            self.drop_property(index);
         }
     }
 
@@ -365,9 +358,9 @@ impl<'s, 'a> Growing<'s, 'a> {
         ensures given { OnOk result (Gives (shape self.old) (shape self.new) label.now node) }
         ensures sound { OnOk result (IsSound self.new) }
     {
-        let number = self.givings.len();
+        let index = self.givings.len();
         self.givings.push(Giving { label, node })?;
-        self.labels.put(label, number)?;
+        self.labels.put(label, index)?;
         Ok(())
     }
 }

@@ -10,17 +10,17 @@ use std::collections::HashMap;
 /// The thing that was last made of an owner and a name, and the item that last made it or met it again.
 #[derive(Clone, Copy)]
 pub struct Last {
-    pub number: usize,
+    pub index: usize,
     pub item: usize,
 }
 
-/// From the number of an owner and a name.
+/// From the index of an owner and a name.
 #[derive(Drop)]
 pub struct Table<'a> {
     pub map: HashMap<(usize, &'a [u8]), Last, Seed>,
 }
 
-/// From a name to a number.
+/// From a name to an index.
 #[derive(Drop)]
 pub struct NameTable<'a> {
     pub map: HashMap<&'a [u8], usize, Seed>,

@@ -1,4 +1,4 @@
--- Values with numbers in the place of paths: they are read exactly where the values are, and mean the same.
+-- Values with places for paths: they are read exactly where the values are, and mean the same.
 use Rattle.std.proofs.Common.{◌≡◌, ℕ, Bool, true, false, cond, List, [], ◌∷◌, ◌++◌, map, reverse, Option, None, Some, is_some, option_map, refl, sym, ap, subst, ◌∙◌, append_assoc, append-nil}
 use Rattle.std.specs.List.{AllByRecursion}
 use Rattle.std.specs.Option.{option_and_then, option_or}
@@ -126,7 +126,7 @@ module _ (es : Events) where
 
 -- ---- what values refer to
 
-module _ (unnamed : Unnamed) (es : Events) (number : Stack → ℕ) (P : NodeReference → Type 0) (holds : (r : Reference) (p : Stack) → referent es r ≡ Some p → P (inside (number p)))
+module _ (unnamed : Unnamed) (es : Events) (place : Stack → ℕ) (P : NodeReference → Type 0) (holds : (r : Reference) (p : Stack) → referent es r ≡ Some p → P (inside (place p)))
     (labels : (l : Name) → IsLabel l → P (outside l)) where
   bytes_refer : (bs : List ℕ) → EachReference P (map byte bs)
   bytes_refer [] = tt
@@ -137,30 +137,30 @@ module _ (unnamed : Unnamed) (es : Events) (number : Stack → ℕ) (P : NodeRef
   each_append (byte b ∷ xs) ys h g = each_append xs ys h g
   each_append (reference r ∷ xs) ys h g = (h.0, each_append xs ys h.1 g)
 
-  cell_refers : (r : Reference) → IsLabelledPart unnamed (number_of r) → (q : NodeReference) → named_cell unnamed es number r ≡ Some q → P q
+  cell_refers : (r : Reference) → IsLabelledPart unnamed (number_of r) → (q : NodeReference) → named_cell unnamed es place r ≡ Some q → P q
   cell_refers r labelled q h = step (referent es r) refl (kept_label unnamed r) refl h
     where
       step : (o : Option Stack) → referent es r ≡ o → (k : Option Name) → kept_label unnamed r ≡ k →
-          option_or (option_map (λ p. inside (number p)) o) (option_map outside k) ≡ Some q → P q
+          option_or (option_map (λ p. inside (place p)) o) (option_map outside k) ≡ Some q → P q
       step None e None f g = cc
       step None e (Some l) f g = let same : outside l ≡ q = cc in subst P same (labels l (labelled l f))
-      step (Some p) e k f g = let same : inside (number p) ≡ q = cc in subst P same (holds r p e)
+      step (Some p) e k f g = let same : inside (place p) ≡ q = cc in subst P same (holds r p e)
 
-  part_refers : (x : Part) → IsLabelledPart unnamed x → (items : List (Item NodeReference)) → named_part unnamed es number x ≡ Some items → EachReference P items
+  part_refers : (x : Part) → IsLabelledPart unnamed x → (items : List (Item NodeReference)) → named_part unnamed es place x ≡ Some items → EachReference P items
   part_refers (one b) labelled items h = let same : byte b ∷ [] ≡ items = cc in subst (EachReference P) same tt
   part_refers (number_of r) labelled items h =
-      let found = map_some (λ q. reference q ∷ []) (named_cell unnamed es number r) items h in
+      let found = map_some (λ q. reference q ∷ []) (named_cell unnamed es place r) items h in
       subst (EachReference P) found.2 (cell_refers r labelled found.0 found.1, tt)
   part_refers (text_of r) labelled items h =
       let found = map_some (λ p. map byte (path_value (reverse p))) (referent es r) items h in
       subst (EachReference P) found.2 (bytes_refer (path_value (reverse found.0)))
 
-  pub parts_refer : (xs : List Part) → AllByRecursion (IsLabelledPart unnamed) xs → (items : List (Item NodeReference)) → named_parts unnamed es number xs ≡ Some items → EachReference P items
+  pub parts_refer : (xs : List Part) → AllByRecursion (IsLabelledPart unnamed) xs → (items : List (Item NodeReference)) → named_parts unnamed es place xs ≡ Some items → EachReference P items
   parts_refer [] labelled items h = let same : [] ≡ items = cc in subst (EachReference P) same tt
   parts_refer (x ∷ xs) labelled items h =
-      let more : List (Item NodeReference) → Option (List (Item NodeReference)) = λ first. option_map (λ others. first ++ others) (named_parts unnamed es number xs) in
-      let first = then_some more (named_part unnamed es number x) items h in
-      let rest = map_some (λ others. first.0 ++ others) (named_parts unnamed es number xs) items first.2 in
+      let more : List (Item NodeReference) → Option (List (Item NodeReference)) = λ first. option_map (λ others. first ++ others) (named_parts unnamed es place xs) in
+      let first = then_some more (named_part unnamed es place x) items h in
+      let rest = map_some (λ others. first.0 ++ others) (named_parts unnamed es place xs) items first.2 in
       subst (EachReference P) rest.2 (each_append first.0 rest.0 (part_refers x labelled.0 first.0 first.1) (parts_refer xs labelled.1 rest.0 rest.1))
 
 -- ---- parts behind parts
@@ -196,10 +196,10 @@ pub map_keeps : {A B : Type 0} (f : A → B) (o : Option A) → is_some (option_
 map_keeps f None = refl
 map_keeps f (Some x) = refl
 
-pub parts_some : (unnamed : Unnamed) (es : Events) (number : Stack → ℕ) (xs : List Part) → is_some (named_parts unnamed es number xs) ≡ is_some (all_read unnamed es xs)
-parts_some unnamed es number xs =
+pub parts_some : (unnamed : Unnamed) (es : Events) (place : Stack → ℕ) (xs : List Part) → is_some (named_parts unnamed es place xs) ≡ is_some (all_read unnamed es xs)
+parts_some unnamed es place xs =
     let nothing : ℕ → Unit {0} = λ k. tt in
     let read : Path → Unit {0} = λ p. tt in
-    sym (map_keeps (map (item_renamed (reference_renamed nothing))) (named_parts unnamed es number xs))
-    ∙ (ap is_some (parts_told unnamed es number (λ p. tt) nothing (λ r p e. refl) xs ∙ sym (parts_told unnamed es reverse (λ p. tt) read (λ r p e. refl) xs))
+    sym (map_keeps (map (item_renamed (reference_renamed nothing))) (named_parts unnamed es place xs))
+    ∙ (ap is_some (parts_told unnamed es place (λ p. tt) nothing (λ r p e. refl) xs ∙ sym (parts_told unnamed es reverse (λ p. tt) read (λ r p e. refl) xs))
     ∙ map_keeps (map (item_renamed (reference_renamed read))) (all_read unnamed es xs))

@@ -52,7 +52,7 @@ pub record IsChild (nodes : List Node) (k c : ℕ) : Type 0 where
   pub stands : node.stands ≡ true
   pub parent : node.parent ≡ k
 
--- Each node has exactly its children, in the order of their numbers.
+-- Each node has exactly its children, in the order of their places.
 pub record AreChildren (nodes : List Node) (children : ℕ → List ℕ) : Type 0 where
   pub sound : (k c : ℕ) → IsIn c (children k) → IsChild nodes k c
   pub complete : (k c : ℕ) → k < length nodes → IsChild nodes k c → IsIn c (children k)

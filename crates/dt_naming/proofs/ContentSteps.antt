@@ -20,7 +20,7 @@ use Rattle.dt_named.specs.declared.named.NamedProperty.{NamedProperty}
 use Rattle.dt_named.specs.declared.named.NamedValue.{NamedValue}
 use Rattle.dt_named.specs.declared.named.NamedNode.{NamedNode}
 use Rattle.dt_naming.specs.declared.listing.Row.{Row}
-use Rattle.dt_naming.specs.declared.contents.Belongings.{Belongings}
+use Rattle.dt_naming.specs.declared.belongings.Belongings.{Belongings}
 use Rattle.dt_named.specs.Said.{value_said, property_said, node_said}
 use Rattle.dt_naming.specs.Owned.{group_of}
 use Rattle.dt_naming.specs.Listing.{name_of, listed_row}
@@ -48,25 +48,25 @@ in_more xs i j d h k = step (in_append j (take i xs) (get_or xs i d ∷ []) (sub
 -- ---- one property
 
 -- a property whose value is read
-pub property_read : (unnamed : Unnamed) (g : Growing) (numbers : List (Option ℕ)) (i : ℕ) (q : Property) (v : NamedValue) → slice_get g.properties.items i ≡ Some q →
-    EachNaming g numbers (λ es number. named_parts unnamed es number (source.value_said q.value.now) ≡ Some (value_said v)) →
-    EachNaming g numbers (λ es number. IsPropertyRead unnamed es number g.properties.items i (property_said (record { name = q.name; value = v })))
-property_read unnamed g numbers i q v there h es number limit of by = (made, read)
+pub property_read : (unnamed : Unnamed) (g : Growing) (places : List (Option ℕ)) (i : ℕ) (q : Property) (v : NamedValue) → slice_get g.properties.items i ≡ Some q →
+    EachNaming g places (λ es place. named_parts unnamed es place (source.value_said q.value.now) ≡ Some (value_said v)) →
+    EachNaming g places (λ es place. IsPropertyRead unnamed es place g.properties.items i (property_said (record { name = q.name; value = v })))
+property_read unnamed g places i q v there h es place limit of by = (made, read)
   where
-    parts_named : named_parts unnamed es number (source.value_said q.value.now) ≡ Some (value_said v)
-    parts_named = h es number limit of by
+    parts_named : named_parts unnamed es place (source.value_said q.value.now) ≡ Some (value_said v)
+    parts_named = h es place limit of by
 
-    made : property_said (record { name = q.name; value = v }) ≡ property_at unnamed es number g.properties.items i
+    made : property_said (record { name = q.name; value = v }) ≡ property_at unnamed es place g.properties.items i
     made =
         ap (λ (items : List (Item NodeReference)). record { name = q.name.now; value = items }) (ap (λ (o : Option (List (Item NodeReference))). unwrap_or o []) (sym parts_named))
-        ∙ sym (ap (λ (o : Option Property). option_map_or (named_property unnamed es number) o (record { name = []; value = [] })) there)
+        ∙ sym (ap (λ (o : Option Property). option_map_or (named_property unnamed es place) o (record { name = []; value = [] })) there)
 
     read : AreRead unnamed es g.properties.items (i ∷ [])
     read j p (inl e) at =
         let here : slice_get g.properties.items i ≡ Some p = ap (slice_get g.properties.items) (sym e) ∙ at in
         let same : q ≡ p = cc in
         subst (λ (r : Property). is_some (all_read unnamed es (source.value_said r.value.now)) ≡ true) same
-        (sym (parts_some unnamed es number (source.value_said q.value.now)) ∙ ap is_some parts_named)
+        (sym (parts_some unnamed es place (source.value_said q.value.now)) ∙ ap is_some parts_named)
     read j p (inr none) at = absurd none
 
 why_among : (unnamed : Unnamed) (es : Events) (properties : List Property) (i : ℕ) (q : Property) (kind : FaultKind) → slice_get properties i ≡ Some q → WhyUnread unnamed es (source.value_said q.value.now) kind →
@@ -85,31 +85,31 @@ why_more unnamed es properties xs ys fault.UnresolvedReference more h = (h.0, h.
 why_more unnamed es properties xs ys kind more h = absurd h
 
 -- among others
-pub unread_among : (unnamed : Unnamed) (g : Growing) (places : List ℕ) (k d : ℕ) (e : Fault) → k < length places → IsUnreadAmong unnamed g (get_or places k d ∷ []) e → IsUnreadAmong unnamed g places e
-unread_among unnamed g places k d e near h = (h.0, λ es of. why_more unnamed es g.properties.items (get_or places k d ∷ []) places e.kind among (h.1 es of))
+pub unread_among : (unnamed : Unnamed) (g : Growing) (indices : List ℕ) (k d : ℕ) (e : Fault) → k < length indices → IsUnreadAmong unnamed g (get_or indices k d ∷ []) e → IsUnreadAmong unnamed g indices e
+unread_among unnamed g indices k d e near h = (h.0, λ es of. why_more unnamed es g.properties.items (get_or indices k d ∷ []) indices e.kind among (h.1 es of))
   where
-    among : (i : ℕ) → IsIn i (get_or places k d ∷ []) → IsIn i places
-    among i (inl same) = subst (λ (j : ℕ). IsIn j places) (sym same) (in_read places k d near)
+    among : (i : ℕ) → IsIn i (get_or indices k d ∷ []) → IsIn i indices
+    among i (inl same) = subst (λ (j : ℕ). IsIn j indices) (sym same) (in_read indices k d near)
     among i (inr none) = absurd none
 
 -- one property more
-pub properties_more : (unnamed : Unnamed) (g : Growing) (numbers : List (Option ℕ)) (places : List ℕ) (k d : ℕ) (old new : List NamedProperty) (p : NamedProperty) → k < length places →
+pub properties_more : (unnamed : Unnamed) (g : Growing) (places : List (Option ℕ)) (indices : List ℕ) (k d : ℕ) (old new : List NamedProperty) (p : NamedProperty) → k < length indices →
     new ≡ old ++ p ∷ [] →
-    EachNaming g numbers (λ es number. ArePropertiesRead unnamed es number g.properties.items (take k places) (map property_said old)) →
-    EachNaming g numbers (λ es number. IsPropertyRead unnamed es number g.properties.items (get_or places k d) (property_said p)) →
-    EachNaming g numbers (λ es number. ArePropertiesRead unnamed es number g.properties.items (take (k + 1) places) (map property_said new))
-properties_more unnamed g numbers places k d old new p near e before one es number limit of by =
-    let first = before es number limit of by in
-    let last = one es number limit of by in
-    let at = property_at unnamed es number g.properties.items in (
+    EachNaming g places (λ es place. ArePropertiesRead unnamed es place g.properties.items (take k indices) (map property_said old)) →
+    EachNaming g places (λ es place. IsPropertyRead unnamed es place g.properties.items (get_or indices k d) (property_said p)) →
+    EachNaming g places (λ es place. ArePropertiesRead unnamed es place g.properties.items (take (k + 1) indices) (map property_said new))
+properties_more unnamed g places indices k d old new p near e before one es place limit of by =
+    let first = before es place limit of by in
+    let last = one es place limit of by in
+    let at = property_at unnamed es place g.properties.items in (
       ap (map property_said) e ∙ (map_push property_said old p
           ∙ (ap (λ (ps : List (model.NamedProperty NodeReference)). ps ++ property_said p ∷ []) first.0
-          ∙ (ap (λ (q : model.NamedProperty NodeReference). map at (take k places) ++ q ∷ []) last.0 ∙ sym (map_more at places k d near)))),
-      λ i q among there. step es first.1 last.1 i q there (in_more places k i d near among),
+          ∙ (ap (λ (q : model.NamedProperty NodeReference). map at (take k indices) ++ q ∷ []) last.0 ∙ sym (map_more at indices k d near)))),
+      λ i q among there. step es first.1 last.1 i q there (in_more indices k i d near among),
     )
   where
-    step : (es : Events) → AreRead unnamed es g.properties.items (take k places) → AreRead unnamed es g.properties.items (get_or places k d ∷ []) → (i : ℕ) (q : Property) → slice_get g.properties.items i ≡ Some q →
-        IsIn i (take k places) ⊎ (i ≡ get_or places k d) → is_some (all_read unnamed es (source.value_said q.value.now)) ≡ true
+    step : (es : Events) → AreRead unnamed es g.properties.items (take k indices) → AreRead unnamed es g.properties.items (get_or indices k d ∷ []) → (i : ℕ) (q : Property) → slice_get g.properties.items i ≡ Some q →
+        IsIn i (take k indices) ⊎ (i ≡ get_or indices k d) → is_some (all_read unnamed es (source.value_said q.value.now)) ≡ true
     step es first last i q there (inl among) = first i q among there
     step es first last i q there (inr same) = last i q (inl same) there
 
@@ -126,26 +126,26 @@ label_within g b k i belong among =
     let size = length-map g.givings.items label_owner in omega arith
 
 -- a node whose labels and properties are read
-pub node_read : (unnamed : Unnamed) (g : Growing) (b : Belongings) (r : Row) (n : NamedNode) (places : List ℕ) → places ≡ group_of b.properties r.node → n.parent ≡ r.parent →
+pub node_read : (unnamed : Unnamed) (g : Growing) (b : Belongings) (r : Row) (n : NamedNode) (indices : List ℕ) → indices ≡ group_of b.properties r.node → n.parent ≡ r.parent →
     cow_slice_items n.name ≡ name_of g.nodes.items r.node → map (λ l. l.now) n.labels.items ≡ map (label_at g.givings.items) (group_of b.labels r.node) →
-    EachNaming g b.numbers.items (λ es number. ArePropertiesRead unnamed es number g.properties.items places (map property_said n.properties.items)) →
-    EachNaming g b.numbers.items (λ es number. IsRowRead unnamed es number g b r (node_said n))
-node_read unnamed g b r n places at parent name labels properties es number limit of by =
-    let read = properties es number limit of by in
-    let made = read.0 ∙ ap (map (property_at unnamed es number g.properties.items)) at in (
+    EachNaming g b.places.items (λ es place. ArePropertiesRead unnamed es place g.properties.items indices (map property_said n.properties.items)) →
+    EachNaming g b.places.items (λ es place. IsRowRead unnamed es place g b r (node_said n))
+node_read unnamed g b r n indices at parent name labels properties es place limit of by =
+    let read = properties es place limit of by in
+    let made = read.0 ∙ ap (map (property_at unnamed es place g.properties.items)) at in (
       λ i. record { parent = parent i; name = name i; content = record { labels = labels i; properties = made i } },
       subst (AreRead unnamed es g.properties.items) at read.1,
     )
 
 -- one row more
 pub rows_more : (unnamed : Unnamed) (g : Growing) (b : Belongings) (rows : List Row) (k : ℕ) (d : Row) (old new : List NamedNode) (n : NamedNode) → k < length rows → new ≡ old ++ n ∷ [] →
-    EachNaming g b.numbers.items (λ es number. AreRowsRead unnamed es number g b (take k rows) (map node_said old)) →
-    EachNaming g b.numbers.items (λ es number. IsRowRead unnamed es number g b (get_or rows k d) (node_said n)) →
-    EachNaming g b.numbers.items (λ es number. AreRowsRead unnamed es number g b (take (k + 1) rows) (map node_said new))
-rows_more unnamed g b rows k d old new n near e before one es number limit of by =
-    let first = before es number limit of by in
-    let last = one es number limit of by in
-    let row = listed_row (name_of g.nodes.items) (content_by unnamed es number g b) in (
+    EachNaming g b.places.items (λ es place. AreRowsRead unnamed es place g b (take k rows) (map node_said old)) →
+    EachNaming g b.places.items (λ es place. IsRowRead unnamed es place g b (get_or rows k d) (node_said n)) →
+    EachNaming g b.places.items (λ es place. AreRowsRead unnamed es place g b (take (k + 1) rows) (map node_said new))
+rows_more unnamed g b rows k d old new n near e before one es place limit of by =
+    let first = before es place limit of by in
+    let last = one es place limit of by in
+    let row = listed_row (name_of g.nodes.items) (content_by unnamed es place g b) in (
       ap (map node_said) e ∙ (map_push node_said old n
           ∙ (ap (λ (ns : List (model.Listed NodeReference)). ns ++ node_said n ∷ []) first.0
           ∙ (ap (λ (m : model.Listed NodeReference). map row (take k rows) ++ m ∷ []) last.0 ∙ sym (map_more row rows k d near)))),
@@ -164,5 +164,5 @@ pub unread_row : (unnamed : Unnamed) (g : Growing) (b : Belongings) (rows : List
 unread_row unnamed g b rows k d e near h = (get_or rows k d, in_read rows k d near, h)
 
 -- where memory is refused
-pub unread_for_memory : (unnamed : Unnamed) (g : Growing) (places : List ℕ) (e : Fault) → e.kind ≡ fault.NoMemory → e.at ≡ None → IsUnreadAmong unnamed g places e
-unread_for_memory unnamed g places e kind at = (at, λ es of. subst (WhyUnreadAmong unnamed es g.properties.items places) (sym kind) tt)
+pub unread_for_memory : (unnamed : Unnamed) (g : Growing) (indices : List ℕ) (e : Fault) → e.kind ≡ fault.NoMemory → e.at ≡ None → IsUnreadAmong unnamed g indices e
+unread_for_memory unnamed g indices e kind at = (at, λ es of. subst (WhyUnreadAmong unnamed es g.properties.items indices) (sym kind) tt)

@@ -23,23 +23,23 @@ use Rattle.dt_items.specs.Said.{value_said}
 use Rattle.dt_growing.specs.declared.growing.Node.{Node}
 use Rattle.dt_growing.specs.declared.growing.Property.{Property}
 use Rattle.dt_growing.specs.declared.growing.Growing.{Growing}
-use Rattle.dt_naming.specs.declared.contents.Belongings.{Belongings}
+use Rattle.dt_naming.specs.declared.belongings.Belongings.{Belongings}
 use Rattle.dt_naming.specs.declared.listing.Row.{Row}
 use Rattle.dt_growing.specs.Grown.{Leads, HasValue}
 use Rattle.dt_naming.specs.Owned.{group_of}
-use Rattle.dt_naming.specs.Listing.{name_of, AreRows, AreNumbers, tree_with, listed_row}
+use Rattle.dt_naming.specs.Listing.{name_of, AreRows, ArePlaces, tree_with, listed_row}
 use Rattle.dt_growing.specs.declared.referring.Unnamed.{Unnamed}
 use Rattle.dt_growing.specs.declared.referring.Unnamed.TheVariants.{Refused}
 use Rattle.dt_naming.specs.Contents.{property_owner, AreNamedBy, IsLabelledPart, AreLabelled, all_read, read_values, AreResolved}
-use Rattle.dt_naming.specs.Resolving.{IsOf, EachNaming, AreRead, AreRowsRead, content_by, WhyUnreadAmong, Belong}
-use Rattle.dt_naming.specs.Phandles.{is_numbered, is_phandle, number_written, AreWritten, AreOwn, HasUnwritten, HasTwice, WhyUnnumbered}
+use Rattle.dt_naming.specs.Resolving.{IsGrownBy, EachNaming, AreRead, AreRowsRead, content_by, WhyUnreadAmong, Belong}
+use Rattle.dt_naming.specs.Phandles.{has_place, is_phandle, phandle_written, AreWritten, AreOwn, HasUnwritten, HasTwice, WhyUnnumbered}
 use Rattle.dt_naming.specs.Nodes.{AreFilled, IsUnfilled, HasUnread, AreNodesBy, AreNodesAfter, WhyNotAfter}
 use Rattle.dt_naming.proofs.ChildrenLed.{AreChildren, are_children, leads_once, leads_root, leads_within}
 use Rattle.dt_naming.proofs.Walking.{walk, rows-nodes}
 use Rattle.dt_naming.proofs.Placing.{Pairwise, IsPlacedAt, forest-placed}
 use Rattle.dt_naming.proofs.Binding.{map_keeps, parts_bound}
 use Rattle.dt_naming.proofs.Filling.{owner_stands}
-use Rattle.dt_naming.proofs.Meant.{number_by, named_by, list_is, named_after}
+use Rattle.dt_naming.proofs.Meant.{place_by, named_by, list_is, named_after}
 
 -- ---- lists
 
@@ -113,15 +113,15 @@ nodes_same es value other ns same h = record {
 }
 
 module _ (g : Growing) (b : Belongings) (rows : List Row) (are : AreRows g.nodes.items rows) (belong : Belong g b)
-    (numbered : AreNumbers rows (length g.nodes.items) b.numbers.items) (es : Events) (grown : IsOf g es) (root : stands es [] ≡ true) where
+    (ordered : ArePlaces rows (length g.nodes.items) b.places.items) (es : Events) (grown : IsGrownBy g es) (root : stands es [] ≡ true) where
   abbrev nodes : List Node
   nodes = g.nodes.items
 
   abbrev properties : List Property
   properties = g.properties.items
 
-  abbrev numbers : List (Option ℕ)
-  numbers = b.numbers.items
+  abbrev places : List (Option ℕ)
+  places = b.places.items
 
   rooted : Leads g.nodes.items [] 0
   rooted = let w = grown.nodes_are [] root in (refl, leads_root nodes [] w.0 w.1)
@@ -129,18 +129,18 @@ module _ (g : Growing) (b : Belongings) (rows : List Row) (are : AreRows g.nodes
   children_are : AreChildren g.nodes.items are.children
   children_are = are_children nodes are.children are.owned
 
-  abbrev number : Stack → ℕ
-  number = number_by (name_of g.nodes.items) are.children b.numbers.items
+  abbrev place : Stack → ℕ
+  place = place_by (name_of g.nodes.items) are.children b.places.items
 
   all_nodes : map (λ (r : Row). r.node) rows ≡ 0 ∷ walk are.children most_names 0
   all_nodes = ap (map (λ (r : Row). r.node)) are.are ∙ ap (λ (ks : List ℕ). 0 ∷ ks) (rows-nodes are.children most_names 0 0)
 
-  named : AreNamedBy g.nodes.items b.numbers.items (length rows) number
-  named = named_by nodes are.children children_are grown.one_node rows all_nodes grown.shallow numbers numbered
+  named : AreNamedBy g.nodes.items b.places.items (length rows) place
+  named = named_by nodes are.children children_are grown.one_node rows all_nodes grown.shallow places ordered
 
   -- the row of a node that stands
   row_of : (p : Stack) (k : ℕ) → Leads g.nodes.items p k → (r : Row) × IsIn r rows × (r.node ≡ k)
-  row_of p k h = let w = numbered.sound k (number p) (named.there p k h) in (w.0, in_from rows (number p) w.0 w.1, w.2)
+  row_of p k h = let w = ordered.sound k (place p) (named.there p k h) in (w.0, in_from rows (place p) w.0 w.1, w.2)
 
   -- the names that lead to the node of a row
   led_to : (r : Row) → IsIn r rows → (p : Stack) × Leads g.nodes.items p r.node
@@ -153,7 +153,7 @@ module _ (g : Growing) (b : Belongings) (rows : List Row) (are : AreRows g.nodes
       let pair = pair_of at_row (nodes_of (tree_with [] (name_of nodes) none are.children)) (0 ∷ walk are.children most_names 0) r.node all here in
       (reverse pair.0.path, pair.1.0)
 
-  -- a property in a place that belongs to a node that stands
+  -- a property at an index that belongs to a node that stands
   value_in : (p : Stack) (k i : ℕ) (q : Property) → Leads g.nodes.items p k → IsIn i (group_of b.properties k) → slice_get g.properties.items i ≡ Some q →
       HasValue g.nodes.items g.properties.items p q.name.now (value_said q.value.now) i
   value_in p k i q h among there =
@@ -176,25 +176,25 @@ module _ (g : Growing) (b : Belongings) (rows : List Row) (are : AreRows g.nodes
   phandle = codes "phandle"
 
   -- it is found by its test
-  phandle_there : (p : Stack) (v : List Part) (i : ℕ) (h : HasValue g.nodes.items g.properties.items p (codes "phandle") v i) → is_phandle b.numbers.items h.property ≡ true
+  phandle_there : (p : Stack) (v : List Part) (i : ℕ) (h : HasValue g.nodes.items g.properties.items p (codes "phandle") v i) → is_phandle b.places.items h.property ≡ true
   phandle_there p v i h =
-      let given : is_numbered numbers h.property.node ≡ true =
+      let given : has_place places h.property.node ≡ true =
       ap (λ (o : Option (Option ℕ)). is_some (option_and_then (λ n. n) o)) (named.there p h.property.node h.node) in
       let name : bytes_eq h.property.name.now phandle ≡ true = ap (λ (x : Name). bytes_eq x phandle) h.named ∙ bytes_eq_refl phandle in
-      and_both (h.property.stands && is_numbered numbers h.property.node) (bytes_eq h.property.name.now phandle)
-      (and_both h.property.stands (is_numbered numbers h.property.node) h.stands given) name
+      and_both (h.property.stands && has_place places h.property.node) (bytes_eq h.property.name.now phandle)
+      (and_both h.property.stands (has_place places h.property.node) h.stands given) name
 
   -- and what the test finds is one of a node that stands
-  phandle_found : (i : ℕ) (q : Property) → slice_get g.properties.items i ≡ Some q → is_phandle b.numbers.items q ≡ true →
+  phandle_found : (i : ℕ) (q : Property) → slice_get g.properties.items i ≡ Some q → is_phandle b.places.items q ≡ true →
       (p : Stack) × HasValue g.nodes.items g.properties.items p (codes "phandle") (value_said q.value.now) i × Leads g.nodes.items p q.node
   phandle_found i q there h =
-      let name_is = and_right (q.stands && is_numbered numbers q.node) (bytes_eq q.name.now phandle) h in
-      let rest = and_left (q.stands && is_numbered numbers q.node) (bytes_eq q.name.now phandle) h in
-      let stood = and_left q.stands (is_numbered numbers q.node) rest in
-      let given = some_there (option_and_then (λ n. n) (slice_get numbers q.node)) (and_right q.stands (is_numbered numbers q.node) rest) in
-      let inner = then_some (λ (n : Option ℕ). n) (slice_get numbers q.node) given.0 given.1 in
-      let at : slice_get numbers q.node ≡ Some (Some given.0) = inner.1 ∙ ap (λ (o : Option ℕ). Some o) inner.2 in
-      let row = numbered.sound q.node given.0 at in
+      let name_is = and_right (q.stands && has_place places q.node) (bytes_eq q.name.now phandle) h in
+      let rest = and_left (q.stands && has_place places q.node) (bytes_eq q.name.now phandle) h in
+      let stood = and_left q.stands (has_place places q.node) rest in
+      let given = some_there (option_and_then (λ n. n) (slice_get places q.node)) (and_right q.stands (has_place places q.node) rest) in
+      let inner = then_some (λ (n : Option ℕ). n) (slice_get places q.node) given.0 given.1 in
+      let at : slice_get places q.node ≡ Some (Some given.0) = inner.1 ∙ ap (λ (o : Option ℕ). Some o) inner.2 in
+      let row = ordered.sound q.node given.0 at in
       let led = led_to row.0 (in_from rows given.0 row.0 row.1) in
       let node : Leads nodes led.0 q.node = subst (Leads nodes led.0) row.2 led.1 in
       (led.0, record { property = q; there = there; stands = stood; named = bytes_eq_true q.name.now phandle name_is; value = refl; node = node }, node)
@@ -215,15 +215,15 @@ module _ (g : Growing) (b : Belongings) (rows : List Row) (are : AreRows g.nodes
       bound_some es (value_said w.property.value.now) ∙ all value.0 w.property h.0 w.there w.stands w.node in
       not_none (all_bound es h.2) (ap (λ (v : List Part). is_some (all_bound es v)) (sym w.value) ∙ some) h.4
 
-  number_there : AreWritten b.numbers.items g.properties.items → (p : Stack) (v : List Part) → value_at es p (codes "phandle") ≡ Some v → is_some (written v) ≡ true
-  number_there all p v e =
+  written_there : AreWritten b.places.items g.properties.items → (p : Stack) (v : List Part) → value_at es p (codes "phandle") ≡ Some v → is_some (written v) ≡ true
+  written_there all p v e =
       let value = grown.values_are p phandle v e in
       let w = value.1 in
       let here = phandle_there p v value.0 w in
-      let some : not (is_some (written (value_said w.property.value.now))) ≡ false = and_false (is_phandle numbers w.property) (not (is_some (written (value_said w.property.value.now)))) here (all value.0 w.property w.there) in
+      let some : not (is_some (written (value_said w.property.value.now))) ≡ false = and_false (is_phandle places w.property) (not (is_some (written (value_said w.property.value.now)))) here (all value.0 w.property w.there) in
       ap (λ (u : List Part). is_some (written u)) (sym w.value) ∙ not_false (is_some (written (value_said w.property.value.now))) some
 
-  written_here : (p : Stack) (n : ℕ) → written_number es p ≡ Some n → (i : ℕ) × (q : Property) × (slice_get g.properties.items i ≡ Some q) × (number_written b.numbers.items q ≡ Some n) × Leads g.nodes.items p q.node
+  written_here : (p : Stack) (n : ℕ) → written_number es p ≡ Some n → (i : ℕ) × (q : Property) × (slice_get g.properties.items i ≡ Some q) × (phandle_written b.places.items q ≡ Some n) × Leads g.nodes.items p q.node
   written_here p n e =
       let v = then_some written (value_at es p phandle) n e in
       let value = grown.values_are p phandle v.0 v.1 in
@@ -236,13 +236,13 @@ module _ (g : Growing) (b : Belongings) (rows : List Row) (are : AreRows g.nodes
         w.node,
       )
 
-  pub is_resolved : AreResolved Refused g.nodes.items g.properties.items es → AreWritten b.numbers.items g.properties.items → AreOwn b.numbers.items g.properties.items → IsResolved es
+  pub is_resolved : AreResolved Refused g.nodes.items g.properties.items es → AreWritten b.places.items g.properties.items → AreOwn b.places.items g.properties.items → IsResolved es
   is_resolved all written_all own = record {
     bound_to = λ p x v e.
         let value = grown.values_are p x v e in
         let w = value.1 in
         subst (λ (u : List Part). IsSome (all_bound es u)) w.value (bound_some es (value_said w.property.value.now) ∙ all value.0 w.property p w.there w.stands w.node);
-    numbered = λ p v e. number_there written_all p v e;
+    numbered = λ p v e. written_there written_all p v e;
     own = λ p q n e f.
         let first = written_here p n e in
         let second = written_here q n f in
@@ -276,27 +276,27 @@ module _ (g : Growing) (b : Belongings) (rows : List Row) (are : AreRows g.nodes
   unread_there unnamed r among kind h = absurd h
 
   -- a `phandle` that writes none
-  bad_there : HasUnwritten b.numbers.items g.properties.items → HasBadPhandle es
+  bad_there : HasUnwritten b.places.items g.properties.items → HasBadPhandle es
   bad_there h =
       let q = h.1 in
-      let here = and_left (is_phandle numbers q) (not (is_some (written (value_said q.value.now)))) h.3 in
-      let none = not_true (is_some (written (value_said q.value.now))) (and_right (is_phandle numbers q) (not (is_some (written (value_said q.value.now)))) h.3) in
+      let here = and_left (is_phandle places q) (not (is_some (written (value_said q.value.now)))) h.3 in
+      let none = not_true (is_some (written (value_said q.value.now))) (and_right (is_phandle places q) (not (is_some (written (value_said q.value.now)))) h.3) in
       let found = phandle_found h.0 q h.2 here in
       (found.0, value_said q.value.now, grown.values_stand found.0 phandle (value_said q.value.now) h.0 found.1, some_or_none (written (value_said q.value.now)) none)
 
-  no_bad : AreWritten b.numbers.items g.properties.items → HasBadPhandle es → ⊥
-  no_bad all h = not_none (written h.1) (number_there all h.0 h.1 h.2) h.3
+  no_bad : AreWritten b.places.items g.properties.items → HasBadPhandle es → ⊥
+  no_bad all h = not_none (written h.1) (written_there all h.0 h.1 h.2) h.3
 
-  -- a number that is written twice
-  twice_there : HasTwice b.numbers.items g.properties.items → HasDuplicatePhandle es
+  -- a phandle that is written twice
+  twice_there : HasTwice b.places.items g.properties.items → HasDuplicatePhandle es
   twice_there h =
       let i = h.0 in
       let j = h.1 in
       let p = h.2 in
       let q = h.3 in
       let n = h.4 in
-      let first = cond_some (is_phandle numbers p) (written (value_said p.value.now)) n h.8 in
-      let second = cond_some (is_phandle numbers q) (written (value_said q.value.now)) n h.9 in
+      let first = cond_some (is_phandle places p) (written (value_said p.value.now)) n h.8 in
+      let second = cond_some (is_phandle places q) (written (value_said q.value.now)) n h.9 in
       let here = phandle_found i p h.6 first.0 in
       let there = phandle_found j q h.7 second.0 in (
         here.0,
@@ -314,7 +314,7 @@ module _ (g : Growing) (b : Belongings) (rows : List Row) (are : AreRows g.nodes
           let one : i ≡ j = grown.one_value p (codes "phandle") v w i j a at in
           omega arith
 
-  pub unnumbered_refused : AreResolved Refused g.nodes.items g.properties.items es → (kind : FaultKind) → WhyUnnumbered b.numbers.items g.properties.items kind → WhyNotAfter es kind
+  pub unnumbered_refused : AreResolved Refused g.nodes.items g.properties.items es → (kind : FaultKind) → WhyUnnumbered b.places.items g.properties.items kind → WhyNotAfter es kind
   unnumbered_refused all fault.NoMemory h = tt
   unnumbered_refused all fault.BadPhandle h = (no_unresolved all, bad_there h)
   unnumbered_refused all fault.DuplicatePhandle h = (no_unresolved all, no_bad h.0, twice_there h.1)
@@ -323,34 +323,34 @@ module _ (g : Growing) (b : Belongings) (rows : List Row) (are : AreRows g.nodes
   -- ---- the tree
 
   abbrev tree : Unnamed → List (ℕ × ℕ) → Named NodeReference
-  tree unnamed reservations = tree_with reservations (name_of g.nodes.items) (content_by unnamed es number g b) are.children
+  tree unnamed reservations = tree_with reservations (name_of g.nodes.items) (content_by unnamed es place g b) are.children
 
-  pub listed_by : (unnamed : Unnamed) → AreLabelled unnamed es → (ns : List (Listed NodeReference)) → EachNaming g b.numbers.items (λ es number. AreRowsRead unnamed es number g b rows ns) →
+  pub listed_by : (unnamed : Unnamed) → AreLabelled unnamed es → (ns : List (Listed NodeReference)) → EachNaming g b.places.items (λ es place. AreRowsRead unnamed es place g b rows ns) →
       AreNodesBy es (read_values unnamed es) ns
   listed_by unnamed labelled ns each = record {
     tree = tree unnamed;
     reservations = λ rs. refl;
-    list = λ rs. read.0 ∙ (ap (map (listed_row (name_of nodes) (content_by unnamed es number g b))) are.are
+    list = λ rs. read.0 ∙ (ap (map (listed_row (name_of nodes) (content_by unnamed es place g b))) are.are
         ∙ list_is nodes properties g.givings.items es grown rooted are.children children_are (group_of b.properties) (group_of b.labels)
-        belong.properties belong.labels unnamed number rs);
+        belong.properties belong.labels unnamed place rs);
     named = λ rs. named_after nodes properties g.givings.items es grown rooted are.children children_are (group_of b.properties) (group_of b.labels)
-        belong.properties belong.labels unnamed number rs numbers (subst (λ (rs' : List Row). AreNumbers rs' (length nodes) numbers) are.are numbered)
-        (subst (λ (rs' : List Row). AreNamedBy nodes numbers (length rs') number) are.are named) (resolved unnamed read.1) labelled;
+        belong.properties belong.labels unnamed place rs places (subst (λ (rs' : List Row). ArePlaces rs' (length nodes) places) are.are ordered)
+        (subst (λ (rs' : List Row). AreNamedBy nodes places (length rs') place) are.are named) (resolved unnamed read.1) labelled;
   }
     where
-      read : AreRowsRead unnamed es (number_by (name_of g.nodes.items) are.children b.numbers.items) g b rows ns
-      read = each es number (length rows) grown named
+      read : AreRowsRead unnamed es (place_by (name_of g.nodes.items) are.children b.places.items) g b rows ns
+      read = each es place (length rows) grown named
 
   pub listed_after : (ns : List (Listed NodeReference)) → AreFilled g b rows ns → AreNodesAfter es ns
   listed_after ns filled =
-      let read = filled.read es number (length rows) grown named in record {
+      let read = filled.read es place (length rows) grown named in record {
         resolved = is_resolved (resolved Refused read.1) filled.written filled.own;
         nodes = nodes_same es (read_values Refused es) (bound_values es) ns (bound_read es) (listed_by Refused (λ p x v there. none_kept v) ns filled.read);
       }
 
   pub unlisted_after : (e : Fault) → IsUnfilled g b rows e → WhyNotAfter es e.kind
   unlisted_after e (inl h) = unread_refused h.0 h.1 e.kind (h.2.1 es grown)
-  unlisted_after e (inr h) = unnumbered_refused (resolved Refused (h.0 es number (length rows) grown named)) e.kind h.1.1
+  unlisted_after e (inr h) = unnumbered_refused (resolved Refused (h.0 es place (length rows) grown named)) e.kind h.1.1
 
 -- no place is told
 pub unplaced : (g : Growing) (b : Belongings) (rows : List Row) (e : Fault) → IsUnfilled g b rows e → e.at ≡ None

@@ -2,7 +2,7 @@ pub mod Owning
 pub mod Grouping
 pub mod Rows
 pub mod Lookups
-pub mod Numbers
+pub mod Places
 pub mod ChildrenLed
 pub mod Walking
 pub mod Placing

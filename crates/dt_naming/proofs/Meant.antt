@@ -23,7 +23,7 @@ use Rattle.dt_growing.specs.declared.growing.Giving.{Giving}
 use Rattle.dt_naming.specs.declared.listing.Row.{Row}
 use Rattle.dt_growing.specs.Grown.{Leads, IsGrown}
 use Rattle.dt_naming.specs.Owned.{AreOwned}
-use Rattle.dt_naming.specs.Listing.{name_of, rows_of, AreNumbers, tree_with, listed_row}
+use Rattle.dt_naming.specs.Listing.{name_of, rows_of, ArePlaces, tree_with, listed_row}
 use Rattle.dt_growing.specs.declared.referring.Unnamed.{Unnamed}
 use Rattle.dt_naming.specs.Contents.{property_owner, label_owner, AreNamedBy, AreLabelled, all_read, read_values, content_of, AreResolved}
 use Rattle.dt_naming.proofs.ChildrenLed.{AreChildren, leads_once, leads_child, child_led, leads_within}
@@ -69,9 +69,9 @@ abbrev pub led : (ℕ → Name) → (ℕ → List ℕ) → Stack → Option ℕ
 led name children [] = Some 0
 led name children (x ∷ p) = option_and_then (λ k. child_of name x (children k)) (led name children p)
 
--- the number that it has
-abbrev pub number_by : (ℕ → Name) → (ℕ → List ℕ) → List (Option ℕ) → Stack → ℕ
-number_by name children numbers p = unwrap_or (option_and_then (λ k. option_and_then (λ o. o) (slice_get numbers k)) (led name children p)) 0
+-- the place that it has
+abbrev pub place_by : (ℕ → Name) → (ℕ → List ℕ) → List (Option ℕ) → Stack → ℕ
+place_by name children places p = unwrap_or (option_and_then (λ k. option_and_then (λ o. o) (slice_get places k)) (led name children p)) 0
 
 child_found : (name : ℕ → Name) (x : Name) (cs : List ℕ) (c : ℕ) → IsIn c cs → name c ≡ x → (d : ℕ) × (child_of name x cs ≡ Some d) × IsIn d cs × (name d ≡ x)
 child_found name x [] c h e = absurd h
@@ -97,39 +97,39 @@ module _ (nodes : List Node) (children : ℕ → List ℕ) (are : AreChildren no
       ap (option_and_then (λ j. child_of (name_of nodes) x (children j))) above ∙ (found.1 ∙ ap (λ (n : ℕ). Some n) (one (x ∷ p) found.0 k other h))
 
   module _ (rows : List Row) (all : map (λ (r : Row). r.node) rows ≡ 0 ∷ walk children most_names 0) (shallow : (p : Stack) (k : ℕ) → Leads nodes p k → length p ≤ most_names)
-      (numbers : List (Option ℕ)) (numbered : AreNumbers rows (length nodes) numbers) where
-    number_there : (p : Stack) (k : ℕ) → Leads nodes p k → (i : ℕ) × (slice_get numbers k ≡ Some (Some i)) × (number_by (name_of nodes) children numbers p ≡ i)
-    number_there p k h =
+      (places : List (Option ℕ)) (ordered : ArePlaces rows (length nodes) places) where
+    place_there : (p : Stack) (k : ℕ) → Leads nodes p k → (i : ℕ) × (slice_get places k ≡ Some (Some i)) × (place_by (name_of nodes) children places p ≡ i)
+    place_there p k h =
         let few : length p ≤ most_names = shallow p k h in
         let whole : length p + (most_names - length p) ≡ most_names = omega arith in
         let none : ℕ → Content NodeReference = λ j. record { labels = []; properties = [] } in
         let walked = (all_walked nodes children are none one most_names p k (most_names - length p) h whole).0 in
         let row = in_map_from (λ (r : Row). r.node) rows k (subst (IsIn k) (sym all) walked) in
-        let place = in_at rows row.0 row.1 in
+        let there = in_at rows row.0 row.1 in
         let within : row.0.node < length nodes = subst (λ (j : ℕ). j < length nodes) row.2 (leads_within nodes p k h) in
-        let given = numbered.complete place.0 row.0 place.1 within in
-        let at : slice_get numbers k ≡ Some (Some given.0) = ap (slice_get numbers) row.2 ∙ given.1 in
+        let given = ordered.complete there.0 row.0 there.1 within in
+        let at : slice_get places k ≡ Some (Some given.0) = ap (slice_get places) row.2 ∙ given.1 in
         let joined : Option (Option ℕ) → ℕ = λ o. unwrap_or (option_and_then (λ i. i) o) 0 in
-        let number : Option ℕ → ℕ = λ o. unwrap_or (option_and_then (λ j. option_and_then (λ i. i) (slice_get numbers j)) o) 0 in
-        (given.0, at, ap number (led_there p k h) ∙ ap joined at)
+        let place : Option ℕ → ℕ = λ o. unwrap_or (option_and_then (λ j. option_and_then (λ i. i) (slice_get places j)) o) 0 in
+        (given.0, at, ap place (led_there p k h) ∙ ap joined at)
 
-    pub named_by : AreNamedBy nodes numbers (length rows) (number_by (name_of nodes) children numbers)
+    pub named_by : AreNamedBy nodes places (length rows) (place_by (name_of nodes) children places)
     named_by = record {
-      there = λ p k h. let w = number_there p k h in w.1 ∙ ap (λ (i : ℕ). Some (Some i)) (sym w.2);
+      there = λ p k h. let w = place_there p k h in w.1 ∙ ap (λ (i : ℕ). Some (Some i)) (sym w.2);
       below = λ p k h.
-          let w = number_there p k h in
-          let row = numbered.sound k w.0 w.1 in
+          let w = place_there p k h in
+          let row = ordered.sound k w.0 w.1 in
           subst (λ (i : ℕ). i < length rows) (sym w.2) (slice_get_within rows w.0 row.0 row.1);
     }
 
 -- ---- the tree
 
 module _ (nodes : List Node) (properties : List Property) (givings : List Giving) (es : Events) (grown : IsGrown nodes properties givings es) (rooted : Leads nodes [] 0)
-    (children : ℕ → List ℕ) (are : AreChildren nodes children) (property_places label_places : ℕ → List ℕ)
-    (own_properties : AreOwned (map property_owner properties) (length nodes) property_places) (own_labels : AreOwned (map label_owner givings) (length nodes) label_places)
-    (unnamed : Unnamed) (number : Stack → ℕ) (reservations : List (ℕ × ℕ)) where
+    (children : ℕ → List ℕ) (are : AreChildren nodes children) (property_indices label_indices : ℕ → List ℕ)
+    (own_properties : AreOwned (map property_owner properties) (length nodes) property_indices) (own_labels : AreOwned (map label_owner givings) (length nodes) label_indices)
+    (unnamed : Unnamed) (place : Stack → ℕ) (reservations : List (ℕ × ℕ)) where
   abbrev content : ℕ → Content NodeReference
-  content = content_of unnamed es number properties givings property_places label_places
+  content = content_of unnamed es place properties givings property_indices label_indices
 
   abbrev tree : Named NodeReference
   tree = tree_with reservations (name_of nodes) content children
@@ -157,19 +157,19 @@ module _ (nodes : List Node) (properties : List Property) (givings : List Giving
   pub placed : Pairwise (IsPlacedAt nodes children are content) (nodes_of tree) (0 ∷ walk children most_names 0)
   placed = ((rooted, refl), forest-placed nodes children are content most_names 0 [] rooted)
 
-  module _ (numbers : List (Option ℕ)) (numbered : AreNumbers rows (length nodes) numbers) (named : AreNamedBy nodes numbers (length rows) number) where
-    -- the path of the number of some names
-    path_is : (p : Stack) (k : ℕ) → Leads nodes p k → path_among (paths_of tree) (number p) ≡ reverse p
+  module _ (places : List (Option ℕ)) (ordered : ArePlaces rows (length nodes) places) (named : AreNamedBy nodes places (length rows) place) where
+    -- the path of the place of some names
+    path_is : (p : Stack) (k : ℕ) → Leads nodes p k → path_among (paths_of tree) (place p) ≡ reverse p
     path_is p k h =
-        let row = numbered.sound k (number p) (named.there p k h) in
-        let at : slice_get (0 ∷ walk children most_names 0) (number p) ≡ Some k =
-        ap (λ (ks : List ℕ). slice_get ks (number p)) (sym rows_are) ∙ (slice_get-map (λ (r : Row). r.node) rows (number p) ∙ (ap (option_map (λ (r : Row). r.node)) row.1 ∙ ap (λ (j : ℕ). Some j) row.2)) in
-        let pair = pair_at (IsPlacedAt nodes children are content) (nodes_of tree) (0 ∷ walk children most_names 0) (number p) k placed at in
+        let row = ordered.sound k (place p) (named.there p k h) in
+        let at : slice_get (0 ∷ walk children most_names 0) (place p) ≡ Some k =
+        ap (λ (ks : List ℕ). slice_get ks (place p)) (sym rows_are) ∙ (slice_get-map (λ (r : Row). r.node) rows (place p) ∙ (ap (option_map (λ (r : Row). r.node)) row.1 ∙ ap (λ (j : ℕ). Some j) row.2)) in
+        let pair = pair_at (IsPlacedAt nodes children are content) (nodes_of tree) (0 ∷ walk children most_names 0) (place p) k placed at in
         let same : reverse pair.0.path ≡ p = leads_once nodes (reverse pair.0.path) p k pair.2.0 h in
-        path_there (nodes_of tree) (number p) pair.0 pair.1 ∙ (sym (reverse-reverse pair.0.path) ∙ ap (λ (q : Stack). reverse q) same)
+        path_there (nodes_of tree) (place p) pair.0 pair.1 ∙ (sym (reverse-reverse pair.0.path) ∙ ap (λ (q : Stack). reverse q) same)
 
     module _ (resolved : AreResolved unnamed nodes properties es) (labelled : AreLabelled unnamed es) where
-      path_of_referent : (r : Reference) (p : Stack) → referent es r ≡ Some p → path_among (paths_of tree) (number p) ≡ reverse p
+      path_of_referent : (r : Reference) (p : Stack) → referent es r ≡ Some p → path_among (paths_of tree) (place p) ≡ reverse p
       path_of_referent r p h = let k = referent_stands nodes properties givings es grown r p h in path_is p k.0 k.1
 
       values : (p : Path) (x : Name) → option_map (meant tree) (value_of (content_in tree p).properties x) ≡ option_and_then (all_read unnamed es) (value_at es (reverse p) x)
@@ -191,16 +191,16 @@ module _ (nodes : List Node) (properties : List Property) (givings : List Giving
               let found = found_at nodes properties givings es grown children are content reservations rooted p n e in
               let held : n.content ≡ content found.0 = ap (λ (m : NamedNode NodeReference). m.content) found.3 in
               ap shown e ∙ (ap (λ (c : Content NodeReference). option_map (meant tree) (value_of c.properties x)) held
-              ∙ values_stand nodes properties givings es grown property_places label_places own_properties own_labels unnamed number resolved (path_among (paths_of tree)) path_of_referent
+              ∙ values_stand nodes properties givings es grown property_indices label_indices own_properties own_labels unnamed place resolved (path_among (paths_of tree)) path_of_referent
               (reverse p) found.0 x found.2)
 
       refers_below : (n : NamedPlaced NodeReference) (k : ℕ) → IsPlacedAt nodes children are content n k → RefersBelow (1 + node_count tree.children) n.content
       refers_below n k at =
           subst (RefersBelow (1 + node_count tree.children)) (sym at.1)
-          (values_refer nodes properties givings es grown property_places label_places own_properties own_labels unnamed number resolved (path_among (paths_of tree)) path_of_referent labelled
+          (values_refer nodes properties givings es grown property_indices label_indices own_properties own_labels unnamed place resolved (path_among (paths_of tree)) path_of_referent labelled
           (IsBelow (1 + node_count tree.children))
           (λ r p h. let w = referent_stands nodes properties givings es grown r p h in
-          subst (λ (m : ℕ). number p < m) (sym count_is) (named.below p w.0 w.1)) (λ l label. label) (reverse n.path) k at.0)
+          subst (λ (m : ℕ). place p < m) (sym count_is) (named.below p w.0 w.1)) (λ l label. label) (reverse n.path) k at.0)
 
       -- what a node that a path leads to has
       content_here : (Q : Path → Content NodeReference → Type 0) → ((p : Path) (k : ℕ) → Leads nodes (reverse p) k → Q p (content k)) →
@@ -218,8 +218,8 @@ module _ (nodes : List Node) (properties : List Property) (givings : List Giving
         order = record {
           children = children_in_order nodes properties givings es grown children are content reservations rooted;
           properties = content_here (λ p c. ArePropertiesInOrder es p (map (λ (x : NamedProperty NodeReference). x.name) c.properties))
-              (properties_in_order nodes properties givings es grown property_places label_places own_properties own_labels unnamed number);
+              (properties_in_order nodes properties givings es grown property_indices label_indices own_properties own_labels unnamed place);
           labels = content_here (λ p c. AreLabelsInOrder es p c.labels)
-              (labels_in_order nodes properties givings es grown property_places label_places own_properties own_labels unnamed number);
+              (labels_in_order nodes properties givings es grown property_indices label_indices own_properties own_labels unnamed place);
         };
       }

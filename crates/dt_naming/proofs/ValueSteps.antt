@@ -63,40 +63,40 @@ unread_value unnamed g v i d e near h = unread_more unnamed g (piece_parts piece
 -- ---- what is read
 
 -- bytes and the reference behind them
-pub piece_added : (unnamed : Unnamed) (g : Growing) (numbers : List (Option ℕ)) (p : Piece) (x : Part) (old mid new : List (Item NodeReference)) → piece_parts p ≡ map one p.before.items ++ x ∷ [] →
-    mid ≡ old ++ map byte p.before.items → EachNaming g numbers (λ es number. IsAdded mid (named_part unnamed es number x) new) →
-    EachNaming g numbers (λ es number. IsAdded old (named_parts unnamed es number (piece_parts p)) new)
-piece_added unnamed g numbers p x old mid new is e h es number limit of by =
-    let added = h es number limit of by in
+pub piece_added : (unnamed : Unnamed) (g : Growing) (places : List (Option ℕ)) (p : Piece) (x : Part) (old mid new : List (Item NodeReference)) → piece_parts p ≡ map one p.before.items ++ x ∷ [] →
+    mid ≡ old ++ map byte p.before.items → EachNaming g places (λ es place. IsAdded mid (named_part unnamed es place x) new) →
+    EachNaming g places (λ es place. IsAdded old (named_parts unnamed es place (piece_parts p)) new)
+piece_added unnamed g places p x old mid new is e h es place limit of by =
+    let added = h es place limit of by in
     let items = added.0 in (
       map byte p.before.items ++ items,
-      ap (named_parts unnamed es number) is ∙ piece_named unnamed es number p.before.items x items added.1,
+      ap (named_parts unnamed es place) is ∙ piece_named unnamed es place p.before.items x items added.1,
       added.2 ∙ (ap (λ (xs : List (Item NodeReference)). xs ++ items) e ∙ append_assoc old (map byte p.before.items) items),
     )
 
 -- one piece more
-pub pieces_more : (unnamed : Unnamed) (g : Growing) (numbers : List (Option ℕ)) (ps : List Piece) (i : ℕ) (d : Piece) (old new : List (Item NodeReference)) → i < length ps →
-    EachNaming g numbers (λ es number. named_parts unnamed es number (pieces_parts (take i ps)) ≡ Some old) →
-    EachNaming g numbers (λ es number. IsAdded old (named_parts unnamed es number (piece_parts (get_or ps i d))) new) →
-    EachNaming g numbers (λ es number. named_parts unnamed es number (pieces_parts (take (i + 1) ps)) ≡ Some new)
-pieces_more unnamed g numbers ps i d old new near before added es number limit of by =
-    let more = added es number limit of by in
+pub pieces_more : (unnamed : Unnamed) (g : Growing) (places : List (Option ℕ)) (ps : List Piece) (i : ℕ) (d : Piece) (old new : List (Item NodeReference)) → i < length ps →
+    EachNaming g places (λ es place. named_parts unnamed es place (pieces_parts (take i ps)) ≡ Some old) →
+    EachNaming g places (λ es place. IsAdded old (named_parts unnamed es place (piece_parts (get_or ps i d))) new) →
+    EachNaming g places (λ es place. named_parts unnamed es place (pieces_parts (take (i + 1) ps)) ≡ Some new)
+pieces_more unnamed g places ps i d old new near before added es place limit of by =
+    let more = added es place limit of by in
     let piece = get_or ps i d in
     let first = pieces_parts (take i ps) in
     let more_parts : pieces_parts (take (i + 1) ps) ≡ first ++ piece_parts piece =
     ap pieces_parts (take_more ps i d near) ∙ (pieces_append (take i ps) (piece ∷ []) ∙ ap (λ (xs : List Part). first ++ xs) (append-nil (piece_parts piece))) in
-    ap (named_parts unnamed es number) more_parts
-    ∙ (named_behind unnamed es number first (piece_parts piece)
-    ∙ (ap (λ (o : Option (List (Item NodeReference))). behind o (named_parts unnamed es number (piece_parts piece))) (before es number limit of by)
+    ap (named_parts unnamed es place) more_parts
+    ∙ (named_behind unnamed es place first (piece_parts piece)
+    ∙ (ap (λ (o : Option (List (Item NodeReference))). behind o (named_parts unnamed es place (piece_parts piece))) (before es place limit of by)
     ∙ (ap (behind (Some old)) more.1 ∙ ap (λ (xs : List (Item NodeReference)). Some xs) (sym more.2))))
 
 -- and the bytes behind them
-pub value_read : (unnamed : Unnamed) (g : Growing) (numbers : List (Option ℕ)) (v : Value) (i : ℕ) (old new : List (Item NodeReference)) → length v.pieces.items ≤ i →
-    EachNaming g numbers (λ es number. named_parts unnamed es number (pieces_parts (take i v.pieces.items)) ≡ Some old) → new ≡ old ++ map byte v.bytes.items →
-    EachNaming g numbers (λ es number. named_parts unnamed es number (value_said v) ≡ Some new)
-value_read unnamed g numbers v i old new all before e es number limit of by =
+pub value_read : (unnamed : Unnamed) (g : Growing) (places : List (Option ℕ)) (v : Value) (i : ℕ) (old new : List (Item NodeReference)) → length v.pieces.items ≤ i →
+    EachNaming g places (λ es place. named_parts unnamed es place (pieces_parts (take i v.pieces.items)) ≡ Some old) → new ≡ old ++ map byte v.bytes.items →
+    EachNaming g places (λ es place. named_parts unnamed es place (value_said v) ≡ Some new)
+value_read unnamed g places v i old new all before e es place limit of by =
     let ps = v.pieces.items in
-    named_behind unnamed es number (pieces_parts ps) (map one v.bytes.items)
-    ∙ (ap (λ (qs : List Piece). behind (named_parts unnamed es number (pieces_parts qs)) (named_parts unnamed es number (map one v.bytes.items))) (sym (take_all i ps all))
-    ∙ (ap (λ (o : Option (List (Item NodeReference))). behind o (named_parts unnamed es number (map one v.bytes.items))) (before es number limit of by)
-    ∙ (ap (behind (Some old)) (bytes_named unnamed es number v.bytes.items) ∙ ap (λ (xs : List (Item NodeReference)). Some xs) (sym e))))
+    named_behind unnamed es place (pieces_parts ps) (map one v.bytes.items)
+    ∙ (ap (λ (qs : List Piece). behind (named_parts unnamed es place (pieces_parts qs)) (named_parts unnamed es place (map one v.bytes.items))) (sym (take_all i ps all))
+    ∙ (ap (λ (o : Option (List (Item NodeReference))). behind o (named_parts unnamed es place (map one v.bytes.items))) (before es place limit of by)
+    ∙ (ap (behind (Some old)) (bytes_named unnamed es place v.bytes.items) ∙ ap (λ (xs : List (Item NodeReference)). Some xs) (sym e))))

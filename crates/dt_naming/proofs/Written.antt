@@ -1,4 +1,4 @@
--- Numbers that values write: four bytes, and no reference among them.
+-- Phandles that values write: four bytes, and no reference among them.
 use Rattle.std.proofs.Common.{◌≡◌, ℕ, ◌<◌, List, [], ◌∷◌, ◌++◌, map, length, None, refl, ap, ◌∙◌, arith, append_assoc}
 use Rattle.dt_model.specs.Source.{Part, one, number_of, text_of, written}
 use Rattle.dt_model.specs.Source as model

@@ -26,7 +26,7 @@ property_owner p = if p.stands then Some p.node else None
 abbrev pub label_owner : Giving → Option ℕ
 label_owner g = Some g.node
 
--- the label of a place
+-- the label of an index
 abbrev pub label_at : List Giving → ℕ → Name
 label_at givings i = option_map_or (λ (g : Giving). g.label.now) (slice_get givings i) []
 
@@ -37,10 +37,10 @@ abbrev pub names_text : Stack → List ℕ
 names_text [] = []
 names_text (x ∷ p) = names_text p ++ 47 ∷ x
 
--- The numbers that nodes are referred to by are those that they have in a list: each node that stands has one, below the limit.
-pub record AreNamedBy (nodes : List Node) (numbers : List (Option ℕ)) (limit : ℕ) (number : Stack → ℕ) : Type 0 where
-  pub there : (p : Stack) (k : ℕ) → Leads nodes p k → slice_get numbers k ≡ Some (Some (number p))
-  pub below : (p : Stack) (k : ℕ) → Leads nodes p k → number p < limit
+-- The places that nodes are referred to by are those that they have in a list: each node that stands has one, below the limit.
+pub record AreNamedBy (nodes : List Node) (places : List (Option ℕ)) (limit : ℕ) (place : Stack → ℕ) : Type 0 where
+  pub there : (p : Stack) (k : ℕ) → Leads nodes p k → slice_get places k ≡ Some (Some (place p))
+  pub below : (p : Stack) (k : ℕ) → Leads nodes p k → place p < limit
 
 -- the label of a cell's reference that names no node, where it is kept
 abbrev pub kept_label : Unnamed → Reference → Option Name
@@ -82,20 +82,20 @@ all_read unnamed es v = named_parts unnamed es reverse v
 abbrev pub read_values : Unnamed → Events → Path → Name → Option (List (Item OverlayReference))
 read_values unnamed es p x = option_and_then (all_read unnamed es) (value_at es (reverse p) x)
 
-module _ (unnamed : Unnamed) (es : Events) (number : Stack → ℕ) where
+module _ (unnamed : Unnamed) (es : Events) (place : Stack → ℕ) where
   -- ---- content
 
   abbrev pub named_property : Property → NamedProperty NodeReference
-  named_property p = record { name = p.name.now; value = unwrap_or (named_parts unnamed es number (value_said p.value.now)) [] }
+  named_property p = record { name = p.name.now; value = unwrap_or (named_parts unnamed es place (value_said p.value.now)) [] }
 
-  -- the property of a place
+  -- the property of an index
   abbrev pub property_at : List Property → ℕ → NamedProperty NodeReference
   property_at properties i = option_map_or named_property (slice_get properties i) (record { name = []; value = [] })
 
-  -- what node k has, where the places of each node's properties and labels are these
-  abbrev pub content_of : List Property → List Giving → (property_places label_places : ℕ → List ℕ) → ℕ → Content NodeReference
-  content_of properties givings property_places label_places k =
-      record { labels = map (label_at givings) (label_places k); properties = map (property_at properties) (property_places k) }
+  -- what node k has, where the indices of each node's properties and labels are these
+  abbrev pub content_of : List Property → List Giving → (property_indices label_indices : ℕ → List ℕ) → ℕ → Content NodeReference
+  content_of properties givings property_indices label_indices k =
+      record { labels = map (label_at givings) (label_indices k); properties = map (property_at properties) (property_indices k) }
 
 -- each reference of a value that stands is read
 abbrev pub AreResolved : Unnamed → List Node → List Property → Events → Type 0

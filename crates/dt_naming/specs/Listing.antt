@@ -9,7 +9,7 @@ use Rattle.dt_naming.specs.declared.listing.Row.{Row}
 use Rattle.dt_growing.specs.Grown.{name_said}
 use Rattle.dt_naming.specs.Owned.{AreOwned}
 
--- ---- nodes by their numbers
+-- ---- nodes by their indices
 
 -- the node to which a node belongs as a child, none where it was deleted
 abbrev pub parent_of : Node → Option ℕ
@@ -27,20 +27,20 @@ name_of nodes (suc k) = option_map_or (λ (n : Node). name_said n.name) (slice_g
 
 -- ---- rows
 
--- a node and what stands below it, for each of some children of the parent, where the first of them gets this number
-abbrev pub rows_each : (ℕ → ℕ → List Row) → (number parent : ℕ) → List ℕ → List Row
-rows_each below number parent [] = []
-rows_each below number parent (k ∷ ks) =
-    record { node = k; parent = parent } ∷ (below k number ++ rows_each below (suc number + length (below k number)) parent ks)
+-- a node and what stands below it, for each of some children of the parent, where the first of them gets this place
+abbrev pub rows_each : (ℕ → ℕ → List Row) → (place parent : ℕ) → List ℕ → List Row
+rows_each below place parent [] = []
+rows_each below place parent (k ∷ ks) =
+    record { node = k; parent = parent } ∷ (below k place ++ rows_each below (suc place + length (below k place)) parent ks)
 
--- what stands below node k, which has this number, as deep as the depth
-unfoldable pub rows_below : (children : ℕ → List ℕ) → (depth k number : ℕ) → List Row
-rows_below children zero k number = []
-rows_below children (suc depth) k number = rows_each (rows_below children depth) (suc number) number (children k)
+-- what stands below node k, which has this place, as deep as the depth
+unfoldable pub rows_below : (children : ℕ → List ℕ) → (depth k place : ℕ) → List Row
+rows_below children zero k place = []
+rows_below children (suc depth) k place = rows_each (rows_below children depth) (suc place) place (children k)
 
--- a row with its number, and what stands below its node
-abbrev pub rows_of : (children : ℕ → List ℕ) → (depth : ℕ) → Row → (number : ℕ) → List Row
-rows_of children depth r number = r ∷ rows_below children depth r.node number
+-- a row with its place, and what stands below its node
+abbrev pub rows_of : (children : ℕ → List ℕ) → (depth : ℕ) → Row → (place : ℕ) → List Row
+rows_of children depth r place = r ∷ rows_below children depth r.node place
 
 -- The rows are those of the nodes that stand, in preorder.
 pub record AreRows (nodes : List Node) (rows : List Row) : Type 0 where
@@ -48,11 +48,11 @@ pub record AreRows (nodes : List Node) (rows : List Row) : Type 0 where
   pub owned : AreOwned (parents_of nodes) (length nodes) children
   pub are : rows ≡ rows_of children most_names (record { node = 0; parent = 0 }) 0
 
--- The numbers of nodes are their places among the rows; each node of a row has one, where there are so many nodes.
-pub record AreNumbers (rows : List Row) (count : ℕ) (numbers : List (Option ℕ)) : Type 0 where
-  pub size : length numbers ≡ count
-  pub sound : (k j : ℕ) → slice_get numbers k ≡ Some (Some j) → (r : Row) × (slice_get rows j ≡ Some r) × (r.node ≡ k)
-  pub complete : (j : ℕ) (r : Row) → slice_get rows j ≡ Some r → r.node < count → (i : ℕ) × (slice_get numbers r.node ≡ Some (Some i))
+-- The places of nodes are those among the rows; each node of a row has one, where there are so many nodes.
+pub record ArePlaces (rows : List Row) (count : ℕ) (places : List (Option ℕ)) : Type 0 where
+  pub size : length places ≡ count
+  pub sound : (k j : ℕ) → slice_get places k ≡ Some (Some j) → (r : Row) × (slice_get rows j ≡ Some r) × (r.node ≡ k)
+  pub complete : (j : ℕ) (r : Row) → slice_get rows j ≡ Some r → r.node < count → (i : ℕ) × (slice_get places r.node ≡ Some (Some i))
 
 -- ---- the named tree
 

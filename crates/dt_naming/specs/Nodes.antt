@@ -13,7 +13,7 @@ use Rattle.dt_names.specs.declared.fault.Fault.{Fault}
 use Rattle.dt_names.specs.declared.fault.FaultKind.{FaultKind}
 use Rattle.dt_names.specs.declared.fault.FaultKind.TheVariants as fault
 use Rattle.dt_growing.specs.declared.growing.Growing.{Growing}
-use Rattle.dt_naming.specs.declared.contents.Belongings.{Belongings}
+use Rattle.dt_naming.specs.declared.belongings.Belongings.{Belongings}
 use Rattle.dt_naming.specs.declared.listing.Row.{Row}
 use Rattle.dt_naming.specs.Owned.{group_of}
 use Rattle.dt_naming.specs.Contents.{AreLabelled, all_read, read_values}
@@ -24,17 +24,17 @@ use Rattle.dt_naming.specs.Phandles.{AreWritten, AreOwn, WhyNotNumbered}
 
 -- ---- with their rows
 
--- the nodes of the rows are these, and the numbers that are written in them are as they have to be
+-- the nodes of the rows are these, and the phandles that are written in them are as they have to be
 pub record AreFilled (g : Growing) (b : Belongings) (rows : List Row) (ns : List (Listed NodeReference)) : Type 0 where
-  pub read : EachNaming g b.numbers.items (λ es number. AreRowsRead Refused es number g b rows ns)
-  pub written : AreWritten b.numbers.items g.properties.items
-  pub own : AreOwn b.numbers.items g.properties.items
+  pub read : EachNaming g b.places.items (λ es place. AreRowsRead Refused es place g b rows ns)
+  pub written : AreWritten b.places.items g.properties.items
+  pub own : AreOwn b.places.items g.properties.items
 
--- a reference isn't read, or all are, and a number isn't as it has to be
+-- a reference isn't read, or all are, and a phandle isn't as it has to be
 abbrev pub IsUnfilled : Growing → Belongings → List Row → Fault → Type 0
 IsUnfilled g b rows e = IsUnreadRow Refused g b rows e
-    ⊎ (EachNaming g b.numbers.items (λ es number. (r : Row) → IsIn r rows → AreRead Refused es g.properties.items (group_of b.properties r.node))
-    × WhyNotNumbered b.numbers.items g.properties.items e)
+    ⊎ (EachNaming g b.places.items (λ es place. (r : Row) → IsIn r rows → AreRead Refused es g.properties.items (group_of b.properties r.node))
+    × WhyNotNumbered b.places.items g.properties.items e)
 
 -- ---- by the events
 

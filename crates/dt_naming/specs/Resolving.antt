@@ -12,7 +12,7 @@ use Rattle.dt_growing.specs.declared.growing.Property.{Property}
 use Rattle.dt_growing.specs.declared.growing.Growing.{Growing}
 use Rattle.dt_growing.specs.Grown.{IsGrown}
 use Rattle.dt_model.specs.Named.{NodeReference, NamedProperty, Content, Listed}
-use Rattle.dt_naming.specs.declared.contents.Belongings.{Belongings}
+use Rattle.dt_naming.specs.declared.belongings.Belongings.{Belongings}
 use Rattle.dt_naming.specs.declared.listing.Row.{Row}
 use Rattle.dt_naming.specs.Owned.{group_of, AreOwned}
 use Rattle.dt_naming.specs.Listing.{name_of, listed_row}
@@ -20,12 +20,12 @@ use Rattle.dt_growing.specs.declared.referring.Unnamed.{Unnamed}
 use Rattle.dt_naming.specs.Contents.{property_owner, label_owner, AreNamedBy, all_read, property_at, content_of}
 
 -- the growing tree is that of the events
-abbrev pub IsOf : Growing → Events → Type 0
-IsOf g es = IsGrown g.nodes.items g.properties.items g.givings.items es
+abbrev pub IsGrownBy : Growing → Events → Type 0
+IsGrownBy g es = IsGrown g.nodes.items g.properties.items g.givings.items es
 
--- P holds of all events that the tree is of, and of the numbers that its nodes have in the list
+-- P holds of all events that the tree is of, and of the places that its nodes have in the list
 abbrev pub EachNaming : Growing → List (Option ℕ) → (Events → (Stack → ℕ) → Type 0) → Type 0
-EachNaming g numbers P = (es : Events) (number : Stack → ℕ) (limit : ℕ) → IsOf g es → AreNamedBy g.nodes.items numbers limit number → P es number
+EachNaming g places P = (es : Events) (place : Stack → ℕ) (limit : ℕ) → IsGrownBy g es → AreNamedBy g.nodes.items places limit place → P es place
 
 -- something was added to a value
 abbrev pub IsAdded : List (Item NodeReference) → Option (List (Item NodeReference)) → List (Item NodeReference) → Type 0
@@ -39,52 +39,52 @@ WhyUnread unnamed es parts kind = ⊥
 
 -- parts aren't read for this
 abbrev pub IsUnread : Unnamed → Growing → List Part → Fault → Type 0
-IsUnread unnamed g parts e = (e.at ≡ None) × ((es : Events) → IsOf g es → WhyUnread unnamed es parts e.kind)
+IsUnread unnamed g parts e = (e.at ≡ None) × ((es : Events) → IsGrownBy g es → WhyUnread unnamed es parts e.kind)
 
 -- P holds of all events that the tree is of
 abbrev pub EachEvents : Growing → (Events → Type 0) → Type 0
-EachEvents g P = (es : Events) → IsOf g es → P es
+EachEvents g P = (es : Events) → IsGrownBy g es → P es
 
--- the references of the properties at some places are read
+-- the references of the properties at some indices are read
 abbrev pub AreRead : Unnamed → Events → List Property → List ℕ → Type 0
-AreRead unnamed es properties places = (i : ℕ) (q : Property) → IsIn i places → slice_get properties i ≡ Some q → IsSome (all_read unnamed es (value_said q.value.now))
+AreRead unnamed es properties indices = (i : ℕ) (q : Property) → IsIn i indices → slice_get properties i ≡ Some q → IsSome (all_read unnamed es (value_said q.value.now))
 
--- why the properties at some places aren't read
+-- why the properties at some indices aren't read
 abbrev pub WhyUnreadAmong : Unnamed → Events → List Property → List ℕ → FaultKind → Type 0
-WhyUnreadAmong unnamed es properties places fault.NoMemory = Unit {0}
-WhyUnreadAmong unnamed es properties places fault.UnresolvedReference =
-    (i : ℕ) × (q : Property) × IsIn i places × (slice_get properties i ≡ Some q) × (all_read unnamed es (value_said q.value.now) ≡ None)
-WhyUnreadAmong unnamed es properties places kind = ⊥
+WhyUnreadAmong unnamed es properties indices fault.NoMemory = Unit {0}
+WhyUnreadAmong unnamed es properties indices fault.UnresolvedReference =
+    (i : ℕ) × (q : Property) × IsIn i indices × (slice_get properties i ≡ Some q) × (all_read unnamed es (value_said q.value.now) ≡ None)
+WhyUnreadAmong unnamed es properties indices kind = ⊥
 
 abbrev pub IsUnreadAmong : Unnamed → Growing → List ℕ → Fault → Type 0
-IsUnreadAmong unnamed g places e = (e.at ≡ None) × EachEvents g (λ es. WhyUnreadAmong unnamed es g.properties.items places e.kind)
+IsUnreadAmong unnamed g indices e = (e.at ≡ None) × EachEvents g (λ es. WhyUnreadAmong unnamed es g.properties.items indices e.kind)
 
--- the property of a place is this one, and its references are read
+-- the property of an index is this one, and its references are read
 abbrev pub IsPropertyRead : Unnamed → Events → (Stack → ℕ) → List Property → ℕ → NamedProperty NodeReference → Type 0
-IsPropertyRead unnamed es number properties i p = (p ≡ property_at unnamed es number properties i) × AreRead unnamed es properties (i ∷ [])
+IsPropertyRead unnamed es place properties i p = (p ≡ property_at unnamed es place properties i) × AreRead unnamed es properties (i ∷ [])
 
--- the properties of some places are these
+-- the properties of some indices are these
 abbrev pub ArePropertiesRead : Unnamed → Events → (Stack → ℕ) → List Property → List ℕ → List (NamedProperty NodeReference) → Type 0
-ArePropertiesRead unnamed es number properties places ps = (ps ≡ map (property_at unnamed es number properties) places) × AreRead unnamed es properties places
+ArePropertiesRead unnamed es place properties indices ps = (ps ≡ map (property_at unnamed es place properties) indices) × AreRead unnamed es properties indices
 
--- the places are those of the nodes' properties and labels
+-- the indices are those of the nodes' properties and labels
 pub record Belong (g : Growing) (b : Belongings) : Type 0 where
   pub properties : AreOwned (map property_owner g.properties.items) (length g.nodes.items) (group_of b.properties)
   pub labels : AreOwned (map label_owner g.givings.items) (length g.nodes.items) (group_of b.labels)
 
 -- what a node has by what belongs to each
 abbrev pub content_by : Unnamed → Events → (Stack → ℕ) → Growing → Belongings → ℕ → Content NodeReference
-content_by unnamed es number g b = content_of unnamed es number g.properties.items g.givings.items (group_of b.properties) (group_of b.labels)
+content_by unnamed es place g b = content_of unnamed es place g.properties.items g.givings.items (group_of b.properties) (group_of b.labels)
 
 -- the node of a row is this one, and its references are read
 abbrev pub IsRowRead : Unnamed → Events → (Stack → ℕ) → Growing → Belongings → Row → Listed NodeReference → Type 0
-IsRowRead unnamed es number g b r n =
-    (n ≡ listed_row (name_of g.nodes.items) (content_by unnamed es number g b) r) × AreRead unnamed es g.properties.items (group_of b.properties r.node)
+IsRowRead unnamed es place g b r n =
+    (n ≡ listed_row (name_of g.nodes.items) (content_by unnamed es place g b) r) × AreRead unnamed es g.properties.items (group_of b.properties r.node)
 
 -- the nodes of some rows are these, and their references are read
 abbrev pub AreRowsRead : Unnamed → Events → (Stack → ℕ) → Growing → Belongings → List Row → List (Listed NodeReference) → Type 0
-AreRowsRead unnamed es number g b rows ns =
-    (ns ≡ map (listed_row (name_of g.nodes.items) (content_by unnamed es number g b)) rows)
+AreRowsRead unnamed es place g b rows ns =
+    (ns ≡ map (listed_row (name_of g.nodes.items) (content_by unnamed es place g b)) rows)
     × ((r : Row) → IsIn r rows → AreRead unnamed es g.properties.items (group_of b.properties r.node))
 
 -- why the node of a row isn't read

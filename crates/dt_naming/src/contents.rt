@@ -6,96 +6,18 @@ ghost use Rattle.dt_model.specs.Lists.{IsIn};
 ghost use Rattle.dt_growing.specs.Grown.{name_said};
 ghost use Rattle.dt_named.specs.Said.{property_said, node_said};
 ghost use Rattle.dt_growing.specs.Growing.{IsSound};
-ghost use Rattle.dt_naming.specs.Owned.{group_of, AreOwned};
-ghost use Rattle.dt_naming.specs.Listing.{name_of, AreNumbers};
-ghost use Rattle.dt_naming.specs.Contents.{property_owner, label_owner, label_at};
+ghost use Rattle.dt_naming.specs.Owned.{group_of};
+ghost use Rattle.dt_naming.specs.Listing.{name_of};
+ghost use Rattle.dt_naming.specs.Contents.{label_at};
 ghost use Rattle.dt_naming.specs.Resolving.{EachNaming, IsUnreadAmong, IsPropertyRead, ArePropertiesRead, IsRowRead, AreRowsRead, IsUnreadRow, Belong};
 
-use crate::groups::Groups;
-use crate::listing::{Row, numbers};
-use crate::values::named_value;
-use dt_growing::{Giving, Growing, NameText, Node, Property, Unnamed};
+use crate::listing::Row;
+use crate::values::Resolver;
+use dt_growing::{Giving, NameText, Node};
 use dt_named::{NamedNode, NamedProperty};
 use dt_names::Fault;
 use std::alloc::{AllocError, Global};
 use std::borrow::CowSlice;
-
-/// What belongs to the nodes of a tree under construction: the places of their properties and of their labels, and their numbers.
-#[derive(Drop)]
-pub(crate) struct Belongings {
-    pub properties: Groups,
-    pub labels: Groups,
-    pub numbers: Vec<Option<usize>>,
-}
-
-/// The node to which each property belongs; none for those that were deleted.
-fn property_owners(
-    alloc: Global,
-    properties: &[Property<'_, '_>],
-) -> Result<Vec<Option<usize>>, AllocError>
-    ensures { IfOk result (λ v. v.items ≡ map property_owner properties.now) }
-{
-    let mut owners = Vec::with_capacity(alloc, properties.len())?;
-    for property in properties {
-        let owner = if property.stands {
-            Some(property.node)
-        } else {
-            None
-        };
-        owners.push(owner)?;
-    }
-    Ok(owners)
-}
-
-/// The node to which each label belongs.
-fn label_owners(alloc: Global, givings: &[Giving<'_>]) -> Result<Vec<Option<usize>>, AllocError>
-    ensures { IfOk result (λ v. v.items ≡ map label_owner givings.now) }
-{
-    let mut owners = Vec::with_capacity(alloc, givings.len())?;
-    for giving in givings {
-        owners.push(Some(giving.node))?;
-    }
-    Ok(owners)
-}
-
-/// The properties of each of so many nodes.
-fn properties_by_node(
-    alloc: Global,
-    properties: &[Property<'_, '_>],
-    count: usize,
-) -> Result<Groups, AllocError>
-    ensures { IfOk result (λ groups. AreOwned (map property_owner properties.now) count (group_of groups)) }
-{
-    let owners = property_owners(alloc, properties)?;
-    Groups::new(alloc, &owners, count)
-}
-
-/// The labels of each of so many nodes.
-fn labels_by_node(alloc: Global, givings: &[Giving<'_>], count: usize) -> Result<Groups, AllocError>
-    ensures { IfOk result (λ groups. AreOwned (map label_owner givings.now) count (group_of groups)) }
-{
-    let owners = label_owners(alloc, givings)?;
-    Groups::new(alloc, &owners, count)
-}
-
-impl Belongings {
-    /// What belongs to the nodes of a tree under construction, where these are its rows.
-    pub fn new(
-        alloc: Global,
-        growing: &Growing<'_, '_>,
-        rows: &[Row],
-    ) -> Result<Belongings, AllocError>
-        ensures belong { IfOk result (λ b. Belong growing.now b) }
-        ensures numbers { IfOk result (λ b. AreNumbers rows.now (length growing.now.nodes.items) b.numbers.items) }
-    {
-        let count = growing.nodes.len();
-        Ok(Belongings {
-            properties: properties_by_node(alloc, &growing.properties, count)?,
-            labels: labels_by_node(alloc, &growing.givings, count)?,
-            numbers: numbers(alloc, rows, count)?,
-        })
-    }
-}
 
 /// A name as a named tree has it.
 fn kept_name<'a>(alloc: Global, name: NameText<'_, 'a>) -> Result<CowSlice<'a, u8>, AllocError>
@@ -124,140 +46,132 @@ fn name_at<'a>(
     }
 }
 
-/// The label at a place.
-fn label_there<'a>(givings: &[Giving<'a>], place: usize) -> &'a [u8]
-    requires { place < length givings.now }
-    ensures { result.now ≡ label_at givings.now place }
+/// The label at an index.
+fn label_there<'a>(givings: &[Giving<'a>], index: usize) -> &'a [u8]
+    requires { index < length givings.now }
+    ensures { result.now ≡ label_at givings.now index }
 {
-    givings[place].label
+    givings[index].label
 }
 
-/// The labels at some places.
+/// The labels at some indices.
 fn labels_at<'a>(
     alloc: Global,
     givings: &[Giving<'a>],
-    places: &[usize],
+    indices: &[usize],
 ) -> Result<Vec<&'a [u8]>, AllocError>
-    requires { (i : ℕ) → IsIn i places.now → i < length givings.now }
-    ensures { IfOk result (λ labels. map (λ l. l.now) labels.items ≡ map (label_at givings.now) places.now) }
+    requires { (i : ℕ) → IsIn i indices.now → i < length givings.now }
+    ensures { IfOk result (λ labels. map (λ l. l.now) labels.items ≡ map (label_at givings.now) indices.now) }
 {
-    let mut labels = Vec::with_capacity(alloc, places.len())?;
-    for place in places {
-        labels.push(label_there(givings, *place))?;
+    let mut labels = Vec::with_capacity(alloc, indices.len())?;
+    for index in indices {
+        labels.push(label_there(givings, *index))?;
     }
     Ok(labels)
 }
 
-/// The property at a place, with its references read.
-fn property_there<'a>(
-    alloc: Global,
-    growing: &Growing<'_, 'a>,
-    numbers: &[Option<usize>],
-    unnamed: Unnamed,
-    place: usize,
-) -> Result<NamedProperty<'a>, Fault>
-    requires sound { IsSound growing.now }
-    requires inside { place < length growing.now.properties.items }
-    ensures { MatchResult result
-        (λ property. EachNaming growing.now numbers.now (λ es number. IsPropertyRead unnamed es number growing.now.properties.items place (property_said property)))
-        (λ fault. IsUnreadAmong unnamed growing.now (place ∷ []) fault) }
-{
-    let property = &growing.properties[place];
-    let value = named_value(alloc, growing, numbers, unnamed, property.value)?;
-    Ok(NamedProperty {
-        name: property.name,
-        value,
-    })
-}
-
-/// Adds the properties at some places to none.
-fn add_properties<'a>(
-    alloc: Global,
-    growing: &Growing<'_, 'a>,
-    numbers: &[Option<usize>],
-    unnamed: Unnamed,
-    places: &[usize],
-    properties: &mut Vec<NamedProperty<'a>>,
-) -> Result<(), Fault>
-    requires sound { IsSound growing.now }
-    requires inside { (i : ℕ) → IsIn i places.now → i < length growing.now.properties.items }
-    requires empty { properties.old.items ≡ [] }
-    ensures { MatchResult result
-        (λ _. EachNaming growing.now numbers.now (λ es number. ArePropertiesRead unnamed es number growing.now.properties.items places.now (map property_said properties.new.items)))
-        (λ fault. IsUnreadAmong unnamed growing.now places.now fault) }
-{
-    for place in places {
-        let property = property_there(alloc, growing, numbers, unnamed, *place)?;
-        properties.push(property)?;
+impl<'a> Resolver<'_, '_, 'a> {
+    /// The property at an index, with its references read.
+    fn property_there(&self, alloc: Global, index: usize) -> Result<NamedProperty<'a>, Fault>
+        requires sound { IsSound self.now.growing.now }
+        requires inside { index < length self.now.growing.now.properties.items }
+        ensures { MatchResult result
+            (λ property. EachNaming self.now.growing.now self.now.belongings.now.places.items (λ es place.
+            IsPropertyRead self.now.unnamed es place self.now.growing.now.properties.items index (property_said property)))
+            (λ fault. IsUnreadAmong self.now.unnamed self.now.growing.now (index ∷ []) fault) }
+    {
+        let property = &self.growing.properties[index];
+        let value = self.named_value(alloc, property.value)?;
+        Ok(NamedProperty {
+            name: property.name,
+            value,
+        })
     }
-    Ok(())
-}
 
-/// The properties at some places, with their references read. `UnresolvedReference` where one names no node.
-fn properties_at<'a>(
-    alloc: Global,
-    growing: &Growing<'_, 'a>,
-    numbers: &[Option<usize>],
-    unnamed: Unnamed,
-    places: &[usize],
-) -> Result<Vec<NamedProperty<'a>>, Fault>
-    requires sound { IsSound growing.now }
-    requires inside { (i : ℕ) → IsIn i places.now → i < length growing.now.properties.items }
-    ensures { MatchResult result
-        (λ properties. EachNaming growing.now numbers.now (λ es number.
-        ArePropertiesRead unnamed es number growing.now.properties.items places.now (map property_said properties.items)))
-        (λ fault. IsUnreadAmong unnamed growing.now places.now fault) }
-{
-    let mut properties = Vec::with_capacity(alloc, places.len())?;
-    add_properties(alloc, growing, numbers, unnamed, places, &mut properties)?;
-    Ok(properties)
-}
-
-/// The node of a row.
-fn named_node<'a>(
-    alloc: Global,
-    growing: &Growing<'_, 'a>,
-    belongings: &Belongings,
-    unnamed: Unnamed,
-    row: Row,
-) -> Result<NamedNode<'a>, Fault>
-    requires sound { IsSound growing.now }
-    requires belong { Belong growing.now belongings.now }
-    ensures { MatchResult result
-        (λ node. EachNaming growing.now belongings.now.numbers.items (λ es number. IsRowRead unnamed es number growing.now belongings.now row (node_said node)))
-        (λ fault. IsUnreadAmong unnamed growing.now (group_of belongings.now.properties row.node) fault) }
-{
-    let name = name_at(alloc, &growing.nodes, row.node)?;
-    let labels = labels_at(alloc, &growing.givings, belongings.labels.of(row.node))?;
-    let places = belongings.properties.of(row.node);
-    let properties = properties_at(alloc, growing, &belongings.numbers, unnamed, places)?;
-    Ok(NamedNode {
-        parent: row.parent,
-        name,
-        labels,
-        properties,
-    })
-}
-
-/// Adds the nodes of the rows to none.
-pub(crate) fn add_nodes<'a>(
-    alloc: Global,
-    growing: &Growing<'_, 'a>,
-    belongings: &Belongings,
-    unnamed: Unnamed,
-    rows: &[Row],
-    nodes: &mut Vec<NamedNode<'a>>,
-) -> Result<(), Fault>
-    requires sound { IsSound growing.now }
-    requires belong { Belong growing.now belongings.now }
-    requires empty { nodes.old.items ≡ [] }
-    ensures { MatchResult result
-        (λ _. EachNaming growing.now belongings.now.numbers.items (λ es number. AreRowsRead unnamed es number growing.now belongings.now rows.now (map node_said nodes.new.items)))
-        (λ fault. IsUnreadRow unnamed growing.now belongings.now rows.now fault) }
-{
-    for row in rows {
-        let node = named_node(alloc, growing, belongings, unnamed, *row)?;
-        nodes.push(node)?;
+    /// Adds the properties at some indices to none.
+    fn add_properties(
+        &self,
+        alloc: Global,
+        indices: &[usize],
+        properties: &mut Vec<NamedProperty<'a>>,
+    ) -> Result<(), Fault>
+        requires sound { IsSound self.now.growing.now }
+        requires inside { (i : ℕ) → IsIn i indices.now → i < length self.now.growing.now.properties.items }
+        requires empty { properties.old.items ≡ [] }
+        ensures { MatchResult result
+            (λ _. EachNaming self.now.growing.now self.now.belongings.now.places.items (λ es place.
+            ArePropertiesRead self.now.unnamed es place self.now.growing.now.properties.items indices.now (map property_said properties.new.items)))
+            (λ fault. IsUnreadAmong self.now.unnamed self.now.growing.now indices.now fault) }
+    {
+        for index in indices {
+            let property = self.property_there(alloc, *index)?;
+            properties.push(property)?;
+        }
+        Ok(())
     }
-    Ok(())
+
+    /// The properties at some indices, with their references read. `UnresolvedReference` where one names no node.
+    fn properties_at(
+        &self,
+        alloc: Global,
+        indices: &[usize],
+    ) -> Result<Vec<NamedProperty<'a>>, Fault>
+        requires sound { IsSound self.now.growing.now }
+        requires inside { (i : ℕ) → IsIn i indices.now → i < length self.now.growing.now.properties.items }
+        ensures { MatchResult result
+            (λ properties. EachNaming self.now.growing.now self.now.belongings.now.places.items (λ es place.
+            ArePropertiesRead self.now.unnamed es place self.now.growing.now.properties.items indices.now (map property_said properties.items)))
+            (λ fault. IsUnreadAmong self.now.unnamed self.now.growing.now indices.now fault) }
+    {
+        let mut properties = Vec::with_capacity(alloc, indices.len())?;
+        self.add_properties(alloc, indices, &mut properties)?;
+        Ok(properties)
+    }
+
+    /// The node of a row.
+    fn named_node(&self, alloc: Global, row: Row) -> Result<NamedNode<'a>, Fault>
+        requires sound { IsSound self.now.growing.now }
+        requires belong { Belong self.now.growing.now self.now.belongings.now }
+        ensures { MatchResult result
+            (λ node. EachNaming self.now.growing.now self.now.belongings.now.places.items (λ es place.
+            IsRowRead self.now.unnamed es place self.now.growing.now self.now.belongings.now row (node_said node)))
+            (λ fault. IsUnreadAmong self.now.unnamed self.now.growing.now (group_of self.now.belongings.now.properties row.node) fault) }
+    {
+        let name = name_at(alloc, &self.growing.nodes, row.node)?;
+        let labels = labels_at(
+            alloc,
+            &self.growing.givings,
+            self.belongings.labels.of(row.node),
+        )?;
+        let indices = self.belongings.properties.of(row.node);
+        let properties = self.properties_at(alloc, indices)?;
+        Ok(NamedNode {
+            parent: row.parent,
+            name,
+            labels,
+            properties,
+        })
+    }
+
+    /// Adds the nodes of the rows to none.
+    pub fn add_nodes(
+        &self,
+        alloc: Global,
+        rows: &[Row],
+        nodes: &mut Vec<NamedNode<'a>>,
+    ) -> Result<(), Fault>
+        requires sound { IsSound self.now.growing.now }
+        requires belong { Belong self.now.growing.now self.now.belongings.now }
+        requires empty { nodes.old.items ≡ [] }
+        ensures { MatchResult result
+            (λ _. EachNaming self.now.growing.now self.now.belongings.now.places.items (λ es place.
+            AreRowsRead self.now.unnamed es place self.now.growing.now self.now.belongings.now rows.now (map node_said nodes.new.items)))
+            (λ fault. IsUnreadRow self.now.unnamed self.now.growing.now self.now.belongings.now rows.now fault) }
+    {
+        for row in rows {
+            let node = self.named_node(alloc, *row)?;
+            nodes.push(node)?;
+        }
+        Ok(())
+    }
 }

@@ -1,7 +1,13 @@
 //! The named nodes that a grown tree stands for: those that weren't deleted, in preorder, each with its properties and labels in the order of the text; in
-//! their values references are read, to places among these nodes, and the numbers that `phandle` writes differ (Devicetree Specification v0.4, 2.3.3).
+//! their values references are read, to places among these nodes, and the phandles that are written differ (Devicetree Specification v0.4, 2.3.3).
+//!
+//! ```text
+//! let nodes = named_nodes(alloc, seed, &growing)?; // of `/ { a { b { }; }; c { }; };`
+//! nodes[3].parent;                                 // 0: /c is below the root
+//! ```
 #![tactic(auto)]
 
+mod belongings;
 mod contents;
 mod groups;
 mod listing;

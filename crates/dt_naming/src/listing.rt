@@ -3,7 +3,7 @@
 ghost use Rattle.std.specs.Prelude.{◌≡◌, ◌==◌, ◌∷◌, [], ◌++◌, None, length, slice_set, if◌then◌else◌, IfOk, OnOk};
 ghost use Rattle.dt_model.specs.Limits.{most_names};
 ghost use Rattle.dt_naming.specs.Owned.{group_of, AreOwned};
-ghost use Rattle.dt_naming.specs.Listing.{parent_of, parents_of, rows_of, AreRows, AreNumbers};
+ghost use Rattle.dt_naming.specs.Listing.{parent_of, parents_of, rows_of, AreRows, ArePlaces};
 
 use crate::groups::Groups;
 use dt_growing::Node;
@@ -30,13 +30,13 @@ fn add(rows: &mut Vec<Row>, children: &Groups, row: Row, depth: usize) -> Result
     ensures { OnOk result
         (rows.new.items ≡ rows.old.items ++ rows_of (group_of children.now) depth row (length rows.old.items)) }
 {
-    let number = rows.len();
+    let place = rows.len();
     push(rows, row)?;
     if depth > 0 {
         for child in children.of(row.node) {
             let row = Row {
                 node: *child,
-                parent: number,
+                parent: place,
             };
             add(rows, children, row, depth - 1)?;
         }
@@ -44,11 +44,11 @@ fn add(rows: &mut Vec<Row>, children: &Groups, row: Row, depth: usize) -> Result
     Ok(())
 }
 
-/// The node to which the node of this number belongs as a child; none for the root, and where it was deleted.
-fn parent(number: usize, node: &Node<'_, '_>) -> Option<usize>
-    ensures { result ≡ (if number == 0 then None else parent_of node.now) }
+/// The node to which the node of this index belongs as a child; none for the root, and where it was deleted.
+fn parent(index: usize, node: &Node<'_, '_>) -> Option<usize>
+    ensures { result ≡ (if index == 0 then None else parent_of node.now) }
 {
-    if number > 0 && node.stands {
+    if index > 0 && node.stands {
         Some(node.parent)
     } else {
         None
@@ -60,8 +60,8 @@ fn parents(alloc: Global, nodes: &[Node<'_, '_>]) -> Result<Vec<Option<usize>>, 
     ensures { IfOk result (λ v. v.items ≡ parents_of nodes.now) }
 {
     let mut parents = Vec::with_capacity(alloc, nodes.len())?;
-    for (number, node) in nodes.iter().enumerate() {
-        parents.push(parent(number, node))?;
+    for (index, node) in nodes.iter().enumerate() {
+        parents.push(parent(index, node))?;
     }
     Ok(parents)
 }
@@ -92,26 +92,26 @@ pub(crate) fn rows(alloc: Global, nodes: &[Node<'_, '_>]) -> Result<Vec<Row>, Al
     preorder(alloc, &children)
 }
 
-/// The node has this number; nothing is written where there is no place for it.
-fn set_number(numbers: &mut Vec<Option<usize>>, node: usize, number: usize)
-    ensures { numbers.new.items ≡ slice_set numbers.old.items node (Some number) }
+/// The node has this place; nothing is written where there is no place for it.
+fn set_place(places: &mut Vec<Option<usize>>, node: usize, place: usize)
+    ensures { places.new.items ≡ slice_set places.old.items node (Some place) }
 {
-    if node < numbers.len() {
-        numbers[node] = Some(number);
+    if node < places.len() {
+        places[node] = Some(place);
     }
 }
 
 /// For each of so many nodes of the tree under construction its place among the rows; none where it doesn't stand.
-pub(crate) fn numbers(
+pub(crate) fn places(
     alloc: Global,
     rows: &[Row],
     count: usize,
 ) -> Result<Vec<Option<usize>>, AllocError>
-    ensures { IfOk result (λ v. AreNumbers rows.now count v.items) }
+    ensures { IfOk result (λ v. ArePlaces rows.now count v.items) }
 {
-    let mut numbers = vec![in alloc; None; count]?;
-    for (number, row) in rows.iter().enumerate() {
-        set_number(&mut numbers, row.node, number);
+    let mut places = vec![in alloc; None; count]?;
+    for (place, row) in rows.iter().enumerate() {
+        set_place(&mut places, row.node, place);
     }
-    Ok(numbers)
+    Ok(places)
 }

@@ -3,19 +3,20 @@
 ghost use Rattle.std.specs.Prelude.{◌≡◌, [], length, map, MatchResult};
 ghost use Rattle.dt_named.specs.Said.{node_said};
 ghost use Rattle.dt_growing.specs.Growing.{IsSound};
-ghost use Rattle.dt_naming.specs.Listing.{AreRows, AreNumbers};
+ghost use Rattle.dt_naming.specs.Listing.{AreRows, ArePlaces};
 ghost use Rattle.dt_naming.specs.Resolving.{Belong};
 ghost use Rattle.dt_naming.specs.Nodes.{AreFilled, IsUnfilled, AreListed, IsUnlisted, AreKept, IsUnkept};
 
-use crate::contents::{Belongings, add_nodes};
+use crate::belongings::Belongings;
 use crate::listing::{Row, rows};
 use crate::phandles::check_phandles;
+use crate::values::Resolver;
 use dt_growing::{Growing, Unnamed};
 use dt_named::NamedNode;
 use dt_names::{Fault, Seed};
 use std::alloc::{AllocError, Global};
 
-/// Adds the nodes of the rows to none, and looks at the numbers that are written in them.
+/// Adds the nodes of the rows to none, and looks at the phandles that are written in them.
 fn fill<'a>(
     alloc: Global,
     seed: Seed,
@@ -31,9 +32,13 @@ fn fill<'a>(
         (λ _. AreFilled growing.now belongings.now rows.now (map node_said nodes.new.items))
         (λ fault. IsUnfilled growing.now belongings.now rows.now fault) }
 {
-    let numbers = &belongings.numbers;
-    add_nodes(alloc, growing, belongings, Unnamed::Refused, rows, nodes)?;
-    check_phandles(alloc, seed, &growing.properties, numbers)
+    let resolver = Resolver {
+        growing,
+        belongings,
+        unnamed: Unnamed::Refused,
+    };
+    resolver.add_nodes(alloc, rows, nodes)?;
+    check_phandles(alloc, seed, &growing.properties, &belongings.places)
 }
 
 /// The nodes of the rows, each with what it has, where this is what belongs to them.
@@ -47,7 +52,7 @@ fn filled_nodes<'a>(
     requires sound { IsSound growing.now }
     requires rows { AreRows growing.now.nodes.items rows.now }
     requires belong { Belong growing.now belongings.now }
-    requires numbers { AreNumbers rows.now (length growing.now.nodes.items) belongings.now.numbers.items }
+    requires places { ArePlaces rows.now (length growing.now.nodes.items) belongings.now.places.items }
     ensures { MatchResult result
         (λ nodes. AreListed growing.now (map node_said nodes.items))
         (λ fault. IsUnlisted growing.now fault) }
@@ -100,13 +105,18 @@ fn kept_nodes<'a>(
     requires sound { IsSound growing.now }
     requires rows { AreRows growing.now.nodes.items rows.now }
     requires belong { Belong growing.now belongings.now }
-    requires numbers { AreNumbers rows.now (length growing.now.nodes.items) belongings.now.numbers.items }
+    requires places { ArePlaces rows.now (length growing.now.nodes.items) belongings.now.places.items }
     ensures { MatchResult result
         (λ nodes. AreKept growing.now (map node_said nodes.items))
         (λ fault. IsUnkept growing.now fault) }
 {
+    let resolver = Resolver {
+        growing,
+        belongings,
+        unnamed: Unnamed::Kept,
+    };
     let mut nodes = Vec::new(alloc);
-    add_nodes(alloc, growing, belongings, Unnamed::Kept, rows, &mut nodes)?;
+    resolver.add_nodes(alloc, rows, &mut nodes)?;
     Ok(nodes)
 }
 

@@ -11,8 +11,9 @@ ghost use Rattle.dt_named.specs.Said.{reference_said, value_said};
 ghost use Rattle.dt_growing.specs.Grown.{AreAbove, Leads};
 ghost use Rattle.dt_growing.specs.Growing.{IsSound};
 ghost use Rattle.dt_naming.specs.Contents.{names_text, kept_label, named_cell, named_part, named_parts};
-ghost use Rattle.dt_naming.specs.Resolving.{IsOf, EachNaming, IsAdded, IsUnread};
+ghost use Rattle.dt_naming.specs.Resolving.{IsGrownBy, EachNaming, IsAdded, IsUnread};
 
+use crate::belongings::Belongings;
 use dt_growing::{Growing, Node, Unnamed};
 use dt_items::{Form, Piece, Reference, Value};
 use dt_named::{NamedPiece, NamedReference, NamedValue};
@@ -67,11 +68,11 @@ fn add_path_value(text: &mut Vec<u8>, nodes: &[Node<'_, '_>], node: usize) -> Re
     Ok(())
 }
 
-/// The number that a node has; 0 where it has none.
-fn number_of(numbers: &[Option<usize>], node: usize) -> usize
-    ensures { result ≡ unwrap_or (option_and_then (λ number. number) (slice_get numbers.now node)) 0 }
+/// The place that a node has; 0 where it has none.
+fn place_of(places: &[Option<usize>], node: usize) -> usize
+    ensures { result ≡ unwrap_or (option_and_then (λ place. place) (slice_get places.now node)) 0 }
 {
-    numbers.get(node).copied().flatten().unwrap_or(0)
+    places.get(node).copied().flatten().unwrap_or(0)
 }
 
 /// Ends a piece with a reference.
@@ -111,162 +112,153 @@ fn add_path_bytes(
     Ok(())
 }
 
-/// The label of a cell's reference that names no node, where it is kept.
-fn kept_label<'a>(unnamed: Unnamed, reference: &Reference<'a>) -> Option<&'a [u8]>
-    ensures { option_map (λ label. label.now) result ≡ kept_label unnamed (reference_of reference.now) }
-{
-    match unnamed {
-        Unnamed::Refused => None,
-        Unnamed::Kept => match reference {
-            Reference::Label(label) => Some(label.as_bytes()),
-            Reference::Path(_) => None,
-        },
+/// What reads references: the tree under construction whose nodes they name, what belongs to its nodes, their places in
+/// preorder among it, and what comes of a label that names none of them.
+#[derive(Clone, Copy)]
+pub(crate) struct Resolver<'r, 's, 'a> {
+    pub growing: &'r Growing<'s, 'a>,
+    pub belongings: &'r Belongings,
+    pub unnamed: Unnamed,
+}
+
+impl Resolver<'_, '_, '_> {
+    /// The label of a cell's reference that names no node, where it is kept.
+    fn kept_label<'a>(&self, reference: &Reference<'a>) -> Option<&'a [u8]>
+        ensures { option_map (λ label. label.now) result ≡ kept_label self.now.unnamed (reference_of reference.now) }
+    {
+        match self.unnamed {
+            Unnamed::Refused => None,
+            Unnamed::Kept => match reference {
+                Reference::Label(label) => Some(label.as_bytes()),
+                Reference::Path(_) => None,
+            },
+        }
     }
-}
 
-/// What a cell's reference is.
-fn named_cell<'a>(
-    growing: &Growing<'_, '_>,
-    numbers: &[Option<usize>],
-    unnamed: Unnamed,
-    reference: &Reference<'a>,
-) -> Option<NamedReference<'a>>
-    requires { IsSound growing.now }
-    ensures { MatchOption result
-        ((es : Events) → IsOf growing.now es → (named_parts unnamed es reverse (number_of (reference_of reference.now) ∷ []) ≡ None))
-        (λ named. EachNaming growing.now numbers.now (λ es number. named_cell unnamed es number (reference_of reference.now) ≡ Some (reference_said named))) }
-{
-    match growing.referent(reference) {
-        Some(node) => Some(NamedReference::Node(number_of(numbers, node))),
-        None => Some(NamedReference::Label(kept_label(unnamed, reference)?)),
+    /// What a cell's reference is.
+    fn named_cell<'a>(&self, reference: &Reference<'a>) -> Option<NamedReference<'a>>
+        requires { IsSound self.now.growing.now }
+        ensures { MatchOption result
+            ((es : Events) → IsGrownBy self.now.growing.now es → (named_parts self.now.unnamed es reverse (number_of (reference_of reference.now) ∷ []) ≡ None))
+            (λ named. EachNaming self.now.growing.now self.now.belongings.now.places.items (λ es place. named_cell self.now.unnamed es place (reference_of reference.now) ≡ Some (reference_said named))) }
+    {
+        match self.growing.referent(reference) {
+            Some(node) => Some(NamedReference::Node(place_of(&self.belongings.places, node))),
+            None => Some(NamedReference::Label(self.kept_label(reference)?)),
+        }
     }
-}
 
-/// Adds a reference in a cell list.
-fn add_cell<'a>(
-    alloc: Global,
-    growing: &Growing<'_, '_>,
-    numbers: &[Option<usize>],
-    unnamed: Unnamed,
-    reference: &Reference<'a>,
-    value: &mut NamedValue<'a>,
-) -> Result<(), Fault>
-    requires { IsSound growing.now }
-    ensures { MatchResult result
-        (λ _. EachNaming growing.now numbers.now (λ es number.
-        IsAdded (value_said value.old) (named_part unnamed es number (number_of (reference_of reference.now))) (value_said value.new)))
-        (λ fault. IsUnread unnamed growing.now (number_of (reference_of reference.now) ∷ []) fault) }
-{
-    let Some(named) = named_cell(growing, numbers, unnamed, reference) else {
-        return Err(Fault::of(FaultKind::UnresolvedReference));
-    };
-    end_piece(alloc, value, named)?;
-    Ok(())
-}
-
-/// Adds a reference outside a cell list.
-fn add_text(
-    growing: &Growing<'_, '_>,
-    unnamed: Unnamed,
-    reference: &Reference<'_>,
-    value: &mut NamedValue<'_>,
-) -> Result<(), Fault>
-    requires sound { IsSound growing.now }
-    ensures { MatchResult result
-        (λ _. (es : Events) (number : Stack → ℕ) → IsOf growing.now es →
-        IsAdded (value_said value.old) (named_part unnamed es number (text_of (reference_of reference.now))) (value_said value.new))
-        (λ fault. IsUnread unnamed growing.now (text_of (reference_of reference.now) ∷ []) fault) }
-{
-    let Some(node) = growing.referent(reference) else {
-        return Err(Fault::of(FaultKind::UnresolvedReference));
-    };
-    add_path_bytes(value, &growing.nodes, node)?;
-    Ok(())
-}
-
-/// Adds a reference as it stands in a value.
-fn add_reference<'a>(
-    alloc: Global,
-    growing: &Growing<'_, '_>,
-    numbers: &[Option<usize>],
-    unnamed: Unnamed,
-    piece: &Piece<'a>,
-    value: &mut NamedValue<'a>,
-) -> Result<(), Fault>
-    requires { IsSound growing.now }
-    ensures { MatchResult result
-        (λ _. EachNaming growing.now numbers.now (λ es number.
-        IsAdded (value_said value.old) (named_part unnamed es number (referring piece.now.form (reference_of piece.now.reference))) (value_said value.new)))
-        (λ fault. IsUnread unnamed growing.now (referring piece.now.form (reference_of piece.now.reference) ∷ []) fault) }
-{
-    match piece.form {
-        Form::Text => add_text(growing, unnamed, &piece.reference, value),
-        Form::Cell => add_cell(alloc, growing, numbers, unnamed, &piece.reference, value),
+    /// Adds a reference in a cell list.
+    fn add_cell<'a>(
+        &self,
+        alloc: Global,
+        reference: &Reference<'a>,
+        value: &mut NamedValue<'a>,
+    ) -> Result<(), Fault>
+        requires { IsSound self.now.growing.now }
+        ensures { MatchResult result
+            (λ _. EachNaming self.now.growing.now self.now.belongings.now.places.items (λ es place.
+            IsAdded (value_said value.old) (named_part self.now.unnamed es place (number_of (reference_of reference.now))) (value_said value.new)))
+            (λ fault. IsUnread self.now.unnamed self.now.growing.now (number_of (reference_of reference.now) ∷ []) fault) }
+    {
+        let Some(named) = self.named_cell(reference) else {
+            return Err(Fault::of(FaultKind::UnresolvedReference));
+        };
+        end_piece(alloc, value, named)?;
+        Ok(())
     }
-}
 
-/// Adds bytes, and the reference behind them.
-fn add_piece<'a>(
-    alloc: Global,
-    growing: &Growing<'_, '_>,
-    numbers: &[Option<usize>],
-    unnamed: Unnamed,
-    piece: &Piece<'a>,
-    value: &mut NamedValue<'a>,
-) -> Result<(), Fault>
-    requires sound { IsSound growing.now }
-    ensures { MatchResult result
-        (λ _. EachNaming growing.now numbers.now (λ es number.
-        IsAdded (value_said value.old) (named_parts unnamed es number (piece_parts piece.now)) (value_said value.new)))
-        (λ fault. IsUnread unnamed growing.now (piece_parts piece.now) fault) }
-{
-    add_bytes(value, &piece.before)?;
-    add_reference(alloc, growing, numbers, unnamed, piece, value)
-}
-
-/// Adds a value to nothing.
-fn add_value<'a>(
-    alloc: Global,
-    growing: &Growing<'_, '_>,
-    numbers: &[Option<usize>],
-    unnamed: Unnamed,
-    source: &Value<'a>,
-    value: &mut NamedValue<'a>,
-) -> Result<(), Fault>
-    requires sound { IsSound growing.now }
-    requires empty { value_said value.old ≡ [] }
-    ensures { MatchResult result
-        (λ _. EachNaming growing.now numbers.now (λ es number.
-        named_parts unnamed es number (source_said.value_said source.now) ≡ Some (value_said value.new)))
-        (λ fault. IsUnread unnamed growing.now (source_said.value_said source.now) fault) }
-{
-    for piece in &source.pieces {
-        add_piece(alloc, growing, numbers, unnamed, piece, value)?;
+    /// Adds a reference outside a cell list.
+    fn add_text(&self, reference: &Reference<'_>, value: &mut NamedValue<'_>) -> Result<(), Fault>
+        requires sound { IsSound self.now.growing.now }
+        ensures { MatchResult result
+            (λ _. (es : Events) (place : Stack → ℕ) → IsGrownBy self.now.growing.now es →
+            IsAdded (value_said value.old) (named_part self.now.unnamed es place (text_of (reference_of reference.now))) (value_said value.new))
+            (λ fault. IsUnread self.now.unnamed self.now.growing.now (text_of (reference_of reference.now) ∷ []) fault) }
+    {
+        let Some(node) = self.growing.referent(reference) else {
+            return Err(Fault::of(FaultKind::UnresolvedReference));
+        };
+        add_path_bytes(value, &self.growing.nodes, node)?;
+        Ok(())
     }
-    add_bytes(value, &source.bytes)?;
-    Ok(())
-}
 
-/// A value with its references read: a reference in a cell list is the number of its node, or its label where it names no node
-/// and such labels are kept; one outside a cell list is the text of its node's path and a NUL. `UnresolvedReference` where
-/// one isn't read.
-pub(crate) fn named_value<'a>(
-    alloc: Global,
-    growing: &Growing<'_, '_>,
-    numbers: &[Option<usize>],
-    unnamed: Unnamed,
-    source: &Value<'a>,
-) -> Result<NamedValue<'a>, Fault>
-    requires sound { IsSound growing.now }
-    ensures { MatchResult result
-        (λ value. EachNaming growing.now numbers.now (λ es number.
-        named_parts unnamed es number (source_said.value_said source.now) ≡ Some (value_said value)))
-        (λ fault. IsUnread unnamed growing.now (source_said.value_said source.now) fault) }
-{
-    let mut value = NamedValue {
-        pieces: Vec::new(alloc),
-        bytes: Vec::new(alloc),
-    };
-    add_value(alloc, growing, numbers, unnamed, source, &mut value)?;
-    Ok(value)
+    /// Adds a reference as it stands in a value.
+    fn add_reference<'a>(
+        &self,
+        alloc: Global,
+        piece: &Piece<'a>,
+        value: &mut NamedValue<'a>,
+    ) -> Result<(), Fault>
+        requires { IsSound self.now.growing.now }
+        ensures { MatchResult result
+            (λ _. EachNaming self.now.growing.now self.now.belongings.now.places.items (λ es place.
+            IsAdded (value_said value.old) (named_part self.now.unnamed es place (referring piece.now.form (reference_of piece.now.reference))) (value_said value.new)))
+            (λ fault. IsUnread self.now.unnamed self.now.growing.now (referring piece.now.form (reference_of piece.now.reference) ∷ []) fault) }
+    {
+        match piece.form {
+            Form::Text => self.add_text(&piece.reference, value),
+            Form::Cell => self.add_cell(alloc, &piece.reference, value),
+        }
+    }
+
+    /// Adds bytes, and the reference behind them.
+    fn add_piece<'a>(
+        &self,
+        alloc: Global,
+        piece: &Piece<'a>,
+        value: &mut NamedValue<'a>,
+    ) -> Result<(), Fault>
+        requires sound { IsSound self.now.growing.now }
+        ensures { MatchResult result
+            (λ _. EachNaming self.now.growing.now self.now.belongings.now.places.items (λ es place.
+            IsAdded (value_said value.old) (named_parts self.now.unnamed es place (piece_parts piece.now)) (value_said value.new)))
+            (λ fault. IsUnread self.now.unnamed self.now.growing.now (piece_parts piece.now) fault) }
+    {
+        add_bytes(value, &piece.before)?;
+        self.add_reference(alloc, piece, value)
+    }
+
+    /// Adds a value to nothing.
+    fn add_value<'a>(
+        &self,
+        alloc: Global,
+        source: &Value<'a>,
+        value: &mut NamedValue<'a>,
+    ) -> Result<(), Fault>
+        requires sound { IsSound self.now.growing.now }
+        requires empty { value_said value.old ≡ [] }
+        ensures { MatchResult result
+            (λ _. EachNaming self.now.growing.now self.now.belongings.now.places.items (λ es place.
+            named_parts self.now.unnamed es place (source_said.value_said source.now) ≡ Some (value_said value.new)))
+            (λ fault. IsUnread self.now.unnamed self.now.growing.now (source_said.value_said source.now) fault) }
+    {
+        for piece in &source.pieces {
+            self.add_piece(alloc, piece, value)?;
+        }
+        add_bytes(value, &source.bytes)?;
+        Ok(())
+    }
+
+    /// A value with its references read: a reference in a cell list is the place of its node, or its label where it names no node
+    /// and such labels are kept; one outside a cell list is the text of its node's path and a NUL. `UnresolvedReference` where
+    /// one isn't read.
+    pub fn named_value<'a>(
+        &self,
+        alloc: Global,
+        source: &Value<'a>,
+    ) -> Result<NamedValue<'a>, Fault>
+        requires sound { IsSound self.now.growing.now }
+        ensures { MatchResult result
+            (λ value. EachNaming self.now.growing.now self.now.belongings.now.places.items (λ es place.
+            named_parts self.now.unnamed es place (source_said.value_said source.now) ≡ Some (value_said value)))
+            (λ fault. IsUnread self.now.unnamed self.now.growing.now (source_said.value_said source.now) fault) }
+    {
+        let mut value = NamedValue {
+            pieces: Vec::new(alloc),
+            bytes: Vec::new(alloc),
+        };
+        self.add_value(alloc, source, &mut value)?;
+        Ok(value)
+    }
 }

@@ -30,8 +30,9 @@ use Rattle.dt_naming.specs.Contents.{named_part, named_parts, all_read, read_val
 use Rattle.dt_fragments.specs.Fragments.{WhyUnchecked, IsUnchecked}
 use Rattle.dt_source.specs.Fragments.{AreOverlayNodes}
 use Rattle.dt_naming.specs.Nodes.{AreNodesBy, HasUnread}
-use Rattle.dt_bodies.specs.OverlayReading.{OverlayTells}
-use Rattle.dt_bodies.specs.Refusals.{overlay_kind, overlay_fault_of, WhyNoOverlayRead, IsOverlayFaultOf, WhyNoOverlay, place_of}
+use Rattle.dt_bodies.specs.OverlayReading.{TellsOverlayRefusal}
+use Rattle.dt_bodies.specs.Refusals.{overlay_kind}
+use Rattle.dt_source.specs.Refusals.{overlay_fault_kind, WhyNoOverlayRead, IsOverlayFaultOf, WhyNoOverlay, fault_place}
 use Rattle.dt_growing.specs.declared.referring.Unnamed.TheVariants.{Kept}
 use Rattle.dt_source.proofs.BuiltTrees.{count_is}
 
@@ -135,7 +136,7 @@ module _ (places : List Place) (ns : List (Listed NodeReference)) (h : AreOverla
   pub late_overlay_refused : UntargetedIsRefused → UncontainedIsRefused → (fault : Fault) → IsUnchecked ns fault → WhyNoOverlayRead places fault
   late_overlay_refused untargeted uncontained fault why = (why.0, by fault.kind why.1)
     where
-      by : (kind : FaultKind) → WhyUnchecked ns kind → (kind ≡ NoMemory) ⊎ ((r : OverlaySourceRefusal) × IsOverlayRefusedFor places r × (kind ≡ overlay_fault_of r))
+      by : (kind : FaultKind) → WhyUnchecked ns kind → (kind ≡ NoMemory) ⊎ ((r : OverlaySourceRefusal) × IsOverlayRefusedFor places r × (kind ≡ overlay_fault_kind r))
       by NoMemory w = inl refl
       by BadFragment w = inr (at_end bad_fragment, untargeted places built after (subst HasUntargeted (h.after.list []) w), refl)
       by OutsideContent w = inr (at_end outside_content, uncontained places built after (subst AreUncontained (h.after.list []) w), refl)
@@ -143,16 +144,16 @@ module _ (places : List Place) (ns : List (Listed NodeReference)) (h : AreOverla
 
 -- ---- refusals
 
-pub overlay_grown_refused : (places : List Place) (fault : Fault) → OverlayTells (all_overlay places) fault → WhyNoOverlayRead places fault
+pub overlay_grown_refused : (places : List Place) (fault : Fault) → TellsOverlayRefusal (all_overlay places) fault → WhyNoOverlayRead places fault
 overlay_grown_refused places fault why = (why.0, by why.1)
   where
     by : (fault.kind ≡ NoMemory) ⊎ ((r : OverlayRefusal) × (all_overlay places ≡ Err r) × (fault.kind ≡ overlay_kind r))
-        → (fault.kind ≡ NoMemory) ⊎ ((r : OverlaySourceRefusal) × IsOverlayRefusedFor places r × (fault.kind ≡ overlay_fault_of r))
+        → (fault.kind ≡ NoMemory) ⊎ ((r : OverlaySourceRefusal) × IsOverlayRefusedFor places r × (fault.kind ≡ overlay_fault_kind r))
     by (inl e) = inl e
     by (inr r) = inr (at_place r.0, r.1, r.2)
 
 -- a refusal's kind is none of those that need no refusal
-told_overlay : (s : Says) (r : OverlaySourceRefusal) → IsOverlayFaultOf s (overlay_fault_of r) → WhyNoOverlay (overlay_fault_of r) s × (None ≡ place_of (overlay_fault_of r))
+told_overlay : (s : Says) (r : OverlaySourceRefusal) → IsOverlayFaultOf s (overlay_fault_kind r) → WhyNoOverlay (overlay_fault_kind r) s × (None ≡ fault_place (overlay_fault_kind r))
 told_overlay s (at_place (as_any duplicate_property)) h = (h, refl)
 told_overlay s (at_place (as_any duplicate_node)) h = (h, refl)
 told_overlay s (at_place (as_any duplicate_label)) h = (h, refl)
@@ -168,9 +169,9 @@ told_overlay s (at_end outside_content) h = (h, refl)
 told_overlay s too_many h = (h, refl)
 
 abbrev Told : Says → Option ℕ → FaultKind → Type 0
-Told s at kind = WhyNoOverlay kind s × (at ≡ place_of kind)
+Told s at kind = WhyNoOverlay kind s × (at ≡ fault_place kind)
 
-pub no_overlay_read : (s : Says) (fault : Fault) → s.plugin ≡ true → s.reservations ≡ [] → WhyNoOverlayRead s.places fault → WhyNoOverlay fault.kind s × (fault.at ≡ place_of fault.kind)
+pub no_overlay_read : (s : Says) (fault : Fault) → s.plugin ≡ true → s.reservations ≡ [] → WhyNoOverlayRead s.places fault → WhyNoOverlay fault.kind s × (fault.at ≡ fault_place fault.kind)
 no_overlay_read s fault plugin none why =
     subst (λ (at : Option ℕ). Told s at fault.kind) (sym why.0)
     (elim why.1 [

@@ -16,7 +16,8 @@ use Rattle.dt_laws.specs.NamedTrees.{ListIsOfItsTree, MeantIsNamed, ManyStand}
 use Rattle.dt_grammar.specs.Grammar.{Says}
 use Rattle.dt_source.specs.Building.{AreNodesOf, MayBeWhole}
 use Rattle.dt_naming.specs.Nodes.{WhyNotAfter}
-use Rattle.dt_bodies.specs.Refusals.{IsFaultOf, WhyNotNamed, WhyNotRead, WhyNotGrown, fault_of, place_of}
+use Rattle.dt_bodies.specs.Refusals.{WhyNotGrown}
+use Rattle.dt_source.specs.Refusals.{IsFaultOf, WhyNotNamed, WhyNotRead, fault_kind, fault_place}
 
 -- ---- how many nodes there are
 
@@ -85,7 +86,7 @@ pub grown_refused : (mode : Mode) (places : List Place) (fault : Fault) → WhyN
 grown_refused mode places fault why = (why.0, elim why.1 [ inl e ↦ inl e | inr r ↦ inr (at_place r.0, r.1, r.2) ])
 
 late_kind : (mode : Mode) (places : List Place) (s : SoFar) (kind : FaultKind) → read_all mode nothing places ≡ Ok s → WhyNotAfter s.events kind
-    → (kind ≡ NoMemory) ⊎ ((r : SourceRefusal) × IsRefusedFor mode places r × (kind ≡ fault_of r))
+    → (kind ≡ NoMemory) ⊎ ((r : SourceRefusal) × IsRefusedFor mode places r × (kind ≡ fault_kind r))
 late_kind mode places s NoMemory e why = inl refl
 late_kind mode places s UnresolvedReference e why = inr (at_end unresolved, (s, e, why), refl)
 late_kind mode places s BadPhandle e why = inr (at_end bad_phandle, (s, e, why), refl)
@@ -95,11 +96,11 @@ late_kind mode places s _ e why = absurd why
 pub late_refused : (mode : Mode) (places : List Place) (s : SoFar) (fault : Fault) → read_all mode nothing places ≡ Ok s → fault.at ≡ None → WhyNotAfter s.events fault.kind → WhyNotRead mode places fault
 late_refused mode places s fault e at why = (at, late_kind mode places s fault.kind e why)
 
-is_fault : (mode : Mode) (s : Says) (r : SourceRefusal) → s.plugin ≡ false → IsRefusedFor mode s.places r → IsFaultOf mode s (fault_of r)
+is_fault : (mode : Mode) (s : Says) (r : SourceRefusal) → s.plugin ≡ false → IsRefusedFor mode s.places r → IsFaultOf mode s (fault_kind r)
 is_fault mode s r plain h = record { plain = plain; refusal = r; refused = h; told = refl }
 
 -- a refusal's kind is none of those that need no refusal
-told_named : (mode : Mode) (s : Says) (r : SourceRefusal) → IsFaultOf mode s (fault_of r) → WhyNotNamed mode (fault_of r) s × (None ≡ place_of (fault_of r))
+told_named : (mode : Mode) (s : Says) (r : SourceRefusal) → IsFaultOf mode s (fault_kind r) → WhyNotNamed mode (fault_kind r) s × (None ≡ fault_place (fault_kind r))
 told_named mode s (at_place duplicate_property) h = (h, refl)
 told_named mode s (at_place duplicate_node) h = (h, refl)
 told_named mode s (at_place duplicate_label) h = (h, refl)
@@ -113,9 +114,9 @@ told_named mode s (at_end duplicate_phandle) h = (h, refl)
 told_named mode s too_many h = (h, refl)
 
 abbrev Told : Mode → Says → Option ℕ → FaultKind → Type 0
-Told mode s at kind = WhyNotNamed mode kind s × (at ≡ place_of kind)
+Told mode s at kind = WhyNotNamed mode kind s × (at ≡ fault_place kind)
 
-pub not_read : (mode : Mode) (s : Says) (fault : Fault) → s.plugin ≡ false → WhyNotRead mode s.places fault → WhyNotNamed mode fault.kind s × (fault.at ≡ place_of fault.kind)
+pub not_read : (mode : Mode) (s : Says) (fault : Fault) → s.plugin ≡ false → WhyNotRead mode s.places fault → WhyNotNamed mode fault.kind s × (fault.at ≡ fault_place fault.kind)
 not_read mode s fault plain why =
     subst (λ (at : Option ℕ). Told mode s at fault.kind) (sym why.0)
     (elim why.1 [
@@ -128,7 +129,7 @@ either P Q R S f g (Ok a) p = f a p
 either P Q R S f g (Err e) q = g e q
 
 pub too_many_named : (mode : Mode) (s : Says) (fault : Fault) → s.plugin ≡ false → fault.kind ≡ Limit → fault.at ≡ None → IsRefusedFor mode s.places too_many
-    → WhyNotNamed mode fault.kind s × (fault.at ≡ place_of fault.kind)
+    → WhyNotNamed mode fault.kind s × (fault.at ≡ fault_place fault.kind)
 too_many_named mode s fault plain kind at h = not_read mode s fault plain (at, inr (too_many, h, kind))
 
 pub answered_result : {A E : Type 0} (P R : A → Type 0) (Q : E → Type 0) → ((a : A) → P a → R a) → (r : Result A E) → MatchResult r P Q → IfOk r R

@@ -9,7 +9,7 @@ use Rattle.dt_laws.specs.CompiledTrees.{RefusalIsOne}
 use Rattle.dt_laws.specs.NamedTrees.{NamedIsNotRefused}
 use Rattle.dt_grammar.specs.Grammar.{Says}
 use Rattle.dt_source.specs.Meant.{HasTree}
-use Rattle.dt_bodies.specs.Refusals.{WhyNotNamed, IsFaultOf, fault_of}
+use Rattle.dt_source.specs.Refusals.{WhyNotNamed, IsFaultOf, fault_kind}
 
 -- memory is wanted; or it is an overlay's; or its places are refused
 abbrev pub Sorted : Mode → Says → FaultKind → Type 0
@@ -40,6 +40,6 @@ refused_once one mode s k j wanted wanted' why also = elim (sorted mode s k why)
       elim (sorted mode s j also) [
         | inl i ↦ absurd (wanted' i)
         | inr (inl i) ↦ absurd (true≢false (sym i.1 ∙ f.plain))
-        | inr (inr g) ↦ f.told ∙ ap fault_of (one mode s.places f.refusal g.refusal f.refused g.refused) ∙ sym g.told
+        | inr (inr g) ↦ f.told ∙ ap fault_kind (one mode s.places f.refusal g.refusal f.refused g.refused) ∙ sym g.told
       ]
 ]

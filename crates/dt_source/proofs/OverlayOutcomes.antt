@@ -8,7 +8,7 @@ use Rattle.dt_model.specs.NamedOverlay.{NamedFragment}
 use Rattle.dt_laws.specs.OverlayTrees.{NamedOverlayIsNotRefused, OverlayRefusalIsOne}
 use Rattle.dt_grammar.specs.Grammar.{Says}
 use Rattle.dt_source.specs.Meant.{HasOverlay}
-use Rattle.dt_bodies.specs.Refusals.{WhyNoOverlay, IsOverlayFaultOf, overlay_fault_of}
+use Rattle.dt_source.specs.Refusals.{WhyNoOverlay, IsOverlayFaultOf, overlay_fault_kind}
 
 -- memory is wanted; or it is no overlay's; or it reserves memory; or its places are refused
 abbrev pub Sorted : Says → FaultKind → Type 0
@@ -52,6 +52,6 @@ overlay_refused_once one s k j wanted wanted' why also = elim (sorted s k why) [
         | inl i ↦ absurd (wanted' i)
         | inr (inl i) ↦ absurd (true≢false (sym f.plugin ∙ i.1))
         | inr (inr (inl i)) ↦ absurd (i.2 f.reservations)
-        | inr (inr (inr g)) ↦ f.told ∙ ap overlay_fault_of (one s.places f.refusal g.refusal f.refused g.refused) ∙ sym g.told
+        | inr (inr (inr g)) ↦ f.told ∙ ap overlay_fault_kind (one s.places f.refusal g.refusal f.refused g.refused) ∙ sym g.told
       ]
 ]

@@ -1,5 +1,6 @@
 -- what callers read, in this order
 pub mod Meant
+pub mod Refusals
 -- inside
 pub mod Building
 pub mod Fragments

@@ -7,7 +7,8 @@ ghost use Rattle.dt_names.specs.declared.fault.FaultKind.TheVariants.{Limit};
 ghost use Rattle.dt_items.specs.Said.{place_said, reservation_said};
 ghost use Rattle.dt_source.specs.Building.{AreNodesOf, MayBeWhole};
 ghost use Rattle.dt_source.specs.Meant.{HasTree};
-ghost use Rattle.dt_bodies.specs.Refusals.{mode_said, WhyNotNamed, WhyNotRead, place_of};
+ghost use Rattle.dt_bodies.specs.Refusals.{mode_said};
+ghost use Rattle.dt_source.specs.Refusals.{WhyNotNamed, WhyNotRead, fault_place};
 ghost use Rattle.dt_named.specs.Said.{IsTree, list_said, node_said};
 
 use dt_bodies::{Mode, grow};
@@ -81,7 +82,7 @@ pub fn build_base<'a>(
     mode: Mode,
 ) -> Result<NamedTree<'a>, Fault>
     ensures tree { IfOk result (λ t. HasTree (mode_said mode) source.now (tree_of t)) }
-    ensures refused { IfErr result (λ fault. WhyNotNamed (mode_said mode) fault.kind source.now × (fault.at ≡ place_of fault.kind)) }
+    ensures refused { IfErr result (λ fault. WhyNotNamed (mode_said mode) fault.kind source.now × (fault.at ≡ fault_place fault.kind)) }
 {
     if source.is_overlay() {
         return Err(Fault::at(FaultKind::BadVersionTag, 0));

@@ -8,7 +8,7 @@ ghost use Rattle.dt_names.specs.Fault.{IsExclusive, IsOneRefusal};
 ghost use Rattle.dt_grammar.specs.Grammar.{Says};
 ghost use Rattle.dt_source.specs.Meant.{HasTree};
 ghost use Rattle.dt_source.specs.Meant.{HasOverlay};
-ghost use Rattle.dt_bodies.specs.Refusals.{WhyNotNamed, WhyNoOverlay};
+ghost use Rattle.dt_source.specs.Refusals.{WhyNotNamed, WhyNoOverlay};
 
 use dt_laws::{
     named_is_not_refused, named_overlay_is_not_refused, overlay_refusal_is_one, refusal_is_one,

@@ -12,7 +12,7 @@ ghost use Rattle.dt_source.specs.Building.{MayBeWhole};
 ghost use Rattle.dt_fragments.specs.Fragments.{fragment_said};
 ghost use Rattle.dt_source.specs.Fragments.{AreOverlayNodes};
 ghost use Rattle.dt_source.specs.Meant.{ListedOverlay};
-ghost use Rattle.dt_bodies.specs.Refusals.{WhyNoOverlay, WhyNoOverlayRead, place_of};
+ghost use Rattle.dt_source.specs.Refusals.{WhyNoOverlay, WhyNoOverlayRead, fault_place};
 ghost use Rattle.dt_named.specs.Said.{IsTree, list_said, node_said};
 
 use crate::building::whole;
@@ -108,7 +108,7 @@ fn whole_overlay<'a>(
 pub fn build_overlay<'a>(alloc: Global, source: &Source<'a>) -> Result<NamedOverlay<'a>, Fault>
     ensures overlay { IsOk result → (source.now.plugin ≡ true) × (source.now.reservations ≡ []) }
     ensures meant { IfOk result (λ o. IsNamedOverlayOf source.now.places (tree_of o.tree) o.fragments) }
-    ensures refused { IfErr result (λ fault. WhyNoOverlay fault.kind source.now × (fault.at ≡ place_of fault.kind)) }
+    ensures refused { IfErr result (λ fault. WhyNoOverlay fault.kind source.now × (fault.at ≡ fault_place fault.kind)) }
 {
     if !source.is_overlay() {
         return Err(Fault::at(FaultKind::BadVersionTag, 0));

@@ -6,8 +6,8 @@ use Rattle.dt_bodies.specs.Reading.{IsWhole, GoesOn}
 use Rattle.dt_bodies.specs.Refusals.{mode_said}
 use Rattle.dt_bodies.proofs.reading.read_items.Given as goal
 
-abbrev pub invariant-loop-number : goal.invariant-loop-number
-invariant-loop-number l = record {
+abbrev pub invariant-loop-item : goal.invariant-loop-item
+invariant-loop-item l = record {
   whole : IsWhole l.reading;
-  goes : GoesOn (read_all (mode_said l.mode) nothing (map place_said (take l.number l.items))) l.reading l.number;
+  goes : GoesOn (read_all (mode_said l.mode) nothing (map place_said (take l.item l.items))) l.reading l.item;
 }

@@ -13,11 +13,11 @@ returns-after-loop-child t c =
     let pushed = c.push.new.rows.items in
     let rows = c.loop-child.rows.items in
     let items = c.of-child-items.result.now in
-    let each : List Row → ℕ → List ℕ → List Row = λ rs number ks. rs ++ rows_each (rows_below children (c.args.depth - 1)) (length rs) number ks in
+    let each : List Row → ℕ → List ℕ → List Row = λ rs place ks. rs ++ rows_each (rows_below children (c.args.depth - 1)) (length rs) place ks in
     let none : drop c.loop-child.child-index items ≡ [] = drop_all c.loop-child.child-index items c.loop-child-test.false in
     let so_far : rows ++ [] ≡ each pushed (length old) (children c.args.row.node) =
-    ap (each rows c.len-number.result) (sym none) ∙ c.loop-child.invariant.so_far
-    ∙ ap (λ (n : ℕ). each pushed n items) (c.len-number.ensures ∙ c.args.rows.now.ok.0) ∙ ap (each pushed (length old)) c.of-child-items.ensures in
+    ap (each rows c.len-place.result) (sym none) ∙ c.loop-child.invariant.so_far
+    ∙ ap (λ (n : ℕ). each pushed n items) (c.len-place.ensures ∙ c.args.rows.now.ok.0) ∙ ap (each pushed (length old)) c.of-child-items.ensures in
     children_added children old pushed rows c.args.row c.args.depth c.if-depth-gt0.true c.in_ok-push.ensures so_far
 
 pub returns-else-depth-gt0 : goal.returns-else-depth-gt0

@@ -12,6 +12,6 @@ invariant-loop-child l =
     let below : ℕ → ℕ → List Row = rows_below (group_of l.children) (l.depth - 1) in
     record {
       deep : 0 < l.depth;
-      so_far : l.rows.items ++ rows_each below (length l.rows.items) l.number (drop l.child-index l.child-items)
-          ≡ l.initial.rows.items ++ rows_each below (length l.initial.rows.items) l.number l.initial.child-items;
+      so_far : l.rows.items ++ rows_each below (length l.rows.items) l.place (drop l.child-index l.child-items)
+          ≡ l.initial.rows.items ++ rows_each below (length l.initial.rows.items) l.place l.initial.child-items;
     }

@@ -17,11 +17,11 @@ returns c =
     (WhyNotNumbered ns qs) (IsUnfilled g b rows)
     (λ _ h. record {
       read = c.in_ok-add_nodes.ensures;
-      written = subst (λ (ps : List Property). AreWritten b.numbers.items ps) c.deref.ensures.value (subst (λ (ms : List (Option ℕ)). AreWritten ms qs) c.deref-2.ensures.value h.0);
-      own = subst (λ (ps : List Property). AreOwn b.numbers.items ps) c.deref.ensures.value (subst (λ (ms : List (Option ℕ)). AreOwn ms qs) c.deref-2.ensures.value h.1);
+      written = subst (λ (ps : List Property). AreWritten b.places.items ps) c.deref.ensures.value (subst (λ (ms : List (Option ℕ)). AreWritten ms qs) c.deref-2.ensures.value h.0);
+      own = subst (λ (ps : List Property). AreOwn b.places.items ps) c.deref.ensures.value (subst (λ (ms : List (Option ℕ)). AreOwn ms qs) c.deref-2.ensures.value h.1);
     })
     (λ e h. inr (
-      λ es number limit of by. (c.in_ok-add_nodes.ensures es number limit of by).1,
-      subst (λ (ps : List Property). WhyNotNumbered b.numbers.items ps e) c.deref.ensures.value (subst (λ (ms : List (Option ℕ)). WhyNotNumbered ms qs e) c.deref-2.ensures.value h),
+      λ es place limit of by. (c.in_ok-add_nodes.ensures es place limit of by).1,
+      subst (λ (ps : List Property). WhyNotNumbered b.places.items ps e) c.deref.ensures.value (subst (λ (ms : List (Option ℕ)). WhyNotNumbered ms qs e) c.deref-2.ensures.value h),
     ))
     c.check_phandles.ensures

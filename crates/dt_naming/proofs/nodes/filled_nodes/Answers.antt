@@ -13,7 +13,7 @@ returns-in_err-fill c =
     let e = err_from_is_err_and c.from_residual-in_err-fill.result c.from_residual-in_err-fill.ensures.1 in
     let fault = c.in_err-fill.field-0.0 in
     let why = c.in_err-fill.ensures in
-    rw (e.1, e.2) (unplaced g b rows fault why, λ es grown root. unlisted_after g b rows known.rows known.belong known.numbers es grown root fault why)
+    rw (e.1, e.2) (unplaced g b rows fault why, λ es grown root. unlisted_after g b rows known.rows known.belong known.places es grown root fault why)
 
 pub returns : goal.returns
 returns c =
@@ -21,4 +21,4 @@ returns c =
     let b = c.args.belongings.now in
     let rows = c.args.rows.now in
     let known = c.requires in
-    λ es grown root. listed_after g b rows known.rows known.belong known.numbers es grown root (map node_said c.fill.new.nodes.items) c.in_ok-fill.ensures
+    λ es grown root. listed_after g b rows known.rows known.belong known.places es grown root (map node_said c.fill.new.nodes.items) c.in_ok-fill.ensures

@@ -14,7 +14,7 @@ returns-in_err-add_nodes c =
     let e = err_from_is_err_and c.from_residual.result c.from_residual.ensures.1 in
     let fault = c.in_err-add_nodes.field-0.0 in
     let why = c.in_err-add_nodes.ensures in
-    rw (e.1, e.2) (why.2.0, λ es grown root. unread_there g b rows known.rows known.belong known.numbers es grown root Kept why.0 why.1 fault.kind (why.2.1 es grown))
+    rw (e.1, e.2) (why.2.0, λ es grown root. unread_there g b rows known.rows known.belong known.places es grown root Kept why.0 why.1 fault.kind (why.2.1 es grown))
 
 pub returns : goal.returns
 returns c =
@@ -22,4 +22,4 @@ returns c =
     let b = c.args.belongings.now in
     let rows = c.args.rows.now in
     let known = c.requires in
-    λ es grown root labelled. listed_by g b rows known.rows known.belong known.numbers es grown root Kept labelled (map node_said c.add_nodes.new.nodes.items) c.in_ok-add_nodes.ensures
+    λ es grown root labelled. listed_by g b rows known.rows known.belong known.places es grown root Kept labelled (map node_said c.add_nodes.new.nodes.items) c.in_ok-add_nodes.ensures

@@ -20,7 +20,7 @@ loop-property-preserved c = λ j p low at. step j p low at (cases_lt j i)
     i = c.loop-property.property-index
 
     step : (j : ℕ) (p : Property) → j < c.loop-property.property-index + 1 → slice_get c.args.properties.now j ≡ Some p → (j < c.loop-property.property-index) ⊎ (c.loop-property.property-index ≤ j) →
-        is_unwritten c.args.numbers.now p ≡ false
+        is_unwritten c.args.places.now p ≡ false
     step j p low at (inl less) = c.loop-property.invariant j p less at
     step j p low at (inr more) =
         let same : j ≡ c.loop-property.property-index = omega arith in
@@ -28,7 +28,7 @@ loop-property-preserved c = λ j p low at. step j p low at (cases_lt j i)
         let there : slice_get c.args.properties.now j ≡ Some q =
         ap (slice_get c.args.properties.now) same ∙ (slice_get-get_or c.args.properties.now c.loop-property.property-index q c.loop-property-test.true ∙ ap (λ (r : Property). Some r) (sym c.property-item.is)) in
         let both : q ≡ p = cc in
-        ap (is_unwritten c.args.numbers.now) (sym both) ∙ sym c.if-is_unwritten.ensures
+        ap (is_unwritten c.args.places.now) (sym both) ∙ sym c.if-is_unwritten.ensures
 
 pub returns : goal.returns
 returns c = λ j p at. let within = slice_get_within c.args.properties.now j p at in c.loop-property.invariant j p (omega arith) at

@@ -8,7 +8,8 @@ use Rattle.dt_model.specs.NamedOf.{IsNamedOf}
 use Rattle.dt_model.specs.Source.{Place}
 use Rattle.dt_source.specs.Building.{AreNodesOf, MayBeWhole}
 use Rattle.dt_source.specs.Meant.{HasTree}
-use Rattle.dt_bodies.specs.Refusals.{mode_said, WhyNotNamed, place_of}
+use Rattle.dt_bodies.specs.Refusals.{mode_said}
+use Rattle.dt_source.specs.Refusals.{WhyNotNamed, fault_place}
 use Rattle.dt_named.specs.Said.{IsTree, list_said, node_said}
 use Rattle.dt_source.proofs.BuiltTrees.{tree_means, may_be_whole, many_are_refused, too_many_named, answered_result, refused_result}
 use Rattle.dt_source.proofs.building.build_base.Goals as goal
@@ -49,7 +50,7 @@ returns-clause-refused c =
     let h = subst (λ (ps : List Place). AreNodesOf mode ps ns) c.items.ensures c.in_ok-nodes.ensures in
     let plain : s.plugin ≡ false = sym c.is_overlay.ensures ∙ c.if-is_overlay.false in
     refused_result _ (λ (fault : Fault). (fault.kind ≡ Limit) × (fault.at ≡ None) × (most_nodes < length c.in_ok-nodes.nodes.items))
-    (λ (fault : Fault). WhyNotNamed mode fault.kind s × (fault.at ≡ place_of fault.kind))
+    (λ (fault : Fault). WhyNotNamed mode fault.kind s × (fault.at ≡ fault_place fault.kind))
     (λ fault why. too_many_named mode s fault plain why.0 why.1
     (many_are_refused mode s ns h c.many_stand.ensures c.spelled.ensures.nested c.nested_places.ensures.closed (omega (arith, why.2, length-map c.in_ok-nodes.nodes.items node_said))))
     c.whole.result c.whole.ensures

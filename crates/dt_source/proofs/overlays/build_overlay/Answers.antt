@@ -13,7 +13,7 @@ use Rattle.dt_items.specs.Said.{reservation_said}
 use Rattle.dt_fragments.specs.Fragments.{IsUnchecked, fragment_said}
 use Rattle.dt_source.specs.Fragments.{AreOverlayNodes}
 use Rattle.dt_source.specs.Meant.{ListedOverlay}
-use Rattle.dt_bodies.specs.Refusals.{WhyNoOverlay, WhyNoOverlayRead, place_of}
+use Rattle.dt_source.specs.Refusals.{WhyNoOverlay, WhyNoOverlayRead, fault_place}
 use Rattle.dt_named.specs.Said.{IsTree, list_said, node_said}
 use Rattle.dt_named.specs.declared.named.NamedNode.{NamedNode}
 use Rattle.dt_source.proofs.BuiltOverlays.{are_behind, overlay_means, overlay_may_be_whole, too_many_stand, late_overlay_refused, no_overlay_read, none_reserved}
@@ -80,7 +80,7 @@ returns-clause-refused c =
     let checked = subst (λ (nodes : List NamedNode). AreChecked (map node_said nodes) fs) c.deref.ensures.value c.in_ok-fragments.ensures in
     let none = none_reserved reservation_said c.reservations.result.now s.reservations c.reservations.ensures (sym c.is_empty.ensures ∙ c.if-not-is_empty.false) in
     refused_result _ (λ (fault : Fault). (fault.kind ≡ Limit) × (fault.at ≡ None) × (most_nodes < length c.in_ok-nodes.nodes.items))
-    (λ (fault : Fault). WhyNoOverlay fault.kind s × (fault.at ≡ place_of fault.kind))
+    (λ (fault : Fault). WhyNoOverlay fault.kind s × (fault.at ≡ fault_place fault.kind))
     (λ fault why. no_overlay_read s fault (sym c.is_overlay.ensures ∙ c.if-not-is_overlay.false) none (
       why.1,
       inr (

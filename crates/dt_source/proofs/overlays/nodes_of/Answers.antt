@@ -3,7 +3,7 @@ use Rattle.std.proofs.lemmas.Result.{err_from_is_err_and}
 use Rattle.dt_items.specs.Said.{place_said}
 use Rattle.dt_source.specs.Fragments.{AreOverlayNodes}
 use Rattle.dt_naming.specs.Nodes.{AreKept, IsUnkept}
-use Rattle.dt_bodies.specs.Refusals.{WhyNoOverlayRead}
+use Rattle.dt_source.specs.Refusals.{WhyNoOverlayRead}
 use Rattle.dt_named.specs.Said.{node_said}
 use Rattle.dt_source.proofs.BuiltOverlays.{are_labelled, none_unread, nodes_after, overlay_grown_refused}
 use Rattle.dt_source.proofs.BuiltTrees.{either}

@@ -68,5 +68,5 @@ returns-clause-meaning c = λ written s rest h left.
     slice_get_read arena.names.items (vec_len arena.names) c.args.used.fragments c.index-name.result.now arena.names.ok.0 (omega (arith, arena.names.ok.0)) c.index-name.ensures in
     let name = c.deref.ensures.value ∙ next_name written arena c.args.used s r rest c.index-name.result.now left at in
     let o = read_overlay written s (block r) in
-    subst (λ (u : Used). GoesOnWith written o c.overlay_block.new.self (c.args.number + 1) arena u rest) (sym c.used_more.ensures)
-    (block_goes written o s r rest c.overlay_block.new.self (c.args.number + 1) arena c.args.used c.in_ok-made.made left (c.in_ok-made.ensures.meaning written s h name))
+    subst (λ (u : Used). GoesOnWith written o c.overlay_block.new.self (c.args.item + 1) arena u rest) (sym c.used_more.ensures)
+    (block_goes written o s r rest c.overlay_block.new.self (c.args.item + 1) arena c.args.used c.in_ok-made.made left (c.in_ok-made.ensures.meaning written s h name))

@@ -32,4 +32,4 @@ pub returns-clause-whole : goal.returns-clause-whole
 returns-clause-whole c =
     let old : Reading = c.args.self.now in
     let new : Reading = record { growing = c.define.new.self; bodies = old.bodies } in
-    whole_same old new c.requires c.in_ok-define.ensures.sound (let z = c.in_ok-define.ensures.defined.size in omega (arith, z)) refl
+    whole_same old new c.requires c.in_ok-define.ensures.sound (let z = c.in_ok-define.ensures.defined.nodes.size in omega (arith, z)) refl

@@ -44,4 +44,4 @@ pub returns-in_ok-give-in-None-clause-whole : goal.returns-in_ok-give-in-None-cl
 returns-in_ok-give-in-None-clause-whole c =
     let old : Reading = c.args.self.now in
     let new : Reading = record { growing = c.give.new.self; bodies = old.bodies } in
-    whole_same old new c.requires c.in_ok-give-in-None.ensures.sound (let z = c.in_ok-give-in-None.ensures.given.size in omega (arith, z)) refl
+    whole_same old new c.requires c.in_ok-give-in-None.ensures.sound (let z = c.in_ok-give-in-None.ensures.given.nodes.size in omega (arith, z)) refl

@@ -7,4 +7,4 @@ use Rattle.dt_bodies.proofs.reading.Reading.new.Goals as goal
 pub returns-clause-meaning : goal.returns-clause-meaning
 returns-clause-meaning c =
     let r : Reading = record { growing = c.new.result; bodies = c.new-2.result } in
-    holds_nothing r c.new.ensures.nodes c.new-2.ensures.items (λ i x. ap (λ es. item_of es i x) c.new.ensures.children) (λ i x. ap (λ es. item_of es i x) c.new.ensures.places)
+    holds_nothing r c.new.ensures.nodes c.new-2.ensures.items (λ i x. ap (λ es. item_of es i x) c.new.ensures.children) (λ i x. ap (λ es. item_of es i x) c.new.ensures.indices)

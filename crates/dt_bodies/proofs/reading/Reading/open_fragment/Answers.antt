@@ -33,6 +33,6 @@ returns-clause-whole c =
     let second = opens_within (shape t) (shape new.growing) (forest t c.in_ok-define.ensures.sound) c.in_ok-fragment.fragment (codes "__overlay__") c.args.item c.in_ok-content.content
     c.in_ok-content.ensures.opened in
     let more : length old.growing.nodes.items ≤ length s.nodes.items = first.0 in
-    let same : length t.nodes.items ≡ length s.nodes.items = c.in_ok-define.ensures.defined.size in
+    let same : length t.nodes.items ≡ length s.nodes.items = c.in_ok-define.ensures.defined.nodes.size in
     let most : length t.nodes.items ≤ length new.growing.nodes.items = second.0 in
     whole_more old new _ c.requires.whole c.in_ok-content.ensures.sound (omega arith) second.1 c.in_ok-enter.ensures

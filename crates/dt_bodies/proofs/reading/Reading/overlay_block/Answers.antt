@@ -4,9 +4,9 @@ use Rattle.dt_model.specs.Path.{path_value}
 use Rattle.dt_model.specs.Source.{block, by_path, one, outside, Reference}
 use Rattle.dt_model.specs.OverlaySource.{open_fragment, fragment_name, read_overlay, with_next, OverlaySoFar, OverlayRefusal}
 use Rattle.dt_items.specs.Said.{reference_of, value_said}
-use Rattle.dt_bodies.specs.OverlayReading.{OverlayTells, OverlayGoesOn, free_number, target_value}
+use Rattle.dt_bodies.specs.OverlayReading.{TellsOverlayRefusal, OverlayGoesOn, free_number, target_value}
 use Rattle.dt_bodies.specs.Reading.{GoesOn}
-use Rattle.dt_bodies.specs.Refusals.{Tells}
+use Rattle.dt_bodies.specs.Refusals.{TellsRefusal}
 use Rattle.dt_bodies.specs.declared.reading.Reading.{Reading}
 use Rattle.dt_bodies.proofs.OverlaySteps.{next_goes, next_tells, fragment_step}
 use Rattle.dt_bodies.proofs.reading.Reading.overlay_block.Goals as goal
@@ -19,10 +19,10 @@ returns-in_err-open_fragment-in-Path-clause-meaning c = λ written s h name.
     let is : reference_of c.args.reference.now ≡ by_path p = ap reference_of c.in-Path.is in
     let value : value_said c.args.value.now ≡ map one (path_value p) = c.requires.target ∙ ap target_value is in
     let made = outside s.source.bodies (Ok (open_fragment (fragment_name (free_number written s)) (codes "target-path") (map one (path_value p)) s.source)) in
-    let tells : Tells made fault = fragment_step s c.args.name.now (fragment_name (free_number written s)) (codes "target-path") (value_said c.args.value.now) (map one (path_value p))
-    (λ o. Tells o fault) name value (c.in_err-open_fragment-in-Path.ensures.meaning s.source h) in
+    let tells : TellsRefusal made fault = fragment_step s c.args.name.now (fragment_name (free_number written s)) (codes "target-path") (value_said c.args.value.now) (map one (path_value p))
+    (λ o. TellsRefusal o fault) name value (c.in_err-open_fragment-in-Path.ensures.meaning s.source h) in
     let same : read_overlay written s (block (reference_of c.args.reference.now)) ≡ with_next (free_number written s + 1) made = ap (λ (f : Reference). read_overlay written s (block f)) is in
-    rw (q.1, q.2) (subst (λ (o : Result OverlaySoFar OverlayRefusal). OverlayTells o fault) (sym same) (next_tells made (free_number written s + 1) fault tells))
+    rw (q.1, q.2) (subst (λ (o : Result OverlaySoFar OverlayRefusal). TellsOverlayRefusal o fault) (sym same) (next_tells made (free_number written s + 1) fault tells))
 
 pub returns-in_ok-open_fragment-in-Path-clause-meaning : goal.returns-in_ok-open_fragment-in-Path-clause-meaning
 returns-in_ok-open_fragment-in-Path-clause-meaning c = λ written s h name.

@@ -20,4 +20,4 @@ pub returns-clause-whole : goal.returns-clause-whole
 returns-clause-whole c =
     let old : Reading = c.args.self.now in
     let new : Reading = record { growing = c.undefine.new.self; bodies = old.bodies } in
-    whole_same old new c.requires c.undefine.ensures.sound (let z = c.undefine.ensures.dropped.size in omega (arith, z)) refl
+    whole_same old new c.requires c.undefine.ensures.sound (let z = c.undefine.ensures.dropped.nodes.size in omega (arith, z)) refl

@@ -11,18 +11,18 @@ use Rattle.dt_growing.proofs.growing.Growing.add_child.Goals as goal
 pub returns-clause-added : goal.returns-clause-added
 returns-clause-added c =
     let old : Growing = c.args.self.now in
-    let number : c.len-number.result ≡ length old.nodes.items = c.len-number.ensures ∙ old.nodes.ok.0 in
-    adds_child old.properties.items old.places.map.entries old.givings.items old.labels.map.entries old.nodes.items c.push.new.self.items old.children.map.entries c.put.new.self.map.entries
-    _ _ c.requires.sound.nodes c.in_ok-push.ensures.items (rw c.bytes.ensures at c.in_ok-put.ensures) number refl
+    let index : c.len-index.result ≡ length old.nodes.items = c.len-index.ensures ∙ old.nodes.ok.0 in
+    adds_child old.properties.items old.indices.map.entries old.givings.items old.labels.map.entries old.nodes.items c.push.new.self.items old.children.map.entries c.put.new.self.map.entries
+    _ _ c.requires.sound.nodes c.in_ok-push.ensures.items (rw c.bytes.ensures at c.in_ok-put.ensures) index refl
 
 pub returns-clause-sound : goal.returns-clause-sound
 returns-clause-sound c =
     let old : Growing = c.args.self.now in
-    let new : Growing = record { nodes = c.push.new.self; properties = old.properties; givings = old.givings; children = c.put.new.self; places = old.places; labels = old.labels } in
-    let number : c.len-number.result ≡ length old.nodes.items = c.len-number.ensures ∙ old.nodes.ok.0 in
+    let new : Growing = record { nodes = c.push.new.self; properties = old.properties; givings = old.givings; children = c.put.new.self; indices = old.indices; labels = old.labels } in
+    let index : c.len-index.result ≡ length old.nodes.items = c.len-index.ensures ∙ old.nodes.ok.0 in
     let made : AddsChild (shape old) (shape new) c.args.parent (name_said c.args.name) c.args.item = returns-clause-added c in
     record {
-      nodes = nodes-pushed old.nodes.items new.nodes.items _ old.children.map.entries new.children.map.entries _ c.requires.sound.nodes c.in_ok-push.ensures.items c.requires.inside c.requires.absent (rw c.bytes.ensures at c.in_ok-put.ensures) number refl;
-      properties = properties-kept (length old.nodes.items) (length new.nodes.items) old.properties.items old.places.map.entries (omega (arith, made.size)) c.requires.sound.properties;
+      nodes = nodes-pushed old.nodes.items new.nodes.items _ old.children.map.entries new.children.map.entries _ c.requires.sound.nodes c.in_ok-push.ensures.items c.requires.inside c.requires.absent (rw c.bytes.ensures at c.in_ok-put.ensures) index refl;
+      properties = properties-kept (length old.nodes.items) (length new.nodes.items) old.properties.items old.indices.map.entries (omega (arith, made.size)) c.requires.sound.properties;
       labels = labels-kept (shape old) (shape new) old.givings.items old.labels.map.entries (omega (arith, made.size)) (stood-added (shape old) (shape new) (forest old c.requires.sound) c.args.parent (name_said c.args.name) c.args.item made) c.requires.sound.labels;
     }

@@ -37,4 +37,4 @@ returns-in-Some-clause-cut c =
 pub returns-in_default-clause-cut : goal.returns-in_default-clause-cut
 returns-in_default-clause-cut c =
     let old : Growing = c.args.self.now in
-    cuts_nothing old.properties.items old.places.map.entries old.givings.items old.labels.map.entries old.nodes.items old.children.map.entries c.args.parent c.args.name.now (sym c.in_default.ensures)
+    cuts_nothing old.properties.items old.indices.map.entries old.givings.items old.labels.map.entries old.nodes.items old.children.map.entries c.args.parent c.args.name.now (sym c.in_default.ensures)

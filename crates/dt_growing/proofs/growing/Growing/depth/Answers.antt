@@ -3,7 +3,7 @@ use Rattle.dt_growing.specs.Grown.{name_said}
 use Rattle.dt_growing.specs.declared.growing.Node.{Node}
 use Rattle.dt_growing.specs.declared.growing.Growing.{Growing}
 use Rattle.dt_growing.proofs.Leading.{leads_above, leads_below}
-use Rattle.dt_growing.proofs.Places.{node_read}
+use Rattle.dt_growing.proofs.Found.{node_read}
 use Rattle.dt_growing.proofs.growing.Growing.depth.Goals as goal
 
 read_at : (g : Growing) (k : ℕ) (n : Node) → k < length g.nodes.items → n ≡ get_or g.nodes.items k n → slice_get g.nodes.items k ≡ Some n

@@ -11,13 +11,13 @@ use Rattle.dt_growing.proofs.growing.Growing.open_again.Goals as goal
 pub returns-clause-opened : goal.returns-clause-opened
 returns-clause-opened c =
     let old : Growing = c.args.self.now in
-    opens_child old.properties.items old.places.map.entries old.givings.items old.labels.map.entries old.nodes.items old.children.map.entries c.put.new.self.map.entries
+    opens_child old.properties.items old.indices.map.entries old.givings.items old.labels.map.entries old.nodes.items old.children.map.entries c.put.new.self.map.entries
     c.args.parent (name_said c.args.name) _ (rw c.bytes.ensures at c.in_ok-put.ensures) c.requires.there
 
 pub returns-clause-sound : goal.returns-clause-sound
 returns-clause-sound c =
     let old : Growing = c.args.self.now in
-    let new : Growing = record { nodes = old.nodes; properties = old.properties; givings = old.givings; children = c.put.new.self; places = old.places; labels = old.labels } in
+    let new : Growing = record { nodes = old.nodes; properties = old.properties; givings = old.givings; children = c.put.new.self; indices = old.indices; labels = old.labels } in
     let made : OpensChild (shape old) (shape new) c.args.parent (name_said c.args.name) c.args.item = returns-clause-opened c in
     record {
       nodes = child-again old.nodes.items old.children.map.entries new.children.map.entries c.args.parent (name_said c.args.name) _ c.requires.sound.nodes (rw c.bytes.ensures at c.in_ok-put.ensures) c.requires.there;
