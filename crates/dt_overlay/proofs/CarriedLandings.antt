@@ -14,13 +14,13 @@ use Rattle.dt_flat.proofs.Descent.{path-within}
 use Rattle.dt_landing.specs.Steps.{land_node, land_fragments, MayLandNode, MayLandFragments, FullAtNode, FullAtFragments}
 use Rattle.dt_landing.specs.Writing.{with_cells, landed}
 use Rattle.dt_landing.proofs.WrittenCells.{landed_is_brought}
-use Rattle.dt_overlay.specs.declared.fragments.Fragment.{Fragment}
-use Rattle.dt_overlay.specs.declared.numbers.Brought.{Brought}
-use Rattle.dt_overlay.specs.Landed.{landed_at, land_each, MayLandEach, FullAtEach}
-use Rattle.dt_overlay.specs.Plans.{AreFragmentsOf, AreBrought, IsReady}
-use Rattle.dt_overlay.proofs.LandingEach.{contents}
-use Rattle.dt_overlay.proofs.WritesLanded.{AreNumberedByPath, landed_by_path}
-use Rattle.dt_overlay.proofs.WritesPaths.{EachHasPath}
+use Rattle.dt_parts.specs.declared.kept.Fragment.{Fragment}
+use Rattle.dt_parts.specs.declared.brought.Brought.{Brought}
+use Rattle.dt_sites.specs.Landed.{landed_at, land_each, MayLandEach, FullAtEach}
+use Rattle.dt_parts.specs.Plans.{AreFragmentsOf, AreBrought, IsReady}
+use Rattle.dt_sites.proofs.LandingEach.{contents}
+use Rattle.dt_sites.proofs.WritesLanded.{AreNumberedByPath, landed_by_path}
+use Rattle.dt_sites.proofs.WritesPaths.{EachHasPath}
 
 abbrev site_names : List Site → List Name
 site_names found = map (λ (x : Site). x.fragment) found

@@ -18,15 +18,15 @@ use Rattle.dt_landing.specs.Outcomes.{MayBeApplied, SitedIsApplied}
 use Rattle.dt_landing.specs.Refusals.{IsCrowded}
 use Rattle.dt_landing.specs.Steps.{FullAtLanding, FullAtSymbols}
 use Rattle.dt_overlay.specs.declared.applying.Plan.{Plan}
-use Rattle.dt_overlay.specs.declared.fragments.Fragment.{Fragment}
-use Rattle.dt_overlay.specs.declared.numbers.Brought.{Brought}
+use Rattle.dt_parts.specs.declared.kept.Fragment.{Fragment}
+use Rattle.dt_parts.specs.declared.brought.Brought.{Brought}
 use Rattle.dt_overlay.specs.Applying.{IsWrittenAs}
-use Rattle.dt_overlay.specs.Landed.{land_each, MayLandEach, FullAtEach}
-use Rattle.dt_overlay.specs.SymbolLanding.{AreToLand}
+use Rattle.dt_sites.specs.Landed.{land_each, MayLandEach, FullAtEach}
+use Rattle.dt_sites.specs.SymbolLanding.{AreToLand}
 use Rattle.dt_overlay.proofs.CarriedLandings.{contents_there, each_is_fragments, each_may_land, each_stuck}
 use Rattle.dt_targets.specs.Targets.{IsWant}
-use Rattle.dt_overlay.proofs.LandingNodes.{want_whole}
-use Rattle.dt_overlay.proofs.WritesPaths.{EachHasPath}
+use Rattle.dt_sites.proofs.LandingNodes.{want_whole}
+use Rattle.dt_sites.proofs.WritesPaths.{EachHasPath}
 
 module _ (full : Reading → Reading → Type 0) (law : SitedIsApplied) (merge : FragmentsAreMerged) where
   module _ (base object : Reading) (tree : Arena) (b : Brought) (p : Plan) (s : IsWrittenAs base object tree b p) (valid_base : IsValid base) (few_base : IsWithinLimits base) (cells : HasCells base)

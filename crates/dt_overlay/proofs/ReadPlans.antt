@@ -20,19 +20,19 @@ use Rattle.dt_names.specs.declared.fault.FaultKind.TheVariants.{NoMemory, NoSymb
 use Rattle.dt_landing.specs.Refusals.{HasNoFixup, WhyNotApplied}
 use Rattle.dt_landing.specs.Objects.{HasTarget, HaveTargets, HasCell, AreFixedUp, IsMirror, AreMirrors, IsSymbol, symbols_in}
 use Rattle.dt_overlay.specs.declared.applying.Plan.{Plan}
-use Rattle.dt_overlay.specs.declared.fragments.Fragment.{Fragment}
-use Rattle.dt_overlay.specs.declared.fragments.FragmentTarget.{FragmentTarget}
-use Rattle.dt_overlay.specs.declared.fragments.FragmentTarget.TheVariants.{Number, Path as TargetPath}
-use Rattle.dt_overlay.specs.declared.numbers.Brought.{Brought}
-use Rattle.dt_overlay.specs.declared.symbols.Symbol.{Symbol}
-use Rattle.dt_overlay.specs.declared.writes.Write.{Write as KeptWrite}
+use Rattle.dt_parts.specs.declared.kept.Fragment.{Fragment}
+use Rattle.dt_parts.specs.declared.kept.FragmentTarget.{FragmentTarget}
+use Rattle.dt_parts.specs.declared.kept.FragmentTarget.TheVariants.{Number, Path as TargetPath}
+use Rattle.dt_parts.specs.declared.brought.Brought.{Brought}
+use Rattle.dt_parts.specs.declared.kept.Symbol.{Symbol}
+use Rattle.dt_parts.specs.declared.kept.Write.{Write as KeptWrite}
 use Rattle.dt_overlay.specs.Applying.{IsReadAs, IsSitedAs, IsWrittenAs}
-use Rattle.dt_overlay.specs.Plans.{IsTargetOf, AreFragmentsOf, IsWriteOf, AreWritesOf, AreBrought, AreSymbolsOf, ListsFixups, ListsLocalFixups, ListsSymbols, symbol_brought, own_number, renumbered}
-use Rattle.dt_overlay.specs.Writing.{AreWritable, with_writes}
-use Rattle.dt_overlay.proofs.WritesKept.{HaveOneShape, writes_keep, all_still_writable, with_writes-append}
-use Rattle.dt_overlay.proofs.WritesPaths.{EachHasPath}
-use Rattle.dt_overlay.proofs.WritesPlans.{fragments_kept, brought_kept, symbols_kept, writes_append, writable_cells}
-use Rattle.dt_overlay.proofs.WritesRead.{writes_read}
+use Rattle.dt_parts.specs.Plans.{IsTargetOf, AreFragmentsOf, IsWriteOf, AreWritesOf, AreBrought, AreSymbolsOf, ListsFixups, ListsLocalFixups, ListsSymbols, symbol_brought, own_number, renumbered}
+use Rattle.dt_sites.specs.Writing.{AreWritable, with_writes}
+use Rattle.dt_sites.proofs.WritesKept.{HaveOneShape, writes_keep, all_still_writable, with_writes-append}
+use Rattle.dt_sites.proofs.WritesPaths.{EachHasPath}
+use Rattle.dt_sites.proofs.WritesPlans.{fragments_kept, brought_kept, symbols_kept, writes_append, writable_cells}
+use Rattle.dt_sites.proofs.WritesRead.{writes_read}
 
 -- what follows from an answer
 pub on_ok : {A E P Q : Type 0} (r : Result A E) → (P → Q) → OnOk r P → OnOk r Q
@@ -49,7 +49,7 @@ if_err (Err e) f h = f e h
 -- a fragment that is kept has a target
 held : (object : Reading) (f : Name) (t : FragmentTarget) → IsTargetOf object f t → HasTarget object f
 held object f Number is = inl is
-held object f (TargetPath value) is = inr (is.0, (is.2.0, is.1 ∙ ap (λ (bytes : List ℕ). Some bytes) is.2.1.text, is.2.1.named))
+held object f (TargetPath value) is = inr (is.0, (is.2.0, is.1 ∙ ap (λ (bytes : List ℕ). Some bytes) is.2.1, is.2.2))
 
 pub all_held : (slots : List Slot) (object : Reading) (xs : List Fragment) (fs : List Name) → AreFragmentsOf slots object xs fs → AllByRecursion (HasTarget object) fs
 all_held slots object [] [] h = tt

@@ -11,7 +11,7 @@ use Rattle.dt_joining.specs.Walk.{Walked, nothing_walked, site, landings, landed
 use Rattle.dt_landing.specs.Landings.{WhyNotLands, IsStuck, HasNoSite}
 use Rattle.dt_landing.specs.Refusals.{HasNoSites, IsCrowded, WhyNotApplied}
 use Rattle.dt_overlay.specs.declared.applying.Plan.{Plan}
-use Rattle.dt_overlay.specs.declared.numbers.Brought.{Brought}
+use Rattle.dt_parts.specs.declared.brought.Brought.{Brought}
 use Rattle.dt_targets.specs.Targets.{IsWant}
 use Rattle.dt_overlay.specs.Applying.{IsReadAs, IsLeftBy}
 

@@ -15,9 +15,9 @@ use Rattle.dt_landing.specs.Landings.{AreSited}
 use Rattle.dt_landing.specs.Objects.{HasCell, IsWellFormed, symbols_in}
 use Rattle.dt_landing.specs.Refusals.{IsCrowded}
 use Rattle.dt_overlay.specs.declared.applying.Plan.{Plan}
-use Rattle.dt_overlay.specs.declared.numbers.Brought.{Brought}
+use Rattle.dt_parts.specs.declared.brought.Brought.{Brought}
 use Rattle.dt_targets.specs.Known.{IsKnown}
-use Rattle.dt_overlay.specs.Plans.{AreBrought, AreFragmentsOf, AreSymbolsOf, AreWritesOf, IsReady, symbol_brought}
+use Rattle.dt_parts.specs.Plans.{AreBrought, AreFragmentsOf, AreSymbolsOf, AreWritesOf, IsReady, symbol_brought}
 
 -- nothing is planned so far
 pub record IsEmptyPlan (p : Plan) : Type 0 where

@@ -11,25 +11,20 @@ ghost use Rattle.dt_landing.specs.Landings.{HasNoSite};
 ghost use Rattle.dt_landing.specs.Refusals.{IsCrowded, WhyNotApplied};
 ghost use Rattle.dt_model.specs.Tree.{Reading};
 ghost use Rattle.dt_names.specs.declared.fault.FaultKind.TheVariants.{NoMemory, Limit};
-ghost use Rattle.dt_overlay.specs.Plans.{IsUnbrought};
+ghost use Rattle.dt_parts.specs.Plans.{IsUnbrought};
 ghost use Rattle.dt_overlay.specs.Applying.{IsEmptyPlan, IsReadAs, IsSitedAs, IsWrittenAs, IsLeftBy};
 ghost use Rattle.dt_targets.specs.Known.{IsKnown};
 ghost use Rattle.dt_targets.specs.Targets.{HasNoRoom, IsWant};
 
-use crate::fixups::list_fixups;
-use crate::fragments::{Fragment, list_fragments};
-use crate::landing::land_all;
-use crate::local_fixups::list_local_fixups;
-use crate::marks::target_marks;
-use crate::numbers::{Brought, bring_all, number_all, renumber};
-use crate::sites::find_sites;
-use crate::symbol_landing::set_symbols;
-use crate::symbols::{Symbol, list_symbols};
-use crate::writes::{Write, write_cells};
 use dt_flat::FlatTree;
 use dt_landing::{fragments_are_merged, sited_is_applied};
 use dt_names::{Fault, NodeName, Path, Seed};
+use dt_object::{list_fixups, list_fragments, list_local_fixups, list_symbols};
+use dt_parts::{Brought, Fragment, Symbol, Write, bring_all};
 use dt_read::Blob;
+use dt_sites::{
+    find_sites, land_all, number_all, renumber, set_symbols, target_marks, write_cells,
+};
 use dt_targets::{Places, Target};
 use std::alloc::Global;
 

@@ -10,16 +10,6 @@
 #![tactic(auto)]
 
 mod applying;
-mod fixups;
-mod fragments;
-mod landing;
-mod local_fixups;
-mod marks;
-mod numbers;
-mod sites;
-mod symbol_landing;
-mod symbols;
-mod writes;
 
 pub use applying::apply;
 pub use dt_targets::{Target, tree_room_is_counted};

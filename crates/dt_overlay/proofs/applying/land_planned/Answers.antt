@@ -2,9 +2,9 @@ use Rattle.std.proofs.Common.{◌<◌, List, length, sym, subst}
 use Rattle.std.specs.List.{AllByRecursion}
 use Rattle.std.proofs.lemmas.Result.{err_from_is_err_and}
 use Rattle.dt_model.specs.Path.{Path}
-use Rattle.dt_overlay.specs.declared.fragments.Fragment.{Fragment}
-use Rattle.dt_overlay.specs.declared.symbols.Symbol.{Symbol}
-use Rattle.dt_overlay.specs.SymbolLanding.{AreToLand}
+use Rattle.dt_parts.specs.declared.kept.Fragment.{Fragment}
+use Rattle.dt_parts.specs.declared.kept.Symbol.{Symbol}
+use Rattle.dt_sites.specs.SymbolLanding.{AreToLand}
 use Rattle.dt_overlay.proofs.CarriedOut.{nodes_there, these_may_land, told_landing, told_symbols, to_land, all_carried}
 use Rattle.dt_overlay.proofs.ReadPlans.{on_ok, if_err}
 use Rattle.dt_targets.specs.Targets.{HasNoRoom}

@@ -5,10 +5,11 @@ use Rattle.std.proofs.lemmas.Result.{err_from_is_err_and}
 use Rattle.dt_model.specs.Object.{local_cells}
 use Rattle.dt_model.specs.Applied.{local_write, label_write}
 use Rattle.dt_flat.specs.Arena.{reading}
-use Rattle.dt_overlay.specs.Marks.{with_own}
-use Rattle.dt_overlay.specs.declared.marks.TargetMark.TheVariants.{Bare}
-use Rattle.dt_overlay.specs.declared.writes.Write.{Write}
-use Rattle.dt_overlay.proofs.MarksMade.{length-with_own, length-with_labels, marks_are}
+use Rattle.dt_sites.specs.Marks.{with_own}
+use Rattle.dt_sites.specs.declared.marks.TargetMark.TheVariants.{Bare}
+use Rattle.dt_parts.specs.declared.kept.Write.{Write}
+use Rattle.dt_sites.proofs.MarksMade.{length-with_own, length-with_labels}
+use Rattle.dt_overlay.proofs.MarksRead.{marks_are}
 use Rattle.dt_overlay.proofs.ReadPlans.{on_ok, writes_within}
 use Rattle.dt_overlay.proofs.applying.look.Goals as goal
 

@@ -2,9 +2,9 @@ use Rattle.std.proofs.Common.{List, [], subst}
 use Rattle.std.proofs.lemmas.Result.{err_from_is_err_and}
 use Rattle.dt_model.specs.Object.{fragment_names}
 use Rattle.dt_flat.specs.Arena.{reading}
-use Rattle.dt_overlay.specs.Plans.{ListsFixups, ListsLocalFixups, ListsSymbols}
-use Rattle.dt_overlay.specs.declared.symbols.Symbol.{Symbol}
-use Rattle.dt_overlay.specs.declared.writes.Write.{Write}
+use Rattle.dt_parts.specs.Plans.{ListsFixups, ListsLocalFixups, ListsSymbols}
+use Rattle.dt_parts.specs.declared.kept.Symbol.{Symbol}
+use Rattle.dt_parts.specs.declared.kept.Write.{Write}
 use Rattle.dt_overlay.proofs.ReadPlans.{on_ok, if_err, all_held, label_told, local_told, symbol_told, read_as}
 use Rattle.dt_targets.specs.Targets.{HasNoRoom}
 use Rattle.dt_overlay.proofs.applying.read.Goals as goal

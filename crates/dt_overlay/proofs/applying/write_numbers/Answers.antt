@@ -1,8 +1,8 @@
 use Rattle.std.proofs.Common.{◌≡◌, List, sym, ap, subst, ◌∙◌}
 use Rattle.dt_flat.specs.Arena.{Arena, reading}
 use Rattle.dt_joining.specs.Walk.{new_numbers}
-use Rattle.dt_overlay.specs.Writing.{AreWritable, with_writes}
-use Rattle.dt_overlay.specs.declared.writes.Write.{Write}
+use Rattle.dt_sites.specs.Writing.{AreWritable, with_writes}
+use Rattle.dt_parts.specs.declared.kept.Write.{Write}
 use Rattle.dt_overlay.proofs.ReadPlans.{on_ok, with_local_writes, locals, locals_writable, labels_writable, written_as}
 use Rattle.dt_overlay.proofs.applying.write_numbers.Goals as goal
 

@@ -1,0 +1,11 @@
+pub mod FixupsLabels
+pub mod FixupsNumbers
+pub mod FixupsTold
+pub mod FragmentsListed
+pub mod FragmentsTargets
+pub mod LocalFixupsLists
+pub mod LocalFixupsNodes
+pub mod LocalFixupsWords
+pub mod SymbolsFragments
+pub mod SymbolsListed
+pub mod SymbolsNodes

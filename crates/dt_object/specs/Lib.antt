@@ -1,0 +1,5 @@
+-- what callers read, in this order
+pub mod LocalFixups
+-- inside
+pub mod Fixups
+pub mod Symbols

@@ -1,0 +1,5 @@
+pub mod Elements
+pub mod OwnNumbers
+pub mod NumbersBrought
+pub mod NumbersTurns
+pub mod NumbersWalk

@@ -1,0 +1,15 @@
+//! What is kept of an overlay's object while it is applied (dtc's notes on overlay objects): its fragments, the cells that get numbers, its labels, and which
+//! fragment brings a node. A node is named by its number in the object's tree. dt_object fills these, and dt_sites lands what they say.
+//!
+//! ```text
+//! let mut brought = Brought::new(alloc, object.node_count())?;
+//! bring_all(&object, &fragments, &mut brought);    // of `/plugin/; &{/} { d { }; };`
+//! brought.fragments;                               // the content's and /d's node: Some(0); the others: None
+//! ```
+#![tactic(auto)]
+
+mod brought;
+mod kept;
+
+pub use brought::{Brought, bring_all};
+pub use kept::{Fragment, FragmentTarget, Symbol, Write};

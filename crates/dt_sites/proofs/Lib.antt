@@ -1,0 +1,16 @@
+pub mod LandingEach
+pub mod LandingNodes
+pub mod MarksMade
+pub mod NumbersLanded
+pub mod SitesFound
+pub mod SitesLanding
+pub mod SitesNamed
+pub mod SitesNumbered
+pub mod SitesTurns
+pub mod SymbolLandingLabels
+pub mod SymbolLandingLeft
+pub mod WritesKept
+pub mod WritesLanded
+pub mod WritesPaths
+pub mod WritesPlans
+pub mod WritesRead

@@ -1,0 +1,136 @@
+//! Landing what the fragments bring.
+
+ghost use Rattle.std.specs.Prelude.{◌≡◌, ◌+◌, ◌<◌, ◌++◌, ◌∷◌, ◌⊎◌, [], true, length, map, OnOk, IfOk, IfErr};
+ghost use Rattle.std.specs.List.{AllByRecursion};
+ghost use Rattle.dt_model.specs.Limits.{most_names};
+ghost use Rattle.dt_model.specs.Names.{IsNodeName, IsPropertyName};
+ghost use Rattle.dt_model.specs.Tree.{stands_in};
+ghost use Rattle.dt_model.specs.Changes.{with_child_at, with_property_at};
+ghost use Rattle.dt_names.specs.declared.fault.FaultKind.TheVariants.{NoMemory, Limit};
+ghost use Rattle.dt_landing.specs.Steps.{land_properties, land_node, MayLandProperties, MayLandNode, MaySetValue, FullAtProperties, FullAtNode};
+ghost use Rattle.dt_landing.specs.Writing.{landed_property};
+ghost use Rattle.dt_sites.specs.Landed.{landed_at, land_each, MayLandEach, FullAtEach};
+ghost use Rattle.dt_targets.specs.Targets.{HasNoRoom, IsWant};
+
+use dt_flat::{FlatTree, NodeId, Props};
+use dt_names::{Fault, NodeName, Path, PropName};
+use dt_parts::Fragment;
+use dt_targets::{Target, child_path};
+use std::alloc::Global;
+
+// Sets a property of the node that lands: a `phandle` to its new number.
+fn land_property<T: Target>(
+    target: &mut T,
+    path: &Path,
+    name: &[u8],
+    value: &[u8],
+    number: Option<u32>,
+) -> Result<(), Fault>
+    requires stands { stands_in (T.reading target.old) path.now ≡ true }
+    requires named { IsPropertyName name.now }
+    requires may { MaySetValue path.now name.now
+        (landed_property number (record { name = name.now; value = value.now })).value (T.reading target.old) }
+    ensures set { OnOk result (T.reading target.new ≡ with_property_at path.now name.now
+        (landed_property number (record { name = name.now; value = value.now })).value (T.reading target.old)) }
+    ensures refused { IfErr result (IsWant (HasNoRoom T.reading T.has_room (T.reading target.old) (with_property_at path.now name.now
+        (landed_property number (record { name = name.now; value = value.now })).value (T.reading target.old)))) }
+{
+    let property = PropName::new(name)?;
+    if name == b"phandle".as_slice() {
+        return target.set_prop(path, &property, &number.unwrap_or(0).to_be_bytes());
+    }
+    target.set_prop(path, &property, value)
+}
+
+// Sets the properties of the node that lands.
+fn set_properties<T: Target>(
+    target: &mut T,
+    path: &Path,
+    props: Props<'_>,
+    number: Option<u32>,
+) -> Result<(), Fault>
+    requires stands { stands_in (T.reading target.old) path.now ≡ true }
+    requires named { AllByRecursion (λ p. IsPropertyName p.name) props }
+    requires may { MayLandProperties path.now (map (landed_property number) props) (T.reading target.old) }
+    ensures landed { OnOk result
+        (T.reading target.new ≡ land_properties path.now (map (landed_property number) props.entry) (T.reading target.old)) }
+    ensures refused { IfErr result (IsWant (FullAtProperties (HasNoRoom T.reading T.has_room) path.now (map (landed_property number) props.entry)
+        (T.reading target.old))) }
+{
+    for (name, value) in props {
+        land_property(target, path, name, value, number)?;
+    }
+    Ok(())
+}
+
+// The path on which a child lands: it is added where it isn't there.
+fn add_child<T: Target>(
+    alloc: Global,
+    target: &mut T,
+    parent: &Path,
+    name: &[u8],
+) -> Result<Path, Fault>
+    requires stands { stands_in (T.reading target.old) parent.now ≡ true }
+    requires named { IsNodeName name.now }
+    requires shallow { length parent.now < most_names }
+    ensures path { IfOk result (λ path. path ≡ parent.now ++ name.now ∷ []) }
+    ensures added { OnOk result (T.reading target.new ≡ with_child_at parent.now name.now (T.reading target.old)) }
+    ensures refused { IfErr result (IsWant (HasNoRoom T.reading T.has_room (T.reading target.old)
+        (with_child_at parent.now name.now (T.reading target.old)))) }
+{
+    let path = child_path(alloc, parent, name)?;
+    if !target.find(&path) {
+        target.add_node(parent, &NodeName::new(name)?)?;
+    }
+    Ok(path)
+}
+
+// A node lands on one that is there, with what is below it.
+fn land<T: Target>(
+    alloc: Global,
+    target: &mut T,
+    object: &FlatTree,
+    numbers: &[Option<u32>],
+    node: NodeId,
+    path: &Path,
+) -> Result<(), Fault>
+    requires node { node < length object.now.slots }
+    requires numbers { length numbers.now ≡ length object.now.slots }
+    requires stands { stands_in (T.reading target.old) path.now ≡ true }
+    requires may { MayLandNode path.now (landed_at numbers.now object.now.slots node) (T.reading target.old) }
+    ensures landed { OnOk result
+        (T.reading target.new ≡ land_node path.now (landed_at numbers.now object.now.slots node) (T.reading target.old)) }
+    ensures refused { IfErr result (IsWant (FullAtNode (HasNoRoom T.reading T.has_room) path.now
+        (landed_at numbers.now object.now.slots node) (T.reading target.old))) }
+{
+    object.validity();
+    set_properties(target, path, object.props(node), numbers[node])?;
+    for child in object.children(node) {
+        let path = add_child(alloc, target, path, object.name(child))?;
+        land(alloc, target, object, numbers, child, &path)?;
+    }
+    Ok(())
+}
+
+/// Lands what the fragments bring, each on its site. `Limit`: there is no room. `NoMemory`: memory was refused.
+pub fn land_all<T: Target>(
+    alloc: Global,
+    target: &mut T,
+    object: &FlatTree,
+    numbers: &[Option<u32>],
+    fragments: &[Fragment],
+    sites: &[Path],
+) -> Result<(), Fault>
+    requires nodes { AllByRecursion (λ x. x.content < length object.now.slots) fragments.now }
+    requires numbers { length numbers.now ≡ length object.now.slots }
+    requires may { MayLandEach numbers.now object.now.slots (map (λ x. x.content) fragments.now) sites.now (T.reading target.old) }
+    ensures landed { OnOk result (T.reading target.new
+        ≡ land_each numbers.now object.now.slots (map (λ x. x.content) fragments.now) sites.now (T.reading target.old)) }
+    ensures refused { IfErr result (IsWant (FullAtEach (HasNoRoom T.reading T.has_room) numbers.now object.now.slots
+        (map (λ x. x.content) fragments.now) sites.now (T.reading target.old))) }
+{
+    for (fragment, site) in fragments.iter().zip(sites) {
+        land(alloc, target, object, numbers, fragment.content, site)?;
+    }
+    Ok(())
+}
