@@ -2,7 +2,7 @@
 
 use dt_bytes::{be32, be64, put32, text_at};
 use dt_expr::fit;
-use dt_listed::{cell_text, texts};
+use dt_texts::{cell_text, texts};
 use dt_names::{Label, NodeName, Out, PathRef, PropName, is_bookkeeping_name, phandle_of};
 use dt_streams::{check, print};
 use std::io::{Result as IoResult, Write};

@@ -9,7 +9,7 @@ use Rattle.dt_model.specs.Tree.{Reading}
 use Rattle.dt_names.specs.Fault.{placeless}
 use Rattle.dt_names.specs.declared.fault.Fault.{Fault}
 use Rattle.dt_names.specs.declared.fault.FaultKind.{FaultKind}
-use Rattle.dt_names.specs.declared.fault.FaultKind.TheVariants.{NoMemory, Limit}
+use Rattle.dt_names.specs.declared.fault.FaultKind.TheVariants.{Limit}
 use Rattle.dt_grammar.specs.Grammar.{Says}
 use Rattle.dt_grammar.specs.Parsed.{IsParsed}
 use Rattle.dt_landing.specs.Outcomes.{RoomIsCounted}

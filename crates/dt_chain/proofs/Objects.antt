@@ -1,5 +1,5 @@
 -- An input's object, read from its bytes or compiled from its text.
-use Rattle.std.proofs.Common.{◌≡◌, ◌⊎◌, ℕ, ◌≤◌, inl, inr, List, None, length, sym, ap, subst, ◌∙◌, arith}
+use Rattle.std.proofs.Common.{◌≡◌, ℕ, ◌≤◌, List, None, length, sym, ap, subst, ◌∙◌}
 use Rattle.dt_names.specs.declared.fault.Fault.{Fault}
 use Rattle.dt_names.specs.declared.fault.FaultKind.TheVariants.{NoMemory}
 use Rattle.dt_model.specs.Format.{Reads, IsWithin}
@@ -11,7 +11,7 @@ use Rattle.dt_landing.specs.Refusals.{has_many, WhyNotApplied}
 use Rattle.dt_grammar.specs.Grammar.{Says}
 use Rattle.dt_write.specs.Written.{written}
 use Rattle.dt_names.specs.Fault.{placeless}
-use Rattle.dt_chain.specs.Apply.{WhyNoStep, no_memory, no_base, no_object, not_applied, IsRead, IsNoBlob, WhyNoBlobApplied}
+use Rattle.dt_chain.specs.Apply.{WhyNoStep, no_memory, no_object, not_applied, IsRead, IsNoBlob}
 use Rattle.dt_chain.specs.Build.{HasObject, WhyNoObject}
 use Rattle.dt_chain.specs.Steps.{OfEachText}
 use Rattle.dt_chain.proofs.AppliedOutcomes.{OneReading}

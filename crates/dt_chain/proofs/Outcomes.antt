@@ -9,7 +9,7 @@ use Rattle.dt_model.specs.Limits.{most_nodes, most_bytes}
 use Rattle.dt_model.specs.Source.{Mode, base, raw, SourceMeans}
 use Rattle.dt_model.specs.Tree.{Reading}
 use Rattle.dt_model.specs.Valid.{IsValid, IsWithinLimits, node_count}
-use Rattle.dt_model.specs.Instance.{IsTreeOf, IsInstanceOf, added}
+use Rattle.dt_model.specs.Instance.{IsTreeOf, added}
 use Rattle.dt_model.specs.Refused.{too_many, IsRefusedFor}
 use Rattle.dt_laws.specs.CompiledTrees.{OneTree, MeantIsNotRefused, FewAreNotRefused}
 use Rattle.dt_grammar.specs.Grammar.{Says}

@@ -1,5 +1,5 @@
 -- What is true of what is answered: one answer or one refusal, and what it means.
-use Rattle.std.specs.Prelude.{◌≡◌, ◌≢◌, ◌<◌, ◌≤◌, ◌⊎◌, ℕ, List, [], ◌∷◌, length}
+use Rattle.std.specs.Prelude.{◌≡◌, ◌≢◌, ◌<◌, ◌≤◌, ℕ, List, [], ◌∷◌, length}
 use Rattle.std.specs.List.{AllByRecursion}
 use Rattle.dt_model.specs.Format.{Reads}
 use Rattle.dt_model.specs.Instance.{IsInstance}

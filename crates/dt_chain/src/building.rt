@@ -8,13 +8,14 @@ ghost use Rattle.dt_chain.specs.Build.{HasBaseTree, HasObject, WhyNoObject, IsBl
 ghost use Rattle.dt_chain.specs.Compile.{WhyNoTree};
 
 use crate::applying::Blobs;
-use crate::compiling::{base_tree, overlay_blob};
+use crate::compiling::{overlay_blob, source_tree};
 use crate::in_turn::{Inputs, blob_of};
 use dt_flat::FlatTree;
 use dt_format::blob_has_no_fault;
 use dt_model::one_reading;
 use dt_names::{Fault, Seed};
 use dt_parse::parse;
+use dt_source::Mode;
 use std::alloc::Global;
 
 /// The blob of a base's source with the overlays of other sources applied to it, one after another: what their texts mean, merged.
@@ -48,7 +49,7 @@ impl Inputs for Sources {
     fn base_tree(alloc: Global, base: &[u8], others: Seed) -> Result<FlatTree, Fault> {
         let mut source = parse(alloc, base)?;
         source.add_seed(others);
-        let tree = base_tree(alloc, &source)?;
+        let tree = source_tree(alloc, &source, Mode::Base)?;
         tree.validity();
         Ok(tree)
     }

@@ -52,7 +52,7 @@ pub fn compile(alloc: Global, text: &[u8]) -> Result<Vec<u8>, Fault>
     if source.is_overlay() {
         overlay_blob(alloc, &source)
     } else {
-        base_blob(alloc, &source)
+        source_blob(alloc, &source, Mode::Base)
     }
 }
 
@@ -68,25 +68,15 @@ pub fn compile_raw(alloc: Global, text: &[u8]) -> Result<Vec<u8>, Fault>
     ensures kinds { IfErr result (λ fault. IsCompilerFault fault.kind) }
 {
     let source = parse(alloc, text)?;
-    raw_blob(alloc, &source)
+    source_blob(alloc, &source, Mode::Raw)
 }
 
-// The blob of a base.
-fn base_blob(alloc: Global, source: &Source<'_>) -> Result<Vec<u8>, Fault>
-    ensures blob { IfOk result (λ blob. OfEachText source.now (λ text. IsCompiled base text blob.items)) }
-    ensures refused { IfErr result (λ fault. OfEachText source.now (λ text. WhyNotCompiled base text fault)) }
+// The blob of a source that is no overlay's.
+fn source_blob(alloc: Global, source: &Source<'_>, mode: Mode) -> Result<Vec<u8>, Fault>
+    ensures blob { IfOk result (λ blob. OfEachText source.now (λ text. IsCompiled (mode_said mode) text blob.items)) }
+    ensures refused { IfErr result (λ fault. OfEachText source.now (λ text. WhyNotCompiled (mode_said mode) text fault)) }
 {
-    let tree = base_tree(alloc, source)?;
-    tree.validity();
-    write_blob(alloc, &tree)
-}
-
-// The blob of a source as it stands.
-fn raw_blob(alloc: Global, source: &Source<'_>) -> Result<Vec<u8>, Fault>
-    ensures blob { IfOk result (λ blob. OfEachText source.now (λ text. IsCompiled raw text blob.items)) }
-    ensures refused { IfErr result (λ fault. OfEachText source.now (λ text. WhyNotCompiled raw text fault)) }
-{
-    let tree = raw_tree(alloc, source)?;
+    let tree = source_tree(alloc, source, mode)?;
     tree.validity();
     write_blob(alloc, &tree)
 }
@@ -155,24 +145,18 @@ fn marked(alloc: Global, named: &NamedTree<'_>) -> Result<FlatTree, Fault>
     }
 }
 
-/// The tree of a base.
-pub(crate) fn base_tree(alloc: Global, source: &Source<'_>) -> Result<FlatTree, Fault>
-    ensures tree { IfOk result (λ t. OfEachText source.now (λ text. TextHasTree base text (reading t))) }
-    ensures refused { IfErr result (λ fault. OfEachText source.now (λ text. WhyNoTree base text fault)) }
+/// The tree of a source that is no overlay's.
+pub(crate) fn source_tree(alloc: Global, source: &Source<'_>, mode: Mode) -> Result<FlatTree, Fault>
+    ensures tree { IfOk result (λ t. OfEachText source.now (λ text. TextHasTree (mode_said mode) text (reading t))) }
+    ensures refused { IfErr result (λ fault. OfEachText source.now (λ text. WhyNoTree (mode_said mode) text fault)) }
 {
     tree_is_meant();
     source_is_a_meaning();
-    let named = named_tree(alloc, source, Mode::Base)?;
-    labelled(alloc, &named)
-}
-
-fn raw_tree(alloc: Global, source: &Source<'_>) -> Result<FlatTree, Fault>
-    ensures tree { IfOk result (λ t. OfEachText source.now (λ text. TextHasTree raw text (reading t))) }
-    ensures refused { IfErr result (λ fault. OfEachText source.now (λ text. WhyNoTree raw text fault)) }
-{
-    tree_is_meant();
-    let named = named_tree(alloc, source, Mode::Raw)?;
-    numbered(alloc, &named)
+    let named = named_tree(alloc, source, mode)?;
+    match mode {
+        Mode::Base => labelled(alloc, &named),
+        Mode::Raw => numbered(alloc, &named),
+    }
 }
 
 fn overlay_tree(alloc: Global, source: &Source<'_>) -> Result<FlatTree, Fault>

@@ -1,5 +1,3 @@
-pub mod TextCuts
-pub mod CellTexts
 pub mod ListedCells
 pub mod ToldFixups
 pub mod ToldLocalFixups

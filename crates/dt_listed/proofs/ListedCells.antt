@@ -25,11 +25,11 @@ use Rattle.dt_names.specs.Paths.{IsPathOf}
 use Rattle.dt_read.specs.Placed.{Nodes, no_nodes, node, PlacedTree, reading_of, place_below, place_of}
 use Rattle.dt_read.proofs.NodePlaces.{stands_place}
 use Rattle.dt_landing.specs.Objects.{HasCell}
-use Rattle.dt_listed.specs.Cuts.{Lacks, IsCut, IsNumeralOf}
-use Rattle.dt_listed.specs.Texts.{IsPathValue}
+use Rattle.dt_texts.specs.Cuts.{Lacks, IsCut, IsNumeralOf}
+use Rattle.dt_texts.specs.Texts.{IsPathValue}
 use Rattle.dt_listed.specs.Listed.{ListedCell, IsListed}
 use Rattle.dt_listed.specs.FixupsLeft.{onto_front, cut_in, are_digits, number_in, cell_within, cell_at, cell_of_parts, cell_in}
-use Rattle.dt_listed.proofs.CellTexts.{path_without_colon, property_without_colon}
+use Rattle.dt_texts.proofs.CellTexts.{path_without_colon, property_without_colon}
 
 -- ---- cuts
 

@@ -9,11 +9,11 @@ use Rattle.dt_model.specs.Object.{properties_of}
 use Rattle.dt_model.specs.Tree.{Property, node_at}
 use Rattle.dt_model.specs.Valid.{IsValid}
 use Rattle.dt_read.specs.Placed.{PlacedTree, reading_of}
-use Rattle.dt_listed.specs.Cuts.{texts_in}
-use Rattle.dt_listed.specs.Texts.{AreTexts}
+use Rattle.dt_texts.specs.Cuts.{texts_in}
+use Rattle.dt_texts.specs.Texts.{AreTexts}
 use Rattle.dt_listed.specs.Listed.{ListedCell, Fixup, AreTold, AreFixups, AreFixupsOf}
 use Rattle.dt_listed.specs.FixupsLeft.{cell_in, told_next, told_of_texts, told_of, ends_with_nul, behind_label, fixups_left}
-use Rattle.dt_listed.proofs.TextCuts.{texts_only, texts_there, none_of_nothing, none_of_other}
+use Rattle.dt_texts.proofs.TextCuts.{texts_only, texts_there, none_of_nothing, none_of_other}
 use Rattle.dt_listed.proofs.ListedCells.{found_is_told, told_is_found, listed_there}
 
 -- ---- how a value ends

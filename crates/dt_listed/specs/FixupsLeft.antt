@@ -10,7 +10,7 @@ use Rattle.dt_model.specs.Applied.{node_named}
 use Rattle.dt_names.specs.Fault.{placeless}
 use Rattle.dt_names.specs.declared.fault.FaultKind.TheVariants.{BadFixup}
 use Rattle.dt_read.specs.Placed.{PlacedTree, reading_of, place_of}
-use Rattle.dt_listed.specs.Cuts.{texts_in}
+use Rattle.dt_texts.specs.Cuts.{texts_in}
 use Rattle.dt_listed.specs.Listed.{ListedCell, Fixup}
 
 -- ---- the cell of a text

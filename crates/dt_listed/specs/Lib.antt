@@ -1,6 +1,4 @@
 -- what callers read, in this order
-pub mod Texts
-pub mod Cuts
 pub mod Listed
 pub mod FixupsLeft
 pub mod ListedViews

@@ -10,7 +10,7 @@ use Rattle.dt_names.specs.declared.fault.Fault.{Fault}
 use Rattle.dt_names.specs.declared.fault.FaultKind.TheVariants.{BadFixup, BadLocalFixup}
 use Rattle.dt_read.specs.Placed.{PlacedTree, reading_of, IsAt}
 use Rattle.dt_landing.specs.Objects.{HasCell}
-use Rattle.dt_listed.specs.Texts.{AreTexts}
+use Rattle.dt_texts.specs.Texts.{AreTexts}
 
 -- a cell that is listed: the place of its node, its property, its offset
 pub record ListedCell : Type 0 where

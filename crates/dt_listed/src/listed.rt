@@ -1,15 +1,14 @@
 //! The cells that an object lists.
 
-ghost use Rattle.std.specs.Prelude.{◌≡◌, ◌+◌, ◌≤◌, ◌↔◌, IsTrue, length};
+ghost use Rattle.std.specs.Prelude.{◌≡◌};
 ghost use Rattle.std.specs.Option.{option_map};
 ghost use Rattle.dt_read.specs.Placed.{place_of};
 ghost use Rattle.dt_listed.specs.FixupsLeft.{number_in, cell_within, cell_of_parts, cell_in};
 ghost use Rattle.dt_listed.specs.ListedViews.{listed_view};
 
-use crate::cuts::cut;
-use crate::reading::number;
 use dt_names::{NodeId, PathRef, PropName};
 use dt_read::Blob;
+use dt_texts::{cut, decimal, has_cell};
 
 /// A cell that an object lists: the node, the name of the node's property, and the offset in the property's value.
 #[derive(Clone, Copy)]
@@ -17,13 +16,6 @@ pub struct ListedCell<'a> {
     pub node: NodeId,
     pub property: &'a [u8],
     pub offset: usize,
-}
-
-/// Are there four bytes at an offset of a value? Takes no memory.
-pub fn has_cell(value: &[u8], offset: usize) -> bool
-    ensures { IsTrue result ↔ (offset + 4 ≤ length value.now) }
-{
-    value.len() >= 4 && offset <= value.len() - 4
 }
 
 // The node of a path.
@@ -46,7 +38,7 @@ fn cell_within<'a>(
 ) -> Option<ListedCell<'a>>
     ensures { option_map listed_view result ≡ cell_within node property.now value.now (number_in digits.now) }
 {
-    let offset = number(digits)?;
+    let offset = decimal(digits)?;
     if !has_cell(value, offset) {
         return None;
     }

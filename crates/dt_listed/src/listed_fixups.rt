@@ -6,11 +6,10 @@ ghost use Rattle.std.specs.Iterator.{YieldsFirstBy, item_count};
 ghost use Rattle.dt_listed.specs.FixupsLeft.{cell_in, told_next, told_of_texts, fixups_left};
 ghost use Rattle.dt_listed.specs.ListedViews.{fixup_view};
 
-use crate::cuts::Texts;
 use crate::listed::{ListedCell, told_cell};
-use crate::reading::texts;
 use dt_names::{Fault, FaultKind};
 use dt_read::{Blob, Props};
+use dt_texts::{Texts, texts};
 use std::marker::Model;
 
 // What is left of a label's texts, and the labels behind it.

@@ -16,10 +16,11 @@ ghost use Rattle.dt_read.specs.Placed.{path_at};
 ghost use Rattle.dt_listed.specs.LocalFixupsLeft.{step_told, walk_told, MayWalk};
 ghost use Rattle.dt_listed.specs.MirrorViews.{mirror_left, steps_left, MayGoOn, IsTaken};
 
-use crate::listed::{ListedCell, has_cell};
+use crate::listed::ListedCell;
 use dt_bytes::be32;
 use dt_names::{Fault, FaultKind, NodeId};
 use dt_read::{Blob, OpenNodes, Step, Steps};
+use dt_texts::has_cell;
 use std::marker::Model;
 
 // What is left of a walk through a mirror: the counterparts of its open nodes, and the offsets that the property which came

@@ -16,7 +16,7 @@ use Rattle.dt_model.proofs.Texts.{one_value}
 use Rattle.dt_model.proofs.Listed.{listed_stands, value_stands}
 use Rattle.dt_model.proofs.Preorder.{listed_named}
 use Rattle.dt_model.proofs.Finding.{node_of_text}
-use Rattle.dt_listed.specs.Texts.{IsPathValue}
+use Rattle.dt_texts.specs.Texts.{IsPathValue}
 use Rattle.dt_landing.specs.Objects.{SymbolHasNumber}
 use Rattle.dt_landing.proofs.Depths.{within_depth}
 

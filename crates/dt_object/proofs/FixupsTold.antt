@@ -6,7 +6,7 @@ use Rattle.dt_model.specs.Object.{Cell}
 use Rattle.dt_model.specs.Tree.{Reading}
 use Rattle.dt_model.specs.Applied.{Write}
 use Rattle.dt_flat.specs.Arena.{Arena, Slot, reading}
-use Rattle.dt_listed.specs.Texts.{AreTexts, TellCells, TextsAreOne, CellTextsAreTexts}
+use Rattle.dt_texts.specs.Texts.{AreTexts, TellCells, TextsAreOne, CellTextsAreTexts}
 use Rattle.dt_landing.specs.Objects.{HasCell, AreCellsOf}
 use Rattle.dt_parts.specs.declared.kept.Write.{Write as KeptWrite}
 use Rattle.dt_parts.specs.Plans.{AreWritesOf}

@@ -8,6 +8,7 @@ use Rattle.dt_model.specs.Tree.{value_of, value_in}
 use Rattle.dt_flat.specs.Arena.{Arena, properties, node_from, reading}
 use Rattle.dt_landing.specs.Objects.{HoldsNumber, HasTarget}
 use Rattle.dt_targets.proofs.Reached.{value-led}
+use Rattle.dt_texts.specs.Texts.{IsPathValue}
 
 module _ (a : Arena) (f : Name) (i : ℕ) (leads : node_from a.slots 0 (f ∷ []) ≡ Some i) where
   -- a value of the node is the fragment's
@@ -30,12 +31,12 @@ module _ (a : Arena) (f : Name) (i : ℕ) (leads : node_from a.slots 0 (f ∷ []
 
   -- without a `target`, the text of a path as `target-path`
   pub path_target : (value kept : List ℕ) → None ≡ value_of (properties a.slots i) (codes "target") → Some value ≡ value_of (properties a.slots i) (codes "target-path") → kept ≡ value
-      → ((p : Path) × (value ≡ path_value p) × AllByRecursion IsNodeName p)
-      → (value_in (reading a) (f ∷ []) (codes "target") ≡ None) × (value_in (reading a) (f ∷ []) (codes "target-path") ≡ Some kept) × ((p : Path) × (kept ≡ path_value p) × AllByRecursion IsNodeName p)
+      → ((p : Path) × IsPathValue value p)
+      → (value_in (reading a) (f ∷ []) (codes "target") ≡ None) × (value_in (reading a) (f ∷ []) (codes "target-path") ≡ Some kept) × ((p : Path) × IsPathValue kept p)
   path_target value kept none is same told = (
     value_there (codes "target") None none,
     value_there (codes "target-path") (Some value) is ∙ ap (λ (v : List ℕ). Some v) (sym same),
-    (told.0, same ∙ told.1, told.2),
+    (told.0, record { text = same ∙ told.1.text; named = told.1.named }),
   )
 
   -- without a `target`, what is no text of a path as `target-path` is none

@@ -16,8 +16,8 @@ use Rattle.dt_flat.proofs.ByPath.{has, sibling_below}
 use Rattle.dt_model.proofs.Tests.{bytes_eq_refl, bytes_eq_true, bytes_eq_other, each_in}
 use Rattle.dt_model.proofs.Texts.{node_name_has_no}
 use Rattle.dt_laws.proofs.FragmentOrder.{each_fragment}
-use Rattle.dt_listed.specs.Cuts.{Lacks, IsCut}
-use Rattle.dt_listed.proofs.TextCuts.{cut_once, never_cut}
+use Rattle.dt_texts.specs.Cuts.{Lacks, IsCut}
+use Rattle.dt_texts.proofs.TextCuts.{cut_once, never_cut}
 use Rattle.dt_landing.specs.Objects.{IsOfFragment}
 use Rattle.dt_object.specs.Symbols.{IsFirstName}
 

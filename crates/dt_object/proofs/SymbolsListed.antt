@@ -11,7 +11,7 @@ use Rattle.dt_model.specs.Tree.{Property, Reading, nodes_of}
 use Rattle.dt_model.specs.Valid.{IsValid}
 use Rattle.dt_model.specs.Applied.{node_named}
 use Rattle.dt_flat.specs.Arena.{Arena, Slot, reading}
-use Rattle.dt_listed.specs.Cuts.{IsCut}
+use Rattle.dt_texts.specs.Cuts.{IsCut}
 use Rattle.dt_landing.specs.Objects.{IsOfFragment, IsSymbol, symbols_in}
 use Rattle.dt_parts.specs.declared.kept.Symbol.{Symbol}
 use Rattle.dt_parts.specs.Plans.{IsSymbolOf, AreSymbolsOf, symbol_brought, ListsSymbols}

@@ -17,8 +17,8 @@ use Rattle.dt_model.proofs.Finding.{node_of_text}
 use Rattle.dt_laws.proofs.Lands.{below-append, append-below}
 use Rattle.dt_model.proofs.Tests.{any_from, any_here}
 use Rattle.dt_model.proofs.Texts.{one_text, node_name_has_no}
-use Rattle.dt_listed.specs.Cuts.{Lacks}
-use Rattle.dt_listed.proofs.TextCuts.{cut_once, never_cut}
+use Rattle.dt_texts.specs.Cuts.{Lacks}
+use Rattle.dt_texts.proofs.TextCuts.{cut_once, never_cut}
 use Rattle.dt_landing.specs.Objects.{IsOfFragment}
 use Rattle.dt_targets.proofs.Reached.{stands-led}
 use Rattle.dt_object.proofs.FixupsNumbers.{found_by_text}

@@ -8,8 +8,8 @@ use Rattle.dt_model.specs.Applied.{Write, label_write}
 use Rattle.dt_flat.specs.Arena.{Arena, reading}
 use Rattle.dt_names.specs.declared.fault.FaultKind.{FaultKind}
 use Rattle.dt_names.specs.declared.fault.FaultKind.TheVariants.{NoMemory, NoSymbol, BadSymbol}
-use Rattle.dt_listed.specs.Texts.{TellCells}
-use Rattle.dt_listed.specs.declared.reading.CellText.{CellText}
+use Rattle.dt_texts.specs.Texts.{TellCells}
+use Rattle.dt_texts.specs.declared.reading.CellText.{CellText}
 use Rattle.dt_landing.specs.Objects.{HasCell, AreCellsOf, SymbolHasNumber, IsFixup}
 use Rattle.dt_parts.specs.declared.kept.Write.{Write as KeptWrite}
 use Rattle.dt_parts.specs.Plans.{AreWritesOf}

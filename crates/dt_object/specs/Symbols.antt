@@ -5,7 +5,7 @@ use Rattle.dt_model.specs.Path.{Path}
 use Rattle.dt_model.specs.Tree.{Property, nodes_of}
 use Rattle.dt_model.specs.Applied.{node_named}
 use Rattle.dt_flat.specs.Arena.{Arena, reading, node_from}
-use Rattle.dt_listed.specs.Cuts.{Lacks}
+use Rattle.dt_texts.specs.Cuts.{Lacks}
 use Rattle.dt_landing.specs.Objects.{IsOfFragment, IsSymbol}
 use Rattle.dt_parts.specs.declared.kept.Symbol.{Symbol}
 use Rattle.dt_object.specs.declared.symbols.SymbolNames.{SymbolNames}

@@ -10,19 +10,19 @@ ghost use Rattle.dt_model.specs.Tree.{value_in};
 ghost use Rattle.dt_model.specs.Valid.{IsPhandle};
 ghost use Rattle.dt_names.specs.declared.fault.FaultKind.TheVariants.{NoMemory, BadSymbol, BadFixup};
 ghost use Rattle.dt_flat.specs.Arena.{reading, node_from};
-ghost use Rattle.dt_listed.specs.Texts.{IsPathValue};
+ghost use Rattle.dt_texts.specs.Texts.{IsPathValue};
 ghost use Rattle.dt_landing.specs.Objects.{AreCellsOf, SymbolHasNumber};
 ghost use Rattle.dt_landing.specs.Refusals.{WhyNoFixup, HasNoFixup};
 ghost use Rattle.dt_parts.specs.Plans.{ListsFixups};
 ghost use Rattle.dt_object.specs.Fixups.{cell_told, HasTold, ListsTold, ListsCells, ListsLabels, WhyNoNumber};
 
 use dt_flat::FlatTree;
-use dt_listed::{
-    CellText, cell_text, cell_texts_are_texts, cut, has_cell, symbol_path, texts, texts_are_one,
-};
 use dt_names::{Fault, FaultKind, NodeId, Path, PathRef, phandle_of};
 use dt_parts::Write;
 use dt_targets::{Target, node_of};
+use dt_texts::{
+    CellText, cell_text, cell_texts_are_texts, cut, has_cell, symbol_path, texts, texts_are_one,
+};
 use std::alloc::Global;
 
 // The value of the property of whose cell a text tells, wherever in it the cell is.
@@ -187,9 +187,13 @@ fn list_fixup<T: Target>(
     list_cells(alloc, object, value, number, out)
 }
 
-/// Lists what is written into the cells that the object's `__fixups__` lists, label by label, and tells the first label without
-/// a number. `BadFixup`: its value isn't texts of cells that the object has. `NoSymbol`: the base has no such label.
-/// `BadSymbol`: it has, but for no node with a number.
+/// Lists what is written into the cells that the object's `__fixups__` lists (dtc's notes on overlay objects), label by label, in the
+/// order of its properties: the number of the node that the tree has for the label.
+///
+/// # Errors
+///
+/// Of the first label that has one: `BadFixup` where its value isn't texts of cells that the object has; `NoSymbol` where the tree's
+/// `__symbols__` hasn't the label; `BadSymbol` where it has, but for no node with a number; and `NoMemory`. None has a place.
 pub fn list_fixups<T: Target>(
     alloc: Global,
     target: &T,

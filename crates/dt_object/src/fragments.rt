@@ -12,7 +12,7 @@ ghost use Rattle.dt_parts.specs.Plans.{IsTargetOf, AreFragmentsOf};
 use dt_flat::FlatTree;
 use dt_names::{Fault, FaultKind, NodeId, is_bookkeeping_name};
 use dt_parts::{Fragment, FragmentTarget};
-use dt_targets::is_path_value;
+use dt_texts::is_path_value;
 use std::alloc::Global;
 
 /// The node that a child of the root brings, if it is a fragment: no bookkeeping node, and with a child `__overlay__`.
@@ -51,7 +51,13 @@ fn target_of(alloc: Global, object: &FlatTree, node: NodeId) -> Result<FragmentT
     }
 }
 
-/// Lists the fragments in the order of the root's children. `NoFragmentTarget`: one of them has no target.
+/// Lists the fragments in the order of the root's children (dtc's notes on overlay objects): those that are no bookkeeping nodes and have
+/// a child `__overlay__`.
+///
+/// # Errors
+///
+/// `NoFragmentTarget` where one of them has no target: neither four bytes as `target` nor, without a `target`, a path's text with its NUL
+/// as `target-path`; and `NoMemory`. None has a place.
 pub fn list_fragments(
     alloc: Global,
     object: &FlatTree,

@@ -13,9 +13,9 @@ ghost use Rattle.dt_object.specs.LocalFixups.{AreCounterparts, IsLocalFault, Lis
 ghost use Rattle.dt_parts.specs.Plans.{AreBroughtBy, brings, IsLocalNumber, AreBrought, ListsLocalFixups};
 
 use dt_flat::{FlatTree, Props};
-use dt_listed::has_cell;
 use dt_names::{Fault, FaultKind, NodeId};
 use dt_parts::{Brought, Write};
+use dt_texts::has_cell;
 use std::alloc::Global;
 
 // The number in a cell.
@@ -152,8 +152,13 @@ fn list_mirrored(
     Ok(())
 }
 
-/// Lists what is written into the cells that the object's `__local_fixups__` lists, in preorder. `BadLocalFixup`: the object
-/// has no such cell, or the number in it is that of no node that it may name.
+/// Lists what is written into the cells that the object's `__local_fixups__` lists (dtc's notes on overlay objects), in preorder: the
+/// number that the node gets whose own number the cell holds, or that number, where it gets none.
+///
+/// # Errors
+///
+/// `BadLocalFixup` where a node below `__local_fixups__` has no counterpart in the object, a property none in that one, offsets aren't
+/// cells, the value has no such cell, or the number in the cell is that of no node that it may name; and `NoMemory`. None has a place.
 pub fn list_local_fixups(
     alloc: Global,
     object: &FlatTree,

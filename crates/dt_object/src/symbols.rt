@@ -5,17 +5,17 @@ ghost use Rattle.dt_model.specs.Lists.{IsIn};
 ghost use Rattle.dt_model.specs.Tree.{Property};
 ghost use Rattle.dt_names.specs.declared.fault.FaultKind.TheVariants.{NoMemory, BadSymbol};
 ghost use Rattle.dt_flat.specs.Arena.{reading};
-ghost use Rattle.dt_listed.specs.Cuts.{IsCut};
+ghost use Rattle.dt_texts.specs.Cuts.{IsCut};
 ghost use Rattle.dt_landing.specs.Objects.{IsOfFragment, IsSymbol, symbols_in};
 ghost use Rattle.dt_parts.specs.Plans.{ListsSymbols};
 ghost use Rattle.dt_object.specs.Symbols.{IsFirstName, IsNamed, ListsNamed};
 
 use crate::fragments::content_of;
 use dt_flat::FlatTree;
-use dt_listed::cut;
 use dt_names::{Fault, FaultKind, NodeId, PathRef};
 use dt_parts::Symbol;
 use dt_targets::node_of;
+use dt_texts::cut;
 use memchr::memchr;
 use std::alloc::Global;
 
@@ -112,8 +112,12 @@ fn list_symbol(
     }
 }
 
-/// Lists the labels of nodes that land. `BadSymbol`: a value isn't a text with its NUL, or names a node that a fragment would
-/// bring if it were there.
+/// Lists the labels of the nodes that land, in the order of the object's `__symbols__` (dtc's notes on overlay objects).
+///
+/// # Errors
+///
+/// `BadSymbol` where a value isn't a text with its NUL, or names a node that a fragment would bring if it were there; and `NoMemory`.
+/// None has a place.
 pub fn list_symbols(alloc: Global, object: &FlatTree, out: &mut Vec<Symbol>) -> Result<(), Fault>
     ensures listed { OnOk result (ListsSymbols object.now out.old.items out.new.items) }
     ensures refused { IfErr result (λ fault. (fault.at ≡ None) × ((fault.kind ≡ NoMemory) ⊎ ((fault.kind ≡ BadSymbol)

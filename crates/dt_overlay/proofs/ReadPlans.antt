@@ -49,7 +49,7 @@ if_err (Err e) f h = f e h
 -- a fragment that is kept has a target
 held : (object : Reading) (f : Name) (t : FragmentTarget) → IsTargetOf object f t → HasTarget object f
 held object f Number is = inl is
-held object f (TargetPath value) is = inr (is.0, (is.2.0, is.1 ∙ ap (λ (bytes : List ℕ). Some bytes) is.2.1, is.2.2))
+held object f (TargetPath value) is = inr (is.0, (is.2.0, is.1 ∙ ap (λ (bytes : List ℕ). Some bytes) is.2.1.text, is.2.1.named))
 
 pub all_held : (slots : List Slot) (object : Reading) (xs : List Fragment) (fs : List Name) → AreFragmentsOf slots object xs fs → AllByRecursion (HasTarget object) fs
 all_held slots object [] [] h = tt

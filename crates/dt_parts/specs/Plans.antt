@@ -1,8 +1,8 @@
 -- What the code keeps of an object while it is applied, and what that stands for.
 use Rattle.std.specs.Prelude.{◌≡◌, Bool, ◌↔◌, ℕ, List, [], ◌∷◌, ◌++◌, length, map, replicate, slice_get, Option, Some, None, true, is_some, option_and_then, unwrap_or, if◌then◌else◌, codes}
 use Rattle.std.specs.List.{AllByRecursion, flat_map}
-use Rattle.dt_model.specs.Names.{Name, IsNodeName}
-use Rattle.dt_model.specs.Path.{Path, below, path_value}
+use Rattle.dt_model.specs.Names.{Name}
+use Rattle.dt_model.specs.Path.{Path, below}
 use Rattle.dt_model.specs.Tree.{Property, Reading, stands_in, value_in, nodes_of}
 use Rattle.dt_model.specs.Overlay.{content}
 use Rattle.dt_model.specs.Valid.{IsValid}
@@ -17,6 +17,7 @@ use Rattle.dt_parts.specs.declared.kept.FragmentTarget.TheVariants.{Number, Path
 use Rattle.dt_parts.specs.declared.kept.Write.{Write as KeptWrite}
 use Rattle.dt_parts.specs.declared.brought.Brought.{Brought}
 use Rattle.dt_parts.specs.declared.kept.Symbol.{Symbol}
+use Rattle.dt_texts.specs.Texts.{IsPathValue}
 use Rattle.dt_landing.specs.Objects.{HoldsNumber, HasCell, IsLocalCell, IsFixup, IsMirror, IsSymbol, fixups_in, symbols_in}
 
 -- ---- fragments
@@ -26,7 +27,7 @@ abbrev pub IsTargetOf : Reading → Name → FragmentTarget → Type 0
 IsTargetOf object f Number = HoldsNumber object f
 IsTargetOf object f (TargetPath value) =
     (value_in object (f ∷ []) (codes "target") ≡ None) × (value_in object (f ∷ []) (codes "target-path") ≡ Some value.items)
-    × ((p : Path) × (value.items ≡ path_value p) × AllByRecursion IsNodeName p)
+    × ((p : Path) × IsPathValue value.items p)
 
 -- a fragment is kept by the numbers of its nodes among these, and by what the object tells of its target
 pub record IsFragmentOf (slots : List Slot) (object : Reading) (x : Fragment) (f : Name) : Type 0 where

@@ -22,6 +22,10 @@ pub struct Brought {
 
 impl Brought {
     /// Of an object of so many nodes, none of which is brought so far.
+    ///
+    /// # Errors
+    ///
+    /// Where memory is refused.
     pub fn new(alloc: Global, nodes: usize) -> Result<Brought, AllocError>
         ensures { IfOk result (IsUnbrought nodes) }
     {
@@ -46,7 +50,7 @@ fn bring_nodes(object: &FlatTree, node: NodeId, fragment: usize, brought: &mut B
     }
 }
 
-/// The nodes that the fragments bring. None has a number so far.
+/// The nodes that the fragments bring (dtc's notes on overlay objects). None has a number so far. Takes no memory.
 pub fn bring_all(object: &FlatTree, fragments: &[Fragment], brought: &mut Brought)
     requires fragments { AreFragmentsOf object.now.slots (reading object.now) fragments.now (fragment_names (reading object.now).children) }
     requires unbrought { IsUnbrought (length object.now.slots) brought.old }

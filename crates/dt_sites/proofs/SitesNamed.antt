@@ -14,7 +14,7 @@ use Rattle.dt_model.specs.Merged.{Site, landing}
 use Rattle.dt_model.specs.Applied.{node_named, landed_named}
 use Rattle.dt_names.specs.declared.fault.FaultKind.{FaultKind}
 use Rattle.dt_names.specs.declared.fault.FaultKind.TheVariants.{NoMemory, Limit, BadSymbol}
-use Rattle.dt_listed.specs.Texts.{IsPathValue, WhyNoSymbolPath}
+use Rattle.dt_texts.specs.Texts.{IsPathValue, WhyNoSymbolPath}
 use Rattle.dt_model.proofs.Tests.{or_cases}
 use Rattle.dt_model.proofs.Texts.{one_value}
 use Rattle.dt_model.proofs.Listed.{stands_listed, listed_stands}

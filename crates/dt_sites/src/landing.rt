@@ -112,7 +112,12 @@ fn land<T: Target>(
     Ok(())
 }
 
-/// Lands what the fragments bring, each on its site. `Limit`: there is no room. `NoMemory`: memory was refused.
+/// Lands what the fragments bring, each on its site, one after another (dtc's notes on overlay objects): a node's properties, each in
+/// the place of the one that is there, then its children, which are added where they aren't there.
+///
+/// # Errors
+///
+/// `Limit` where the tree has no room for a change on the way, and `NoMemory`. What landed before stays. None has a place.
 pub fn land_all<T: Target>(
     alloc: Global,
     target: &mut T,

@@ -44,6 +44,10 @@ fn mark_labels(writes: &[Write], marks: &mut Vec<TargetMark>)
 }
 
 /// The marks of an object's targets, by the numbers of its nodes: a label's stands before one of the object's own.
+///
+/// # Errors
+///
+/// Where memory is refused.
 pub fn target_marks(
     alloc: Global,
     nodes: usize,

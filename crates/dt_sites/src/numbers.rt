@@ -17,7 +17,12 @@ use dt_parts::{Brought, Write};
 use dt_targets::{Places, Target, number_there};
 use std::alloc::Global;
 
-/// The nodes that land get the numbers of their places.
+/// Each node that lands and has a `phandle` gets the number of its place: that of the tree's node there, or else the least that no node of
+/// the tree has and that wasn't given (dtc's notes on overlay objects).
+///
+/// # Errors
+///
+/// `NoMemory`, which has no place.
 pub fn number_all<T: Target>(
     alloc: Global,
     target: &T,
@@ -57,7 +62,7 @@ fn new_number(object: &FlatTree, brought: &Brought, number: u32) -> u32
     }
 }
 
-/// The cells that hold numbers of the object's own nodes get those that the nodes have now.
+/// The cells that hold numbers of the object's own nodes get those that the nodes have now. Takes no memory.
 pub fn renumber(object: &FlatTree, brought: &Brought, writes: &mut Vec<Write>)
     requires { (numbers : List (Names × ℕ)) × AreBrought object.now.slots (fragment_names (reading object.now).children) numbers brought.now }
     ensures { (numbers : List (Names × ℕ)) → AreBrought object.now.slots (fragment_names (reading object.now).children) numbers brought.now →

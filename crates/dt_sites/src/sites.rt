@@ -23,13 +23,17 @@ ghost use Rattle.dt_sites.specs.declared.marks.TargetMark.{TargetMark};
 
 use crate::marks::TargetMark;
 use dt_flat::FlatTree;
-use dt_listed::symbol_path;
 use dt_names::{Fault, FaultKind, NodeId, Path};
 use dt_parts::{Brought, Fragment, FragmentTarget};
 use dt_targets::{Places, Target, has_landed, is_bookkeeping, join, land_content, place_given};
+use dt_texts::symbol_path;
 use std::alloc::Global;
 
 /// The path on which a node of the object lands, where its fragment is one of those that have sites.
+///
+/// # Errors
+///
+/// `Limit` where the path has more than 64 names, and `NoMemory`. Neither has a place.
 pub fn landing(
     alloc: Global,
     object: &FlatTree,
@@ -264,8 +268,14 @@ fn find_site<T: Target>(
     Ok(path)
 }
 
-/// Finds the sites of the fragments, in order, and what their nodes' places are. `NoTarget`: a target names no node of the base,
-/// and none that lands before it. `ReservedPlace`: something lands in a bookkeeping node. `Limit`: a path gets more than 64 names.
+/// Finds the sites of the fragments, in order, and the places of the nodes that they bring (dtc's notes on overlay objects). Nothing is
+/// changed but `places` and `sites`.
+///
+/// # Errors
+///
+/// Of the first fragment that has one: `NoTarget` where its target names no node of the tree, and none that lands before it;
+/// `ReservedPlace` where something lands in a bookkeeping node; `Limit` where a path gets more than 64 names; and `NoMemory`. None has a
+/// place.
 pub fn find_sites<T: Target>(
     alloc: Global,
     target: &T,

@@ -60,8 +60,12 @@ fn set_symbol<T: Target>(
     target.set_prop(symbols, &PropName::new(&symbol.label)?, value)
 }
 
-/// Sets the labels of the nodes that landed in `__symbols__`, which is added where there is any. `Limit`: there is no room.
-/// `NoMemory`: memory was refused.
+/// Sets the labels of the nodes that landed in `__symbols__`, each to its node's path (dtc's notes on overlay objects). `__symbols__` is
+/// added where it isn't there and there is a label.
+///
+/// # Errors
+///
+/// `Limit` where the tree has no room for a change on the way, and `NoMemory`. Neither has a place.
 pub fn set_symbols<T: Target>(
     alloc: Global,
     target: &mut T,

@@ -21,7 +21,11 @@ fn write_cell(object: &mut FlatTree, write: &Write) -> Result<(), Fault>
     object.patch_cell(write.node, &name, write.offset, write.number)
 }
 
-/// Writes the numbers, one after another.
+/// Writes the numbers into the object's cells, one after another, the highest byte first; but into no `phandle`.
+///
+/// # Errors
+///
+/// `NoMemory`, which has no place.
 pub fn write_cells(object: &mut FlatTree, writes: &[Write]) -> Result<(), Fault>
     requires { AreWritable object.old.slots writes.now }
     ensures written { OnOk result (object.new ≡ record object.old { slots = with_writes writes.now object.old.slots }) }

@@ -18,4 +18,4 @@ pub use flat_target::tree_room_is_counted;
 pub use looks::{is_bookkeeping, land_content, number_there};
 pub use places::{Places, has_landed, place_given};
 pub use target::Target;
-pub use texts::{child_path, is_path_value, join, node_of, put_path};
+pub use texts::{child_path, join, node_of, put_path};

@@ -1,6 +1,6 @@
 //! Texts of paths.
 
-ghost use Rattle.std.specs.Prelude.{◌≡◌, ◌<◌, ◌≤◌, ◌++◌, ◌∷◌, ◌⊎◌, [], ℕ, None, Some, length, drop, OnOk, IfOk, IfErr, ◌↔◌, IsTrue};
+ghost use Rattle.std.specs.Prelude.{◌≡◌, ◌<◌, ◌≤◌, ◌++◌, ◌∷◌, ◌⊎◌, [], ℕ, None, Some, length, drop, OnOk, IfOk, IfErr};
 ghost use Rattle.std.specs.List.{AllByRecursion};
 ghost use Rattle.dt_model.specs.Limits.{most_names};
 ghost use Rattle.dt_model.specs.Names.{IsNodeName};
@@ -12,16 +12,6 @@ ghost use Rattle.dt_names.specs.declared.fault.FaultKind.TheVariants.{NoMemory, 
 use dt_flat::FlatTree;
 use dt_names::{Fault, NodeId, NodeName, Path, PathRef};
 use std::alloc::{AllocError, Global};
-
-/// Is the value the text of a path with a NUL?
-pub fn is_path_value(value: &[u8]) -> bool
-    ensures { IsTrue result ↔ ((p : Names) × (value.now ≡ path_value p) × AllByRecursion IsNodeName p) }
-{
-    match value.split_last() {
-        Some((0, text)) => PathRef::new(text).is_some(),
-        _ => false,
-    }
-}
 
 /// The node of a path.
 pub fn node_of(tree: &FlatTree, path: &PathRef<'_>) -> Option<NodeId>

@@ -34,9 +34,9 @@ returns-clause-refused c =
     let parsed = c.in_ok-source.ensures.ok in
     if_err (λ (e : Fault). OfEachText s (λ text. WhyNotCompiled base text e)) (WhyNoBlob text)
     (λ e why. as_base s e parsed (sym c.if-is_overlay.ensures) (why text parsed))
-    c.base_blob.result c.base_blob.ensures.refused
+    c.source_blob.result c.source_blob.ensures.refused
 
 pub returns-clause-kinds : goal.returns-clause-kinds
 returns-clause-kinds c =
     let text = c.args.text.now in
-    if_err (WhyNoBlob text) (λ (e : Fault). IsCompilerFault e.kind) (blob_kind text) c.base_blob.result (returns-clause-refused c)
+    if_err (WhyNoBlob text) (λ (e : Fault). IsCompilerFault e.kind) (blob_kind text) c.source_blob.result (returns-clause-refused c)

@@ -11,7 +11,7 @@ use Rattle.dt_landing.specs.Objects.{SymbolHasNumber}
 use Rattle.dt_names.specs.declared.fault.Fault.{Fault}
 use Rattle.dt_names.specs.declared.fault.FaultKind.{FaultKind}
 use Rattle.dt_names.specs.declared.fault.FaultKind.TheVariants.{NoMemory, BadSymbol}
-use Rattle.dt_listed.specs.Texts.{IsPathValue}
+use Rattle.dt_texts.specs.Texts.{IsPathValue}
 use Rattle.dt_landing.proofs.PlainSymbols.{phandle_there}
 use Rattle.dt_object.specs.Fixups.{WhyNoNumber}
 use Rattle.dt_object.proofs.FixupsNumbers.{label_there, too_long, no_phandle, has_number}

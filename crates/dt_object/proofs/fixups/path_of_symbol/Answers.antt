@@ -1,7 +1,7 @@
 use Rattle.std.proofs.Common.{rules, ◌≡◌, inr, subst}
 use Rattle.dt_names.specs.declared.fault.FaultKind.{FaultKind}
 use Rattle.dt_names.specs.declared.fault.FaultKind.TheVariants.{Limit}
-use Rattle.dt_listed.specs.Texts.{WhyNoSymbolPath}
+use Rattle.dt_texts.specs.Texts.{WhyNoSymbolPath}
 use Rattle.dt_object.proofs.FixupsNumbers.{long_alone}
 use Rattle.dt_object.proofs.fixups.path_of_symbol.Goals as goal
 

@@ -4,7 +4,7 @@ use Rattle.dt_model.specs.Tree.{value_of}
 use Rattle.dt_flat.specs.Arena.{node_from, properties}
 use Rattle.dt_flat.proofs.Descent.{path-within}
 use Rattle.dt_model.proofs.Texts.{one_text}
-use Rattle.dt_listed.proofs.CellTexts.{no_colon, no_second, path_first, property_second}
+use Rattle.dt_texts.proofs.CellTexts.{no_colon, no_second, path_first, property_second}
 use Rattle.dt_targets.proofs.Reached.{value-led, no-value-led}
 use Rattle.dt_object.proofs.fixups.value_of.Goals as goal
 

@@ -38,7 +38,7 @@ returns-in_default-value-clause-refused c = λ f leads.
           (
           λ p named is.
           let same : value ≡ path_value p = cc in
-          let yes : false ≡ true = w.if-is_path_value.ensures.1 (p, same, named) in
+          let yes : false ≡ true = w.if-is_path_value.ensures.1 (p, record { text = same; named = named }) in
           absurd cc
           )
       | in_default-value-via-in_default-value w ↦

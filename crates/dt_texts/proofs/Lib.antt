@@ -1,0 +1,3 @@
+pub mod TextCuts
+pub mod CellTexts
+pub mod OnePath

@@ -1,0 +1,3 @@
+-- what callers read, in this order
+pub mod Texts
+pub mod Cuts
