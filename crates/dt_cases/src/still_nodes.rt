@@ -7,10 +7,10 @@ use crate::still_texts::{how_many, make_counter, taken};
 use dt_flat::FlatTree;
 use dt_irq::{Routes, route, specifier_route};
 use dt_listed::{fixups, local_fixups};
-use dt_texts::has_cell;
 use dt_names::{NodeId, Path};
 use dt_ranges::{Regions, dma_region, region};
 use dt_read::{Blob, Step};
+use dt_texts::has_cell;
 use dt_view::{TreeView, address_cells, cells, is_pci, node_at, one_cell};
 
 /// How much the calls answer of a view and the nodes of some paths' texts.

@@ -2,9 +2,9 @@
 
 use dt_bytes::{be32, be64, put32, text_at};
 use dt_expr::fit;
-use dt_texts::{cell_text, texts};
 use dt_names::{Label, NodeName, Out, PathRef, PropName, is_bookkeeping_name, phandle_of};
 use dt_streams::{check, print};
+use dt_texts::{cell_text, texts};
 use std::io::{Result as IoResult, Write};
 
 /// A writer that takes all, and counts it.
