@@ -62,40 +62,35 @@ apply_command = overlay_command (codes "apply")
 abbrev pub build_command : App
 build_command = overlay_command (codes "build")
 
--- `print FILE`
-abbrev pub print_command : App
-print_command = with_rule (new_app (codes "print")) file_word
-
--- `check FILE`
-abbrev pub check_command : App
-check_command = with_rule (new_app (codes "check")) file_word
-
--- `regs FILE`
-abbrev pub regs_command : App
-regs_command = with_rule (new_app (codes "regs")) file_word
-
--- `irqs FILE`
-abbrev pub irqs_command : App
-irqs_command = with_rule (new_app (codes "irqs")) file_word
+-- a command of this name with `FILE`
+abbrev pub blob_command : Text → App
+blob_command name = with_rule (new_app name) file_word
 
 -- `dma FILE PATH ADDRESS SIZE`
 abbrev pub dma_command : App
-dma_command = with_rule (with_rule (with_rule (with_rule (new_app (codes "dma")) file_word) (text_word (codes "PATH"))) (number_word (codes "ADDRESS"))) (number_word (codes "SIZE"))
+dma_command = with_rule (with_rule (with_rule (blob_command (codes "dma")) (text_word (codes "PATH"))) (number_word (codes "ADDRESS"))) (number_word (codes "SIZE"))
 
 -- `spec FILE PATH PROP KIND INDEX`
 abbrev pub spec_command : App
 spec_command =
-    with_rule (with_rule (with_rule (with_rule (with_rule (new_app (codes "spec")) file_word) (text_word (codes "PATH"))) (text_word (codes "PROP"))) (text_word (codes "KIND"))) (number_word (codes "INDEX"))
+    with_rule (with_rule (with_rule (with_rule (blob_command (codes "spec")) (text_word (codes "PATH"))) (text_word (codes "PROP"))) (text_word (codes "KIND"))) (number_word (codes "INDEX"))
 
 -- `dtool` without its commands, of which it wants one
 abbrev pub bare : App
 bare = let new = new_app (codes "dtool") in record new { top = record new.top { subcommand_required = true } }
 
+-- `dtool` with the commands that make blobs
+abbrev pub makers : App
+makers = with_subcommand (with_subcommand (with_subcommand bare compile_command.top) apply_command.top) build_command.top
+
+-- and with those that tell of a whole blob
+abbrev pub tellers : App
+tellers =
+    with_subcommand (with_subcommand (with_subcommand (with_subcommand makers (blob_command (codes "print")).top) (blob_command (codes "check")).top) (blob_command (codes "regs")).top) (blob_command (codes "irqs")).top
+
 -- `dtool`, with one of its commands
 abbrev pub dtool : App
-dtool =
-    with_subcommand (with_subcommand (with_subcommand (with_subcommand (with_subcommand (with_subcommand (with_subcommand (with_subcommand (with_subcommand bare compile_command.top)
-    apply_command.top) build_command.top) print_command.top) check_command.top) regs_command.top) irqs_command.top) dma_command.top) spec_command.top
+dtool = with_subcommand (with_subcommand tellers dma_command.top) spec_command.top
 
 -- a job's command
 abbrev pub command_of : Job → Text

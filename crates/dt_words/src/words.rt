@@ -20,8 +20,8 @@ ghost use Rattle.dt_words.specs.Words.{
   apply_command,
   bare,
   base_word,
+  blob_command,
   build_command,
-  check_command,
   command_of,
   compile_command,
   dma_command,
@@ -29,15 +29,14 @@ ghost use Rattle.dt_words.specs.Words.{
   file_word,
   first_word,
   hex_flag,
-  irqs_command,
+  makers,
   number_word,
   overlay_command,
   overlay_word,
-  print_command,
   raw_flag,
-  regs_command,
   spec_command,
   takes_overlays,
+  tellers,
   text_word,
 };
 ghost use Rattle.dt_words.specs.declared.words.LineFault.TheVariants.{Memory};
@@ -390,6 +389,30 @@ fn with_word<'a>(
     }
 }
 
+/// The same with a word that must be there.
+fn with_text<'a>(
+    alloc: Global,
+    command: Result<Command<'a>, AllocError>,
+    id: &'a str,
+    help: &'a str,
+) -> Result<Command<'a>, AllocError>
+    ensures { (app : App) → IfOk command.entry (IsCommand app) → IfOk result (IsCommand (with_rule app (text_word id.entry.now))) }
+{
+    with_word(command, text(alloc, id, help))
+}
+
+/// The same with one that must be a number too.
+fn with_number<'a>(
+    alloc: Global,
+    command: Result<Command<'a>, AllocError>,
+    id: &'a str,
+    help: &'a str,
+) -> Result<Command<'a>, AllocError>
+    ensures { (app : App) → IfOk command.entry (IsCommand app) → IfOk result (IsCommand (with_rule app (number_word id.entry.now))) }
+{
+    with_word(command, number(alloc, id, help))
+}
+
 /// `compile [--hex] [--raw] FILE`.
 fn compile<'a>(alloc: Global) -> Result<Command<'a>, AllocError>
     ensures { IfOk result (IsCommand compile_command) }
@@ -447,47 +470,18 @@ fn with_overlays<'a>(
     with_word(command, overlays(alloc, overlay_help))
 }
 
-/// `print FILE`.
-fn print<'a>(alloc: Global) -> Result<Command<'a>, AllocError>
-    ensures { IfOk result (IsCommand print_command) }
+/// A command with `FILE`, a blob, whose help ends so.
+fn of_blob<'a>(
+    alloc: Global,
+    name: &'a str,
+    about: &'a str,
+    end: &'a str,
+) -> Result<Command<'a>, AllocError>
+    ensures { IfOk result (IsCommand (blob_command name.entry.now)) }
 {
-    Command::new(alloc, "print")
-        .about("Prints a blob as the source that is compiled to its tree")
-        .after_help(STATUSES)
-        .arg(file(alloc, "The blob; the word stdin is standard input"))
-}
-
-/// `check FILE`.
-fn check<'a>(alloc: Global) -> Result<Command<'a>, AllocError>
-    ensures { IfOk result (IsCommand check_command) }
-{
-    Command::new(alloc, "check")
-        .about("Checks a blob, and counts what it holds")
-        .after_help(STATUSES)
-        .arg(file(alloc, "The blob; the word stdin is standard input"))
-}
-
-/// `regs FILE`.
-fn regs<'a>(alloc: Global) -> Result<Command<'a>, AllocError>
-    ensures { IfOk result (IsCommand regs_command) }
-{
-    Command::new(alloc, "regs")
-        .about(
-            "Tells the CPU address and the size of each entry of `reg` in a blob; a line with a fault leaves the exit status 0",
-        )
-        .after_help(STATUSES)
-        .arg(file(alloc, "The blob; the word stdin is standard input"))
-}
-
-/// `irqs FILE`.
-fn irqs<'a>(alloc: Global) -> Result<Command<'a>, AllocError>
-    ensures { IfOk result (IsCommand irqs_command) }
-{
-    Command::new(alloc, "irqs")
-        .about(
-            "Tells the controller and the specifier of each interrupt in a blob; a line with a fault leaves the exit status 0",
-        )
-        .after_help(STATUSES)
+    Command::new(alloc, name)
+        .about(about)
+        .after_help(end)
         .arg(file(alloc, "The blob; the word stdin is standard input"))
 }
 
@@ -495,61 +489,37 @@ fn irqs<'a>(alloc: Global) -> Result<Command<'a>, AllocError>
 fn dma<'a>(alloc: Global) -> Result<Command<'a>, AllocError>
     ensures { IfOk result (IsCommand dma_command) }
 {
-    let command = Command::new(alloc, "dma")
-        .about("Tells where an address that a device puts on its bus for DMA is on the root's bus")
-        .after_help(DMA_HELP);
-    let command = with_word(
-        Ok(command),
-        file(alloc, "The blob; the word stdin is standard input"),
+    let command = of_blob(
+        alloc,
+        "dma",
+        "Tells where an address that a device puts on its bus for DMA is on the root's bus",
+        DMA_HELP,
     );
-    let command = with_word(
-        command,
-        text(
-            alloc,
-            "PATH",
-            "The path of the device's node, such as /soc/dma@0",
-        ),
-    );
-    let command = with_word(
-        command,
-        number(alloc, "ADDRESS", "The address on the device's bus, decimal"),
-    );
-    with_word(command, number(alloc, "SIZE", "The size in bytes, decimal"))
+    let path = "The path of the device's node, such as /soc/dma@0";
+    let command = with_text(alloc, command, "PATH", path);
+    let address = "The address on the device's bus, decimal";
+    let command = with_number(alloc, command, "ADDRESS", address);
+    with_number(alloc, command, "SIZE", "The size in bytes, decimal")
 }
 
 /// `spec FILE PATH PROP KIND INDEX`.
 fn spec<'a>(alloc: Global) -> Result<Command<'a>, AllocError>
     ensures { IfOk result (IsCommand spec_command) }
 {
-    let command = Command::new(alloc, "spec")
-        .about(
-            "Tells the provider of a specifier, such as that of a GPIO, a clock or a reset, and the specifier there",
-        )
-        .after_help(SPEC_HELP);
-    let command = with_word(
-        Ok(command),
-        file(alloc, "The blob; the word stdin is standard input"),
+    let command = of_blob(
+        alloc,
+        "spec",
+        "Tells the provider of a specifier, such as that of a GPIO, a clock or a reset, and the specifier there",
+        SPEC_HELP,
     );
-    let command = with_word(
-        command,
-        text(alloc, "PATH", "The path of the node that has the property"),
-    );
-    let command = with_word(
-        command,
-        text(
-            alloc,
-            "PROP",
-            "The property, a list of phandles with specifiers",
-        ),
-    );
-    let command = with_word(
-        command,
-        text(alloc, "KIND", "The kind, as in #KIND-cells and KIND-map"),
-    );
-    with_word(
-        command,
-        number(alloc, "INDEX", "The index of the entry, from 0, decimal"),
-    )
+    let path = "The path of the node that has the property";
+    let command = with_text(alloc, command, "PATH", path);
+    let property = "The property, a list of phandles with specifiers";
+    let command = with_text(alloc, command, "PROP", property);
+    let kind = "The kind, as in #KIND-cells and KIND-map";
+    let command = with_text(alloc, command, "KIND", kind);
+    let index = "The index of the entry, from 0, decimal";
+    with_number(alloc, command, "INDEX", index)
 }
 
 /// The tool without its commands.
@@ -598,17 +568,49 @@ fn and_command<'a>(
     }
 }
 
+/// The commands that ask a blob, with one more each.
+fn and_of_blob<'a>(
+    alloc: Global,
+    tool: Result<Command<'a>, AllocError>,
+    name: &'a str,
+    about: &'a str,
+) -> Result<Command<'a>, AllocError>
+    ensures { (whole : App) → IfOk tool.entry (λ tool. app_of tool ≡ whole)
+        → IfOk result (λ both. app_of both ≡ with_subcommand whole (blob_command name.entry.now).top) }
+{
+    and_command(tool, of_blob(alloc, name, about, STATUSES))
+}
+
+/// The tool's commands that make blobs.
+fn with_makers<'a>(alloc: Global) -> Result<Command<'a>, AllocError>
+    ensures { IfOk result (λ command. app_of command ≡ makers) }
+{
+    let tool = with_command(without_commands(alloc), compile(alloc));
+    let tool = and_command(tool, apply(alloc));
+    and_command(tool, build(alloc))
+}
+
+/// The same with those that tell of a whole blob.
+fn with_tellers<'a>(alloc: Global) -> Result<Command<'a>, AllocError>
+    ensures { IfOk result (λ command. app_of command ≡ tellers) }
+{
+    let tool = with_makers(alloc);
+    let about = "Prints a blob as the source that is compiled to its tree";
+    let tool = and_of_blob(alloc, tool, "print", about);
+    let about = "Checks a blob, and counts what it holds";
+    let tool = and_of_blob(alloc, tool, "check", about);
+    let about =
+        "Tells the CPU address and the size of each entry of `reg` in a blob; a line with a fault leaves the exit status 0";
+    let tool = and_of_blob(alloc, tool, "regs", about);
+    let about =
+        "Tells the controller and the specifier of each interrupt in a blob; a line with a fault leaves the exit status 0";
+    and_of_blob(alloc, tool, "irqs", about)
+}
+
 /// The commands that the tool has.
 fn tool<'a>(alloc: Global) -> Result<Command<'a>, AllocError>
     ensures { IfOk result (λ command. app_of command ≡ dtool) }
 {
-    let tool = with_command(without_commands(alloc), compile(alloc));
-    let tool = and_command(tool, apply(alloc));
-    let tool = and_command(tool, build(alloc));
-    let tool = and_command(tool, print(alloc));
-    let tool = and_command(tool, check(alloc));
-    let tool = and_command(tool, regs(alloc));
-    let tool = and_command(tool, irqs(alloc));
-    let tool = and_command(tool, dma(alloc));
+    let tool = and_command(with_tellers(alloc), dma(alloc));
     and_command(tool, spec(alloc))
 }
