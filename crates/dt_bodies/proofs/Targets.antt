@@ -5,8 +5,8 @@ use Rattle.dt_model.specs.Names.{Name}
 use Rattle.dt_model.specs.Event.{Stack}
 use Rattle.dt_model.specs.Source.{Mode, SoFar, Reference, read, block, delete_node, misplaced}
 use Rattle.dt_growing.specs.Shape.{node_at}
-use Rattle.dt_growing.specs.Grown.{name_said, Leads, IsGrown}
-use Rattle.dt_growing.specs.Growing.{nodes_listed, shape, IsSound}
+use Rattle.dt_growing.specs.Grown.{name_said, StandsUnder, IsGrown}
+use Rattle.dt_growing.specs.Growing.{nodes_listed, shape, IsSoundGrowing}
 use Rattle.dt_growing.specs.declared.growing.Node.{Node}
 use Rattle.dt_growing.specs.declared.growing.Growing.{Growing}
 use Rattle.dt_bodies.specs.Reading.{Holds, IsWhole}
@@ -30,7 +30,7 @@ misplaced_delete r n u h some m f =
     outside-refused u.bodies _ b.0 b.1 b.2
 
 -- the node of no names is the root
-pub root_names : (g : Growing) (p : Stack) (k : ℕ) → Leads g.nodes.items p k → k ≡ 0 → p ≡ []
+pub root_names : (g : Growing) (p : Stack) (k : ℕ) → StandsUnder g.nodes.items p k → k ≡ 0 → p ≡ []
 root_names g [] k l e = refl
 root_names g (x ∷ p) k l e = absurd (omega (arith, l.2, e))
 
@@ -43,7 +43,7 @@ pub record Standing (g : Growing) (p : Stack) (k : ℕ) : Type 0 where
   pub named : (nodes_listed g.nodes.items g.children.map.entries).name k ≡ name
   pub stands : (nodes_listed g.nodes.items g.children.map.entries).stands k ≡ true
 
-pub standing : (g : Growing) → IsSound g → (p : Stack) (k : ℕ) → Leads g.nodes.items p k → (k ≡ 0 → ⊥) → Standing g p k
+pub standing : (g : Growing) → IsSoundGrowing g → (p : Stack) (k : ℕ) → StandsUnder g.nodes.items p k → (k ≡ 0 → ⊥) → Standing g p k
 standing g h [] k l other = absurd (other l.0)
 standing g h (x ∷ p) k l other = record {
   name = x;

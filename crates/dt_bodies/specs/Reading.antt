@@ -7,8 +7,8 @@ use Rattle.dt_model.specs.Event.{Stack, stands}
 use Rattle.dt_model.specs.Source.{Mode, Part, Reference, Place, block, delete_node, Refusal, Body, SoFar, referent, is_among, read}
 use Rattle.dt_names.specs.declared.fault.Fault.{Fault}
 use Rattle.dt_growing.specs.Shape.{Shape, node_at, Shows}
-use Rattle.dt_growing.specs.Grown.{Leads}
-use Rattle.dt_growing.specs.Growing.{shape, IsSound}
+use Rattle.dt_growing.specs.Grown.{StandsUnder}
+use Rattle.dt_growing.specs.Growing.{shape, IsSoundGrowing}
 use Rattle.dt_bodies.specs.Refusals.{TellsRefusal}
 use Rattle.dt_bodies.specs.declared.reading.OpenBody.{OpenBody}
 use Rattle.dt_bodies.specs.declared.reading.Reading.{Reading}
@@ -45,7 +45,7 @@ Holds r items so_far = StandsFor (shape r.growing) r.bodies.items items so_far
 
 -- what is true of each reading
 pub record IsWhole (r : Reading) : Type 0 where
-  pub sound : IsSound r.growing
+  pub sound : IsSoundGrowing r.growing
   pub inside : AllByRecursion (λ b. b.node < length r.growing.nodes.items) r.bodies.items
 
 -- the reading goes on as the definition of reading does
@@ -59,15 +59,15 @@ Does step old new item result =
     (so_far : SoFar) → Holds old item so_far → MatchResult result (λ _. GoesOn (step so_far) new (item + 1)) (TellsRefusal (step so_far))
 
 -- what the definition does with what the item says
-abbrev pub Follows : Mode → Reading → Reading → ℕ → Place → Result (Unit {0}) Fault → Type 0
-Follows mode old new item place result =
+abbrev pub DoesAsSaid : Mode → Reading → Reading → ℕ → Place → Result (Unit {0}) Fault → Type 0
+DoesAsSaid mode old new item place result =
     (so_far : SoFar) → Holds old item so_far → MatchResult result (λ _. GoesOn (read mode so_far place) new (item + 1)) (TellsRefusal (read mode so_far place))
 
 -- where no body is open, the node to which a reference refers, with the number of its names; or why there is none
 abbrev pub HasTarget : Reading → Reference → Result (ℕ × ℕ) Fault → Type 0
 HasTarget r reference result = (so_far : SoFar) (items : ℕ) → Holds r items so_far → MatchResult result
     (λ target. (length r.bodies.items ≡ 0)
-    × ((p : Stack) × (referent so_far.events reference ≡ Some p) × Leads r.growing.nodes.items p target.0 × (target.1 ≡ length p)))
+    × ((p : Stack) × (referent so_far.events reference ≡ Some p) × StandsUnder r.growing.nodes.items p target.0 × (target.1 ≡ length p)))
     (λ fault. (mode : Mode) → TellsRefusal (read mode so_far (block reference)) fault × TellsRefusal (read mode so_far (delete_node reference)) fault)
 
 -- a child of this name may be opened in the body

@@ -7,7 +7,7 @@ ghost use Rattle.dt_model.specs.Source.{block, property, by_label, nothing};
 ghost use Rattle.dt_items.specs.Said.{place_said, reference_of, referring, value_said};
 ghost use Rattle.dt_bodies.specs.Arena.{IsArena, IsSomeLeft, ItemFollows, all_overlay};
 ghost use Rattle.dt_growing.specs.Grown.{IsGrown};
-ghost use Rattle.dt_growing.specs.Growing.{IsSound};
+ghost use Rattle.dt_growing.specs.Growing.{IsSoundGrowing};
 ghost use Rattle.dt_bodies.specs.Reading.{Holds, IsWhole};
 ghost use Rattle.dt_bodies.specs.OverlayReading.{OverlayFollows, TellsOverlayRefusal, BlockFollows, IsNoBlock, target_value};
 
@@ -247,7 +247,7 @@ pub fn grow_overlay<'s, 'a>(
     requires { IsArena (map place_said items.now) arena.now }
     ensures { MatchResult result
         (λ g. ((s : OverlaySoFar) × (all_overlay (map place_said items.now) ≡ Ok s)
-        × IsGrown g.nodes.items g.properties.items g.givings.items s.source.events) × IsSound g)
+        × IsGrown g.nodes.items g.properties.items g.givings.items s.source.events) × IsSoundGrowing g)
         (TellsOverlayRefusal (all_overlay (map place_said items.now))) }
 {
     let mut reading = Reading::new(alloc, seed);

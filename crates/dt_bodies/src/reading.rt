@@ -6,10 +6,10 @@ ghost use Rattle.dt_model.specs.Source.{SoFar, root, block, delete_node, child, 
 ghost use Rattle.dt_model.specs.Source as model;
 ghost use Rattle.dt_names.specs.declared.fault.FaultKind.TheVariants.{Syntax};
 ghost use Rattle.dt_items.specs.Said.{place_said, reference_of, value_said};
-ghost use Rattle.dt_growing.specs.Grown.{Leads, IsGrown};
-ghost use Rattle.dt_growing.specs.Growing.{IsSound};
+ghost use Rattle.dt_growing.specs.Grown.{StandsUnder, IsGrown};
+ghost use Rattle.dt_growing.specs.Growing.{IsSoundGrowing};
 ghost use Rattle.dt_model.specs.OverlaySource.{open_fragment};
-ghost use Rattle.dt_bodies.specs.Reading.{is_behind, Does, Follows, GoesOn, HasTarget, Holds, IsWhole, MayOpen};
+ghost use Rattle.dt_bodies.specs.Reading.{is_behind, Does, DoesAsSaid, GoesOn, HasTarget, Holds, IsWhole, MayOpen};
 ghost use Rattle.dt_bodies.specs.Refusals.{mode_said, TellsRefusal, WhyNotGrown};
 
 use dt_growing::{Growing, NameText};
@@ -110,7 +110,7 @@ impl<'s, 'a> Reading<'s, 'a> {
 
     pub fn root(&mut self, item: usize) -> Result<(), Fault>
         requires { IsWhole self.old }
-        ensures meaning { (mode : model.Mode) → Follows mode self.old self.new item root result }
+        ensures meaning { (mode : model.Mode) → DoesAsSaid mode self.old self.new item root result }
         ensures whole { OnOk result (IsWhole self.new) }
         ensures grown { OnOk result (length self.old.growing.nodes.items ≤ length self.new.growing.nodes.items) }
     {
@@ -131,7 +131,7 @@ impl<'s, 'a> Reading<'s, 'a> {
     fn target(&self, reference: &Reference<'a>) -> Result<(usize, usize), Fault>
         requires { IsWhole self.now }
         ensures target { HasTarget self.now (reference_of reference.now) result }
-        ensures stands { IfOk result (λ target. (p : Stack) × Leads self.now.growing.nodes.items p target.0) }
+        ensures stands { IfOk result (λ target. (p : Stack) × StandsUnder self.now.growing.nodes.items p target.0) }
     {
         self.outside()?;
         let Some(node) = self.growing.referent(reference) else {
@@ -145,7 +145,7 @@ impl<'s, 'a> Reading<'s, 'a> {
 
     pub fn block(&mut self, item: usize, reference: &Reference<'a>) -> Result<(), Fault>
         requires { IsWhole self.old }
-        ensures meaning { (mode : model.Mode) → Follows mode self.old self.new item (block (reference_of reference.now)) result }
+        ensures meaning { (mode : model.Mode) → DoesAsSaid mode self.old self.new item (block (reference_of reference.now)) result }
         ensures whole { OnOk result (IsWhole self.new) }
         ensures grown { OnOk result (length self.old.growing.nodes.items ≤ length self.new.growing.nodes.items) }
     {
@@ -156,7 +156,7 @@ impl<'s, 'a> Reading<'s, 'a> {
 
     fn delete_node(&mut self, item: usize, reference: &Reference<'a>) -> Result<(), Fault>
         requires { IsWhole self.old }
-        ensures meaning { (mode : model.Mode) → Follows mode self.old self.new item (delete_node (reference_of reference.now)) result }
+        ensures meaning { (mode : model.Mode) → DoesAsSaid mode self.old self.new item (delete_node (reference_of reference.now)) result }
         ensures whole { OnOk result (IsWhole self.new) }
     {
         let (node, _) = self.target(reference)?;
@@ -190,7 +190,7 @@ impl<'s, 'a> Reading<'s, 'a> {
 
     pub fn child(&mut self, mode: Mode, item: usize, name: &'a [u8]) -> Result<(), Fault>
         requires { IsWhole self.old }
-        ensures meaning { Follows (mode_said mode) self.old self.new item (child name.now) result }
+        ensures meaning { DoesAsSaid (mode_said mode) self.old self.new item (child name.now) result }
         ensures whole { OnOk result (IsWhole self.new) }
         ensures grown { OnOk result (length self.old.growing.nodes.items ≤ length self.new.growing.nodes.items) }
     {
@@ -205,7 +205,7 @@ impl<'s, 'a> Reading<'s, 'a> {
 
     pub fn label(&mut self, label: &'a [u8]) -> Result<(), Fault>
         requires { IsWhole self.old }
-        ensures meaning { (mode : model.Mode) (item : ℕ) → Follows mode self.old self.new item (model.label label.now) result }
+        ensures meaning { (mode : model.Mode) (item : ℕ) → DoesAsSaid mode self.old self.new item (model.label label.now) result }
         ensures whole { OnOk result (IsWhole self.new) }
         ensures grown { OnOk result (length self.old.growing.nodes.items ≤ length self.new.growing.nodes.items) }
     {
@@ -227,7 +227,7 @@ impl<'s, 'a> Reading<'s, 'a> {
 
     pub fn define(&mut self, item: usize, name: &'a [u8], value: &'s Value<'a>) -> Result<(), Fault>
         requires { IsWhole self.old }
-        ensures meaning { (mode : model.Mode) → Follows mode self.old self.new item (property name.now (value_said value.now)) result }
+        ensures meaning { (mode : model.Mode) → DoesAsSaid mode self.old self.new item (property name.now (value_said value.now)) result }
         ensures whole { OnOk result (IsWhole self.new) }
         ensures grown { OnOk result (length self.old.growing.nodes.items ≤ length self.new.growing.nodes.items) }
     {
@@ -241,7 +241,7 @@ impl<'s, 'a> Reading<'s, 'a> {
 
     fn undefine(&mut self, name: &[u8]) -> Result<(), Fault>
         requires { IsWhole self.old }
-        ensures meaning { (mode : model.Mode) (item : ℕ) → Follows mode self.old self.new item (delete_property name.now) result }
+        ensures meaning { (mode : model.Mode) (item : ℕ) → DoesAsSaid mode self.old self.new item (delete_property name.now) result }
         ensures whole { OnOk result (IsWhole self.new) }
     {
         let body = self.innermost()?;
@@ -251,7 +251,7 @@ impl<'s, 'a> Reading<'s, 'a> {
 
     fn delete_child(&mut self, name: &[u8]) -> Result<(), Fault>
         requires { IsWhole self.old }
-        ensures meaning { (mode : model.Mode) (item : ℕ) → Follows mode self.old self.new item (delete_child name.now) result }
+        ensures meaning { (mode : model.Mode) (item : ℕ) → DoesAsSaid mode self.old self.new item (delete_child name.now) result }
         ensures whole { OnOk result (IsWhole self.new) }
     {
         let body = self.innermost()?;
@@ -261,7 +261,7 @@ impl<'s, 'a> Reading<'s, 'a> {
 
     pub fn close(&mut self) -> Result<(), Fault>
         requires { IsWhole self.old }
-        ensures meaning { (mode : model.Mode) (item : ℕ) → Follows mode self.old self.new item close result }
+        ensures meaning { (mode : model.Mode) (item : ℕ) → DoesAsSaid mode self.old self.new item close result }
         ensures whole { OnOk result (IsWhole self.new) }
         ensures grown { OnOk result (length self.old.growing.nodes.items ≤ length self.new.growing.nodes.items) }
     {
@@ -305,7 +305,7 @@ impl<'s, 'a> Reading<'s, 'a> {
     /// The next item, which has this number.
     fn step(&mut self, mode: Mode, item: usize, next: &'s Item<'a>) -> Result<(), Fault>
         requires { IsWhole self.old }
-        ensures meaning { Follows (mode_said mode) self.old self.new item (place_said next.now) result }
+        ensures meaning { DoesAsSaid (mode_said mode) self.old self.new item (place_said next.now) result }
         ensures whole { OnOk result (IsWhole self.new) }
     {
         match next {
@@ -354,7 +354,7 @@ pub fn grow<'s, 'a>(
 ) -> Result<Growing<'s, 'a>, Fault>
     ensures { MatchResult result
         (λ g. ((so_far : SoFar) × (read_all (mode_said mode) nothing (map place_said items.now) ≡ Ok so_far)
-        × IsGrown g.nodes.items g.properties.items g.givings.items so_far.events) × IsSound g)
+        × IsGrown g.nodes.items g.properties.items g.givings.items so_far.events) × IsSoundGrowing g)
         (WhyNotGrown (mode_said mode) (map place_said items.now)) }
 {
     let mut reading = Reading::new(alloc, seed);

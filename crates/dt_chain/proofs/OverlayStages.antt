@@ -25,7 +25,7 @@ use Rattle.dt_source.specs.Refusals.{WhyNoOverlay, overlay_fault_kind, fault_pla
 use Rattle.dt_flat.specs.Arena.{Arena, named_children, child_of, reading}
 use Rattle.dt_marks.specs.Refusals.{WhyNoFixups}
 use Rattle.dt_write.specs.Written.{written}
-use Rattle.dt_write.specs.Refusals.{WhyNoBlob}
+use Rattle.dt_write.specs.Refusals.{WhyNoBytes}
 use Rattle.dt_chain.specs.Compile.{OverlayTextHasTree, IsCompilerFault, IsCompiledOverlay, WhyNotCompiledOverlay, no_memory, refused, large, big}
 use Rattle.dt_names.specs.Fault.{placeless}
 use Rattle.dt_chain.specs.Steps.{OfEachText, HasOverlay, IsNumbered, WhyNotLabelled, HasRooms, IsMarked, WhyNotMarked}
@@ -142,12 +142,12 @@ not_whole s t fault h why text parsed = subst (WhyNotCompiledOverlay text) (faul
 
 -- ---- the blob
 
-unwritten : (text : List ℕ) (r : Reading) (kind : FaultKind) → OverlayTextHasTree text r → WhyNoBlob kind (length (written r)) → WhyNotCompiledOverlay text (placeless kind)
+unwritten : (text : List ℕ) (r : Reading) (kind : FaultKind) → OverlayTextHasTree text r → WhyNoBytes kind (length (written r)) → WhyNotCompiledOverlay text (placeless kind)
 unwritten text r NoMemory h why = no_memory
 unwritten text r Limit h why = big r h why
 unwritten text r _ h why = absurd why
 
-pub not_written : (s : Says) (r : Reading) (fault : Fault) → HasTree s r → WhyNoBlob fault.kind (length (written r)) × (fault.at ≡ None)
+pub not_written : (s : Says) (r : Reading) (fault : Fault) → HasTree s r → WhyNoBytes fault.kind (length (written r)) × (fault.at ≡ None)
     → OfEachText s (λ text. WhyNotCompiledOverlay text fault)
 not_written s r fault h why text parsed = subst (WhyNotCompiledOverlay text) (fault_is fault None why.1) (unwritten text r fault.kind (h text parsed) why.0)
 

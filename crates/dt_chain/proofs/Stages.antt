@@ -26,7 +26,7 @@ use Rattle.dt_flat.specs.Arena.{Arena, Slot, named_children, child_of, reading}
 use Rattle.dt_flat.proofs.ByPath.{has, sibling_below}
 use Rattle.dt_marks.specs.Refusals.{WhyNoSymbols}
 use Rattle.dt_write.specs.Written.{written}
-use Rattle.dt_write.specs.Refusals.{WhyNoBlob}
+use Rattle.dt_write.specs.Refusals.{WhyNoBytes}
 use Rattle.dt_chain.specs.Compile.{TextHasTree, IsCompiled, WhyNoTree, WhyNotCompiled, IsCompilerFault, no_memory, unparsed, unnamed, many, no_tree, big}
 use Rattle.dt_names.specs.Fault.{placeless}
 use Rattle.dt_chain.specs.Steps.{OfEachText, HasNamed, IsNumbered, HasRoom, WhyNotLabelled}
@@ -150,7 +150,7 @@ not_numbered mode s fault why text parsed =
 
 -- ---- the blob
 
-unwritten : (mode : Mode) (text : List ℕ) (r : Reading) (kind : FaultKind) → TextHasTree mode text r → WhyNoBlob kind (length (written r)) → WhyNotCompiled mode text (placeless kind)
+unwritten : (mode : Mode) (text : List ℕ) (r : Reading) (kind : FaultKind) → TextHasTree mode text r → WhyNoBytes kind (length (written r)) → WhyNotCompiled mode text (placeless kind)
 unwritten mode text r NoMemory h why = no_memory
 unwritten mode text r Limit h why = big r h why
 unwritten mode text r _ h why = absurd why
@@ -159,7 +159,7 @@ unwritten mode text r _ h why = absurd why
 abbrev pub HasTree : Mode → Says → Reading → Type 0
 HasTree mode s r = OfEachText s (λ text. TextHasTree mode text r)
 
-pub not_written : (mode : Mode) (s : Says) (r : Reading) (fault : Fault) → HasTree mode s r → WhyNoBlob fault.kind (length (written r)) × (fault.at ≡ None)
+pub not_written : (mode : Mode) (s : Says) (r : Reading) (fault : Fault) → HasTree mode s r → WhyNoBytes fault.kind (length (written r)) × (fault.at ≡ None)
     → OfEachText s (λ text. WhyNotCompiled mode text fault)
 not_written mode s r fault h why text parsed = subst (WhyNotCompiled mode text) (fault_is fault None why.1) (unwritten mode text r fault.kind (h text parsed) why.0)
 

@@ -13,7 +13,7 @@ use Rattle.dt_model.specs.Applied.{with_cell}
 use Rattle.dt_model.specs.Meaning.{cell}
 use Rattle.dt_model.specs.Tree.{Property, value_of}
 use Rattle.dt_model.specs.Valid.{IsPhandle, phandle_values}
-use Rattle.dt_flat.specs.Arena.{Slot, properties, with_property, number_in, phandle_at}
+use Rattle.dt_flat.specs.Arena.{Slot, properties, with_property, number_of_value, phandle_at}
 use Rattle.dt_model.specs.Changes.{set_property}
 use Rattle.dt_flat.specs.Numbers.{Table, holder, is_number, given, MayGive, IsNumbered}
 use Rattle.dt_flat.specs.Refusals.{MaySet}
@@ -23,7 +23,7 @@ use Rattle.dt_flat.proofs.AfterProperty.{properties-same, properties-other}
 
 -- the number that some properties give
 abbrev pub phandle_of : List Property → Option ℕ
-phandle_of ps = number_in (value_of ps (codes "phandle"))
+phandle_of ps = number_of_value (value_of ps (codes "phandle"))
 
 pub value-same : (ps : List Property) (name value : List ℕ) → value_of (set_property ps name value) name ≡ Some value
 value-same [] name value = ap (λ (b : Bool). cond b (Some value) None) ((bytes_eq-Decides name name).1 refl)
@@ -61,7 +61,7 @@ pub phandle-kept : (slots : List Slot) (p : ℕ) (name value : List ℕ) (q : �
 phandle-kept slots p name value q h ne =
     elim (cases_eq q p) [
       | inl e ↦ subst (λ (k : ℕ). phandle_at (with_property slots p name value) k ≡ phandle_at slots k) (sym e)
-          (ap phandle_of (properties-same slots p name value h) ∙ ap number_in (value-other (properties slots p) name value (codes "phandle") ne))
+          (ap phandle_of (properties-same slots p name value h) ∙ ap number_of_value (value-other (properties slots p) name value (codes "phandle") ne))
       | inr d ↦ ap phandle_of (properties-other slots p name value q d)
     ]
 
@@ -72,7 +72,7 @@ IsNumbered-kept slots p name value table h ne numbered =
 -- a phandle that is set gives the node its number
 pub phandle-set : (slots : List Slot) (p : ℕ) (value : List ℕ) → p < length slots → length value ≡ 4 → phandle_at (with_property slots p (codes "phandle") value) p ≡ Some (from_be_bytes w32 value)
 phandle-set slots p value h four =
-    ap phandle_of (properties-same slots p (codes "phandle") value h) ∙ ap number_in (value-same (properties slots p) (codes "phandle") value)
+    ap phandle_of (properties-same slots p (codes "phandle") value h) ∙ ap number_of_value (value-same (properties slots p) (codes "phandle") value)
     ∙ ap (λ (b : Bool). cond b (Some (from_be_bytes w32 value)) None) (tested (length value) 4 four)
 
 pub phandle-other : (slots : List Slot) (p : ℕ) (name value : List ℕ) (q : ℕ) → q ≢ p → phandle_at (with_property slots p name value) q ≡ phandle_at slots q
@@ -142,11 +142,11 @@ not_phandle name a e t same = contrary (bytes_eq name a) t ((bytes_eq-Decides na
 
 pub no_number : (ps : List Property) (a value : List ℕ) → a ≡ codes "phandle" → Some value ≡ value_of ps a → length value ≢ 4 → None ≡ phandle_of ps
 no_number ps a value e v ne =
-    sym (ap number_in (ap (value_of ps) (sym e) ∙ sym v) ∙ ap (λ (b : Bool). cond b (Some (from_be_bytes w32 value)) None) (differs (length value) 4 ne))
+    sym (ap number_of_value (ap (value_of ps) (sym e) ∙ sym v) ∙ ap (λ (b : Bool). cond b (Some (from_be_bytes w32 value)) None) (differs (length value) 4 ne))
 
 pub has_number : (ps : List Property) (a value : List ℕ) → a ≡ codes "phandle" → Some value ≡ value_of ps a → length value ≡ 4 → Some (from_be_bytes w32 value) ≡ phandle_of ps
 has_number ps a value e v four =
-    sym (ap number_in (ap (value_of ps) (sym e) ∙ sym v) ∙ ap (λ (b : Bool). cond b (Some (from_be_bytes w32 value)) None) (tested (length value) 4 four))
+    sym (ap number_of_value (ap (value_of ps) (sym e) ∙ sym v) ∙ ap (λ (b : Bool). cond b (Some (from_be_bytes w32 value)) None) (tested (length value) 4 four))
 
 -- a table of the same entries
 holder-same : (old new : Table) (n : ℕ) → new.entries ≡ old.entries → holder new n ≡ holder old n

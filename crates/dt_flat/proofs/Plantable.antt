@@ -11,7 +11,7 @@ use Rattle.std.proofs.lemmas.Slice.Eq.{bytes_eq-Decides}
 use Rattle.dt_model.specs.Names.{Name}
 use Rattle.dt_model.specs.Tree.{Property, Forest, no_nodes, branch, Reading, value_of}
 use Rattle.dt_model.specs.Valid.{AreDistinct, AreProperties, AreNodes, names, phandle_values, phandles, IsPhandle, IsNoDeeper, node_count, IsValid, IsWithinLimits}
-use Rattle.dt_flat.specs.Arena.{Slot, root_alone, named_among, named_children, child_of, properties, depth_of, number_in, phandle_at, with_child, with_property}
+use Rattle.dt_flat.specs.Arena.{Slot, root_alone, named_among, named_children, child_of, properties, depth_of, number_of_value, phandle_at, with_child, with_property}
 use Rattle.dt_flat.specs.Refusals.{MayAdd, MaySet}
 use Rattle.dt_flat.specs.Planted.{with_properties, planted, MaySetAll, MayPlant, MayMake, numbers, HasOwnNumbers}
 use Rattle.dt_flat.proofs.AfterChild.{tested, differs, properties-push, child-with_child, childless-with_child}
@@ -73,7 +73,7 @@ may_set_all slots p (x ∷ xs) h = (may_set slots p x h.0, may_set_all (with_pro
 abbrev pub IsFree : List Slot → ℕ → Type 0
 IsFree slots n = AllByRecursion (λ m. AllByRecursion (λ k. k ≢ n) (numbers (phandle_values m.properties))) slots
 
-number_other : (o : Option (List ℕ)) (n : ℕ) → AllByRecursion (λ k. k ≢ n) (numbers (option_to_list o)) → number_in o ≢ Some n
+number_other : (o : Option (List ℕ)) (n : ℕ) → AllByRecursion (λ k. k ≢ n) (numbers (option_to_list o)) → number_of_value o ≢ Some n
 number_other None n h e = absurd cc
 number_other (Some w) n h e = by (eqb (length w) 4) e
   where

@@ -10,12 +10,12 @@ use Rattle.dt_model.specs.Names.{Name, is_name_byte, IsNodeName, IsPropertyName}
 use Rattle.dt_model.specs.Valid.{AreDistinct, IsReservation}
 use Rattle.dt_flat.specs.Arena.{Arena, Slot, root_alone, named_among, named_children, child_of, depth_of, phandle_at, with_child, with_property}
 use Rattle.dt_flat.specs.Numbers.{Table, holder, given, MayGive}
-use Rattle.dt_flat.specs.Sound.{AreCells, IsSound}
+use Rattle.dt_flat.specs.Sound.{AreCells, IsSoundArena}
 use Rattle.dt_flat.proofs.Numbering.{IsNumbered-added, IsNumbered-kept, IsNumbered-same, IsNumbered-set, AreCells-added, AreCells-kept, AreCells-set}
 use Rattle.dt_flat.proofs.Rooting.{IsRooted-child, IsRooted-property}
 use Rattle.dt_flat.proofs.Validity.{AreValid-added, AreValid-set, reserved}
 
-pub IsSound-reservation : (a : Arena) (table : Table) (r : ℕ × ℕ) → IsReservation r → IsSound a table → IsSound (record a { reservations = a.reservations ++ r ∷ [] }) table
+pub IsSound-reservation : (a : Arena) (table : Table) (r : ℕ × ℕ) → IsReservation r → IsSoundArena a table → IsSoundArena (record a { reservations = a.reservations ++ r ∷ [] }) table
 IsSound-reservation a table r one sound = record {
   boot_cpu = sound.boot_cpu;
   reservations = reserved a.reservations r one sound.reservations;
@@ -25,8 +25,8 @@ IsSound-reservation a table r one sound = record {
   cells = sound.cells;
 }
 
-pub IsSound-child : (a : Arena) (table : Table) (p : ℕ) (name : Name) → p < length a.slots → length a.slots < 65536 → depth_of a.slots p < 64 → IsNodeName name → child_of (named_children a.slots p) name ≡ None → IsSound a table
-    → IsSound (record a { slots = with_child a.slots p name }) table
+pub IsSound-child : (a : Arena) (table : Table) (p : ℕ) (name : Name) → p < length a.slots → length a.slots < 65536 → depth_of a.slots p < 64 → IsNodeName name → child_of (named_children a.slots p) name ≡ None → IsSoundArena a table
+    → IsSoundArena (record a { slots = with_child a.slots p name }) table
 IsSound-child a table p name lt few shallow named fresh sound =
     let made : Slot = record { parent = p; depth = depth_of a.slots p + 1; name = name; properties = [] } in
     record {
@@ -39,7 +39,7 @@ IsSound-child a table p name lt few shallow named fresh sound =
     }
 
 -- a property of another name than phandle
-pub IsSound-property : (a : Arena) (table : Table) (p : ℕ) (name : Name) (value : List ℕ) → p < length a.slots → IsPropertyName name → name ≢ codes "phandle" → IsSound a table → IsSound (record a { slots = with_property a.slots p name value }) table
+pub IsSound-property : (a : Arena) (table : Table) (p : ℕ) (name : Name) (value : List ℕ) → p < length a.slots → IsPropertyName name → name ≢ codes "phandle" → IsSoundArena a table → IsSoundArena (record a { slots = with_property a.slots p name value }) table
 IsSound-property a table p name value lt named ne sound = record {
   boot_cpu = sound.boot_cpu;
   reservations = sound.reservations;
@@ -50,7 +50,7 @@ IsSound-property a table p name value lt named ne sound = record {
 }
 
 -- a table of the same entries
-pub IsSound-same : (a : Arena) (old new : Table) → new.entries ≡ old.entries → IsSound a old → IsSound a new
+pub IsSound-same : (a : Arena) (old new : Table) → new.entries ≡ old.entries → IsSoundArena a old → IsSoundArena a new
 IsSound-same a old new e sound = record {
   boot_cpu = sound.boot_cpu;
   reservations = sound.reservations;
@@ -62,8 +62,8 @@ IsSound-same a old new e sound = record {
 
 -- a phandle that no other node has
 pub IsSound-phandle : (a : Arena) (old table : Table) (p number : ℕ) (value : List ℕ) → p < length a.slots → MayGive old p value → number ≡ from_be_bytes w32 value → value ≡ cell number
-    → ((n : ℕ) → holder table n ≡ given old (phandle_at a.slots p) number p n) → IsSound a old
-    → IsSound (record a { slots = with_property a.slots p (codes "phandle") value }) table
+    → ((n : ℕ) → holder table n ≡ given old (phandle_at a.slots p) number p n) → IsSoundArena a old
+    → IsSoundArena (record a { slots = with_property a.slots p (codes "phandle") value }) table
 IsSound-phandle a old table p number value lt may is whole gives sound = record {
   boot_cpu = sound.boot_cpu;
   reservations = sound.reservations;
@@ -80,7 +80,7 @@ IsSound-phandle a old table p number value lt may is whole gives sound = record 
       allowed = All-from_recursion (λ b. IsTrue (is_name_byte b)) (codes "phandle") (refl, (refl, (refl, (refl, (refl, (refl, (refl, tt)))))));
     }
 
-pub IsSound-root : (boot_cpu : ℕ) (table : Table) → boot_cpu < 2 ^ 32 → table.entries ≡ [] → IsSound (root_alone boot_cpu) table
+pub IsSound-root : (boot_cpu : ℕ) (table : Table) → boot_cpu < 2 ^ 32 → table.entries ≡ [] → IsSoundArena (root_alone boot_cpu) table
 IsSound-root boot_cpu table fits none = record {
   boot_cpu = fits;
   reservations = tt;

@@ -11,10 +11,10 @@ use Rattle.std.proofs.lemmas.Slice.Eq.{bytes_eq-Decides}
 use Rattle.dt_model.specs.Names.{IsNodeName, IsPropertyName}
 use Rattle.dt_model.specs.Tree.{Property, Forest, branch, value_of}
 use Rattle.dt_model.specs.Valid.{AreDistinct, AreProperties, names, AreNodes, phandle_values, phandles, IsPhandle, IsReservation, IsValid}
-use Rattle.dt_flat.specs.Arena.{Arena, Slot, Child, named_among, named_children, child_of, forest_among, properties, with_property, number_in, phandle_at, reading}
+use Rattle.dt_flat.specs.Arena.{Arena, Slot, Child, named_among, named_children, child_of, forest_among, properties, with_property, number_of_value, phandle_at, reading}
 use Rattle.dt_model.specs.Changes.{set_property}
 use Rattle.dt_flat.specs.Numbers.{Table, holder, IsNumbered}
-use Rattle.dt_flat.specs.Sound.{AreValid, IsSound}
+use Rattle.dt_flat.specs.Sound.{AreValid, IsSoundArena}
 use Rattle.dt_flat.proofs.AfterChild.{tested, named_children-push}
 use Rattle.dt_flat.proofs.AfterProperty.{SameShape, same_with, same_drop, children-with_property}
 use Rattle.dt_flat.proofs.ByPath.{first_slot}
@@ -84,7 +84,7 @@ split i (n ∷ ns) h =
 -- ---- each number is in one place
 
 value-number : (ps : List Property) (w : List ℕ) → value_of ps (codes "phandle") ≡ Some w → length w ≡ 4 → phandle_of ps ≡ Some (from_be_bytes w32 w)
-value-number ps w e four = ap number_in e ∙ ap (λ (b : Bool). cond b (Some (from_be_bytes w32 w)) None) (tested (length w) 4 four)
+value-number ps w e four = ap number_of_value e ∙ ap (λ (b : Bool). cond b (Some (from_be_bytes w32 w)) None) (tested (length w) 4 four)
 
 later-differ : (slots : List Slot) (table : Table) (i k : ℕ) (ns : List Slot) (v : List ℕ) → IsNumbered slots table → i < k → drop k slots ≡ ns → AllByRecursion (λ n. AllByRecursion IsPhandle (own n)) ns
     → phandle_at slots i ≡ Some (from_be_bytes w32 v) → AllByRecursion (λ y. y ≢ v) (flat_map own ns)
@@ -145,7 +145,7 @@ named-below slots i (n ∷ ns) p at ps named differ =
 
 -- ---- what a tree says is something that a blob may hold
 
-pub IsValid-reading : (a : Arena) (table : Table) → IsSound a table → IsValid (reading a)
+pub IsValid-reading : (a : Arena) (table : Table) → IsSoundArena a table → IsValid (reading a)
 IsValid-reading a table sound = by a.slots sound.rooted.some sound.numbered sound.valid
   where
     flat : (ms : List Slot) → AllByRecursion (λ m. AllByRecursion IsPhandle (own m)) ms → AllByRecursion IsPhandle (flat_map own ms)

@@ -92,13 +92,13 @@ node_from slots p [] = Some p
 node_from slots p (name ∷ names) = option_and_then (λ c. node_from slots c names) (child_of (named_children slots p) name)
 
 -- the number that a value of four bytes gives a node (Devicetree Specification v0.4, 2.3.3)
-abbrev pub number_in : Option (List ℕ) → Option ℕ
-number_in None = None
-number_in (Some value) = if length value == 4 then Some (from_be_bytes w32 value) else None
+abbrev pub number_of_value : Option (List ℕ) → Option ℕ
+number_of_value None = None
+number_of_value (Some value) = if length value == 4 then Some (from_be_bytes w32 value) else None
 
 -- the number of node p, which its property phandle gives
 abbrev pub phandle_at : List Slot → ℕ → Option ℕ
-phandle_at slots p = number_in (value_of (properties slots p) (codes "phandle"))
+phandle_at slots p = number_of_value (value_of (properties slots p) (codes "phandle"))
 
 -- ---- changes
 

@@ -21,7 +21,7 @@ abbrev pub AreCells : List Slot → Type 0
 AreCells slots = (p : ℕ) (value : List ℕ) → value_of (properties slots p) (codes "phandle") ≡ Some value → value ≡ cell (from_be_bytes w32 value)
 
 -- an arena that a blob may hold, and its table of phandles
-pub record IsSound (a : Arena) (table : Table) : Type 0 where
+pub record IsSoundArena (a : Arena) (table : Table) : Type 0 where
   pub boot_cpu : a.boot_cpu < 2 ^ 32
   pub reservations : AllByRecursion IsReservation a.reservations
   pub rooted : IsRooted a.slots

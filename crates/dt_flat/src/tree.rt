@@ -38,11 +38,11 @@ impl Model for FlatTree {
 
     ghost Value = { Arena };
 
-    ghost use Rattle.dt_flat.specs.Sound.{IsSound};
+    ghost use Rattle.dt_flat.specs.Sound.{IsSoundArena};
 
     ghost view = { λ a. record { boot_cpu = a.boot_cpu; reservations = a.reservations.items; slots = a.places } };
 
-    ghost invariant = { λ a. IsSound (record { boot_cpu = a.boot_cpu; reservations = a.reservations.items; slots = a.places }) a.phandles };
+    ghost invariant = { λ a. IsSoundArena (record { boot_cpu = a.boot_cpu; reservations = a.reservations.items; slots = a.places }) a.phandles };
 }
 
 // The number that a node's property `phandle` gives it.

@@ -9,7 +9,7 @@ use Rattle.dt_lex.specs.declared.token.Keyword.TheVariants as keyword
 use Rattle.dt_expr.specs.Expression.{Expression}
 use Rattle.dt_grammar.specs.Words.{Words}
 use Rattle.dt_grammar.specs.Grammar.{SpellsLabels, no_labels, one_label, SpellsExpression, primary, SpellsNumber, IsWidth, bits_8, bits_16, bits_32, bits_64, SpellsCells, no_cells, cell_label, cell_number, cell_reference, SpellsBytes, no_bytes, byte_label, one_byte, no_bits, some_bits, SpellsItem, cells, string, bytes, path, SpellsComponent, SpellsValue, last, more}
-use Rattle.dt_grammar.specs.Unchecked.{RawCell, RawItem, RawComponent, all_but_last, width_of, number_in, reference_in, cells_parts, item_parts, value_parts}
+use Rattle.dt_grammar.specs.Unchecked.{RawCell, RawItem, RawComponent, all_but_last, width_of, value_or_zero, reference_in, cells_parts, item_parts, value_parts}
 use Rattle.dt_grammar.specs.Relaxed.{word, a_mark, a_keyword, a_reference, is_width, Labels, no_more_labels, another_label, Cells, no_more_cells, a_label_cell, a_number_cell, a_reference_cell, Bytes, no_more_bytes, a_label_byte, another_byte, Item, plain_cells, sized_cells, a_text, some_bytes, a_path_text, Value, last_component, more_components}
 use Rattle.dt_grammar.specs.Strict.{AreLabelTexts, IsNumber, IsCell, IsItem, IsComponent}
 use Rattle.dt_grammar.proofs.Values.{three}
@@ -18,13 +18,13 @@ pub labels_back : {ws : Words} {raw : List (List ℕ)} → Labels ws raw → Are
 labels_back no_more_labels h = no_labels
 labels_back (another_label b ws ls s) h = one_label (word kind.Label b) ws (all_but_last b) (map all_but_last ls) (record { kind = refl; bytes = h.0.colon; valid = h.0.valid }) (labels_back s h.1)
 
-pub number_back : (us : Words) (e : Expression) → SpellsExpression primary us e → IsNumber (length us) e → SpellsNumber us (number_in e)
+pub number_back : (us : Words) (e : Expression) → SpellsExpression primary us e → IsNumber (length us) e → SpellsNumber us (value_or_zero e)
 number_back us e s h = record { expression = e; spelled = s; few = h.few; evaluated = h.evaluated }
 
 cells_back : (bits : ℕ) {ws : Words} {raw : List RawCell} → Cells ws raw → AllByRecursion (IsCell bits) raw → SpellsCells bits (width_of bits) ws (cells_parts bits raw)
 cells_back bits no_more_cells h = no_cells
 cells_back bits (a_label_cell b ws cs s) h = cell_label (word kind.Label b) ws (all_but_last b) (cells_parts bits cs) (record { kind = refl; bytes = h.0.colon; valid = h.0.valid }) (cells_back bits s h.1)
-cells_back bits (a_number_cell us ws e cs s t) h = cell_number us ws (number_in e) (cells_parts bits cs) (number_back us e s h.0.0) h.0.1 (cells_back bits t h.1)
+cells_back bits (a_number_cell us ws e cs s t) h = cell_number us ws (value_or_zero e) (cells_parts bits cs) (number_back us e s h.0.0) h.0.1 (cells_back bits t h.1)
 cells_back bits (a_reference_cell t b ws cs s) h = cell_reference (a_reference t b) ws (reference_in t b) (cells_parts bits cs) h.0.0 h.0.1 (cells_back bits s h.1)
 
 bytes_back : {ws : Words} {raw : List RawCell} → Bytes ws raw → AllByRecursion (IsCell 8) raw → SpellsBytes ws (cells_parts 8 raw)

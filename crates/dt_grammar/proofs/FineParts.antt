@@ -9,10 +9,10 @@ use Rattle.dt_lex.specs.declared.token.TokenKind.TheVariants as kind
 use Rattle.dt_lex.specs.declared.token.Mark.TheVariants as mark
 use Rattle.dt_expr.specs.Fits.{Fits}
 use Rattle.dt_grammar.specs.Words.{Words}
-use Rattle.dt_grammar.specs.Unchecked.{RawCell, RawComponent, RawPlace, raw_child, raw_label, raw_property, raw_close, raw_delete_property, raw_delete_child, number_in}
+use Rattle.dt_grammar.specs.Unchecked.{RawCell, RawComponent, RawPlace, raw_child, raw_label, raw_property, raw_close, raw_delete_property, raw_delete_child, value_or_zero}
 use Rattle.dt_grammar.specs.Relaxed.{a_mark, Bytes, no_more_bytes, a_label_byte, another_byte}
-use Rattle.dt_grammar.specs.Strict.{AreLabelTexts, IsNumber, IsCell, IsItem, IsComponent, IsSound, IsOrdered}
-use Rattle.dt_grammar.specs.Wanted.{Made, made_expression, made_labels, made_cells, made_item, made_value, made_places, made_behind, size_in, expression_in, labels_in, cells_in, item_in, value_in, places_in, Wanted, AfterName, BlockOpen, DeletedChild, DeletedProperty, Ending, OneItem, OneStatement, OneValue, Prim, SomeBytes, SomeCells, SomeLabels, SomeMembers, refuse, kind_at, bytes_at}
+use Rattle.dt_grammar.specs.Strict.{AreLabelTexts, IsNumber, IsCell, IsItem, IsComponent, IsSoundPlace, IsOrdered}
+use Rattle.dt_grammar.specs.Wanted.{Made, made_expression, made_labels, made_cells, made_item, made_value, made_places, made_behind, size_in, expression_in, labels_in, cells_in, item_in, components_in, places_in, Wanted, AfterName, BlockOpen, DeletedChild, DeletedProperty, Ending, OneItem, OneStatement, OneValue, Prim, SomeBytes, SomeCells, SomeLabels, SomeMembers, refuse, kind_at, bytes_at}
 use Rattle.dt_grammar.specs.Moves.{at_name, at_ending, at_deleted_property, at_deleted_child}
 use Rattle.dt_grammar.specs.Descent.{first, after, found, Does, gives, refuses, part_found, Descends}
 use Rattle.dt_grammar.specs.Faults.{Around, outside, IsBeforeChildren, name_placed, deleted_named, IsFine, Breaks}
@@ -39,16 +39,16 @@ fine_item : (a : Around) (m : Made) → IsFine a m → IsItem (item_in m)
 fine_item a (made_item i) f = f
 fine_item a _ f = tt
 
-fine_value : (a : Around) (m : Made) → IsFine a m → AllByRecursion IsComponent (value_in m)
+fine_value : (a : Around) (m : Made) → IsFine a m → AllByRecursion IsComponent (components_in m)
 fine_value a (made_value cs) f = f
 fine_value a _ f = tt
 
-fine_places : (a : Around) (m : Made) → IsFine a m → AllByRecursion IsSound (places_in m) × IsOrdered a.bodies (places_in m)
+fine_places : (a : Around) (m : Made) → IsFine a m → AllByRecursion IsSoundPlace (places_in m) × IsOrdered a.bodies (places_in m)
 fine_places a (made_places ps) f = f
 fine_places a (made_behind rs ps) f = (f.1, f.2)
 fine_places a _ f = (tt, tt)
 
-fine_number : (a : Around) (m : Made) → IsFine a m → IsNumber (size_in m) (expression_in m) × Fits a.bits (number_in (expression_in m))
+fine_number : (a : Around) (m : Made) → IsFine a m → IsNumber (size_in m) (expression_in m) × Fits a.bits (value_or_zero (expression_in m))
 fine_number a (made_expression n e) f = f
 fine_number a _ f = (record { few = omega arith; evaluated = refl }, inl (pow_pos a.bits))
 
@@ -120,14 +120,14 @@ before_children [] ls n v ps h = tt
 before_children (b ∷ bodies) ls n v ps h = h.0
 
 unbroken_child : (bits : ℕ) (bodies : List Bool) (ls : List (List ℕ)) (n : List ℕ) (ws rest : Words) (m : Made) → Descends (BlockOpen (raw_child n ∷ map raw_label ls)) ws (found m rest) →
-    AllByRecursion IsSound (places_in m) → IsOrdered bodies (places_in m) → (y : Made) × Unbroken (around bits bodies) (BlockOpen (raw_child n ∷ map raw_label ls)) ws y rest
+    AllByRecursion IsSoundPlace (places_in m) → IsOrdered bodies (places_in m) → (y : Made) × Unbroken (around bits bodies) (BlockOpen (raw_child n ∷ map raw_label ls)) ws y rest
 unbroken_child bits [] ls n ws rest m d g o = absurd (subst (IsOrdered []) (sound (BlockOpen (raw_child n ∷ map raw_label ls)) ws (found m rest) d).2.made o)
 unbroken_child bits (b ∷ outer) ls n ws rest m d g o =
     let r = sound (BlockOpen (raw_child n ∷ map raw_label ls)) ws (found m rest) d in
     let h = r.2 in
-    let sound_places = subst (AllByRecursion IsSound) h.made g in
+    let sound_places = subst (AllByRecursion IsSoundPlace) h.made g in
     let ordered = subst (IsOrdered (b ∷ outer)) h.made o in
-    let inside = all_front IsSound h.cs (raw_close ∷ []) (all_behind IsSound (map raw_label ls) (h.cs ++ raw_close ∷ []) sound_places.1) in
+    let inside = all_front IsSoundPlace h.cs (raw_close ∷ []) (all_behind IsSoundPlace (map raw_label ls) (h.cs ++ raw_close ∷ []) sound_places.1) in
     let inner = unbroken_members h.members inside bits false (b ∷ outer) (true ∷ outer) refl (raw_close ∷ []) (behind_labels ls (false ∷ true ∷ outer) (h.cs ++ raw_close ∷ []) ordered.1) in (
       _,
       unbroken_on (around bits (b ∷ outer)) (BlockOpen (raw_child n ∷ map raw_label ls)) ws (a_mark mark.OpenBrace h.a ∷ (h.inner ++ closing h.z h.s rest)) _ rest
@@ -136,19 +136,19 @@ unbroken_child bits (b ∷ outer) ls n ws rest m d g o =
     )
 
 unbroken_name : (bits : ℕ) (bodies : List Bool) (ls : List (List ℕ)) (n : List ℕ) (k : Option TokenKind) (ws rest : Words) (m : Made) → kind_at (first ws) ≡ k → Does (at_name ls n k) ws (found m rest) →
-    AllByRecursion IsSound (places_in m) → IsOrdered bodies (places_in m) → (y : Made) × Unbroken (around bits bodies) (AfterName ls n) ws y rest
+    AllByRecursion IsSoundPlace (places_in m) → IsOrdered bodies (places_in m) → (y : Made) × Unbroken (around bits bodies) (AfterName ls n) ws y rest
 unbroken_name bits bodies ls n (Some (kind.Mark mark.Semicolon)) ws rest m e gives g o =
     (_, given_here {taken = true} (ap (at_name ls n) e) (tt, tt, subst (name_placed bodies) (sym e) (before_children bodies ls n [] [] o)))
 unbroken_name bits bodies ls n (Some (kind.Mark mark.Equals)) ws rest m e (part_found {left = left} {made = x} d f) g o =
     let r = sound OneValue (after true ws) (found x left) d in
     let s = stops OneValue (after true ws) left x d in
-    let made = (sound (Ending (raw_property ls n (value_in x) ∷ [])) left (found m rest) f).2.1 in
-    let fine = subst (AllByRecursion IsSound) made g in
-    let before = before_children bodies ls n (value_in x) [] (subst (IsOrdered bodies) made o) in (
+    let made = (sound (Ending (raw_property ls n (components_in x) ∷ [])) left (found m rest) f).2.1 in
+    let fine = subst (AllByRecursion IsSoundPlace) made g in
+    let before = before_children bodies ls n (components_in x) [] (subst (IsOrdered bodies) made o) in (
       _,
       read_on (ap (at_name ls n) e) (tt, tt, subst (name_placed bodies) (sym e) before)
           (unbroken_on (around bits bodies) OneValue (after true ws) (r.0 ++ left) _ left r.1 (unbroken_value (around bits bodies) r.2 fine.0.2 left s.0 s.1))
-          (unbroken_ending (around bits bodies) (raw_property ls n (value_in x) ∷ []) (kind_at (first left)) left rest m refl f),
+          (unbroken_ending (around bits bodies) (raw_property ls n (components_in x) ∷ []) (kind_at (first left)) left rest m refl f),
     )
 unbroken_name bits bodies ls n (Some (kind.Mark mark.OpenBrace)) ws rest m e (part_found d gives) g o =
     let u = unbroken_child bits bodies ls n ws rest m d g o in
@@ -165,10 +165,10 @@ named_anyway P b (Some kind.Name) (Some (kind.Mark mark.Semicolon)) p = p
 named_anyway P b _ _ p = tt
 
 unbroken_deleted_property : (a : Around) (ls : List (List ℕ)) (k : Option TokenKind) (ws rest : Words) (m : Made) → kind_at (first ws) ≡ k → Does (at_deleted_property ls (bytes_at (first ws)) k) ws (found m rest) →
-    AllByRecursion IsSound (places_in m) → Unbroken a (DeletedProperty ls) ws m rest
+    AllByRecursion IsSoundPlace (places_in m) → Unbroken a (DeletedProperty ls) ws m rest
 unbroken_deleted_property a ls (Some kind.Name) ws rest m e (part_found d gives) g =
     let made = (sound (Ending (raw_delete_property ls (bytes_at (first ws)) ∷ [])) (after true ws) (found m rest) d).2.1 in
-    let fine = subst (AllByRecursion IsSound) made g in
+    let fine = subst (AllByRecursion IsSoundPlace) made g in
     read_on (ap (at_deleted_property ls (bytes_at (first ws))) e) (tt, named_anyway IsPropertyName (bytes_at (first ws)) (kind_at (first ws)) (kind_at (first (after true ws))) fine.0.1, tt)
     (unbroken_ending a (raw_delete_property ls (bytes_at (first ws)) ∷ []) (kind_at (first (after true ws))) (after true ws) rest m refl d) done
 unbroken_deleted_property a ls _ ws rest m e d g = absurd (refused_found ws rest m d)
@@ -177,10 +177,10 @@ pub no_break_deleted_property : (a : Around) (ls : List (List ℕ)) → NoBreak 
 no_break_deleted_property a ls ws rest left k m d f b = clash b (unbroken_deleted_property a ls (kind_at (first ws)) ws rest m refl d (fine_places a m f).0)
 
 unbroken_deleted_child : (a : Around) (ls : List (List ℕ)) (k : Option TokenKind) (ws rest : Words) (m : Made) → kind_at (first ws) ≡ k → Does (at_deleted_child ls (bytes_at (first ws)) k) ws (found m rest) →
-    AllByRecursion IsSound (places_in m) → Unbroken a (DeletedChild ls) ws m rest
+    AllByRecursion IsSoundPlace (places_in m) → Unbroken a (DeletedChild ls) ws m rest
 unbroken_deleted_child a ls (Some kind.Name) ws rest m e (part_found d gives) g =
     let made = (sound (Ending (raw_delete_child ls (bytes_at (first ws)) ∷ [])) (after true ws) (found m rest) d).2.1 in
-    let fine = subst (AllByRecursion IsSound) made g in
+    let fine = subst (AllByRecursion IsSoundPlace) made g in
     read_on (ap (at_deleted_child ls (bytes_at (first ws))) e) (tt, named_anyway IsNodeName (bytes_at (first ws)) (kind_at (first ws)) (kind_at (first (after true ws))) fine.0.1, tt)
     (unbroken_ending a (raw_delete_child ls (bytes_at (first ws)) ∷ []) (kind_at (first (after true ws))) (after true ws) rest m refl d) done
 unbroken_deleted_child a ls _ ws rest m e d g = absurd (refused_found ws rest m d)

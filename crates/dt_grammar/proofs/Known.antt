@@ -16,9 +16,9 @@ use Rattle.dt_model.proofs.NameTests.{node_tests, property_tests}
 use Rattle.dt_expr.specs.Expression.{Expression, value}
 use Rattle.dt_expr.specs.Fits.{Fits}
 use Rattle.dt_grammar.specs.Words.{to_label, to_path}
-use Rattle.dt_grammar.specs.Unchecked.{Target, a_label, a_path, RawCell, label_cell, number_cell, reference_cell, byte_cell, RawItem, cell_item, text_item, byte_item, path_item, RawComponent, RawPlace, raw_root, raw_block, raw_delete_node, raw_child, raw_label, raw_property, raw_delete_property, raw_delete_child, raw_close, RawReserve, all_but_last, ended_names, path_of_names, number_in, reserve_of}
+use Rattle.dt_grammar.specs.Unchecked.{Target, a_label, a_path, RawCell, label_cell, number_cell, reference_cell, byte_cell, RawItem, cell_item, text_item, byte_item, path_item, RawComponent, RawPlace, raw_root, raw_block, raw_delete_node, raw_child, raw_label, raw_property, raw_delete_property, raw_delete_child, raw_close, RawReserve, all_but_last, ended_names, path_of_names, value_or_zero, reserve_of}
 use Rattle.dt_grammar.specs.Paths.{braced}
-use Rattle.dt_grammar.specs.Strict.{IsLabelText, IsReferenceText, IsNumber, IsCell, IsItem, IsComponent, IsSound, IsOrdered, IsReserve}
+use Rattle.dt_grammar.specs.Strict.{IsLabelText, IsReferenceText, IsNumber, IsCell, IsItem, IsComponent, IsSoundPlace, IsOrdered, IsReserve}
 use Rattle.dt_grammar.specs.Wanted.{Made, made_expression, made_labels, made_cells, made_item, made_value, made_places, made_behind, made_source}
 use Rattle.dt_grammar.specs.Faults.{Around, IsFine}
 use Rattle.dt_grammar.proofs.Names.{path_back}
@@ -72,17 +72,17 @@ abbrev pub fits : (bits n : ℕ) → Known (Fits bits n)
 fits bits n = by_test (nat_lt n (2 ^ bits) || nat_eq (n / 2 ^ bits) (2 ^ (64 - bits) - 1))
     (Decides-or (nat_lt n (2 ^ bits)) (nat_eq (n / 2 ^ bits) (2 ^ (64 - bits) - 1)) (Decides-ltb n (2 ^ bits)) (Decides-eqb (n / 2 ^ bits) (2 ^ (64 - bits) - 1)))
 
-pub evaluated : (e : Expression) (n : ℕ) → value e ≡ Some n → value e ≡ Some (number_in e)
+pub evaluated : (e : Expression) (n : ℕ) → value e ≡ Some n → value e ≡ Some (value_or_zero e)
 evaluated e n h = h ∙ ap (λ (k : ℕ). Some k) (sym (ap (λ (o : Option ℕ). option_map_or (λ k. k) o 0) h))
 
-pub valueless : (e : Expression) → value e ≡ None → ¬ value e ≡ Some (number_in e)
+pub valueless : (e : Expression) → value e ≡ None → ¬ value e ≡ Some (value_or_zero e)
 valueless e h i = cc
 
-abbrev value_by : (e : Expression) (o : Option ℕ) → value e ≡ o → Known (value e ≡ Some (number_in e))
+abbrev value_by : (e : Expression) (o : Option ℕ) → value e ≡ o → Known (value e ≡ Some (value_or_zero e))
 value_by e None h = fails (valueless e h)
 value_by e (Some n) h = holds (evaluated e n h)
 
-abbrev pub has_value : (e : Expression) → Known (value e ≡ Some (number_in e))
+abbrev pub has_value : (e : Expression) → Known (value e ≡ Some (value_or_zero e))
 has_value e = value_by e (value e) refl
 
 abbrev pub is_number : (size : ℕ) (e : Expression) → Known (IsNumber size e)
@@ -141,7 +141,7 @@ is_reference a_path bytes =
 
 abbrev is_cell : (bits : ℕ) (c : RawCell) → Known (IsCell bits c)
 is_cell bits (label_cell bytes) = is_label_text bytes
-is_cell bits (number_cell size e) = both (is_number size e) (fits bits (number_in e))
+is_cell bits (number_cell size e) = both (is_number size e) (fits bits (value_or_zero e))
 is_cell bits (reference_cell target bytes) = both (is_equal bits 32) (is_reference target bytes)
 is_cell bits (byte_cell b) = holds tt
 
@@ -159,7 +159,7 @@ is_component c =
     like (λ h. record { before = h.0; item = h.1; behind = h.2 }) (λ h. (h.before, h.item, h.behind))
     (all_three (are_labels c.before) (is_item c.item) (are_labels c.behind))
 
-abbrev is_sound : (p : RawPlace) → Known (IsSound p)
+abbrev is_sound : (p : RawPlace) → Known (IsSoundPlace p)
 is_sound raw_root = holds tt
 is_sound (raw_block target bytes) = is_reference target bytes
 is_sound (raw_delete_node target bytes) = is_reference target bytes
@@ -197,13 +197,13 @@ is_reserve r =
     (all_three (are_labels r.labels) (both (is_number r.address_size r.address) (is_number r.length_size r.length)) (is_reservation (reserve_of r)))
 
 abbrev pub is_fine : (a : Around) (m : Made) → Known (IsFine a m)
-is_fine a (made_expression size e) = both (is_number size e) (fits a.bits (number_in e))
+is_fine a (made_expression size e) = both (is_number size e) (fits a.bits (value_or_zero e))
 is_fine a (made_labels ls) = are_labels ls
 is_fine a (made_cells cs) = each (IsCell a.bits) (is_cell a.bits) cs
 is_fine a (made_item i) = is_item i
 is_fine a (made_value cs) = each IsComponent is_component cs
-is_fine a (made_places ps) = both (each IsSound is_sound ps) (is_ordered a.bodies ps)
-is_fine a (made_behind rs ps) = all_three (each IsReserve is_reserve rs) (each IsSound is_sound ps) (is_ordered a.bodies ps)
+is_fine a (made_places ps) = both (each IsSoundPlace is_sound ps) (is_ordered a.bodies ps)
+is_fine a (made_behind rs ps) = all_three (each IsReserve is_reserve rs) (each IsSoundPlace is_sound ps) (is_ordered a.bodies ps)
 is_fine a (made_source s) =
     like (λ h. record { reserves = h.0; places = h.1; ordered = h.2 }) (λ h. (h.reserves, h.places, h.ordered))
-    (all_three (each IsReserve is_reserve s.reserves) (each IsSound is_sound s.places) (is_ordered [] s.places))
+    (all_three (each IsReserve is_reserve s.reserves) (each IsSoundPlace is_sound s.places) (is_ordered [] s.places))

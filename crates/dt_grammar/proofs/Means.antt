@@ -9,7 +9,7 @@ use Rattle.dt_grammar.specs.Words.{Word, Words, IsMark}
 use Rattle.dt_grammar.specs.Grammar.{Class, primary, prefixed, joined, whole, SpellsExpression, SpellsHeaders}
 use Rattle.dt_grammar.specs.Unchecked.{cell_item, byte_item, RawPlace, raw_close, RawReserve, RawSource}
 use Rattle.dt_grammar.specs.Relaxed.{word, a_mark, a_keyword, is_width, Labels, Cells, Bytes, Item, Value, Members, Statement, Statements, Behind, RelaxedSource}
-use Rattle.dt_grammar.specs.Wanted.{Made, made_item, made_source, size_in, expression_in, labels_in, cells_in, item_in, value_in, places_in, reserves_in, Wanted, Any, AfterCondition, AfterThis, Level, AfterLeft, Prefix, Prim, Closing, Done, SomeLabels, SomeCells, AfterCell, SomeBytes, OneItem, BitsNumber, BitsOpen, CellsEnd, BytesEnd, OneValue, AfterComponentLabels, BehindItem, AfterComponent, SomeMembers, AfterMemberLabels, More, AfterName, DeletedProperty, DeletedChild, BlockOpen, BlockClose, Ending, OneStatement, DeletedNode, SomeStatements, StatementThen, MoreStatements, Top, AfterTopLabels, AfterAddress, ReserveEnd, Whole, AfterVersion, AfterHeader, PluginEnd, MoreHeaders, NextVersion, NextHeader, Move, give, refuse, want}
+use Rattle.dt_grammar.specs.Wanted.{Made, made_item, made_source, size_in, expression_in, labels_in, cells_in, item_in, components_in, places_in, reserves_in, Wanted, Any, AfterCondition, AfterThis, Level, AfterLeft, Prefix, Prim, Closing, Done, SomeLabels, SomeCells, AfterCell, SomeBytes, OneItem, BitsNumber, BitsOpen, CellsEnd, BytesEnd, OneValue, AfterComponentLabels, BehindItem, AfterComponent, SomeMembers, AfterMemberLabels, More, AfterName, DeletedProperty, DeletedChild, BlockOpen, BlockClose, Ending, OneStatement, DeletedNode, SomeStatements, StatementThen, MoreStatements, Top, AfterTopLabels, AfterAddress, ReserveEnd, Whole, AfterVersion, AfterHeader, PluginEnd, MoreHeaders, NextVersion, NextHeader, Move, give, refuse, want}
 use Rattle.dt_grammar.specs.Descent.{move_at}
 
 -- the tokens spell an expression of a class, and are so many
@@ -74,10 +74,10 @@ Means BitsNumber w m = (k : List ℕ) → Item (a_keyword keyword.Bits k ∷ w) 
 Means (BitsOpen bits) w m = (k i : List ℕ) → is_width bits ≡ true → Item (a_keyword keyword.Bits k ∷ word (kind.Integer bits) i ∷ w) (item_in m)
 Means (CellsEnd bits cs) w m = IsLast (kind.Mark mark.Greater) w × (m ≡ made_item (cell_item bits cs))
 Means (BytesEnd cs) w m = IsLast (kind.Mark mark.CloseBracket) w × (m ≡ made_item (byte_item cs))
-Means OneValue w m = Value w (value_in m)
-Means (AfterComponentLabels ls) w m = (u : Words) → Labels u ls → Value (u ++ w) (value_in m)
-Means (BehindItem ls i) w m = (u v : Words) → Labels u ls → Item v i → Value (u ++ (v ++ w)) (value_in m)
-Means (AfterComponent c) w m = (u v x : Words) → Labels u c.before → Item v c.item → Labels x c.behind → Value (u ++ (v ++ (x ++ w))) (value_in m)
+Means OneValue w m = Value w (components_in m)
+Means (AfterComponentLabels ls) w m = (u : Words) → Labels u ls → Value (u ++ w) (components_in m)
+Means (BehindItem ls i) w m = (u v : Words) → Labels u ls → Item v i → Value (u ++ (v ++ w)) (components_in m)
+Means (AfterComponent c) w m = (u v x : Words) → Labels u c.before → Item v c.item → Labels x c.behind → Value (u ++ (v ++ (x ++ w))) (components_in m)
 Means SomeMembers w m = Members w (places_in m)
 Means (AfterMemberLabels ls) w m = (u : Words) → Labels u ls → Members (u ++ w) (places_in m)
 Means (More ps) w m = (qs : List RawPlace) × Members w qs × (places_in m ≡ ps ++ qs)

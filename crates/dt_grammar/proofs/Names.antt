@@ -11,7 +11,7 @@ use Rattle.dt_model.specs.Source.{Reference, by_label, by_path, Place, label}
 use Rattle.dt_lex.specs.declared.token.TokenKind.{TokenKind}
 use Rattle.dt_grammar.specs.Words.{Word, Words, IsReferenceWord, IsLabelWord, to_label, to_path}
 use Rattle.dt_grammar.specs.Grammar.{SpellsLabels, no_labels, one_label}
-use Rattle.dt_grammar.specs.Unchecked.{Target, a_label, a_path, raw_label, all_but_last, onto_first, ended_names, path_of_names, reference_in, place_of}
+use Rattle.dt_grammar.specs.Unchecked.{Target, a_label, a_path, raw_label, all_but_last, onto_first, ended_names, path_of_names, reference_in, place_meant}
 use Rattle.dt_grammar.specs.Relaxed.{word, a_reference, Labels, no_more_labels, another_label}
 
 pub word_is : (w : Word) (k : TokenKind) → w.kind ≡ k → w ≡ word k w.bytes
@@ -107,9 +107,9 @@ labels_of (one_label w ws l ls is s) =
       strict = (label_text is, r.strict);
     }
 
-pub label_places : (raw : List (List ℕ)) → map place_of (map raw_label raw) ≡ map label (map all_but_last raw)
+pub label_places : (raw : List (List ℕ)) → map place_meant (map raw_label raw) ≡ map label (map all_but_last raw)
 label_places [] = refl
 label_places (l ∷ raw) = ap (λ (z : List Place). label (all_but_last l) ∷ z) (label_places raw)
 
-pub labels_say : {ws : Words} {ls : List Name} (l : LabelsOf ws ls) → map place_of (map raw_label l.raw) ≡ map label ls
+pub labels_say : {ws : Words} {ls : List Name} (l : LabelsOf ws ls) → map place_meant (map raw_label l.raw) ≡ map label ls
 labels_say l = label_places l.raw ∙ ap (map label) l.says

@@ -15,7 +15,7 @@ use Rattle.dt_grammar.specs.Relaxed.{word, is_width}
 use Rattle.dt_grammar.specs.Wanted.{Made, size_in, expression_in, kind_at, bytes_at, Wanted, Any, AfterCondition, AfterThis, Level, AfterLeft, Prefix, Prim, Closing, Done, SomeLabels, SomeCells, AfterCell, SomeBytes, OneItem, BitsNumber, BitsOpen, CellsEnd, BytesEnd, OneValue, AfterComponentLabels, BehindItem, AfterComponent, SomeMembers, AfterMemberLabels, More, AfterName, DeletedProperty, DeletedChild, BlockOpen, BlockClose, Ending, OneStatement, DeletedNode, SomeStatements, StatementThen, MoreStatements, Top, AfterTopLabels, AfterAddress, ReserveEnd, Whole, AfterVersion, AfterHeader, PluginEnd, MoreHeaders, NextVersion, NextHeader, Move, refuse, want}
 use Rattle.dt_grammar.specs.Moves.{no_member, without_labels, at_labels, at_cells, at_bytes, at_item, at_statement, at_deleted_node, at_member, at_deleted_property, at_deleted_child, at_name, at_block_open}
 use Rattle.dt_grammar.specs.Descent.{move_at, first, after, Outcome, found, stuck, refuses, Descends}
-use Rattle.dt_grammar.specs.Faults.{Around, outside, within, label_named, reference_named, cell_named, member_named, deleted_named, cell_placed, name_placed, member_placed, body_placed, IsNamed, IsPlaced, Shows, unwanted, unnamed, unplaced, Passes, NumberBreaks, cut_off, unended, too_long, valueless, too_large, IsFine, IsNoNumber, Breaks, shows, in_number, in_part, behind_part}
+use Rattle.dt_grammar.specs.Faults.{Around, outside, within, label_named, reference_named, cell_named, member_named, deleted_named, cell_placed, name_placed, member_placed, body_placed, IsFaultNamed, IsPlaced, Shows, unwanted, unnamed, unplaced, Passes, NumberBreaks, cut_off, unended, too_long, valueless, too_large, IsFine, IsNoNumber, Breaks, shows, in_number, in_part, behind_part}
 use Rattle.dt_grammar.proofs.Descent.{deterministic, left_of, by_move}
 use Rattle.dt_grammar.proofs.Means.{at_each}
 use Rattle.dt_grammar.proofs.Unbroken.{done, clash, made_of, taken_in, part_in, whole_in}
@@ -405,7 +405,7 @@ refused_block bodies ps (Some (kind.Mark mark.OpenBrace)) h = cc
 refused_block bodies ps _ h = tt
 
 -- a token that can't stand there has no other fault
-refused : (a : Around) (g : Wanted) (ws : Words) → move_at g (first ws) ≡ refuse → IsNamed g ws × IsPlaced a g ws
+refused : (a : Around) (g : Wanted) (ws : Words) → move_at g (first ws) ≡ refuse → IsFaultNamed g ws × IsPlaced a g ws
 refused a SomeLabels ws e = (refused_label (bytes_at (first ws)) (kind_at (first ws)) e, tt)
 refused a SomeCells ws e = refused_cell a.bits (bytes_at (first ws)) (kind_at (first ws)) e
 refused a SomeBytes ws e = (refused_byte (bytes_at (first ws)) (kind_at (first ws)) e, tt)

@@ -9,7 +9,7 @@ use Rattle.dt_lex.specs.declared.token.TokenKind.{TokenKind}
 use Rattle.dt_lex.specs.declared.token.TokenKind.TheVariants as kind
 use Rattle.dt_grammar.specs.Words.{Word, Words, IsReferenceWord}
 use Rattle.dt_grammar.specs.Grammar.{primary, SpellsNumber, SpellsValue, Says, SpellsReservations, no_reservations, reserved, SpellsSource}
-use Rattle.dt_grammar.specs.Unchecked.{Target, a_label, a_path, number_in, value_parts, reference_in, RawPlace, RawReserve, RawSource, reserve_of, says_of}
+use Rattle.dt_grammar.specs.Unchecked.{Target, a_label, a_path, value_or_zero, value_parts, reference_in, RawPlace, RawReserve, RawSource, reserve_of, says_of}
 use Rattle.dt_grammar.specs.Relaxed.{a_reference, Behind, no_more_reserves, another_reserve, RelaxedSource}
 use Rattle.dt_grammar.proofs.Descent.{deterministic}
 use Rattle.dt_grammar.proofs.Expressions.{one_reading}
@@ -72,7 +72,7 @@ one_source ws s t h k =
 -- ---- its parts
 
 pub one_number : (ws : Words) (m n : ℕ) → SpellsNumber ws m → SpellsNumber ws n → m ≡ n
-one_number ws m n s t = sym (number_is s) ∙ ap number_in (one_reading primary ws s.expression t.expression s.spelled t.spelled) ∙ number_is t
+one_number ws m n s t = sym (number_is s) ∙ ap value_or_zero (one_reading primary ws s.expression t.expression s.spelled t.spelled) ∙ number_is t
 
 pub one_value : (ws : Words) (v u : List Part) → SpellsValue ws v → SpellsValue ws u → v ≡ u
 one_value ws v u s t =

@@ -8,7 +8,7 @@ use Rattle.dt_lex.specs.declared.token.Keyword.TheVariants as keyword
 use Rattle.dt_grammar.specs.Words.{Word, Words}
 use Rattle.dt_grammar.specs.Unchecked.{Target, a_label, a_path, RawPlace, raw_root, raw_block, raw_delete_node, raw_child, raw_label}
 use Rattle.dt_grammar.specs.Relaxed.{word, a_mark, a_keyword, a_reference, Labels, no_more_labels, another_label, Members, no_more_members, a_flag, a_property, a_deleted_property, a_child, a_deleted_child, Statement, a_root_block, a_node_block, a_deleted_node, Statements, only_statement, first_statement}
-use Rattle.dt_grammar.specs.Wanted.{Made, made_places, value_in, places_in, SomeMembers, AfterMemberLabels, More, AfterName, DeletedProperty, DeletedChild, BlockOpen, BlockClose, Ending, OneStatement, DeletedNode, SomeStatements, StatementThen, MoreStatements, Done, want}
+use Rattle.dt_grammar.specs.Wanted.{Made, made_places, components_in, places_in, SomeMembers, AfterMemberLabels, More, AfterName, DeletedProperty, DeletedChild, BlockOpen, BlockClose, Ending, OneStatement, DeletedNode, SomeStatements, StatementThen, MoreStatements, Done, want}
 use Rattle.dt_grammar.specs.Moves.{no_member, without_labels}
 use Rattle.dt_grammar.proofs.Bodies.{child_then}
 use Rattle.dt_grammar.proofs.Means.{Sound, SoundAt, at_each, at_nothing}
@@ -52,7 +52,7 @@ sound_name ls n = at_each (SoundAt (AfterName ls n)) tt at
         members_as _ _ _ _
         (ap front (sym (append_assoc u (a_mark mark.Semicolon f.0.bytes ∷ []) q)) ∙ ap (λ (l : Words). front ((u ++ l) ++ q)) (sym f.0.together))
         (ap (λ (l : List RawPlace). l ++ qs) (sym f.1))
-        (a_property p u q n b f.0.bytes ls (value_in x) qs s h t)
+        (a_property p u q n b f.0.bytes ls (components_in x) qs s h t)
     at (kind.Mark mark.OpenBrace) b = λ u v x y h f p q qs s t.
         let front = λ (l : Words). p ++ word kind.Name n ∷ l in
         at_nothing (λ (l : Words) (e : Made). Members (p ++ word kind.Name n ∷ (l ++ q)) (places_in e ++ qs)) u v x y f

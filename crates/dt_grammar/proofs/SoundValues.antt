@@ -9,7 +9,7 @@ use Rattle.dt_lex.specs.declared.token.Keyword.TheVariants as keyword
 use Rattle.dt_grammar.specs.Words.{Word, Words}
 use Rattle.dt_grammar.specs.Unchecked.{a_label, a_path, RawCell, label_cell, number_cell, reference_cell, byte_cell, RawItem, cell_item, byte_item, RawComponent}
 use Rattle.dt_grammar.specs.Relaxed.{word, a_mark, a_keyword, is_width, Labels, no_more_labels, another_label, Cells, no_more_cells, a_label_cell, a_number_cell, a_reference_cell, Bytes, no_more_bytes, a_label_byte, another_byte, Item, plain_cells, sized_cells, a_text, some_bytes, a_path_text, Value, last_component, more_components}
-use Rattle.dt_grammar.specs.Wanted.{Made, made_labels, made_cells, made_item, made_value, size_in, expression_in, labels_in, cells_in, item_in, value_in, SomeLabels, SomeCells, AfterCell, SomeBytes, OneItem, BitsNumber, BitsOpen, CellsEnd, BytesEnd, OneValue, AfterComponentLabels, BehindItem, AfterComponent, Done, want, refuse}
+use Rattle.dt_grammar.specs.Wanted.{Made, made_labels, made_cells, made_item, made_value, size_in, expression_in, labels_in, cells_in, item_in, components_in, SomeLabels, SomeCells, AfterCell, SomeBytes, OneItem, BitsNumber, BitsOpen, CellsEnd, BytesEnd, OneValue, AfterComponentLabels, BehindItem, AfterComponent, Done, want, refuse}
 use Rattle.dt_grammar.proofs.Means.{IsLast, Sound, SoundAt, at_each, at_nothing}
 
 pub sound_labels : (k : Option Word) → SoundAt SomeLabels k
@@ -115,6 +115,6 @@ sound_component c = at_each (SoundAt (AfterComponent c)) (last_one c) at
   where
     at : (k : TokenKind) (b : List ℕ) → SoundAt (AfterComponent c) (Some (word k b))
     at (kind.Mark mark.Comma) b = λ u v x y h f p q r l i m.
-        at_nothing (λ (w : Words) (e : Made). Value (p ++ (q ++ (r ++ a_mark mark.Comma b ∷ w))) (value_in e)) u v (made_value (c ∷ value_in x)) y f
-        (more_components p q r u b c.before c.behind c.item (value_in x) l i m h)
+        at_nothing (λ (w : Words) (e : Made). Value (p ++ (q ++ (r ++ a_mark mark.Comma b ∷ w))) (components_in e)) u v (made_value (c ∷ components_in x)) y f
+        (more_components p q r u b c.before c.behind c.item (components_in x) l i m h)
     at _ b = last_one c

@@ -2,7 +2,7 @@
 use Rattle.std.specs.List.{AllByRecursion}
 use Rattle.std.proofs.Common.{suc, Bool, true, false, ◌<◌, length}
 use Rattle.dt_model.specs.Names.{IsNodeName, IsPropertyName}
-use Rattle.dt_grammar.specs.Strict.{AreLabelTexts, IsComponent, IsSound, IsOrdered}
+use Rattle.dt_grammar.specs.Strict.{AreLabelTexts, IsComponent, IsSoundPlace, IsOrdered}
 use Rattle.std.proofs.Common.{◌≡◌, ℕ, List, [], ◌∷◌, ◌++◌, map, refl, sym, ◌∙◌, ap, subst, append_assoc}
 use Rattle.std.proofs.lemmas.List.{map-append}
 use Rattle.dt_model.specs.Names.{Name}
@@ -10,7 +10,7 @@ use Rattle.dt_model.specs.Source.{Part, Place, child, label, property, delete_pr
 use Rattle.dt_lex.specs.declared.token.Mark.TheVariants as mark
 use Rattle.dt_grammar.specs.Words.{Word, Words, IsMark, IsPropertyWord}
 use Rattle.dt_grammar.specs.Grammar.{SpellsAssigned, empty, assigned, SpellsProperties, no_properties, defined, deleted, SpellsChildren, no_children, opened, removed}
-use Rattle.dt_grammar.specs.Unchecked.{RawComponent, RawPlace, raw_child, raw_label, raw_property, raw_delete_property, raw_delete_child, raw_close, value_parts, place_of}
+use Rattle.dt_grammar.specs.Unchecked.{RawComponent, RawPlace, raw_child, raw_label, raw_property, raw_delete_property, raw_delete_child, raw_close, value_parts, place_meant}
 use Rattle.dt_grammar.specs.Relaxed.{Labels, Members, no_more_members, a_flag, a_property, a_deleted_property, a_child, a_deleted_child}
 use Rattle.dt_grammar.proofs.Names.{word_is, labels_of, labels_say}
 use Rattle.dt_grammar.proofs.StrictValues.{value_of}
@@ -44,8 +44,8 @@ defined_of (assigned q vs parts f v) us xs w s n ls raw l is e m =
 pub record PropertiesOf (us : Words) (ps : List Place) (xs : Words) (qs : List RawPlace) : Type 0 where
   pub raw : List RawPlace
   pub relaxed : Members (us ++ xs) raw
-  pub says : map place_of raw ≡ ps ++ map place_of qs
-  pub sound : AllByRecursion IsSound qs → AllByRecursion IsSound raw
+  pub says : map place_meant raw ≡ ps ++ map place_meant qs
+  pub sound : AllByRecursion IsSoundPlace qs → AllByRecursion IsSoundPlace raw
   pub ordered : (bodies : List Bool) (rest : List RawPlace) → IsOrdered (false ∷ bodies) (qs ++ rest) → IsOrdered (false ∷ bodies) (raw ++ rest)
 
 pub properties_of : {us : Words} {ps : List Place} → SpellsProperties us ps → (xs : Words) (qs : List RawPlace) → Members xs qs → PropertiesOf us ps xs qs
@@ -80,15 +80,15 @@ properties_of (deleted us ws k w s n ls places l g is e t) xs qs m =
 pub record MembersOf (around : ℕ) (ws : Words) (ps : List Place) : Type 0 where
   pub raw : List RawPlace
   pub relaxed : Members ws raw
-  pub says : map place_of raw ≡ ps
-  pub sound : AllByRecursion IsSound raw
+  pub says : map place_meant raw ≡ ps
+  pub sound : AllByRecursion IsSoundPlace raw
   pub ordered : (b : Bool) (bodies : List Bool) (rest : List RawPlace) → length (b ∷ bodies) ≡ around → ((c : Bool) → IsOrdered (c ∷ bodies) rest) → IsOrdered (b ∷ bodies) (raw ++ rest)
 
 pub all_append : {X : Type 0} (P : X → Type 0) (xs ys : List X) → AllByRecursion P xs → AllByRecursion P ys → AllByRecursion P (xs ++ ys)
 all_append P [] ys h k = k
 all_append P (x ∷ xs) ys h k = (h.0, all_append P xs ys h.1 k)
 
-pub labels_sound : (ls : List (List ℕ)) → AreLabelTexts ls → AllByRecursion IsSound (map raw_label ls)
+pub labels_sound : (ls : List (List ℕ)) → AreLabelTexts ls → AllByRecursion IsSoundPlace (map raw_label ls)
 labels_sound [] h = tt
 labels_sound (l ∷ ls) h = (h.0, labels_sound ls h.1)
 
@@ -99,9 +99,9 @@ labels_ordered (l ∷ ls) bodies ps h = labels_ordered ls bodies ps h
 pub child_regroup : (fs bs rs rest : List RawPlace) → (fs ++ (bs ++ raw_close ∷ rs)) ++ rest ≡ fs ++ (bs ++ raw_close ∷ (rs ++ rest))
 child_regroup fs bs rs rest = append_assoc fs (bs ++ raw_close ∷ rs) rest ∙ ap (λ (z : List RawPlace). fs ++ z) (append_assoc bs (raw_close ∷ rs) rest)
 
-pub body_says : (fs bs rs : List RawPlace) (ls ps cs places : List Place) → map place_of fs ≡ ls → map place_of bs ≡ ps ++ cs → map place_of rs ≡ places → map place_of (fs ++ (bs ++ raw_close ∷ rs)) ≡ ls ++ (ps ++ (cs ++ close ∷ places))
+pub body_says : (fs bs rs : List RawPlace) (ls ps cs places : List Place) → map place_meant fs ≡ ls → map place_meant bs ≡ ps ++ cs → map place_meant rs ≡ places → map place_meant (fs ++ (bs ++ raw_close ∷ rs)) ≡ ls ++ (ps ++ (cs ++ close ∷ places))
 body_says fs bs rs ls ps cs places h k m =
-    map-append place_of fs (bs ++ raw_close ∷ rs) ∙ ap (λ (z : List Place). map place_of fs ++ z) (map-append place_of bs (raw_close ∷ rs))
+    map-append place_meant fs (bs ++ raw_close ∷ rs) ∙ ap (λ (z : List Place). map place_meant fs ++ z) (map-append place_meant bs (raw_close ∷ rs))
     ∙ (λ i. h i ++ (k i ++ close ∷ m i)) ∙ ap (λ (z : List Place). ls ++ z) (append_assoc ps cs (close ∷ places))
 
 pub children_of : {around : ℕ} {ws : Words} {ps : List Place} → SpellsChildren around ws ps → MembersOf around ws ps
@@ -112,7 +112,7 @@ children_of (opened around us properties children ws w o c s n ls ps cs places l
     let body = properties_of p children inner.raw inner.relaxed in
     let r = children_of t in
     let raw : List RawPlace = raw_child w.bytes ∷ (map raw_label labels.raw ++ (body.raw ++ raw_close ∷ r.raw)) in
-    let inside : map place_of body.raw ≡ ps ++ cs = body.says ∙ ap (λ (z : List Place). ps ++ z) inner.says in
+    let inside : map place_meant body.raw ≡ ps ++ cs = body.says ∙ ap (λ (z : List Place). ps ++ z) inner.says in
     let said = body_says (map raw_label labels.raw) body.raw r.raw (map label ls) ps cs places (labels_say labels) inside r.says in
     record {
       raw = raw;
@@ -121,7 +121,7 @@ children_of (opened around us properties children ws w o c s n ls ps cs places l
           ∙ ap (λ (x : Words). us ++ w ∷ o ∷ x) (append_assoc properties children (c ∷ s ∷ ws)))
           (a_child us (properties ++ children) ws w.bytes o.bytes c.bytes s.bytes labels.raw body.raw r.raw labels.relaxed body.relaxed r.relaxed);
       says = λ i. child (is.bytes i) ∷ said i;
-      sound = (subst IsNodeName (sym is.bytes) is.valid, all_append IsSound (map raw_label labels.raw) _ (labels_sound labels.raw labels.strict) (all_append IsSound body.raw _ (body.sound inner.sound) (tt, r.sound)));
+      sound = (subst IsNodeName (sym is.bytes) is.valid, all_append IsSoundPlace (map raw_label labels.raw) _ (labels_sound labels.raw labels.strict) (all_append IsSoundPlace body.raw _ (body.sound inner.sound) (tt, r.sound)));
       ordered = λ b bodies rest same h. (
         subst (λ (n : ℕ). n < 65) (sym same) lt,
         subst (IsOrdered (false ∷ true ∷ bodies)) (sym (child_regroup (map raw_label labels.raw) body.raw r.raw rest))

@@ -1,7 +1,7 @@
 -- Each statement that the grammar spells is a relaxed one that says it, and passes the checks.
 use Rattle.std.specs.List.{AllByRecursion}
 use Rattle.std.proofs.Common.{false}
-use Rattle.dt_grammar.specs.Strict.{IsSound, IsOrdered}
+use Rattle.dt_grammar.specs.Strict.{IsSoundPlace, IsOrdered}
 use Rattle.dt_grammar.proofs.StrictBodies.{properties_of, children_of, body_says, all_append, labels_sound, labels_ordered, child_regroup}
 use Rattle.std.proofs.Common.{◌≡◌, ℕ, List, [], ◌∷◌, ◌++◌, map, refl, sym, ◌∙◌, ap, subst, append_assoc}
 use Rattle.std.proofs.lemmas.List.{map-append}
@@ -9,7 +9,7 @@ use Rattle.dt_model.specs.Source.{Place, root, block, delete_node, label}
 use Rattle.dt_lex.specs.declared.token.Mark.TheVariants as mark
 use Rattle.dt_grammar.specs.Words.{Words}
 use Rattle.dt_grammar.specs.Grammar.{SpellsBody, SpellsStatement, root_block, node_block, node_deleted, SpellsStatements, last_statement, more_statements}
-use Rattle.dt_grammar.specs.Unchecked.{RawPlace, raw_root, raw_block, raw_delete_node, raw_label, raw_close, place_of}
+use Rattle.dt_grammar.specs.Unchecked.{RawPlace, raw_root, raw_block, raw_delete_node, raw_label, raw_close, place_meant}
 use Rattle.dt_grammar.specs.Relaxed.{a_mark, Labels, no_more_labels, Members, Statement, a_root_block, a_node_block, a_deleted_node, Statements, only_statement, first_statement}
 use Rattle.dt_grammar.proofs.Names.{spelled_reference, word_is, reference_word, labels_of, labels_say}
 
@@ -23,15 +23,15 @@ record BodyOf (ws : Words) (places : List Place) : Type 0 where
   z : List ℕ
   s : List ℕ
   same : a_mark mark.OpenBrace o ∷ (inner ++ a_mark mark.CloseBrace z ∷ a_mark mark.Semicolon s ∷ []) ≡ ws
-  says : (fs : List RawPlace) (ls : List Place) → map place_of fs ≡ ls → map place_of (fs ++ (raw ++ raw_close ∷ [])) ≡ ls ++ places
-  sound : AllByRecursion IsSound (raw ++ raw_close ∷ [])
+  says : (fs : List RawPlace) (ls : List Place) → map place_meant fs ≡ ls → map place_meant (fs ++ (raw ++ raw_close ∷ [])) ≡ ls ++ places
+  sound : AllByRecursion IsSoundPlace (raw ++ raw_close ∷ [])
   ordered : (labels : List (List ℕ)) (rest : List RawPlace) → IsOrdered [] rest → IsOrdered (false ∷ []) ((map raw_label labels ++ (raw ++ raw_close ∷ [])) ++ rest)
 
 body_of : (ws : Words) (places : List Place) → SpellsBody ws places → BodyOf ws places
 body_of ws places b =
     let inner = children_of b.spelled_children in
     let body = properties_of b.spelled_properties b.children inner.raw inner.relaxed in
-    let inside : map place_of body.raw ≡ b.ps ++ b.cs = body.says ∙ ap (λ (z : List Place). b.ps ++ z) inner.says in
+    let inside : map place_meant body.raw ≡ b.ps ++ b.cs = body.says ∙ ap (λ (z : List Place). b.ps ++ z) inner.says in
     record {
       inner = b.properties ++ b.children;
       raw = body.raw;
@@ -42,7 +42,7 @@ body_of ws places b =
       same = (λ i. sym (word_is b.opening _ b.opened_by) i ∷ ((b.properties ++ b.children) ++ sym (word_is b.closing _ b.closed_by) i ∷ sym (word_is b.semicolon _ b.ended_by) i ∷ []))
           ∙ ap (λ (x : Words). b.opening ∷ x) (append_assoc b.properties b.children (b.closing ∷ b.semicolon ∷ [])) ∙ sym b.together;
       says = λ fs ls h. body_says fs body.raw [] ls b.ps b.cs [] h inside refl ∙ ap (λ (z : List Place). ls ++ z) (sym b.says);
-      sound = all_append IsSound body.raw (raw_close ∷ []) (body.sound inner.sound) (tt, tt);
+      sound = all_append IsSoundPlace body.raw (raw_close ∷ []) (body.sound inner.sound) (tt, tt);
       ordered = λ labels rest h.
           subst (IsOrdered (false ∷ [])) (sym (child_regroup (map raw_label labels) body.raw [] rest))
           (labels_ordered labels (false ∷ []) (body.raw ++ raw_close ∷ rest)
@@ -57,8 +57,8 @@ record StatementOf (ws : Words) (places : List Place) : Type 0 where
   labelled : Labels us ls
   relaxed : Statement ls vs raw
   same : us ++ vs ≡ ws
-  says : map place_of raw ≡ places
-  sound : AllByRecursion IsSound raw
+  says : map place_meant raw ≡ places
+  sound : AllByRecursion IsSoundPlace raw
   ordered : (rest : List RawPlace) → IsOrdered [] rest → IsOrdered [] (raw ++ rest)
 
 statement_of : {ws : Words} {places : List Place} → SpellsStatement ws places → StatementOf ws places
@@ -90,7 +90,7 @@ statement_of (node_block us ws w to ls places l h b) =
           (a_node_block labels.raw f.target w.bytes r.o r.z r.s r.inner r.raw r.relaxed);
       same = refl;
       says = λ i. block (f.says i) ∷ r.says (map raw_label labels.raw) (map label ls) (labels_say labels) i;
-      sound = (spelled_reference h f, all_append IsSound (map raw_label labels.raw) _ (labels_sound labels.raw labels.strict) r.sound);
+      sound = (spelled_reference h f, all_append IsSoundPlace (map raw_label labels.raw) _ (labels_sound labels.raw labels.strict) r.sound);
       ordered = λ rest k. r.ordered labels.raw rest k;
     }
 statement_of (node_deleted k w s to g h e) =
@@ -111,8 +111,8 @@ statement_of (node_deleted k w s to g h e) =
 pub record StatementsOf (ws : Words) (places : List Place) : Type 0 where
   pub raw : List RawPlace
   pub relaxed : Statements ws raw
-  pub says : map place_of raw ≡ places
-  pub sound : AllByRecursion IsSound raw
+  pub says : map place_meant raw ≡ places
+  pub sound : AllByRecursion IsSoundPlace raw
   pub ordered : (rest : List RawPlace) → IsOrdered [] rest → IsOrdered [] (raw ++ rest)
 
 pub statements_of : {ws : Words} {places : List Place} → SpellsStatements ws places → StatementsOf ws places
@@ -125,7 +125,7 @@ statements_of (more_statements us ws places others s t) =
     record {
       raw = r.raw ++ m.raw;
       relaxed = subst (λ (x : Words). Statements x (r.raw ++ m.raw)) (sym (append_assoc r.us r.vs ws) ∙ ap (λ (x : Words). x ++ ws) r.same) (first_statement r.us r.vs ws r.ls r.raw m.raw r.labelled r.relaxed m.relaxed);
-      says = map-append place_of r.raw m.raw ∙ (λ i. r.says i ++ m.says i);
-      sound = all_append IsSound r.raw m.raw r.sound m.sound;
+      says = map-append place_meant r.raw m.raw ∙ (λ i. r.says i ++ m.says i);
+      sound = all_append IsSoundPlace r.raw m.raw r.sound m.sound;
       ordered = λ rest h. subst (IsOrdered []) (sym (append_assoc r.raw m.raw rest)) (r.ordered (m.raw ++ rest) (m.ordered rest h));
     }

@@ -10,12 +10,12 @@ use Rattle.dt_lex.specs.declared.token.Mark.TheVariants as mark
 use Rattle.dt_expr.specs.Fits.{Fits, element}
 use Rattle.dt_grammar.specs.Words.{Word, Words, IsMark}
 use Rattle.dt_grammar.specs.Grammar.{SpellsNumber, IsWidth, bits_8, bits_16, bits_32, bits_64, SpellsCells, no_cells, cell_label, cell_number, cell_reference, SpellsBytes, no_bytes, byte_label, one_byte, SpellsBits, no_bits, some_bits, SpellsItem, cells, string, bytes, path, SpellsValue, last, more}
-use Rattle.dt_grammar.specs.Unchecked.{RawCell, label_cell, number_cell, reference_cell, byte_cell, RawItem, cell_item, text_item, byte_item, path_item, RawComponent, width_of, number_in, cells_parts, item_parts, value_parts}
+use Rattle.dt_grammar.specs.Unchecked.{RawCell, label_cell, number_cell, reference_cell, byte_cell, RawItem, cell_item, text_item, byte_item, path_item, RawComponent, width_of, value_or_zero, cells_parts, item_parts, value_parts}
 use Rattle.dt_grammar.specs.Relaxed.{a_mark, is_width, Cells, no_more_cells, a_label_cell, a_number_cell, a_reference_cell, Bytes, no_more_bytes, a_label_byte, another_byte, Item, plain_cells, sized_cells, a_text, some_bytes, a_path_text, Value, last_component, more_components}
 use Rattle.dt_grammar.proofs.Values.{three}
 use Rattle.dt_grammar.proofs.Names.{spelled_reference, label_text, word_is, reference_word, labels_of}
 
-pub number_is : {ws : Words} {n : ℕ} (s : SpellsNumber ws n) → number_in s.expression ≡ n
+pub number_is : {ws : Words} {n : ℕ} (s : SpellsNumber ws n) → value_or_zero s.expression ≡ n
 number_is s = ap (λ (o : Option ℕ). option_map_or (λ (n : ℕ). n) o 0) s.evaluated
 
 pub strict_number : {ws : Words} {n : ℕ} (s : SpellsNumber ws n) → IsNumber (length ws) s.expression

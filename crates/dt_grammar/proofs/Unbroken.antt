@@ -4,22 +4,22 @@ use Rattle.dt_names.specs.declared.fault.FaultKind.{FaultKind}
 use Rattle.dt_names.specs.declared.fault.FaultKind.TheVariants as fault
 use Rattle.dt_expr.specs.Fits.{Fits}
 use Rattle.dt_grammar.specs.Words.{Words}
-use Rattle.dt_grammar.specs.Unchecked.{number_in}
+use Rattle.dt_grammar.specs.Unchecked.{value_or_zero}
 use Rattle.dt_grammar.specs.Strict.{IsNumber}
 use Rattle.dt_grammar.specs.Wanted.{Made, size_in, expression_in, Wanted, SomeCells, AfterMemberLabels, AfterName, AfterAddress, Prim, Done, Move, give, refuse, want}
 use Rattle.dt_grammar.specs.Descent.{move_at, first, after, Outcome, found, stuck, refuses, part_stuck, Descends}
-use Rattle.dt_grammar.specs.Faults.{Around, within, IsNamed, IsPlaced, misplaced, Shows, unwanted, unnamed, unplaced, NumberBreaks, cut_off, unended, too_long, valueless, too_large, IsNoNumber, Breaks, shows, in_number, in_part, behind_part}
+use Rattle.dt_grammar.specs.Faults.{Around, within, IsFaultNamed, IsPlaced, misplaced, Shows, unwanted, unnamed, unplaced, NumberBreaks, cut_off, unended, too_long, valueless, too_large, IsNoNumber, Breaks, shows, in_number, in_part, behind_part}
 use Rattle.dt_grammar.proofs.Descent.{deterministic, left_of, by_move}
 use Rattle.dt_grammar.proofs.Stepping.{given, part_then}
 
 -- no number is wanted, and no fault shows
 abbrev pub Free : Around → Wanted → Words → Type 0
-Free a g ws = IsNoNumber g × IsNamed g ws × IsPlaced a g ws
+Free a g ws = IsNoNumber g × IsFaultNamed g ws × IsPlaced a g ws
 
 -- from what is wanted, in what is around it, this is made of the tokens up to those that are left, and no fault shows
 pub data Unbroken : Around → Wanted → Words → Made → Words → Type 0 where
   number_read : {a : Around} {ws left : Words} {m : Made} → Descends Prim ws (found m left) → IsNumber (size_in m) (expression_in m) →
-      Fits a.bits (number_in (expression_in m)) → Unbroken a Prim ws m left
+      Fits a.bits (value_or_zero (expression_in m)) → Unbroken a Prim ws m left
   given_here : {a : Around} {g : Wanted} {ws : Words} {taken : Bool} {m : Made} → move_at g (first ws) ≡ give taken m → Free a g ws →
       Unbroken a g ws m (after taken ws)
   read_on : {a : Around} {g : Wanted} {ws rest left : Words} {taken : Bool} {part : Wanted} {whole : Made → Wanted} {m made : Made} →
@@ -59,7 +59,7 @@ made_of other (stuck left) = other
 -- ---- no fault shows
 
 number_clash : {bits : ℕ} {ws left rest : Words} {k : FaultKind} {m : Made} → NumberBreaks bits ws k rest → Descends Prim ws (found m left) → IsNumber (size_in m) (expression_in m) →
-    Fits bits (number_in (expression_in m)) → ⊥
+    Fits bits (value_or_zero (expression_in m)) → ⊥
 number_clash (cut_off left d h) e n f = let same = deterministic e d in cc
 number_clash (unended left d h) e n f = let same = deterministic e d in cc
 number_clash {m = m} (too_long m' left d h) e n f =
@@ -71,7 +71,7 @@ number_clash {m = m} (valueless m' left d h v) e n f =
     cc
 number_clash {bits = bits} {m = m} (too_large m' left d h v) e n f =
     let same : m ≡ m' = ap (made_of m) (deterministic e d) in
-    v (subst (λ (x : Made). Fits bits (number_in (expression_in x))) same f)
+    v (subst (λ (x : Made). Fits bits (value_or_zero (expression_in x))) same f)
 
 no_show : {a : Around} {g : Wanted} {ws left : Words} {k : FaultKind} {m : Made} → Shows a g ws k → Unbroken a g ws m left → ⊥
 no_show {ws = ws} (unwanted e) u = let same = deterministic (unbroken_read u) (by_move _ refuse ws (stuck ws) e refuses) in cc

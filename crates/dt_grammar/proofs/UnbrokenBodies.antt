@@ -8,7 +8,7 @@ use Rattle.dt_lex.specs.declared.token.Keyword.TheVariants as keyword
 use Rattle.dt_grammar.specs.Words.{Word, Words}
 use Rattle.dt_grammar.specs.Unchecked.{Target, a_label, a_path, RawPlace, raw_root, raw_block, raw_child, raw_label, raw_close}
 use Rattle.dt_grammar.specs.Relaxed.{no_more_labels, word, a_mark, a_keyword, a_reference, Members, no_more_members, a_flag, a_property, a_deleted_property, a_child, a_deleted_child, Statement, a_root_block, a_node_block, a_deleted_node}
-use Rattle.dt_grammar.specs.Strict.{IsSound, IsOrdered}
+use Rattle.dt_grammar.specs.Strict.{IsSoundPlace, IsOrdered}
 use Rattle.dt_grammar.specs.Wanted.{made_places, SomeMembers, BlockOpen, OneStatement, give, kind_at, bytes_at}
 use Rattle.dt_grammar.specs.Moves.{at_member}
 use Rattle.dt_grammar.specs.Descent.{first, after}
@@ -47,7 +47,7 @@ pub record ReadsInside (bits : ℕ) (b : Bool) (outer bodies : List Bool) (ws : 
   pub stood : Bool
   pub ordered : IsOrdered (stood ∷ bodies) more
 
-pub unbroken_members : {ws : Words} {ps : List RawPlace} → Members ws ps → AllByRecursion IsSound ps → (bits : ℕ) (b : Bool) (outer bodies : List Bool) → length outer ≡ length bodies →
+pub unbroken_members : {ws : Words} {ps : List RawPlace} → Members ws ps → AllByRecursion IsSoundPlace ps → (bits : ℕ) (b : Bool) (outer bodies : List Bool) → length outer ≡ length bodies →
     (more : List RawPlace) → IsOrdered (b ∷ bodies) (ps ++ more) → ReadsInside bits b outer bodies ws ps more
 unbroken_members no_more_members g bits b outer bodies same more h = record {
   read = λ rest e n.
@@ -94,11 +94,11 @@ unbroken_members (a_deleted_property us ws k n s ls ps l m) g bits b outer bodie
       ordered = r.ordered;
     }
 unbroken_members (a_child us vs ws n a z s ls cs ps l c m) g bits b outer bodies same more h =
-    let texts = label_texts ls (all_front IsSound (map raw_label ls) (cs ++ raw_close ∷ ps) g.1) in
-    let within_it = all_behind IsSound (map raw_label ls) (cs ++ raw_close ∷ ps) g.1 in
-    let inner = unbroken_members c (all_front IsSound cs (raw_close ∷ ps) within_it) bits false (b ∷ outer) (true ∷ bodies) (ap suc same) (raw_close ∷ (ps ++ more))
+    let texts = label_texts ls (all_front IsSoundPlace (map raw_label ls) (cs ++ raw_close ∷ ps) g.1) in
+    let within_it = all_behind IsSoundPlace (map raw_label ls) (cs ++ raw_close ∷ ps) g.1 in
+    let inner = unbroken_members c (all_front IsSoundPlace cs (raw_close ∷ ps) within_it) bits false (b ∷ outer) (true ∷ bodies) (ap suc same) (raw_close ∷ (ps ++ more))
     (behind_labels ls (false ∷ true ∷ bodies) (cs ++ raw_close ∷ (ps ++ more)) (subst (IsOrdered (false ∷ true ∷ bodies)) (child_regroup (map raw_label ls) cs ps more) h.1)) in
-    let r = unbroken_members m (all_behind IsSound cs (raw_close ∷ ps) within_it).1 bits true outer bodies same more inner.ordered in
+    let r = unbroken_members m (all_behind IsSoundPlace cs (raw_close ∷ ps) within_it).1 bits true outer bodies same more inner.ordered in
     record {
       read = λ end no_label none.
           let here = word kind.Name n ∷ a_mark mark.OpenBrace a ∷ (vs ++ closing z s (ws ++ end)) in
@@ -134,7 +134,7 @@ record ReadsBlock (ps cs more : List RawPlace) (a z s : List ℕ) (ws : Words) :
   read : (rest : Words) → Unbroken outside (BlockOpen ps) (a_mark mark.OpenBrace a ∷ (ws ++ closing z s rest)) (made_places (ps ++ (cs ++ raw_close ∷ []))) rest
   ordered : IsOrdered [] more
 
-outer_block : (ps cs more : List RawPlace) (a z s : List ℕ) (ws : Words) → Members ws cs → AllByRecursion IsSound cs → IsOrdered (false ∷ []) ((cs ++ raw_close ∷ []) ++ more) → ReadsBlock ps cs more a z s ws
+outer_block : (ps cs more : List RawPlace) (a z s : List ℕ) (ws : Words) → Members ws cs → AllByRecursion IsSoundPlace cs → IsOrdered (false ∷ []) ((cs ++ raw_close ∷ []) ++ more) → ReadsBlock ps cs more a z s ws
 outer_block ps cs more a z s ws m g h =
     let r = unbroken_members m g 64 false [] [] refl (raw_close ∷ more) (subst (IsOrdered (false ∷ [])) (append_assoc cs (raw_close ∷ []) more) h) in
     record { read = λ rest. unbroken_block 64 [] ps cs a z s ws rest (omega arith) r.read; ordered = r.ordered }
@@ -144,16 +144,16 @@ pub record ReadsStatement (ls : List (List ℕ)) (ws : Words) (ps more : List Ra
   pub read : (rest : Words) → Unbroken outside (OneStatement ls) (ws ++ rest) (made_places ps) rest
   pub ordered : IsOrdered [] more
 
-node_block : (ls : List (List ℕ)) (t : Target) (b a z s : List ℕ) (ws : Words) (cs : List RawPlace) → Members ws cs → AllByRecursion IsSound (raw_block t b ∷ (map raw_label ls ++ (cs ++ raw_close ∷ []))) →
+node_block : (ls : List (List ℕ)) (t : Target) (b a z s : List ℕ) (ws : Words) (cs : List RawPlace) → Members ws cs → AllByRecursion IsSoundPlace (raw_block t b ∷ (map raw_label ls ++ (cs ++ raw_close ∷ []))) →
     (more : List RawPlace) → IsOrdered [] ((raw_block t b ∷ (map raw_label ls ++ (cs ++ raw_close ∷ []))) ++ more) → ReadsBlock (raw_block t b ∷ map raw_label ls) cs more a z s ws
 node_block ls t b a z s ws cs m g more h =
-    let inside = all_front IsSound cs (raw_close ∷ []) (all_behind IsSound (map raw_label ls) (cs ++ raw_close ∷ []) g.1) in
+    let inside = all_front IsSoundPlace cs (raw_close ∷ []) (all_behind IsSoundPlace (map raw_label ls) (cs ++ raw_close ∷ []) g.1) in
     outer_block (raw_block t b ∷ map raw_label ls) cs more a z s ws m inside
     (behind_labels ls (false ∷ []) ((cs ++ raw_close ∷ []) ++ more) (subst (IsOrdered (false ∷ [])) (append_assoc (map raw_label ls) (cs ++ raw_close ∷ []) more) h))
 
-pub unbroken_statement : {ls : List (List ℕ)} {ws : Words} {ps : List RawPlace} → Statement ls ws ps → AllByRecursion IsSound ps → (more : List RawPlace) → IsOrdered [] (ps ++ more) → ReadsStatement ls ws ps more
+pub unbroken_statement : {ls : List (List ℕ)} {ws : Words} {ps : List RawPlace} → Statement ls ws ps → AllByRecursion IsSoundPlace ps → (more : List RawPlace) → IsOrdered [] (ps ++ more) → ReadsStatement ls ws ps more
 unbroken_statement (a_root_block c a z s ws cs m) g more h =
-    let r = outer_block (raw_root ∷ []) cs more a z s ws m (all_front IsSound cs (raw_close ∷ []) g.1) h in
+    let r = outer_block (raw_root ∷ []) cs more a z s ws m (all_front IsSoundPlace cs (raw_close ∷ []) g.1) h in
     record {
       read = λ rest. unbroken_on outside (OneStatement []) _ (a_mark mark.Slash c ∷ a_mark mark.OpenBrace a ∷ (ws ++ closing z s rest)) _ rest (ap (λ (x : Words). a_mark mark.Slash c ∷ a_mark mark.OpenBrace a ∷ x) (append_assoc ws (closing z s []) rest))
           (read_on refl (tt, tt, tt) (r.read rest) done);

@@ -9,9 +9,9 @@ use Rattle.dt_lex.specs.declared.token.Mark.TheVariants as mark
 use Rattle.dt_lex.specs.declared.token.Keyword.TheVariants as keyword
 use Rattle.dt_grammar.specs.Words.{Words}
 use Rattle.dt_grammar.specs.Grammar.{Says, SpellsSource, SpellsHeaders, base_header, plugin_header, more_headers}
-use Rattle.dt_grammar.specs.Unchecked.{RawPlace, raw_label, raw_close, RawReserve, RawSource, number_in}
+use Rattle.dt_grammar.specs.Unchecked.{RawPlace, raw_label, raw_close, RawReserve, RawSource, value_or_zero}
 use Rattle.dt_grammar.specs.Relaxed.{a_mark, a_keyword, Labels, Statement, a_root_block, a_node_block, a_deleted_node, Statements, only_statement, first_statement, Behind, no_more_reserves, another_reserve, RelaxedSource}
-use Rattle.dt_grammar.specs.Strict.{AreLabelTexts, IsSound, IsOrdered, IsReserve, IsStrict}
+use Rattle.dt_grammar.specs.Strict.{AreLabelTexts, IsSoundPlace, IsOrdered, IsReserve, IsStrict}
 use Rattle.dt_grammar.specs.Wanted.{Made, made_expression, made_places, made_behind, made_source, expression_in, SomeStatements, StatementThen, Top, Prim, Whole, AfterVersion, AfterHeader, MoreHeaders, NextHeader}
 use Rattle.dt_grammar.specs.Moves.{at_version, at_semicolon, at_first_plugin, at_next_plugin, at_header}
 use Rattle.dt_grammar.specs.Descent.{Outcome, first, found, Descends}
@@ -38,16 +38,16 @@ record Begun (ws : Words) (ps : List RawPlace) : Type 0 where
   goes : Unbroken outside (StatementThen ls) vs (made_places ps) []
 
 -- the labels of a statement are texts of labels
-statement_texts : {ls : List (List ℕ)} {vs : Words} {ps : List RawPlace} → Statement ls vs ps → AllByRecursion IsSound ps → AreLabelTexts ls
+statement_texts : {ls : List (List ℕ)} {vs : Words} {ps : List RawPlace} → Statement ls vs ps → AllByRecursion IsSoundPlace ps → AreLabelTexts ls
 statement_texts (a_root_block c a z s ws cs m) g = tt
-statement_texts (a_node_block ls t b a z s ws cs m) g = label_texts ls (all_front IsSound (map raw_label ls) (cs ++ raw_close ∷ []) g.1)
+statement_texts (a_node_block ls t b a z s ws cs m) g = label_texts ls (all_front IsSoundPlace (map raw_label ls) (cs ++ raw_close ∷ []) g.1)
 statement_texts (a_deleted_node t k b s) g = tt
 
 statements_read : (ws : Words) (ps : List RawPlace) → Begun ws ps → Unbroken outside SomeStatements ws (made_places ps) []
 statements_read ws ps s =
     unbroken_on outside SomeStatements ws (s.us ++ s.vs) _ _ s.split (read_on refl (tt, tt, tt) (unbroken_labels outside s.labelled s.texts s.vs s.begins.0) s.goes)
 
-begun : {ws : Words} {ps : List RawPlace} → Statements ws ps → AllByRecursion IsSound ps → (more : List RawPlace) → IsOrdered [] (ps ++ more) → Begun ws ps
+begun : {ws : Words} {ps : List RawPlace} → Statements ws ps → AllByRecursion IsSoundPlace ps → (more : List RawPlace) → IsOrdered [] (ps ++ more) → Begun ws ps
 begun (only_statement us vs ls ps l s) g more h =
     let r = unbroken_statement s g more h in
     record {
@@ -61,9 +61,9 @@ begun (only_statement us vs ls ps l s) g more h =
       goes = unbroken_on outside (StatementThen ls) vs (vs ++ []) _ [] (sym (append-nil vs)) (read_on refl (tt, tt, tt) (r.read []) (given_here {taken = false} refl (tt, tt, tt)));
     }
 begun (first_statement us vs ws ls ps others l s t) g more h =
-    let front = all_front IsSound ps others g in
+    let front = all_front IsSoundPlace ps others g in
     let r = unbroken_statement s front (others ++ more) (subst (IsOrdered []) (append_assoc ps others more) h) in
-    let next = begun t (all_behind IsSound ps others g) more r.ordered in
+    let next = begun t (all_behind IsSoundPlace ps others g) more r.ordered in
     let is_more : IsMore (first ws) = subst (λ (x : Words). IsMore (first x)) (sym next.split) (labels_more next.labelled next.vs next.begins.2) in
     record {
       us = us;
@@ -77,11 +77,11 @@ begun (first_statement us vs ws ls ps others l s t) g more h =
     }
 
 -- two numbers that are a reservation's are one whatever is read as the second
-reserved_with : (d : Made) (ws left : Words) (e : Made) → Descends Prim ws (found e left) → IsReservation (number_in (expression_in d), number_in (expression_in e)) → IsReservedWith d ws
+reserved_with : (d : Made) (ws left : Words) (e : Made) → Descends Prim ws (found e left) → IsReservation (value_or_zero (expression_in d), value_or_zero (expression_in e)) → IsReservedWith d ws
 reserved_with d ws left e r h y left' s n =
-    subst (λ (x : Outcome). IsReservation (number_in (expression_in d), number_in (expression_in (made_of e x)))) (deterministic r s) h
+    subst (λ (x : Outcome). IsReservation (value_or_zero (expression_in d), value_or_zero (expression_in (made_of e x)))) (deterministic r s) h
 
-unbroken_behind : {ws : Words} {rs : List RawReserve} {ps : List RawPlace} → Behind ws rs ps → AllByRecursion IsReserve rs → AllByRecursion IsSound ps → IsOrdered [] (ps ++ []) → Unbroken outside Top ws (made_behind rs ps) []
+unbroken_behind : {ws : Words} {rs : List RawReserve} {ps : List RawPlace} → Behind ws rs ps → AllByRecursion IsReserve rs → AllByRecursion IsSoundPlace ps → IsOrdered [] (ps ++ []) → Unbroken outside Top ws (made_behind rs ps) []
 unbroken_behind (no_more_reserves ws ps t) r g h =
     let s = begun t g [] h in
     unbroken_on outside Top ws (s.us ++ s.vs) _ [] s.split

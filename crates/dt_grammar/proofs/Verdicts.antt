@@ -10,11 +10,11 @@ use Rattle.dt_lex.specs.declared.token.Keyword.TheVariants as keyword
 use Rattle.dt_expr.specs.Expression.{value}
 use Rattle.dt_expr.specs.Fits.{Fits}
 use Rattle.dt_grammar.specs.Words.{Words}
-use Rattle.dt_grammar.specs.Unchecked.{a_label, a_path, number_in}
+use Rattle.dt_grammar.specs.Unchecked.{a_label, a_path, value_or_zero}
 use Rattle.dt_grammar.specs.Strict.{IsNumber}
 use Rattle.dt_grammar.specs.Wanted.{Made, size_in, expression_in, kind_at, bytes_at, Wanted, SomeLabels, SomeCells, SomeBytes, OneItem, AfterMemberLabels, AfterName, AfterAddress, BlockOpen, DeletedProperty, DeletedChild, DeletedNode, OneStatement, Prim, Whole, Move, give, refuse, want}
 use Rattle.dt_grammar.specs.Descent.{move_at, first, after, found, stuck, refuses, part_stuck, Descends}
-use Rattle.dt_grammar.specs.Faults.{Around, outside, within, label_named, reference_named, cell_named, name_before, member_named, deleted_named, IsNamed, cell_placed, IsBeforeChildren, name_placed, member_placed, body_placed, IsReservedWith, IsPlaced, unwanted, unnamed, unplaced, Passes, cut_off, unended, too_long, valueless, too_large, IsFine, IsNoNumber, Breaks, shows, in_number, in_part, behind_part}
+use Rattle.dt_grammar.specs.Faults.{Around, outside, within, label_named, reference_named, cell_named, name_before, member_named, deleted_named, IsFaultNamed, cell_placed, IsBeforeChildren, name_placed, member_placed, body_placed, IsReservedWith, IsPlaced, unwanted, unnamed, unplaced, Passes, cut_off, unended, too_long, valueless, too_large, IsFine, IsNoNumber, Breaks, shows, in_number, in_part, behind_part}
 use Rattle.dt_grammar.proofs.Descent.{by_move}
 use Rattle.dt_grammar.proofs.Stepping.{given, part_then}
 use Rattle.dt_grammar.proofs.OneFault.{not_both, same_made}
@@ -84,7 +84,7 @@ abbrev knows_deleted : (P : List ℕ → Type 0) → ((b : List ℕ) → Known (
 knows_deleted P known b (Some kind.Name) (Some (kind.Mark mark.Semicolon)) = known b
 knows_deleted P known b _ _ = holds tt
 
-abbrev is_named : (g : Wanted) (ws : Words) → Known (IsNamed g ws)
+abbrev is_named : (g : Wanted) (ws : Words) → Known (IsFaultNamed g ws)
 is_named SomeLabels ws = knows_label (bytes_at (first ws)) (kind_at (first ws))
 is_named SomeCells ws = knows_cell (bytes_at (first ws)) (kind_at (first ws))
 is_named SomeBytes ws = knows_label (bytes_at (first ws)) (kind_at (first ws))
@@ -122,7 +122,7 @@ knows_body_place bodies _ = holds tt
 
 module _ (x : Made) (ws : Words) where
   abbrev Pair : Made → Type 0
-  Pair y = IsReservation (number_in (expression_in x), number_in (expression_in y))
+  Pair y = IsReservation (value_or_zero (expression_in x), value_or_zero (expression_in y))
 
   abbrev IsSecond : Made → Type 0
   IsSecond y = IsNumber (size_in y) (expression_in y)
@@ -144,7 +144,7 @@ module _ (x : Made) (ws : Words) where
   by_second m left d unknown p = unknown
 
   abbrev knows_reserved : Read Prim ws → Known (IsReservedWith x ws)
-  knows_reserved (makes m left d) = by_second m left d (is_number (size_in m) (expression_in m)) (is_reservation (number_in (expression_in x), number_in (expression_in m)))
+  knows_reserved (makes m left d) = by_second m left d (is_number (size_in m) (expression_in m)) (is_reservation (value_or_zero (expression_in x), value_or_zero (expression_in m)))
   knows_reserved (sticks left d) = holds (no_second left d)
   knows_reserved unread = unknown
 
@@ -174,13 +174,13 @@ module _ (a : Around) (ws : Words) where
   number_cut left d unknown = untold
 
   module _ (m : Made) (left : Words) (d : Descends Prim ws (found m left)) where
-    abbrev number_range : IsNumber (size_in m) (expression_in m) → Known (Fits a.bits (number_in (expression_in m))) → Known (IsFine a m) → Verdict a Prim ws
+    abbrev number_range : IsNumber (size_in m) (expression_in m) → Known (Fits a.bits (value_or_zero (expression_in m))) → Known (IsFine a m) → Verdict a Prim ws
     number_range n (fails h) f = breaks _ _ (in_number a ws _ _ (too_large m left d n h))
     number_range n _ (holds f) = passes m left d f
     number_range n _ _ = untold
 
     abbrev number_worth : Known (IsNumber (size_in m) (expression_in m)) → Verdict a Prim ws
-    number_worth (holds n) = number_range n (fits a.bits (number_in (expression_in m))) (is_fine a m)
+    number_worth (holds n) = number_range n (fits a.bits (value_or_zero (expression_in m))) (is_fine a m)
     number_worth _ = untold
 
     abbrev number_valued : size_in m ≤ 1024 → (v : Option ℕ) → value (expression_in m) ≡ v → Verdict a Prim ws
@@ -218,12 +218,12 @@ module _ (a : Around) (g : Wanted) (ws : Words) (n : IsNoNumber g) (again : (b :
     told_by refuse e = breaks _ ws (shows a g ws _ (unwanted e))
     told_by (want taken part whole) e = told_part taken part whole e (again (within g a) part (after taken ws))
 
-  abbrev told_placed : IsNamed g ws → Known (IsPlaced a g ws) → Verdict a g ws
+  abbrev told_placed : IsFaultNamed g ws → Known (IsPlaced a g ws) → Verdict a g ws
   told_placed h (holds p) = told_by (record { named = h; placed = p }) (move_at g (first ws)) refl
   told_placed h (fails q) = breaks _ ws (shows a g ws _ (unplaced h q))
   told_placed h unknown = untold
 
-  abbrev told_named : Known (IsNamed g ws) → Verdict a g ws
+  abbrev told_named : Known (IsFaultNamed g ws) → Verdict a g ws
   told_named (holds h) = told_placed h (is_placed a g ws)
   told_named (fails q) = breaks _ ws (shows a g ws _ (unnamed q))
   told_named unknown = untold

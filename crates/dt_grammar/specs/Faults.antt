@@ -14,8 +14,8 @@ use Rattle.dt_lex.specs.declared.token.Keyword.TheVariants as keyword
 use Rattle.dt_expr.specs.Expression.{value}
 use Rattle.dt_expr.specs.Fits.{Fits}
 use Rattle.dt_grammar.specs.Words.{Words}
-use Rattle.dt_grammar.specs.Unchecked.{a_label, a_path, RawPlace, raw_child, raw_delete_child, number_in}
-use Rattle.dt_grammar.specs.Strict.{IsLabelText, AreLabelTexts, IsReferenceText, IsNumber, IsCell, IsItem, IsComponent, IsSound, IsOrdered, IsReserve, IsStrict}
+use Rattle.dt_grammar.specs.Unchecked.{a_label, a_path, RawPlace, raw_child, raw_delete_child, value_or_zero}
+use Rattle.dt_grammar.specs.Strict.{IsLabelText, AreLabelTexts, IsReferenceText, IsNumber, IsCell, IsItem, IsComponent, IsSoundPlace, IsOrdered, IsReserve, IsStrict}
 use Rattle.dt_grammar.specs.Wanted.{Made, made_expression, made_labels, made_cells, made_item, made_value, made_places, made_behind, made_source, size_in, expression_in, Wanted, AfterAddress, AfterMemberLabels, AfterName, BitsOpen, BlockOpen, DeletedChild, DeletedNode, DeletedProperty, More, OneItem, OneStatement, Prim, SomeBytes, SomeCells, SomeLabels, refuse, want, kind_at, bytes_at}
 use Rattle.dt_grammar.specs.Descent.{move_at, first, after, found, stuck, Descends}
 
@@ -87,17 +87,17 @@ abbrev pub deleted_named : (List ℕ → Type 0) → List ℕ → Option TokenKi
 deleted_named P b (Some kind.Name) (Some (kind.Mark mark.Semicolon)) = P b
 deleted_named P b _ _ = Unit {0}
 
-abbrev pub IsNamed : Wanted → Words → Type 0
-IsNamed SomeLabels ws = label_named (bytes_at (first ws)) (kind_at (first ws))
-IsNamed SomeCells ws = cell_named (bytes_at (first ws)) (kind_at (first ws))
-IsNamed SomeBytes ws = label_named (bytes_at (first ws)) (kind_at (first ws))
-IsNamed OneItem ws = reference_named (bytes_at (first ws)) (kind_at (first ws))
-IsNamed (OneStatement ls) ws = reference_named (bytes_at (first ws)) (kind_at (first ws))
-IsNamed DeletedNode ws = reference_named (bytes_at (first ws)) (kind_at (first ws))
-IsNamed (AfterMemberLabels ls) ws = member_named (bytes_at (first ws)) (kind_at (first ws)) (kind_at (first (after true ws)))
-IsNamed (DeletedProperty ls) ws = deleted_named IsPropertyName (bytes_at (first ws)) (kind_at (first ws)) (kind_at (first (after true ws)))
-IsNamed (DeletedChild ls) ws = deleted_named IsNodeName (bytes_at (first ws)) (kind_at (first ws)) (kind_at (first (after true ws)))
-IsNamed _ ws = Unit {0}
+abbrev pub IsFaultNamed : Wanted → Words → Type 0
+IsFaultNamed SomeLabels ws = label_named (bytes_at (first ws)) (kind_at (first ws))
+IsFaultNamed SomeCells ws = cell_named (bytes_at (first ws)) (kind_at (first ws))
+IsFaultNamed SomeBytes ws = label_named (bytes_at (first ws)) (kind_at (first ws))
+IsFaultNamed OneItem ws = reference_named (bytes_at (first ws)) (kind_at (first ws))
+IsFaultNamed (OneStatement ls) ws = reference_named (bytes_at (first ws)) (kind_at (first ws))
+IsFaultNamed DeletedNode ws = reference_named (bytes_at (first ws)) (kind_at (first ws))
+IsFaultNamed (AfterMemberLabels ls) ws = member_named (bytes_at (first ws)) (kind_at (first ws)) (kind_at (first (after true ws)))
+IsFaultNamed (DeletedProperty ls) ws = deleted_named IsPropertyName (bytes_at (first ws)) (kind_at (first ws)) (kind_at (first (after true ws)))
+IsFaultNamed (DeletedChild ls) ws = deleted_named IsNodeName (bytes_at (first ws)) (kind_at (first ws)) (kind_at (first (after true ws)))
+IsFaultNamed _ ws = Unit {0}
 
 -- ---- what else holds there
 
@@ -129,7 +129,7 @@ body_placed bodies _ = Unit {0}
 -- two numbers, of which the second stands at the front, are a reservation's: one of them isn't 0
 abbrev pub IsReservedWith : Made → Words → Type 0
 IsReservedWith x ws = (y : Made) (left : Words) → Descends Prim ws (found y left) → IsNumber (size_in y) (expression_in y) →
-    IsReservation (number_in (expression_in x), number_in (expression_in y))
+    IsReservation (value_or_zero (expression_in x), value_or_zero (expression_in y))
 
 abbrev pub IsPlaced : Around → Wanted → Words → Type 0
 IsPlaced a SomeCells ws = cell_placed a.bits (kind_at (first ws))
@@ -152,12 +152,12 @@ misplaced _ = fault.Limit
 -- a fault that shows at the front where something is wanted that isn't a number
 pub data Shows (a : Around) (g : Wanted) (ws : Words) : FaultKind → Type 0 where
   unwanted : move_at g (first ws) ≡ refuse → Shows a g ws fault.Syntax
-  unnamed : ¬ IsNamed g ws → Shows a g ws fault.BadName
-  unplaced : IsNamed g ws → ¬ IsPlaced a g ws → Shows a g ws (misplaced g)
+  unnamed : ¬ IsFaultNamed g ws → Shows a g ws fault.BadName
+  unplaced : IsFaultNamed g ws → ¬ IsPlaced a g ws → Shows a g ws (misplaced g)
 
 -- none shows there
 pub record Passes (a : Around) (g : Wanted) (ws : Words) : Type 0 where
-  pub named : IsNamed g ws
+  pub named : IsFaultNamed g ws
   pub placed : IsPlaced a g ws
 
 -- A fault of a number: one of its first 1,025 tokens can't stand there; it has more than 1,024; or it is complete, and divides
@@ -168,20 +168,20 @@ pub data NumberBreaks (bits : ℕ) (ws : Words) : FaultKind → Words → Type 0
   too_long : (m : Made) (left : Words) → Descends Prim ws (found m left) → most_tokens < size_in m → NumberBreaks bits ws fault.Limit (drop most_tokens ws)
   valueless : (m : Made) (left : Words) → Descends Prim ws (found m left) → size_in m ≤ most_tokens → value (expression_in m) ≡ None →
       NumberBreaks bits ws fault.DivideByZero ws
-  too_large : (m : Made) (left : Words) → Descends Prim ws (found m left) → IsNumber (size_in m) (expression_in m) → ¬ Fits bits (number_in (expression_in m)) →
+  too_large : (m : Made) (left : Words) → Descends Prim ws (found m left) → IsNumber (size_in m) (expression_in m) → ¬ Fits bits (value_or_zero (expression_in m)) →
       NumberBreaks bits ws fault.OutOfRange ws
 
 -- ---- reading on
 
 -- no fault shows in what was made
 abbrev pub IsFine : Around → Made → Type 0
-IsFine a (made_expression size e) = IsNumber size e × Fits a.bits (number_in e)
+IsFine a (made_expression size e) = IsNumber size e × Fits a.bits (value_or_zero e)
 IsFine a (made_labels ls) = AreLabelTexts ls
 IsFine a (made_cells cs) = AllByRecursion (IsCell a.bits) cs
 IsFine a (made_item i) = IsItem i
 IsFine a (made_value cs) = AllByRecursion IsComponent cs
-IsFine a (made_places ps) = AllByRecursion IsSound ps × IsOrdered a.bodies ps
-IsFine a (made_behind rs ps) = AllByRecursion IsReserve rs × AllByRecursion IsSound ps × IsOrdered a.bodies ps
+IsFine a (made_places ps) = AllByRecursion IsSoundPlace ps × IsOrdered a.bodies ps
+IsFine a (made_behind rs ps) = AllByRecursion IsReserve rs × AllByRecursion IsSoundPlace ps × IsOrdered a.bodies ps
 IsFine a (made_source s) = IsStrict s
 
 -- anything but a number, whose faults are told of the whole

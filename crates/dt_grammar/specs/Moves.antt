@@ -10,7 +10,7 @@ use Rattle.dt_expr.specs.Expression.{number, one_operand, two_operands, conditio
 use Rattle.dt_grammar.specs.Words.{level_of}
 use Rattle.dt_grammar.specs.Unchecked.{a_label, a_path, RawCell, label_cell, reference_cell, byte_cell, RawItem, cell_item, text_item, byte_item, path_item, RawComponent, RawPlace, raw_root, raw_block, raw_delete_node, raw_child, raw_label, raw_property, raw_delete_property, raw_delete_child, raw_close, RawReserve}
 use Rattle.dt_grammar.specs.Relaxed.{is_width}
-use Rattle.dt_grammar.specs.Wanted.{AfterAddress, AfterCell, AfterLeft, AfterName, AfterThis, Any, BitsNumber, BitsOpen, BlockClose, BlockOpen, BytesEnd, CellsEnd, Closing, DeletedChild, DeletedNode, DeletedProperty, Done, Ending, Level, Made, More, MoreHeaders, Move, NextVersion, OneValue, PluginEnd, Prefix, Prim, SomeBytes, SomeCells, SomeLabels, SomeMembers, SomeStatements, StatementThen, Top, Wanted, cells_in, expression_in, give, labels_in, made_behind, made_cells, made_expression, made_item, made_labels, made_places, made_source, made_value, places_in, refuse, reserves_in, size_in, value_in, want}
+use Rattle.dt_grammar.specs.Wanted.{AfterAddress, AfterCell, AfterLeft, AfterName, AfterThis, Any, BitsNumber, BitsOpen, BlockClose, BlockOpen, BytesEnd, CellsEnd, Closing, DeletedChild, DeletedNode, DeletedProperty, Done, Ending, Level, Made, More, MoreHeaders, Move, NextVersion, OneValue, PluginEnd, Prefix, Prim, SomeBytes, SomeCells, SomeLabels, SomeMembers, SomeStatements, StatementThen, Top, Wanted, cells_in, expression_in, give, labels_in, made_behind, made_cells, made_expression, made_item, made_labels, made_places, made_source, made_value, places_in, refuse, reserves_in, size_in, components_in, want}
 
 -- ---- expressions
 
@@ -102,7 +102,7 @@ abbrev pub component_of : List (List ℕ) → RawItem → Made → RawComponent
 component_of ls i x = record { before = ls; item = i; behind = labels_in x }
 
 abbrev pub at_comma : RawComponent → Option TokenKind → Move
-at_comma c (Some (kind.Mark mark.Comma)) = want true OneValue (λ x. Done (made_value (c ∷ value_in x)))
+at_comma c (Some (kind.Mark mark.Comma)) = want true OneValue (λ x. Done (made_value (c ∷ components_in x)))
 at_comma c _ = give false (made_value (c ∷ []))
 
 -- ---- bodies
@@ -123,7 +123,7 @@ at_member ls b _ = no_member ls
 
 abbrev pub at_name : List (List ℕ) → List ℕ → Option TokenKind → Move
 at_name ls n (Some (kind.Mark mark.Semicolon)) = give true (made_places (raw_property ls n [] ∷ []))
-at_name ls n (Some (kind.Mark mark.Equals)) = want true OneValue (λ x. Ending (raw_property ls n (value_in x) ∷ []))
+at_name ls n (Some (kind.Mark mark.Equals)) = want true OneValue (λ x. Ending (raw_property ls n (components_in x) ∷ []))
 at_name ls n (Some (kind.Mark mark.OpenBrace)) = want false (BlockOpen (raw_child n ∷ map raw_label ls)) Done
 at_name ls n _ = refuse
 

@@ -20,9 +20,9 @@ abbrev pub IsTagged : Words → Type 0
 IsTagged ws = (kind_at (first ws) ≡ Some (kind.Keyword keyword.Version)) × (kind_at (first (after true ws)) ≡ Some (kind.Mark mark.Semicolon))
 
 -- the first byte of the first of these tokens, or the end of the text where there is none
-abbrev pub place_of : List ℕ → List Token → ℕ
-place_of text [] = length text
-place_of text (t ∷ ts) = t.start
+abbrev pub token_place : List ℕ → List Token → ℕ
+token_place text [] = length text
+token_place text (t ∷ ts) = t.start
 
 -- a limit tells no place
 abbrev pub told_at : FaultKind → ℕ → Option ℕ
@@ -44,4 +44,4 @@ pub data WhyNotParsed (text : List ℕ) : Fault → Type 0 where
       WhyNotParsed text (record { kind = fault.BadVersionTag; at = Some 0 })
   broken : (tokens before left : List Token) (k : FaultKind) → length text ≤ most_bytes → IsLexed text (Ok tokens) → IsTagged (words_of text tokens) → tokens ≡ before ++ left →
       Breaks outside Whole (words_of text tokens) k (words_of text left) →
-      WhyNotParsed text (record { kind = k; at = told_at k (place_of text left) })
+      WhyNotParsed text (record { kind = k; at = told_at k (token_place text left) })

@@ -7,7 +7,7 @@ use Rattle.dt_model.specs.Valid.{IsReservation}
 use Rattle.dt_expr.specs.Expression.{Expression, value}
 use Rattle.dt_expr.specs.Fits.{Fits}
 use Rattle.dt_grammar.specs.Words.{IsReferenceWord}
-use Rattle.dt_grammar.specs.Unchecked.{Target, RawCell, label_cell, number_cell, reference_cell, byte_cell, RawItem, cell_item, text_item, byte_item, path_item, RawComponent, RawPlace, raw_root, raw_block, raw_delete_node, raw_child, raw_label, raw_property, raw_delete_property, raw_delete_child, raw_close, RawReserve, RawSource, all_but_last, reference_in, number_in, reserve_of}
+use Rattle.dt_grammar.specs.Unchecked.{Target, RawCell, label_cell, number_cell, reference_cell, byte_cell, RawItem, cell_item, text_item, byte_item, path_item, RawComponent, RawPlace, raw_root, raw_block, raw_delete_node, raw_child, raw_label, raw_property, raw_delete_property, raw_delete_child, raw_close, RawReserve, RawSource, all_but_last, reference_in, value_or_zero, reserve_of}
 use Rattle.dt_grammar.specs.Relaxed.{a_reference}
 
 -- a label and `:`
@@ -24,11 +24,11 @@ IsReferenceText target bytes = IsReferenceWord (a_reference target bytes) (refer
 -- an expression of so many tokens, which has a value
 pub record IsNumber (size : ℕ) (e : Expression) : Type 0 where
   pub few : size ≤ most_tokens
-  pub evaluated : value e ≡ Some (number_in e)
+  pub evaluated : value e ≡ Some (value_or_zero e)
 
 abbrev pub IsCell : ℕ → RawCell → Type 0
 IsCell bits (label_cell bytes) = IsLabelText bytes
-IsCell bits (number_cell size e) = IsNumber size e × Fits bits (number_in e)
+IsCell bits (number_cell size e) = IsNumber size e × Fits bits (value_or_zero e)
 IsCell bits (reference_cell target bytes) = (bits ≡ 32) × IsReferenceText target bytes
 IsCell bits (byte_cell b) = Unit {0}
 
@@ -43,16 +43,16 @@ pub record IsComponent (c : RawComponent) : Type 0 where
   pub item : IsItem c.item
   pub behind : AreLabelTexts c.behind
 
-abbrev pub IsSound : RawPlace → Type 0
-IsSound raw_root = Unit {0}
-IsSound (raw_block target bytes) = IsReferenceText target bytes
-IsSound (raw_delete_node target bytes) = IsReferenceText target bytes
-IsSound (raw_child bytes) = IsNodeName bytes
-IsSound (raw_label bytes) = IsLabelText bytes
-IsSound (raw_property ls bytes components) = AreLabelTexts ls × IsPropertyName bytes × AllByRecursion IsComponent components
-IsSound (raw_delete_property ls bytes) = AreLabelTexts ls × IsPropertyName bytes
-IsSound (raw_delete_child ls bytes) = AreLabelTexts ls × IsNodeName bytes
-IsSound raw_close = Unit {0}
+abbrev pub IsSoundPlace : RawPlace → Type 0
+IsSoundPlace raw_root = Unit {0}
+IsSoundPlace (raw_block target bytes) = IsReferenceText target bytes
+IsSoundPlace (raw_delete_node target bytes) = IsReferenceText target bytes
+IsSoundPlace (raw_child bytes) = IsNodeName bytes
+IsSoundPlace (raw_label bytes) = IsLabelText bytes
+IsSoundPlace (raw_property ls bytes components) = AreLabelTexts ls × IsPropertyName bytes × AllByRecursion IsComponent components
+IsSoundPlace (raw_delete_property ls bytes) = AreLabelTexts ls × IsPropertyName bytes
+IsSoundPlace (raw_delete_child ls bytes) = AreLabelTexts ls × IsNodeName bytes
+IsSoundPlace raw_close = Unit {0}
 
 -- Of each open body, the innermost first, whether a child stood in it: behind a child stands no property, and a child's body is
 -- inside 64 others at most
@@ -81,5 +81,5 @@ pub record IsReserve (r : RawReserve) : Type 0 where
 
 pub record IsStrict (s : RawSource) : Type 0 where
   pub reserves : AllByRecursion IsReserve s.reserves
-  pub places : AllByRecursion IsSound s.places
+  pub places : AllByRecursion IsSoundPlace s.places
   pub ordered : IsOrdered [] s.places

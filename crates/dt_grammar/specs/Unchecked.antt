@@ -92,12 +92,12 @@ abbrev pub width_of : ℕ → Width
 width_of bits = if bits == 8 then w8 else (if bits == 16 then w16 else (if bits == 64 then w64 else w32))
 
 -- the value, 0 where there is none
-abbrev pub number_in : Expression → ℕ
-number_in e = option_map_or (λ n. n) (value e) 0
+abbrev pub value_or_zero : Expression → ℕ
+value_or_zero e = option_map_or (λ n. n) (value e) 0
 
 abbrev pub cell_parts : ℕ → RawCell → List Part
 cell_parts bits (label_cell bytes) = []
-cell_parts bits (number_cell size e) = map one (to_be_bytes (width_of bits) (element bits (number_in e)))
+cell_parts bits (number_cell size e) = map one (to_be_bytes (width_of bits) (element bits (value_or_zero e)))
 cell_parts bits (reference_cell target bytes) = number_of (reference_in target bytes) ∷ []
 cell_parts bits (byte_cell b) = one b ∷ []
 
@@ -115,19 +115,19 @@ abbrev pub value_parts : List RawComponent → List Part
 value_parts [] = []
 value_parts (c ∷ components) = item_parts c.item ++ value_parts components
 
-abbrev pub place_of : RawPlace → Place
-place_of raw_root = root
-place_of (raw_block target bytes) = block (reference_in target bytes)
-place_of (raw_delete_node target bytes) = delete_node (reference_in target bytes)
-place_of (raw_child bytes) = child bytes
-place_of (raw_label bytes) = label (all_but_last bytes)
-place_of (raw_property labels bytes components) = property bytes (value_parts components)
-place_of (raw_delete_property labels bytes) = delete_property bytes
-place_of (raw_delete_child labels bytes) = delete_child bytes
-place_of raw_close = close
+abbrev pub place_meant : RawPlace → Place
+place_meant raw_root = root
+place_meant (raw_block target bytes) = block (reference_in target bytes)
+place_meant (raw_delete_node target bytes) = delete_node (reference_in target bytes)
+place_meant (raw_child bytes) = child bytes
+place_meant (raw_label bytes) = label (all_but_last bytes)
+place_meant (raw_property labels bytes components) = property bytes (value_parts components)
+place_meant (raw_delete_property labels bytes) = delete_property bytes
+place_meant (raw_delete_child labels bytes) = delete_child bytes
+place_meant raw_close = close
 
 abbrev pub reserve_of : RawReserve → ℕ × ℕ
-reserve_of r = (number_in r.address, number_in r.length)
+reserve_of r = (value_or_zero r.address, value_or_zero r.length)
 
 abbrev pub says_of : RawSource → Says
-says_of s = record { plugin = s.plugin; reservations = map reserve_of s.reserves; places = map place_of s.places }
+says_of s = record { plugin = s.plugin; reservations = map reserve_of s.reserves; places = map place_meant s.places }

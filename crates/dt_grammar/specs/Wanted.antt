@@ -38,9 +38,9 @@ abbrev pub item_in : Made → RawItem
 item_in (made_item i) = i
 item_in _ = text_item []
 
-abbrev pub value_in : Made → List RawComponent
-value_in (made_value cs) = cs
-value_in _ = []
+abbrev pub components_in : Made → List RawComponent
+components_in (made_value cs) = cs
+components_in _ = []
 
 abbrev pub places_in : Made → List RawPlace
 places_in (made_places ps) = ps

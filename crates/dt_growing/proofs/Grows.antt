@@ -9,7 +9,7 @@ use Rattle.dt_model.specs.Source.{Part, Events}
 use Rattle.dt_items.specs.Said.{value_said}
 use Rattle.dt_growing.specs.Shape.{node_at, property_at, given_at, Shows}
 use Rattle.dt_growing.specs.Grown.{HasValue, HasLabel, IsGrown}
-use Rattle.dt_growing.specs.Growing.{properties_listed, shape, IsSound}
+use Rattle.dt_growing.specs.Growing.{properties_listed, shape, IsSoundGrowing}
 use Rattle.dt_growing.specs.Table.{name_entry}
 use Rattle.dt_growing.specs.declared.growing.Property.{Property}
 use Rattle.dt_growing.specs.declared.growing.Growing.{Growing}
@@ -21,7 +21,7 @@ some_is : {A : Type 0} (o : Option A) → is_some o ≡ true → (a : A) × (o �
 some_is None h = cc
 some_is (Some a) h = (a, refl)
 
-module _ (g : Growing) (h : IsSound g) where
+module _ (g : Growing) (h : IsSoundGrowing g) where
   -- a value of a node that stands is the one that is found
   pub value_to : (p : Stack) (x : Name) (v : List Part) (i : ℕ) → HasValue g.nodes.items g.properties.items p x v i → (property_at (shape g) (p, x) ≡ Some i) × ((shape g).value i ≡ Some v)
   value_to p x v i e =

@@ -11,7 +11,7 @@ use Rattle.dt_model.proofs.EventSteps.{bytes_eq-is, bytes_eq-refl}
 use Rattle.dt_growing.specs.Grown.{name_said}
 use Rattle.dt_growing.specs.Table.{Key, Puts, name_entry, PutsName}
 use Rattle.dt_growing.specs.Shape.{Shape, node_at, given_at, IsForest}
-use Rattle.dt_growing.specs.Growing.{found, nodes_listed, properties_listed, HasNodes, HasProperties, HasLabels, to_node, given_to, shape, IsSound}
+use Rattle.dt_growing.specs.Growing.{found, nodes_listed, properties_listed, HasNodes, HasProperties, HasLabels, to_node, given_to, shape, IsSoundGrowing}
 use Rattle.dt_growing.specs.declared.table.Last.{Last}
 use Rattle.dt_growing.specs.declared.growing.Node.{Node}
 use Rattle.dt_growing.specs.declared.growing.Property.{Property}
@@ -298,7 +298,7 @@ labels-given s t givings more g old new w size same given h inside alone puts in
 
 -- ---- a sound tree is a forest
 
-pub forest : (g : Growing) → IsSound g → IsForest (shape g)
+pub forest : (g : Growing) → IsSoundGrowing g → IsForest (shape g)
 forest g h = record {
   edge = λ i x j e. let c = is_child g.nodes.items g.children.map.entries h.nodes i x j e in (c.below, c.inside);
   once = λ i x k y j e e'.

@@ -8,11 +8,11 @@ use Rattle.dt_model.specs.Names.{Name}
 use Rattle.dt_model.specs.Path.{path_eq}
 use Rattle.dt_model.specs.Event.{Stack, is_within}
 use Rattle.dt_model.proofs.EventSteps.{path_eq-is, path_eq-refl}
-use Rattle.dt_growing.specs.Shape.{Shape, root_of, node_at, IsForest, MakesRoot, AddsChild, Cuts}
+use Rattle.dt_growing.specs.Shape.{Shape, root_index, node_at, IsForest, MakesRoot, AddsChild, Cuts}
 use Rattle.dt_model.proofs.Cases.{bool_cases}
 use Rattle.dt_growing.proofs.TableLemmas.{key_is, key-refl}
 
-pub root_is : (n i : ℕ) → root_of n ≡ Some i → (i ≡ 0) × (0 < n)
+pub root_is : (n i : ℕ) → root_index n ≡ Some i → (i ≡ 0) × (0 < n)
 root_is n i h = bool_cases (nat_eq n 0) _ (λ yes. let e : cond true None (Some 0) ≡ Some i = rw yes at h in cc)
     (λ no. let e : Some 0 ≡ Some i = rw no at h in
     (cc, let ne : n ≡ 0 → ⊥ = λ z. let y : nat_eq n 0 ≡ true = eq-eqb n 0 z in cc in omega arith))
@@ -21,7 +21,7 @@ pub option_cases : (o : Option ℕ) (P : Type 0) → (o ≡ None → P) → ((i 
 option_cases None P f g = f refl
 option_cases (Some i) P f g = g i refl
 
-pub root_there : (n : ℕ) → 0 < n → root_of n ≡ Some 0
+pub root_there : (n : ℕ) → 0 < n → root_index n ≡ Some 0
 root_there n h = bool_cases (nat_eq n 0) _ (λ yes. let z : n ≡ 0 = eqb-true n 0 yes in absurd (omega arith)) (λ no. rw no refl)
 
 no_loop : (p : Stack) (x : Name) → x ∷ p ≡ p → ⊥
@@ -46,7 +46,7 @@ same_then f g h (Some a) = h a
 module _ {V : Type 0} where
   -- with the same children, the same walks
   pub node_at-same : (s t : Shape V) → t.size ≡ s.size → ((i : ℕ) (x : Name) → t.child i x ≡ s.child i x) → (p : Stack) → node_at t p ≡ node_at s p
-  node_at-same s t e h [] = ap root_of e
+  node_at-same s t e h [] = ap root_index e
   node_at-same s t e h (x ∷ p) =
       ap (option_and_then (λ i. t.child i x)) (node_at-same s t e h p) ∙ same_then (λ i. t.child i x) (λ i. s.child i x) (λ i. h i x) (node_at s p)
 
@@ -91,8 +91,8 @@ module _ {V : Type 0} where
       → (p : Stack) → node_at t p ≡ cond (path_eq (y ∷ q) p) (Some s.size) (node_at s p)
   node_at-added s t f q a y at none item o [] =
       let b : a < s.size = node_at_below s f q a at in
-      let z : root_of t.size ≡ Some 0 = rw o.size (root_there (s.size + 1) (omega arith)) in
-      let z' : root_of s.size ≡ Some 0 = root_there s.size (omega arith) in
+      let z : root_index t.size ≡ Some 0 = rw o.size (root_there (s.size + 1) (omega arith)) in
+      let z' : root_index s.size ≡ Some 0 = root_there s.size (omega arith) in
       z ∙ sym z'
   node_at-added s t f q a y at none item o (x ∷ p) =
       let hyp : node_at t p ≡ cond (path_eq (y ∷ q) p) (Some s.size) (node_at s p) = node_at-added s t f q a y at none item o p in
@@ -154,7 +154,7 @@ module _ {V : Type 0} where
   -- after the child y of q's node was cut off, no names at or below it lead anywhere, and all others lead where they led
   pub node_at-cut : (s t : Shape V) → IsForest s → (q : Stack) (a : ℕ) (y : Name) → node_at s q ≡ Some a → Cuts s t a y
       → (p : Stack) → node_at t p ≡ cond (is_within (y ∷ q) p) None (node_at s p)
-  node_at-cut s t f q a y at o [] = ap root_of o.size
+  node_at-cut s t f q a y at o [] = ap root_index o.size
   node_at-cut s t f q a y at o (x ∷ p) =
       let hyp : node_at t p ≡ cond (is_within (y ∷ q) p) None (node_at s p) = node_at-cut s t f q a y at o p in
       bool_cases (is_within (y ∷ q) p) _

@@ -130,7 +130,7 @@ pub record HasLabels (s : Shape (List Part)) (givings : List Giving) (labels : L
   pub owned : (k : ℕ) (g : Giving) → slice_get givings k ≡ Some g → g.node < s.size
   pub latest : (p : Stack) (k : ℕ) (g : Giving) → slice_get givings k ≡ Some g → node_at s p ≡ Some g.node → name_entry labels g.label.now ≡ Some k
 
-pub record IsSound (g : Growing) : Type 0 where
+pub record IsSoundGrowing (g : Growing) : Type 0 where
   pub nodes : HasNodes g.nodes.items g.children.map.entries
   pub properties : HasProperties (length g.nodes.items) g.properties.items g.indices.map.entries
   pub labels : HasLabels (shape g) g.givings.items g.labels.map.entries

@@ -20,10 +20,10 @@ name_said (Written x) = x.now
 name_said (Made x) = x.now
 
 -- node k stands under these names
-abbrev pub Leads : List Node → Stack → ℕ → Type 0
-Leads nodes [] k = (k ≡ 0) × (0 < length nodes)
-Leads nodes (x ∷ p) k =
-    (n : Node) × (slice_get nodes k ≡ Some n) × (0 < k) × (name_said n.name ≡ x) × (n.stands ≡ true) × Leads nodes p n.parent
+abbrev pub StandsUnder : List Node → Stack → ℕ → Type 0
+StandsUnder nodes [] k = (k ≡ 0) × (0 < length nodes)
+StandsUnder nodes (x ∷ p) k =
+    (n : Node) × (slice_get nodes k ≡ Some n) × (0 < k) × (name_said n.name ≡ x) × (n.stands ≡ true) × StandsUnder nodes p n.parent
 
 -- entry i is the property of this name and value of the node that stands under these names
 pub record HasValue (nodes : List Node) (properties : List Property) (p : Stack) (x : Name) (v : List Part) (i : ℕ) : Type 0 where
@@ -32,23 +32,23 @@ pub record HasValue (nodes : List Node) (properties : List Property) (p : Stack)
   pub stands : property.stands ≡ true
   pub named : property.name.now ≡ x
   pub value : value_said property.value.now ≡ v
-  pub node : Leads nodes p property.node
+  pub node : StandsUnder nodes p property.node
 
 -- entry i gives the label to the node that stands under these names
 pub record HasLabel (nodes : List Node) (givings : List Giving) (l : Name) (p : Stack) (i : ℕ) : Type 0 where
   pub giving : Giving
   pub there : slice_get givings i ≡ Some giving
   pub label : giving.label.now ≡ l
-  pub node : Leads nodes p giving.node
+  pub node : StandsUnder nodes p giving.node
 
 -- The entries that stand are the nodes, the values and the labels after the events, each once and in their order.
 pub record IsGrown (nodes : List Node) (properties : List Property) (givings : List Giving) (es : Events) : Type 0 where
   pub above : AreAbove nodes
-  pub shallow : (p : Stack) (k : ℕ) → Leads nodes p k → length p ≤ most_names
-  pub nodes_are : (p : Stack) → stands es p ≡ true → (k : ℕ) × Leads nodes p k
-  pub nodes_stand : (p : Stack) (k : ℕ) → Leads nodes p k → stands es p ≡ true
-  pub one_node : (p : Stack) (j k : ℕ) → Leads nodes p j → Leads nodes p k → j ≡ k
-  pub nodes_in_order : (p q : Stack) (j k : ℕ) → Leads nodes p j → Leads nodes q k → j < k → age es q < age es p
+  pub shallow : (p : Stack) (k : ℕ) → StandsUnder nodes p k → length p ≤ most_names
+  pub nodes_are : (p : Stack) → stands es p ≡ true → (k : ℕ) × StandsUnder nodes p k
+  pub nodes_stand : (p : Stack) (k : ℕ) → StandsUnder nodes p k → stands es p ≡ true
+  pub one_node : (p : Stack) (j k : ℕ) → StandsUnder nodes p j → StandsUnder nodes p k → j ≡ k
+  pub nodes_in_order : (p q : Stack) (j k : ℕ) → StandsUnder nodes p j → StandsUnder nodes q k → j < k → age es q < age es p
   pub values_are : (p : Stack) (x : Name) (v : List Part) → value_at es p x ≡ Some v → (i : ℕ) × HasValue nodes properties p x v i
   pub values_stand : (p : Stack) (x : Name) (v : List Part) (i : ℕ) → HasValue nodes properties p x v i → value_at es p x ≡ Some v
   pub one_value : (p : Stack) (x : Name) (v w : List Part) (i j : ℕ) → HasValue nodes properties p x v i → HasValue nodes properties p x w j → i ≡ j

@@ -26,8 +26,8 @@ pub record Shape (V : Type 0) : Type 0 where
   pub given : ℕ → Name → Option ℕ
 
 -- the root, where there is one
-abbrev pub root_of : ℕ → Option ℕ
-root_of size = cond (nat_eq size 0) None (Some 0)
+abbrev pub root_index : ℕ → Option ℕ
+root_index size = cond (nat_eq size 0) None (Some 0)
 
 -- the node to which a stack of names leads from the root
 abbrev pub walk : Option ℕ → (ℕ → Name → Option ℕ) → Stack → Option ℕ
@@ -51,7 +51,7 @@ pub record AreAged {X : Type 0} (index : X → Option ℕ) (age : X → ℕ) : T
 module _ {V : Type 0} where
   -- the node of a stack of names
   abbrev pub node_at : Shape V → Stack → Option ℕ
-  node_at s p = walk (root_of s.size) s.child p
+  node_at s p = walk (root_index s.size) s.child p
 
   -- the property, by the names of its node and its own
   abbrev pub property_at : Shape V → Stack × Name → Option ℕ

@@ -5,7 +5,7 @@ ghost use Rattle.dt_model.specs.Event.{Stack};
 ghost use Rattle.dt_items.specs.Said.{value_said};
 ghost use Rattle.dt_growing.specs.Shape.{given_at, MakesRoot, AddsChild, OpensChild, Cuts, Defines, Undefines, Gives};
 ghost use Rattle.dt_growing.specs.Grown.{name_said};
-ghost use Rattle.dt_growing.specs.Growing.{shape, nodes_listed, properties_listed, IsSound};
+ghost use Rattle.dt_growing.specs.Growing.{shape, nodes_listed, properties_listed, IsSoundGrowing};
 
 use crate::table::{Last, NameTable, Table};
 use dt_items::Value;
@@ -84,7 +84,7 @@ impl<'s, 'a> Growing<'s, 'a> {
         ensures givings { result.givings.items ≡ [] }
         ensures children { result.children.map.entries ≡ [] }
         ensures indices { result.indices.map.entries ≡ [] }
-        ensures sound { IsSound result }
+        ensures sound { IsSoundGrowing result }
     {
         Growing {
             nodes: Vec::new(alloc),
@@ -98,7 +98,7 @@ impl<'s, 'a> Growing<'s, 'a> {
 
     /// The child of a name, where one stands.
     pub fn child(&self, parent: usize, name: &[u8]) -> Option<usize>
-        requires { IsSound self.now }
+        requires { IsSoundGrowing self.now }
         ensures { result ≡ (shape self.now).child parent name.now }
     {
         let last = self.children.get(parent, name)?;
@@ -111,7 +111,7 @@ impl<'s, 'a> Growing<'s, 'a> {
 
     /// The property of a name, where one stands.
     pub fn property(&self, node: usize, name: &[u8]) -> Option<usize>
-        requires { IsSound self.now }
+        requires { IsSoundGrowing self.now }
         ensures { result ≡ (shape self.now).property node name.now }
     {
         let last = self.indices.get(node, name)?;
@@ -137,10 +137,10 @@ impl<'s, 'a> Growing<'s, 'a> {
     }
 
     fn make_root(&mut self) -> Result<(), AllocError>
-        requires sound { IsSound self.old }
+        requires sound { IsSoundGrowing self.old }
         requires empty { length self.old.nodes.items ≡ 0 }
         ensures made { OnOk result (MakesRoot (shape self.old) (shape self.new)) }
-        ensures sound { OnOk result (IsSound self.new) }
+        ensures sound { OnOk result (IsSoundGrowing self.new) }
     {
         self.nodes.push(Node {
             parent: 0,
@@ -152,10 +152,10 @@ impl<'s, 'a> Growing<'s, 'a> {
 
     /// Opens the root, and makes it where there is none.
     pub fn open_root(&mut self) -> Result<(), AllocError>
-        requires { IsSound self.old }
+        requires { IsSoundGrowing self.old }
         ensures opened { OnOk result (MakesRoot (shape self.old) (shape self.new)
             ⊎ ((0 < length self.old.nodes.items) × (self.new ≡ self.old))) }
-        ensures sound { OnOk result (IsSound self.new) }
+        ensures sound { OnOk result (IsSoundGrowing self.new) }
     {
         if self.nodes.is_empty() {
             self.make_root()
@@ -170,12 +170,12 @@ impl<'s, 'a> Growing<'s, 'a> {
         name: NameText<'s, 'a>,
         item: usize,
     ) -> Result<usize, AllocError>
-        requires sound { IsSound self.old }
+        requires sound { IsSoundGrowing self.old }
         requires inside { parent < length self.old.nodes.items }
         requires absent { (shape self.old).child parent (name_said name) ≡ None }
         ensures index { IfOk result (λ node. node ≡ length self.old.nodes.items) }
         ensures added { OnOk result (AddsChild (shape self.old) (shape self.new) parent (name_said name.entry) item) }
-        ensures sound { OnOk result (IsSound self.new) }
+        ensures sound { OnOk result (IsSoundGrowing self.new) }
     {
         let index = self.nodes.len();
         self.nodes.push(Node {
@@ -195,11 +195,11 @@ impl<'s, 'a> Growing<'s, 'a> {
         node: usize,
         item: usize,
     ) -> Result<usize, AllocError>
-        requires sound { IsSound self.old }
+        requires sound { IsSoundGrowing self.old }
         requires there { (shape self.old).child parent (name_said name) ≡ Some node }
         ensures index { IfOk result (λ n. n ≡ node) }
         ensures opened { OnOk result (OpensChild (shape self.old) (shape self.new) parent (name_said name.entry) item) }
-        ensures sound { OnOk result (IsSound self.new) }
+        ensures sound { OnOk result (IsSoundGrowing self.new) }
     {
         self.children
             .put(parent, name.bytes(), Last { index: node, item })?;
@@ -213,14 +213,14 @@ impl<'s, 'a> Growing<'s, 'a> {
         name: NameText<'s, 'a>,
         item: usize,
     ) -> Result<usize, AllocError>
-        requires sound { IsSound self.old }
+        requires sound { IsSoundGrowing self.old }
         requires inside { parent < length self.old.nodes.items }
         ensures opened { IfOk result (λ node.
             (((shape self.old).child parent (name_said name.entry) ≡ None) × AddsChild (shape self.old) (shape self.new) parent (name_said name.entry) item
             × (node ≡ length self.old.nodes.items))
             ⊎ (((shape self.old).child parent (name_said name.entry) ≡ Some node)
             × OpensChild (shape self.old) (shape self.new) parent (name_said name.entry) item)) }
-        ensures sound { OnOk result (IsSound self.new) }
+        ensures sound { OnOk result (IsSoundGrowing self.new) }
     {
         match self.child(parent, name.bytes()) {
             Some(node) => self.open_again(parent, name, node, item),
@@ -230,23 +230,23 @@ impl<'s, 'a> Growing<'s, 'a> {
 
     /// Deletes a node that stands, and isn't the root.
     pub fn cut(&mut self, node: usize)
-        requires sound { IsSound self.old }
+        requires sound { IsSoundGrowing self.old }
         requires not_root { 0 < node }
         requires inside { node < length self.old.nodes.items }
         requires stands { (nodes_listed self.old.nodes.items self.old.children.map.entries).stands node ≡ true }
         ensures cut { Cuts (shape self.old) (shape self.new)
             ((nodes_listed self.old.nodes.items self.old.children.map.entries).owner node)
             ((nodes_listed self.old.nodes.items self.old.children.map.entries).name node) }
-        ensures sound { IsSound self.new }
+        ensures sound { IsSoundGrowing self.new }
     {
         self.nodes[node].stands = false;
     }
 
     /// Deletes a child, where one stands.
     pub fn cut_child(&mut self, parent: usize, name: &[u8])
-        requires { IsSound self.old }
+        requires { IsSoundGrowing self.old }
         ensures cut { Cuts (shape self.old) (shape self.new) parent name.now }
-        ensures sound { IsSound self.new }
+        ensures sound { IsSoundGrowing self.new }
     {
         if let Some(node) = self.child(parent, name) {
             self.cut(node);
@@ -261,10 +261,10 @@ impl<'s, 'a> Growing<'s, 'a> {
         value: &'s Value<'a>,
         item: usize,
     ) -> Result<(), AllocError>
-        requires sound { IsSound self.old }
+        requires sound { IsSoundGrowing self.old }
         requires there { (shape self.old).property node name.now ≡ Some index }
         ensures defined { OnOk result (Defines (shape self.old) (shape self.new) node name.now (value_said value.now) item) }
-        ensures sound { OnOk result (IsSound self.new) }
+        ensures sound { OnOk result (IsSoundGrowing self.new) }
     {
         self.indices.put(node, name, Last { index, item })?;
         let property = Property {
@@ -284,11 +284,11 @@ impl<'s, 'a> Growing<'s, 'a> {
         value: &'s Value<'a>,
         item: usize,
     ) -> Result<(), AllocError>
-        requires sound { IsSound self.old }
+        requires sound { IsSoundGrowing self.old }
         requires inside { node < length self.old.nodes.items }
         requires absent { (shape self.old).property node name.now ≡ None }
         ensures defined { OnOk result (Defines (shape self.old) (shape self.new) node name.now (value_said value.now) item) }
-        ensures sound { OnOk result (IsSound self.new) }
+        ensures sound { OnOk result (IsSoundGrowing self.new) }
     {
         let index = self.properties.len();
         self.properties.push(Property {
@@ -309,10 +309,10 @@ impl<'s, 'a> Growing<'s, 'a> {
         value: &'s Value<'a>,
         item: usize,
     ) -> Result<(), AllocError>
-        requires sound { IsSound self.old }
+        requires sound { IsSoundGrowing self.old }
         requires inside { node < length self.old.nodes.items }
         ensures defined { OnOk result (Defines (shape self.old) (shape self.new) node name.now (value_said value.now) item) }
-        ensures sound { OnOk result (IsSound self.new) }
+        ensures sound { OnOk result (IsSoundGrowing self.new) }
     {
         match self.property(node, name) {
             Some(index) => self.define_again(node, name, index, value, item),
@@ -321,13 +321,13 @@ impl<'s, 'a> Growing<'s, 'a> {
     }
 
     fn drop_property(&mut self, index: usize)
-        requires sound { IsSound self.old }
+        requires sound { IsSoundGrowing self.old }
         requires inside { index < length self.old.properties.items }
         requires stands { (properties_listed self.old.properties.items self.old.indices.map.entries).stands index ≡ true }
         ensures dropped { Undefines (shape self.old) (shape self.new)
             ((properties_listed self.old.properties.items self.old.indices.map.entries).owner index)
             ((properties_listed self.old.properties.items self.old.indices.map.entries).name index) }
-        ensures sound { IsSound self.new }
+        ensures sound { IsSoundGrowing self.new }
     {
         let property = &self.properties[index];
         let fallen = Property {
@@ -341,9 +341,9 @@ impl<'s, 'a> Growing<'s, 'a> {
 
     /// Deletes a property, where one stands.
     pub fn undefine(&mut self, node: usize, name: &[u8])
-        requires { IsSound self.old }
+        requires { IsSoundGrowing self.old }
         ensures dropped { Undefines (shape self.old) (shape self.new) node name.now }
-        ensures sound { IsSound self.new }
+        ensures sound { IsSoundGrowing self.new }
     {
         if let Some(index) = self.property(node, name) {
             self.drop_property(index);
@@ -352,11 +352,11 @@ impl<'s, 'a> Growing<'s, 'a> {
 
     /// Gives a label to a node. No node that stands has it.
     pub fn give(&mut self, label: &'a [u8], node: usize) -> Result<(), AllocError>
-        requires sound { IsSound self.old }
+        requires sound { IsSoundGrowing self.old }
         requires inside { node < length self.old.nodes.items }
         requires alone { (p : Stack) → given_at (shape self.old) (p, label.now) ≡ None }
         ensures given { OnOk result (Gives (shape self.old) (shape self.new) label.now node) }
-        ensures sound { OnOk result (IsSound self.new) }
+        ensures sound { OnOk result (IsSoundGrowing self.new) }
     {
         let index = self.givings.len();
         self.givings.push(Giving { label, node })?;

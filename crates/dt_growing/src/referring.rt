@@ -4,8 +4,8 @@ ghost use Rattle.std.specs.Prelude.{◌≡◌, ◌<◌, ℕ, reverse, length, No
 ghost use Rattle.dt_model.specs.Event.{Stack};
 ghost use Rattle.dt_model.specs.Source.{Events, labelled, referent};
 ghost use Rattle.dt_items.specs.Said.{reference_of};
-ghost use Rattle.dt_growing.specs.Grown.{Leads, IsGrown};
-ghost use Rattle.dt_growing.specs.Growing.{shape, IsSound};
+ghost use Rattle.dt_growing.specs.Grown.{StandsUnder, IsGrown};
+ghost use Rattle.dt_growing.specs.Growing.{shape, IsSoundGrowing};
 ghost use Rattle.dt_growing.specs.Shape.{given_at};
 
 use crate::growing::Growing;
@@ -24,10 +24,10 @@ pub enum Unnamed {
 impl<'s, 'a> Growing<'s, 'a> {
     /// How many names the path of a node has; none where the node is gone.
     pub fn depth(&self, node: usize) -> Option<usize>
-        requires sound { IsSound self.now }
+        requires sound { IsSoundGrowing self.now }
         requires inside { node < length self.now.nodes.items }
-        ensures { MatchOption result ((p : Stack) → ¬ Leads self.now.nodes.items p node)
-            (λ depth. (p : Stack) × Leads self.now.nodes.items p node × (depth ≡ length p)) }
+        ensures { MatchOption result ((p : Stack) → ¬ StandsUnder self.now.nodes.items p node)
+            (λ depth. (p : Stack) × StandsUnder self.now.nodes.items p node × (depth ≡ length p)) }
     {
         let mut at = node;
         let mut depth = 0;
@@ -44,11 +44,11 @@ impl<'s, 'a> Growing<'s, 'a> {
 
     /// The node that has a label.
     pub fn labelled(&self, label: &[u8]) -> Option<usize>
-        requires { IsSound self.now }
+        requires { IsSoundGrowing self.now }
         ensures named { (es : Events) → IsGrown self.now.nodes.items self.now.properties.items self.now.givings.items es →
             MatchOption result (labelled es label.now ≡ None)
-            (λ node. (p : Stack) × (labelled es label.now ≡ Some p) × Leads self.now.nodes.items p node) }
-        ensures stands { IfSome result (λ node. (p : Stack) × Leads self.now.nodes.items p node) }
+            (λ node. (p : Stack) × (labelled es label.now ≡ Some p) × StandsUnder self.now.nodes.items p node) }
+        ensures stands { IfSome result (λ node. (p : Stack) × StandsUnder self.now.nodes.items p node) }
         ensures alone { IfNone result ((p : Stack) → given_at (shape self.now) (p, label.now) ≡ None) }
     {
         let giving = self.labels.get(label)?;
@@ -61,9 +61,9 @@ impl<'s, 'a> Growing<'s, 'a> {
 
     /// The node of a path.
     fn at_path(&self, path: &PathRef<'_>) -> Option<usize>
-        requires { IsSound self.now }
-        ensures { MatchOption result ((node : ℕ) → ¬ Leads self.now.nodes.items (reverse path.now) node)
-            (Leads self.now.nodes.items (reverse path.now)) }
+        requires { IsSoundGrowing self.now }
+        ensures { MatchOption result ((node : ℕ) → ¬ StandsUnder self.now.nodes.items (reverse path.now) node)
+            (StandsUnder self.now.nodes.items (reverse path.now)) }
     {
         if self.nodes.is_empty() {
             return None;
@@ -77,11 +77,11 @@ impl<'s, 'a> Growing<'s, 'a> {
 
     /// The node to which a reference refers. Takes no memory.
     pub fn referent(&self, reference: &Reference<'_>) -> Option<usize>
-        requires { IsSound self.now }
+        requires { IsSoundGrowing self.now }
         ensures refers { (es : Events) → IsGrown self.now.nodes.items self.now.properties.items self.now.givings.items es →
             MatchOption result (referent es (reference_of reference.now) ≡ None)
-            (λ node. (p : Stack) × (referent es (reference_of reference.now) ≡ Some p) × Leads self.now.nodes.items p node) }
-        ensures stands { IfSome result (λ node. (p : Stack) × Leads self.now.nodes.items p node) }
+            (λ node. (p : Stack) × (referent es (reference_of reference.now) ≡ Some p) × StandsUnder self.now.nodes.items p node) }
+        ensures stands { IfSome result (λ node. (p : Stack) × StandsUnder self.now.nodes.items p node) }
     {
         match reference {
             Reference::Label(label) => self.labelled(label.as_bytes()),

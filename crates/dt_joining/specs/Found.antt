@@ -10,14 +10,14 @@ use Rattle.dt_model.specs.Tree.{Reading, nodes_of, stands_in, value_in}
 use Rattle.dt_model.specs.Valid.{IsValid}
 use Rattle.dt_model.specs.Merged.{Site, landing, sources}
 use Rattle.dt_model.specs.Object.{Cell, fragment_names}
-use Rattle.dt_model.specs.Applied.{Write, writes, written, node_named}
+use Rattle.dt_model.specs.Applied.{Write, writes, value_after_writes, node_named}
 use Rattle.dt_model.specs.Numbers.{number_in}
 use Rattle.dt_joining.specs.InTurn.{IsApplied}
 use Rattle.dt_joining.specs.Walk.{Walked, nothing_walked, walk, new_numbers}
 
 -- a value of a node of the object as it lands: a `phandle` is the node's number, and the cells that are listed hold those of their nodes
 abbrev pub landed_value : List Write → List (Path × ℕ) → Path → Name → List ℕ → List ℕ
-landed_value ws numbers p name value = if bytes_eq name (codes "phandle") then cell (unwrap_or (number_in numbers p) 0) else written p name ws value
+landed_value ws numbers p name value = if bytes_eq name (codes "phandle") then cell (unwrap_or (number_in numbers p) 0) else value_after_writes p name ws value
 
 -- the path on which the node of a label lands, if it does
 abbrev pub label_lands : Reading → List Site → Name → Option Path

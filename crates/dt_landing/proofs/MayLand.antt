@@ -13,7 +13,7 @@ use Rattle.dt_model.specs.Object.{Cell, fragment_names}
 use Rattle.dt_model.specs.Numbers.{number_in}
 use Rattle.dt_model.specs.Tree.{Property, Forest, no_nodes, branch, Reading, Node, Placed, value_of, root_of, node_at, preorder, nodes_of, value_in}
 use Rattle.dt_model.specs.Valid.{IsValid, IsWithinLimits, IsPhandle}
-use Rattle.dt_model.specs.Applied.{Write, writes, written, written_property, written_forest, written_node, brought}
+use Rattle.dt_model.specs.Applied.{Write, writes, value_after_writes, written_property, written_forest, written_node, brought}
 use Rattle.dt_model.proofs.Tests.{bytes_eq_refl, in_left, in_right}
 use Rattle.dt_model.proofs.Listed.{listed_found, at_listed, listed_stands, listed_value}
 use Rattle.dt_laws.proofs.Changing.{below_both}
@@ -82,10 +82,10 @@ module _ (base object : Reading) (fixups : List (Name × Cell)) (valid_base : Is
   properties_from p q (x ∷ ps) l own = (λ e. head (own x (inl refl) e) e, properties_from p q ps l (λ y i. own y (inr i)))
     where
       head : (u : List ℕ) × (value_in object p (codes "phandle") ≡ Some u) → x.name ≡ codes "phandle"
-          → Comes q (if bytes_eq x.name (codes "phandle") then cell (unwrap_or (number_in numbers p) 0) else written p x.name ws x.value)
+          → Comes q (if bytes_eq x.name (codes "phandle") then cell (unwrap_or (number_in numbers p) 0) else value_after_writes p x.name ws x.value)
       head u e =
-          let is : (if bytes_eq x.name (codes "phandle") then cell (unwrap_or (number_in numbers p) 0) else written p x.name ws x.value) ≡ cell (unwrap_or (number_in numbers p) 0) =
-          ap (λ b. if b then cell (unwrap_or (number_in numbers p) 0) else written p x.name ws x.value) (ap (λ n. bytes_eq n (codes "phandle")) e ∙ bytes_eq_refl (codes "phandle")) in
+          let is : (if bytes_eq x.name (codes "phandle") then cell (unwrap_or (number_in numbers p) 0) else value_after_writes p x.name ws x.value) ≡ cell (unwrap_or (number_in numbers p) 0) =
+          ap (λ b. if b then cell (unwrap_or (number_in numbers p) 0) else value_after_writes p x.name ws x.value) (ap (λ n. bytes_eq n (codes "phandle")) e ∙ bytes_eq_refl (codes "phandle")) in
           subst (Comes q) (sym is)
           (landed_from base object fixups valid_base valid few_in_base few_in_object (λ q v plain e. cells q v e) w ended may p q u.0 (cell (unwrap_or (number_in numbers p) 0)) u.1 l
           (ap (option_map (λ _. cell (unwrap_or (number_in numbers p) 0))) u.1))

@@ -7,13 +7,13 @@ use Rattle.dt_model.specs.Path.{Path}
 use Rattle.dt_model.specs.Overlay.{content}
 use Rattle.dt_model.specs.Numbers.{number_in}
 use Rattle.dt_model.specs.Tree.{Property, Forest, no_nodes, branch, Reading, Node, value_of, sibling, node_below, root_of, node_at, value_in}
-use Rattle.dt_model.specs.Applied.{Write, written, written_property, written_forest, brought}
+use Rattle.dt_model.specs.Applied.{Write, value_after_writes, written_property, written_forest, brought}
 use Rattle.dt_landing.specs.Writing.{with_cells_of, cells_written, with_cells, landed_property, landed_forest, landed}
 use Rattle.dt_model.proofs.Tests.{bytes_eq_true}
 
 -- a value with its cells written
 abbrev pub value_with_cells : List Write → Path → Name → List ℕ → List ℕ
-value_with_cells ws path name v = if bytes_eq name (codes "phandle") then v else written path name ws v
+value_with_cells ws path name v = if bytes_eq name (codes "phandle") then v else value_after_writes path name ws v
 
 -- a node with its cells written
 abbrev pub node_with_cells : List Write → Path → Node → Node

@@ -6,12 +6,12 @@ use Rattle.dt_model.specs.Path.{Path}
 use Rattle.dt_model.specs.Meaning.{cell}
 use Rattle.dt_model.specs.Tree.{Property, Forest, no_nodes, branch, Reading, Node, node_at}
 use Rattle.dt_model.specs.Overlay.{content}
-use Rattle.dt_model.specs.Applied.{Write, written, brought}
+use Rattle.dt_model.specs.Applied.{Write, value_after_writes, brought}
 use Rattle.dt_model.specs.Numbers.{number_in}
 
 -- a property with its cells written, but for a `phandle`, which keeps its value until its node lands
 abbrev pub with_cells_of : List Write → Path → Property → Property
-with_cells_of ws path p = record { name = p.name; value = if bytes_eq p.name (codes "phandle") then p.value else written path p.name ws p.value }
+with_cells_of ws path p = record { name = p.name; value = if bytes_eq p.name (codes "phandle") then p.value else value_after_writes path p.name ws p.value }
 
 abbrev pub cells_written : List Write → Path → Forest → Forest
 cells_written ws path no_nodes = no_nodes

@@ -11,7 +11,7 @@ use Rattle.dt_model.specs.Names.{IsNodeName, IsPropertyName, IsLabel}
 use Rattle.dt_model.specs.Path.{Path, path_eq, path_value}
 use Rattle.dt_model.specs.Meaning.{Item, byte, reference, AreBytes, EachReference}
 use Rattle.dt_model.specs.Event.{Stack}
-use Rattle.dt_model.specs.Source.{Reference, Part, one, number_of, text_of, IsPart, Mode, Place, root, block, delete_node, child, label, property, delete_property, delete_child, close, IsPlace, Events, referent, bound, all_bound, refers, in_range, written}
+use Rattle.dt_model.specs.Source.{Reference, Part, one, number_of, text_of, IsPart, Mode, Place, root, block, delete_node, child, label, property, delete_property, delete_child, close, IsPlace, Events, referent, bound, all_bound, refers, in_range, number_of_parts}
 use Rattle.dt_model.proofs.EventSteps.{path_eq-refl}
 use Rattle.dt_model.proofs.Cases.{map_some, then_some, either_left, either_right}
 use Rattle.dt_model.proofs.Tests.{each_append}
@@ -96,6 +96,6 @@ in_range-is m n h =
     let high : m ≤ 0xfffffffe = leb-true m 0xfffffffe both.1 in
     (subst (λ k. 1 ≤ k) c.1 low, subst (λ k. k ≤ 0xfffffffe) c.1 high)
 
-pub written_range : (v : List Part) (n : ℕ) → written v ≡ Some n → (1 ≤ n) × (n ≤ 0xfffffffe)
+pub written_range : (v : List Part) (n : ℕ) → number_of_parts v ≡ Some n → (1 ≤ n) × (n ≤ 0xfffffffe)
 written_range (one a ∷ one b ∷ one c ∷ one d ∷ []) n h = in_range-is (from_be_bytes w32 (a ∷ b ∷ c ∷ d ∷ [])) n h
 written_range _ n h = cc

@@ -9,14 +9,14 @@ use Rattle.dt_model.specs.Overlay.{content}
 use Rattle.dt_model.specs.Numbers.{number_in}
 use Rattle.dt_model.specs.Tree.{Property, Forest, no_nodes, branch, Reading, value_of, Node, sibling, node_below, root_of, node_at, stands_in, value_in}
 use Rattle.dt_model.specs.Valid.{AreDistinct, names, AreNodes, IsValid}
-use Rattle.dt_model.specs.Applied.{Write, written, written_property, written_forest, written_node, brought}
+use Rattle.dt_model.specs.Applied.{Write, value_after_writes, written_property, written_forest, written_node, brought}
 use Rattle.dt_model.proofs.Tests.{bytes_eq_true}
 use Rattle.dt_laws.proofs.Merging.{AreApart, IsApart, apart_sibling, nothing, value_below, stands_below}
 use Rattle.dt_laws.proofs.Changing.{below_both}
 
 -- what a written property holds
 abbrev pub written_value : List Write → List (Path × ℕ) → Path → Name → List ℕ → List ℕ
-written_value ws numbers p name v = if bytes_eq name (codes "phandle") then cell (unwrap_or (number_in numbers p) 0) else written p name ws v
+written_value ws numbers p name v = if bytes_eq name (codes "phandle") then cell (unwrap_or (number_in numbers p) 0) else value_after_writes p name ws v
 
 module _ (ws : List Write) (numbers : List (Path × ℕ)) where
   value_of-written : (path : Path) (ps : List Property) (name : Name) → value_of (map (written_property ws numbers path) ps) name ≡ option_map (written_value ws numbers path name) (value_of ps name)

@@ -7,7 +7,7 @@ use Rattle.dt_model.specs.Path.{Path}
 use Rattle.dt_model.specs.Lists.{IsIn}
 use Rattle.dt_model.specs.Meaning.{Item, byte, reference, cell, value_bytes}
 use Rattle.dt_model.specs.Object.{references_from}
-use Rattle.dt_model.specs.Applied.{with_cell, Write, is_at, written}
+use Rattle.dt_model.specs.Applied.{with_cell, Write, is_at, value_after_writes}
 
 -- each write of the property is one of a reference's cell, with the reference's number
 abbrev pub IsSound : {R : Type 0} → Path → Name → (R → ℕ) → List (Item R) → List Write → Type 0
@@ -103,16 +103,16 @@ abbrev pub numbers_after : {R : Type 0} → Path → Name → List Write → (�
 numbers_after p name [] f = f
 numbers_after p name (w ∷ ws) f = numbers_after p name ws (if is_at p name w then at_offset w.cell.offset w.number f else f)
 
-pub written_from : {R : Type 0} (p : Path) (name : Name) (final : R → ℕ) (items : List (Item R)) (ws : List Write) (f : ℕ → R → ℕ) → IsSound p name final items ws → written p name ws (bytes_from f 0 items) ≡ bytes_from (numbers_after p name ws f) 0 items
+pub written_from : {R : Type 0} (p : Path) (name : Name) (final : R → ℕ) (items : List (Item R)) (ws : List Write) (f : ℕ → R → ℕ) → IsSound p name final items ws → value_after_writes p name ws (bytes_from f 0 items) ≡ bytes_from (numbers_after p name ws f) 0 items
 written_from p name final items [] f sound = refl
 written_from {R} p name final items (w ∷ ws) f sound = step (λ g. written_from p name final items ws g sound.1) (is_at p name w) refl
   where
-    step : ((g : ℕ → R → ℕ) → written p name ws (bytes_from g 0 items) ≡ bytes_from (numbers_after p name ws g) 0 items) → (b : Bool) → is_at p name w ≡ b → written p name (w ∷ ws) (bytes_from f 0 items) ≡ bytes_from (numbers_after p name (w ∷ ws) f) 0 items
+    step : ((g : ℕ → R → ℕ) → value_after_writes p name ws (bytes_from g 0 items) ≡ bytes_from (numbers_after p name ws g) 0 items) → (b : Bool) → is_at p name w ≡ b → value_after_writes p name (w ∷ ws) (bytes_from f 0 items) ≡ bytes_from (numbers_after p name (w ∷ ws) f) 0 items
     step more true e =
         let x = sound.0 e in
         let at : w.cell.offset ≡ w.cell.offset - 0 = omega arith in
         let one = ap (λ j. with_cell (bytes_from f 0 items) j w.number) at ∙ one_cell f 0 items w.cell.offset x.0 w.number x.1 in
-        rw e (ap (λ bs. written p name ws bs) one ∙ more (at_offset w.cell.offset w.number f))
+        rw e (ap (λ bs. value_after_writes p name ws bs) one ∙ more (at_offset w.cell.offset w.number f))
     step more false e = rw e (more f)
 
 pub numbers_final : {R : Type 0} (p : Path) (name : Name) (final : R → ℕ) (items : List (Item R)) (ws : List Write) (f : ℕ → R → ℕ) (o : ℕ) (r : R) → IsSound p name final items ws → IsIn (o, r) (references_from 0 items) → IsWritten p name o ws ⊎ (f o r ≡ final r) → numbers_after p name ws f o r ≡ final r
@@ -145,9 +145,9 @@ numbers_final {R} p name final items (w ∷ ws) f o r sound here known = step (�
         rw e (more f still)
 
 -- writing the new number into the cell of each reference, in any order, gives the value with the new numbers
-pub all_cells : {R : Type 0} (p : Path) (name : Name) (first final : R → ℕ) (items : List (Item R)) (ws : List Write) → IsSound p name final items ws → ((o : ℕ) (r : R) → IsIn (o, r) (references_from 0 items) → IsWritten p name o ws) → written p name ws (value_bytes first items) ≡ value_bytes final items
+pub all_cells : {R : Type 0} (p : Path) (name : Name) (first final : R → ℕ) (items : List (Item R)) (ws : List Write) → IsSound p name final items ws → ((o : ℕ) (r : R) → IsIn (o, r) (references_from 0 items) → IsWritten p name o ws) → value_after_writes p name ws (value_bytes first items) ≡ value_bytes final items
 all_cells p name first final items ws sound complete =
-    ap (λ bs. written p name ws bs) (sym (plain_bytes first 0 items))
+    ap (λ bs. value_after_writes p name ws bs) (sym (plain_bytes first 0 items))
     ∙ written_from p name final items ws (λ o r. first r) sound
     ∙ same_bytes (numbers_after p name ws (λ o r. first r)) (λ o r. final r) 0 items (λ o r h. numbers_final p name final items ws (λ o' r'. first r') o r sound h (inl (complete o r h)))
     ∙ plain_bytes final 0 items

@@ -3,7 +3,7 @@ use Rattle.std.proofs.Common.{◌≡◌, Bool, true, ◌||◌, codes, List, Opti
 use Rattle.std.specs.List.{list_all}
 use Rattle.std.specs.Str.{bytes_eq}
 use Rattle.dt_model.specs.Event.{Event, opening, giving, definition, undefinition, deletion, defines, drops}
-use Rattle.dt_model.specs.Source.{Part, Events, all_bound, written, HasUnresolved, HasBadPhandle}
+use Rattle.dt_model.specs.Source.{Part, Events, all_bound, number_of_parts, HasUnresolved, HasBadPhandle}
 use Rattle.dt_model.proofs.Cases.{all_pass}
 use Rattle.dt_laws.proofs.CheckedWords.{implies, implied}
 use Rattle.dt_laws.proofs.Lasts.{last_each, value_by}
@@ -21,7 +21,7 @@ is_bound es (deletion p) = true
 abbrev pub is_numbered : Event (List Part) → Bool
 is_numbered (opening p) = true
 is_numbered (giving l p) = true
-is_numbered (definition p n v) = implies (bytes_eq n (codes "phandle")) (is_some (written v))
+is_numbered (definition p n v) = implies (bytes_eq n (codes "phandle")) (is_some (number_of_parts v))
 is_numbered (undefinition p n) = true
 is_numbered (deletion p) = true
 
@@ -36,7 +36,7 @@ none_unresolved es h u =
 
 pub none_bad : (es : Events) → list_all is_numbered es ≡ true → HasBadPhandle es → ⊥
 none_bad es h u =
-    not_none (written u.1)
-    (implied (bytes_eq (codes "phandle") (codes "phandle")) (is_some (written u.1))
+    not_none (number_of_parts u.1)
+    (implied (bytes_eq (codes "phandle") (codes "phandle")) (is_some (number_of_parts u.1))
     (last_each (λ e. is_numbered e ≡ true) (λ e. defines u.0 (codes "phandle") e || drops u.0 (codes "phandle") e) es (definition u.0 (codes "phandle") u.1) (all_pass is_numbered es h) (value_by es u.0 (codes "phandle") u.1 u.2))
     (bytes_eq_refl (codes "phandle"))) u.3

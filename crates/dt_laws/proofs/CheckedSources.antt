@@ -9,7 +9,7 @@ use Rattle.dt_model.specs.Path.{Path, path_eq}
 use Rattle.dt_model.specs.Lists.{IsIn}
 use Rattle.dt_model.specs.Meaning.{IsMeaning, IsPlain}
 use Rattle.dt_model.specs.Event.{Stack, Event, opening, giving, definition, undefinition, deletion, defines, drops, value_at}
-use Rattle.dt_model.specs.Source.{Part, Place, base, Events, Refusal, SoFar, nothing, read_all, all_bound, written, written_number, meaning_of, IsResolved, SourceMeans}
+use Rattle.dt_model.specs.Source.{Part, Place, base, Events, Refusal, SoFar, nothing, read_all, all_bound, number_of_parts, written_number, meaning_of, IsResolved, SourceMeans}
 use Rattle.dt_model.proofs.Tests.{and_left, and_right, all_at, bytes_eq_refl, path_eq_true}
 use Rattle.dt_model.proofs.Cases.{then_some}
 use Rattle.dt_laws.proofs.Lasts.{last_each, value_by}
@@ -23,7 +23,7 @@ use Rattle.dt_laws.proofs.CheckedEvents.{covers_events, value_covered}
 abbrev is_resolved : Events → Event (List Part) → Bool
 is_resolved es (opening p) = true
 is_resolved es (giving l p) = true
-is_resolved es (definition p n v) = is_some (all_bound es v) && implies (bytes_eq n (codes "phandle")) (is_some (written v))
+is_resolved es (definition p n v) = is_some (all_bound es v) && implies (bytes_eq n (codes "phandle")) (is_some (number_of_parts v))
 is_resolved es (undefinition p n) = true
 is_resolved es (deletion p) = true
 
@@ -66,14 +66,14 @@ module _ (es : Events) (qs : List Path) (ns : List Name) (covered : covers_event
   value_resolved p n v h = last_each (IsDefined es) (λ e. defines p n e || drops p n e) es (definition p n v) (each_by (is_resolved es) (IsDefined es) (λ e k. k) es resolved) (value_by es p n v h)
 
   number_within : (p : Stack) (k : ℕ) → written_number es p ≡ Some k → IsIn (reverse p) qs
-  number_within p k h = let w = then_some written (value_at es p (codes "phandle")) k h in (value_covered qs ns es covered p (codes "phandle") w.0 w.1).0
+  number_within p k h = let w = then_some number_of_parts (value_at es p (codes "phandle")) k h in (value_covered qs ns es covered p (codes "phandle") w.0 w.1).0
 
   are_resolved : IsResolved es
   are_resolved = record {
-    bound_to = λ p n v h. and_left (is_some (all_bound es v)) (implies (bytes_eq n (codes "phandle")) (is_some (written v))) (value_resolved p n v h);
+    bound_to = λ p n v h. and_left (is_some (all_bound es v)) (implies (bytes_eq n (codes "phandle")) (is_some (number_of_parts v))) (value_resolved p n v h);
     numbered = λ p v h.
-        implied (bytes_eq (codes "phandle") (codes "phandle")) (is_some (written v))
-        (and_right (is_some (all_bound es v)) (implies (bytes_eq (codes "phandle") (codes "phandle")) (is_some (written v))) (value_resolved p (codes "phandle") v h)) (bytes_eq_refl (codes "phandle"));
+        implied (bytes_eq (codes "phandle") (codes "phandle")) (is_some (number_of_parts v))
+        (and_right (is_some (all_bound es v)) (implies (bytes_eq (codes "phandle") (codes "phandle")) (is_some (number_of_parts v))) (value_resolved p (codes "phandle") v h)) (bytes_eq_refl (codes "phandle"));
     own = λ p q n h k.
         let row = all_at (λ p. list_all (is_alone es p) qs) qs (reverse p) alone (number_within p n h) in
         no_twice p q

@@ -10,7 +10,7 @@ use Rattle.dt_model.specs.Path.{Path}
 use Rattle.dt_model.specs.Valid.{IsReservation}
 use Rattle.dt_model.specs.Meaning.{Item, Meaning, IsMeaning}
 use Rattle.dt_model.specs.Event.{Stack, stands, value_at}
-use Rattle.dt_model.specs.Source.{Reference, Part, Place, IsPlace, Mode, Events, referent, labelled, all_bound, written, written_number, labels_there, refers_there, meaning_of, IsResolved, SourceMeans}
+use Rattle.dt_model.specs.Source.{Reference, Part, Place, IsPlace, Mode, Events, referent, labelled, all_bound, number_of_parts, written_number, labels_there, refers_there, meaning_of, IsResolved, SourceMeans}
 use Rattle.dt_model.proofs.Cases.{map_some, then_some, some_there, cond_none, either_left, either_right, all_map}
 use Rattle.dt_laws.proofs.Labels.{labelled_names, labelled_there}
 use Rattle.dt_laws.proofs.Sound.{Sound}
@@ -53,7 +53,7 @@ module _ (reservations : List (ℕ × ℕ)) (es : Events) (s : Sound es) (each :
             elim (or_cases (is_some (written_number es p)) (list_any (labels_there es p) es) t) [
               | inl a ↦
                   let n = some_there (written_number es p) a in
-                  let w = then_some written (value_at es p (codes "phandle")) n.0 n.1 in
+                  let w = then_some number_of_parts (value_at es p (codes "phandle")) n.0 n.1 in
                   s.values p (codes "phandle") w.0 w.1
               | inr a ↦ labels_stand es s p a
             ]
@@ -95,7 +95,7 @@ module _ (reservations : List (ℕ × ℕ)) (es : Events) (s : Sound es) (each :
         all_each_bound es (λ q. keyed_at es (reverse q)) v.1 items
         (λ q r. at_path (keyed_at es) (reverse q) q refl (keyed_reference q (referred_there es (reverse p) n v.1 q v.2 r))) v.3;
     numbered = λ p n h.
-        let w = then_some written (value_at es (reverse p) (codes "phandle")) n h in
+        let w = then_some number_of_parts (value_at es (reverse p) (codes "phandle")) n h in
         let range = written_range w.0 n w.2 in
         (keyed_number (reverse p) (ap is_some h), range.0, range.1);
     own = λ p q n h k. no_twice p q (resolved.own (reverse p) (reverse q) n h k);

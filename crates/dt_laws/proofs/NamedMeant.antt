@@ -6,7 +6,7 @@ use Rattle.dt_model.specs.Limits.{most_nodes}
 use Rattle.dt_model.specs.Names.{Name}
 use Rattle.dt_model.specs.Path.{Path}
 use Rattle.dt_model.specs.Meaning.{Item, AreBytes}
-use Rattle.dt_model.specs.Source.{Place, Mode, Events, written, written_number}
+use Rattle.dt_model.specs.Source.{Place, Mode, Events, number_of_parts, written_number}
 use Rattle.dt_model.specs.Valid.{IsReservation}
 use Rattle.dt_model.specs.Overlay.{OverlayReference, inside}
 use Rattle.dt_model.specs.Named.{NodeReference, Named, number_of}
@@ -37,7 +37,7 @@ module _ (mode : Mode) (reservations : List (ℕ × ℕ)) (places : List Place) 
   numbered : (p : Path) (items : List (Item OverlayReference)) → bound_values es p (codes "phandle") ≡ Some items → IsSome (number_of items)
   numbered p items e =
       let w = bound_parts es p (codes "phandle") items e in
-      let there : is_some (written_number es (reverse p)) ≡ true = ap (λ o. is_some (option_and_then written o)) w.1 ∙ n.means.resolved.numbered (reverse p) w.0 w.1 in
+      let there : is_some (written_number es (reverse p)) ≡ true = ap (λ o. is_some (option_and_then number_of_parts o)) w.1 ∙ n.means.resolved.numbered (reverse p) w.0 w.1 in
       ap (λ o. is_some (option_and_then number_of o)) (sym e) ∙ ap is_some (number_same p) ∙ there
 
   namable : AreNamable es (bound_values es)

@@ -6,7 +6,7 @@ use Rattle.dt_model.specs.Names.{Name}
 use Rattle.dt_model.specs.Path.{Path}
 use Rattle.dt_model.specs.Meaning.{Item, item_renamed}
 use Rattle.dt_model.specs.Event.{stands, value_at, age}
-use Rattle.dt_model.specs.Source.{Part, Place, IsPlace, Mode, Events, all_bound, written, written_number, IsResolved}
+use Rattle.dt_model.specs.Source.{Part, Place, IsPlace, Mode, Events, all_bound, number_of_parts, written_number, IsResolved}
 use Rattle.dt_model.specs.Valid.{AreDistinct}
 use Rattle.dt_model.specs.Named.{NodeReference, NamedForest, no_nodes, branch, Named, NamedNode, root_of, node_at, value_of, number_of, written_in, names, paths_of}
 use Rattle.dt_model.specs.NamedOf.{IsNamedBy, IsNamedOf, bound_values, meant, path_among}
@@ -89,11 +89,11 @@ module _ (es : Events) where
   number_bound resolved p = step (value_at es (reverse p) (codes "phandle")) refl
     where
       step : (o : Option (List Part)) → value_at es (reverse p) (codes "phandle") ≡ o
-          → option_and_then number_of (option_map (map (item_renamed inside)) (option_and_then (all_bound es) o)) ≡ option_and_then written o
+          → option_and_then number_of (option_map (map (item_renamed inside)) (option_and_then (all_bound es) o)) ≡ option_and_then number_of_parts o
       step None e = refl
       step (Some parts) e =
           let bound = some_there (all_bound es parts) (resolved.bound_to (reverse p) (codes "phandle") parts e) in
-          let k = some_there (written parts) (resolved.numbered (reverse p) parts e) in
+          let k = some_there (number_of_parts parts) (resolved.numbered (reverse p) parts e) in
           ap (λ o. option_and_then number_of (option_map (map (item_renamed inside)) o)) bound.1 ∙ number_written es parts bound.0 k.0 k.1 bound.1 ∙ sym k.1
 
 module _ (mode : Mode) (reservations : List (ℕ × ℕ)) (places : List Place) (t : Named NodeReference) (n : IsNamedOf mode reservations places t) where

@@ -7,7 +7,7 @@ use Rattle.dt_model.specs.Path.{Path}
 use Rattle.dt_model.specs.Lists.{IsIn}
 use Rattle.dt_model.specs.Meaning.{Item, byte, reference, item_renamed, AreBytes}
 use Rattle.dt_model.specs.Overlay.{OverlayReference, inside}
-use Rattle.dt_model.specs.Source.{Part, one, Events, all_bound, written}
+use Rattle.dt_model.specs.Source.{Part, one, Events, all_bound, number_of_parts}
 use Rattle.dt_model.specs.Valid.{AreDistinct}
 use Rattle.dt_model.specs.Named.{NamedProperty, value_of, number_of}
 use Rattle.dt_model.proofs.Tests.{bytes_eq_refl, bytes_eq_true, bytes_eq_other, each_in, in_map}
@@ -67,7 +67,7 @@ number_renamed f (byte a ∷ byte b ∷ byte c ∷ byte d ∷ []) = refl
 number_renamed f (byte a ∷ byte b ∷ byte c ∷ byte d ∷ x ∷ v) = refl
 
 -- a value of a source that writes a number writes it also when it is read
-pub number_written : (es : Events) (parts : List Part) (items : List (Item Path)) (k : ℕ) → written parts ≡ Some k → all_bound es parts ≡ Some items
+pub number_written : (es : Events) (parts : List Part) (items : List (Item Path)) (k : ℕ) → number_of_parts parts ≡ Some k → all_bound es parts ≡ Some items
     → number_of (map (item_renamed {S = OverlayReference} inside) items) ≡ Some k
 number_written es (one a ∷ one b ∷ one c ∷ one d ∷ []) items k w e =
     let plain : map byte (a ∷ b ∷ c ∷ d ∷ []) ≡ items = cc in

@@ -15,7 +15,7 @@ use Rattle.dt_laws.proofs.Joined.{IsJoined}
 use Rattle.dt_model.specs.Numbers.{number_in}
 use Rattle.dt_model.specs.Tree.{Property, Reading, Node, value_of, root_of, node_at, nodes_of, stands_in, value_in}
 use Rattle.dt_model.specs.Valid.{AreDistinct}
-use Rattle.dt_model.specs.Applied.{node_named, writes, written, with_fragments, landed_symbols, applied_at}
+use Rattle.dt_model.specs.Applied.{node_named, writes, value_after_writes, with_fragments, landed_symbols, applied_at}
 use Rattle.dt_laws.specs.Applying.{AreOf, KeepsBookkeeping}
 use Rattle.dt_model.proofs.Tests.{any_from, any_same}
 use Rattle.dt_laws.proofs.Lands.{landing_of, last_same, last_none}
@@ -145,12 +145,12 @@ module _ (base object : Reading) (m : Meaning) (o : Overlay) (number local : Pat
   landed : (p : Path) (name : Name) → IsBrought o p → bytes_eq name (codes "phandle") ≡ false
       → from name p ≡ option_map (value_bytes (final_number m number (number_in numbers))) (o.value p name)
   landed p name b other =
-      ap (λ c. option_map (λ v. if c then cell (unwrap_or (number_in numbers p) 0) else written p name (writes base object fixups numbers) v) (value_in object p name)) other
+      ap (λ c. option_map (λ v. if c then cell (unwrap_or (number_in numbers p) 0) else value_after_writes p name (writes base object fixups numbers) v) (value_in object p name)) other
       ∙ step (o.value p name) refl
     where
-      step : (y : Option (List (Item OverlayReference))) → o.value p name ≡ y → option_map (written p name (writes base object fixups numbers)) (value_in object p name) ≡ option_map (value_bytes (final_number m number (number_in numbers))) y
+      step : (y : Option (List (Item OverlayReference))) → o.value p name ≡ y → option_map (value_after_writes p name (writes base object fixups numbers)) (value_in object p name) ≡ option_map (value_bytes (final_number m number (number_in numbers))) y
       step None e =
-          ap (option_map (written p name (writes base object fixups numbers)))
+          ap (option_map (value_after_writes p name (writes base object fixups numbers)))
           (object_value_is object o local are.encoded are.overlay p name (plain_brought o are.overlay p b) other ∙ ap (option_map (value_bytes (object_number local))) e)
       step (Some items) e =
           value_written base object m o number local fixups numbers are.represented are.meaning are.plain are.valid_base are.encoded are.overlay are.valid_object

@@ -6,7 +6,7 @@ use Rattle.dt_model.specs.Names.{Name}
 use Rattle.dt_model.specs.Path.{path_eq}
 use Rattle.dt_model.specs.Meaning.{Meaning}
 use Rattle.dt_model.specs.Event.{Stack, Event, opening, giving, definition, undefinition, deletion, defines, drops, value_at}
-use Rattle.dt_model.specs.Source.{Part, Refusal, Events, SoFar, base, nothing, read_all, all_bound, written, written_number, meaning_of, IsResolved}
+use Rattle.dt_model.specs.Source.{Part, Refusal, Events, SoFar, base, nothing, read_all, all_bound, number_of_parts, written_number, meaning_of, IsResolved}
 use Rattle.dt_model.proofs.EventSteps.{path_eq-is}
 use Rattle.dt_laws.specs.SampleSources.{sample_source, IsSampleMeaning}
 use Rattle.dt_model.proofs.Cases.{then_some, all_pass}
@@ -37,12 +37,12 @@ bound_to p n v e =
     let t = left_passes after.events (λ q m w. not (is_some (value_at after.events q m)) || is_some (all_bound after.events w)) refl p n v e in
     subst (λ (o : Option (List Part)). (not (is_some o) || is_some (all_bound after.events v)) ≡ true) e t
 
-numbered : (p : Stack) (v : List Part) → value_at after.events p (codes "phandle") ≡ Some v → is_some (written v) ≡ true
-numbered p v e = left_passes after.events (λ q m w. not (bytes_eq m (codes "phandle")) || is_some (written w)) refl p (codes "phandle") v e
+numbered : (p : Stack) (v : List Part) → value_at after.events p (codes "phandle") ≡ Some v → is_some (number_of_parts v) ≡ true
+numbered p v e = left_passes after.events (λ q m w. not (bytes_eq m (codes "phandle")) || is_some (number_of_parts w)) refl p (codes "phandle") v e
 
 numbered_node : (p : Stack) (n : ℕ) → written_number after.events p ≡ Some n → p ≡ codes "a" ∷ []
 numbered_node p n e =
-    let w = then_some written (value_at after.events p (codes "phandle")) n e in
+    let w = then_some number_of_parts (value_at after.events p (codes "phandle")) n e in
     path_eq-is p (codes "a" ∷ []) (left_passes after.events (λ q m w. not (bytes_eq m (codes "phandle")) || path_eq q (codes "a" ∷ [])) refl p (codes "phandle") w.0 w.1)
 
 resolved : IsResolved after.events

@@ -13,7 +13,7 @@ use Rattle.dt_model.specs.Represents.{Represents}
 use Rattle.dt_model.specs.Numbers.{number_in}
 use Rattle.dt_model.specs.Tree.{Reading, nodes_of, value_in}
 use Rattle.dt_model.specs.Valid.{IsValid}
-use Rattle.dt_model.specs.Applied.{number_at, node_numbered, Write, local_write, label_write, writes, is_at, written, symbol}
+use Rattle.dt_model.specs.Applied.{number_at, node_numbered, Write, local_write, label_write, writes, is_at, value_after_writes, symbol}
 use Rattle.dt_model.proofs.Tests.{bytes_eq_true, bytes_eq_refl, path_eq_refl, path_eq_true, and_left, and_right, and_both}
 use Rattle.dt_laws.proofs.Cells.{bytes_from, plain_bytes, offset_from, IsSound, IsWritten, all_cells}
 use Rattle.dt_laws.proofs.Inside.{IsInside, final_number, each_at, plain_brought}
@@ -156,7 +156,7 @@ module _ (base object : Reading) (m : Meaning) (o : Overlay) (number local : Pat
 
   -- a value of the object, once its cells are written
   pub value_written : (p : Path) (name : Name) (items : List (Item OverlayReference)) → is_bookkeeping p ≡ false → EachReference (IsInside o) items → o.value p name ≡ Some items
-      → option_map (written p name (writes base object fixups numbers)) (value_in object p name) ≡ Some (value_bytes (final_number m number (number_in numbers)) items)
+      → option_map (value_after_writes p name (writes base object fixups numbers)) (value_in object p name) ≡ Some (value_bytes (final_number m number (number_in numbers)) items)
   value_written p name items plain_path refs e =
-      ap (option_map (written p name (writes base object fixups numbers))) (object_items object o local encodes overlay p name items plain_path e)
+      ap (option_map (value_after_writes p name (writes base object fixups numbers))) (object_items object o local encodes overlay p name items plain_path e)
       ∙ ap Some (all_cells p name (object_number local) (final_number m number (number_in numbers)) items (writes base object fixups numbers) (all_sound p name items plain_path refs e) (all_complete p name items e))

@@ -28,7 +28,7 @@ use Rattle.dt_landing.specs.Objects.{HasCell}
 use Rattle.dt_texts.specs.Cuts.{Lacks, IsCut, IsNumeralOf}
 use Rattle.dt_texts.specs.Texts.{IsPathValue}
 use Rattle.dt_listed.specs.Listed.{ListedCell, IsListed}
-use Rattle.dt_listed.specs.FixupsLeft.{onto_front, cut_in, are_digits, number_in, cell_within, cell_at, cell_of_parts, cell_in}
+use Rattle.dt_listed.specs.FixupsLeft.{onto_front, cut_in, are_digits, number_of_digits, cell_within, cell_at, cell_of_parts, cell_in}
 use Rattle.dt_texts.proofs.CellTexts.{path_without_colon, property_without_colon}
 
 -- ---- cuts
@@ -92,13 +92,13 @@ digits_from [] e = absurd (true≢false (sym e))
 digits_from (d ∷ digits) e = (omega arith, passed_digits (d ∷ digits) e)
 
 -- the number of a numeral
-pub number_some : (digits : List ℕ) → IsNumeral 10 digits → number_in digits ≡ Some (digits_value 10 digits)
+pub number_some : (digits : List ℕ) → IsNumeral 10 digits → number_of_digits digits ≡ Some (digits_value 10 digits)
 number_some digits is = rw (are_digits_of digits is) refl
 
-pub number_there : (digits : List ℕ) (n : ℕ) → IsNumeralOf digits n → number_in digits ≡ Some n
+pub number_there : (digits : List ℕ) (n : ℕ) → IsNumeralOf digits n → number_of_digits digits ≡ Some n
 number_there digits n is = number_some digits is.numeral ∙ ap (λ (m : ℕ). Some m) is.value
 
-pub number_from : (digits : List ℕ) (n : ℕ) → number_in digits ≡ Some n → IsNumeralOf digits n
+pub number_from : (digits : List ℕ) (n : ℕ) → number_of_digits digits ≡ Some n → IsNumeralOf digits n
 number_from digits n e = step (are_digits digits) refl
   where
     step : (b : Bool) → are_digits digits ≡ b → IsNumeralOf digits n
@@ -107,7 +107,7 @@ number_from digits n e = step (are_digits digits) refl
 
 -- the cell at the number's offset
 pub cell_in_value : (k offset : ℕ) (property : Name) (value digits : List ℕ) → IsNumeralOf digits offset → offset + 4 ≤ length value
-    → cell_within k property value (number_in digits) ≡ Some (record { node = k; property = property; offset = offset })
+    → cell_within k property value (number_of_digits digits) ≡ Some (record { node = k; property = property; offset = offset })
 cell_in_value k offset property value digits is less = ap (cell_within k property value) (number_there digits offset is) ∙ rw (le-leb (offset + 4) (length value) less) refl
 
 -- ---- nodes by paths and by texts
@@ -171,11 +171,11 @@ module _ (t : PlacedTree) (valid : IsValid (reading_of t)) where
   pub no_path : (front property digits : List ℕ) → ((p : Path) → ¬ IsPathOf front p) → cell_of_parts t front property digits ≡ None
   no_path front property digits none = step (is_property_name property)
     where
-      found : (o : Option Path) → node_named (nodes_of (reading_of t)) (front ++ 0 ∷ []) ≡ o → option_and_then (λ (p : Path). cell_at t p property (number_in digits)) o ≡ None
+      found : (o : Option Path) → node_named (nodes_of (reading_of t)) (front ++ 0 ∷ []) ≡ o → option_and_then (λ (p : Path). cell_at t p property (number_of_digits digits)) o ≡ None
       found None e = refl
       found (Some q) e = absurd (none q (path_before_nul front q (found_by_text (reading_of t) (front ++ 0 ∷ []) q valid e).1))
 
-      step : (b : Bool) → cond b (option_and_then (λ (p : Path). cell_at t p property (number_in digits)) (node_named (nodes_of (reading_of t)) (front ++ 0 ∷ []))) None ≡ None
+      step : (b : Bool) → cond b (option_and_then (λ (p : Path). cell_at t p property (number_of_digits digits)) (node_named (nodes_of (reading_of t)) (front ++ 0 ∷ []))) None ≡ None
       step true = found (node_named (nodes_of (reading_of t)) (front ++ 0 ∷ [])) refl
       step false = refl
 
@@ -183,7 +183,7 @@ module _ (t : PlacedTree) (valid : IsValid (reading_of t)) where
   pub no_property : (front property digits : List ℕ) → ¬ IsPropertyName property → cell_of_parts t front property digits ≡ None
   no_property front property digits other = step (is_property_name property) refl
     where
-      step : (b : Bool) → is_property_name property ≡ b → cond b (option_and_then (λ (p : Path). cell_at t p property (number_in digits)) (node_named (nodes_of (reading_of t)) (front ++ 0 ∷ []))) None ≡ None
+      step : (b : Bool) → is_property_name property ≡ b → cond b (option_and_then (λ (p : Path). cell_at t p property (number_of_digits digits)) (node_named (nodes_of (reading_of t)) (front ++ 0 ∷ []))) None ≡ None
       step true e = absurd (other ((property_tests property).0 e))
       step false e = refl
 
@@ -206,11 +206,11 @@ module _ (t : PlacedTree) (valid : IsValid (reading_of t)) where
       step None e = missing e (node_named (nodes_of (reading_of t)) (path_value p)) refl ∙ rw e refl
       step (Some k) e = ap (option_and_then look) (node_of_text (reading_of t) p valid (sym (stands_place t p) ∙ ap is_some e))
 
-  pub with_path : (front property digits : List ℕ) (p : Path) → IsPropertyName property → IsPathOf front p → cell_of_parts t front property digits ≡ cell_at t p property (number_in digits)
+  pub with_path : (front property digits : List ℕ) (p : Path) → IsPropertyName property → IsPathOf front p → cell_of_parts t front property digits ≡ cell_at t p property (number_of_digits digits)
   with_path front property digits p named is =
       rw ((property_tests property).1 named)
-      (ap (λ (f : List ℕ). option_and_then (λ (q : Path). cell_at t q property (number_in digits)) (node_named (nodes_of (reading_of t)) (f ++ 0 ∷ []))) is.written
-      ∙ by_path p property (number_in digits) is.named)
+      (ap (λ (f : List ℕ). option_and_then (λ (q : Path). cell_at t q property (number_of_digits digits)) (node_named (nodes_of (reading_of t)) (f ++ 0 ∷ []))) is.written
+      ∙ by_path p property (number_of_digits digits) is.named)
 
   -- ---- what is told is listed
 
@@ -219,7 +219,7 @@ module _ (t : PlacedTree) (valid : IsValid (reading_of t)) where
   IsTold text x = (c : Cell) × IsCellText text c × IsListed t c x
 
   within_from : (p : Path) (property : Name) (k : ℕ) (value : List ℕ) (digits : List ℕ) (x : ListedCell) → place_of t p ≡ Some k → value_in (reading_of t) p property ≡ Some value
-      → (o : Option ℕ) → number_in digits ≡ o → cell_within k property value o ≡ Some x → IsNumeralOf digits x.offset × IsListed t (record { path = p; property = property; offset = x.offset }) x
+      → (o : Option ℕ) → number_of_digits digits ≡ o → cell_within k property value o ≡ Some x → IsNumeralOf digits x.offset × IsListed t (record { path = p; property = property; offset = x.offset }) x
   within_from p property k value digits x at there None n e = absurd cc
   within_from p property k value digits x at there (Some offset) n e = step (nat_le (offset + 4) (length value)) refl
     where
@@ -242,12 +242,12 @@ module _ (t : PlacedTree) (valid : IsValid (reading_of t)) where
       step : (b : Bool) → is_property_name property ≡ b → IsTold text x
       step false is = let z : None ≡ Some x = rw is at e in absurd cc
       step true is =
-          let z : option_and_then (λ (p : Path). cell_at t p property (number_in digits)) (node_named (nodes_of (reading_of t)) (front ++ 0 ∷ [])) ≡ Some x = rw is at e in
-          let p = then_some (λ (q : Path). cell_at t q property (number_in digits)) (node_named (nodes_of (reading_of t)) (front ++ 0 ∷ [])) x z in
+          let z : option_and_then (λ (p : Path). cell_at t p property (number_of_digits digits)) (node_named (nodes_of (reading_of t)) (front ++ 0 ∷ [])) ≡ Some x = rw is at e in
+          let p = then_some (λ (q : Path). cell_at t q property (number_of_digits digits)) (node_named (nodes_of (reading_of t)) (front ++ 0 ∷ [])) x z in
           let path = path_before_nul front p.0 (found_by_text (reading_of t) (front ++ 0 ∷ []) p.0 valid p.1).1 in
-          let k = then_some (λ (n : ℕ). option_and_then (λ (v : List ℕ). cell_within n property v (number_in digits)) (value_in (reading_of t) p.0 property)) (place_of t p.0) x p.2 in
-          let v = then_some (λ (v : List ℕ). cell_within k.0 property v (number_in digits)) (value_in (reading_of t) p.0 property) x k.2 in
-          let w = within_from p.0 property k.0 v.0 digits x k.1 v.1 (number_in digits) refl v.2 in (
+          let k = then_some (λ (n : ℕ). option_and_then (λ (v : List ℕ). cell_within n property v (number_of_digits digits)) (value_in (reading_of t) p.0 property)) (place_of t p.0) x p.2 in
+          let v = then_some (λ (v : List ℕ). cell_within k.0 property v (number_of_digits digits)) (value_in (reading_of t) p.0 property) x k.2 in
+          let w = within_from p.0 property k.0 v.0 digits x k.1 v.1 (number_of_digits digits) refl v.2 in (
             record { path = p.0; property = property; offset = x.offset },
             record {
               digits = digits;
@@ -271,10 +271,10 @@ module _ (t : PlacedTree) (valid : IsValid (reading_of t)) where
 
   -- a cell that the tree has
   cell_there : (p : Path) (property : Name) (k offset : ℕ) (value digits : List ℕ) → place_of t p ≡ Some k → value_in (reading_of t) p property ≡ Some value → IsNumeralOf digits offset → offset + 4 ≤ length value
-      → cell_at t p property (number_in digits) ≡ Some (record { node = k; property = property; offset = offset })
+      → cell_at t p property (number_of_digits digits) ≡ Some (record { node = k; property = property; offset = offset })
   cell_there p property k offset value digits at there is less =
-      ap (option_and_then (λ (n : ℕ). option_and_then (λ (v : List ℕ). cell_within n property v (number_in digits)) (value_in (reading_of t) p property))) at
-      ∙ ap (option_and_then (λ (v : List ℕ). cell_within k property v (number_in digits))) there
+      ap (option_and_then (λ (n : ℕ). option_and_then (λ (v : List ℕ). cell_within n property v (number_of_digits digits)) (value_in (reading_of t) p property))) at
+      ∙ ap (option_and_then (λ (v : List ℕ). cell_within k property v (number_of_digits digits))) there
       ∙ cell_in_value k offset property value digits is less
 
   pub told_is_found : (text : List ℕ) (c : Cell) (x : ListedCell) → IsCellText text c → IsListed t c x → cell_in t text ≡ Some x
@@ -306,10 +306,10 @@ pub value_there : (t : PlacedTree) (p : Path) (property : Name) (k : ℕ) (value
     → cell_at t p property offset ≡ cell_within k property value offset
 value_there t p property k value offset e f = rw e (rw f refl)
 
-pub number_missing : (k : ℕ) (property : Name) (value digits : List ℕ) → length value < 2 ^ 64 → ((n : ℕ) → n < 2 ^ 64 → ¬ IsNumeralOf digits n) → cell_within k property value (number_in digits) ≡ None
-number_missing k property value digits short none = step (number_in digits) refl
+pub number_missing : (k : ℕ) (property : Name) (value digits : List ℕ) → length value < 2 ^ 64 → ((n : ℕ) → n < 2 ^ 64 → ¬ IsNumeralOf digits n) → cell_within k property value (number_of_digits digits) ≡ None
+number_missing k property value digits short none = step (number_of_digits digits) refl
   where
-    step : (o : Option ℕ) → number_in digits ≡ o → cell_within k property value o ≡ None
+    step : (o : Option ℕ) → number_of_digits digits ≡ o → cell_within k property value o ≡ None
     step None e = refl
     step (Some n) e = inner (nat_le (n + 4) (length value)) refl
       where

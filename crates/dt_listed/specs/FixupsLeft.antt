@@ -30,8 +30,8 @@ abbrev pub are_digits : List ℕ → Bool
 are_digits [] = false
 are_digits (d ∷ digits) = list_all (λ (b : ℕ). nat_lt (digit_value b) 10) (d ∷ digits)
 
-abbrev pub number_in : List ℕ → Option ℕ
-number_in digits = if are_digits digits then Some (digits_value 10 digits) else None
+abbrev pub number_of_digits : List ℕ → Option ℕ
+number_of_digits digits = if are_digits digits then Some (digits_value 10 digits) else None
 
 -- the cell at an offset of a value
 abbrev pub cell_within : ℕ → Name → List ℕ → Option ℕ → Option ListedCell
@@ -48,7 +48,7 @@ cell_at t p property offset =
 abbrev pub cell_of_parts : PlacedTree → List ℕ → Name → List ℕ → Option ListedCell
 cell_of_parts t front property digits =
     if is_property_name property
-    then option_and_then (λ p. cell_at t p property (number_in digits)) (node_named (nodes_of (reading_of t)) (front ++ 0 ∷ []))
+    then option_and_then (λ p. cell_at t p property (number_of_digits digits)) (node_named (nodes_of (reading_of t)) (front ++ 0 ∷ []))
     else None
 
 -- the cell of which a text tells, where the tree has it

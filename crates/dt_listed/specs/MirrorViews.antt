@@ -17,6 +17,6 @@ abbrev pub MayGoOn : Mirror → Type 0
 MayGoOn m = MayWalk m.blob.now m.open_nodes m.steps
 
 -- a step was taken: this is told with it, and no more than the fault where there is one
-abbrev pub IsTaken : List LocalFixup → {A : Type 0} → Result A Fault → Mirror → Type 0
-IsTaken told (Ok _) m = told ≡ mirror_left m
-IsTaken told (Err fault) m = told ≡ Err fault ∷ mirror_left m
+abbrev pub IsStepTaken : List LocalFixup → {A : Type 0} → Result A Fault → Mirror → Type 0
+IsStepTaken told (Ok _) m = told ≡ mirror_left m
+IsStepTaken told (Err fault) m = told ≡ Err fault ∷ mirror_left m

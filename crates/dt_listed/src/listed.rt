@@ -3,7 +3,7 @@
 ghost use Rattle.std.specs.Prelude.{◌≡◌};
 ghost use Rattle.std.specs.Option.{option_map};
 ghost use Rattle.dt_read.specs.Placed.{place_of};
-ghost use Rattle.dt_listed.specs.FixupsLeft.{number_in, cell_within, cell_of_parts, cell_in};
+ghost use Rattle.dt_listed.specs.FixupsLeft.{number_of_digits, cell_within, cell_of_parts, cell_in};
 ghost use Rattle.dt_listed.specs.ListedViews.{listed_view};
 
 use dt_names::{NodeId, PathRef, PropName};
@@ -36,7 +36,7 @@ fn cell_within<'a>(
     value: &[u8],
     digits: &[u8],
 ) -> Option<ListedCell<'a>>
-    ensures { option_map listed_view result ≡ cell_within node property.now value.now (number_in digits.now) }
+    ensures { option_map listed_view result ≡ cell_within node property.now value.now (number_of_digits digits.now) }
 {
     let offset = decimal(digits)?;
     if !has_cell(value, offset) {

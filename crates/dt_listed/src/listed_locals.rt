@@ -14,7 +14,7 @@ ghost use Rattle.dt_names.specs.declared.fault.FaultKind.TheVariants.{BadLocalFi
 ghost use Rattle.dt_listed.specs.ListedViews.{local_view};
 ghost use Rattle.dt_read.specs.Placed.{path_at};
 ghost use Rattle.dt_listed.specs.LocalFixupsLeft.{step_told, walk_told, MayWalk};
-ghost use Rattle.dt_listed.specs.MirrorViews.{mirror_left, steps_left, MayGoOn, IsTaken};
+ghost use Rattle.dt_listed.specs.MirrorViews.{mirror_left, steps_left, MayGoOn, IsStepTaken};
 
 use crate::listed::ListedCell;
 use dt_bytes::be32;
@@ -80,7 +80,7 @@ impl<'a> Mirror<'a> {
         requires open { self.old.open_nodes ≡ node ∷ drop 1 self.old.open_nodes }
         requires empty { words_of self.old.offsets.now ≡ [] }
         requires may { MayWalk self.old.blob.now self.old.open_nodes (opens 0 name.now ∷ self.old.steps) }
-        ensures told { IsTaken (step_told self.old.blob.now self.old.open_nodes (opens 0 name.now)
+        ensures told { IsStepTaken (step_told self.old.blob.now self.old.open_nodes (opens 0 name.now)
             (λ others. walk_told self.old.blob.now others self.old.steps)) result self.new }
         ensures may { MayGoOn self.new }
         ensures steps { self.new.steps ≡ self.old.steps }
@@ -96,7 +96,7 @@ impl<'a> Mirror<'a> {
     fn hold(&mut self, node: NodeId, name: &'a [u8], offsets: &'a [u8]) -> Result<(), Fault>
         requires open { self.old.open_nodes ≡ node ∷ drop 1 self.old.open_nodes }
         requires may { MayGoOn self.old }
-        ensures told { IsTaken (step_told self.old.blob.now self.old.open_nodes (holds (record { name = name.now; value = offsets.now }))
+        ensures told { IsStepTaken (step_told self.old.blob.now self.old.open_nodes (holds (record { name = name.now; value = offsets.now }))
             (λ others. walk_told self.old.blob.now others self.old.steps)) result self.new }
         ensures may { MayGoOn self.new }
         ensures steps { self.new.steps ≡ self.old.steps }
@@ -130,7 +130,7 @@ impl<'a> Mirror<'a> {
         requires open { self.old.open_nodes ≡ node ∷ drop 1 self.old.open_nodes }
         requires empty { words_of self.old.offsets.now ≡ [] }
         requires may { MayWalk self.old.blob.now self.old.open_nodes (step_view step ∷ self.old.steps) }
-        ensures told { IsTaken (step_told self.old.blob.now self.old.open_nodes (step_view step.entry)
+        ensures told { IsStepTaken (step_told self.old.blob.now self.old.open_nodes (step_view step.entry)
             (λ others. walk_told self.old.blob.now others self.old.steps)) result self.new }
         ensures may { MayGoOn self.new }
         ensures steps { self.new.steps ≡ self.old.steps }

@@ -14,7 +14,7 @@ use Rattle.dt_model.specs.Tree.{Property}
 use Rattle.dt_model.specs.Valid.{AreDistinct}
 use Rattle.dt_named.specs.Said.{node_said}
 use Rattle.dt_named.specs.declared.named.NamedNode.{NamedNode}
-use Rattle.dt_marks.specs.Paths.{text_behind, labelled, symbols_behind, all_symbols, MayFollow, AreAll}
+use Rattle.dt_marks.specs.Paths.{text_behind, label_property, symbols_behind, all_symbols, MayFollow, AreAll}
 use Rattle.dt_marks.proofs.PathTexts.{symbols_among, symbols_same}
 
 -- ---- they may follow
@@ -68,7 +68,7 @@ none_behind value lengths (n ∷ ns) h =
     let both = or_parts (has_labels n) (list_any has_labels ns) h in
     let text = text_behind value lengths n.parent (cow_slice_items n.name) in
     let own : length n.labels.items ≡ 0 = omega (arith, ltb-false 0 (length n.labels.items) both.0) in
-    ap (λ (ls : List (Bor Name)). map (labelled (text ++ 0 ∷ [])) (map (λ l. l.now) ls) ++ symbols_behind (text ++ 0 ∷ []) (lengths ++ length text ∷ []) (map node_said ns)) (nil_from_length n.labels.items own)
+    ap (λ (ls : List (Bor Name)). map (label_property (text ++ 0 ∷ [])) (map (λ l. l.now) ls) ++ symbols_behind (text ++ 0 ∷ []) (lengths ++ length text ∷ []) (map node_said ns)) (nil_from_length n.labels.items own)
     ∙ none_behind (text ++ 0 ∷ []) (lengths ++ length text ∷ []) ns both.1
 
 pub none_stand : (nodes : List NamedNode) → list_any has_labels nodes ≡ false → all_symbols (map node_said nodes) ≡ []
@@ -76,10 +76,10 @@ none_stand [] h = refl
 none_stand (n ∷ ns) h =
     let both = or_parts (has_labels n) (list_any has_labels ns) h in
     let own : length n.labels.items ≡ 0 = omega (arith, ltb-false 0 (length n.labels.items) both.0) in
-    ap (λ (ls : List (Bor Name)). map (labelled (codes "/" ++ 0 ∷ [])) (map (λ l. l.now) ls) ++ symbols_behind [] (0 ∷ []) (map node_said ns)) (nil_from_length n.labels.items own)
+    ap (λ (ls : List (Bor Name)). map (label_property (codes "/" ++ 0 ∷ [])) (map (λ l. l.now) ls) ++ symbols_behind [] (0 ∷ []) (map node_said ns)) (nil_from_length n.labels.items own)
     ∙ none_behind [] (0 ∷ []) ns both.1
 
-length-labelled : (path : List ℕ) (labels : List (Bor Name)) → length (map (labelled path) (map (λ l. l.now) labels)) ≡ length labels
+length-labelled : (path : List ℕ) (labels : List (Bor Name)) → length (map (label_property path) (map (λ l. l.now) labels)) ≡ length labels
 length-labelled path [] = refl
 length-labelled path (l ∷ ls) = ap suc (length-labelled path ls)
 
@@ -89,7 +89,7 @@ some_behind value lengths (n ∷ ns) h =
     let text = text_behind value lengths n.parent (cow_slice_items n.name) in
     let here = text ++ 0 ∷ [] in
     let ends = lengths ++ length text ∷ [] in
-    let own = map (labelled here) (map (λ (l : Bor Name). l.now) n.labels.items) in
+    let own = map (label_property here) (map (λ (l : Bor Name). l.now) n.labels.items) in
     let others = symbols_behind here ends (map node_said ns) in
     elim (or_cases (has_labels n) (list_any has_labels ns) h) [
       | inl e ↦ omega (arith, ltb-true 0 (length n.labels.items) e, length-append own others, length-labelled here n.labels.items)
@@ -100,7 +100,7 @@ pub some_stand : (nodes : List NamedNode) → list_any has_labels nodes ≡ true
 some_stand [] h = cc
 some_stand (n ∷ ns) h =
     let here = codes "/" ++ 0 ∷ [] in
-    let own = map (labelled here) (map (λ (l : Bor Name). l.now) n.labels.items) in
+    let own = map (label_property here) (map (λ (l : Bor Name). l.now) n.labels.items) in
     let others = symbols_behind [] (0 ∷ []) (map node_said ns) in
     elim (or_cases (has_labels n) (list_any has_labels ns) h) [
       | inl e ↦ omega (arith, ltb-true 0 (length n.labels.items) e, length-append own others, length-labelled here n.labels.items)

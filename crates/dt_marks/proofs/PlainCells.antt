@@ -13,7 +13,7 @@ use Rattle.dt_model.specs.Object.{references_from}
 use Rattle.dt_model.specs.Tree.{Property, Forest, no_nodes, branch}
 use Rattle.dt_model.specs.Valid.{AreDistinct, AreProperties, AreNodes, names}
 use Rattle.dt_marks.specs.Cells.{cells_of}
-use Rattle.dt_marks.specs.Mirrored.{IsPlain}
+use Rattle.dt_marks.specs.Mirrored.{IsNoPhandle}
 
 -- ---- properties
 
@@ -31,17 +31,17 @@ no_reference (byte a ∷ byte b ∷ byte c ∷ byte d ∷ []) h = refl
 no_reference (byte a ∷ byte b ∷ byte c ∷ byte d ∷ x ∷ v) h = absurd cc
 
 -- the offsets in front of others
-plain_offsets : (name : Name) (offsets : List ℕ) (others : List Property) → IsPropertyName name → name ≢ codes "phandle" → AllByRecursion IsPlain others → AllByRecursion IsPlain (offsets_as name offsets ++ others)
+plain_offsets : (name : Name) (offsets : List ℕ) (others : List Property) → IsPropertyName name → name ≢ codes "phandle" → AllByRecursion IsNoPhandle others → AllByRecursion IsNoPhandle (offsets_as name offsets ++ others)
 plain_offsets name [] others named plain h = h
 plain_offsets name (b ∷ bs) others named plain h = (record { named = named; plain = plain }, h)
 
 plain_others : (ps : List (NamedProperty NodeReference)) → AllByRecursion (λ (p : NamedProperty NodeReference). IsPropertyName p.name) ps
-    → AllByRecursion (λ y. y ≢ codes "phandle") (map (λ (p : NamedProperty NodeReference). p.name) ps) → AllByRecursion IsPlain (cells_of ps)
+    → AllByRecursion (λ y. y ≢ codes "phandle") (map (λ (p : NamedProperty NodeReference). p.name) ps) → AllByRecursion IsNoPhandle (cells_of ps)
 plain_others [] named d = tt
 plain_others (p ∷ ps) named d = plain_offsets p.name (flat_map inside_offset (references_from 0 p.value)) (cells_of ps) named.0 d.0 (plain_others ps named.1 d.1)
 
 plain_cells : (ps : List (NamedProperty NodeReference)) → AllByRecursion (λ (p : NamedProperty NodeReference). IsPropertyName p.name) ps → AreDistinct (map (λ (p : NamedProperty NodeReference). p.name) ps)
-    → ((value : List (Item NodeReference)) → value_of ps (codes "phandle") ≡ Some value → IsSome (number_of value)) → AllByRecursion IsPlain (cells_of ps)
+    → ((value : List (Item NodeReference)) → value_of ps (codes "phandle") ≡ Some value → IsSome (number_of value)) → AllByRecursion IsNoPhandle (cells_of ps)
 plain_cells [] named d h = tt
 plain_cells (p ∷ ps) named d h = by (bytes_eq (codes "phandle") p.name) refl h (plain_cells ps named.1 d.1)
   where
@@ -50,17 +50,17 @@ plain_cells (p ∷ ps) named d h = by (bytes_eq (codes "phandle") p.name) refl h
     moved x (y ∷ ys) e a = ((λ f. a.0 (f ∙ e)), moved x ys e a.1)
 
     by : (b : Bool) → bytes_eq (codes "phandle") p.name ≡ b → ((value : List (Item NodeReference)) → cond b (Some p.value) (value_of ps (codes "phandle")) ≡ Some value → IsSome (number_of value))
-        → (((value : List (Item NodeReference)) → value_of ps (codes "phandle") ≡ Some value → IsSome (number_of value)) → AllByRecursion IsPlain (cells_of ps))
-        → AllByRecursion IsPlain (cells_of (p ∷ ps))
+        → (((value : List (Item NodeReference)) → value_of ps (codes "phandle") ≡ Some value → IsSome (number_of value)) → AllByRecursion IsNoPhandle (cells_of ps))
+        → AllByRecursion IsNoPhandle (cells_of (p ∷ ps))
     by true e h rest =
         let same = (bytes_eq-Decides (codes "phandle") p.name).0 e in
-        subst (λ (offsets : List ℕ). AllByRecursion IsPlain (offsets_as p.name offsets ++ cells_of ps)) (sym (no_reference p.value (h p.value refl)))
+        subst (λ (offsets : List ℕ). AllByRecursion IsNoPhandle (offsets_as p.name offsets ++ cells_of ps)) (sym (no_reference p.value (h p.value refl)))
         (plain_others ps named.1 (moved (codes "phandle") (map (λ (q : NamedProperty NodeReference). q.name) ps) same d.0))
     by false e h rest =
         let other : p.name ≢ codes "phandle" = λ f. let t : bytes_eq (codes "phandle") p.name ≡ true = (bytes_eq-Decides (codes "phandle") p.name).1 (sym f) in absurd cc in
         plain_offsets p.name (flat_map inside_offset (references_from 0 p.value)) (cells_of ps) named.0 other (rest h)
 
-pub plain_local : (n : ℕ) (c : named.Content NodeReference) → IsContent n c → AllByRecursion IsPlain (local_properties c)
+pub plain_local : (n : ℕ) (c : named.Content NodeReference) → IsContent n c → AllByRecursion IsNoPhandle (local_properties c)
 plain_local n c h = plain_cells c.properties h.named h.distinct h.numbered
 
 -- ---- they differ
@@ -84,7 +84,7 @@ distinct_cells : (ps : List (NamedProperty NodeReference)) → AreDistinct (map 
 distinct_cells [] h = tt
 distinct_cells (p ∷ ps) h = distinct_offsets p.name (flat_map inside_offset (references_from 0 p.value)) (cells_of ps) (differ_cells p.name ps h.0) (distinct_cells ps h.1)
 
-all_named : (xs : List Property) → AllByRecursion IsPlain xs → AllByRecursion (λ (p : Property). IsPropertyName p.name) xs
+all_named : (xs : List Property) → AllByRecursion IsNoPhandle xs → AllByRecursion (λ (p : Property). IsPropertyName p.name) xs
 all_named [] h = tt
 all_named (x ∷ xs) h = (h.0.named, all_named xs h.1)
 

@@ -14,7 +14,7 @@ use Rattle.dt_flat.proofs.AfterProperty.{length-with_property}
 use Rattle.dt_flat.proofs.ManyProperties.{length-with_properties, properties-append}
 use Rattle.dt_named.specs.Said.{node_said}
 use Rattle.dt_named.specs.declared.named.NamedNode.{NamedNode}
-use Rattle.dt_marks.specs.Paths.{text_behind, labelled, symbols_behind, MayFollow}
+use Rattle.dt_marks.specs.Paths.{text_behind, label_property, symbols_behind, MayFollow}
 
 -- ---- a label is the name of a property
 
@@ -43,14 +43,14 @@ first_label labels i d lt h = subst (λ (ls : List (Bor Name)). AllByRecursion I
 pub label_turn : (old new : Arena) (k : ℕ) (path : List ℕ) (labels : List (Bor Name)) (i : ℕ) (d : Bor Name) (name : Name) → k < length old.slots → i < length labels
     → name ≡ (get_or labels i d).now → new ≡ record old { slots = with_property old.slots k name path }
     → (k < length new.slots)
-    × (record new { slots = with_properties new.slots k (map (labelled path) (map (λ b. b.now) (drop (i + 1) labels))) }
-    ≡ record old { slots = with_properties old.slots k (map (labelled path) (map (λ b. b.now) (drop i labels))) })
+    × (record new { slots = with_properties new.slots k (map (label_property path) (map (λ b. b.now) (drop (i + 1) labels))) }
+    ≡ record old { slots = with_properties old.slots k (map (label_property path) (map (λ b. b.now) (drop i labels))) })
 label_turn old new k path labels i d name there lt named is =
-    let rest = map (labelled path) (map (λ (b : Bor Name). b.now) (drop (i + 1) labels)) in
+    let rest = map (label_property path) (map (λ (b : Bor Name). b.now) (drop (i + 1) labels)) in
     let same : new ≡ record old { slots = with_property old.slots k (get_or labels i d).now path } = is ∙ (λ j. record old { slots = with_property old.slots k (named j) path }) in (
       omega (arith, ap (λ (a : Arena). length a.slots) same, length-with_property old.slots k (get_or labels i d).now path),
       ap (λ (a : Arena). record a { slots = with_properties a.slots k rest }) same
-          ∙ ap (λ (ls : List (Bor Name)). record old { slots = with_properties old.slots k (map (labelled path) (map (λ b. b.now) ls)) }) (sym (drop_more labels i d lt)),
+          ∙ ap (λ (ls : List (Bor Name)). record old { slots = with_properties old.slots k (map (label_property path) (map (λ b. b.now) ls)) }) (sym (drop_more labels i d lt)),
     )
 
 -- ---- one node after another
@@ -73,12 +73,12 @@ next_node nodes i n lt is = drop_more nodes i n lt ∙ ap (λ (m : NamedNode). m
 pub node_turn : (left rest : List NamedNode) (n : NamedNode) (name : Name) (value lengths here after path : List ℕ) (labels : List (Bor Name)) → left ≡ n ∷ rest
     → name ≡ cow_slice_items n.name → here ≡ text_behind value lengths n.parent name ++ 0 ∷ [] → after ≡ lengths ++ length (text_behind value lengths n.parent name) ∷ []
     → path ≡ here → labels ≡ n.labels.items
-    → symbols_behind value lengths (map node_said left) ≡ map (labelled path) (map (λ b. b.now) labels) ++ symbols_behind here after (map node_said rest)
+    → symbols_behind value lengths (map node_said left) ≡ map (label_property path) (map (λ b. b.now) labels) ++ symbols_behind here after (map node_said rest)
 node_turn left rest n name value lengths here after path labels first named valued counted is are =
     let text : Name → List ℕ = text_behind value lengths n.parent in
     ap (λ (ns : List NamedNode). symbols_behind value lengths (map node_said ns)) first
-    ∙ ap (λ (x : Name). map (labelled (text x ++ 0 ∷ [])) (map (λ (b : Bor Name). b.now) n.labels.items) ++ symbols_behind (text x ++ 0 ∷ []) (lengths ++ length (text x) ∷ []) (map node_said rest)) (sym named)
-    ∙ (λ i. map (labelled (sym (is ∙ valued) i)) (map (λ (b : Bor Name). b.now) (sym are i)) ++ symbols_behind (sym valued i) (sym counted i) (map node_said rest))
+    ∙ ap (λ (x : Name). map (label_property (text x ++ 0 ∷ [])) (map (λ (b : Bor Name). b.now) n.labels.items) ++ symbols_behind (text x ++ 0 ∷ []) (lengths ++ length (text x) ∷ []) (map node_said rest)) (sym named)
+    ∙ (λ i. map (label_property (sym (is ∙ valued) i)) (map (λ (b : Bor Name). b.now) (sym are i)) ++ symbols_behind (sym valued i) (sym counted i) (map node_said rest))
 
 pub follow_turn : (left rest : List NamedNode) (n : NamedNode) (lengths after : List ℕ) (size : ℕ) → left ≡ n ∷ rest → after ≡ lengths ++ size ∷ []
     → MayFollow (length lengths) (map node_said left) → MayFollow (length after) (map node_said rest)

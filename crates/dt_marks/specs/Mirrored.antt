@@ -41,7 +41,7 @@ mirrored needed i slots copies (n ∷ ns) =
     else mirrored needed (suc i) slots (copies ++ 0 ∷ []) ns
 
 -- a property that isn't a phandle
-pub record IsPlain (p : Property) : Type 0 where
+pub record IsNoPhandle (p : Property) : Type 0 where
   pub named : IsPropertyName p.name
   pub plain : p.name ≢ codes "phandle"
 
@@ -51,7 +51,7 @@ pub record MayCopy (slots : List Slot) (copies : List ℕ) (n : Listed NodeRefer
   pub there : slice_index copies n.parent < length slots
   pub absent : child_of (named_children slots (slice_index copies n.parent)) n.name ≡ None
   pub named : IsNodeName n.name
-  pub plain : AllByRecursion IsPlain (local_properties n.content)
+  pub plain : AllByRecursion IsNoPhandle (local_properties n.content)
 
 -- each of these nodes may that is needed, in its turn
 abbrev pub MayMirror : (ℕ → Bool) → ℕ → List Slot → List ℕ → List (Listed NodeReference) → Type 0

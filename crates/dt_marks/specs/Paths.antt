@@ -10,8 +10,8 @@ abbrev pub text_behind : (value lengths : List ℕ) → (parent : ℕ) → Name 
 text_behind value lengths parent name = take (slice_index lengths parent) value ++ 47 ∷ name
 
 -- a label as a property
-abbrev pub labelled : (path : List ℕ) → Name → Property
-labelled path l = record { name = l; value = path }
+abbrev pub label_property : (path : List ℕ) → Name → Property
+label_property path l = record { name = l; value = path }
 
 -- what is found in the nodes that follow, by the text of a path and what its node has
 abbrev pub behind : {X : Type 0} → (List ℕ → Content NodeReference → List X) → (value lengths : List ℕ) → List (Listed NodeReference) → List X
@@ -22,7 +22,7 @@ behind found value lengths (n ∷ ns) =
 
 -- the labels of a node as properties, where this is the text of its path
 abbrev pub labels_at : List ℕ → Content NodeReference → List Property
-labels_at text c = map (labelled (text ++ 0 ∷ [])) c.labels
+labels_at text c = map (label_property (text ++ 0 ∷ [])) c.labels
 
 -- those of the nodes that follow
 abbrev pub symbols_behind : (value lengths : List ℕ) → List (Listed NodeReference) → List Property
@@ -31,7 +31,7 @@ symbols_behind value lengths ns = behind labels_at value lengths ns
 -- those of all nodes, the first of which is the root
 abbrev pub all_symbols : List (Listed NodeReference) → List Property
 all_symbols [] = []
-all_symbols (root ∷ ns) = map (labelled (codes "/" ++ 0 ∷ [])) root.content.labels ++ symbols_behind [] (0 ∷ []) ns
+all_symbols (root ∷ ns) = map (label_property (codes "/" ++ 0 ∷ [])) root.content.labels ++ symbols_behind [] (0 ∷ []) ns
 
 -- each of these nodes stands behind its parent, where the first of them has number k, and its labels are labels
 abbrev pub MayFollow : ℕ → List (Listed NodeReference) → Type 0

@@ -8,7 +8,7 @@ ghost use Rattle.dt_names.specs.declared.fault.FaultKind.TheVariants.{NoMemory};
 ghost use Rattle.dt_named.specs.Said.{reference_said, value_said, property_said, node_said};
 ghost use Rattle.dt_flat.specs.Planted.{with_properties};
 ghost use Rattle.dt_marks.specs.Cells.{is_inside, has_cells, cells_of};
-ghost use Rattle.dt_marks.specs.Mirrored.{IsPlain};
+ghost use Rattle.dt_marks.specs.Mirrored.{IsNoPhandle};
 
 use crate::fixup_texts::behind;
 use dt_flat::FlatTree;
@@ -72,7 +72,7 @@ fn put_offsets(out: &mut Vec<u8>, value: &NamedValue<'_>) -> Result<(), AllocErr
 // Sets a property to some offsets, if there are some.
 fn set_offsets(tree: &mut FlatTree, node: NodeId, name: &[u8], offsets: &[u8]) -> Result<(), Fault>
     requires there { node < length tree.old.slots }
-    requires plain { AllByRecursion IsPlain (offsets_as name.now offsets.now) }
+    requires plain { AllByRecursion IsNoPhandle (offsets_as name.now offsets.now) }
     ensures tree { OnOk result (tree.new ≡ record tree.old
         { slots = with_properties tree.old.slots node (offsets_as name.now offsets.now) }) }
     ensures refused { IfErr result (λ fault. (fault.kind ≡ NoMemory) × (fault.at ≡ None)) }
@@ -92,7 +92,7 @@ pub fn set_cells(
     properties: &[NamedProperty<'_>],
 ) -> Result<(), Fault>
     requires there { node < length tree.old.slots }
-    requires plain { AllByRecursion IsPlain (cells_of (map property_said properties.now)) }
+    requires plain { AllByRecursion IsNoPhandle (cells_of (map property_said properties.now)) }
     ensures tree { OnOk result (tree.new ≡ record tree.old
         { slots = with_properties tree.old.slots node (cells_of (map property_said properties.now)) }) }
     ensures refused { IfErr result (λ fault. (fault.kind ≡ NoMemory) × (fault.at ≡ None)) }

@@ -8,7 +8,7 @@ ghost use Rattle.dt_named.specs.Said.{node_said};
 ghost use Rattle.dt_flat.specs.Arena.{named_children, child_of, with_child};
 ghost use Rattle.dt_flat.specs.Planted.{with_properties};
 ghost use Rattle.dt_marks.specs.Cells.{has_cells};
-ghost use Rattle.dt_marks.specs.Mirrored.{needed_by, copied, mirrored, visited, marked_at, with_mirror_root, with_inside, IsPlain, MayCopy, MayMirror};
+ghost use Rattle.dt_marks.specs.Mirrored.{needed_by, copied, mirrored, visited, marked_at, with_mirror_root, with_inside, IsNoPhandle, MayCopy, MayMirror};
 ghost use Rattle.dt_marks.specs.Paths.{MayFollow};
 ghost use Rattle.dt_marks.specs.Refusals.{WhyNotPlanted};
 
@@ -112,7 +112,7 @@ fn add_copies(
 // The node with the cells of the root.
 fn add_root(tree: &mut FlatTree, out: &mut Vec<u8>, root: &NamedNode<'_>) -> Result<NodeId, Fault>
     requires absent { child_of (named_children tree.old.slots 0) (codes "__local_fixups__") ≡ None }
-    requires plain { AllByRecursion IsPlain (local_properties (node_said root.now).content) }
+    requires plain { AllByRecursion IsNoPhandle (local_properties (node_said root.now).content) }
     ensures tree { OnOk result (tree.new ≡ record tree.old
         { slots = with_mirror_root tree.old.slots (node_said root.now).content }) }
     ensures node { IfOk result (λ node. node ≡ length tree.old.slots) }
@@ -137,7 +137,7 @@ fn add_mirror(
     requires absent { child_of (named_children tree.old.slots 0) (codes "__local_fixups__") ≡ None }
     requires begins { copies.old.items ≡ [] }
     requires all { length needed.now ≡ length others.now + 1 }
-    requires plain { AllByRecursion IsPlain (local_properties (node_said root.now).content) }
+    requires plain { AllByRecursion IsNoPhandle (local_properties (node_said root.now).content) }
     requires may { MayMirror (marked_at needed.now) 1 (with_mirror_root tree.old.slots (node_said root.now).content)
         (length tree.old.slots ∷ []) (map node_said others.now) }
     ensures tree { OnOk result (tree.new ≡ record tree.old {

@@ -9,7 +9,7 @@ ghost use Rattle.dt_names.specs.declared.fault.FaultKind.TheVariants.{NoMemory};
 ghost use Rattle.dt_named.specs.Said.{node_said};
 ghost use Rattle.dt_flat.specs.Arena.{reading, named_children, child_of, with_child};
 ghost use Rattle.dt_flat.specs.Planted.{with_properties};
-ghost use Rattle.dt_marks.specs.Paths.{labelled, symbols_behind, all_symbols, MayFollow, AreAll};
+ghost use Rattle.dt_marks.specs.Paths.{label_property, symbols_behind, all_symbols, MayFollow, AreAll};
 ghost use Rattle.dt_marks.specs.Refusals.{WhyFull, WhyNoSymbols};
 
 use crate::paths::LastPath;
@@ -35,7 +35,7 @@ fn add_labels(
     requires there { symbols < length tree.old.slots }
     requires labels { AllByRecursion IsLabel (map (λ l. l.now) labels.now) }
     ensures tree { OnOk result (tree.new ≡ record tree.old
-        { slots = with_properties tree.old.slots symbols (map (labelled path.now) (map (λ l. l.now) labels.now)) }) }
+        { slots = with_properties tree.old.slots symbols (map (label_property path.now) (map (λ l. l.now) labels.now)) }) }
     ensures refused { IfErr result (λ fault. (fault.kind ≡ NoMemory) × (fault.at ≡ None)) }
 {
     for label in labels {

@@ -69,15 +69,15 @@ abbrev pub is_at : Path → Name → Write → Bool
 is_at p name w = path_eq w.cell.path p && bytes_eq w.cell.property name
 
 -- the value of a property after the writes, in their order
-abbrev pub written : Path → Name → List Write → List ℕ → List ℕ
-written p name [] value = value
-written p name (w ∷ ws) value = written p name ws (if is_at p name w then with_cell value w.cell.offset w.number else value)
+abbrev pub value_after_writes : Path → Name → List Write → List ℕ → List ℕ
+value_after_writes p name [] value = value
+value_after_writes p name (w ∷ ws) value = value_after_writes p name ws (if is_at p name w then with_cell value w.cell.offset w.number else value)
 
 -- a property with its cells written; a `phandle` is its node's new number
 abbrev pub written_property : List Write → List (Path × ℕ) → Path → Property → Property
 written_property ws numbers path p = record {
   name = p.name;
-  value = if bytes_eq p.name (codes "phandle") then cell (unwrap_or (number_in numbers path) 0) else written path p.name ws p.value;
+  value = if bytes_eq p.name (codes "phandle") then cell (unwrap_or (number_in numbers path) 0) else value_after_writes path p.name ws p.value;
 }
 
 abbrev pub written_forest : List Write → List (Path × ℕ) → Path → Forest → Forest

@@ -131,7 +131,7 @@ pub record HasHeader (bytes : List ℕ) (h : Header) : Type 0 where
   pub structure_size : word_at bytes 36 ≡ Some h.structure_size
 
 -- a header of version 17 whose blocks lie inside the blob, which lies inside so many bytes
-pub record IsSound (h : Header) (size : ℕ) : Type 0 where
+pub record IsSoundHeader (h : Header) (size : ℕ) : Type 0 where
   pub holds_header : 40 ≤ h.total_size
   pub inside : h.total_size ≤ size
   pub version : 17 ≤ h.version
@@ -151,7 +151,7 @@ part offset size bytes = take size (drop offset bytes)
 pub record Reads (bytes : List ℕ) (t : Reading) : Type 0 where
   pub header : Header
   pub words : HasHeader bytes header
-  pub sound : IsSound header (length bytes)
+  pub sound : IsSoundHeader header (length bytes)
   pub boot_cpu : t.boot_cpu ≡ header.boot_cpu
   -- the pairs and the pair of zeros lie before the blob's end, whatever follows them
   pub behind : List ℕ

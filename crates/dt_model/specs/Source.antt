@@ -221,9 +221,9 @@ all_bound es (x ∷ xs) = option_and_then (λ items. option_map (λ others. item
 abbrev pub in_range : ℕ → Option ℕ
 in_range n = if nat_le 1 n && nat_le n 0xfffffffe then Some n else None
 
-abbrev pub written : List Part → Option ℕ
-written (one a ∷ one b ∷ one c ∷ one d ∷ []) = in_range (from_be_bytes w32 (a ∷ b ∷ c ∷ d ∷ []))
-written _ = None
+abbrev pub number_of_parts : List Part → Option ℕ
+number_of_parts (one a ∷ one b ∷ one c ∷ one d ∷ []) = in_range (from_be_bytes w32 (a ∷ b ∷ c ∷ d ∷ []))
+number_of_parts _ = None
 
 -- the value holds the number of this node
 abbrev pub refers : Events → Stack → List Part → Bool
@@ -250,7 +250,7 @@ labels_there es p (deletion q) = false
 
 -- the number that is written in the node
 abbrev pub written_number : Events → Stack → Option ℕ
-written_number es p = option_and_then written (value_at es p (codes "phandle"))
+written_number es p = option_and_then number_of_parts (value_at es p (codes "phandle"))
 
 -- the meaning of events, with these reservations
 abbrev pub meaning_of : List (ℕ × ℕ) → Events → Meaning
@@ -268,7 +268,7 @@ pub record IsResolved (es : Events) : Type 0 where
   -- each reference names a node
   pub bound_to : (p : Stack) (n : Name) (v : List Part) → value_at es p n ≡ Some v → IsSome (all_bound es v)
   -- each `phandle` writes a number
-  pub numbered : (p : Stack) (v : List Part) → value_at es p (codes "phandle") ≡ Some v → IsSome (written v)
+  pub numbered : (p : Stack) (v : List Part) → value_at es p (codes "phandle") ≡ Some v → IsSome (number_of_parts v)
   -- no two nodes have one number
   pub own : (p q : Stack) (n : ℕ) → written_number es p ≡ Some n → written_number es q ≡ Some n → p ≡ q
 
@@ -296,7 +296,7 @@ HasUnresolved es = (p : Stack) × (n : Name) × (v : List Part) × (value_at es 
 
 -- a `phandle` that is left writes no number
 abbrev pub HasBadPhandle : Events → Type 0
-HasBadPhandle es = (p : Stack) × (v : List Part) × (value_at es p (codes "phandle") ≡ Some v) × (written v ≡ None)
+HasBadPhandle es = (p : Stack) × (v : List Part) × (value_at es p (codes "phandle") ≡ Some v) × (number_of_parts v ≡ None)
 
 -- two nodes that are left write one number
 abbrev pub HasDuplicatePhandle : Events → Type 0

@@ -17,7 +17,7 @@ use Rattle.dt_growing.specs.declared.growing.Property.{Property}
 use Rattle.dt_growing.specs.declared.growing.Giving.{Giving}
 use Rattle.dt_growing.specs.declared.referring.Unnamed.{Unnamed}
 use Rattle.dt_growing.specs.declared.referring.Unnamed.TheVariants.{Refused}
-use Rattle.dt_growing.specs.Grown.{Leads, IsGrown}
+use Rattle.dt_growing.specs.Grown.{StandsUnder, IsGrown}
 use Rattle.dt_naming.specs.Contents.{kept_label, named_cell, named_part, named_parts, IsLabelledPart, all_read}
 
 module _ {R S : Type 0} (f : R → S) where
@@ -27,14 +27,14 @@ module _ {R S : Type 0} (f : R → S) where
 
 -- what a reference names stands
 pub referent_stands : (nodes : List Node) (properties : List Property) (givings : List Giving) (es : Events) → IsGrown nodes properties givings es →
-    (r : Reference) (p : Stack) → referent es r ≡ Some p → (k : ℕ) × Leads nodes p k
+    (r : Reference) (p : Stack) → referent es r ≡ Some p → (k : ℕ) × StandsUnder nodes p k
 referent_stands nodes properties givings es grown (by_label l) p h =
     let label = grown.labels_are l p (labelled_names es l p h) in
     (label.1.giving.node, label.1.node)
 referent_stands nodes properties givings es grown (by_path path) p h = step (stands es (reverse path)) refl h
   where
-    step : (b : Bool) → stands es (reverse path) ≡ b → cond b (Some (reverse path)) None ≡ Some p → (k : ℕ) × Leads nodes p k
-    step true e g = let same : reverse path ≡ p = cc in subst (λ (q : Stack). (k : ℕ) × Leads nodes q k) same (grown.nodes_are (reverse path) e)
+    step : (b : Bool) → stands es (reverse path) ≡ b → cond b (Some (reverse path)) None ≡ Some p → (k : ℕ) × StandsUnder nodes p k
+    step true e g = let same : reverse path ≡ p = cc in subst (λ (q : Stack). (k : ℕ) × StandsUnder nodes q k) same (grown.nodes_are (reverse path) e)
     step false e g = cc
 
 -- two values, one behind the other

@@ -7,7 +7,7 @@ use Rattle.dt_model.specs.Event.{Stack}
 use Rattle.dt_model.specs.Lists.{IsIn}
 use Rattle.dt_model.proofs.Cases.{map_some}
 use Rattle.dt_growing.specs.declared.growing.Node.{Node}
-use Rattle.dt_growing.specs.Grown.{name_said, Leads}
+use Rattle.dt_growing.specs.Grown.{name_said, StandsUnder}
 use Rattle.dt_naming.specs.Owned.{AreOwned, AreRising}
 use Rattle.dt_naming.specs.Listing.{parent_of, parents_of, name_of}
 
@@ -17,28 +17,28 @@ same_node : (nodes : List Node) (k : ℕ) (n m : Node) → slice_get nodes k ≡
 same_node nodes k n m a b = cc
 
 -- one list of names leads to a node
-pub leads_once : (nodes : List Node) (p q : Stack) (k : ℕ) → Leads nodes p k → Leads nodes q k → p ≡ q
+pub leads_once : (nodes : List Node) (p q : Stack) (k : ℕ) → StandsUnder nodes p k → StandsUnder nodes q k → p ≡ q
 leads_once nodes [] [] k a b = refl
 leads_once nodes [] (y ∷ q) k a b = let root : k ≡ 0 = a.0 in let above : 0 < k = b.2 in absurd (omega arith)
 leads_once nodes (x ∷ p) [] k a b = let root : k ≡ 0 = b.0 in let above : 0 < k = a.2 in absurd (omega arith)
 leads_once nodes (x ∷ p) (y ∷ q) k a b =
     let same : b.0 ≡ a.0 = same_node nodes k b.0 a.0 b.1 a.1 in
-    let other : Leads nodes q a.0.parent = subst (λ (n : Node). Leads nodes q n.parent) same b.5 in
+    let other : StandsUnder nodes q a.0.parent = subst (λ (n : Node). StandsUnder nodes q n.parent) same b.5 in
     let rest : p ≡ q = leads_once nodes p q a.0.parent a.5 other in
     let name : x ≡ y = sym a.3 ∙ (ap (λ (n : Node). name_said n.name) (sym same) ∙ b.3) in
     λ i. name i ∷ rest i
 
 -- names lead to each node above one
-pub leads_up : (nodes : List Node) (p q : Stack) (k : ℕ) → Leads nodes (p ++ q) k → (j : ℕ) × Leads nodes q j
+pub leads_up : (nodes : List Node) (p q : Stack) (k : ℕ) → StandsUnder nodes (p ++ q) k → (j : ℕ) × StandsUnder nodes q j
 leads_up nodes [] q k h = (k, h)
 leads_up nodes (x ∷ p) q k h = leads_up nodes p q h.0.parent h.5
 
 -- there is a root
-pub leads_root : (nodes : List Node) (p : Stack) (k : ℕ) → Leads nodes p k → 0 < length nodes
+pub leads_root : (nodes : List Node) (p : Stack) (k : ℕ) → StandsUnder nodes p k → 0 < length nodes
 leads_root nodes [] k h = h.1
 leads_root nodes (x ∷ p) k h = leads_root nodes p h.0.parent h.5
 
-pub leads_within : (nodes : List Node) (p : Stack) (k : ℕ) → Leads nodes p k → k < length nodes
+pub leads_within : (nodes : List Node) (p : Stack) (k : ℕ) → StandsUnder nodes p k → k < length nodes
 leads_within nodes [] k h = let root : k ≡ 0 = h.0 in let some : 0 < length nodes = h.1 in omega arith
 leads_within nodes (x ∷ p) k h = slice_get_within nodes k h.0 h.1
 
@@ -88,14 +88,14 @@ are_children nodes children owned = record {
 }
 
 -- names lead to a child
-pub leads_child : (nodes : List Node) (p : Stack) (k c : ℕ) → Leads nodes p k → IsChild nodes k c → Leads nodes (name_of nodes c ∷ p) c
+pub leads_child : (nodes : List Node) (p : Stack) (k c : ℕ) → StandsUnder nodes p k → IsChild nodes k c → StandsUnder nodes (name_of nodes c ∷ p) c
 leads_child nodes p k zero h child = let b = child.below in absurd (omega arith)
 leads_child nodes p k (suc c) h child =
     let named : name_said child.node.name ≡ name_of nodes (suc c) = sym (ap (λ (o : Option Node). option_map_or (λ (n : Node). name_said n.name) o []) child.there) in
-    (child.node, child.there, child.below, named, child.stands, subst (Leads nodes p) (sym child.parent) h)
+    (child.node, child.there, child.below, named, child.stands, subst (StandsUnder nodes p) (sym child.parent) h)
 
 -- what names lead to is a child of what is above it, and has its name
-pub child_led : (nodes : List Node) (x : Name) (p : Stack) (k c : ℕ) → ((j : ℕ) → Leads nodes p j → j ≡ k) → Leads nodes (x ∷ p) c →
+pub child_led : (nodes : List Node) (x : Name) (p : Stack) (k c : ℕ) → ((j : ℕ) → StandsUnder nodes p j → j ≡ k) → StandsUnder nodes (x ∷ p) c →
     IsChild nodes k c × (name_of nodes c ≡ x)
 child_led nodes x p k zero one h = let above : 0 < 0 = h.2 in absurd (omega arith)
 child_led nodes x p k (suc c) one h = (

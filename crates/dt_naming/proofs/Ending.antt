@@ -11,7 +11,7 @@ use Rattle.dt_model.specs.Path.{Path}
 use Rattle.dt_model.specs.Meaning.{Item, item_renamed}
 use Rattle.dt_model.specs.Overlay.{inside, OverlayReference}
 use Rattle.dt_model.specs.NamedOf.{bound_values}
-use Rattle.dt_model.specs.Source.{Part, one, number_of, text_of, Events, all_bound, written, written_number, IsResolved, HasUnresolved, HasBadPhandle, HasDuplicatePhandle}
+use Rattle.dt_model.specs.Source.{Part, one, number_of, text_of, Events, all_bound, number_of_parts, written_number, IsResolved, HasUnresolved, HasBadPhandle, HasDuplicatePhandle}
 use Rattle.dt_model.specs.Lists.{IsIn}
 use Rattle.dt_model.specs.Named.{NodeReference, Content, Listed, Named, nodes_of}
 use Rattle.dt_model.proofs.Tests.{and_left, and_right, and_both, bytes_eq_true, bytes_eq_refl, in_map}
@@ -25,7 +25,7 @@ use Rattle.dt_growing.specs.declared.growing.Property.{Property}
 use Rattle.dt_growing.specs.declared.growing.Growing.{Growing}
 use Rattle.dt_naming.specs.declared.belongings.Belongings.{Belongings}
 use Rattle.dt_naming.specs.declared.listing.Row.{Row}
-use Rattle.dt_growing.specs.Grown.{Leads, HasValue}
+use Rattle.dt_growing.specs.Grown.{StandsUnder, HasValue}
 use Rattle.dt_naming.specs.Owned.{group_of}
 use Rattle.dt_naming.specs.Listing.{name_of, AreRows, ArePlaces, tree_with, listed_row}
 use Rattle.dt_growing.specs.declared.referring.Unnamed.{Unnamed}
@@ -123,7 +123,7 @@ module _ (g : Growing) (b : Belongings) (rows : List Row) (are : AreRows g.nodes
   abbrev places : List (Option ℕ)
   places = b.places.items
 
-  rooted : Leads g.nodes.items [] 0
+  rooted : StandsUnder g.nodes.items [] 0
   rooted = let w = grown.nodes_are [] root in (refl, leads_root nodes [] w.0 w.1)
 
   children_are : AreChildren g.nodes.items are.children
@@ -139,11 +139,11 @@ module _ (g : Growing) (b : Belongings) (rows : List Row) (are : AreRows g.nodes
   named = named_by nodes are.children children_are grown.one_node rows all_nodes grown.shallow places ordered
 
   -- the row of a node that stands
-  row_of : (p : Stack) (k : ℕ) → Leads g.nodes.items p k → (r : Row) × IsIn r rows × (r.node ≡ k)
+  row_of : (p : Stack) (k : ℕ) → StandsUnder g.nodes.items p k → (r : Row) × IsIn r rows × (r.node ≡ k)
   row_of p k h = let w = ordered.sound k (place p) (named.there p k h) in (w.0, in_from rows (place p) w.0 w.1, w.2)
 
   -- the names that lead to the node of a row
-  led_to : (r : Row) → IsIn r rows → (p : Stack) × Leads g.nodes.items p r.node
+  led_to : (r : Row) → IsIn r rows → (p : Stack) × StandsUnder g.nodes.items p r.node
   led_to r among =
       let none : ℕ → Content NodeReference = λ k. record { labels = []; properties = [] } in
       let at_row = IsPlacedAt nodes are.children children_are none in
@@ -154,16 +154,16 @@ module _ (g : Growing) (b : Belongings) (rows : List Row) (are : AreRows g.nodes
       (reverse pair.0.path, pair.1.0)
 
   -- a property at an index that belongs to a node that stands
-  value_in : (p : Stack) (k i : ℕ) (q : Property) → Leads g.nodes.items p k → IsIn i (group_of b.properties k) → slice_get g.properties.items i ≡ Some q →
+  value_in : (p : Stack) (k i : ℕ) (q : Property) → StandsUnder g.nodes.items p k → IsIn i (group_of b.properties k) → slice_get g.properties.items i ≡ Some q →
       HasValue g.nodes.items g.properties.items p q.name.now (value_said q.value.now) i
   value_in p k i q h among there =
       let found = map_some property_owner (slice_get properties i) (Some k) (sym (slice_get-map property_owner properties i) ∙ belong.properties.sound k i among) in
       let at = found.1 in
       let same : found.0 ≡ q = cc in
       let owner = owner_stands q k (ap property_owner (sym same) ∙ found.2) in
-      record { property = q; there = there; stands = owner.0; named = refl; value = refl; node = subst (Leads nodes p) (sym owner.1) h }
+      record { property = q; there = there; stands = owner.0; named = refl; value = refl; node = subst (StandsUnder nodes p) (sym owner.1) h }
 
-  place_of : (p : Stack) (i : ℕ) (q : Property) → slice_get g.properties.items i ≡ Some q → q.stands ≡ true → Leads g.nodes.items p q.node → IsIn i (group_of b.properties q.node)
+  place_of : (p : Stack) (i : ℕ) (q : Property) → slice_get g.properties.items i ≡ Some q → q.stands ≡ true → StandsUnder g.nodes.items p q.node → IsIn i (group_of b.properties q.node)
   place_of p i q there stood h =
       let owner : property_owner q ≡ Some q.node = ap (λ (t : Bool). cond t (Some q.node) None) stood in
       let at : slice_get (map property_owner properties) i ≡ Some (Some q.node) =
@@ -186,7 +186,7 @@ module _ (g : Growing) (b : Belongings) (rows : List Row) (are : AreRows g.nodes
 
   -- and what the test finds is one of a node that stands
   phandle_found : (i : ℕ) (q : Property) → slice_get g.properties.items i ≡ Some q → is_phandle b.places.items q ≡ true →
-      (p : Stack) × HasValue g.nodes.items g.properties.items p (codes "phandle") (value_said q.value.now) i × Leads g.nodes.items p q.node
+      (p : Stack) × HasValue g.nodes.items g.properties.items p (codes "phandle") (value_said q.value.now) i × StandsUnder g.nodes.items p q.node
   phandle_found i q there h =
       let name_is = and_right (q.stands && has_place places q.node) (bytes_eq q.name.now phandle) h in
       let rest = and_left (q.stands && has_place places q.node) (bytes_eq q.name.now phandle) h in
@@ -196,7 +196,7 @@ module _ (g : Growing) (b : Belongings) (rows : List Row) (are : AreRows g.nodes
       let at : slice_get places q.node ≡ Some (Some given.0) = inner.1 ∙ ap (λ (o : Option ℕ). Some o) inner.2 in
       let row = ordered.sound q.node given.0 at in
       let led = led_to row.0 (in_from rows given.0 row.0 row.1) in
-      let node : Leads nodes led.0 q.node = subst (Leads nodes led.0) row.2 led.1 in
+      let node : StandsUnder nodes led.0 q.node = subst (StandsUnder nodes led.0) row.2 led.1 in
       (led.0, record { property = q; there = there; stands = stood; named = bytes_eq_true q.name.now phandle name_is; value = refl; node = node }, node)
 
   -- ---- what is read is resolved
@@ -215,24 +215,24 @@ module _ (g : Growing) (b : Belongings) (rows : List Row) (are : AreRows g.nodes
       bound_some es (value_said w.property.value.now) ∙ all value.0 w.property h.0 w.there w.stands w.node in
       not_none (all_bound es h.2) (ap (λ (v : List Part). is_some (all_bound es v)) (sym w.value) ∙ some) h.4
 
-  written_there : AreWritten b.places.items g.properties.items → (p : Stack) (v : List Part) → value_at es p (codes "phandle") ≡ Some v → is_some (written v) ≡ true
+  written_there : AreWritten b.places.items g.properties.items → (p : Stack) (v : List Part) → value_at es p (codes "phandle") ≡ Some v → is_some (number_of_parts v) ≡ true
   written_there all p v e =
       let value = grown.values_are p phandle v e in
       let w = value.1 in
       let here = phandle_there p v value.0 w in
-      let some : not (is_some (written (value_said w.property.value.now))) ≡ false = and_false (is_phandle places w.property) (not (is_some (written (value_said w.property.value.now)))) here (all value.0 w.property w.there) in
-      ap (λ (u : List Part). is_some (written u)) (sym w.value) ∙ not_false (is_some (written (value_said w.property.value.now))) some
+      let some : not (is_some (number_of_parts (value_said w.property.value.now))) ≡ false = and_false (is_phandle places w.property) (not (is_some (number_of_parts (value_said w.property.value.now)))) here (all value.0 w.property w.there) in
+      ap (λ (u : List Part). is_some (number_of_parts u)) (sym w.value) ∙ not_false (is_some (number_of_parts (value_said w.property.value.now))) some
 
-  written_here : (p : Stack) (n : ℕ) → written_number es p ≡ Some n → (i : ℕ) × (q : Property) × (slice_get g.properties.items i ≡ Some q) × (phandle_written b.places.items q ≡ Some n) × Leads g.nodes.items p q.node
+  written_here : (p : Stack) (n : ℕ) → written_number es p ≡ Some n → (i : ℕ) × (q : Property) × (slice_get g.properties.items i ≡ Some q) × (phandle_written b.places.items q ≡ Some n) × StandsUnder g.nodes.items p q.node
   written_here p n e =
-      let v = then_some written (value_at es p phandle) n e in
+      let v = then_some number_of_parts (value_at es p phandle) n e in
       let value = grown.values_are p phandle v.0 v.1 in
       let w = value.1 in
       let here = phandle_there p v.0 value.0 w in (
         value.0,
         w.property,
         w.there,
-        ap (λ (t : Bool). cond t (written (value_said w.property.value.now)) None) here ∙ (ap written w.value ∙ v.2),
+        ap (λ (t : Bool). cond t (number_of_parts (value_said w.property.value.now)) None) here ∙ (ap number_of_parts w.value ∙ v.2),
         w.node,
       )
 
@@ -250,7 +250,7 @@ module _ (g : Growing) (b : Belongings) (rows : List Row) (are : AreRows g.nodes
         let at : slice_get properties first.0 ≡ Some second.1 = ap (slice_get properties) same ∙ second.2 in
         let there = first.2 in
         let one : first.1 ≡ second.1 = cc in
-        leads_once nodes p q first.1.node first.4 (subst (λ (r : Property). Leads nodes q r.node) (sym one) second.4);
+        leads_once nodes p q first.1.node first.4 (subst (λ (r : Property). StandsUnder nodes q r.node) (sym one) second.4);
   }
 
   -- ---- refusals
@@ -279,13 +279,13 @@ module _ (g : Growing) (b : Belongings) (rows : List Row) (are : AreRows g.nodes
   bad_there : HasUnwritten b.places.items g.properties.items → HasBadPhandle es
   bad_there h =
       let q = h.1 in
-      let here = and_left (is_phandle places q) (not (is_some (written (value_said q.value.now)))) h.3 in
-      let none = not_true (is_some (written (value_said q.value.now))) (and_right (is_phandle places q) (not (is_some (written (value_said q.value.now)))) h.3) in
+      let here = and_left (is_phandle places q) (not (is_some (number_of_parts (value_said q.value.now)))) h.3 in
+      let none = not_true (is_some (number_of_parts (value_said q.value.now))) (and_right (is_phandle places q) (not (is_some (number_of_parts (value_said q.value.now)))) h.3) in
       let found = phandle_found h.0 q h.2 here in
-      (found.0, value_said q.value.now, grown.values_stand found.0 phandle (value_said q.value.now) h.0 found.1, some_or_none (written (value_said q.value.now)) none)
+      (found.0, value_said q.value.now, grown.values_stand found.0 phandle (value_said q.value.now) h.0 found.1, some_or_none (number_of_parts (value_said q.value.now)) none)
 
   no_bad : AreWritten b.places.items g.properties.items → HasBadPhandle es → ⊥
-  no_bad all h = not_none (written h.1) (written_there all h.0 h.1 h.2) h.3
+  no_bad all h = not_none (number_of_parts h.1) (written_there all h.0 h.1 h.2) h.3
 
   -- a phandle that is written twice
   twice_there : HasTwice b.places.items g.properties.items → HasDuplicatePhandle es
@@ -295,16 +295,16 @@ module _ (g : Growing) (b : Belongings) (rows : List Row) (are : AreRows g.nodes
       let p = h.2 in
       let q = h.3 in
       let n = h.4 in
-      let first = cond_some (is_phandle places p) (written (value_said p.value.now)) n h.8 in
-      let second = cond_some (is_phandle places q) (written (value_said q.value.now)) n h.9 in
+      let first = cond_some (is_phandle places p) (number_of_parts (value_said p.value.now)) n h.8 in
+      let second = cond_some (is_phandle places q) (number_of_parts (value_said q.value.now)) n h.9 in
       let here = phandle_found i p h.6 first.0 in
       let there = phandle_found j q h.7 second.0 in (
         here.0,
         there.0,
         n,
         differ i j here.0 there.0 (value_said p.value.now) (value_said q.value.now) h.5 here.1 there.1,
-        ap (option_and_then written) (grown.values_stand here.0 phandle (value_said p.value.now) i here.1) ∙ first.1,
-        ap (option_and_then written) (grown.values_stand there.0 phandle (value_said q.value.now) j there.1) ∙ second.1,
+        ap (option_and_then number_of_parts) (grown.values_stand here.0 phandle (value_said p.value.now) i here.1) ∙ first.1,
+        ap (option_and_then number_of_parts) (grown.values_stand there.0 phandle (value_said q.value.now) j there.1) ∙ second.1,
       )
     where
       differ : (i j : ℕ) (p q : Stack) (v w : List Part) → i < j → HasValue g.nodes.items g.properties.items p (codes "phandle") v i →

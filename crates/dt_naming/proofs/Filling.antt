@@ -19,7 +19,7 @@ use Rattle.dt_items.specs.Said.{value_said}
 use Rattle.dt_growing.specs.declared.growing.Node.{Node}
 use Rattle.dt_growing.specs.declared.growing.Property.{Property}
 use Rattle.dt_growing.specs.declared.growing.Giving.{Giving}
-use Rattle.dt_growing.specs.Grown.{Leads, HasValue, HasLabel, IsGrown}
+use Rattle.dt_growing.specs.Grown.{StandsUnder, HasValue, HasLabel, IsGrown}
 use Rattle.dt_naming.specs.Owned.{AreOwned}
 use Rattle.dt_growing.specs.declared.referring.Unnamed.{Unnamed}
 use Rattle.dt_naming.specs.Contents.{property_owner, label_owner, named_parts, AreLabelled, all_read, named_property, property_at, label_at, content_of, AreResolved}
@@ -72,15 +72,15 @@ module _ (nodes : List Node) (properties : List Property) (givings : List Giving
   content = content_of unnamed es place properties givings property_indices label_indices
 
   -- the property of an index that belongs to a node that stands
-  owned_property : (p : Stack) (k i : ℕ) → Leads nodes p k → IsIn i (property_indices k) →
-      (q : Property) × (slice_get properties i ≡ Some q) × (q.stands ≡ true) × Leads nodes p q.node
+  owned_property : (p : Stack) (k i : ℕ) → StandsUnder nodes p k → IsIn i (property_indices k) →
+      (q : Property) × (slice_get properties i ≡ Some q) × (q.stands ≡ true) × StandsUnder nodes p q.node
   owned_property p k i h among =
       let found = map_some property_owner (slice_get properties i) (Some k) (sym (slice_get-map property_owner properties i) ∙ own_properties.sound k i among) in
       let owner = owner_stands found.0 k found.2 in
-      (found.0, found.1, owner.0, subst (Leads nodes p) (sym owner.1) h)
+      (found.0, found.1, owner.0, subst (StandsUnder nodes p) (sym owner.1) h)
 
   -- it is a value of the node
-  has_value : (p : Stack) (k i : ℕ) (h : Leads nodes p k) (among : IsIn i (property_indices k)) →
+  has_value : (p : Stack) (k i : ℕ) (h : StandsUnder nodes p k) (among : IsIn i (property_indices k)) →
       (q : Property) × (slice_get properties i ≡ Some q) × HasValue nodes properties p (property_at unnamed es place properties i).name (value_said q.value.now) i
   has_value p k i h among =
       let w = owned_property p k i h among in
@@ -89,7 +89,7 @@ module _ (nodes : List Node) (properties : List Property) (givings : List Giving
       (w.0, w.1, record { property = w.0; there = w.1; stands = w.2; named = named; value = refl; node = w.3 })
 
   -- each value of a node is at an index that belongs to it
-  value_owned : (p : Stack) (k : ℕ) (x : Name) (v : List Part) (i : ℕ) → Leads nodes p k → HasValue nodes properties p x v i →
+  value_owned : (p : Stack) (k : ℕ) (x : Name) (v : List Part) (i : ℕ) → StandsUnder nodes p k → HasValue nodes properties p x v i →
       IsIn i (property_indices k) × ((property_at unnamed es place properties i).name ≡ x)
   value_owned p k x v i h value =
       let same : value.property.node ≡ k = grown.one_node p value.property.node k value.node h in
@@ -103,7 +103,7 @@ module _ (nodes : List Node) (properties : List Property) (givings : List Giving
   -- ---- order
 
   -- the properties of a node stand in the order of the text
-  pub properties_in_order : (path : Path) (k : ℕ) → Leads nodes (reverse path) k → ArePropertiesInOrder es path (map (λ (x : NamedProperty NodeReference). x.name) (content k).properties)
+  pub properties_in_order : (path : Path) (k : ℕ) → StandsUnder nodes (reverse path) k → ArePropertiesInOrder es path (map (λ (x : NamedProperty NodeReference). x.name) (content k).properties)
   properties_in_order path k h = subst (ArePropertiesInOrder es path) (sym (names_again (property_indices k))) in_order
     where
       name : ℕ → Name
@@ -136,14 +136,14 @@ module _ (nodes : List Node) (properties : List Property) (givings : List Giving
       }
 
   -- the label of an index that belongs to a node
-  has_label : (p : Stack) (k i : ℕ) → Leads nodes p k → IsIn i (label_indices k) → HasLabel nodes givings (label_at givings i) p i
+  has_label : (p : Stack) (k i : ℕ) → StandsUnder nodes p k → IsIn i (label_indices k) → HasLabel nodes givings (label_at givings i) p i
   has_label p k i h among =
       let found = map_some label_owner (slice_get givings i) (Some k) (sym (slice_get-map label_owner givings i) ∙ own_labels.sound k i among) in
       let node : found.0.node ≡ k = let e = found.2 in cc in
       let label : found.0.label.now ≡ label_at givings i = sym (ap (λ (o : Option Giving). option_map_or (λ (g : Giving). g.label.now) o []) found.1) in
-      record { giving = found.0; there = found.1; label = label; node = subst (Leads nodes p) (sym node) h }
+      record { giving = found.0; there = found.1; label = label; node = subst (StandsUnder nodes p) (sym node) h }
 
-  label_owned : (p : Stack) (k : ℕ) (l : Name) (i : ℕ) → Leads nodes p k → HasLabel nodes givings l p i → IsIn i (label_indices k) × (label_at givings i ≡ l)
+  label_owned : (p : Stack) (k : ℕ) (l : Name) (i : ℕ) → StandsUnder nodes p k → HasLabel nodes givings l p i → IsIn i (label_indices k) × (label_at givings i ≡ l)
   label_owned p k l i h label =
       let same : label.giving.node ≡ k = grown.one_node p label.giving.node k label.node h in
       let there : slice_get (map label_owner givings) i ≡ Some (Some k) =
@@ -153,7 +153,7 @@ module _ (nodes : List Node) (properties : List Property) (givings : List Giving
       )
 
   -- so do its labels
-  pub labels_in_order : (path : Path) (k : ℕ) → Leads nodes (reverse path) k → AreLabelsInOrder es path (content k).labels
+  pub labels_in_order : (path : Path) (k : ℕ) → StandsUnder nodes (reverse path) k → AreLabelsInOrder es path (content k).labels
   labels_in_order path k h =
       let p = reverse path in
       record {
@@ -185,7 +185,7 @@ module _ (nodes : List Node) (properties : List Property) (givings : List Giving
         step (Some items) e = (items, e, sym (parts_told unnamed es place reverse path_of is parts) ∙ ap (option_map (map (item_renamed (reference_renamed path_of)))) e)
 
     -- the values of a node are those that stand
-    pub values_stand : (p : Stack) (k : ℕ) (x : Name) → Leads nodes p k →
+    pub values_stand : (p : Stack) (k : ℕ) (x : Name) → StandsUnder nodes p k →
         option_map (map (item_renamed (reference_renamed path_of))) (value_of (content k).properties x) ≡ option_and_then (all_read unnamed es) (value_at es p x)
     values_stand p k x h = step (value_of (content k).properties x) refl (value_at es p x) refl
       where
@@ -214,7 +214,7 @@ module _ (nodes : List Node) (properties : List Property) (givings : List Giving
             ap (λ (xs : List (Item NodeReference)). Some (map (item_renamed (reference_renamed path_of)) xs)) value ∙ (sym items.2 ∙ ap (option_and_then (all_read unnamed es)) (sym there ∙ f))
 
     -- and refer to nodes that have places
-    pub values_refer : AreLabelled unnamed es → (P : NodeReference → Type 0) → ((r : Reference) (p : Stack) → referent es r ≡ Some p → P (inside (place p))) → ((l : Name) → IsLabel l → P (outside l)) → (p : Stack) (k : ℕ) → Leads nodes p k →
+    pub values_refer : AreLabelled unnamed es → (P : NodeReference → Type 0) → ((r : Reference) (p : Stack) → referent es r ≡ Some p → P (inside (place p))) → ((l : Name) → IsLabel l → P (outside l)) → (p : Stack) (k : ℕ) → StandsUnder nodes p k →
         AllByRecursion (λ (q : NamedProperty NodeReference). EachReference P q.value) (content k).properties
     values_refer labelled P holds labels p k h = each_from (λ (q : NamedProperty NodeReference). EachReference P q.value) made (λ q among. refers q (in_map_from (property_at unnamed es place properties) (property_indices k) q among))
       where

@@ -21,7 +21,7 @@ use Rattle.dt_growing.specs.declared.growing.Node.{Node}
 use Rattle.dt_growing.specs.declared.growing.Property.{Property}
 use Rattle.dt_growing.specs.declared.growing.Giving.{Giving}
 use Rattle.dt_naming.specs.declared.listing.Row.{Row}
-use Rattle.dt_growing.specs.Grown.{Leads, IsGrown}
+use Rattle.dt_growing.specs.Grown.{StandsUnder, IsGrown}
 use Rattle.dt_naming.specs.Owned.{AreOwned}
 use Rattle.dt_naming.specs.Listing.{name_of, rows_of, ArePlaces, tree_with, listed_row}
 use Rattle.dt_growing.specs.declared.referring.Unnamed.{Unnamed}
@@ -85,20 +85,20 @@ child_found name x (b ∷ cs) c h e = step (bytes_eq x (name b)) refl h (λ g. c
     step false f (inl same) more = absurd (bytes_eq_differ x (name b) f (sym e ∙ ap name same))
     step false f (inr later) more = let w = more later in (w.0, w.1, inr w.2, w.3)
 
-module _ (nodes : List Node) (children : ℕ → List ℕ) (are : AreChildren nodes children) (one : (p : Stack) (i j : ℕ) → Leads nodes p i → Leads nodes p j → i ≡ j) where
-  led_there : (p : Stack) (k : ℕ) → Leads nodes p k → led (name_of nodes) children p ≡ Some k
+module _ (nodes : List Node) (children : ℕ → List ℕ) (are : AreChildren nodes children) (one : (p : Stack) (i j : ℕ) → StandsUnder nodes p i → StandsUnder nodes p j → i ≡ j) where
+  led_there : (p : Stack) (k : ℕ) → StandsUnder nodes p k → led (name_of nodes) children p ≡ Some k
   led_there [] k h = ap (λ (n : ℕ). Some n) (sym h.0)
   led_there (x ∷ p) k h =
       let parent = h.0.parent in
       let above = led_there p parent h.5 in
       let child = child_led nodes x p parent k (λ j g. one p j parent g h.5) h in
       let found = child_found (name_of nodes) x (children parent) k (are.complete parent k (leads_within nodes p parent h.5) child.0) child.1 in
-      let other : Leads nodes (x ∷ p) found.0 = subst (λ (y : Name). Leads nodes (y ∷ p) found.0) found.3 (leads_child nodes p parent found.0 h.5 (are.sound parent found.0 found.2)) in
+      let other : StandsUnder nodes (x ∷ p) found.0 = subst (λ (y : Name). StandsUnder nodes (y ∷ p) found.0) found.3 (leads_child nodes p parent found.0 h.5 (are.sound parent found.0 found.2)) in
       ap (option_and_then (λ j. child_of (name_of nodes) x (children j))) above ∙ (found.1 ∙ ap (λ (n : ℕ). Some n) (one (x ∷ p) found.0 k other h))
 
-  module _ (rows : List Row) (all : map (λ (r : Row). r.node) rows ≡ 0 ∷ walk children most_names 0) (shallow : (p : Stack) (k : ℕ) → Leads nodes p k → length p ≤ most_names)
+  module _ (rows : List Row) (all : map (λ (r : Row). r.node) rows ≡ 0 ∷ walk children most_names 0) (shallow : (p : Stack) (k : ℕ) → StandsUnder nodes p k → length p ≤ most_names)
       (places : List (Option ℕ)) (ordered : ArePlaces rows (length nodes) places) where
-    place_there : (p : Stack) (k : ℕ) → Leads nodes p k → (i : ℕ) × (slice_get places k ≡ Some (Some i)) × (place_by (name_of nodes) children places p ≡ i)
+    place_there : (p : Stack) (k : ℕ) → StandsUnder nodes p k → (i : ℕ) × (slice_get places k ≡ Some (Some i)) × (place_by (name_of nodes) children places p ≡ i)
     place_there p k h =
         let few : length p ≤ most_names = shallow p k h in
         let whole : length p + (most_names - length p) ≡ most_names = omega arith in
@@ -124,7 +124,7 @@ module _ (nodes : List Node) (children : ℕ → List ℕ) (are : AreChildren no
 
 -- ---- the tree
 
-module _ (nodes : List Node) (properties : List Property) (givings : List Giving) (es : Events) (grown : IsGrown nodes properties givings es) (rooted : Leads nodes [] 0)
+module _ (nodes : List Node) (properties : List Property) (givings : List Giving) (es : Events) (grown : IsGrown nodes properties givings es) (rooted : StandsUnder nodes [] 0)
     (children : ℕ → List ℕ) (are : AreChildren nodes children) (property_indices label_indices : ℕ → List ℕ)
     (own_properties : AreOwned (map property_owner properties) (length nodes) property_indices) (own_labels : AreOwned (map label_owner givings) (length nodes) label_indices)
     (unnamed : Unnamed) (place : Stack → ℕ) (reservations : List (ℕ × ℕ)) where
@@ -159,7 +159,7 @@ module _ (nodes : List Node) (properties : List Property) (givings : List Giving
 
   module _ (places : List (Option ℕ)) (ordered : ArePlaces rows (length nodes) places) (named : AreNamedBy nodes places (length rows) place) where
     -- the path of the place of some names
-    path_is : (p : Stack) (k : ℕ) → Leads nodes p k → path_among (paths_of tree) (place p) ≡ reverse p
+    path_is : (p : Stack) (k : ℕ) → StandsUnder nodes p k → path_among (paths_of tree) (place p) ≡ reverse p
     path_is p k h =
         let row = ordered.sound k (place p) (named.there p k h) in
         let at : slice_get (0 ∷ walk children most_names 0) (place p) ≡ Some k =
@@ -203,7 +203,7 @@ module _ (nodes : List Node) (properties : List Property) (givings : List Giving
           subst (λ (m : ℕ). place p < m) (sym count_is) (named.below p w.0 w.1)) (λ l label. label) (reverse n.path) k at.0)
 
       -- what a node that a path leads to has
-      content_here : (Q : Path → Content NodeReference → Type 0) → ((p : Path) (k : ℕ) → Leads nodes (reverse p) k → Q p (content k)) →
+      content_here : (Q : Path → Content NodeReference → Type 0) → ((p : Path) (k : ℕ) → StandsUnder nodes (reverse p) k → Q p (content k)) →
           (p : Path) (n : NamedNode NodeReference) → node_at tree p ≡ Some n → Q p n.content
       content_here Q each p n e =
           let found = found_at nodes properties givings es grown children are content reservations rooted p n e in

@@ -11,7 +11,7 @@ use Rattle.dt_model.specs.Named.{NodeReference, Content, NamedForest, NamedNode,
 use Rattle.dt_model.proofs.Tests.{bytes_eq_true, bytes_eq_differ}
 use Rattle.dt_model.proofs.Cases.{then_some}
 use Rattle.dt_growing.specs.declared.growing.Node.{Node}
-use Rattle.dt_growing.specs.Grown.{Leads}
+use Rattle.dt_growing.specs.Grown.{StandsUnder}
 use Rattle.dt_naming.specs.Listing.{trees_of, forest_below, name_of}
 use Rattle.dt_naming.proofs.ChildrenLed.{AreChildren, IsChild, leads_child, child_led, leads_up, leads_within}
 use Rattle.dt_naming.proofs.Walking.{walk, walk_each, in_each}
@@ -39,24 +39,24 @@ module _ (nodes : List Node) (children : ℕ → List ℕ) (are : AreChildren no
 
   -- the names of the path lead to the node, which has this content
   abbrev pub IsPlacedAt : NamedPlaced NodeReference → ℕ → Type 0
-  IsPlacedAt n k = Leads nodes (reverse n.path) k × (n.content ≡ content k)
+  IsPlacedAt n k = StandsUnder nodes (reverse n.path) k × (n.content ≡ content k)
 
   trees-placed : (below : ℕ → NamedForest NodeReference) (walked : ℕ → List ℕ) →
-      ((k : ℕ) (path : Path) → Leads nodes (reverse path) k → Pairwise IsPlacedAt (preorder path (below k)) (walked k)) →
-      (ks : List ℕ) (k : ℕ) (path : Path) → Leads nodes (reverse path) k → ((c : ℕ) → IsIn c ks → IsChild nodes k c) →
+      ((k : ℕ) (path : Path) → StandsUnder nodes (reverse path) k → Pairwise IsPlacedAt (preorder path (below k)) (walked k)) →
+      (ks : List ℕ) (k : ℕ) (path : Path) → StandsUnder nodes (reverse path) k → ((c : ℕ) → IsIn c ks → IsChild nodes k c) →
       Pairwise IsPlacedAt (preorder path (trees_of (name_of nodes) content below ks)) (walk_each walked ks)
   trees-placed below walked placed [] k path h all = tt
   trees-placed below walked placed (c ∷ ks) k path h all =
       let x = name_of nodes c in
       let back : x ∷ reverse path ≡ reverse (path ++ x ∷ []) = sym (reverse-append path (x ∷ [])) in
-      let led : Leads nodes (reverse (path ++ x ∷ [])) c = subst (λ (p : Stack). Leads nodes p c) back (leads_child nodes (reverse path) k c h (all c (inl refl))) in (
+      let led : StandsUnder nodes (reverse (path ++ x ∷ [])) c = subst (λ (p : Stack). StandsUnder nodes p c) back (leads_child nodes (reverse path) k c h (all c (inl refl))) in (
         (led, refl),
         pairs_append IsPlacedAt (preorder (path ++ x ∷ []) (below c)) (preorder path (trees_of (name_of nodes) content below ks)) (walked c) (walk_each walked ks)
             (placed c (path ++ x ∷ []) led) (trees-placed below walked placed ks k path h (λ j i. all j (inr i))),
       )
 
   -- the nodes in preorder are those that are walked
-  pub forest-placed : (depth k : ℕ) (path : Path) → Leads nodes (reverse path) k →
+  pub forest-placed : (depth k : ℕ) (path : Path) → StandsUnder nodes (reverse path) k →
       Pairwise IsPlacedAt (preorder path (forest_below (name_of nodes) content children depth k)) (walk children depth k)
   unfolding forest_below walk
   forest-placed zero k path h = tt
@@ -65,7 +65,7 @@ module _ (nodes : List Node) (children : ℕ → List ℕ) (are : AreChildren no
 
   -- ---- each node that names lead to is walked
 
-  pub all_walked : ((p : Stack) (i j : ℕ) → Leads nodes p i → Leads nodes p j → i ≡ j) → (depth : ℕ) (p : Stack) (k left : ℕ) → Leads nodes p k → length p + left ≡ depth →
+  pub all_walked : ((p : Stack) (i j : ℕ) → StandsUnder nodes p i → StandsUnder nodes p j → i ≡ j) → (depth : ℕ) (p : Stack) (k left : ℕ) → StandsUnder nodes p k → length p + left ≡ depth →
       IsIn k (0 ∷ walk children depth 0) × ((j : ℕ) → IsIn j (walk children left k) → IsIn j (0 ∷ walk children depth 0))
   unfolding walk
   all_walked one depth [] k left h e =
@@ -119,8 +119,8 @@ module _ (nodes : List Node) (children : ℕ → List ℕ) (are : AreChildren no
       step more false d g (inr later) = more g later e
 
   -- what a path leads to is a node with its depth
-  pub found_below : (p : Path) (depth k : ℕ) (q : Stack) (n : NamedNode NodeReference) → Leads nodes q k → node_below (grown_node depth k) p ≡ Some n →
-      (j left : ℕ) × Leads nodes (reverse p ++ q) j × (n ≡ grown_node left j) × (left + length (reverse p ++ q) ≡ depth + length q)
+  pub found_below : (p : Path) (depth k : ℕ) (q : Stack) (n : NamedNode NodeReference) → StandsUnder nodes q k → node_below (grown_node depth k) p ≡ Some n →
+      (j left : ℕ) × StandsUnder nodes (reverse p ++ q) j × (n ≡ grown_node left j) × (left + length (reverse p ++ q) ≡ depth + length q)
   unfolding forest_below
   found_below [] depth k q n h e = (k, depth, h, cc, refl)
   found_below (x ∷ p) zero k q n h e = cc
@@ -129,22 +129,22 @@ module _ (nodes : List Node) (children : ℕ → List ℕ) (are : AreChildren no
       let first = then_some f (sibling (forest_below (name_of nodes) content children (suc depth) k) x) n e in
       let found = sibling_found (forest_below (name_of nodes) content children depth) (children k) x first.0 first.1 in
       let c = found.0 in
-      let led : Leads nodes (x ∷ q) c = subst (λ (y : Name). Leads nodes (y ∷ q) c) found.2 (leads_child nodes q k c h (are.sound k c found.1)) in
+      let led : StandsUnder nodes (x ∷ q) c = subst (λ (y : Name). StandsUnder nodes (y ∷ q) c) found.2 (leads_child nodes q k c h (are.sound k c found.1)) in
       let rest = found_below p depth c (x ∷ q) n led (subst (λ (m : NamedNode NodeReference). node_below m p ≡ Some n) found.3 first.2) in
       let back : reverse p ++ (x ∷ q) ≡ reverse (x ∷ p) ++ q = sym (turned p x q) in
       let same : length (reverse p ++ (x ∷ q)) ≡ length (reverse (x ∷ p) ++ q) = ap (λ (r : Stack). length r) back in
       let below : rest.1 + length (reverse p ++ (x ∷ q)) ≡ depth + suc (length q) = rest.4 in
       let size : rest.1 + length (reverse (x ∷ p) ++ q) ≡ suc depth + length q = omega arith in
-      (rest.0, rest.1, subst (λ (r : Stack). Leads nodes r rest.0) back rest.2, rest.3, size)
+      (rest.0, rest.1, subst (λ (r : Stack). StandsUnder nodes r rest.0) back rest.2, rest.3, size)
 
   -- where names lead to a node, the path does
-  pub led_below : ((p : Stack) (i j : ℕ) → Leads nodes p i → Leads nodes p j → i ≡ j) → (p : Path) (depth k : ℕ) (q : Stack) (j : ℕ) → Leads nodes q k → Leads nodes (reverse p ++ q) j →
+  pub led_below : ((p : Stack) (i j : ℕ) → StandsUnder nodes p i → StandsUnder nodes p j → i ≡ j) → (p : Path) (depth k : ℕ) (q : Stack) (j : ℕ) → StandsUnder nodes q k → StandsUnder nodes (reverse p ++ q) j →
       length p ≤ depth → (n : NamedNode NodeReference) × (node_below (grown_node depth k) p ≡ Some n)
   unfolding forest_below
   led_below one [] depth k q j h g few = (grown_node depth k, refl)
   led_below one (x ∷ p) zero k q j h g few = absurd (omega arith)
   led_below one (x ∷ p) (suc depth) k q j h g few =
-      let on : Leads nodes (reverse p ++ (x ∷ q)) j = subst (λ (r : Stack). Leads nodes r j) (turned p x q) g in
+      let on : StandsUnder nodes (reverse p ++ (x ∷ q)) j = subst (λ (r : Stack). StandsUnder nodes r j) (turned p x q) g in
       let above = leads_up nodes (reverse p) (x ∷ q) j on in
       let child = child_led nodes x q k above.0 (λ i l. one q i k l h) above.1 in
       let among = are.complete k above.0 (leads_within nodes q k h) child.0 in
@@ -156,12 +156,12 @@ module _ (nodes : List Node) (children : ℕ → List ℕ) (are : AreChildren no
       Found : Option (NamedNode NodeReference) → Type 0
       Found o = (n : NamedNode NodeReference) × (option_and_then (λ c. node_below c p) o ≡ Some n)
 
-      step : Leads nodes (reverse p ++ (x ∷ q)) j → (c : ℕ) → IsIn c (children k) → name_of nodes c ≡ x → (o : Option (NamedNode NodeReference)) → here ≡ o →
-          ((d : ℕ) → Leads nodes (x ∷ q) d → (n : NamedNode NodeReference) × (node_below (grown_node depth d) p ≡ Some n)) → Found here
+      step : StandsUnder nodes (reverse p ++ (x ∷ q)) j → (c : ℕ) → IsIn c (children k) → name_of nodes c ≡ x → (o : Option (NamedNode NodeReference)) → here ≡ o →
+          ((d : ℕ) → StandsUnder nodes (x ∷ q) d → (n : NamedNode NodeReference) × (node_below (grown_node depth d) p ≡ Some n)) → Found here
       step on c among named None e more = absurd (sibling_missed (forest_below (name_of nodes) content children depth) (children k) x e c among named)
       step on c among named (Some m) e more =
           let found = sibling_found (forest_below (name_of nodes) content children depth) (children k) x m e in
           let d = found.0 in
-          let led : Leads nodes (x ∷ q) d = subst (λ (y : Name). Leads nodes (y ∷ q) d) found.2 (leads_child nodes q k d h (are.sound k d found.1)) in
+          let led : StandsUnder nodes (x ∷ q) d = subst (λ (y : Name). StandsUnder nodes (y ∷ q) d) found.2 (leads_child nodes q k d h (are.sound k d found.1)) in
           let rest = more d led in
           subst Found (sym e) (rest.0, ap (λ (a : NamedNode NodeReference). node_below a p) found.3 ∙ rest.1)

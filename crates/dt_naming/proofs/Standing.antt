@@ -14,7 +14,7 @@ use Rattle.dt_model.proofs.Tests.{each_from, in_map, in_map_from}
 use Rattle.dt_growing.specs.declared.growing.Node.{Node}
 use Rattle.dt_growing.specs.declared.growing.Property.{Property}
 use Rattle.dt_growing.specs.declared.growing.Giving.{Giving}
-use Rattle.dt_growing.specs.Grown.{Leads, IsGrown}
+use Rattle.dt_growing.specs.Grown.{StandsUnder, IsGrown}
 use Rattle.dt_naming.specs.Owned.{AreRising}
 use Rattle.dt_naming.specs.Listing.{trees_of, forest_below, name_of, tree_with}
 use Rattle.dt_naming.proofs.ChildrenLed.{AreChildren, IsChild, leads_child, child_led, leads_within}
@@ -41,25 +41,25 @@ module _ (nodes : List Node) (properties : List Property) (givings : List Giving
   tree reservations = tree_with reservations (name_of nodes) content children
 
   -- what a path leads to is a node that stands
-  pub found_at : (reservations : List (ℕ × ℕ)) (rooted : Leads nodes [] 0) (p : Path) (n : NamedNode NodeReference) → node_at (tree reservations) p ≡ Some n →
-      (j left : ℕ) × Leads nodes (reverse p) j × (n ≡ grown_node nodes children are content left j) × (left + length p ≡ most_names)
+  pub found_at : (reservations : List (ℕ × ℕ)) (rooted : StandsUnder nodes [] 0) (p : Path) (n : NamedNode NodeReference) → node_at (tree reservations) p ≡ Some n →
+      (j left : ℕ) × StandsUnder nodes (reverse p) j × (n ≡ grown_node nodes children are content left j) × (left + length p ≡ most_names)
   found_at reservations rooted p n e =
       let found = found_below nodes children are content p most_names 0 [] n rooted e in
       let end : reverse p ++ [] ≡ reverse p = append-nil (reverse p) in
       let size : found.1 + length (reverse p ++ []) ≡ most_names + 0 = found.4 in
       let same : length (reverse p ++ []) ≡ length p = ap (λ (r : Stack). length r) end ∙ length-reverse p in
-      (found.0, found.1, subst (λ (r : Stack). Leads nodes r found.0) end found.2, found.3, omega arith)
+      (found.0, found.1, subst (λ (r : Stack). StandsUnder nodes r found.0) end found.2, found.3, omega arith)
 
-  pub led_at : (reservations : List (ℕ × ℕ)) (rooted : Leads nodes [] 0) (p : Path) (j : ℕ) → Leads nodes (reverse p) j →
+  pub led_at : (reservations : List (ℕ × ℕ)) (rooted : StandsUnder nodes [] 0) (p : Path) (j : ℕ) → StandsUnder nodes (reverse p) j →
       (n : NamedNode NodeReference) × (node_at (tree reservations) p ≡ Some n)
   led_at reservations rooted p j h =
       let end : reverse p ≡ reverse p ++ [] = sym (append-nil (reverse p)) in
       let few : length (reverse p) ≤ most_names = grown.shallow (reverse p) j h in
       let same : length (reverse p) ≡ length p = length-reverse p in
-      led_below nodes children are content grown.one_node p most_names 0 [] j rooted (subst (λ (r : Stack). Leads nodes r j) end h) (omega arith)
+      led_below nodes children are content grown.one_node p most_names 0 [] j rooted (subst (λ (r : Stack). StandsUnder nodes r j) end h) (omega arith)
 
   -- a path leads to a node exactly where the node stands
-  pub nodes_stand : (reservations : List (ℕ × ℕ)) (rooted : Leads nodes [] 0) (p : Path) → is_some (node_at (tree reservations) p) ≡ stands es (reverse p)
+  pub nodes_stand : (reservations : List (ℕ × ℕ)) (rooted : StandsUnder nodes [] 0) (p : Path) → is_some (node_at (tree reservations) p) ≡ stands es (reverse p)
   nodes_stand reservations rooted p = step (node_at (tree reservations) p) refl (stands es (reverse p)) refl
     where
       step : (o : Option (NamedNode NodeReference)) → node_at (tree reservations) p ≡ o → (b : Bool) → stands es (reverse p) ≡ b → is_some o ≡ b
@@ -75,7 +75,7 @@ module _ (nodes : List Node) (properties : List Property) (givings : List Giving
 
   -- ---- children
 
-  names_here : (left j : ℕ) (q : Stack) → Leads nodes q j → left + length q ≡ most_names → names (forest_below (name_of nodes) content children left j) ≡ map (name_of nodes) (children j)
+  names_here : (left j : ℕ) (q : Stack) → StandsUnder nodes q j → left + length q ≡ most_names → names (forest_below (name_of nodes) content children left j) ≡ map (name_of nodes) (children j)
   unfolding forest_below
   names_here zero j q h e = step (children j) (are.sound j)
     where
@@ -87,7 +87,7 @@ module _ (nodes : List Node) (properties : List Property) (givings : List Giving
           let more : suc (length q) ≤ most_names = deep in absurd (omega arith)
   names_here (suc left) j q h e = names_of_trees (name_of nodes) content (forest_below (name_of nodes) content children left) (children j)
 
-  pub children_in_order : (reservations : List (ℕ × ℕ)) (rooted : Leads nodes [] 0) (p : Path) (n : NamedNode NodeReference) → node_at (tree reservations) p ≡ Some n → AreChildrenInOrder es p (names n.children)
+  pub children_in_order : (reservations : List (ℕ × ℕ)) (rooted : StandsUnder nodes [] 0) (p : Path) (n : NamedNode NodeReference) → node_at (tree reservations) p ≡ Some n → AreChildrenInOrder es p (names n.children)
   children_in_order reservations rooted p n e =
       let found = found_at reservations rooted p n e in
       let j = found.0 in
@@ -97,9 +97,9 @@ module _ (nodes : List Node) (properties : List Property) (givings : List Giving
       let here : names n.children ≡ map (name_of nodes) (children j) = ap (λ (m : NamedNode NodeReference). names m.children) found.3 ∙ names_here found.1 j (reverse p) found.2 full in
       subst (AreChildrenInOrder es p) (sym here) (in_order j found.2)
     where
-      in_order : (j : ℕ) → Leads nodes (reverse p) j → AreChildrenInOrder es p (map (name_of nodes) (children j))
+      in_order : (j : ℕ) → StandsUnder nodes (reverse p) j → AreChildrenInOrder es p (map (name_of nodes) (children j))
       in_order j h =
-          let led : (c : ℕ) → IsIn c (children j) → Leads nodes (name_of nodes c ∷ reverse p) c = λ c i. leads_child nodes (reverse p) j c h (are.sound j c i) in
+          let led : (c : ℕ) → IsIn c (children j) → StandsUnder nodes (name_of nodes c ∷ reverse p) c = λ c i. leads_child nodes (reverse p) j c h (are.sound j c i) in
           record {
             sound = each_from (λ (x : Name). stands es (x ∷ reverse p) ≡ true) (map (name_of nodes) (children j))
                 (λ x i. let w = in_map_from (name_of nodes) (children j) x i in

@@ -15,7 +15,7 @@ use Rattle.dt_growing.specs.declared.growing.Property.{Property}
 use Rattle.dt_growing.specs.declared.growing.Giving.{Giving}
 use Rattle.dt_growing.specs.declared.referring.Unnamed.{Unnamed}
 use Rattle.dt_growing.specs.declared.referring.Unnamed.TheVariants.{Refused, Kept}
-use Rattle.dt_growing.specs.Grown.{Leads}
+use Rattle.dt_growing.specs.Grown.{StandsUnder}
 
 -- ---- what belongs to which node
 
@@ -39,8 +39,8 @@ names_text (x ∷ p) = names_text p ++ 47 ∷ x
 
 -- The places that nodes are referred to by are those that they have in a list: each node that stands has one, below the limit.
 pub record AreNamedBy (nodes : List Node) (places : List (Option ℕ)) (limit : ℕ) (place : Stack → ℕ) : Type 0 where
-  pub there : (p : Stack) (k : ℕ) → Leads nodes p k → slice_get places k ≡ Some (Some (place p))
-  pub below : (p : Stack) (k : ℕ) → Leads nodes p k → place p < limit
+  pub there : (p : Stack) (k : ℕ) → StandsUnder nodes p k → slice_get places k ≡ Some (Some (place p))
+  pub below : (p : Stack) (k : ℕ) → StandsUnder nodes p k → place p < limit
 
 -- the label of a cell's reference that names no node, where it is kept
 abbrev pub kept_label : Unnamed → Reference → Option Name
@@ -100,4 +100,4 @@ module _ (unnamed : Unnamed) (es : Events) (place : Stack → ℕ) where
 -- each reference of a value that stands is read
 abbrev pub AreResolved : Unnamed → List Node → List Property → Events → Type 0
 AreResolved unnamed nodes properties es =
-    (i : ℕ) (q : Property) (p : Stack) → slice_get properties i ≡ Some q → q.stands ≡ true → Leads nodes p q.node → IsSome (all_read unnamed es (value_said q.value.now))
+    (i : ℕ) (q : Property) (p : Stack) → slice_get properties i ≡ Some q → q.stands ≡ true → StandsUnder nodes p q.node → IsSome (all_read unnamed es (value_said q.value.now))

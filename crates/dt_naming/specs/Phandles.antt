@@ -2,7 +2,7 @@
 use Rattle.std.specs.Prelude.{◌≡◌, ℕ, ◌<◌, Bool, false, true, not, ◌&&◌, List, Option, None, Some, is_some, option_and_then, slice_get, nat_eq, if◌then◌else◌, codes}
 use Rattle.std.specs.Str.{bytes_eq}
 use Rattle.std.specs.HashSet.{HashSet, contains}
-use Rattle.dt_model.specs.Source.{written}
+use Rattle.dt_model.specs.Source.{number_of_parts}
 use Rattle.dt_names.specs.declared.fault.Fault.{Fault}
 use Rattle.dt_names.specs.declared.fault.FaultKind.{FaultKind}
 use Rattle.dt_names.specs.declared.fault.FaultKind.TheVariants as fault
@@ -27,11 +27,11 @@ is_phandle places q = q.stands && has_place places q.node && bytes_eq q.name.now
 
 -- the phandle that it writes there
 abbrev pub phandle_written : List (Option ℕ) → Property → Option ℕ
-phandle_written places q = if is_phandle places q then written (value_said q.value.now) else None
+phandle_written places q = if is_phandle places q then number_of_parts (value_said q.value.now) else None
 
 -- it writes none
 abbrev pub is_unwritten : List (Option ℕ) → Property → Bool
-is_unwritten places q = is_phandle places q && not (is_some (written (value_said q.value.now)))
+is_unwritten places q = is_phandle places q && not (is_some (number_of_parts (value_said q.value.now)))
 
 -- each `phandle` writes a number
 abbrev pub AreWritten : List (Option ℕ) → List Property → Type 0

@@ -5,7 +5,7 @@ ghost use Rattle.std.specs.Cow.{cow_slice_items};
 ghost use Rattle.dt_model.specs.Lists.{IsIn};
 ghost use Rattle.dt_growing.specs.Grown.{name_said};
 ghost use Rattle.dt_named.specs.Said.{property_said, node_said};
-ghost use Rattle.dt_growing.specs.Growing.{IsSound};
+ghost use Rattle.dt_growing.specs.Growing.{IsSoundGrowing};
 ghost use Rattle.dt_naming.specs.Owned.{group_of};
 ghost use Rattle.dt_naming.specs.Listing.{name_of};
 ghost use Rattle.dt_naming.specs.Contents.{label_at};
@@ -73,7 +73,7 @@ fn labels_at<'a>(
 impl<'a> Resolver<'_, '_, 'a> {
     /// The property at an index, with its references read.
     fn property_there(&self, alloc: Global, index: usize) -> Result<NamedProperty<'a>, Fault>
-        requires sound { IsSound self.now.growing.now }
+        requires sound { IsSoundGrowing self.now.growing.now }
         requires inside { index < length self.now.growing.now.properties.items }
         ensures { MatchResult result
             (λ property. EachNaming self.now.growing.now self.now.belongings.now.places.items (λ es place.
@@ -95,7 +95,7 @@ impl<'a> Resolver<'_, '_, 'a> {
         indices: &[usize],
         properties: &mut Vec<NamedProperty<'a>>,
     ) -> Result<(), Fault>
-        requires sound { IsSound self.now.growing.now }
+        requires sound { IsSoundGrowing self.now.growing.now }
         requires inside { (i : ℕ) → IsIn i indices.now → i < length self.now.growing.now.properties.items }
         requires empty { properties.old.items ≡ [] }
         ensures { MatchResult result
@@ -116,7 +116,7 @@ impl<'a> Resolver<'_, '_, 'a> {
         alloc: Global,
         indices: &[usize],
     ) -> Result<Vec<NamedProperty<'a>>, Fault>
-        requires sound { IsSound self.now.growing.now }
+        requires sound { IsSoundGrowing self.now.growing.now }
         requires inside { (i : ℕ) → IsIn i indices.now → i < length self.now.growing.now.properties.items }
         ensures { MatchResult result
             (λ properties. EachNaming self.now.growing.now self.now.belongings.now.places.items (λ es place.
@@ -130,7 +130,7 @@ impl<'a> Resolver<'_, '_, 'a> {
 
     /// The node of a row.
     fn named_node(&self, alloc: Global, row: Row) -> Result<NamedNode<'a>, Fault>
-        requires sound { IsSound self.now.growing.now }
+        requires sound { IsSoundGrowing self.now.growing.now }
         requires belong { Belong self.now.growing.now self.now.belongings.now }
         ensures { MatchResult result
             (λ node. EachNaming self.now.growing.now self.now.belongings.now.places.items (λ es place.
@@ -160,7 +160,7 @@ impl<'a> Resolver<'_, '_, 'a> {
         rows: &[Row],
         nodes: &mut Vec<NamedNode<'a>>,
     ) -> Result<(), Fault>
-        requires sound { IsSound self.now.growing.now }
+        requires sound { IsSoundGrowing self.now.growing.now }
         requires belong { Belong self.now.growing.now self.now.belongings.now }
         requires empty { nodes.old.items ≡ [] }
         ensures { MatchResult result

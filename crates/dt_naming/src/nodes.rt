@@ -2,7 +2,7 @@
 
 ghost use Rattle.std.specs.Prelude.{◌≡◌, [], length, map, MatchResult};
 ghost use Rattle.dt_named.specs.Said.{node_said};
-ghost use Rattle.dt_growing.specs.Growing.{IsSound};
+ghost use Rattle.dt_growing.specs.Growing.{IsSoundGrowing};
 ghost use Rattle.dt_naming.specs.Listing.{AreRows, ArePlaces};
 ghost use Rattle.dt_naming.specs.Resolving.{Belong};
 ghost use Rattle.dt_naming.specs.Nodes.{AreFilled, IsUnfilled, AreListed, IsUnlisted, AreKept, IsUnkept};
@@ -25,7 +25,7 @@ fn fill<'a>(
     rows: &[Row],
     nodes: &mut Vec<NamedNode<'a>>,
 ) -> Result<(), Fault>
-    requires sound { IsSound growing.now }
+    requires sound { IsSoundGrowing growing.now }
     requires belong { Belong growing.now belongings.now }
     requires empty { nodes.old.items ≡ [] }
     ensures { MatchResult result
@@ -49,7 +49,7 @@ fn filled_nodes<'a>(
     belongings: &Belongings,
     rows: &[Row],
 ) -> Result<Vec<NamedNode<'a>>, Fault>
-    requires sound { IsSound growing.now }
+    requires sound { IsSoundGrowing growing.now }
     requires rows { AreRows growing.now.nodes.items rows.now }
     requires belong { Belong growing.now belongings.now }
     requires places { ArePlaces rows.now (length growing.now.nodes.items) belongings.now.places.items }
@@ -69,7 +69,7 @@ fn nodes_of_rows<'a>(
     growing: &Growing<'_, 'a>,
     rows: &[Row],
 ) -> Result<Vec<NamedNode<'a>>, Fault>
-    requires sound { IsSound growing.now }
+    requires sound { IsSoundGrowing growing.now }
     requires rows { AreRows growing.now.nodes.items rows.now }
     ensures { MatchResult result
         (λ nodes. AreListed growing.now (map node_said nodes.items))
@@ -86,7 +86,7 @@ pub fn named_nodes<'a>(
     seed: Seed,
     growing: &Growing<'_, 'a>,
 ) -> Result<Vec<NamedNode<'a>>, Fault>
-    requires { IsSound growing.now }
+    requires { IsSoundGrowing growing.now }
     ensures { MatchResult result
         (λ nodes. AreListed growing.now (map node_said nodes.items))
         (λ fault. IsUnlisted growing.now fault) }
@@ -102,7 +102,7 @@ fn kept_nodes<'a>(
     belongings: &Belongings,
     rows: &[Row],
 ) -> Result<Vec<NamedNode<'a>>, Fault>
-    requires sound { IsSound growing.now }
+    requires sound { IsSoundGrowing growing.now }
     requires rows { AreRows growing.now.nodes.items rows.now }
     requires belong { Belong growing.now belongings.now }
     requires places { ArePlaces rows.now (length growing.now.nodes.items) belongings.now.places.items }
@@ -126,7 +126,7 @@ fn overlay_nodes_of_rows<'a>(
     growing: &Growing<'_, 'a>,
     rows: &[Row],
 ) -> Result<Vec<NamedNode<'a>>, Fault>
-    requires sound { IsSound growing.now }
+    requires sound { IsSoundGrowing growing.now }
     requires rows { AreRows growing.now.nodes.items rows.now }
     ensures { MatchResult result
         (λ nodes. AreKept growing.now (map node_said nodes.items))
@@ -141,7 +141,7 @@ pub fn overlay_nodes<'a>(
     alloc: Global,
     growing: &Growing<'_, 'a>,
 ) -> Result<Vec<NamedNode<'a>>, Fault>
-    requires { IsSound growing.now }
+    requires { IsSoundGrowing growing.now }
     ensures { MatchResult result
         (λ nodes. AreKept growing.now (map node_said nodes.items))
         (λ fault. IsUnkept growing.now fault) }

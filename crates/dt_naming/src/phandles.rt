@@ -2,7 +2,7 @@
 
 ghost use Rattle.std.specs.Prelude.{◌≡◌, ℕ, false, OnOk, IfOk, MatchResult, not, nat_eq, ◌||◌};
 ghost use Rattle.std.specs.Option.{option_map_or};
-ghost use Rattle.dt_model.specs.Source.{written};
+ghost use Rattle.dt_model.specs.Source.{number_of_parts};
 ghost use Rattle.dt_items.specs.Said.{value_said};
 ghost use Rattle.dt_naming.specs.Phandles.{has_place, is_phandle, is_unwritten, phandle_written, has_seen, AreWritten, AreOwn, WhyNotWritten, WhyNotOwn, WhyNotNumbered};
 
@@ -14,7 +14,7 @@ use std::collections::HashSet;
 
 /// The phandle that a value of the property `phandle` writes: four bytes without a reference, of 1 to 0xfffffffe.
 fn phandle_in(value: &Value<'_>) -> Option<u32>
-    ensures { result ≡ written (value_said value.now) }
+    ensures { result ≡ number_of_parts (value_said value.now) }
 {
     if !value.pieces.is_empty() {
         return None;

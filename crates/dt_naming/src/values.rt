@@ -8,8 +8,8 @@ ghost use Rattle.dt_model.specs.Source.{Events, number_of, text_of};
 ghost use Rattle.dt_items.specs.Said.{reference_of, referring, piece_parts};
 ghost use Rattle.dt_items.specs.Said as source_said;
 ghost use Rattle.dt_named.specs.Said.{reference_said, value_said};
-ghost use Rattle.dt_growing.specs.Grown.{AreAbove, Leads};
-ghost use Rattle.dt_growing.specs.Growing.{IsSound};
+ghost use Rattle.dt_growing.specs.Grown.{AreAbove, StandsUnder};
+ghost use Rattle.dt_growing.specs.Growing.{IsSoundGrowing};
 ghost use Rattle.dt_naming.specs.Contents.{names_text, kept_label, named_cell, named_part, named_parts};
 ghost use Rattle.dt_naming.specs.Resolving.{IsGrownBy, EachNaming, IsAdded, IsUnread};
 
@@ -33,7 +33,7 @@ fn add_name(text: &mut Vec<u8>, name: &[u8]) -> Result<(), AllocError>
 /// Adds each name of a node's path with a `/` before it.
 fn add_names(text: &mut Vec<u8>, nodes: &[Node<'_, '_>], node: usize) -> Result<(), AllocError>
     requires { AreAbove nodes.now }
-    ensures { OnOk result ((p : Stack) → Leads nodes.now p node → text.new.items ≡ text.old.items ++ names_text p) }
+    ensures { OnOk result ((p : Stack) → StandsUnder nodes.now p node → text.new.items ≡ text.old.items ++ names_text p) }
 {
     if node == 0 {
         return Ok(());
@@ -48,7 +48,7 @@ fn add_names(text: &mut Vec<u8>, nodes: &[Node<'_, '_>], node: usize) -> Result<
 /// Adds the text of a node's path.
 fn add_path(text: &mut Vec<u8>, nodes: &[Node<'_, '_>], node: usize) -> Result<(), AllocError>
     requires { AreAbove nodes.now }
-    ensures { OnOk result ((p : Stack) → Leads nodes.now p node → text.new.items ≡ text.old.items ++ path_text (reverse p)) }
+    ensures { OnOk result ((p : Stack) → StandsUnder nodes.now p node → text.new.items ≡ text.old.items ++ path_text (reverse p)) }
 {
     if node == 0 {
         add_name(text, b"")?;
@@ -61,7 +61,7 @@ fn add_path(text: &mut Vec<u8>, nodes: &[Node<'_, '_>], node: usize) -> Result<(
 /// Adds the text of a node's path, and a NUL.
 fn add_path_value(text: &mut Vec<u8>, nodes: &[Node<'_, '_>], node: usize) -> Result<(), AllocError>
     requires { AreAbove nodes.now }
-    ensures { OnOk result ((p : Stack) → Leads nodes.now p node → text.new.items ≡ text.old.items ++ path_value (reverse p)) }
+    ensures { OnOk result ((p : Stack) → StandsUnder nodes.now p node → text.new.items ≡ text.old.items ++ path_value (reverse p)) }
 {
     add_path(text, nodes, node)?;
     text.push(0)?;
@@ -106,7 +106,7 @@ fn add_path_bytes(
     node: usize,
 ) -> Result<(), AllocError>
     requires { AreAbove nodes.now }
-    ensures { OnOk result ((p : Stack) → Leads nodes.now p node → value_said value.new ≡ value_said value.old ++ map byte (path_value (reverse p))) }
+    ensures { OnOk result ((p : Stack) → StandsUnder nodes.now p node → value_said value.new ≡ value_said value.old ++ map byte (path_value (reverse p))) }
 {
     add_path_value(&mut value.bytes, nodes, node)?;
     Ok(())
@@ -137,7 +137,7 @@ impl Resolver<'_, '_, '_> {
 
     /// What a cell's reference is.
     fn named_cell<'a>(&self, reference: &Reference<'a>) -> Option<NamedReference<'a>>
-        requires { IsSound self.now.growing.now }
+        requires { IsSoundGrowing self.now.growing.now }
         ensures { MatchOption result
             ((es : Events) → IsGrownBy self.now.growing.now es → (named_parts self.now.unnamed es reverse (number_of (reference_of reference.now) ∷ []) ≡ None))
             (λ named. EachNaming self.now.growing.now self.now.belongings.now.places.items (λ es place. named_cell self.now.unnamed es place (reference_of reference.now) ≡ Some (reference_said named))) }
@@ -155,7 +155,7 @@ impl Resolver<'_, '_, '_> {
         reference: &Reference<'a>,
         value: &mut NamedValue<'a>,
     ) -> Result<(), Fault>
-        requires { IsSound self.now.growing.now }
+        requires { IsSoundGrowing self.now.growing.now }
         ensures { MatchResult result
             (λ _. EachNaming self.now.growing.now self.now.belongings.now.places.items (λ es place.
             IsAdded (value_said value.old) (named_part self.now.unnamed es place (number_of (reference_of reference.now))) (value_said value.new)))
@@ -170,7 +170,7 @@ impl Resolver<'_, '_, '_> {
 
     /// Adds a reference outside a cell list.
     fn add_text(&self, reference: &Reference<'_>, value: &mut NamedValue<'_>) -> Result<(), Fault>
-        requires sound { IsSound self.now.growing.now }
+        requires sound { IsSoundGrowing self.now.growing.now }
         ensures { MatchResult result
             (λ _. (es : Events) (place : Stack → ℕ) → IsGrownBy self.now.growing.now es →
             IsAdded (value_said value.old) (named_part self.now.unnamed es place (text_of (reference_of reference.now))) (value_said value.new))
@@ -190,7 +190,7 @@ impl Resolver<'_, '_, '_> {
         piece: &Piece<'a>,
         value: &mut NamedValue<'a>,
     ) -> Result<(), Fault>
-        requires { IsSound self.now.growing.now }
+        requires { IsSoundGrowing self.now.growing.now }
         ensures { MatchResult result
             (λ _. EachNaming self.now.growing.now self.now.belongings.now.places.items (λ es place.
             IsAdded (value_said value.old) (named_part self.now.unnamed es place (referring piece.now.form (reference_of piece.now.reference))) (value_said value.new)))
@@ -209,7 +209,7 @@ impl Resolver<'_, '_, '_> {
         piece: &Piece<'a>,
         value: &mut NamedValue<'a>,
     ) -> Result<(), Fault>
-        requires sound { IsSound self.now.growing.now }
+        requires sound { IsSoundGrowing self.now.growing.now }
         ensures { MatchResult result
             (λ _. EachNaming self.now.growing.now self.now.belongings.now.places.items (λ es place.
             IsAdded (value_said value.old) (named_parts self.now.unnamed es place (piece_parts piece.now)) (value_said value.new)))
@@ -226,7 +226,7 @@ impl Resolver<'_, '_, '_> {
         source: &Value<'a>,
         value: &mut NamedValue<'a>,
     ) -> Result<(), Fault>
-        requires sound { IsSound self.now.growing.now }
+        requires sound { IsSoundGrowing self.now.growing.now }
         requires empty { value_said value.old ≡ [] }
         ensures { MatchResult result
             (λ _. EachNaming self.now.growing.now self.now.belongings.now.places.items (λ es place.
@@ -248,7 +248,7 @@ impl Resolver<'_, '_, '_> {
         alloc: Global,
         source: &Value<'a>,
     ) -> Result<NamedValue<'a>, Fault>
-        requires sound { IsSound self.now.growing.now }
+        requires sound { IsSoundGrowing self.now.growing.now }
         ensures { MatchResult result
             (λ value. EachNaming self.now.growing.now self.now.belongings.now.places.items (λ es place.
             named_parts self.now.unnamed es place (source_said.value_said source.now) ≡ Some (value_said value)))

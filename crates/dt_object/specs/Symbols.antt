@@ -18,10 +18,10 @@ pub record IsFirstName (bytes name : List ℕ) : Type 0 where
   pub whole : (bytes ≡ name) ⊎ ((rest : List ℕ) × (bytes ≡ name ++ 47 ∷ rest))
 
 -- what the text of a symbol names
-abbrev pub IsNamed : Arena → List ℕ → SymbolNames → Type 0
-IsNamed object text Nothing = ¬ IsOfFragment (reading object) text
-IsNamed object text Missing = IsOfFragment (reading object) text × (node_named (nodes_of (reading object)) (text ++ 0 ∷ []) ≡ None)
-IsNamed object text (Node i) =
+abbrev pub IsWhatTextNames : Arena → List ℕ → SymbolNames → Type 0
+IsWhatTextNames object text Nothing = ¬ IsOfFragment (reading object) text
+IsWhatTextNames object text Missing = IsOfFragment (reading object) text × (node_named (nodes_of (reading object)) (text ++ 0 ∷ []) ≡ None)
+IsWhatTextNames object text (Node i) =
     IsOfFragment (reading object) text
     × ((p : Path) × (node_named (nodes_of (reading object)) (text ++ 0 ∷ []) ≡ Some p) × (node_from object.slots 0 p ≡ Some i))
 

@@ -8,7 +8,7 @@ ghost use Rattle.dt_flat.specs.Arena.{reading};
 ghost use Rattle.dt_texts.specs.Cuts.{IsCut};
 ghost use Rattle.dt_landing.specs.Objects.{IsOfFragment, IsSymbol, symbols_in};
 ghost use Rattle.dt_parts.specs.Plans.{ListsSymbols};
-ghost use Rattle.dt_object.specs.Symbols.{IsFirstName, IsNamed, ListsNamed};
+ghost use Rattle.dt_object.specs.Symbols.{IsFirstName, IsWhatTextNames, ListsNamed};
 
 use crate::fragments::content_of;
 use dt_flat::FlatTree;
@@ -70,7 +70,7 @@ fn is_within_fragment(object: &FlatTree, text: &[u8]) -> bool
 
 // The node that a text names, if a fragment brings it.
 fn symbol_names(object: &FlatTree, text: &[u8]) -> SymbolNames
-    ensures { IsNamed object.now text.now result }
+    ensures { IsWhatTextNames object.now text.now result }
 {
     object.validity();
     if !is_within_fragment(object, text) {

@@ -11,7 +11,7 @@ use Rattle.dt_parse.specs.declared.statement.Start.TheVariants as start
 use Rattle.dt_grammar.specs.Words.{Words}
 use Rattle.dt_grammar.specs.Unchecked.{Target, a_label, a_path, RawPlace, raw_root, raw_block, raw_delete_node, raw_label}
 use Rattle.dt_grammar.specs.Relaxed.{reference_kind}
-use Rattle.dt_grammar.specs.Strict.{AreLabelTexts, IsReferenceText, IsSound, IsOrdered}
+use Rattle.dt_grammar.specs.Strict.{AreLabelTexts, IsReferenceText, IsSoundPlace, IsOrdered}
 use Rattle.dt_grammar.specs.Wanted.{Move, made_places, OneStatement, BlockOpen, DeletedNode, Ending, Done, kind_at, bytes_at, refuse, want}
 use Rattle.dt_grammar.specs.Moves.{at_statement, at_deleted_node, at_ending, without_labels}
 use Rattle.dt_grammar.specs.Descent.{found, Descends, first, after, move_at}
@@ -95,7 +95,7 @@ root_passes : (ws : Words) → start_of (kind_at (first ws)) ≡ start.Root → 
 root_passes ws h = record { named = subst (reference_named (bytes_at (first ws))) (sym (root_start (kind_at (first ws)) h)) tt; placed = tt }
 
 pub root_read : (ws vs left : Words) (qs : List RawPlace) → start_of (kind_at (first ws)) ≡ start.Root → vs ≡ after true ws → Descends (BlockOpen (raw_root ∷ [])) vs (found (made_places (raw_root ∷ qs)) left) →
-    AllByRecursion IsSound qs → IsOrdered (false ∷ []) qs → IsRead outside (OneStatement []) ws (made_places (raw_root ∷ qs)) left
+    AllByRecursion IsSoundPlace qs → IsOrdered (false ∷ []) qs → IsRead outside (OneStatement []) ws (made_places (raw_root ∷ qs)) left
 root_read ws vs left qs h v d s o = record {
   read = part_then (OneStatement []) ws true (BlockOpen (raw_root ∷ [])) Done (made_places (raw_root ∷ qs)) left (found (made_places (raw_root ∷ qs)) left) (root_move ws h)
       (subst (λ (x : Words). Descends (BlockOpen (raw_root ∷ [])) x (found (made_places (raw_root ∷ qs)) left)) v d) (given (Done (made_places (raw_root ∷ qs))) left false (made_places (raw_root ∷ qs)) refl);
@@ -113,14 +113,14 @@ block_move ls ws a_label e = ap (at_statement ls (bytes_at (first ws))) e
 block_move ls ws a_path e = ap (at_statement ls (bytes_at (first ws))) e
 
 pub block_read : (ls : List (List ℕ)) (ws vs left : Words) (t : Target) (qs : List RawPlace) → kind_at (first ws) ≡ Some (reference_kind t) → IsReferenceText t (bytes_at (first ws)) → AreLabelTexts ls → vs ≡ after true ws →
-    Descends (BlockOpen (raw_block t (bytes_at (first ws)) ∷ map raw_label ls)) vs (found (made_places ((raw_block t (bytes_at (first ws)) ∷ map raw_label ls) ++ qs)) left) → AllByRecursion IsSound qs → IsOrdered (false ∷ []) qs →
+    Descends (BlockOpen (raw_block t (bytes_at (first ws)) ∷ map raw_label ls)) vs (found (made_places ((raw_block t (bytes_at (first ws)) ∷ map raw_label ls) ++ qs)) left) → AllByRecursion IsSoundPlace qs → IsOrdered (false ∷ []) qs →
     IsRead outside (OneStatement ls) ws (made_places ((raw_block t (bytes_at (first ws)) ∷ map raw_label ls) ++ qs)) left
 block_read ls ws vs left t qs e n texts v d s o =
     let P = raw_block t (bytes_at (first ws)) ∷ map raw_label ls in
     record {
       read = part_then (OneStatement ls) ws true (BlockOpen P) Done (made_places (P ++ qs)) left (found (made_places (P ++ qs)) left) (block_move ls ws t e)
           (subst (λ (x : Words). Descends (BlockOpen P) x (found (made_places (P ++ qs)) left)) v d) (given (Done (made_places (P ++ qs))) left false (made_places (P ++ qs)) refl);
-      fine = (all_together IsSound P qs (n, labels_sound ls texts) s, labels_ordered ls (false ∷ []) qs o);
+      fine = (all_together IsSoundPlace P qs (n, labels_sound ls texts) s, labels_ordered ls (false ∷ []) qs o);
     }
 
 pub block_stops_in : (ls : List (List ℕ)) (ws vs : Words) (t : Target) (stop : Stop) → kind_at (first ws) ≡ Some (reference_kind t) → IsReferenceText t (bytes_at (first ws)) → vs ≡ after true ws →

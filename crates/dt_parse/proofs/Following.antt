@@ -6,12 +6,12 @@ use Rattle.dt_parse.specs.declared.stop.Stop.{Stop}
 use Rattle.dt_grammar.specs.Words.{Words}
 use Rattle.dt_grammar.specs.Unchecked.{RawPlace, raw_label, raw_close}
 use Rattle.dt_grammar.specs.Relaxed.{Members, no_more_members, a_flag, a_property, a_deleted_property, a_child, a_deleted_child, Statement, a_root_block, a_node_block, a_deleted_node}
-use Rattle.dt_grammar.specs.Strict.{IsSound, IsOrdered}
+use Rattle.dt_grammar.specs.Strict.{IsSoundPlace, IsOrdered}
 use Rattle.dt_grammar.specs.Wanted.{made_places, made_labels, places_in, labels_in, SomeLabels, OneStatement, SomeStatements, StatementThen, MoreStatements, Done}
 use Rattle.dt_grammar.specs.Descent.{found, Descends}
 use Rattle.dt_grammar.specs.Faults.{outside, Breaks, in_part, behind_part}
 use Rattle.dt_parse.specs.Reading.{IsRead, IsBroken}
-use Rattle.dt_parse.specs.Starts.{Follows}
+use Rattle.dt_parse.specs.Starts.{StatementsFollow}
 use Rattle.dt_grammar.proofs.Sound.{sound}
 use Rattle.dt_grammar.proofs.StrictBodies.{child_regroup}
 use Rattle.dt_grammar.proofs.CheckedBodies.{all_front, all_behind, behind_labels, members_back}
@@ -21,15 +21,15 @@ use Rattle.dt_parse.proofs.NestedBodies.{all_together, labels_ordered}
 use Rattle.dt_parse.proofs.Members.{not_longer}
 
 -- where members are in order with some places behind them, they are with others
-members_more : {ws : Words} {ps : List RawPlace} → Members ws ps → AllByRecursion IsSound ps → (b : Bool) (bodies : List Bool) (x y : List RawPlace) → IsOrdered (b ∷ bodies) (ps ++ x) → ((c : Bool) → IsOrdered (c ∷ bodies) y) → IsOrdered (b ∷ bodies) (ps ++ y)
+members_more : {ws : Words} {ps : List RawPlace} → Members ws ps → AllByRecursion IsSoundPlace ps → (b : Bool) (bodies : List Bool) (x y : List RawPlace) → IsOrdered (b ∷ bodies) (ps ++ x) → ((c : Bool) → IsOrdered (c ∷ bodies) y) → IsOrdered (b ∷ bodies) (ps ++ y)
 members_more no_more_members g b bodies x y o f = f b
 members_more (a_flag us ws n s ls ps l m) g b bodies x y o f = (o.0, members_more m g.1 false bodies x y o.1 f)
 members_more (a_property us vs ws n e s ls v ps l t m) g b bodies x y o f = (o.0, members_more m g.1 false bodies x y o.1 f)
 members_more (a_deleted_property us ws k n s ls ps l m) g b bodies x y o f = (o.0, members_more m g.1 false bodies x y o.1 f)
 members_more (a_child us vs ws n a z s ls cs ps l c m) g b bodies x y o f =
-    let inside = all_behind IsSound (map raw_label ls) (cs ++ raw_close ∷ ps) g.1 in
-    let child = all_front IsSound cs (raw_close ∷ ps) inside in
-    let others = (all_behind IsSound cs (raw_close ∷ ps) inside).1 in
+    let inside = all_behind IsSoundPlace (map raw_label ls) (cs ++ raw_close ∷ ps) g.1 in
+    let child = all_front IsSoundPlace cs (raw_close ∷ ps) inside in
+    let others = (all_behind IsSoundPlace cs (raw_close ∷ ps) inside).1 in
     let here = behind_labels ls (false ∷ true ∷ bodies) (cs ++ raw_close ∷ (ps ++ x)) (subst (IsOrdered (false ∷ true ∷ bodies)) (child_regroup (map raw_label ls) cs ps x) o.1) in
     let split = members_back c child false (true ∷ bodies) (raw_close ∷ (ps ++ x)) here in (
       o.0,
@@ -39,14 +39,14 @@ members_more (a_child us vs ws n a z s ls cs ps l c m) g b bodies x y o f =
     )
 members_more (a_deleted_child us ws k n s ls ps l m) g b bodies x y o f = members_more m g.1 true bodies x y o f
 
-statement_more : {ls : List (List ℕ)} {ws : Words} {ps : List RawPlace} → Statement ls ws ps → AllByRecursion IsSound ps → IsOrdered [] ps → (y : List RawPlace) → IsOrdered [] y → IsOrdered [] (ps ++ y)
+statement_more : {ls : List (List ℕ)} {ws : Words} {ps : List RawPlace} → Statement ls ws ps → AllByRecursion IsSoundPlace ps → IsOrdered [] ps → (y : List RawPlace) → IsOrdered [] y → IsOrdered [] (ps ++ y)
 statement_more (a_root_block c a z s ws cs m) g o y h =
-    subst (IsOrdered (false ∷ [])) (sym (append_assoc cs (raw_close ∷ []) y)) (members_more m (all_front IsSound cs (raw_close ∷ []) g.1) false [] (raw_close ∷ []) (raw_close ∷ y) o (λ d. h))
+    subst (IsOrdered (false ∷ [])) (sym (append_assoc cs (raw_close ∷ []) y)) (members_more m (all_front IsSoundPlace cs (raw_close ∷ []) g.1) false [] (raw_close ∷ []) (raw_close ∷ y) o (λ d. h))
 statement_more (a_node_block ls t b a z s ws cs m) g o y h =
-    let inside = all_behind IsSound (map raw_label ls) (cs ++ raw_close ∷ []) g.1 in
+    let inside = all_behind IsSoundPlace (map raw_label ls) (cs ++ raw_close ∷ []) g.1 in
     subst (IsOrdered (false ∷ [])) (sym (child_regroup (map raw_label ls) cs [] y))
     (labels_ordered ls (false ∷ []) (cs ++ raw_close ∷ y)
-    (members_more m (all_front IsSound cs (raw_close ∷ []) inside) false [] (raw_close ∷ []) (raw_close ∷ y) (behind_labels ls (false ∷ []) (cs ++ raw_close ∷ []) o) (λ d. h)))
+    (members_more m (all_front IsSoundPlace cs (raw_close ∷ []) inside) false [] (raw_close ∷ []) (raw_close ∷ y) (behind_labels ls (false ∷ []) (cs ++ raw_close ∷ []) o) (λ d. h)))
 statement_more (a_deleted_node t k b s) g o y h = h
 
 not_empty : {ls : List (List ℕ)} {ws : Words} {ps : List RawPlace} → Statement ls ws ps → 0 < length ws
@@ -93,7 +93,7 @@ pub labels_between : (ls : List (List ℕ)) (ws left : Words) (ps : List RawPlac
 labels_between ls ws left ps stop n r b = stops_too outside outside SomeLabels (StatementThen ls) left ws stop
     (λ k end d. more_breaks ls ws left ps k end n r (in_part outside SomeStatements left end k false SomeLabels (λ x. StatementThen (labels_in x)) tt refl (record { named = tt; placed = tt }) d)) b
 
-pub one_follows : (ls ms : List (List ℕ)) (ws left here : Words) (ps : List RawPlace) → length left ≢ 0 → IsRead outside (OneStatement ls) ws (made_places ps) left → IsRead outside SomeLabels left (made_labels ms) here → Follows ls ws ps ms here
+pub one_follows : (ls ms : List (List ℕ)) (ws left here : Words) (ps : List RawPlace) → length left ≢ 0 → IsRead outside (OneStatement ls) ws (made_places ps) left → IsRead outside SomeLabels left (made_labels ms) here → StatementsFollow ls ws ps ms here
 one_follows ls ms ws left here ps n r l = record {
   reads = λ qs d. then_read ls ms ws left here ps qs n r.read l.read d;
   breaks = λ k end b. more_breaks ls ws left ps k end n r (behind_part outside SomeStatements left here end k false SomeLabels (λ x. StatementThen (labels_in x)) (made_labels ms) tt refl (record { named = tt; placed = tt }) l.read l.fine b);
@@ -101,25 +101,25 @@ one_follows ls ms ws left here ps n r l = record {
   ordered = statement_ordered ls ws left ps r;
 }
 
-pub follows_on : (ls ms ns : List (List ℕ)) (ws here there : Words) (ps qs : List RawPlace) → Follows ls ws ps ms here → Follows ms here qs ns there → Follows ls ws (ps ++ qs) ns there
+pub follows_on : (ls ms ns : List (List ℕ)) (ws here there : Words) (ps qs : List RawPlace) → StatementsFollow ls ws ps ms here → StatementsFollow ms here qs ns there → StatementsFollow ls ws (ps ++ qs) ns there
 follows_on ls ms ns ws here there ps qs f g = record {
   reads = λ xs d. subst (λ (x : List RawPlace). Descends (StatementThen ls) ws (found (made_places x) [])) (sym (append_assoc ps qs xs)) (f.reads (qs ++ xs) (g.reads xs d));
   breaks = λ k left b. f.breaks k left (g.breaks k left b);
-  sound = all_together IsSound ps qs f.sound g.sound;
+  sound = all_together IsSoundPlace ps qs f.sound g.sound;
   ordered = λ xs h. subst (IsOrdered []) (sym (append_assoc ps qs xs)) (f.ordered (qs ++ xs) (g.ordered xs h));
 }
 
-pub follows_nothing : (ls : List (List ℕ)) (ws : Words) → Follows ls ws [] ls ws
+pub follows_nothing : (ls : List (List ℕ)) (ws : Words) → StatementsFollow ls ws [] ls ws
 follows_nothing ls ws = record { reads = λ qs d. d; breaks = λ k left b. b; sound = tt; ordered = λ qs h. h }
 
 -- all of them
-pub all_read : (ls ms : List (List ℕ)) (ws here left : Words) (ps qs : List RawPlace) → Follows ls ws ps ms here → length left ≡ 0 → IsRead outside (OneStatement ms) here (made_places qs) left → IsRead outside (StatementThen ls) ws (made_places (ps ++ qs)) []
+pub all_read : (ls ms : List (List ℕ)) (ws here left : Words) (ps qs : List RawPlace) → StatementsFollow ls ws ps ms here → length left ≡ 0 → IsRead outside (OneStatement ms) here (made_places qs) left → IsRead outside (StatementThen ls) ws (made_places (ps ++ qs)) []
 all_read ls ms ws here left ps qs f e r = record {
   read = f.reads qs (last_read ms here left qs e r.read);
-  fine = (all_together IsSound ps qs f.sound r.fine.0, f.ordered qs r.fine.1);
+  fine = (all_together IsSoundPlace ps qs f.sound r.fine.0, f.ordered qs r.fine.1);
 }
 
-pub stops_behind : (ls ms : List (List ℕ)) (ws here : Words) (ps : List RawPlace) (stop : Stop) → Follows ls ws ps ms here → IsBroken outside (StatementThen ms) here stop → IsBroken outside (StatementThen ls) ws stop
+pub stops_behind : (ls ms : List (List ℕ)) (ws here : Words) (ps : List RawPlace) (stop : Stop) → StatementsFollow ls ws ps ms here → IsBroken outside (StatementThen ms) here stop → IsBroken outside (StatementThen ls) ws stop
 stops_behind ls ms ws here ps stop f b = stops_too outside outside (StatementThen ms) (StatementThen ls) here ws stop f.breaks b
 
 pub turn_shorter : (ls ms : List (List ℕ)) (ws left here : Words) (ps : List RawPlace) → IsRead outside (OneStatement ls) ws (made_places ps) left → IsRead outside SomeLabels left (made_labels ms) here → length here < length ws

@@ -13,7 +13,7 @@ use Rattle.dt_grammar.specs.Wanted.{Made, Wanted, Done, kind_at, refuse, give, w
 use Rattle.dt_grammar.specs.Descent.{Outcome, found, stuck, gives, part_stuck, Descends, move_at, first, after}
 use Rattle.dt_grammar.specs.Faults.{Around, within, Shows, unwanted, Passes, IsFine, IsNoNumber, Breaks, in_part, behind_part}
 use Rattle.dt_parse.specs.Reading.{IsRead, IsBroken}
-use Rattle.dt_parse.specs.Leading.{Leads}
+use Rattle.dt_parse.specs.Leading.{ReadsOn}
 use Rattle.dt_grammar.proofs.Descent.{by_move}
 use Rattle.dt_grammar.proofs.Stepping.{given, part_then}
 use Rattle.dt_parse.proofs.Stopping.{stopped, stops_too}
@@ -24,8 +24,8 @@ unexpected a g ws stop e k l = stopped a g ws stop (subst (Shows a g ws) (sym k)
 
 -- the part that is wanted next is all that is
 pub leads_on : (a : Around) (g : Wanted) (ws : Words) (taken : Bool) (part : Wanted) (vs : Words) → IsNoNumber g → move_at g (first ws) ≡ want taken part Done → Passes a g ws →
-    vs ≡ after taken ws → Leads a g ws (within g a) part vs
-leads_on a g ws taken part vs n e p v = subst (λ (us : Words). Leads a g ws (within g a) part us) (sym v) (record {
+    vs ≡ after taken ws → ReadsOn a g ws (within g a) part vs
+leads_on a g ws taken part vs n e p v = subst (λ (us : Words). ReadsOn a g ws (within g a) part us) (sym v) (record {
   follows = along;
   breaks = λ k left h. in_part a g ws left k taken part Done n e p h;
 })
@@ -36,7 +36,7 @@ leads_on a g ws taken part vs n e p v = subst (λ (us : Words). Leads a g ws (wi
 
 -- behind a part that was read
 pub leads_behind : (a : Around) (g : Wanted) (ws : Words) (taken : Bool) (part : Wanted) (whole : Made → Wanted) (vs : Words) (m : Made) (rest : Words) → IsNoNumber g →
-    move_at g (first ws) ≡ want taken part whole → Passes a g ws → vs ≡ after taken ws → IsRead (within g a) part vs m rest → Leads a g ws a (whole m) rest
+    move_at g (first ws) ≡ want taken part whole → Passes a g ws → vs ≡ after taken ws → IsRead (within g a) part vs m rest → ReadsOn a g ws a (whole m) rest
 leads_behind a g ws taken part whole vs m rest n e p v r =
     let here : IsRead (within g a) part (after taken ws) m rest = subst (λ (us : Words). IsRead (within g a) part us m rest) v r in
     record {
@@ -45,17 +45,17 @@ leads_behind a g ws taken part whole vs m rest n e p v r =
     }
 
 pub leads_then : (a : Around) (g : Wanted) (ws : Words) (b : Around) (h : Wanted) (vs : Words) (c : Around) (i : Wanted) (us : Words) →
-    Leads a g ws b h vs → Leads b h vs c i us → Leads a g ws c i us
+    ReadsOn a g ws b h vs → ReadsOn b h vs c i us → ReadsOn a g ws c i us
 leads_then a g ws b h vs c i us p q = record {
   follows = λ o d. p.follows o (q.follows o d);
   breaks = λ k left d. p.breaks k left (q.breaks k left d);
 }
 
-pub leads_stop : (a : Around) (g : Wanted) (ws : Words) (b : Around) (h : Wanted) (vs : Words) (stop : Stop) → Leads a g ws b h vs → IsBroken b h vs stop → IsBroken a g ws stop
+pub leads_stop : (a : Around) (g : Wanted) (ws : Words) (b : Around) (h : Wanted) (vs : Words) (stop : Stop) → ReadsOn a g ws b h vs → IsBroken b h vs stop → IsBroken a g ws stop
 leads_stop a g ws b h vs stop p d = stops_too b a h g vs ws stop p.breaks d
 
 -- what is wanted is complete here
-pub leads_to_end : (a : Around) (g : Wanted) (ws : Words) (b : Around) (h : Wanted) (vs : Words) (taken : Bool) (m : Made) (left : Words) → Leads a g ws b h vs →
+pub leads_to_end : (a : Around) (g : Wanted) (ws : Words) (b : Around) (h : Wanted) (vs : Words) (taken : Bool) (m : Made) (left : Words) → ReadsOn a g ws b h vs →
     move_at h (first vs) ≡ give taken m → left ≡ after taken vs → IsFine a m → IsRead a g ws m left
 leads_to_end a g ws b h vs taken m left p e l fine =
     record { read = p.follows (found m left) (subst (λ (us : Words). Descends h vs (found m us)) (sym l) (given h vs taken m e)); fine = fine }

@@ -9,7 +9,7 @@ use Rattle.dt_grammar.specs.Words.{Word, Words, unary_of, binary_of, level_of}
 use Rattle.dt_grammar.specs.Wanted.{Made, Wanted, Any, AfterCondition, AfterThis, Level, AfterLeft, Prefix, Prim, Closing, Done, kind_at, binary_at, Move, give, want}
 use Rattle.dt_grammar.specs.Moves.{with_one, with_two, with_three, at_prefix, at_prim, at_question, at_colon, at_closing}
 use Rattle.dt_grammar.specs.Descent.{move_at, first, after, Outcome, found, stuck, Does, gives, part_stuck, part_found}
-use Rattle.dt_parse.specs.Machine.{Frame, unary_frame, binary_frame, open_frame, question_frame, colon_frame, Cont, Through, goes, stops, Leads, climb, bound, conts_of, condition_then, grouped, IsLevelled, IsPlain}
+use Rattle.dt_parse.specs.Machine.{Frame, unary_frame, binary_frame, open_frame, question_frame, colon_frame, Cont, Through, goes, stops, LeadsOn, climb, bound, conts_of, condition_then, grouped, IsLevelled, HasNoOperator}
 use Rattle.dt_grammar.proofs.Descent.{deterministic}
 use Rattle.dt_grammar.proofs.Expressions.{Stops, give_at, want_at}
 
@@ -27,7 +27,7 @@ then_whole : (K : Cont) (taken : Bool) (part : Wanted) (whole : Made → Wanted)
 then_whole K taken part whole s r x o d (goes y q o' e k) = goes y q o (part_found d e) k
 then_whole K taken part whole s r x (stuck l) d (stops l' e) = stops l (part_found d e)
 
-pub wanting : (K : Cont) (taken : Bool) (part : Wanted) (whole : Made → Wanted) (s : Words) (o : Outcome) → Leads (λ x r q. Leads K (whole x) r q) part (after taken s) o → Through K (want taken part whole) s o
+pub wanting : (K : Cont) (taken : Bool) (part : Wanted) (whole : Made → Wanted) (s : Words) (o : Outcome) → LeadsOn (λ x r q. LeadsOn K (whole x) r q) part (after taken s) o → Through K (want taken part whole) s o
 wanting K taken part whole s o (goes x r o' d k) = then_whole K taken part whole s r x o d k
 wanting K taken part whole s (stuck l) (stops l' d) = stops l (part_stuck d)
 
@@ -61,39 +61,39 @@ strip K (suc j) k (suc c) n d x s o e f stop h =
     (unpassed (climb (suc k) c K) x s o
     (by_same (climb (suc k) c K) (give false x) _ s o (sym (give_at k x (binary_at (first s)) (λ op is. let l = stop op is in omega arith))) h))
 
-climb_last : (K : Cont) (c k n : ℕ) (x : Made) (s : Words) (o : Outcome) → n ≡ k + c → climb k (suc c) K x s o → climb k c (λ y r q. Leads K (AfterLeft n y) r q) x s o
-climb_last K zero k n x s o e h = let p : k ≡ n = omega arith in subst (λ (z : ℕ). Leads K (AfterLeft z x) s o) p h
+climb_last : (K : Cont) (c k n : ℕ) (x : Made) (s : Words) (o : Outcome) → n ≡ k + c → climb k (suc c) K x s o → climb k c (λ y r q. LeadsOn K (AfterLeft n y) r q) x s o
+climb_last K zero k n x s o e h = let p : k ≡ n = omega arith in subst (λ (z : ℕ). LeadsOn K (AfterLeft z x) s o) p h
 climb_last K (suc c) k n x s o e h =
-    weaker (climb (suc k) (suc c) K) (climb (suc k) c (λ y r q. Leads K (AfterLeft n y) r q)) _ s (λ y r q. climb_last K c (suc k) n y r q (omega arith)) o h
+    weaker (climb (suc k) (suc c) K) (climb (suc k) c (λ y r q. LeadsOn K (AfterLeft n y) r q)) _ s (λ y r q. climb_last K c (suc k) n y r q (omega arith)) o h
 
 -- an expression of a level begins with one with prefixes
-pub level_from : (K : Cont) (n : ℕ) (s : Words) (o : Outcome) → Leads (climb 0 n K) Prefix s o → Leads K (Level n) s o
-level_from K zero s o h = wanting K false Prefix Done s o (weaker K (λ x r q. Leads K (Done x) r q) _ s (λ x r q k. giving K false x r q k) o h)
+pub level_from : (K : Cont) (n : ℕ) (s : Words) (o : Outcome) → LeadsOn (climb 0 n K) Prefix s o → LeadsOn K (Level n) s o
+level_from K zero s o h = wanting K false Prefix Done s o (weaker K (λ x r q. LeadsOn K (Done x) r q) _ s (λ x r q k. giving K false x r q k) o h)
 level_from K (suc n) s o h =
     wanting K false (Level n) (AfterLeft n) s o
-    (level_from (λ x r q. Leads K (AfterLeft n x) r q) n s o
-    (weaker (climb 0 (suc n) K) (climb 0 n (λ x r q. Leads K (AfterLeft n x) r q)) _ s (λ x r q. climb_last K n 0 n x r q (omega arith)) o h))
+    (level_from (λ x r q. LeadsOn K (AfterLeft n x) r q) n s o
+    (weaker (climb 0 (suc n) K) (climb 0 n (λ x r q. LeadsOn K (AfterLeft n x) r q)) _ s (λ x r q. climb_last K n 0 n x r q (omega arith)) o h))
 
-pub any_from : (K : Cont) (s : Words) (o : Outcome) → Leads (climb 0 10 (condition_then K)) Prefix s o → Leads K Any s o
+pub any_from : (K : Cont) (s : Words) (o : Outcome) → LeadsOn (climb 0 10 (condition_then K)) Prefix s o → LeadsOn K Any s o
 any_from K s o h = wanting K false (Level 10) AfterCondition s o (level_from (condition_then K) 10 s o h)
 
 -- a prefix
-pub prefix_from : (fs : List Frame) (w : Word) (s : Words) (o : Outcome) (op : Unary) → unary_of w.kind ≡ Some op → Leads (conts_of (unary_frame op ∷ fs)).operand Prefix s o → Leads (conts_of fs).operand Prefix (w ∷ s) o
+pub prefix_from : (fs : List Frame) (w : Word) (s : Words) (o : Outcome) (op : Unary) → unary_of w.kind ≡ Some op → LeadsOn (conts_of (unary_frame op ∷ fs)).operand Prefix s o → LeadsOn (conts_of fs).operand Prefix (w ∷ s) o
 prefix_from fs w s o op e h =
     let K : Cont = (conts_of fs).operand in
     by_same K _ _ (w ∷ s) o (ap at_prefix e)
-    (wanting K true Prefix (λ x. Done (with_one op x)) (w ∷ s) o (weaker (λ x r q. K (with_one op x) r q) (λ x r q. Leads K (Done (with_one op x)) r q) _ s (λ x r q k. giving K false (with_one op x) r q k) o h))
+    (wanting K true Prefix (λ x. Done (with_one op x)) (w ∷ s) o (weaker (λ x r q. K (with_one op x) r q) (λ x r q. LeadsOn K (Done (with_one op x)) r q) _ s (λ x r q k. giving K false (with_one op x) r q k) o h))
 
 -- no prefix
-pub prim_from : (K : Cont) (s : Words) (o : Outcome) → move_at Prefix (first s) ≡ want false Prim Done → Leads K Prim s o → Leads K Prefix s o
-prim_from K s o e h = by_same K _ _ s o e (wanting K false Prim Done s o (weaker K (λ x r q. Leads K (Done x) r q) _ s (λ x r q k. giving K false x r q k) o h))
+pub prim_from : (K : Cont) (s : Words) (o : Outcome) → move_at Prefix (first s) ≡ want false Prim Done → LeadsOn K Prim s o → LeadsOn K Prefix s o
+prim_from K s o e h = by_same K _ _ s o e (wanting K false Prim Done s o (weaker K (λ x r q. LeadsOn K (Done x) r q) _ s (λ x r q k. giving K false x r q k) o h))
 
 -- `(`
-pub open_from : (fs : List Frame) (w : Word) (s : Words) (o : Outcome) → w.kind ≡ kind.Mark mark.OpenParenthesis → Leads (conts_of (open_frame ∷ fs)).operand Prefix s o → Leads (conts_of fs).operand Prim (w ∷ s) o
+pub open_from : (fs : List Frame) (w : Word) (s : Words) (o : Outcome) → w.kind ≡ kind.Mark mark.OpenParenthesis → LeadsOn (conts_of (open_frame ∷ fs)).operand Prefix s o → LeadsOn (conts_of fs).operand Prim (w ∷ s) o
 open_from fs w s o e h =
     let K : Cont = (conts_of fs).operand in
     by_same K _ (want true Any Closing) (w ∷ s) o (ap (λ (k : TokenKind). at_prim (Some k)) e)
-    (wanting K true Any Closing (w ∷ s) o (any_from (λ x r q. Leads K (Closing x) r q) s o h))
+    (wanting K true Any Closing (w ∷ s) o (any_from (λ x r q. LeadsOn K (Closing x) r q) s o h))
 
 -- ---- behind an operand
 
@@ -121,7 +121,7 @@ joined_from fs op x y s o levelled tight stop h =
     (strip (conts_of fs).joined n 0 (bound fs) n (bound fs - n) (with_two op x y) s o (omega arith) (omega arith) stop (climbed fs levelled (with_two op x y) s o h))
 
 -- an operator behind its left operand
-pub binary_from : (fs : List Frame) (op : Binary) (x : Made) (w : Word) (s : Words) (o : Outcome) → IsLevelled fs → 1 ≤ level_of op → level_of op ≤ bound fs → binary_of w.kind ≡ Some op → Leads (conts_of (binary_frame op x ∷ fs)).operand Prefix s o → (conts_of fs).operand x (w ∷ s) o
+pub binary_from : (fs : List Frame) (op : Binary) (x : Made) (w : Word) (s : Words) (o : Outcome) → IsLevelled fs → 1 ≤ level_of op → level_of op ≤ bound fs → binary_of w.kind ≡ Some op → LeadsOn (conts_of (binary_frame op x ∷ fs)).operand Prefix s o → (conts_of fs).operand x (w ∷ s) o
 binary_from fs op x w s o levelled some tight e h =
     let n = level_of op - 1 in
     let d = bound fs - n - 1 in
@@ -134,12 +134,12 @@ binary_from fs op x w s o levelled some tight e h =
     (by_same (climb (suc n) d J) _ _ (w ∷ s) o (want_at n x (binary_of w.kind) op e level)
     (wanting (climb (suc n) d J) true (Level n) (λ y. AfterLeft n (with_two op x y)) (w ∷ s) o
     (level_from (λ y r q. climb n (suc d) J (with_two op x y) r q) n s o
-    (subst (λ (z : ℕ). Leads (climb 0 n (λ y r q. climb n z J (with_two op x y) r q)) Prefix s o) count h)))))
+    (subst (λ (z : ℕ). LeadsOn (climb 0 n (λ y r q. climb n z J (with_two op x y) r q)) Prefix s o) count h)))))
 
 none_stops : (n : ℕ) (k : Option Word) → binary_at k ≡ None → Stops n k
 none_stops n k e op h = cc
 
-plain_climbs : (fs : List Frame) → IsPlain fs → (x : Made) (s : Words) (o : Outcome) → climb 0 10 (condition_then (conts_of fs).whole) x s o → (conts_of fs).operand x s o
+plain_climbs : (fs : List Frame) → HasNoOperator fs → (x : Made) (s : Words) (o : Outcome) → climb 0 10 (condition_then (conts_of fs).whole) x s o → (conts_of fs).operand x s o
 plain_climbs [] h = absurd h
 plain_climbs (unary_frame op ∷ fs) h = absurd h
 plain_climbs (binary_frame op y ∷ fs) h = absurd h
@@ -148,28 +148,28 @@ plain_climbs (question_frame c ∷ fs) h = λ x s o k. k
 plain_climbs (colon_frame c y ∷ fs) h = λ x s o k. k
 
 -- a condition
-pub question_from : (fs : List Frame) (x : Made) (w : Word) (s : Words) (o : Outcome) → IsPlain fs → w.kind ≡ kind.Mark mark.Question → Leads (conts_of (question_frame x ∷ fs)).operand Prefix s o → (conts_of fs).operand x (w ∷ s) o
+pub question_from : (fs : List Frame) (x : Made) (w : Word) (s : Words) (o : Outcome) → HasNoOperator fs → w.kind ≡ kind.Mark mark.Question → LeadsOn (conts_of (question_frame x ∷ fs)).operand Prefix s o → (conts_of fs).operand x (w ∷ s) o
 question_from fs x w s o plain e h =
     let W : Cont = (conts_of fs).whole in
     plain_climbs fs plain x (w ∷ s) o
     (pass (condition_then W) 10 0 10 10 0 x (w ∷ s) o refl refl (none_stops 10 (Some w) (ap binary_of e))
     (by_same W _ (want true Any (AfterThis x)) (w ∷ s) o (ap (λ (k : TokenKind). at_question x (Some k)) e)
-    (wanting W true Any (AfterThis x) (w ∷ s) o (any_from (λ y r q. Leads W (AfterThis x y) r q) s o h))))
+    (wanting W true Any (AfterThis x) (w ∷ s) o (any_from (λ y r q. LeadsOn W (AfterThis x y) r q) s o h))))
 
 -- no condition
-pub whole_from : (fs : List Frame) (x : Made) (s : Words) (o : Outcome) → IsPlain fs → binary_at (first s) ≡ None → ((c : Made) → at_question c (kind_at (first s)) ≡ give false c) → (conts_of fs).whole x s o → (conts_of fs).operand x s o
+pub whole_from : (fs : List Frame) (x : Made) (s : Words) (o : Outcome) → HasNoOperator fs → binary_at (first s) ≡ None → ((c : Made) → at_question c (kind_at (first s)) ≡ give false c) → (conts_of fs).whole x s o → (conts_of fs).operand x s o
 whole_from fs x s o plain none passed h =
     let W : Cont = (conts_of fs).whole in
     plain_climbs fs plain x s o
     (pass (condition_then W) 10 0 10 10 0 x s o refl refl (none_stops 10 (first s) none) (by_same W _ (give false x) s o (passed x) (giving W false x s o h)))
 
 -- `:`
-pub else_from : (fs : List Frame) (c x : Made) (w : Word) (s : Words) (o : Outcome) → w.kind ≡ kind.Mark mark.Colon → Leads (conts_of (colon_frame c x ∷ fs)).operand Prefix s o → (conts_of (question_frame c ∷ fs)).whole x (w ∷ s) o
+pub else_from : (fs : List Frame) (c x : Made) (w : Word) (s : Words) (o : Outcome) → w.kind ≡ kind.Mark mark.Colon → LeadsOn (conts_of (colon_frame c x ∷ fs)).operand Prefix s o → (conts_of (question_frame c ∷ fs)).whole x (w ∷ s) o
 else_from fs c x w s o e h =
     let W : Cont = (conts_of fs).whole in
     by_same W _ (want true Any (λ y. Done (with_three c x y))) (w ∷ s) o (ap (λ (k : TokenKind). at_colon c x (Some k)) e)
     (wanting W true Any (λ y. Done (with_three c x y)) (w ∷ s) o
-    (weaker (λ y r q. W (with_three c x y) r q) (λ y r q. Leads W (Done (with_three c x y)) r q) _ s (λ y r q k. giving W false (with_three c x y) r q k) o
+    (weaker (λ y r q. W (with_three c x y) r q) (λ y r q. LeadsOn W (Done (with_three c x y)) r q) _ s (λ y r q k. giving W false (with_three c x y) r q k) o
     (any_from (λ y r q. W (with_three c x y) r q) s o h)))
 
 -- `)`

@@ -20,10 +20,10 @@ use Rattle.dt_items.specs.declared.source.Item.{Item}
 use Rattle.dt_parse.specs.declared.body.Behind.{Behind}
 use Rattle.dt_items.specs.Said.{place_said, places_said}
 use Rattle.dt_grammar.specs.Words.{Word, Words}
-use Rattle.dt_grammar.specs.Unchecked.{RawComponent, RawPlace, raw_child, raw_label, raw_property, raw_delete_property, raw_delete_child, place_of, all_but_last}
+use Rattle.dt_grammar.specs.Unchecked.{RawComponent, RawPlace, raw_child, raw_label, raw_property, raw_delete_property, raw_delete_child, place_meant, all_but_last}
 use Rattle.dt_grammar.specs.Relaxed.{word, a_mark, a_keyword}
-use Rattle.dt_grammar.specs.Strict.{AreLabelTexts, IsComponent, IsSound, IsOrdered}
-use Rattle.dt_grammar.specs.Wanted.{Made, Wanted, made_places, made_value, value_in, places_in, SomeMembers, AfterMemberLabels, AfterName, DeletedProperty, DeletedChild, More, Ending, OneValue, BlockOpen, BlockClose, Done, kind_at, bytes_at, refuse, want}
+use Rattle.dt_grammar.specs.Strict.{AreLabelTexts, IsComponent, IsSoundPlace, IsOrdered}
+use Rattle.dt_grammar.specs.Wanted.{Made, Wanted, made_places, made_value, components_in, places_in, SomeMembers, AfterMemberLabels, AfterName, DeletedProperty, DeletedChild, More, Ending, OneValue, BlockOpen, BlockClose, Done, kind_at, bytes_at, refuse, want}
 use Rattle.dt_grammar.specs.Moves.{and_more, at_name, at_ending, at_member, at_block_close, at_block_open, no_member, at_deleted_property, at_deleted_child}
 use Rattle.dt_grammar.specs.Descent.{found, Descends, first, after, move_at}
 use Rattle.dt_grammar.specs.Faults.{Around, outside, within, is_child, Breaks, in_part, behind_part, Passes, Shows, unwanted, unnamed, unplaced, IsNoNumber, name_before, member_named, body_placed, shows, deleted_named, name_placed, member_placed}
@@ -146,7 +146,7 @@ delete_node_front _ h = absurd (cc)
 -- ---- members
 
 member_by : (ls : List (List ℕ)) (late later : Bool) (w : Word) (vs left : Words) (part : Wanted) (p : RawPlace) → move_at (AfterMemberLabels ls) (Some w) ≡ want true part and_more →
-    Descends part vs (found (made_places (p ∷ [])) left) → ((outer : List Bool) → Passes (in_body late outer) (AfterMemberLabels ls) (w ∷ vs)) → (is_child (p ∷ []) || late) ≡ later → IsSound p →
+    Descends part vs (found (made_places (p ∷ [])) left) → ((outer : List Bool) → Passes (in_body late outer) (AfterMemberLabels ls) (w ∷ vs)) → (is_child (p ∷ []) || late) ≡ later → IsSoundPlace p →
     ((outer : List Bool) (ps : List RawPlace) → IsOrdered (later ∷ outer) ps → IsOrdered (late ∷ outer) (p ∷ ps)) → length left < length vs → IsMember ls late (w ∷ vs) p later left
 member_by ls late later w vs left part p e d passes f s o less = record {
   reads = λ ps rest r. part_then (AfterMemberLabels ls) (w ∷ vs) true part and_more (made_places (p ∷ [])) left (found (made_places (p ∷ ps)) rest) e d (more_read (p ∷ []) ps left rest r);
@@ -208,7 +208,7 @@ flag_read ls n vs e = given (AfterName ls n) vs true (made_places (raw_property 
 pub assigned_read : (ls : List (List ℕ)) (n : List ℕ) (vs rest : Words) (cs : List RawComponent) → behind_of (kind_at (first vs)) ≡ behind.Value → Descends OneValue (after true vs) (found (made_value cs) rest) → kind_at (first rest) ≡ Some (kind.Mark mark.Semicolon) →
     Descends (AfterName ls n) vs (found (made_places (raw_property ls n cs ∷ [])) (after true rest))
 assigned_read ls n vs rest cs e d f =
-    part_then (AfterName ls n) vs true OneValue (λ x. Ending (raw_property ls n (value_in x) ∷ [])) (made_value cs) rest (found (made_places (raw_property ls n cs ∷ [])) (after true rest)) (ap (at_name ls n) (value_behind (kind_at (first vs)) e)) d
+    part_then (AfterName ls n) vs true OneValue (λ x. Ending (raw_property ls n (components_in x) ∷ [])) (made_value cs) rest (found (made_places (raw_property ls n cs ∷ [])) (after true rest)) (ap (at_name ls n) (value_behind (kind_at (first vs)) e)) d
     (given (Ending (raw_property ls n cs ∷ [])) rest true (made_places (raw_property ls n cs ∷ [])) (ap (at_ending (raw_property ls n cs ∷ [])) f))
 
 before_children : (outer : List Bool) (ls : List (List ℕ)) (n : List ℕ) (vs : Words) → behind_of (kind_at (first vs)) ≡ behind.Value → Passes (in_body false outer) (AfterName ls n) vs
@@ -216,14 +216,14 @@ before_children outer ls n vs e = record { named = tt; placed = subst (λ (k : O
 
 pub value_stops : (outer : List Bool) (ls : List (List ℕ)) (n : List ℕ) (vs : Words) (stop : Stop) → behind_of (kind_at (first vs)) ≡ behind.Value → IsBroken (in_body false outer) OneValue (after true vs) stop → IsBroken (in_body false outer) (AfterName ls n) vs stop
 value_stops outer ls n vs stop e b =
-    part_stops (in_body false outer) (AfterName ls n) vs true OneValue (λ x. Ending (raw_property ls n (value_in x) ∷ [])) stop tt (ap (at_name ls n) (value_behind (kind_at (first vs)) e)) (before_children outer ls n vs e) b
+    part_stops (in_body false outer) (AfterName ls n) vs true OneValue (λ x. Ending (raw_property ls n (components_in x) ∷ [])) stop tt (ap (at_name ls n) (value_behind (kind_at (first vs)) e)) (before_children outer ls n vs e) b
 
 pub unended : (outer : List Bool) (ls : List (List ℕ)) (n : List ℕ) (vs rest : Words) (cs : List RawComponent) (stop : Stop) → behind_of (kind_at (first vs)) ≡ behind.Value → Descends OneValue (after true vs) (found (made_value cs) rest) → AllByRecursion IsComponent cs →
     kind_at (first rest) ≢ Some (kind.Mark mark.Semicolon) → stop.kind ≡ fault.Syntax → stop.left ≡ length rest → IsBroken (in_body false outer) (AfterName ls n) vs stop
 unended outer ls n vs rest cs stop e d fine bad k l =
     let a = in_body false outer in
     let P = raw_property ls n cs ∷ [] in
-    broken rest (sym l) (behind_part a (AfterName ls n) vs rest rest stop.kind true OneValue (λ x. Ending (raw_property ls n (value_in x) ∷ [])) (made_value cs) tt (ap (at_name ls n) (value_behind (kind_at (first vs)) e)) (before_children outer ls n vs e) d fine
+    broken rest (sym l) (behind_part a (AfterName ls n) vs rest rest stop.kind true OneValue (λ x. Ending (raw_property ls n (components_in x) ∷ [])) (made_value cs) tt (ap (at_name ls n) (value_behind (kind_at (first vs)) e)) (before_children outer ls n vs e) d fine
     (shows a (Ending P) rest stop.kind (subst (Shows a (Ending P) rest) (sym k) (unwanted (no_ending P (kind_at (first rest)) bad)))))
 
 -- a name with neither of those behind it
@@ -372,7 +372,7 @@ err_is {A} P r s t e f h = subst (λ (x : Result A Stop). IfErr x P) (sym e) (su
 pub ok_is_none : {A : Type 0} (P : A → Type 0) (r : Result A Stop) (t : Stop) → r ≡ Err t → IfOk r P
 ok_is_none {A} P r t e = subst (λ (x : Result A Stop). IfOk x P) (sym e) tt
 
-pub said_one : (xs ys : List Item) (i : Item) (p : RawPlace) → ys ≡ xs ++ i ∷ [] → place_said i ≡ place_of p → places_said ys ≡ places_said xs ++ place_of p ∷ []
+pub said_one : (xs ys : List Item) (i : Item) (p : RawPlace) → ys ≡ xs ++ i ∷ [] → place_said i ≡ place_meant p → places_said ys ≡ places_said xs ++ place_meant p ∷ []
 said_one xs ys i p e f = ap places_said e ∙ map-append place_said xs (i ∷ []) ∙ ap (λ (x : Place). places_said xs ++ x ∷ []) f
 
 pub unclosed_end : (ls : List (List ℕ)) (ws vs : Words) (stop : Stop) → vs ≡ after true ws → ls ≡ [] → kind_at (first ws) ≡ Some (kind.Mark mark.CloseBrace) → kind_at (first vs) ≢ Some (kind.Mark mark.Semicolon) → stop.kind ≡ fault.Syntax → stop.left ≡ length vs → IsUnclosed ls ws stop
@@ -441,18 +441,18 @@ pub unfollowed_at : (a : Around) (ls : List (List ℕ)) (ws vs : Words) (stop : 
 unfollowed_at a ls ws vs stop v e h k l =
     subst (λ (x : Words). IsBroken a (AfterMemberLabels ls) x stop) (sym (front_word ws kind.Name e)) (unfollowed a ls (bytes_at (first ws)) (after true ws) stop h k (l ∙ ap length v))
 
-pub said_more : (xs ys zs : List Item) (ps qs : List RawPlace) → places_said ys ≡ places_said xs ++ map place_of ps → places_said zs ≡ places_said ys ++ map place_of qs → places_said zs ≡ places_said xs ++ map place_of (ps ++ qs)
+pub said_more : (xs ys zs : List Item) (ps qs : List RawPlace) → places_said ys ≡ places_said xs ++ map place_meant ps → places_said zs ≡ places_said ys ++ map place_meant qs → places_said zs ≡ places_said xs ++ map place_meant (ps ++ qs)
 said_more xs ys zs ps qs e f =
-    f ∙ ap (λ (x : List Place). x ++ map place_of qs) e ∙ append_assoc (places_said xs) (map place_of ps) (map place_of qs) ∙ ap (λ (x : List Place). places_said xs ++ x) (sym (map-append place_of ps qs))
+    f ∙ ap (λ (x : List Place). x ++ map place_meant qs) e ∙ append_assoc (places_said xs) (map place_meant ps) (map place_meant qs) ∙ ap (λ (x : List Place). places_said xs ++ x) (sym (map-append place_meant ps qs))
 
 pub label_said : (xs ys zs : List Item) (ns : List (List ℕ)) (n : List ℕ) → places_said ys ≡ places_said xs ++ map label ns → zs ≡ ys ++ item.Label n ∷ [] → places_said zs ≡ places_said xs ++ map label (ns ++ n ∷ [])
 label_said xs ys zs ns n e f =
     ap places_said f ∙ map-append place_said ys (item.Label n ∷ []) ∙ ap (λ (x : List Place). x ++ label n ∷ []) e ∙ append_assoc (places_said xs) (map label ns) (label n ∷ []) ∙ ap (λ (x : List Place). places_said xs ++ x) (sym (map-append label ns (n ∷ [])))
 
-pub labels_said : (xs zs : List Item) (ns : List (List ℕ)) (ls : List (List ℕ)) → places_said zs ≡ places_said xs ++ map label ns → ns ≡ map all_but_last ls → places_said zs ≡ places_said xs ++ map place_of (map raw_label ls)
+pub labels_said : (xs zs : List Item) (ns : List (List ℕ)) (ls : List (List ℕ)) → places_said zs ≡ places_said xs ++ map label ns → ns ≡ map all_but_last ls → places_said zs ≡ places_said xs ++ map place_meant (map raw_label ls)
 labels_said xs zs ns ls e f = e ∙ ap (λ (x : List Place). places_said xs ++ x) (ap (map label) f ∙ sym (label_places ls))
 
-pub child_said : (xs ys zs : List Item) (n b : List ℕ) (ls : List (List ℕ)) → ys ≡ xs ++ item.Child n ∷ [] → n ≡ b → places_said zs ≡ places_said ys ++ map place_of (map raw_label ls) → places_said zs ≡ places_said xs ++ map place_of (raw_child b ∷ map raw_label ls)
+pub child_said : (xs ys zs : List Item) (n b : List ℕ) (ls : List (List ℕ)) → ys ≡ xs ++ item.Child n ∷ [] → n ≡ b → places_said zs ≡ places_said ys ++ map place_meant (map raw_label ls) → places_said zs ≡ places_said xs ++ map place_meant (raw_child b ∷ map raw_label ls)
 child_said xs ys zs n b ls e f g =
     said_more xs ys zs (raw_child b ∷ []) (map raw_label ls) (said_one xs ys (item.Child n) (raw_child b) e (ap model.child f)) g
 

@@ -11,7 +11,7 @@ use Rattle.dt_parse.specs.declared.stop.Stop.{Stop}
 use Rattle.dt_grammar.specs.Words.{Word, Words}
 use Rattle.dt_grammar.specs.Unchecked.{RawPlace, raw_child, raw_label, raw_close}
 use Rattle.dt_grammar.specs.Relaxed.{word, a_mark}
-use Rattle.dt_grammar.specs.Strict.{AreLabelTexts, IsSound, IsOrdered}
+use Rattle.dt_grammar.specs.Strict.{AreLabelTexts, IsSoundPlace, IsOrdered}
 use Rattle.dt_grammar.specs.Wanted.{made_places, made_labels, labels_in, places_in, SomeLabels, SomeMembers, AfterMemberLabels, AfterName, More, BlockOpen, BlockClose, Done, kind_at, bytes_at}
 use Rattle.dt_grammar.specs.Moves.{and_more, at_block_open}
 use Rattle.dt_grammar.specs.Descent.{found, Outcome, Descends, first, after}
@@ -93,7 +93,7 @@ pub all_together : {X : Type 0} (P : X → Type 0) (xs ys : List X) → AllByRec
 all_together P [] ys h g = g
 all_together P (x ∷ xs) ys h g = (h.0, all_together P xs ys h.1 g)
 
-pub labels_sound : (ls : List (List ℕ)) → AreLabelTexts ls → AllByRecursion IsSound (map raw_label ls)
+pub labels_sound : (ls : List (List ℕ)) → AreLabelTexts ls → AllByRecursion IsSoundPlace (map raw_label ls)
 labels_sound [] h = tt
 labels_sound (l ∷ ls) h = (h.0, labels_sound ls h.1)
 
@@ -138,12 +138,12 @@ child_reads ls b z ws left rest more last ps qs l d c e =
 regrouped : (ls : List (List ℕ)) (b : List ℕ) (ps qs rest : List RawPlace) → (whole_child ls b ps ++ qs) ++ rest ≡ raw_child b ∷ (map raw_label ls ++ (ps ++ raw_close ∷ (qs ++ rest)))
 regrouped ls b ps qs rest = append_assoc (whole_child ls b ps) qs rest ∙ child_then (raw_child b) (map raw_label ls) ps (qs ++ rest)
 
-child_sound : (ls : List (List ℕ)) (b : List ℕ) (ps : List RawPlace) → AreLabelTexts ls → IsNodeName b → AllByRecursion IsSound ps → AllByRecursion IsSound (whole_child ls b ps)
-child_sound ls b ps t name s = (name, all_together IsSound (map raw_label ls) (ps ++ raw_close ∷ []) (labels_sound ls t) (all_together IsSound ps (raw_close ∷ []) s (tt, tt)))
+child_sound : (ls : List (List ℕ)) (b : List ℕ) (ps : List RawPlace) → AreLabelTexts ls → IsNodeName b → AllByRecursion IsSoundPlace ps → AllByRecursion IsSoundPlace (whole_child ls b ps)
+child_sound ls b ps t name s = (name, all_together IsSoundPlace (map raw_label ls) (ps ++ raw_close ∷ []) (labels_sound ls t) (all_together IsSoundPlace ps (raw_close ∷ []) s (tt, tt)))
 
 child_fine : (n : ℕ) (late : Bool) (ls : List (List ℕ)) (b : List ℕ) (ps qs : List RawPlace) → suc n < 65 → AreLabelTexts ls → IsNodeName b → AreFine (suc n) false ps → AreFine n true qs → AreFine n late (whole_child ls b ps ++ qs)
 child_fine n late ls b ps qs few t name f g = record {
-  sound = all_together IsSound (whole_child ls b ps) qs (child_sound ls b ps t name f.sound) g.sound;
+  sound = all_together IsSoundPlace (whole_child ls b ps) qs (child_sound ls b ps t name f.sound) g.sound;
   ordered = λ outer e rest h. subst (IsOrdered (late ∷ outer)) (sym (regrouped ls b ps qs rest)) (
     subst (λ (m : ℕ). m < 65) (sym (ap suc e)) few,
     labels_ordered ls (false ∷ true ∷ outer) (ps ++ raw_close ∷ (qs ++ rest))
@@ -268,7 +268,7 @@ pub goes_on : (n m o : ℕ) (a b c : Bool) (ws here left : Words) (ps qs : List 
 goes_on n m o a b c ws here left ps qs g h = record {
   reads = λ xs end f. subst (λ (x : List RawPlace). Finishes n ws x end) (sym (append_assoc ps qs xs)) (g.reads (qs ++ xs) end (h.reads xs end f));
   breaks = λ stop f. g.breaks stop (h.breaks stop f);
-  sound = all_together IsSound ps qs g.sound h.sound;
+  sound = all_together IsSoundPlace ps qs g.sound h.sound;
   ordered = λ xs f. subst (IsOrdered (flags n a)) (sym (append_assoc ps qs xs)) (g.ordered (qs ++ xs) (h.ordered xs f));
 }
 

@@ -14,7 +14,7 @@ use Rattle.dt_parse.specs.declared.stop.Stop.{Stop}
 use Rattle.dt_parse.specs.declared.expression.Refusal.TheVariants as refusal
 use Rattle.dt_grammar.specs.Words.{Words, word_of, words_of}
 use Rattle.dt_grammar.specs.Grammar.{Class, SpellsExpression, integer, character, group, no_prefix, with_prefix, tightest, tighter, joins, no_condition, with_condition}
-use Rattle.dt_grammar.specs.Unchecked.{number_in}
+use Rattle.dt_grammar.specs.Unchecked.{value_or_zero}
 use Rattle.dt_grammar.specs.Strict.{IsNumber}
 use Rattle.dt_grammar.specs.Wanted.{Made, made_expression, size_in, expression_in, Prim, give, kind_at}
 use Rattle.dt_grammar.specs.Moves.{at_prim}
@@ -181,7 +181,7 @@ pub unfit : (ws : Words) (n used bits : ℕ) (stop : Stop) → IsValued ws n use
     (a : Around) → IsBroken (in_elements bits a) Prim ws stop
 unfit ws n used bits stop v large k left a =
     let e = v.expression in
-    let same : number_in e ≡ n = ap (λ (x : Option ℕ). option_map_or (λ y. y) x 0) v.is in
+    let same : value_or_zero e ≡ n = ap (λ (x : Option ℕ). option_map_or (λ y. y) x 0) v.is in
     let one : IsNumber used e = record { few = v.few; evaluated = v.is ∙ ap Some (sym same) } in
     let b : NumberBreaks bits ws fault.OutOfRange ws = too_large (made_expression used e) (drop used ws) v.read one (λ f. large (subst (Fits bits) same f)) in
     broken_number (in_elements bits a) ws ws stop (subst (λ (x : FaultKind). NumberBreaks bits ws x ws) (sym k) b) (sym left)

@@ -10,7 +10,7 @@ use Rattle.dt_grammar.specs.Words.{Words, word_of, words_of}
 use Rattle.dt_grammar.specs.Wanted.{Whole}
 use Rattle.dt_grammar.specs.Faults.{outside, Breaks}
 use Rattle.dt_grammar.specs.Grammar.{Says, SpellsSource, SpellsHeaders, base_header, plugin_header, more_headers}
-use Rattle.dt_grammar.specs.Parsed.{IsTagged, place_of, told_at, IsParsed, WhyNotParsed, unlexed, untagged, broken}
+use Rattle.dt_grammar.specs.Parsed.{IsTagged, token_place, told_at, IsParsed, WhyNotParsed, unlexed, untagged, broken}
 use Rattle.dt_lex.proofs.OneOutcome.{lexed_or_not, one_fault}
 use Rattle.dt_grammar.proofs.OneSource.{one_source}
 use Rattle.dt_grammar.proofs.UnbrokenSources.{no_fault}
@@ -65,4 +65,4 @@ one_why one text _ _ (broken ts before left k size l t split b) (broken ts' befo
     let same = one_list one text ts' ts l' l in
     let r = one_break refl b (subst (λ (x : List Token). Breaks outside Whole (words_of text x) j (words_of text left')) same b') in
     let ends : left ≡ left' = same_end before before' left left' (sym split ∙ sym same ∙ split') (sym (length-map left (word_of text)) ∙ ap length r.1 ∙ length-map left' (word_of text)) in
-    λ i. record { kind = r.0 i; at = told_at (r.0 i) (place_of text (ends i)) }
+    λ i. record { kind = r.0 i; at = told_at (r.0 i) (token_place text (ends i)) }

@@ -13,7 +13,7 @@ use Rattle.dt_lex.specs.Spans.{AreSpans}
 use Rattle.dt_parse.specs.declared.stop.Stop.{Stop}
 use Rattle.dt_grammar.specs.Words.{Words, word_of, words_of}
 use Rattle.dt_grammar.specs.Grammar.{SpellsSource}
-use Rattle.dt_grammar.specs.Unchecked.{RawPlace, RawReserve, RawSource, place_of as said_at, reserve_of, says_of}
+use Rattle.dt_grammar.specs.Unchecked.{RawPlace, RawReserve, RawSource, place_meant as said_at, reserve_of, says_of}
 use Rattle.dt_items.specs.declared.source.Item.{Item}
 use Rattle.dt_items.specs.declared.source.Reservation.{Reservation}
 use Rattle.dt_items.specs.Said.{reservation_said, places_said, said}
@@ -23,7 +23,7 @@ use Rattle.dt_grammar.specs.Wanted.{Made, made_places, made_behind, made_source,
 use Rattle.dt_grammar.specs.Descent.{after, found, stuck, Descends}
 use Rattle.dt_grammar.specs.Faults.{Around, outside, Shows, unwanted, unnamed, unplaced, misplaced, NumberBreaks, cut_off, unended, too_long, valueless, too_large, Breaks, shows, in_number, in_part, behind_part}
 use Rattle.dt_parse.specs.Reading.{IsRead, IsBroken, IsInside, IsGrammarFault, IsSourceFault}
-use Rattle.dt_grammar.specs.Parsed.{IsTagged, place_of, told_at, WhyNotParsed}
+use Rattle.dt_grammar.specs.Parsed.{IsTagged, token_place, told_at, WhyNotParsed}
 use Rattle.dt_parse.specs.Reading as reading
 use Rattle.dt_grammar.specs.Parsed as grammar
 use Rattle.dt_grammar.proofs.Descent.{local}
@@ -144,7 +144,7 @@ last_words text tokens front left e =
 -- the fault that is told of a stop
 pub record Tells (text : List ℕ) (tokens : List Token) (stop : Stop) (e : Fault) : Type 0 where
   pub memory : stop.kind ≡ fault.NoMemory → e ≡ record { kind = fault.NoMemory; at = None }
-  pub told : ¬ stop.kind ≡ fault.NoMemory → e ≡ record { kind = stop.kind; at = told_at stop.kind (place_of text (drop (length tokens - stop.left) tokens)) }
+  pub told : ¬ stop.kind ≡ fault.NoMemory → e ≡ record { kind = stop.kind; at = told_at stop.kind (token_place text (drop (length tokens - stop.left) tokens)) }
 
 pub why_broken : (text : List ℕ) (tokens : List Token) (stop : Stop) (e : Fault) → length text ≤ most_bytes → IsLexed text (Ok tokens) → IsTagged (words_of text tokens) →
     IsBroken outside Whole (words_of text tokens) stop → Tells text tokens stop e → WhyNotParsed text e

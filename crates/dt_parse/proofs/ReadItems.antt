@@ -16,7 +16,7 @@ use Rattle.dt_grammar.specs.Moves.{at_item, at_bits_open, at_cells_end, at_bytes
 use Rattle.dt_grammar.specs.Descent.{found, Descends, move_at, first, after}
 use Rattle.dt_grammar.specs.Faults.{Around, in_elements, reference_named, Passes, Shows, unwanted, unnamed, unplaced, Breaks, shows, in_part, behind_part}
 use Rattle.dt_parse.specs.Reading.{IsRead, IsBroken}
-use Rattle.dt_parse.specs.Leading.{Leads}
+use Rattle.dt_parse.specs.Leading.{ReadsOn}
 use Rattle.dt_parse.specs.declared.value.Opening.TheVariants as opening
 use Rattle.dt_parse.specs.Openings.{opening_of}
 use Rattle.dt_grammar.proofs.Descent.{by_move}
@@ -104,7 +104,7 @@ cells_stop bits ws vs stop e v d a =
     part_stop a (BitsOpen bits) ws true SomeCells (λ x. CellsEnd bits (cells_in x)) vs stop tt (ap (at_bits_open bits) e) (record { named = tt; placed = tt }) v (d a)
 
 cells_lead : (bits : ℕ) (ws vs us : Words) (cs : List RawCell) → kind_at (first ws) ≡ Some (kind.Mark mark.Less) → vs ≡ after true ws →
-    ((a : Around) → IsRead (in_elements bits a) SomeCells vs (made_cells cs) us) → (a : Around) → Leads a (BitsOpen bits) ws a (CellsEnd bits cs) us
+    ((a : Around) → IsRead (in_elements bits a) SomeCells vs (made_cells cs) us) → (a : Around) → ReadsOn a (BitsOpen bits) ws a (CellsEnd bits cs) us
 cells_lead bits ws vs us cs e v r a =
     leads_behind a (BitsOpen bits) ws true SomeCells (λ x. CellsEnd bits (cells_in x)) vs (made_cells cs) us tt (ap (at_bits_open bits) e) (record { named = tt; placed = tt }) v (r a)
 
@@ -123,7 +123,7 @@ cell_list_read bits ws vs us left cs e v r f l a =
 -- ---- behind `/bits/`
 
 width_leads : (bits : ℕ) (ws vs : Words) → move_at BitsNumber (first ws) ≡ want true (BitsOpen bits) Done → vs ≡ after true ws →
-    (a : Around) → Leads a BitsNumber ws a (BitsOpen bits) vs
+    (a : Around) → ReadsOn a BitsNumber ws a (BitsOpen bits) vs
 width_leads bits ws vs e v a = leads_on a BitsNumber ws true (BitsOpen bits) vs tt e (record { named = tt; placed = tt }) v
 
 pub sized_read : (bits : ℕ) (ws vs left : Words) (i : RawItem) → move_at BitsNumber (first ws) ≡ want true (BitsOpen bits) Done → vs ≡ after true ws →
@@ -163,7 +163,7 @@ pub plain_stop : (ws : Words) (stop : Stop) → kind_at (first ws) ≡ Some (kin
     (a : Around) → IsBroken a OneItem ws stop
 plain_stop ws stop e d a = stops_too a a (BitsOpen 32) OneItem ws ws stop (λ k left h. plain_breaks a ws k left e h) (d a)
 
-bits_lead : (ws vs : Words) → kind_at (first ws) ≡ Some (kind.Keyword keyword.Bits) → vs ≡ after true ws → (a : Around) → Leads a OneItem ws (in_elements 32 a) BitsNumber vs
+bits_lead : (ws vs : Words) → kind_at (first ws) ≡ Some (kind.Keyword keyword.Bits) → vs ≡ after true ws → (a : Around) → ReadsOn a OneItem ws (in_elements 32 a) BitsNumber vs
 bits_lead ws vs e v a = leads_on a OneItem ws true BitsNumber vs tt (ap (at_item (bytes_at (first ws))) e) (item_passes a ws (kind.Keyword keyword.Bits) e tt) v
 
 pub bits_read : (ws vs left : Words) (i : RawItem) → kind_at (first ws) ≡ Some (kind.Keyword keyword.Bits) → vs ≡ after true ws →
@@ -212,7 +212,7 @@ bytes_stop ws vs stop e v d a =
     part_stop a OneItem ws true SomeBytes (λ x. BytesEnd (cells_in x)) vs stop tt (ap (at_item (bytes_at (first ws))) e) (item_passes a ws (kind.Mark mark.OpenBracket) e tt) v (d (in_elements 32 a))
 
 bytes_lead : (ws vs us : Words) (cs : List RawCell) → kind_at (first ws) ≡ Some (kind.Mark mark.OpenBracket) → vs ≡ after true ws →
-    ((a : Around) → IsRead a SomeBytes vs (made_cells cs) us) → (a : Around) → Leads a OneItem ws a (BytesEnd cs) us
+    ((a : Around) → IsRead a SomeBytes vs (made_cells cs) us) → (a : Around) → ReadsOn a OneItem ws a (BytesEnd cs) us
 bytes_lead ws vs us cs e v r a =
     leads_behind a OneItem ws true SomeBytes (λ x. BytesEnd (cells_in x)) vs (made_cells cs) us tt (ap (at_item (bytes_at (first ws))) e) (item_passes a ws (kind.Mark mark.OpenBracket) e tt) v (r (in_elements 32 a))
 

@@ -13,14 +13,14 @@ use Rattle.dt_expr.specs.Expression.{value}
 use Rattle.dt_expr.specs.Fits.{Fits, element}
 use Rattle.dt_parse.specs.declared.stop.Stop.{Stop}
 use Rattle.dt_grammar.specs.Words.{Words}
-use Rattle.dt_grammar.specs.Unchecked.{RawPlace, RawReserve, reserve_of, number_in}
+use Rattle.dt_grammar.specs.Unchecked.{RawPlace, RawReserve, reserve_of, value_or_zero}
 use Rattle.dt_grammar.specs.Strict.{AreLabelTexts, IsNumber, IsReserve}
 use Rattle.dt_grammar.specs.Wanted.{Made, made_labels, made_places, made_behind, labels_in, places_in, reserves_in, size_in, expression_in, Done, Prim, SomeLabels, Top, AfterTopLabels, AfterAddress, ReserveEnd, StatementThen, refuse, want, kind_at}
 use Rattle.dt_grammar.specs.Moves.{at_top, at_reserve_end, reserve_with}
 use Rattle.dt_grammar.specs.Descent.{found, stuck, refuses, gives, Descends, first, after}
 use Rattle.dt_grammar.specs.Faults.{Around, outside, Passes, Shows, unwanted, unnamed, unplaced, IsReservedWith, NumberBreaks, cut_off, unended, too_long, valueless, too_large, IsFine, Breaks, shows, in_number, in_part, behind_part}
 use Rattle.dt_parse.specs.Reading.{IsRead, IsBroken}
-use Rattle.dt_parse.specs.Leading.{Leads, Reserves}
+use Rattle.dt_parse.specs.Leading.{ReadsOn, Reserves}
 use Rattle.dt_items.specs.declared.source.Reservation.{Reservation}
 use Rattle.dt_items.specs.Said.{reservation_said}
 use Rattle.dt_grammar.proofs.Descent.{deterministic, by_move}
@@ -41,7 +41,7 @@ itself n h = mod-eq_of_lt (small n h)
 
 record IsFineNumber (x : Made) : Type 0 where
   number : IsNumber (size_in x) (expression_in x)
-  fits : Fits 64 (number_in (expression_in x))
+  fits : Fits 64 (value_or_zero (expression_in x))
 
 fine_number : (ws vs : Words) (x : Made) → IsRead outside Prim ws x vs → IsFineNumber x
 fine_number ws vs x r = let f = subst (IsFine outside) (number_of ws x vs r.read).made r.fine in record { number = f.0; fits = f.1 }
@@ -51,8 +51,8 @@ same_made x y s t e = cc
 
 -- ---- what the second number is
 
-reserved : (x y : Made) (ws vs : Words) → Descends Prim ws (found y vs) → IsReservation (number_in (expression_in x), number_in (expression_in y)) → IsReservedWith x ws
-reserved x y ws vs d h = λ z left q n. subst (λ (m : Made). IsReservation (number_in (expression_in x), number_in (expression_in m))) (same_made y z vs left (deterministic d q)) h
+reserved : (x y : Made) (ws vs : Words) → Descends Prim ws (found y vs) → IsReservation (value_or_zero (expression_in x), value_or_zero (expression_in y)) → IsReservedWith x ws
+reserved x y ws vs d h = λ z left q n. subst (λ (m : Made). IsReservation (value_or_zero (expression_in x), value_or_zero (expression_in m))) (same_made y z vs left (deterministic d q)) h
 
 not_found : (x : Made) (ws left : Words) → Descends Prim ws (stuck left) → IsReservedWith x ws
 not_found x ws left d = λ y rest q n. let e = deterministic d q in absurd (cc)
@@ -92,7 +92,7 @@ pub address_stop : (ls : List (List ℕ)) (ws vs : Words) (stop : Stop) → kind
 address_stop ls ws vs stop e v d = part_stop outside (AfterTopLabels ls) ws true Prim (AfterAddress ls) vs stop tt (ap (at_top ls) e) (top_passes ls ws) v d
 
 address_leads : (ls : List (List ℕ)) (ws vs us : Words) (x : Made) → kind_at (first ws) ≡ Some (kind.Keyword keyword.Memreserve) → vs ≡ after true ws →
-    IsRead outside Prim vs x us → Leads outside (AfterTopLabels ls) ws outside (AfterAddress ls x) us
+    IsRead outside Prim vs x us → ReadsOn outside (AfterTopLabels ls) ws outside (AfterAddress ls x) us
 address_leads ls ws vs us x e v r = leads_behind outside (AfterTopLabels ls) ws true Prim (AfterAddress ls) vs x us tt (ap (at_top ls) e) (top_passes ls ws) v r
 
 pub size_stop : (ls : List (List ℕ)) (ws vs us : Words) (x : Made) (stop : Stop) → kind_at (first ws) ≡ Some (kind.Keyword keyword.Memreserve) → vs ≡ after true ws →
@@ -102,7 +102,7 @@ size_stop ls ws vs us x stop e v r d =
     (stops_too outside outside Prim (AfterAddress ls x) us us stop (second_breaks ls x us) d)
 
 pub zeros_stop : (ls : List (List ℕ)) (ws vs us ts : Words) (x y : Made) (m n : ℕ) (stop : Stop) → kind_at (first ws) ≡ Some (kind.Keyword keyword.Memreserve) → vs ≡ after true ws →
-    IsRead outside Prim vs x us → m ≡ element 64 (number_in (expression_in x)) → IsRead outside Prim us y ts → n ≡ element 64 (number_in (expression_in y)) →
+    IsRead outside Prim vs x us → m ≡ element 64 (value_or_zero (expression_in x)) → IsRead outside Prim us y ts → n ≡ element 64 (value_or_zero (expression_in y)) →
     m ≡ 0 → n ≡ 0 → stop.kind ≡ fault.OutOfRange → stop.left ≡ length us → IsBroken outside (AfterTopLabels ls) ws stop
 zeros_stop ls ws vs us ts x y m n stop e v r p q s zm zn k l =
     let f = fine_number vs us x r in
@@ -115,20 +115,20 @@ zeros_stop ls ws vs us ts x y m n stop e v r p q s zm zn k l =
 
 -- two numbers were read, which aren't both 0
 pub record NumbersRead (ls : List (List ℕ)) (ws ts : Words) (says : ℕ × ℕ) (r : RawReserve) : Type 0 where
-  pub leads : Leads outside (AfterTopLabels ls) ws outside (ReserveEnd r) ts
+  pub leads : ReadsOn outside (AfterTopLabels ls) ws outside (ReserveEnd r) ts
   pub sound : AreLabelTexts ls → IsReserve r
   pub said : says ≡ reserve_of r
   pub shorter : length ts < length ws
 
 pub numbers_read : (ls : List (List ℕ)) (ws vs us ts : Words) (x y : Made) (m n : ℕ) → kind_at (first ws) ≡ Some (kind.Keyword keyword.Memreserve) → vs ≡ after true ws →
-    IsRead outside Prim vs x us → m ≡ element 64 (number_in (expression_in x)) → IsRead outside Prim us y ts → n ≡ element 64 (number_in (expression_in y)) →
+    IsRead outside Prim vs x us → m ≡ element 64 (value_or_zero (expression_in x)) → IsRead outside Prim us y ts → n ≡ element 64 (value_or_zero (expression_in y)) →
     ¬ ((m ≡ 0) × (n ≡ 0)) → NumbersRead ls ws ts (m, n) (reserve_with ls x y)
 numbers_read ls ws vs us ts x y m n e v r p q s some =
     let f = fine_number vs us x r in
     let g = fine_number us ts y q in
-    let mx : m ≡ number_in (expression_in x) = p ∙ itself _ f.fits in
-    let ny : n ≡ number_in (expression_in y) = s ∙ itself _ g.fits in
-    let valid : IsReservation (number_in (expression_in x), number_in (expression_in y)) =
+    let mx : m ≡ value_or_zero (expression_in x) = p ∙ itself _ f.fits in
+    let ny : n ≡ value_or_zero (expression_in y) = s ∙ itself _ g.fits in
+    let valid : IsReservation (value_or_zero (expression_in x), value_or_zero (expression_in y)) =
     record { some = λ z. some (mx ∙ z.0, ny ∙ z.1); address = small _ f.fits; size = small _ g.fits } in
     let one = no_longer ws vs v in
     let two = number_shorter x vs us r.read in
@@ -185,7 +185,7 @@ told_more : (done : List RawReserve) (r : RawReserve) → map reserve_of (done +
 told_more [] r = refl
 told_more (d ∷ done) r = ap (λ (z : List (ℕ × ℕ)). reserve_of d ∷ z) (told_more done r)
 
-labels_lead : (ws vs : Words) (ls : List (List ℕ)) → ((a : Around) → IsRead a SomeLabels ws (made_labels ls) vs) → Leads outside Top ws outside (AfterTopLabels ls) vs
+labels_lead : (ws vs : Words) (ls : List (List ℕ)) → ((a : Around) → IsRead a SomeLabels ws (made_labels ls) vs) → ReadsOn outside Top ws outside (AfterTopLabels ls) vs
 labels_lead ws vs ls r = leads_behind outside Top ws false SomeLabels (λ x. AfterTopLabels (labels_in x)) ws (made_labels ls) vs tt refl (record { named = tt; placed = tt }) refl (r outside)
 
 pub top_stop : (start ws : Words) (done : List RawReserve) (stop : Stop) → ReservesRead start ws done → ((a : Around) → IsBroken a SomeLabels ws stop) → IsBroken outside Top start stop

@@ -9,12 +9,12 @@ use Rattle.dt_parse.specs.declared.stop.Stop.{Stop}
 use Rattle.dt_grammar.specs.Words.{Words}
 use Rattle.dt_grammar.specs.Unchecked.{RawItem, RawComponent, item_parts, value_parts}
 use Rattle.dt_grammar.specs.Strict.{IsComponent}
-use Rattle.dt_grammar.specs.Wanted.{made_labels, made_item, made_value, labels_in, item_in, value_in, Done, SomeLabels, OneItem, OneValue, AfterComponentLabels, BehindItem, AfterComponent, give, kind_at}
+use Rattle.dt_grammar.specs.Wanted.{made_labels, made_item, made_value, labels_in, item_in, components_in, Done, SomeLabels, OneItem, OneValue, AfterComponentLabels, BehindItem, AfterComponent, give, kind_at}
 use Rattle.dt_grammar.specs.Moves.{at_comma, component_of}
 use Rattle.dt_grammar.specs.Descent.{found, gives, Descends, first, after}
 use Rattle.dt_grammar.specs.Faults.{Around, outside, Breaks, in_part}
 use Rattle.dt_parse.specs.Reading.{IsRead, IsBroken}
-use Rattle.dt_parse.specs.Leading.{Leads}
+use Rattle.dt_parse.specs.Leading.{ReadsOn}
 use Rattle.dt_grammar.proofs.Stepping.{part_then}
 use Rattle.dt_parse.proofs.Leading.{Goes, leads_behind, leads_then, leads_stop, leads_to_end, part_stop, shorter}
 use Rattle.dt_parse.proofs.ReadCells.{no_more}
@@ -24,7 +24,7 @@ use Rattle.dt_parse.proofs.ReadCells.{no_more}
 pub labels_stop : (ws : Words) (stop : Stop) → ((a : Around) → IsBroken a SomeLabels ws stop) → (a : Around) → IsBroken a OneValue ws stop
 labels_stop ws stop d a = part_stop a OneValue ws false SomeLabels (λ x. AfterComponentLabels (labels_in x)) ws stop tt refl (record { named = tt; placed = tt }) refl (d a)
 
-labels_lead : (ws vs : Words) (ls : List (List ℕ)) → ((a : Around) → IsRead a SomeLabels ws (made_labels ls) vs) → (a : Around) → Leads a OneValue ws a (AfterComponentLabels ls) vs
+labels_lead : (ws vs : Words) (ls : List (List ℕ)) → ((a : Around) → IsRead a SomeLabels ws (made_labels ls) vs) → (a : Around) → ReadsOn a OneValue ws a (AfterComponentLabels ls) vs
 labels_lead ws vs ls r a =
     leads_behind a OneValue ws false SomeLabels (λ x. AfterComponentLabels (labels_in x)) ws (made_labels ls) vs tt refl (record { named = tt; placed = tt }) refl (r a)
 
@@ -35,7 +35,7 @@ item_breaks ws vs ls stop r d a =
     (part_stop a (AfterComponentLabels ls) vs false OneItem (λ x. BehindItem ls (item_in x)) vs stop tt refl (record { named = tt; placed = tt }) refl (d a))
 
 item_leads : (ws vs us : Words) (ls : List (List ℕ)) (i : RawItem) → ((a : Around) → IsRead a SomeLabels ws (made_labels ls) vs) →
-    ((a : Around) → IsRead a OneItem vs (made_item i) us) → (a : Around) → Leads a OneValue ws a (BehindItem ls i) us
+    ((a : Around) → IsRead a OneItem vs (made_item i) us) → (a : Around) → ReadsOn a OneValue ws a (BehindItem ls i) us
 item_leads ws vs us ls i r q a =
     leads_then a OneValue ws a (AfterComponentLabels ls) vs a (BehindItem ls i) us (labels_lead ws vs ls r a)
     (leads_behind a (AfterComponentLabels ls) vs false OneItem (λ x. BehindItem ls (item_in x)) vs (made_item i) us tt refl (record { named = tt; placed = tt }) refl (q a))
@@ -48,7 +48,7 @@ behind_stop ws vs us ls i stop r q d a =
 
 -- a component was read, from the first of these places to the second
 pub record ComponentRead (ws vs : Words) (c : RawComponent) : Type 0 where
-  pub leads : (a : Around) → Leads a OneValue ws a (AfterComponent c) vs
+  pub leads : (a : Around) → ReadsOn a OneValue ws a (AfterComponent c) vs
   pub fine : IsComponent c
   pub shorter : length vs ≤ length ws
 
@@ -83,13 +83,13 @@ pub component_goes : (ws vs us : Words) (c : RawComponent) → ComponentRead ws 
 component_goes ws vs us c r e u = record {
   reads = λ a xs left q. record {
     read = (r.leads a).follows (found (made_value (c ∷ xs)) left)
-        (part_then (AfterComponent c) vs true OneValue (λ x. Done (made_value (c ∷ value_in x))) (made_value xs) left (found (made_value (c ∷ xs)) left) (ap (at_comma c) e)
+        (part_then (AfterComponent c) vs true OneValue (λ x. Done (made_value (c ∷ components_in x))) (made_value xs) left (found (made_value (c ∷ xs)) left) (ap (at_comma c) e)
         (subst (λ (ts : Words). Descends OneValue ts (found (made_value xs) left)) u q.read) gives);
     fine = (r.fine, q.fine);
   };
   breaks = λ a k left h.
       (r.leads a).breaks k left
-      (in_part a (AfterComponent c) vs left k true OneValue (λ x. Done (made_value (c ∷ value_in x))) tt (ap (at_comma c) e) (record { named = tt; placed = tt })
+      (in_part a (AfterComponent c) vs left k true OneValue (λ x. Done (made_value (c ∷ components_in x))) tt (ap (at_comma c) e) (record { named = tt; placed = tt })
       (subst (λ (ts : Words). Breaks a OneValue ts k left) u h));
 }
 

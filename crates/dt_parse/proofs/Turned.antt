@@ -21,9 +21,9 @@ use Rattle.dt_grammar.specs.Words.{word_of, words_of, unary_of, level_of}
 use Rattle.dt_grammar.specs.Wanted.{Made, expression_in, Prim, binary_at, kind_at, refuse}
 use Rattle.dt_grammar.specs.Moves.{with_one, with_two, with_three, at_prim, at_question as moved_question, at_colon, at_closing}
 use Rattle.dt_grammar.specs.Descent.{first, refuses, part_stuck}
-use Rattle.dt_parse.specs.Machine.{Frame, unary_frame, binary_frame, open_frame, question_frame, colon_frame, bound, grouped, stops, IsLevelled, IsPlain}
+use Rattle.dt_parse.specs.Machine.{Frame, unary_frame, binary_frame, open_frame, question_frame, colon_frame, bound, grouped, stops, IsLevelled, HasNoOperator}
 use Rattle.dt_parse.specs.Turns.{at_operand, or_unary, behind_binary, behind_operand, at_question, at_else, at_close, operand_turn, whole_turn, wanted_turn, turn_at, kind_in, binary_in}
-use Rattle.dt_parse.specs.Standing.{top_of, written, IsSome, AreFrames, IsWanted, IsOperand, IsWhole, Stands, Behind, After}
+use Rattle.dt_parse.specs.Standing.{top_of, steps_written, IsSome, AreFrames, IsWanted, IsOperand, IsWhole, Stands, Behind, After}
 use Rattle.dt_grammar.proofs.Descent.{by_move}
 use Rattle.dt_grammar.proofs.Expressions.{Stops}
 use Rattle.dt_parse.proofs.Machine.{prefix_from, joined_from, binary_from, question_from, whole_from, else_from, close_from}
@@ -48,7 +48,7 @@ prefix_turn tokens f fs out t ts (Some op) e g w = (
     frame = unary_frame op;
     is = refl;
     frames = (tt, g);
-    stands = record { steps_are = w.steps_are ∙ sym (append-nil (written (f ∷ fs))); follows = λ text o h. w.follows text o (prefix_from (f ∷ fs) (word_of text t) (words_of text ts) o op e h) };
+    stands = record { steps_are = w.steps_are ∙ sym (append-nil (steps_written (f ∷ fs))); follows = λ text o h. w.follows text o (prefix_from (f ∷ fs) (word_of text t) (words_of text ts) o op e h) };
   },
   shorter t ts,
 )
@@ -78,7 +78,7 @@ emit_unary tokens fs out rest op some w =
     let es = steps (expression_in w.made) in
     record {
       made = with_one op w.made;
-      steps_are = ap (λ (z : List Step). z ++ step.Unary op ∷ []) (w.steps_are ∙ ap (λ (z : List Step). z ++ es) (append-nil (written fs))) ∙ append_assoc (written fs) es (step.Unary op ∷ []);
+      steps_are = ap (λ (z : List Step). z ++ step.Unary op ∷ []) (w.steps_are ∙ ap (λ (z : List Step). z ++ es) (append-nil (steps_written fs))) ∙ append_assoc (steps_written fs) es (step.Unary op ∷ []);
       inside = some;
       follows = w.follows;
     }
@@ -93,7 +93,7 @@ emit_binary tokens fs out rest op x g stop w =
     let es = steps (expression_in w.made) in
     record {
       made = with_two op x w.made;
-      steps_are = ap (λ (z : List Step). z ++ step.Binary op ∷ []) (w.steps_are ∙ append_assoc (written fs) xs es) ∙ append_assoc (written fs) (xs ++ es) (step.Binary op ∷ []) ∙ ap (λ (z : List Step). written fs ++ z) (append_assoc xs es (step.Binary op ∷ []));
+      steps_are = ap (λ (z : List Step). z ++ step.Binary op ∷ []) (w.steps_are ∙ append_assoc (steps_written fs) xs es) ∙ append_assoc (steps_written fs) (xs ++ es) (step.Binary op ∷ []) ∙ ap (λ (z : List Step). steps_written fs ++ z) (append_assoc xs es (step.Binary op ∷ []));
       inside = levelled_some fs g.0;
       follows = λ text o h. w.follows text o (joined_from fs op x w.made (words_of text rest) o g.0 g.1 (stop text) h);
     }
@@ -124,7 +124,7 @@ binary_turn tokens fs out rest op x (Some q) e g w = at (nat_le (level_of op) (l
     }
     at false le = let less : level_of q < level_of op = grind (arith, nat_tests) in push_binary tokens (binary_frame op x ∷ fs) out rest q e tt (omega arith) g w
 
-question_turn : (tokens : List Token) (fs : List Frame) (out : List Step) (rest : List Token) (k : Option TokenKind) → kind_in rest ≡ k → binary_in (kind_in rest) ≡ None → IsPlain fs → AreFrames fs → IsOperand tokens fs out rest → After stage.Operand tokens fs out rest (at_question k)
+question_turn : (tokens : List Token) (fs : List Frame) (out : List Step) (rest : List Token) (k : Option TokenKind) → kind_in rest ≡ k → binary_in (kind_in rest) ≡ None → HasNoOperator fs → AreFrames fs → IsOperand tokens fs out rest → After stage.Operand tokens fs out rest (at_question k)
 question_turn tokens fs out [] (Some (kind.Mark mark.Question)) e none plain g w = absurd (cc)
 question_turn tokens fs out (t ∷ ts) (Some (kind.Mark mark.Question)) e none plain g w = (
   record {
@@ -145,7 +145,7 @@ question_turn tokens fs out rest k e none plain g w = (
   refl,
 )
 
-plain_turn : (tokens : List Token) (fs : List Frame) (out : List Step) (rest : List Token) (o : Option Binary) → binary_in (kind_in rest) ≡ o → IsPlain fs → IsLevelled fs → bound fs ≡ 10 → AreFrames fs → IsOperand tokens fs out rest → After stage.Operand tokens fs out rest (behind_operand o (kind_in rest))
+plain_turn : (tokens : List Token) (fs : List Frame) (out : List Step) (rest : List Token) (o : Option Binary) → binary_in (kind_in rest) ≡ o → HasNoOperator fs → IsLevelled fs → bound fs ≡ 10 → AreFrames fs → IsOperand tokens fs out rest → After stage.Operand tokens fs out rest (behind_operand o (kind_in rest))
 plain_turn tokens fs out rest None e plain levelled ten g w = question_turn tokens fs out rest (kind_in rest) refl e plain g w
 plain_turn tokens fs out rest (Some q) e plain levelled ten g w = let l = levels q in push_binary tokens fs out rest q e levelled (omega arith) g w
 
@@ -171,7 +171,7 @@ else_turn tokens fs c out (t ∷ ts) (Some (kind.Mark mark.Colon)) e g w = (
       is = refl;
       frames = g;
       stands = record {
-        steps_are = w.steps_are ∙ append_assoc (written fs) (steps (expression_in c)) (steps (expression_in w.made));
+        steps_are = w.steps_are ∙ append_assoc (steps_written fs) (steps (expression_in c)) (steps (expression_in w.made));
         follows = λ text o h. w.follows text o (else_from fs c w.made (word_of text t) (words_of text ts) o (let z : t.kind ≡ kind.Mark mark.Colon = cc in z) h);
       };
     };
@@ -188,7 +188,7 @@ closed tokens [] out t ts e w = record {
 }
 closed tokens (f ∷ fs) out t ts e w = record {
   made = grouped w.made;
-  steps_are = w.steps_are ∙ ap (λ (z : List Step). z ++ steps (expression_in w.made)) (append-nil (written (f ∷ fs)));
+  steps_are = w.steps_are ∙ ap (λ (z : List Step). z ++ steps (expression_in w.made)) (append-nil (steps_written (f ∷ fs)));
   inside = tt;
   follows = λ text o h. w.follows text o (close_from (f ∷ fs) w.made (word_of text t) (words_of text ts) o e h);
 }
@@ -198,7 +198,7 @@ close_turn tokens fs out [] (Some (kind.Mark mark.CloseParenthesis)) e w = absur
 close_turn tokens fs out (t ∷ ts) (Some (kind.Mark mark.CloseParenthesis)) e w = (record { frame = open_frame; others = fs; split = refl; stands = closed tokens fs out t ts (let z : t.kind ≡ kind.Mark mark.CloseParenthesis = cc in z) w }, shorter t ts)
 close_turn tokens fs out rest k e w = λ text. w.follows text _ (stops (words_of text rest) (by_move _ _ (words_of text rest) _ (ap (at_closing w.made) (same_kind text rest ∙ e)) refuses))
 
-emit_conditional : (tokens : List Token) (fs : List Frame) (c x : Made) (out : List Step) (rest : List Token) → IsPlain fs → IsWhole tokens (colon_frame c x ∷ fs) out rest → IsWhole tokens fs (out ++ step.Conditional ∷ []) rest
+emit_conditional : (tokens : List Token) (fs : List Frame) (c x : Made) (out : List Step) (rest : List Token) → HasNoOperator fs → IsWhole tokens (colon_frame c x ∷ fs) out rest → IsWhole tokens fs (out ++ step.Conditional ∷ []) rest
 emit_conditional tokens fs c x out rest plain w =
     let cs = steps (expression_in c) in
     let xs = steps (expression_in x) in
@@ -206,8 +206,8 @@ emit_conditional tokens fs c x out rest plain w =
     let end = step.Conditional ∷ [] in
     record {
       made = with_three c x w.made;
-      steps_are = ap (λ (z : List Step). z ++ end) (w.steps_are ∙ append_assoc (written fs) (cs ++ xs) es) ∙ append_assoc (written fs) ((cs ++ xs) ++ es) end
-          ∙ ap (λ (z : List Step). written fs ++ z) (append_assoc (cs ++ xs) es end ∙ append_assoc cs xs (es ++ end));
+      steps_are = ap (λ (z : List Step). z ++ end) (w.steps_are ∙ append_assoc (steps_written fs) (cs ++ xs) es) ∙ append_assoc (steps_written fs) ((cs ++ xs) ++ es) end
+          ∙ ap (λ (z : List Step). steps_written fs ++ z) (append_assoc (cs ++ xs) es end ∙ append_assoc cs xs (es ++ end));
       inside = plain;
       follows = w.follows;
     }

@@ -13,9 +13,9 @@ use Rattle.dt_grammar.specs.Words.{word_of, words_of, unary_of}
 use Rattle.dt_grammar.specs.Wanted.{made_expression, Prim, refuse, give}
 use Rattle.dt_grammar.specs.Moves.{at_prefix, at_prim}
 use Rattle.dt_grammar.specs.Descent.{Outcome, stuck, refuses, Descends}
-use Rattle.dt_parse.specs.Machine.{Frame, open_frame, stops, Leads, conts_of}
+use Rattle.dt_parse.specs.Machine.{Frame, open_frame, stops, LeadsOn, conts_of}
 use Rattle.dt_parse.specs.Turns.{at_operand, kind_in, unary_in}
-use Rattle.dt_parse.specs.Standing.{written, AreFrames, IsWanted, Behind, After}
+use Rattle.dt_parse.specs.Standing.{steps_written, AreFrames, IsWanted, Behind, After}
 use Rattle.dt_grammar.proofs.Descent.{by_move}
 use Rattle.dt_parse.proofs.Machine.{by_same, giving, prim_from, open_from}
 
@@ -25,7 +25,7 @@ shorter t ts = omega arith
 -- ---- an operand is wanted
 
 -- where a primary is wanted, whether or not a prefix may stand before it
-primary_at : (tokens : List Token) (fs : List Frame) (out : List Step) (rest : List Token) → unary_in (kind_in rest) ≡ None → IsWanted tokens fs out rest → (text : List ℕ) (o : Outcome) → Leads (conts_of fs).operand Prim (words_of text rest) o → Descends Prim (words_of text tokens) o
+primary_at : (tokens : List Token) (fs : List Frame) (out : List Step) (rest : List Token) → unary_in (kind_in rest) ≡ None → IsWanted tokens fs out rest → (text : List ℕ) (o : Outcome) → LeadsOn (conts_of fs).operand Prim (words_of text rest) o → Descends Prim (words_of text tokens) o
 primary_at tokens [] out rest none w text o h = w.follows text o h
 primary_at tokens (f ∷ fs) out [] none w text o h = w.follows text o (prim_from (conts_of (f ∷ fs)).operand [] o refl h)
 primary_at tokens (f ∷ fs) out (t ∷ ts) none w text o h = w.follows text o (prim_from (conts_of (f ∷ fs)).operand (words_of text (t ∷ ts)) o (ap at_prefix none) h)
@@ -55,7 +55,7 @@ at_primary tokens fs out t ts (kind.Mark mark.OpenParenthesis) e u g w = (
     is = refl;
     frames = g;
     stands = record {
-      steps_are = w.steps_are ∙ sym (append-nil (written fs));
+      steps_are = w.steps_are ∙ sym (append-nil (steps_written fs));
       follows = λ text o h. primary_at tokens fs out (t ∷ ts) (ap unary_of e) w text o (open_from fs (word_of text t) (words_of text ts) o e h);
     };
   },

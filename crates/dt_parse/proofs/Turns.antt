@@ -11,7 +11,7 @@ use Rattle.dt_parse.specs.declared.expression.Pending.{Pending}
 use Rattle.dt_parse.specs.declared.expression.Stage.{Stage}
 use Rattle.dt_parse.specs.declared.expression.Stage.TheVariants as stage
 use Rattle.dt_parse.specs.declared.expression.Turn.{Turn}
-use Rattle.dt_parse.specs.Machine.{Frame, unary_frame, binary_frame, open_frame, question_frame, colon_frame, goes, stops, Leads, conts_of}
+use Rattle.dt_parse.specs.Machine.{Frame, unary_frame, binary_frame, open_frame, question_frame, colon_frame, goes, stops, LeadsOn, conts_of}
 use Rattle.dt_parse.specs.Turns.{turn_at, kind_in}
 use Rattle.dt_parse.specs.Standing.{top_of, pending_of, stacked, AreFrames, IsDone, Behind, Pushed, Popped, After, Turning}
 use Rattle.dt_parse.proofs.Turned.{turned}
@@ -67,7 +67,7 @@ frames_below (colon_frame c x) fs g = g.1
 pub popped_frames : (fs : List Frame) (P : List Frame → Type 0) (h : Popped fs P) → AreFrames fs → AreFrames h.others
 popped_frames fs P h g = frames_below h.frame h.others (subst AreFrames h.split g)
 
-pub start_from : (s : Words) (o : Outcome) → Leads (conts_of []).operand Prim s o → Descends Prim s o
+pub start_from : (s : Words) (o : Outcome) → LeadsOn (conts_of []).operand Prim s o → Descends Prim s o
 start_from s o (goes x r o' d e) = subst (λ (q : Outcome). Descends Prim s q) (sym e) d
 start_from s (stuck l) (stops l' d) = d
 

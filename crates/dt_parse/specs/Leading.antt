@@ -9,7 +9,7 @@ use Rattle.dt_grammar.specs.Descent.{Outcome, found, Descends}
 use Rattle.dt_grammar.specs.Faults.{Around, outside, Breaks}
 
 -- what is read on from the second place is read from the first, and what breaks from there breaks from the first
-pub record Leads (a : Around) (g : Wanted) (ws : Words) (b : Around) (h : Wanted) (vs : Words) : Type 0 where
+pub record ReadsOn (a : Around) (g : Wanted) (ws : Words) (b : Around) (h : Wanted) (vs : Words) : Type 0 where
   pub follows : (o : Outcome) → Descends h vs o → Descends g ws o
   pub breaks : (k : FaultKind) (left : Words) → Breaks b h vs k left → Breaks a g ws k left
 

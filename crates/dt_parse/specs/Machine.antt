@@ -28,13 +28,13 @@ pub data Through (K : Made → Words → Outcome → Type 0) (m : Move) (s : Wor
   goes : (x : Made) (r : Words) (o : Outcome) → Does m s (found x r) → K x r o → Through K m s o
   stops : (l : Words) → Does m s (stuck l) → Through K m s (stuck l)
 
-abbrev pub Leads : Cont → Wanted → Words → Outcome → Type 0
-Leads K g s o = Through K (move_at g (first s)) s o
+abbrev pub LeadsOn : Cont → Wanted → Words → Outcome → Type 0
+LeadsOn K g s o = Through K (move_at g (first s)) s o
 
 -- so many levels of binary operators, from one on
 abbrev pub climb : ℕ → ℕ → Cont → Cont
 climb k zero K = K
-climb k (suc c) K = λ x r o. Leads (climb (suc k) c K) (AfterLeft k x) r o
+climb k (suc c) K = λ x r o. LeadsOn (climb (suc k) c K) (AfterLeft k x) r o
 
 abbrev pub bound : List Frame → ℕ
 bound (binary_frame op x ∷ fs) = level_of op - 1
@@ -50,7 +50,7 @@ abbrev pub conts_with : Cont → Cont → ℕ → Conts
 conts_with whole joined levels = record { whole = whole; joined = joined; operand = climb 0 levels joined }
 
 abbrev pub condition_then : Cont → Cont
-condition_then whole = λ x r o. Leads whole (AfterCondition x) r o
+condition_then whole = λ x r o. LeadsOn whole (AfterCondition x) r o
 
 abbrev pub conts_of : List Frame → Conts
 conts_of [] = record { whole = λ x r o. o ≡ found x r; joined = λ x r o. o ≡ found x r; operand = λ x r o. o ≡ found x r }
@@ -58,8 +58,8 @@ conts_of (unary_frame op ∷ fs) = record { whole = λ x r o. ⊥; joined = λ x
 conts_of (binary_frame op x ∷ fs) =
     let n = level_of op - 1 in
     conts_with (λ y r o. ⊥) (λ y r o. climb n (bound fs - n) (conts_of fs).joined (with_two op x y) r o) n
-conts_of (open_frame ∷ fs) = let whole : Cont = λ x r o. Leads (conts_of fs).operand (Closing x) r o in conts_with whole (condition_then whole) 10
-conts_of (question_frame c ∷ fs) = let whole : Cont = λ x r o. Leads (conts_of fs).whole (AfterThis c x) r o in conts_with whole (condition_then whole) 10
+conts_of (open_frame ∷ fs) = let whole : Cont = λ x r o. LeadsOn (conts_of fs).operand (Closing x) r o in conts_with whole (condition_then whole) 10
+conts_of (question_frame c ∷ fs) = let whole : Cont = λ x r o. LeadsOn (conts_of fs).whole (AfterThis c x) r o in conts_with whole (condition_then whole) 10
 conts_of (colon_frame c x ∷ fs) = let whole : Cont = λ y r o. (conts_of fs).whole (with_three c x y) r o in conts_with whole (condition_then whole) 10
 
 -- an operator, a parenthesis or `? :` is pending, and no prefix
@@ -69,8 +69,8 @@ IsLevelled (unary_frame op ∷ fs) = ⊥
 IsLevelled _ = Unit {0}
 
 -- and no operator
-abbrev pub IsPlain : List Frame → Type 0
-IsPlain [] = ⊥
-IsPlain (unary_frame op ∷ fs) = ⊥
-IsPlain (binary_frame op x ∷ fs) = ⊥
-IsPlain _ = Unit {0}
+abbrev pub HasNoOperator : List Frame → Type 0
+HasNoOperator [] = ⊥
+HasNoOperator (unary_frame op ∷ fs) = ⊥
+HasNoOperator (binary_frame op x ∷ fs) = ⊥
+HasNoOperator _ = Unit {0}

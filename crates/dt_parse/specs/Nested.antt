@@ -13,7 +13,7 @@ use Rattle.dt_parse.specs.declared.body.Behind.{Behind}
 use Rattle.dt_parse.specs.declared.body.Behind.TheVariants as behind
 use Rattle.dt_grammar.specs.Words.{Words}
 use Rattle.dt_grammar.specs.Unchecked.{RawPlace, raw_close}
-use Rattle.dt_grammar.specs.Strict.{IsSound, IsOrdered}
+use Rattle.dt_grammar.specs.Strict.{IsSoundPlace, IsOrdered}
 use Rattle.dt_grammar.specs.Wanted.{SomeMembers, AfterMemberLabels, BlockClose, made_places}
 use Rattle.dt_grammar.specs.Descent.{found, Descends}
 use Rattle.dt_grammar.specs.Faults.{Around, in_bodies, outside, Breaks}
@@ -49,7 +49,7 @@ pub record IsMember (ls : List (List ℕ)) (late : Bool) (ws : Words) (p : RawPl
       Descends (AfterMemberLabels ls) ws (found (made_places (p ∷ ps)) rest)
   pub breaks : (outer : List Bool) (k : FaultKind) (rest : Words) → Breaks (in_body later outer) SomeMembers left k rest →
       Breaks (in_body late outer) (AfterMemberLabels ls) ws k rest
-  pub sound : IsSound p
+  pub sound : IsSoundPlace p
   pub ordered : (outer : List Bool) (ps : List RawPlace) → IsOrdered (later ∷ outer) ps → IsOrdered (late ∷ outer) (p ∷ ps)
   pub shorter : length left < length ws
 
@@ -63,7 +63,7 @@ pub data Finishes : ℕ → Words → List RawPlace → Words → Type 0 where
 
 -- No fault shows in the members of a body inside so many others, behind a child or not.
 pub record AreFine (n : ℕ) (late : Bool) (ps : List RawPlace) : Type 0 where
-  pub sound : AllByRecursion IsSound ps
+  pub sound : AllByRecursion IsSoundPlace ps
   pub ordered : (outer : List Bool) → length outer ≡ n → (rest : List RawPlace) → ((b : Bool) → IsOrdered (b ∷ outer) rest) →
       IsOrdered (late ∷ outer) (ps ++ rest)
 
@@ -89,7 +89,7 @@ flags (suc n) late = late ∷ replicate n true
 pub record Goes (n : ℕ) (late : Bool) (ws : Words) (ps : List RawPlace) (m : ℕ) (later : Bool) (left : Words) : Type 0 where
   pub reads : (qs : List RawPlace) (end : Words) → Finishes m left qs end → Finishes n ws (ps ++ qs) end
   pub breaks : (stop : Stop) → BreaksIn m later left stop → BreaksIn n late ws stop
-  pub sound : AllByRecursion IsSound ps
+  pub sound : AllByRecursion IsSoundPlace ps
   pub ordered : (qs : List RawPlace) → IsOrdered (flags m later) qs → IsOrdered (flags n late) (ps ++ qs)
 
 -- ---- the end of a body

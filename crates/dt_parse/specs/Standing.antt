@@ -17,7 +17,7 @@ use Rattle.dt_parse.specs.declared.expression.Refusal.TheVariants as refusal
 use Rattle.dt_grammar.specs.Words.{Words, words_of, level_of}
 use Rattle.dt_grammar.specs.Wanted.{Made, expression_in, Wanted, Prefix, Prim}
 use Rattle.dt_grammar.specs.Descent.{Outcome, found, stuck, Descends}
-use Rattle.dt_parse.specs.Machine.{Frame, unary_frame, binary_frame, open_frame, question_frame, colon_frame, Leads, bound, conts_of, IsLevelled, IsPlain}
+use Rattle.dt_parse.specs.Machine.{Frame, unary_frame, binary_frame, open_frame, question_frame, colon_frame, LeadsOn, bound, conts_of, IsLevelled, HasNoOperator}
 
 abbrev pub pending_of : Frame → Pending
 pending_of (unary_frame op) = pending.Unary op
@@ -42,9 +42,9 @@ steps_in open_frame = []
 steps_in (question_frame c) = steps (expression_in c)
 steps_in (colon_frame c x) = steps (expression_in c) ++ steps (expression_in x)
 
-abbrev pub written : List Frame → List Step
-written [] = []
-written (f ∷ fs) = written fs ++ steps_in f
+abbrev pub steps_written : List Frame → List Step
+steps_written [] = []
+steps_written (f ∷ fs) = steps_written fs ++ steps_in f
 
 abbrev pub IsSome : List Frame → Type 0
 IsSome [] = ⊥
@@ -55,32 +55,32 @@ AreFrames [] = Unit {0}
 AreFrames (unary_frame op ∷ fs) = IsSome fs × AreFrames fs
 AreFrames (binary_frame op x ∷ fs) = IsLevelled fs × (level_of op ≤ bound fs) × AreFrames fs
 AreFrames (open_frame ∷ fs) = AreFrames fs
-AreFrames (question_frame c ∷ fs) = IsPlain fs × AreFrames fs
-AreFrames (colon_frame c x ∷ fs) = IsPlain fs × AreFrames fs
+AreFrames (question_frame c ∷ fs) = HasNoOperator fs × AreFrames fs
+AreFrames (colon_frame c x ∷ fs) = HasNoOperator fs × AreFrames fs
 
 abbrev pub begin : List Frame → Wanted
 begin [] = Prim
 begin (f ∷ fs) = Prefix
 
 -- what leads to an outcome from here leads there from the start
-abbrev pub Follows : List Token → List Token → (Words → Outcome → Type 0) → Type 0
-Follows tokens rest P = (text : List ℕ) (o : Outcome) → P (words_of text rest) o → Descends Prim (words_of text tokens) o
+abbrev pub LeadsFrom : List Token → List Token → (Words → Outcome → Type 0) → Type 0
+LeadsFrom tokens rest P = (text : List ℕ) (o : Outcome) → P (words_of text rest) o → Descends Prim (words_of text tokens) o
 
 pub record IsWanted (tokens : List Token) (fs : List Frame) (out : List Step) (rest : List Token) : Type 0 where
-  pub steps_are : out ≡ written fs
-  pub follows : Follows tokens rest (λ s o. Leads (conts_of fs).operand (begin fs) s o)
+  pub steps_are : out ≡ steps_written fs
+  pub follows : LeadsFrom tokens rest (λ s o. LeadsOn (conts_of fs).operand (begin fs) s o)
 
 pub record IsOperand (tokens : List Token) (fs : List Frame) (out : List Step) (rest : List Token) : Type 0 where
   pub made : Made
-  pub steps_are : out ≡ written fs ++ steps (expression_in made)
+  pub steps_are : out ≡ steps_written fs ++ steps (expression_in made)
   pub inside : IsSome fs
-  pub follows : Follows tokens rest (λ s o. (conts_of fs).operand made s o)
+  pub follows : LeadsFrom tokens rest (λ s o. (conts_of fs).operand made s o)
 
 pub record IsWhole (tokens : List Token) (fs : List Frame) (out : List Step) (rest : List Token) : Type 0 where
   pub made : Made
-  pub steps_are : out ≡ written fs ++ steps (expression_in made)
-  pub inside : IsPlain fs
-  pub follows : Follows tokens rest (λ s o. (conts_of fs).whole made s o)
+  pub steps_are : out ≡ steps_written fs ++ steps (expression_in made)
+  pub inside : HasNoOperator fs
+  pub follows : LeadsFrom tokens rest (λ s o. (conts_of fs).whole made s o)
 
 -- the expression is complete
 pub record IsDone (tokens : List Token) (out : List Step) (rest : List Token) : Type 0 where

@@ -8,7 +8,7 @@ use Rattle.dt_lex.specs.declared.token.Mark.TheVariants as mark
 use Rattle.dt_lex.specs.declared.token.Keyword.TheVariants as keyword
 use Rattle.dt_grammar.specs.Words.{Words}
 use Rattle.dt_grammar.specs.Unchecked.{RawPlace}
-use Rattle.dt_grammar.specs.Strict.{IsSound, IsOrdered}
+use Rattle.dt_grammar.specs.Strict.{IsSoundPlace, IsOrdered}
 use Rattle.dt_grammar.specs.Wanted.{StatementThen, made_places}
 use Rattle.dt_grammar.specs.Descent.{found, Descends}
 use Rattle.dt_grammar.specs.Faults.{outside, Breaks}
@@ -25,8 +25,8 @@ start_of _ = start.Other
 
 -- Statements are read: where others are read from here to the end of the text, behind these labels, they are read from the
 -- front behind those, with the places so far; and where those break, these do.
-pub record Follows (ls : List (List ℕ)) (ws : Words) (ps : List RawPlace) (ms : List (List ℕ)) (here : Words) : Type 0 where
+pub record StatementsFollow (ls : List (List ℕ)) (ws : Words) (ps : List RawPlace) (ms : List (List ℕ)) (here : Words) : Type 0 where
   pub reads : (qs : List RawPlace) → Descends (StatementThen ms) here (found (made_places qs) []) → Descends (StatementThen ls) ws (found (made_places (ps ++ qs)) [])
   pub breaks : (k : FaultKind) (left : Words) → Breaks outside (StatementThen ms) here k left → Breaks outside (StatementThen ls) ws k left
-  pub sound : AllByRecursion IsSound ps
+  pub sound : AllByRecursion IsSoundPlace ps
   pub ordered : (qs : List RawPlace) → IsOrdered [] qs → IsOrdered [] (ps ++ qs)

@@ -10,8 +10,8 @@ ghost use Rattle.dt_lex.specs.declared.token.Mark.TheVariants as mark;
 ghost use Rattle.dt_lex.specs.declared.token.Keyword.TheVariants as keyword;
 ghost use Rattle.dt_model.specs.Source.{close};
 ghost use Rattle.dt_grammar.specs.Words.{Words};
-ghost use Rattle.dt_grammar.specs.Unchecked.{RawPlace, RawComponent, raw_child, raw_label, raw_property, all_but_last, value_parts, place_of};
-ghost use Rattle.dt_grammar.specs.Strict.{AreLabelTexts, IsComponent, IsSound, IsOrdered};
+ghost use Rattle.dt_grammar.specs.Unchecked.{RawPlace, RawComponent, raw_child, raw_label, raw_property, all_but_last, value_parts, place_meant};
+ghost use Rattle.dt_grammar.specs.Strict.{AreLabelTexts, IsComponent, IsSoundPlace, IsOrdered};
 ghost use Rattle.dt_grammar.specs.Wanted.{AfterMemberLabels, AfterName, BlockOpen, SomeLabels, made_labels, made_places, kind_at, bytes_at};
 ghost use Rattle.dt_grammar.specs.Descent.{first, after, found, Descends};
 ghost use Rattle.dt_grammar.specs.Faults.{outside};
@@ -137,7 +137,7 @@ fn property<'a>(
     requires named { kind_at (first cursor.old) ≡ Some kind.Name }
     requires assigned { (behind_of (kind_at (first (after true cursor.old))) ≡ behind.End) ⊎ (behind_of (kind_at (first (after true cursor.old))) ≡ behind.Value) }
     ensures ok { (ls : List (List ℕ)) → AreLabelTexts ls → OnOk result ((p : RawPlace) × IsMember ls late cursor.old p late cursor.new
-        × (places_said items.new.items ≡ places_said items.old.items ++ place_of p ∷ [])) }
+        × (places_said items.new.items ≡ places_said items.old.items ++ place_meant p ∷ [])) }
     ensures err { IfErr result (λ stop. (ls : List (List ℕ)) (outer : List Bool) → IsBroken (in_body late outer) (AfterMemberLabels ls) cursor.old stop) }
 {
     let name = property_name(cursor)?;
@@ -168,7 +168,7 @@ fn open_child<'a>(
     requires opened { behind_of (kind_at (first (after true cursor.old))) ≡ behind.Body }
     ensures ok { OnOk result (IsNodeName (bytes_at (first cursor.old)) × (bodies < most_bodies)
         × (cursor.new ≡ after true (after true cursor.old))
-        × (places_said items.new.items ≡ places_said items.old.items ++ place_of (raw_child (bytes_at (first cursor.old))) ∷ [])) }
+        × (places_said items.new.items ≡ places_said items.old.items ++ place_meant (raw_child (bytes_at (first cursor.old))) ∷ [])) }
     ensures err { IfErr result (λ stop. (ls : List (List ℕ)) (late : Bool) (outer : List Bool) → length outer + 1 ≡ bodies → IsBroken (in_body late outer) (AfterMemberLabels ls) cursor.old stop) }
 {
     let name = node_name(cursor)?;
@@ -191,7 +191,7 @@ fn child<'a>(
     requires opened { behind_of (kind_at (first (after true cursor.old))) ≡ behind.Body }
     ensures ok { (ls : List (List ℕ)) → names.entry.items ≡ map all_but_last ls → OnOk result (IsNodeName (bytes_at (first cursor.old)) × (bodies < most_bodies)
         × (cursor.new ≡ after true (after true cursor.old))
-        × (places_said items.new.items ≡ places_said items.old.items ++ map place_of (raw_child (bytes_at (first cursor.old)) ∷ map raw_label ls))) }
+        × (places_said items.new.items ≡ places_said items.old.items ++ map place_meant (raw_child (bytes_at (first cursor.old)) ∷ map raw_label ls))) }
     ensures err { IfErr result (λ stop. (ls : List (List ℕ)) (late : Bool) (outer : List Bool) → length outer + 1 ≡ bodies → IsBroken (in_body late outer) (AfterMemberLabels ls) cursor.old stop) }
 {
     open_child(bodies, cursor, items)?;
@@ -200,7 +200,7 @@ fn child<'a>(
 
 /// Appends labels.
 pub(crate) fn push_labels<'a>(names: Vec<Label<'a>>, items: &mut Vec<Item<'a>>) -> Result<(), Stop>
-    ensures ok { (ls : List (List ℕ)) → names.entry.items ≡ map all_but_last ls → OnOk result (places_said items.new.items ≡ places_said items.old.items ++ map place_of (map raw_label ls)) }
+    ensures ok { (ls : List (List ℕ)) → names.entry.items ≡ map all_but_last ls → OnOk result (places_said items.new.items ≡ places_said items.old.items ++ map place_meant (map raw_label ls)) }
     ensures err { IfErr result (λ stop. stop.kind ≡ fault.NoMemory) }
 {
     for name in names {
@@ -235,7 +235,7 @@ fn delete_property<'a>(
 ) -> Result<(), Stop>
     requires { kind_at (first cursor.old) ≡ Some (kind.Keyword keyword.DeleteProperty) }
     ensures ok { (ls : List (List ℕ)) → AreLabelTexts ls → OnOk result ((p : RawPlace) × IsMember ls late cursor.old p late cursor.new
-        × (places_said items.new.items ≡ places_said items.old.items ++ place_of p ∷ [])) }
+        × (places_said items.new.items ≡ places_said items.old.items ++ place_meant p ∷ [])) }
     ensures err { IfErr result (λ stop. (ls : List (List ℕ)) (outer : List Bool) → IsBroken (in_body late outer) (AfterMemberLabels ls) cursor.old stop) }
 {
     if late {
@@ -253,7 +253,7 @@ fn delete_property<'a>(
 fn delete_child<'a>(cursor: &mut Cursor<'a, '_>, items: &mut Vec<Item<'a>>) -> Result<(), Stop>
     requires { kind_at (first cursor.old) ≡ Some (kind.Keyword keyword.DeleteNode) }
     ensures ok { (ls : List (List ℕ)) → AreLabelTexts ls → OnOk result ((p : RawPlace) × ((late : Bool) → IsMember ls late cursor.old p true cursor.new)
-        × (places_said items.new.items ≡ places_said items.old.items ++ place_of p ∷ [])) }
+        × (places_said items.new.items ≡ places_said items.old.items ++ place_meant p ∷ [])) }
     ensures err { IfErr result (λ stop. (ls : List (List ℕ)) (late : Bool) (outer : List Bool) → IsBroken (in_body late outer) (AfterMemberLabels ls) cursor.old stop) }
 {
     cursor.advance();
@@ -301,7 +301,7 @@ fn named<'a>(
     requires named { kind_at (first cursor.old) ≡ Some kind.Name }
     requires unopened { behind_of (kind_at (first (after true cursor.old))) ≢ behind.Body }
     ensures ok { (ls : List (List ℕ)) → AreLabelTexts ls → OnOk result ((p : RawPlace) × IsMember ls late cursor.old p late cursor.new
-        × (places_said items.new.items ≡ places_said items.old.items ++ place_of p ∷ [])) }
+        × (places_said items.new.items ≡ places_said items.old.items ++ place_meant p ∷ [])) }
     ensures err { IfErr result (λ stop. (ls : List (List ℕ)) (outer : List Bool) → IsBroken (in_body late outer) (AfterMemberLabels ls) cursor.old stop) }
 {
     match behind_of(cursor.second()) {
@@ -325,7 +325,7 @@ fn member_behind<'a>(
     requires unopened { ¬ ((kind_at (first cursor.old) ≡ Some kind.Name) × (kind_at (first (after true cursor.old)) ≡ Some (kind.Mark mark.OpenBrace))) }
     ensures ok { (ls : List (List ℕ)) (ws : Words) → IsRead outside SomeLabels ws (made_labels ls) cursor.old → (labelled ≡ false → ls ≡ []) → IfOk result
         (λ next. (ps : List RawPlace) × Goes depth.open depth.late ws ps next.open next.late cursor.new
-        × (length cursor.new < length ws) × (places_said items.new.items ≡ places_said items.old.items ++ map place_of ps)) }
+        × (length cursor.new < length ws) × (places_said items.new.items ≡ places_said items.old.items ++ map place_meant ps)) }
     ensures err { (ls : List (List ℕ)) (ws : Words) → IsRead outside SomeLabels ws (made_labels ls) cursor.old → (labelled ≡ false → ls ≡ []) → (labelled ≡ true → ls ≢ []) →
         IfErr result (λ stop. BreaksIn depth.open depth.late ws stop) }
 {
@@ -364,7 +364,7 @@ fn member<'a>(
 ) -> Result<Depth, Stop>
     requires { 0 < depth.open }
     ensures ok { IfOk result (λ next. (ps : List RawPlace) × Goes depth.open depth.late cursor.old ps next.open next.late cursor.new
-        × (length cursor.new < length cursor.old) × (places_said items.new.items ≡ places_said items.old.items ++ map place_of ps)) }
+        × (length cursor.new < length cursor.old) × (places_said items.new.items ≡ places_said items.old.items ++ map place_meant ps)) }
     ensures err { IfErr result (λ stop. BreaksIn depth.open depth.late cursor.old stop) }
 {
     let names = labels(alloc, cursor)?;
@@ -387,8 +387,8 @@ pub(crate) fn body<'a>(
 ) -> Result<(), Stop>
     ensures ok { OnOk result ((qs : List RawPlace)
         × ((ps : List RawPlace) → Descends (BlockOpen ps) cursor.old (found (made_places (ps ++ qs)) cursor.new))
-        × AllByRecursion IsSound qs × IsOrdered (false ∷ []) qs
-        × (places_said items.new.items ≡ places_said items.old.items ++ map place_of qs)) }
+        × AllByRecursion IsSoundPlace qs × IsOrdered (false ∷ []) qs
+        × (places_said items.new.items ≡ places_said items.old.items ++ map place_meant qs)) }
     ensures err { IfErr result (λ stop. (ps : List RawPlace) → IsBroken outside (BlockOpen ps) cursor.old stop) }
 {
     cursor.expect(TokenKind::Mark(Mark::OpenBrace))?;

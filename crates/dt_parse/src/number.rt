@@ -6,7 +6,7 @@ ghost use Rattle.dt_names.specs.declared.fault.FaultKind.TheVariants.{Limit};
 ghost use Rattle.dt_expr.specs.Expression.{Expression, steps, value};
 ghost use Rattle.dt_expr.specs.Fits.{element, IsWidth};
 ghost use Rattle.dt_grammar.specs.Words.{words_of};
-ghost use Rattle.dt_grammar.specs.Unchecked.{number_in};
+ghost use Rattle.dt_grammar.specs.Unchecked.{value_or_zero};
 ghost use Rattle.dt_grammar.specs.Wanted.{Made, Prim, expression_in};
 ghost use Rattle.dt_grammar.specs.Faults.{Around, in_elements};
 ghost use Rattle.dt_parse.specs.Reading.{IsRead, IsBroken};
@@ -117,7 +117,7 @@ fn valued(alloc: Global, cursor: &Cursor<'_, '_>) -> Result<(u64, usize), Stop>
 /// element of so many bits. Answers its low bits.
 pub(crate) fn number(alloc: Global, bits: u32, cursor: &mut Cursor<'_, '_>) -> Result<u64, Stop>
     requires { IsWidth bits }
-    ensures ok { IfOk result (λ n. (a : Around) → (m : Made) × IsRead (in_elements bits a) Prim cursor.old m cursor.new × (n ≡ element bits (number_in (expression_in m)))) }
+    ensures ok { IfOk result (λ n. (a : Around) → (m : Made) × IsRead (in_elements bits a) Prim cursor.old m cursor.new × (n ≡ element bits (value_or_zero (expression_in m)))) }
     ensures err { IfErr result (λ stop. (a : Around) → IsBroken (in_elements bits a) Prim cursor.old stop) }
 {
     let (value, used) = valued(alloc, cursor)?;

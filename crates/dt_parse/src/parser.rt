@@ -16,8 +16,8 @@ ghost use Rattle.dt_grammar.specs.Moves.{source_with};
 ghost use Rattle.dt_grammar.specs.Descent.{first, found, Descends};
 ghost use Rattle.dt_grammar.specs.Faults.{outside, Breaks};
 ghost use Rattle.dt_parse.specs.Reading.{IsRead, IsBroken, IsSourceFault};
-ghost use Rattle.dt_grammar.specs.Parsed.{IsTagged, place_of, told_at, IsParsed, WhyNotParsed};
-ghost use Rattle.dt_parse.specs.Leading.{Leads, Reserves};
+ghost use Rattle.dt_grammar.specs.Parsed.{IsTagged, token_place, told_at, IsParsed, WhyNotParsed};
+ghost use Rattle.dt_parse.specs.Leading.{ReadsOn, Reserves};
 ghost use Rattle.dt_items.specs.Said.{reservation_said};
 
 use crate::cursor::Cursor;
@@ -41,7 +41,7 @@ fn is_tagged(cursor: &Cursor<'_, '_>) -> bool
 
 /// Reads the first header: `/dts-v1/;`, and `/plugin/;` where it stands behind it. Whether it does.
 fn first_header(cursor: &mut Cursor<'_, '_>) -> Result<bool, Stop>
-    ensures ok { IfOk result (λ plugin. Leads outside Whole cursor.old outside (MoreHeaders plugin) cursor.new) }
+    ensures ok { IfOk result (λ plugin. ReadsOn outside Whole cursor.old outside (MoreHeaders plugin) cursor.new) }
     ensures err { IfErr result (λ stop. IsBroken outside Whole cursor.old stop) }
 {
     cursor.expect(TokenKind::Keyword(Keyword::Version))?;
@@ -56,7 +56,7 @@ fn first_header(cursor: &mut Cursor<'_, '_>) -> Result<bool, Stop>
 
 /// Reads a header behind its `/dts-v1/`, as the first one was.
 fn next_header(plugin: bool, cursor: &mut Cursor<'_, '_>) -> Result<(), Stop>
-    ensures ok { OnOk result (Leads outside (NextVersion plugin) cursor.old outside (MoreHeaders plugin) cursor.new) }
+    ensures ok { OnOk result (ReadsOn outside (NextVersion plugin) cursor.old outside (MoreHeaders plugin) cursor.new) }
     ensures shorter { OnOk result (length cursor.new ≤ length cursor.old) }
     ensures err { IfErr result (λ stop. IsBroken outside (NextVersion plugin) cursor.old stop) }
 {
@@ -148,7 +148,7 @@ fn source<'a>(alloc: Global, seed: Seed, cursor: &mut Cursor<'a, '_>) -> Result<
 /// The fault of a stop, at the first byte of the token at which it shows.
 fn fault_of(stop: Stop, text: &[u8], tokens: &[Token]) -> Fault
     ensures memory { stop.kind ≡ NoMemory → result ≡ record { kind = NoMemory; at = None } }
-    ensures told { ¬ stop.kind ≡ NoMemory → result ≡ record { kind = stop.kind; at = told_at stop.kind (place_of text.now (drop (length tokens.now - stop.left) tokens.now)) } }
+    ensures told { ¬ stop.kind ≡ NoMemory → result ≡ record { kind = stop.kind; at = told_at stop.kind (token_place text.now (drop (length tokens.now - stop.left) tokens.now)) } }
 {
     let place = match tokens.get(tokens.len().saturating_sub(stop.left)) {
         Some(token) => token.start as usize,

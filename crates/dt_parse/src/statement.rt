@@ -1,7 +1,7 @@
 //! Statements: blocks, and deletions of nodes.
 
 ghost use Rattle.std.specs.Prelude.{◌≡◌, ◌≢◌, ◌++◌, ◌∷◌, [], Some, true, false, List, ℕ, map, OnOk, IfErr};
-ghost use Rattle.dt_grammar.specs.Unchecked.{Target, RawPlace, raw_block, place_of, all_but_last};
+ghost use Rattle.dt_grammar.specs.Unchecked.{Target, RawPlace, raw_block, place_meant, all_but_last};
 ghost use Rattle.dt_grammar.specs.Relaxed.{reference_kind};
 ghost use Rattle.dt_grammar.specs.Strict.{AreLabelTexts, IsReferenceText};
 ghost use Rattle.dt_grammar.specs.Wanted.{OneStatement, StatementThen, made_places, kind_at, bytes_at};
@@ -54,7 +54,7 @@ fn root<'a>(
 ) -> Result<(), Stop>
     requires { start_of (kind_at (first cursor.old)) ≡ start.Root }
     ensures ok { OnOk result ((labelled ≡ false) × ((ps : List RawPlace) × IsRead outside (OneStatement []) cursor.old (made_places ps) cursor.new
-        × (places_said items.new.items ≡ places_said items.old.items ++ map place_of ps))) }
+        × (places_said items.new.items ≡ places_said items.old.items ++ map place_meant ps))) }
     ensures err { IfErr result (λ stop. (ls : List (List ℕ)) → (labelled ≡ false → ls ≡ []) → (labelled ≡ true → ls ≢ []) → IsBroken outside (OneStatement ls) cursor.old stop) }
 {
     if labelled {
@@ -70,7 +70,7 @@ fn open_block<'a>(cursor: &mut Cursor<'a, '_>, items: &mut Vec<Item<'a>>) -> Res
     requires { start_of (kind_at (first cursor.old)) ≡ start.Node }
     ensures ok { (t : Target) → kind_at (first cursor.old) ≡ Some (reference_kind t) → OnOk result
         (IsReferenceText t (bytes_at (first cursor.old)) × (cursor.new ≡ after true cursor.old)
-        × (places_said items.new.items ≡ places_said items.old.items ++ place_of (raw_block t (bytes_at (first cursor.old))) ∷ [])) }
+        × (places_said items.new.items ≡ places_said items.old.items ++ place_meant (raw_block t (bytes_at (first cursor.old))) ∷ [])) }
     ensures err { IfErr result (λ stop. (ls : List (List ℕ)) → IsBroken outside (OneStatement ls) cursor.old stop) }
 {
     let node = reference(cursor)?;
@@ -88,7 +88,7 @@ fn block<'a>(
     requires { start_of (kind_at (first cursor.old)) ≡ start.Node }
     ensures ok { (ls : List (List ℕ)) → names.entry.items ≡ map all_but_last ls → AreLabelTexts ls → OnOk result
         ((ps : List RawPlace) × IsRead outside (OneStatement ls) cursor.old (made_places ps) cursor.new
-        × (places_said items.new.items ≡ places_said items.old.items ++ map place_of ps)) }
+        × (places_said items.new.items ≡ places_said items.old.items ++ map place_meant ps)) }
     ensures err { IfErr result (λ stop. (ls : List (List ℕ)) → IsBroken outside (OneStatement ls) cursor.old stop) }
 {
     open_block(cursor, items)?;
@@ -104,7 +104,7 @@ fn delete_node<'a>(
 ) -> Result<(), Stop>
     requires { start_of (kind_at (first cursor.old)) ≡ start.Deletion }
     ensures ok { OnOk result ((labelled ≡ false) × ((ps : List RawPlace) × IsRead outside (OneStatement []) cursor.old (made_places ps) cursor.new
-        × (places_said items.new.items ≡ places_said items.old.items ++ map place_of ps))) }
+        × (places_said items.new.items ≡ places_said items.old.items ++ map place_meant ps))) }
     ensures err { IfErr result (λ stop. (ls : List (List ℕ)) → (labelled ≡ false → ls ≡ []) → (labelled ≡ true → ls ≢ []) → IsBroken outside (OneStatement ls) cursor.old stop) }
 {
     if labelled {
@@ -131,7 +131,7 @@ fn statement<'a>(
 ) -> Result<(), Stop>
     ensures ok { (ls : List (List ℕ)) → names.entry.items ≡ map all_but_last ls → AreLabelTexts ls → OnOk result
         ((ps : List RawPlace) × IsRead outside (OneStatement ls) cursor.old (made_places ps) cursor.new
-        × (places_said items.new.items ≡ places_said items.old.items ++ map place_of ps)) }
+        × (places_said items.new.items ≡ places_said items.old.items ++ map place_meant ps)) }
     ensures err { (ls : List (List ℕ)) → names.entry.items ≡ map all_but_last ls → IfErr result (λ stop. IsBroken outside (OneStatement ls) cursor.old stop) }
 {
     match start_of(cursor.kind()) {
@@ -151,7 +151,7 @@ pub(crate) fn statements<'a>(
 ) -> Result<(), Stop>
     ensures ok { (ls : List (List ℕ)) → names.entry.items ≡ map all_but_last ls → AreLabelTexts ls → OnOk result
         ((ps : List RawPlace) × IsRead outside (StatementThen ls) cursor.old (made_places ps) []
-        × (places_said items.new.items ≡ places_said items.old.items ++ map place_of ps)) }
+        × (places_said items.new.items ≡ places_said items.old.items ++ map place_meant ps)) }
     ensures err { (ls : List (List ℕ)) → names.entry.items ≡ map all_but_last ls → AreLabelTexts ls → IfErr result (λ stop. IsBroken outside (StatementThen ls) cursor.old stop) }
 {
     statement(alloc, names, cursor, items)?;

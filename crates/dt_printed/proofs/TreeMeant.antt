@@ -14,7 +14,7 @@ use Rattle.dt_model.specs.Meaning.{byte, cell, value_bytes, Meaning, IsNaming, i
 use Rattle.dt_model.specs.Numbering.{IsNumberFor, AreNumbersFor, asked_by, numbers_by}
 use Rattle.dt_model.specs.Numbers.{paths_of}
 use Rattle.dt_model.specs.Event.{Stack, value_at}
-use Rattle.dt_model.specs.Source.{Part, one, Events, raw, all_bound, in_range, written, refers, refers_there, labels_there, written_number, meaning_of, IsResolved, SourceMeans}
+use Rattle.dt_model.specs.Source.{Part, one, Events, raw, all_bound, in_range, number_of_parts, refers, refers_there, labels_there, written_number, meaning_of, IsResolved, SourceMeans}
 use Rattle.dt_model.specs.Ordered.{IsInOrder, unwritten}
 use Rattle.dt_model.specs.Instance.{IsInstance, AreSymbols, IsTreeOf}
 use Rattle.dt_model.specs.Tree.{Property, Forest, no_nodes, branch, Reading, value_in, Placed, preorder, nodes_of}
@@ -72,7 +72,7 @@ bytes_same number (b ∷ v) = ap (λ (z : List ℕ). b ∷ z) (bytes_same number
 -- a phandle's number, which is written
 record IsNumberOf (v : List ℕ) : Type 0 where
   n : ℕ
-  is_written : written (map one v) ≡ Some n
+  is_written : number_of_parts (map one v) ≡ Some n
   back : AreBytes v → cell n ≡ v
 
 number_in_range : (n : ℕ) → 1 ≤ n → n ≤ 0xfffffffe → in_range n ≡ Some n
@@ -117,10 +117,10 @@ module _ (t : Reading) (valid : IsValid t) (held : HasBytes t) where
   number p = unwrap_or (written_number es (reverse p)) 0
 
   -- what is written in a node
-  number_same : (p : Path) → written_number es (reverse p) ≡ option_and_then (λ v. written (map one v)) (value_in t p (codes "phandle"))
-  number_same p = ap (option_and_then written) (value_same t valid p (codes "phandle")) ∙ through (value_in t p (codes "phandle"))
+  number_same : (p : Path) → written_number es (reverse p) ≡ option_and_then (λ v. number_of_parts (map one v)) (value_in t p (codes "phandle"))
+  number_same p = ap (option_and_then number_of_parts) (value_same t valid p (codes "phandle")) ∙ through (value_in t p (codes "phandle"))
     where
-      through : (o : Option (List ℕ)) → option_and_then written (option_map (map one) o) ≡ option_and_then (λ v. written (map one v)) o
+      through : (o : Option (List ℕ)) → option_and_then number_of_parts (option_map (map one) o) ≡ option_and_then (λ v. number_of_parts (map one v)) o
       through None = refl
       through (Some v) = refl
 
@@ -148,16 +148,16 @@ module _ (t : Reading) (valid : IsValid t) (held : HasBytes t) where
         ap (λ z. is_some (all_bound es z)) w.2 ∙ ap is_some (bytes_bound es w.0);
     numbered = λ q v e.
         let w = value_is q (codes "phandle") v e in
-        ap (λ z. is_some (written z)) w.2 ∙ ap is_some (a_phandle (reverse q) w.0 w.1).is_written;
+        ap (λ z. is_some (number_of_parts z)) w.2 ∙ ap is_some (a_phandle (reverse q) w.0 w.1).is_written;
     own = λ q r n h k.
-        let a = then_some written (value_at es q (codes "phandle")) n h in
-        let b = then_some written (value_at es r (codes "phandle")) n k in
+        let a = then_some number_of_parts (value_at es q (codes "phandle")) n h in
+        let b = then_some number_of_parts (value_at es r (codes "phandle")) n k in
         let v = value_is q (codes "phandle") a.0 a.1 in
         let w = value_is r (codes "phandle") b.0 b.1 in
         let x = a_phandle (reverse q) v.0 v.1 in
         let y = a_phandle (reverse r) w.0 w.1 in
-        let first : Some x.n ≡ Some n = sym x.is_written ∙ ap written (sym v.2) ∙ a.2 in
-        let second : Some y.n ≡ Some n = sym y.is_written ∙ ap written (sym w.2) ∙ b.2 in
+        let first : Some x.n ≡ Some n = sym x.is_written ∙ ap number_of_parts (sym v.2) ∙ a.2 in
+        let second : Some y.n ≡ Some n = sym y.is_written ∙ ap number_of_parts (sym w.2) ∙ b.2 in
         let same : x.n ≡ y.n = cc in
         let bytes = sym (x.back (value_held t (reverse q) (codes "phandle") v.0 held v.1)) ∙ ap cell same ∙ y.back (value_held t (reverse r) (codes "phandle") w.0 held w.1) in
         no_twice q r (own_phandle t (reverse q) (reverse r) w.0 valid (v.1 ∙ ap Some bytes) w.1);
@@ -199,7 +199,7 @@ module _ (t : Reading) (valid : IsValid t) (held : HasBytes t) where
       w.1 ∙ ap (λ o. Some (unwrap_or o 0)) (sym w.1)
 
   number_range : (p : Path) → m.keyed p ≡ true → (1 ≤ number p) × (number p ≤ 0xfffffffe)
-  number_range p h = let w = then_some written (value_at es (reverse p) (codes "phandle")) (number p) (keyed_number p h) in written_range w.0 (number p) w.2
+  number_range p h = let w = then_some number_of_parts (value_at es (reverse p) (codes "phandle")) (number p) (keyed_number p h) in written_range w.0 (number p) w.2
 
   naming : IsNaming m number
   naming = record {
@@ -213,12 +213,12 @@ module _ (t : Reading) (valid : IsValid t) (held : HasBytes t) where
 
   phandle_same : (p : Path) (o : Option (List ℕ)) → value_in t p (codes "phandle") ≡ o → value_in t p (codes "phandle") ≡ (if m.keyed p then Some (cell (number p)) else None)
   phandle_same p None e =
-      let none : written_number es (reverse p) ≡ None = number_same p ∙ ap (option_and_then (λ v. written (map one v))) e in
+      let none : written_number es (reverse p) ≡ None = number_same p ∙ ap (option_and_then (λ v. number_of_parts (map one v))) e in
       let unkeyed : m.keyed p ≡ false = keyed_is p ∙ ap is_some none in
       e ∙ sym (ap (λ b. if b then Some (cell (number p)) else None) unkeyed)
   phandle_same p (Some v) e =
       let x = a_phandle p v e in
-      let some : written_number es (reverse p) ≡ Some x.n = number_same p ∙ ap (option_and_then (λ v. written (map one v))) e ∙ x.is_written in
+      let some : written_number es (reverse p) ≡ Some x.n = number_same p ∙ ap (option_and_then (λ v. number_of_parts (map one v))) e ∙ x.is_written in
       let keyed : m.keyed p ≡ true = keyed_is p ∙ ap is_some some in
       e ∙ ap Some (sym (x.back (value_held t p (codes "phandle") v held e)) ∙ ap (λ o. cell (unwrap_or o 0)) (sym some)) ∙ sym (ap (λ b. if b then Some (cell (number p)) else None) keyed)
 

@@ -12,7 +12,7 @@ use Rattle.dt_model.specs.Valid.{AreDistinct, AreNodes, names}
 use Rattle.dt_read.specs.declared.token.Token.{Token}
 use Rattle.dt_read.specs.declared.token.Token.TheVariants as code
 use Rattle.dt_read.specs.View.{view_at}
-use Rattle.dt_read.specs.Placed.{Nodes, no_nodes, node, forest_of, PlacedTree, place_below, IsAt, names_of, child_names, first_place_of, names_behind}
+use Rattle.dt_read.specs.Placed.{Nodes, no_nodes, node, forest_of, PlacedTree, place_below, IsAt, names_under, child_names, first_place_of, names_behind}
 use Rattle.dt_read.specs.Marks.{Mark, begin_mark, marks_of_nodes}
 use Rattle.dt_read.specs.TreeTokens.{Parts, node_of, IsEnd, first_place}
 use Rattle.dt_read.specs.Blocks.{whole_of, IsWellPlaced}
@@ -44,7 +44,7 @@ first_below at nodes path [] = None
 first_below at nodes path (x ∷ xs) = place_below at nodes (path ++ x ∷ [])
 
 abbrev names_below : List Property → Nodes → Path → List Name
-names_below ps nodes path = names_of (node_below (record { properties = ps; children = forest_of nodes }) path)
+names_below ps nodes path = names_under (node_below (record { properties = ps; children = forest_of nodes }) path)
 
 -- what stands behind the node of a path
 record Behind (at : ℕ) (nodes : Nodes) (ps : List Property) (path : Path) (name : Name) (k : ℕ) : Type 0 where

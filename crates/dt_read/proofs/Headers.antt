@@ -5,7 +5,7 @@ use Rattle.std.specs.Int.{w32, from_be_bytes}
 use Rattle.std.proofs.Math.Dec.{eqb, leb}
 use Rattle.std.proofs.lemmas.Bool.{cases_lt, false≢true, eqb-true, le-leb, leb-true, lt-ltb}
 use Rattle.std.proofs.lemmas.List.{length-take, length-drop}
-use Rattle.dt_model.specs.Format.{word_at, Header, HasHeader, IsSound, part}
+use Rattle.dt_model.specs.Format.{word_at, Header, HasHeader, IsSoundHeader, part}
 use Rattle.dt_model.specs.Checks.{number, counted, header_fault, IsFirstFault, in_reservations, no_reservation_end}
 use Rattle.dt_read.proofs.Numbers.{IsBytes, IsBytes-drop, IsBytes-take}
 use Rattle.dt_read.specs.Pairs.{ends, pairs_of}
@@ -105,7 +105,7 @@ has_header bytes f =
       structure_size = word_stands bytes 36 (omega arith);
     }
 
-pub is_sound : (bytes : List ℕ) → IsFine bytes → IsSound (header_of bytes) (length bytes)
+pub is_sound : (bytes : List ℕ) → IsFine bytes → IsSoundHeader (header_of bytes) (length bytes)
 is_sound bytes f = record {
   holds_header = f.at_least;
   inside = f.at_most;

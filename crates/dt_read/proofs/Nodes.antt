@@ -6,7 +6,7 @@ use Rattle.std.specs.Prelude.{IsSome, IfSome}
 use Rattle.std.proofs.lemmas.List.{length-append, length-drop, drop_at, drop-drop, append-nil}
 use Rattle.dt_read.specs.Placed.{Nodes, no_nodes, node}
 use Rattle.dt_read.specs.Marks.{Mark, begin_mark, end_mark, prop_mark, nop_mark, last_mark, SpellsMarks, Root, marks_of_nodes, marks_of, without_nop_marks}
-use Rattle.dt_read.specs.Parsing.{root_of, tree_in, tree_of_marks}
+use Rattle.dt_read.specs.Parsing.{root_left, tree_in, tree_of_marks}
 use Rattle.dt_read.specs.TreeCode.{tree_again}
 use Rattle.dt_read.specs.TreeTokens.{AreTokens, marks_in, Parts, or_else, find_in, node_of, marks_of_parts, IsEnd, FollowsNode, BeginsNode, HasTree, IsStructure}
 use Rattle.dt_read.proofs.Tokens.{chosen}
@@ -25,7 +25,7 @@ without_nop_marks-append (begin_mark place name ∷ xs) ys = ap (λ (x : List Ma
 pub tree_in_is : (strings : List ℕ) (at : ℕ) (block : List ℕ) (tree : Root) → HasTree strings at block tree → tree_in strings at block ≡ tree
 tree_in_is strings at block tree s =
     ap tree_of_marks (lexed_is strings at (s.marks ++ last_mark ∷ []) block s.spelled)
-    ∙ ap (λ l. root_of l.levels) (sym (left_by-without_nop_marks s.marks (last_mark ∷ [])))
+    ∙ ap (λ l. root_left l.levels) (sym (left_by-without_nop_marks s.marks (last_mark ∷ [])))
     ∙ ap (λ (x : List Mark). tree_of_marks (x ++ last_mark ∷ [])) s.whole
     ∙ tree_again tree (last_mark ∷ [])
 

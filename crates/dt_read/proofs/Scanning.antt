@@ -14,7 +14,7 @@ use Rattle.dt_model.specs.Checks.{BlobFault, Position, front, is_behind, may_be_
 use Rattle.dt_read.specs.Marks.{Mark, begin_mark, end_mark, prop_mark, nop_mark, last_mark, token_of, mark_at, SpellsMark, SpellsMarks, Root, marks_of_nodes, marks_of, without_nop_marks}
 use Rattle.dt_read.specs.Placed.{Nodes, no_nodes, node, forest_of}
 use Rattle.dt_read.specs.TreeTokens.{HasTree}
-use Rattle.dt_read.specs.Scan.{IsStuck, Leads, Reaches}
+use Rattle.dt_read.specs.Scan.{IsStuck, MovesTo, Reaches}
 use Rattle.dt_read.proofs.Numbers.{IsBytes, IsBytes-drop, number_takes}
 use Rattle.dt_read.proofs.Tokens.{chosen}
 use Rattle.dt_read.proofs.Nesting.{then_some, tree_of_led}
@@ -42,7 +42,7 @@ lead_push (first ∷ tokens) token p q r l e =
     let s = then_some (lead_all tokens) (lead first p) q l in
     ap (option_and_then (lead_all (tokens ++ token ∷ []))) s.1 ∙ lead_push tokens token s.0 q r s.2 e
 
-pub reaches_more : (strings block : List ℕ) (here : ℕ) (rest : List ℕ) (p q : Position) (n : ℕ) → Leads strings p rest q n → Reaches strings block here rest p → Reaches strings block (here + n) (drop n rest) q
+pub reaches_more : (strings block : List ℕ) (here : ℕ) (rest : List ℕ) (p q : Position) (n : ℕ) → MovesTo strings p rest q n → Reaches strings block here rest p → Reaches strings block (here + n) (drop n rest) q
 reaches_more strings block here rest p q n l r =
     let len : length (take n rest) ≡ n = omega (arith, length-take n rest, l.takes.within) in
     let both = length-append r.before (take n rest) in

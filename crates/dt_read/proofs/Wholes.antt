@@ -12,7 +12,7 @@ use Rattle.dt_names.specs.declared.fault.FaultKind.{FaultKind}
 use Rattle.dt_names.specs.declared.fault.FaultKind.TheVariants.{Limit}
 use Rattle.dt_read.specs.declared.blocks.Blocks.{Blocks}
 use Rattle.dt_read.specs.Kinds.{kind_of}
-use Rattle.dt_read.specs.Placed.{no_nodes, forest_of, PlacedTree, reading_of, place_of, IsAt, last_name, properties_of, names_of, properties_at, child_names}
+use Rattle.dt_read.specs.Placed.{no_nodes, forest_of, PlacedTree, reading_of, place_of, IsAt, last_name, properties_found, names_under, properties_at, child_names}
 use Rattle.dt_read.specs.Marks.{Root}
 use Rattle.dt_read.specs.TreeTokens.{Parts, node_of, heads_of, head_named, HasTree}
 use Rattle.dt_read.specs.Pairs.{pairs_of}
@@ -190,14 +190,14 @@ pub properties_so : (t u : PlacedTree) → t ≡ u → IsWellPlaced t → (path 
 properties_so t u same w path k e ps h =
     let a = at_same t u same w path k e in
     at_node (λ parts. ps ≡ parts.properties) (node_of (whole_of t) k) a.parts a.found h
-    ∙ sym (ap properties_of a.there) ∙ ap (λ (v : PlacedTree). properties_at v path) same
+    ∙ sym (ap properties_found a.there) ∙ ap (λ (v : PlacedTree). properties_at v path) same
 
 pub children_so : (t u : PlacedTree) → t ≡ u → IsWellPlaced t → (path : Path) (k : ℕ) → IsAt u path k → (heads : List (ℕ × Name)) → IfSome (node_of (whole_of t) k) (λ parts. heads ≡ heads_of parts.children)
     → map (λ n. Some n) (map (λ h. h.0) heads) ≡ map (λ x. place_of u (path ++ x ∷ [])) (child_names u path)
 children_so t u same w path k e heads h =
     let a = at_same t u same w path k e in
     let is = at_node (λ parts. heads ≡ heads_of parts.children) (node_of (whole_of t) k) a.parts a.found h in
-    let named : names (forest_of a.parts.children) ≡ child_names t path = sym (ap names_of a.there) in
+    let named : names (forest_of a.parts.children) ≡ child_names t path = sym (ap names_under a.there) in
     ap (λ (hs : List (ℕ × Name)). map (λ n. Some n) (map (λ h. h.0) hs)) is
     ∙ a.children
     ∙ ap (λ (ns : List Name). map (λ x. place_of t (path ++ x ∷ [])) ns) named

@@ -34,13 +34,13 @@ left_by (end_mark ∷ marks) = record { properties = []; levels = no_nodes ∷ (
 left_by (prop_mark p ∷ marks) = record { properties = p ∷ (left_by marks).properties; levels = (left_by marks).levels }
 left_by (begin_mark place name ∷ marks) = record { properties = []; levels = begun place name (left_by marks).properties (left_by marks).levels }
 
-abbrev pub root_of : List Nodes → Root
-root_of [] = record { place = 0; properties = []; children = no_nodes }
-root_of (no_nodes ∷ levels) = record { place = 0; properties = []; children = no_nodes }
-root_of (node place name properties children siblings ∷ levels) = record { place = place; properties = properties; children = children }
+abbrev pub root_left : List Nodes → Root
+root_left [] = record { place = 0; properties = []; children = no_nodes }
+root_left (no_nodes ∷ levels) = record { place = 0; properties = []; children = no_nodes }
+root_left (node place name properties children siblings ∷ levels) = record { place = place; properties = properties; children = children }
 
 abbrev pub tree_of_marks : List Mark → Root
-tree_of_marks marks = root_of (left_by marks).levels
+tree_of_marks marks = root_left (left_by marks).levels
 
 -- the tree of a structure block at that offset
 abbrev pub tree_in : List ℕ → ℕ → List ℕ → Root

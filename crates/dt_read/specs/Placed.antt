@@ -68,21 +68,21 @@ last_name [] = []
 last_name (x ∷ []) = x
 last_name (x ∷ y ∷ p) = last_name (y ∷ p)
 
-abbrev pub properties_of : Option Node → List Property
-properties_of None = []
-properties_of (Some n) = n.properties
+abbrev pub properties_found : Option Node → List Property
+properties_found None = []
+properties_found (Some n) = n.properties
 
-abbrev pub names_of : Option Node → List Name
-names_of None = []
-names_of (Some n) = names n.children
+abbrev pub names_under : Option Node → List Name
+names_under None = []
+names_under (Some n) = names n.children
 
 -- the properties of the path's node, in order
 abbrev pub properties_at : PlacedTree → Path → List Property
-properties_at t path = properties_of (node_at (reading_of t) path)
+properties_at t path = properties_found (node_at (reading_of t) path)
 
 -- the names of its children, in order
 abbrev pub child_names : PlacedTree → Path → List Name
-child_names t path = names_of (node_at (reading_of t) path)
+child_names t path = names_under (node_at (reading_of t) path)
 
 -- the place of the first of some children
 abbrev pub first_place_of : PlacedTree → Path → List Name → Option ℕ

@@ -10,7 +10,7 @@ abbrev pub IsStuck : List ℕ → Position → List ℕ → Type 0
 IsStuck strings p rest = (token : Token) (n : ℕ) → token_in strings rest ≡ Some (token, n) → lead token p ≡ None
 
 -- a token of so many bytes may stand there, and leads to another position
-pub record Leads (strings : List ℕ) (p : Position) (rest : List ℕ) (q : Position) (n : ℕ) : Type 0 where
+pub record MovesTo (strings : List ℕ) (p : Position) (rest : List ℕ) (q : Position) (n : ℕ) : Type 0 where
   pub token : Token
   pub takes : Takes strings rest token n
   pub led : lead token p ≡ Some q

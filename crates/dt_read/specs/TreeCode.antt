@@ -6,7 +6,7 @@ use Rattle.std.proofs.Common.{◌≡◌, ℕ, zero, suc, List, [], ◌∷◌, �
 use Rattle.std.proofs.lemmas.List.{append-nil}
 use Rattle.std.specs.Coded.{Coded, code_by, coded×, coded_ℕ, coded_list}
 use Rattle.dt_read.specs.Walked.{Step, opens, holds, closes}
-use Rattle.dt_read.specs.Parsing.{Left, begun, left_by, root_of, tree_of_marks}
+use Rattle.dt_read.specs.Parsing.{Left, begun, left_by, root_left, tree_of_marks}
 
 -- ---- tokens and trees
 
@@ -34,9 +34,9 @@ tree_again tree rest =
     left_by_properties tree.properties (marks_of_nodes tree.children ++ end_mark ∷ rest) (ap (λ (l : Left). l.properties) inside)
     ∙ ap (λ (l : Left). record { properties = tree.properties; levels = l.levels }) inside in
     let regroup : (map prop_mark tree.properties ++ (marks_of_nodes tree.children ++ end_mark ∷ [])) ++ rest ≡ map prop_mark tree.properties ++ (marks_of_nodes tree.children ++ end_mark ∷ rest) = simp append_assoc in
-    ap (λ (l : Left). root_of (begun tree.place [] l.properties l.levels)) (ap left_by regroup ∙ whole) ∙ at_root tree.place tree.properties tree.children (left_by rest).levels
+    ap (λ (l : Left). root_left (begun tree.place [] l.properties l.levels)) (ap left_by regroup ∙ whole) ∙ at_root tree.place tree.properties tree.children (left_by rest).levels
   where
-    at_root : (place : ℕ) (properties : List Property) (children : Nodes) (levels : List Nodes) → root_of (begun place [] properties (children ∷ levels)) ≡ record { place = place; properties = properties; children = children }
+    at_root : (place : ℕ) (properties : List Property) (children : Nodes) (levels : List Nodes) → root_left (begun place [] properties (children ∷ levels)) ≡ record { place = place; properties = properties; children = children }
     at_root place properties children [] = refl
     at_root place properties children (siblings ∷ levels) = refl
 

@@ -7,7 +7,7 @@ ghost use Rattle.dt_model.specs.Checks.{BlobFault, StopsAt};
 ghost use Rattle.dt_read.specs.Kinds.{kind_of};
 ghost use Rattle.dt_read.specs.Marks.{Root};
 ghost use Rattle.dt_read.specs.TreeTokens.{HasTree};
-ghost use Rattle.dt_read.specs.Scan.{IsStuck, Leads};
+ghost use Rattle.dt_read.specs.Scan.{IsStuck, MovesTo};
 ghost use Rattle.dt_read.specs.View.{view, position_of};
 
 use crate::fault::fault_at;
@@ -95,7 +95,7 @@ impl Place {
 fn step(strings: &[u8], place: Place, rest: &[u8]) -> Option<(Place, usize)>
     requires { length rest.now < 2 ^ 32 }
     ensures { MatchOption result (IsStuck strings.now (position_of place) rest.now)
-        (λ r. Leads strings.now (position_of place) rest.now (position_of r.0) r.1) }
+        (λ r. MovesTo strings.now (position_of place) rest.now (position_of r.0) r.1) }
 {
     let found = token_at(strings, rest);
     let Some((token, len)) = &found else {

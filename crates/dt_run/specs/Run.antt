@@ -14,8 +14,8 @@ use Rattle.dt_words.specs.declared.words.LineFault.{LineFault}
 use Rattle.dt_words.specs.declared.words.LineFault.TheVariants.{Memory, Words}
 
 -- the names of a line's files
-abbrev pub names_of : Line → List (List ℕ)
-names_of line = map (λ file. file.now) line.files.items
+abbrev pub file_names : Line → List (List ℕ)
+file_names line = map (λ file. file.now) line.files.items
 
 -- what the line's job makes of these texts was written
 pub record IsMadeOf (line : Line) (texts : List (List ℕ)) (old new : Taken) : Type 0 where
@@ -34,16 +34,16 @@ pub data WhyNotMadeOf (line : Line) (texts : List (List ℕ)) (old new : Taken) 
 -- the line's job was done on what is loaded for its files
 pub record IsDone {F : Type 0} (loads : Loads F) (before behind : F) (line : Line) (old new : Taken) : Type 0 where
   pub texts : List (List ℕ)
-  pub loaded : AreLoaded loads (names_of line) before texts behind
+  pub loaded : AreLoaded loads (file_names line) before texts behind
   pub made : IsMadeOf line texts old new
 
 -- why it wasn't, and of which input
 pub data WhyNotDone {F : Type 0} (loads : Loads F) (before behind : F) (line : Line) (old new : Taken) : ℕ → Fault → Type 0 where
   -- a file isn't loaded, and nothing was written
-  unloaded : (k : ℕ) (kind : FaultKind) → WhyNotLoaded loads (names_of line) k before kind behind → IsUntouched old new →
+  unloaded : (k : ℕ) (kind : FaultKind) → WhyNotLoaded loads (file_names line) k before kind behind → IsUntouched old new →
       WhyNotDone loads before behind line old new k (placeless kind)
   -- all are, but the job isn't done on them
-  unmade : (texts : List (List ℕ)) (k : ℕ) (fault : Fault) → AreLoaded loads (names_of line) before texts behind →
+  unmade : (texts : List (List ℕ)) (k : ℕ) (fault : Fault) → AreLoaded loads (file_names line) before texts behind →
       WhyNotMadeOf line texts old new k fault → WhyNotDone loads before behind line old new k fault
 
 -- how a run ends

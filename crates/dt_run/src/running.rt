@@ -1,7 +1,7 @@
 //! A run of the program, from what the words of the command line ask for on.
 
 ghost use Rattle.std.specs.Prelude.{◌≡◌, OnOk, IfOk, IfErr, length, map};
-ghost use Rattle.dt_run.specs.Run.{Ending, Ends, IsDone, IsMadeOf, IsReported, IsSaid, WhyNotDone, WhyNotMadeOf, faulty, names_of, no_command, status_of};
+ghost use Rattle.dt_run.specs.Run.{Ending, Ends, IsDone, IsMadeOf, IsReported, IsSaid, WhyNotDone, WhyNotMadeOf, faulty, file_names, no_command, status_of};
 ghost use Rattle.dt_streams.specs.Report.{fault_line};
 
 use crate::job::perform;
@@ -57,7 +57,7 @@ fn answer<O: Sink>(
     texts: &[Vec<u8>],
     out: &mut O,
 ) -> Result<(), (usize, Fault)>
-    requires { length texts.now ≡ length (names_of line.now) }
+    requires { length texts.now ≡ length (file_names line.now) }
     ensures done { OnOk result (IsMadeOf line.now (map (λ text. text.items) texts.now) (O.taken out.old) (O.taken out.new)) }
     ensures refused { IfErr result (λ e. WhyNotMadeOf line.now (map (λ text. text.items) texts.now) (O.taken out.old) (O.taken out.new) e.0 e.1) }
 {

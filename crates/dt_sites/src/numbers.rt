@@ -17,8 +17,8 @@ use dt_parts::{Brought, Write};
 use dt_targets::{Places, Target, number_there};
 use std::alloc::Global;
 
-/// Each node that lands and has a `phandle` gets the number of its place: that of the tree's node there, or else the least that no node of
-/// the tree has and that wasn't given (dtc's notes on overlay objects).
+/// Each node that lands and has a `phandle` gets the number of its place: that of the tree's node there, or that of the node that landed
+/// there first, or else the least that no node of the tree has and that wasn't given (dtc's notes on overlay objects).
 ///
 /// # Errors
 ///

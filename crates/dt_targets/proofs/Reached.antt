@@ -8,7 +8,7 @@ use Rattle.dt_model.specs.Meaning.{cell}
 use Rattle.dt_model.specs.Names.{Name}
 use Rattle.dt_model.specs.Path.{Path}
 use Rattle.dt_model.specs.Tree.{Node, stands_in, value_in, value_of}
-use Rattle.dt_flat.specs.Arena.{Arena, Slot, reading, properties, node_from, number_in, phandle_at}
+use Rattle.dt_flat.specs.Arena.{Arena, Slot, reading, properties, node_from, number_of_value, phandle_at}
 use Rattle.dt_flat.specs.Sound.{AreCells}
 use Rattle.dt_flat.proofs.AfterChild.{tested}
 use Rattle.dt_flat.proofs.ByPath.{has, reading_at}
@@ -50,7 +50,7 @@ cells-led a cells p value e = let at = value-place a p (codes "phandle") value e
 pub numbered-value : (slots : List Slot) (i n : ℕ) → phandle_at slots i ≡ Some n → (value : List ℕ) × (value_of (properties slots i) (codes "phandle") ≡ Some value) × (length value ≡ 4) × (from_be_bytes w32 value ≡ n)
 numbered-value slots i n e = by (value_of (properties slots i) (codes "phandle")) refl e
   where
-    by : (o : Option (List ℕ)) → value_of (properties slots i) (codes "phandle") ≡ o → number_in o ≡ Some n → (value : List ℕ) × (value_of (properties slots i) (codes "phandle") ≡ Some value) × (length value ≡ 4) × (from_be_bytes w32 value ≡ n)
+    by : (o : Option (List ℕ)) → value_of (properties slots i) (codes "phandle") ≡ o → number_of_value o ≡ Some n → (value : List ℕ) × (value_of (properties slots i) (codes "phandle") ≡ Some value) × (length value ≡ 4) × (from_be_bytes w32 value ≡ n)
     by None is f = absurd cc
     by (Some value) is f = four (eqb (length value) 4) refl f
       where
@@ -60,7 +60,7 @@ numbered-value slots i n e = by (value_of (properties slots i) (codes "phandle")
 
 -- a value of four bytes gives its node a number
 pub value-numbered : (slots : List Slot) (i : ℕ) (value : List ℕ) → value_of (properties slots i) (codes "phandle") ≡ Some value → length value ≡ 4 → phandle_at slots i ≡ Some (from_be_bytes w32 value)
-value-numbered slots i value is four = ap number_in is ∙ ap (λ (b : Bool). cond b (Some (from_be_bytes w32 value)) None) (tested (length value) 4 four)
+value-numbered slots i value is four = ap number_of_value is ∙ ap (λ (b : Bool). cond b (Some (from_be_bytes w32 value)) None) (tested (length value) 4 four)
 
 -- the node of a number has it as its phandle
 pub has-number : (a : Arena) (p : Path) (i n : ℕ) → node_from a.slots 0 p ≡ Some i → AreCells a.slots → phandle_at a.slots i ≡ Some n → HasNumber (reading a) p n

@@ -12,13 +12,13 @@ use Rattle.dt_model.specs.Path.{Path}
 use Rattle.dt_model.specs.Tree.{Forest, branch, Reading, Node, node_at, nodes_of, value_of, value_in}
 use Rattle.dt_model.specs.Valid.{AreDistinct, names, node_count}
 use Rattle.dt_model.proofs.Preorder.{length-preorder}
-use Rattle.dt_flat.specs.Arena.{Arena, Slot, Child, IsRooted, children_among, children, named_among, named_children, child_of, children_behind, first_node, properties, parent_of, name_of, node_from, phandle_at, number_in, forest_among, below, reading}
+use Rattle.dt_flat.specs.Arena.{Arena, Slot, Child, IsRooted, children_among, children, named_among, named_children, child_of, children_behind, first_node, properties, parent_of, name_of, node_from, phandle_at, number_of_value, forest_among, below, reading}
 use Rattle.dt_flat.specs.Sound.{AreCells}
 use Rattle.dt_flat.proofs.ByPath.{first_slot, reading_at}
 use Rattle.dt_flat.proofs.Counting.{nodes-counted}
 use Rattle.dt_flat.proofs.Descent.{path-same, path-within, path-further}
 use Rattle.dt_flat.proofs.Edges.{edge}
-use Rattle.dt_read.specs.Placed.{node, forest_of, PlacedTree, reading_of, place_below, place_of, path_at, names_of, last_name, child_names, first_place_of, names_behind, IsAt, IsNode}
+use Rattle.dt_read.specs.Placed.{node, forest_of, PlacedTree, reading_of, place_below, place_of, path_at, names_under, last_name, child_names, first_place_of, names_behind, IsAt, IsNode}
 use Rattle.dt_read.proofs.Behind.{differs, behind_all}
 use Rattle.dt_read.proofs.NodePlaces.{path_is, at_node}
 use Rattle.dt_worlds.specs.Above.{front}
@@ -142,7 +142,7 @@ names_same i (n ∷ ns) p = by (eqb n.parent p) (names_same (suc i) ns p)
     by false e = e
 
 children_named : (a : Arena) (p : Path) (k : ℕ) → node_from a.slots 0 p ≡ Some k → child_names (numbered_tree a) p ≡ map (λ c. c.name) (named_children a.slots k)
-children_named a p k e = ap names_of (content a p k e) ∙ names_same (suc k) (drop (suc k) a.slots) k
+children_named a p k e = ap names_under (content a p k e) ∙ names_same (suc k) (drop (suc k) a.slots) k
 
 pub child_at : (a : Arena) (p : Path) (k : ℕ) (x : Name) → node_from a.slots 0 p ≡ Some k → place_of (numbered_tree a) (p ++ x ∷ []) ≡ child_of (named_children a.slots k) x
 child_at a p k x e = place_same a (p ++ x ∷ []) ∙ path-further a.slots p 0 x ∙ ap (λ (o : Option ℕ). option_and_then (λ i. child_of (named_children a.slots i) x) o) e
@@ -249,7 +249,7 @@ above_at a rooted k r is root below = by (path_at (numbered_tree a) k) refl (rea
 -- ---- numbers
 
 -- a value of four bytes that is the cell of its number
-number_cell : (o : Option (List ℕ)) (n : ℕ) → number_in o ≡ Some n → ((value : List ℕ) → o ≡ Some value → value ≡ cell (from_be_bytes w32 value)) → o ≡ Some (cell n)
+number_cell : (o : Option (List ℕ)) (n : ℕ) → number_of_value o ≡ Some n → ((value : List ℕ) → o ≡ Some value → value ≡ cell (from_be_bytes w32 value)) → o ≡ Some (cell n)
 number_cell None n e cells = absurd cc
 number_cell (Some value) n e cells = by (eqb (length value) 4) e
   where
@@ -262,7 +262,7 @@ has_number a k n cells is e = sym (value_at a k (codes "phandle") is) ∙ number
 
 pub number_had : (a : Arena) (k n : ℕ) → n < 2 ^ 32 → IsNode (numbered_tree a) k → HasNumber (numbered_tree a) k n → phandle_at a.slots k ≡ Some n
 number_had a k n low is e =
-    ap number_in (value_at a k (codes "phandle") is ∙ e) ∙ ap (λ (m : ℕ). Some m) (from_be_bytes-to_be_bytes_4 n low)
+    ap number_of_value (value_at a k (codes "phandle") is ∙ e) ∙ ap (λ (m : ℕ). Some m) (from_be_bytes-to_be_bytes_4 n low)
 
 pub is_looked_up : (a : Arena) → IsRooted a.slots → AreCells a.slots → ((k : ℕ) → k < length a.slots → (p : Path) × (node_from a.slots 0 p ≡ Some k)) → (n : ℕ) → n < 2 ^ 32 → (r : Option ℕ)
     → ((k : ℕ) → (r ≡ Some k) ↔ (phandle_at a.slots k ≡ Some n)) → IfSome r (λ k. k < length a.slots) → IsLookedUp (numbered_tree a) n r

@@ -17,7 +17,7 @@ use Rattle.dt_model.specs.Tree.{Property, Forest, no_nodes, branch, Placed, Node
 use Rattle.dt_model.specs.Valid.{IsValid, AreNodes, AreDistinct}
 use Rattle.dt_model.proofs.Listed.{stands_listed, at_listed, properties_listed}
 use Rattle.dt_model.proofs.Tests.{in_append}
-use Rattle.dt_read.specs.Placed.{PlacedTree, reading_of, path_at, place_of, properties_of, properties_at, IsAt, IsNode}
+use Rattle.dt_read.specs.Placed.{PlacedTree, reading_of, path_at, place_of, properties_found, properties_at, IsAt, IsNode}
 use Rattle.dt_read.specs.Walked.{Step, opens, steps_of}
 use Rattle.dt_read.proofs.NodePlaces.{stands_place}
 use Rattle.dt_view.specs.Tables.{Key, value_at, PutsValue, AreValues, AreKept}
@@ -90,7 +90,7 @@ value_of_more (q ∷ done) p x differ = ap (cond (bytes_eq x q.name) (Some q.val
 pub distinct_at : (t : PlacedTree) (p : Path) → IsValid (reading_of t) → AreDistinct (map (λ q. q.name) (properties_at t p))
 distinct_at t p valid = by (node_at (reading_of t) p) refl
   where
-    by : (o : Option Node) → node_at (reading_of t) p ≡ o → AreDistinct (map (λ q. q.name) (properties_of o))
+    by : (o : Option Node) → node_at (reading_of t) p ≡ o → AreDistinct (map (λ q. q.name) (properties_found o))
     by None e = tt
     by (Some c) e = (properties_listed (reading_of t) (record { path = p; properties = c.properties }) valid (at_listed (reading_of t) p c e)).distinct
 

@@ -9,10 +9,10 @@ use Rattle.dt_model.specs.Tree.{Property, Forest, no_nodes, branch}
 use Rattle.dt_model.specs.Format.{word}
 use Rattle.dt_write.specs.Written.{used, used_by, used_below, terminated, strings_block, offset_of, zeros_after, property_block, begin_block, nodes_block}
 use Rattle.dt_write.specs.Parts.{PutsProperties, PutsNodes, properties_size, nodes_size}
-use Rattle.dt_write.specs.Refusals.{WhyNoBlob}
+use Rattle.dt_write.specs.Refusals.{WhyNoBytes}
 use Rattle.dt_write.proofs.Strings.{Extends, Extends-used_by, Extends-used_below}
 
-pub longer : (kind : FaultKind) (m n : ℕ) → m ≤ n → WhyNoBlob kind m → WhyNoBlob kind n
+pub longer : (kind : FaultKind) (m n : ℕ) → m ≤ n → WhyNoBytes kind m → WhyNoBytes kind n
 longer NoMemory m n h w = tt
 longer Limit m n h w = omega arith
 longer _ m n h w = w

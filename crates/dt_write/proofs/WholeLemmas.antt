@@ -10,7 +10,7 @@ use Rattle.dt_model.specs.Format.{word, reservation_block, Reads, IsWithin}
 use Rattle.dt_flat.specs.Arena.{Slot, name_of, properties, below}
 use Rattle.dt_write.specs.Written.{used_below, nodes_block, strings_block, header, root_node, names_of, structure_block, written}
 use Rattle.dt_write.specs.Parts.{tree_at, PutsNodes, nodes_size, IsFront, IsBody, IsBlob}
-use Rattle.dt_write.specs.Refusals.{WhyNoBlob, WhyNotWritten}
+use Rattle.dt_write.specs.Refusals.{WhyNoBytes, WhyNotWritten}
 use Rattle.dt_write.proofs.Sizes.{longer, block_same}
 use Rattle.dt_write.proofs.WrittenReads.{assembled_length, block_length, written_reads, written_within}
 
@@ -46,7 +46,7 @@ written_length t = assembled_length t.boot_cpu (reservation_block t.reservations
 pub many_reservations : (t : Reading) → 1048576 < length t.reservations → WhyNotWritten t Limit
 many_reservations t many = record { why = omega (arith, written_length t, block_length t.reservations) }
 
-pub nodes_too_large : (t : Reading) (f : Forest) (old : List Name) (front : List ℕ) (kind : FaultKind) → f ≡ root_node t → old ≡ [] → IsFront t.reservations front → WhyNoBlob kind (length front + nodes_size old f) → WhyNotWritten t kind
+pub nodes_too_large : (t : Reading) (f : Forest) (old : List Name) (front : List ℕ) (kind : FaultKind) → f ≡ root_node t → old ≡ [] → IsFront t.reservations front → WhyNoBytes kind (length front + nodes_size old f) → WhyNotWritten t kind
 nodes_too_large t f old front kind tree none is w =
     let names = names_of t in
     let same : nodes_size old f ≡ nodes_size [] (root_node t) = ap (λ (n : List Name). nodes_size n f) none ∙ ap (nodes_size []) tree in
@@ -56,7 +56,7 @@ nodes_too_large t f old front kind tree none is w =
           w;
     }
 
-pub strings_too_large : (t : Reading) (names : List Name) (front body : List ℕ) (kind : FaultKind) → IsFront t.reservations front → IsBody t names front body → WhyNoBlob kind (length body + length (strings_block names)) → WhyNotWritten t kind
+pub strings_too_large : (t : Reading) (names : List Name) (front body : List ℕ) (kind : FaultKind) → IsFront t.reservations front → IsBody t names front body → WhyNoBytes kind (length body + length (strings_block names)) → WhyNotWritten t kind
 strings_too_large t names front body kind is b w =
     record {
       why = longer kind (length body + length (strings_block names)) (length (written t))

@@ -7,11 +7,11 @@ use Rattle.dt_model.specs.Tree.{Reading}
 use Rattle.dt_write.specs.Written.{written}
 
 -- memory may be refused at any time, a limit only where the blob would be longer than 16 MiB
-abbrev pub WhyNoBlob : FaultKind → ℕ → Type 0
-WhyNoBlob NoMemory size = Unit {0}
-WhyNoBlob Limit size = most_bytes < size
-WhyNoBlob _ size = ⊥
+abbrev pub WhyNoBytes : FaultKind → ℕ → Type 0
+WhyNoBytes NoMemory size = Unit {0}
+WhyNoBytes Limit size = most_bytes < size
+WhyNoBytes _ size = ⊥
 
 -- why the blob of a tree isn't written
 pub record WhyNotWritten (t : Reading) (kind : FaultKind) : Type 0 where
-  pub why : WhyNoBlob kind (length (written t))
+  pub why : WhyNoBytes kind (length (written t))

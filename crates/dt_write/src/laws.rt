@@ -7,7 +7,7 @@ ghost use Rattle.dt_model.specs.Tree.{Reading};
 ghost use Rattle.dt_model.specs.Valid.{IsValid, IsWithinLimits};
 ghost use Rattle.dt_model.specs.Format.{Reads, IsWithin};
 ghost use Rattle.dt_names.specs.Fault.{IsExclusive, IsOneRefusal};
-ghost use Rattle.dt_write.specs.Refusals.{WhyNoBlob};
+ghost use Rattle.dt_write.specs.Refusals.{WhyNoBytes};
 ghost use Rattle.dt_write.specs.Written.{written};
 
 use dt_format::blob_has_no_fault;
@@ -27,6 +27,6 @@ pub fn written_reads()
 /// The blob of a tree is written, or is refused for one reason, and not both, unless memory is wanted.
 pub fn one_outcome()
     ensures written { (t : Reading) →
-        IsExclusive (length (written t) ≤ most_bytes) (λ kind. WhyNoBlob kind (length (written t))) }
-    ensures not_written { (t : Reading) → IsOneRefusal (λ kind. WhyNoBlob kind (length (written t))) }
+        IsExclusive (length (written t) ≤ most_bytes) (λ kind. WhyNoBytes kind (length (written t))) }
+    ensures not_written { (t : Reading) → IsOneRefusal (λ kind. WhyNoBytes kind (length (written t))) }
 {}

@@ -13,7 +13,7 @@ ghost use Rattle.dt_model.specs.Limits.{most_bytes};
 ghost use Rattle.dt_model.specs.Format.{Reads, IsWithin};
 ghost use Rattle.dt_flat.specs.Arena.{reading};
 ghost use Rattle.dt_write.specs.Written.{written};
-ghost use Rattle.dt_write.specs.Refusals.{WhyNoBlob};
+ghost use Rattle.dt_write.specs.Refusals.{WhyNoBytes};
 
 mod laws;
 mod names;
@@ -37,7 +37,7 @@ pub fn write_blob(alloc: Global, tree: &FlatTree) -> Result<Vec<u8>, Fault>
     ensures reads { IfOk result (λ blob. Reads blob.items (reading tree.now)) }
     ensures within { IfOk result (λ blob. IsWithin blob.items (reading tree.now)) }
     ensures size { IfOk result (λ blob. length blob.items ≤ most_bytes) }
-    ensures refused { IfErr result (λ fault. WhyNoBlob fault.kind (length (written (reading tree.now))) × (fault.at ≡ None)) }
+    ensures refused { IfErr result (λ fault. WhyNoBytes fault.kind (length (written (reading tree.now))) × (fault.at ≡ None)) }
 {
     tree.validity();
     let mut blob = Vec::new(alloc);

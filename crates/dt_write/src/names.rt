@@ -3,7 +3,7 @@
 ghost use Rattle.std.specs.Prelude.{◌≡◌, ◌≤◌, ◌++◌, [], length, OnOk, IfOk, IfErr, None};
 ghost use Rattle.dt_model.specs.Limits.{most_bytes};
 ghost use Rattle.dt_write.specs.Written.{used, offset_of, strings_block};
-ghost use Rattle.dt_write.specs.Refusals.{WhyNoBlob};
+ghost use Rattle.dt_write.specs.Refusals.{WhyNoBytes};
 
 use crate::words::fits;
 use dt_names::{Fault, FaultKind, Seed};
@@ -60,7 +60,7 @@ impl Names {
         ensures names { OnOk result (self.new ≡ used self.old name.now) }
         ensures offset { IfOk result (λ offset. offset ≡ offset_of self.new name.now) }
         ensures within { IfOk result (λ offset. offset ≤ most_bytes) }
-        ensures refused { IfErr result (λ fault. WhyNoBlob fault.kind (length (strings_block (used self.old name.now))) × (fault.at ≡ None)) }
+        ensures refused { IfErr result (λ fault. WhyNoBytes fault.kind (length (strings_block (used self.old name.now))) × (fault.at ≡ None)) }
     {
         if let Some(offset) = self.offsets.get(name) {
             return Ok(*offset);

@@ -4,7 +4,7 @@ ghost use Rattle.std.specs.Prelude.{◌≡◌, ◌+◌, ◌<◌, ◌^◌, ◌++�
 ghost use Rattle.dt_model.specs.Format.{word};
 ghost use Rattle.dt_write.specs.Written.{begin_block, zeros_after};
 ghost use Rattle.dt_write.specs.Parts.{tree_at, PutsProperties, PutsNodes, properties_size, nodes_size};
-ghost use Rattle.dt_write.specs.Refusals.{WhyNoBlob};
+ghost use Rattle.dt_write.specs.Refusals.{WhyNoBytes};
 
 use crate::names::Names;
 use crate::words::{fits, put_word, put_zeros};
@@ -49,7 +49,7 @@ fn put_property(
     ensures put { OnOk result
         (PutsProperties (record { name = name.now; value = value.now } ∷ [])
         names.old names.new out.old.items out.new.items) }
-    ensures refused { IfErr result (λ fault. WhyNoBlob fault.kind
+    ensures refused { IfErr result (λ fault. WhyNoBytes fault.kind
         (length out.old.items + properties_size names.old (record { name = name.now; value = value.now } ∷ [])) × (fault.at ≡ None)) }
 {
     if !fits(out.len(), value.len()) {
@@ -63,7 +63,7 @@ fn put_property(
 fn put_properties(props: Props<'_>, names: &mut Names, out: &mut Vec<u8>) -> Result<(), Fault>
     ensures put { OnOk result (PutsProperties props.entry names.old names.new out.old.items out.new.items) }
     ensures refused { IfErr result
-        (λ fault. WhyNoBlob fault.kind (length out.old.items + properties_size names.old props.entry) × (fault.at ≡ None)) }
+        (λ fault. WhyNoBytes fault.kind (length out.old.items + properties_size names.old props.entry) × (fault.at ≡ None)) }
 {
     for (name, value) in props {
         put_property(names, out, name, value)?;
@@ -81,7 +81,7 @@ pub fn put_node(
 ) -> Result<(), Fault>
     requires { node < length tree.now.slots }
     ensures put { OnOk result (PutsNodes (tree_at tree.now.slots node) names.old names.new out.old.items out.new.items) }
-    ensures refused { IfErr result (λ fault. WhyNoBlob fault.kind
+    ensures refused { IfErr result (λ fault. WhyNoBytes fault.kind
         (length out.old.items + nodes_size names.old (tree_at tree.now.slots node)) × (fault.at ≡ None)) }
 {
     put_begin(out, tree.name(node))?;

@@ -6,7 +6,7 @@ ghost use Rattle.dt_model.specs.Format.{reservation_block};
 ghost use Rattle.dt_flat.specs.Arena.{reading};
 ghost use Rattle.dt_write.specs.Written.{header, strings_block};
 ghost use Rattle.dt_write.specs.Parts.{IsFront, IsBody, IsBlob};
-ghost use Rattle.dt_write.specs.Refusals.{WhyNoBlob, WhyNotWritten};
+ghost use Rattle.dt_write.specs.Refusals.{WhyNoBytes, WhyNotWritten};
 
 use crate::names::Names;
 use crate::structure::put_node;
@@ -92,7 +92,7 @@ fn put_strings(names: &Names, out: &mut Vec<u8>) -> Result<(), Fault>
     ensures put { OnOk result (out.new.items ≡ out.old.items ++ strings_block names.now) }
     ensures size { OnOk result (length out.new.items ≤ most_bytes) }
     ensures refused { IfErr result
-        (λ fault. WhyNoBlob fault.kind (length out.old.items + length (strings_block names.now)) × (fault.at ≡ None)) }
+        (λ fault. WhyNoBytes fault.kind (length out.old.items + length (strings_block names.now)) × (fault.at ≡ None)) }
 {
     if !fits(out.len(), names.size()) {
         return Err(Fault::of(FaultKind::Limit));

@@ -4,7 +4,7 @@ use Rattle.dt_flat.specs.Arena.{reading}
 use Rattle.dt_model.specs.Format.{Reads, IsWithin}
 use Rattle.dt_model.specs.Limits.{most_bytes}
 use Rattle.dt_write.specs.Written.{written}
-use Rattle.dt_write.specs.Refusals.{WhyNoBlob}
+use Rattle.dt_write.specs.Refusals.{WhyNoBytes}
 use Rattle.dt_chain.specs.Compile.{IsCompiledOverlay, WhyNotCompiledOverlay}
 use Rattle.dt_chain.specs.Steps.{OfEachText}
 use Rattle.dt_chain.proofs.Stages.{if_err, if_ok_both, if_ok_all}
@@ -33,6 +33,6 @@ pub returns-clause-refused : goal.returns-clause-refused
 returns-clause-refused c =
     let s = c.args.source.now in
     let r = reading c.in_ok-tree.tree in
-    if_err (λ (fault : Fault). WhyNoBlob fault.kind (length (written r)) × (fault.at ≡ None)) (λ fault. OfEachText s (λ text. WhyNotCompiledOverlay text fault))
+    if_err (λ (fault : Fault). WhyNoBytes fault.kind (length (written r)) × (fault.at ≡ None)) (λ fault. OfEachText s (λ text. WhyNotCompiledOverlay text fault))
     (λ fault why. not_written s r fault c.in_ok-tree.ensures.tree why)
     c.write_blob.result c.write_blob.ensures.refused

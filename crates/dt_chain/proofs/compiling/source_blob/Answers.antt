@@ -4,7 +4,7 @@ use Rattle.dt_names.specs.declared.fault.Fault.{Fault}
 use Rattle.dt_flat.specs.Arena.{reading}
 use Rattle.dt_model.specs.Limits.{most_bytes}
 use Rattle.dt_write.specs.Written.{written}
-use Rattle.dt_write.specs.Refusals.{WhyNoBlob}
+use Rattle.dt_write.specs.Refusals.{WhyNoBytes}
 use Rattle.dt_bodies.specs.Refusals.{mode_said}
 use Rattle.dt_chain.specs.Compile.{IsCompiled, WhyNotCompiled, no_tree}
 use Rattle.dt_chain.specs.Steps.{OfEachText}
@@ -30,6 +30,6 @@ returns-clause-refused c =
     let s = c.args.source.now in
     let mode = mode_said c.args.mode in
     let r = reading c.in_ok-tree.tree in
-    if_err (λ (fault : Fault). WhyNoBlob fault.kind (length (written r)) × (fault.at ≡ None)) (λ fault. OfEachText s (λ text. WhyNotCompiled mode text fault))
+    if_err (λ (fault : Fault). WhyNoBytes fault.kind (length (written r)) × (fault.at ≡ None)) (λ fault. OfEachText s (λ text. WhyNotCompiled mode text fault))
     (λ fault why. not_written mode s r fault c.in_ok-tree.ensures.tree why)
     c.write_blob.result c.write_blob.ensures.refused

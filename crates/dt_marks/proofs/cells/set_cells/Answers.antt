@@ -5,7 +5,7 @@ use Rattle.dt_named.specs.Said.{property_said}
 use Rattle.dt_named.specs.declared.named.NamedProperty.{NamedProperty}
 use Rattle.dt_flat.proofs.Distinctness.{all-back}
 use Rattle.dt_marks.specs.Cells.{cells_of}
-use Rattle.dt_marks.specs.Mirrored.{IsPlain}
+use Rattle.dt_marks.specs.Mirrored.{IsNoPhandle}
 use Rattle.dt_marks.proofs.Setting.{still_there, both_set}
 use Rattle.dt_marks.proofs.Listing.{next_property}
 use Rattle.dt_marks.proofs.cells.set_cells.Goals as goal
@@ -23,7 +23,7 @@ loop-property-preserved c =
     ∙ ap (λ (bytes : List ℕ). offsets_as p.name.now bytes ++ rest) (sym (c.deref.ensures.value ∙ c.in_ok-put_offsets.ensures)) in
     record {
       there = still_there c.loop-property.tree c.set_offsets.new.tree c.args.node own c.loop-property.invariant.there c.in_ok-set_offsets.ensures.tree;
-      plain = all-back IsPlain own rest (subst (AllByRecursion IsPlain) parts c.loop-property.invariant.plain);
+      plain = all-back IsNoPhandle own rest (subst (AllByRecursion IsNoPhandle) parts c.loop-property.invariant.plain);
       same = both_set c.loop-property.tree c.set_offsets.new.tree c.args.node own rest (cells_of (map property_said (drop i properties))) parts c.in_ok-set_offsets.ensures.tree
           ∙ c.loop-property.invariant.same;
     }

@@ -6,7 +6,7 @@ use Rattle.dt_model.specs.Named.{NodeReference, Content, node_count, tree_of}
 use Rattle.dt_names.specs.declared.fault.Fault.{Fault}
 use Rattle.dt_named.specs.Said.{node_said}
 use Rattle.dt_flat.specs.Arena.{Slot}
-use Rattle.dt_marks.specs.Mirrored.{marked_at, mirrored, with_mirror_root, with_inside, IsPlain}
+use Rattle.dt_marks.specs.Mirrored.{marked_at, mirrored, with_mirror_root, with_inside, IsNoPhandle}
 use Rattle.dt_marks.specs.Paths.{MayFollow}
 use Rattle.dt_marks.specs.Refusals.{WhyNotPlanted}
 use Rattle.dt_marks.proofs.Labels.{are_all}
@@ -33,7 +33,7 @@ pub add_mirror-requires-clause-plain : goal.add_mirror-requires-clause-plain
 add_mirror-requires-clause-plain c =
     let t = tree_of c.args.named.now in
     let p = parts t c.nodes.result.now c.in-Some.others.now c.in-Some.root.now (c.validity.ensures.preorder ∙ sym c.nodes.ensures) c.in-Some.ensures.cases.0 in
-    subst (λ (x : Content NodeReference). AllByRecursion IsPlain (local_properties x)) p.content (plain_local (1 + node_count t.children) t.content c.validity.ensures.named.root)
+    subst (λ (x : Content NodeReference). AllByRecursion IsNoPhandle (local_properties x)) p.content (plain_local (1 + node_count t.children) t.content c.validity.ensures.named.root)
 
 pub add_mirror-requires-clause-may : goal.add_mirror-requires-clause-may
 add_mirror-requires-clause-may c =

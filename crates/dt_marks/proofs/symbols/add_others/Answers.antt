@@ -1,7 +1,7 @@
 use Rattle.std.proofs.Common.{◌+◌, length, map, drop, Bor, arith, ◌∙◌}
 use Rattle.dt_model.specs.Names.{Name}
 use Rattle.dt_named.specs.Said.{node_said}
-use Rattle.dt_marks.specs.Paths.{text_behind, labelled, symbols_behind}
+use Rattle.dt_marks.specs.Paths.{text_behind, label_property, symbols_behind}
 use Rattle.dt_marks.proofs.Setting.{still_there, both_set, next_node, node_turn, follow_turn}
 use Rattle.dt_marks.proofs.symbols.add_others.Goals as goal
 
@@ -16,7 +16,7 @@ loop-node-preserved c =
     let new = c.enter.new.self in
     let path = c.deref-in-loop-node.result.now in
     let labels = c.deref.result.now in
-    let own = map (labelled path) (map (λ (b : Bor Name). b.now) labels) in
+    let own = map (label_property path) (map (λ (b : Bor Name). b.now) labels) in
     let text = text_behind old.value.items old.lengths.items n.parent c.as_slice.result.now in
     let parts = node_turn (drop i nodes) rest n c.as_slice.result.now old.value.items old.lengths.items new.value.items new.lengths.items path labels next c.as_slice.ensures.value
     c.in_ok-enter.ensures.value c.in_ok-enter.ensures.lengths c.deref-in-loop-node.ensures.value c.deref.ensures.value in

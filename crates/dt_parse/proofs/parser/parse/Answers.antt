@@ -6,7 +6,7 @@ use Rattle.dt_grammar.specs.Wanted.{made_source, Whole}
 use Rattle.dt_grammar.specs.Descent.{found, Descends}
 use Rattle.dt_grammar.specs.Faults.{outside}
 use Rattle.dt_parse.specs.Reading.{IsInside, IsBroken, IsBroken}
-use Rattle.dt_grammar.specs.Parsed.{IsTagged, place_of, told_at, unlexed}
+use Rattle.dt_grammar.specs.Parsed.{IsTagged, token_place, told_at, unlexed}
 use Rattle.dt_parse.proofs.parser.parse.Goals as goal
 use Rattle.dt_lex.specs.declared.token.Token.{Token}
 use Rattle.dt_lex.specs.Lexing.{WhyNotLexed}
@@ -52,7 +52,7 @@ returns-clause-err c =
     let ws = c.new-cursor.ensures ∙ ap (words_of c.args.text.now) c.as_slice.ensures.value in
     let tagged = subst IsTagged ws (c.is_tagged.ensures.0 (search (rules, c.if-not-is_tagged.false))) in
     let broken = subst (λ (x : Words). IsBroken outside Whole x c.in-Err.stop) ws c.in-Err.ensures.err in
-    let told = λ (h : ¬ c.in-Err.stop.kind ≡ NoMemory). c.fault_of.ensures.told h ∙ ap (λ (ts : List Token). record { kind = c.in-Err.stop.kind; at = told_at c.in-Err.stop.kind (place_of c.args.text.now (drop (length ts - c.in-Err.stop.left) ts)) }) c.as_slice-in-Err.ensures.value in
+    let told = λ (h : ¬ c.in-Err.stop.kind ≡ NoMemory). c.fault_of.ensures.told h ∙ ap (λ (ts : List Token). record { kind = c.in-Err.stop.kind; at = told_at c.in-Err.stop.kind (token_place c.args.text.now (drop (length ts - c.in-Err.stop.left) ts)) }) c.as_slice-in-Err.ensures.value in
     why_broken c.args.text.now c.in_ok-tokens.tokens.items c.in-Err.stop c.fault_of.result c.in_ok-tokens.ensures.ok.0 c.in_ok-tokens.ensures.ok.1 tagged broken
     (record { memory = c.fault_of.ensures.memory; told = told })
 

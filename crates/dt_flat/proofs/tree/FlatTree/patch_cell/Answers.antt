@@ -5,7 +5,7 @@ use Rattle.dt_model.specs.Names.{IsPropertyName}
 use Rattle.dt_model.specs.Tree.{value_of}
 use Rattle.dt_flat.specs.Arena.{Arena, Slot, properties, with_property}
 use Rattle.dt_flat.specs.Refusals.{MaySet, WhyNotSet}
-use Rattle.dt_flat.specs.Sound.{IsSound}
+use Rattle.dt_flat.specs.Sound.{IsSoundArena}
 use Rattle.dt_flat.proofs.Numbering.{named_phandle, not_phandle, whole_phandle}
 use Rattle.dt_flat.proofs.Soundness.{IsSound-property}
 use Rattle.dt_flat.proofs.tree.FlatTree.patch_cell.Goals as goal
@@ -21,7 +21,7 @@ invariant_of-self c =
     let named : IsPropertyName name = subst IsPropertyName (sym named_as) c.as_bytes-name.ensures.valid in
     let there : value_of (properties slots c.args.node) name ≡ Some value =
     ap (λ (t : Arena). value_of (properties t.slots c.args.node) name) c.self.view_is ∙ ap (value_of (properties c.args.self.now.slots c.args.node)) named_as ∙ c.requires.cell.1 in
-    subst (λ (ns : List Slot). IsSound (record a { slots = ns }) c.self.inside.phandles) (sym (c.patch.ensures value there))
+    subst (λ (ns : List Slot). IsSoundArena (record a { slots = ns }) c.self.inside.phandles) (sym (c.patch.ensures value there))
     (IsSound-property a c.self.inside.phandles c.args.node name (with_cell value c.args.offset c.args.number) lt named (not_phandle name c.as_slice.result.now c.as_slice.ensures c.if-ne.ensures) c.self.invariant)
 
 pub returns-clause-ok : goal.returns-clause-ok

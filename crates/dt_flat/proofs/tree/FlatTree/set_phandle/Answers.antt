@@ -2,7 +2,7 @@ use Rattle.std.proofs.Common.{◌<◌, sym, ap, subst, List, length, arith, refl
 use Rattle.std.specs.Prelude.{codes}
 use Rattle.dt_flat.specs.Arena.{Arena, Slot}
 use Rattle.dt_flat.specs.Refusals.{MaySet}
-use Rattle.dt_flat.specs.Sound.{IsSound}
+use Rattle.dt_flat.specs.Sound.{IsSoundArena}
 use Rattle.dt_flat.proofs.Numbering.{may_give}
 use Rattle.dt_flat.proofs.Soundness.{IsSound-same, IsSound-phandle}
 use Rattle.dt_flat.proofs.tree.FlatTree.set_phandle.Goals as goal
@@ -10,7 +10,7 @@ use Rattle.dt_flat.proofs.tree.FlatTree.set_phandle.Goals as goal
 pub invariant_of-self : goal.invariant_of-self
 invariant_of-self c =
     let a : Arena = record { boot_cpu = c.self.inside.boot_cpu; reservations = c.self.inside.reservations.items; slots = c.self.inside.places } in
-    subst (λ (ns : List Slot). IsSound (record a { slots = ns }) c.put_number.new.phandles) (sym c.in_err-put_number.ensures.places)
+    subst (λ (ns : List Slot). IsSoundArena (record a { slots = ns }) c.put_number.new.phandles) (sym c.in_err-put_number.ensures.places)
     (IsSound-same a c.self.inside.phandles c.put_number.new.phandles c.in_err-put_number.ensures.phandles c.self.invariant)
 
 pub invariant_of-self-2 : goal.invariant_of-self-2
@@ -18,7 +18,7 @@ invariant_of-self-2 c =
     let slots = c.self.inside.places in
     let a : Arena = record { boot_cpu = c.self.inside.boot_cpu; reservations = c.self.inside.reservations.items; slots = slots } in
     let lt : c.args.node < length slots = omega (arith, ap (λ (t : Arena). length t.slots) c.self.view_is, c.requires) in
-    subst (λ (ns : List Slot). IsSound (record a { slots = ns }) c.put_number.new.phandles) (sym c.in_ok-put_number.ensures.ok)
+    subst (λ (ns : List Slot). IsSoundArena (record a { slots = ns }) c.put_number.new.phandles) (sym c.in_ok-put_number.ensures.ok)
     (IsSound-phandle a c.self.inside.phandles c.put_number.new.phandles c.args.node c.in-Some.number c.args.value.now lt (c.in-Some.ensures.may.0 refl) c.in-Some.ensures.number c.in-Some.ensures.cell c.in_ok-put_number.ensures.given c.self.invariant)
 
 pub returns-in_default-clause-refused : goal.returns-in_default-clause-refused

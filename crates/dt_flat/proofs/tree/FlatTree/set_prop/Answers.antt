@@ -2,7 +2,7 @@ use Rattle.std.proofs.Common.{◌≡◌, ◌<◌, ◌∙◌, sym, ap, subst, Lis
 use Rattle.std.specs.Prelude.{codes}
 use Rattle.dt_model.specs.Names.{IsPropertyName}
 use Rattle.dt_flat.specs.Arena.{Arena, Slot}
-use Rattle.dt_flat.specs.Sound.{IsSound}
+use Rattle.dt_flat.specs.Sound.{IsSoundArena}
 use Rattle.dt_flat.proofs.Numbering.{named_phandle, not_phandle}
 use Rattle.dt_flat.proofs.Soundness.{IsSound-property}
 use Rattle.dt_flat.proofs.tree.FlatTree.set_prop.Goals as goal
@@ -14,7 +14,7 @@ invariant_of-self-then-ne c =
     let name = c.as_bytes-name.result.now in
     let lt : c.args.node < length slots = omega (arith, ap (λ (t : Arena). length t.slots) c.self.view_is, c.requires) in
     let named : IsPropertyName name = subst IsPropertyName (sym c.as_bytes-name.ensures.value) c.as_bytes-name.ensures.valid in
-    subst (λ (ns : List Slot). IsSound (record a { slots = ns }) c.self.inside.phandles) (sym c.in_ok-set.ensures.ok)
+    subst (λ (ns : List Slot). IsSoundArena (record a { slots = ns }) c.self.inside.phandles) (sym c.in_ok-set.ensures.ok)
     (IsSound-property a c.self.inside.phandles c.args.node name c.args.value.now lt named (not_phandle name c.as_slice.result.now c.as_slice.ensures c.if-ne.ensures) c.self.invariant)
 
 pub returns-clause-ok : goal.returns-clause-ok

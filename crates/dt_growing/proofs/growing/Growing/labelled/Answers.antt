@@ -1,17 +1,17 @@
 use Rattle.std.proofs.Common.{◌≡◌, ◌<◌, ℕ, Some, get_or, slice_get, vec_len, sym, arith}
 use Rattle.std.proofs.lemmas.Option.{slice_get_read, slice_get_within}
 use Rattle.dt_model.specs.Names.{Name}
-use Rattle.dt_growing.specs.Growing.{IsSound}
+use Rattle.dt_growing.specs.Growing.{IsSoundGrowing}
 use Rattle.dt_growing.specs.Table.{name_entry}
 use Rattle.dt_growing.specs.declared.growing.Giving.{Giving}
 use Rattle.dt_growing.specs.declared.growing.Growing.{Growing}
 use Rattle.dt_growing.proofs.Referents.{label_unknown, label_gone, label_there, given_unknown, given_gone}
 use Rattle.dt_growing.proofs.growing.Growing.labelled.Goals as goal
 
-inside : (g : Growing) → IsSound g → (l : Name) (i : ℕ) → Some i ≡ name_entry g.labels.map.entries l → i < vec_len g.givings
+inside : (g : Growing) → IsSoundGrowing g → (l : Name) (i : ℕ) → Some i ≡ name_entry g.labels.map.entries l → i < vec_len g.givings
 inside g h l i e = let x = h.labels.sound l i (sym e) in omega (arith, g.givings.ok.0, slice_get_within g.givings.items i x.0 x.1)
 
-read_at : (g : Growing) → IsSound g → (l : Name) (i : ℕ) (x : Giving) → Some i ≡ name_entry g.labels.map.entries l → x ≡ get_or g.givings.items i x → slice_get g.givings.items i ≡ Some x
+read_at : (g : Growing) → IsSoundGrowing g → (l : Name) (i : ℕ) (x : Giving) → Some i ≡ name_entry g.labels.map.entries l → x ≡ get_or g.givings.items i x → slice_get g.givings.items i ≡ Some x
 read_at g h l i x e read = slice_get_read g.givings.items (vec_len g.givings) i x g.givings.ok.0 (inside g h l i e) read
 
 pub index-requires : goal.index-requires

@@ -1,6 +1,6 @@
 use Rattle.std.proofs.Common.{◌≡◌, ◌<◌, ℕ, Some, true, length, sym}
 use Rattle.dt_model.specs.Names.{Name}
-use Rattle.dt_growing.specs.Growing.{found, properties_listed, IsSound}
+use Rattle.dt_growing.specs.Growing.{found, properties_listed, IsSoundGrowing}
 use Rattle.dt_growing.specs.declared.growing.Growing.{Growing}
 use Rattle.dt_growing.proofs.Growths.{undefines_nothing}
 use Rattle.dt_growing.proofs.Listings.{found_is}
@@ -13,7 +13,7 @@ record IsThere (g : Growing) (i : ℕ) (x : Name) (k : ℕ) : Type 0 where
   name : (properties_listed g.properties.items g.indices.map.entries).name k ≡ x
   stands : (properties_listed g.properties.items g.indices.map.entries).stands k ≡ true
 
-is_there : (g : Growing) (i : ℕ) (x : Name) (k : ℕ) → IsSound g → Some k ≡ found (properties_listed g.properties.items g.indices.map.entries) i x → IsThere g i x k
+is_there : (g : Growing) (i : ℕ) (x : Name) (k : ℕ) → IsSoundGrowing g → Some k ≡ found (properties_listed g.properties.items g.indices.map.entries) i x → IsThere g i x k
 is_there g i x k h e =
     let f = found_is (properties_listed g.properties.items g.indices.map.entries) i x k (sym e) in
     let s = h.properties.indexed.sound i x k f.0 in
