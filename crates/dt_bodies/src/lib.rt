@@ -5,6 +5,8 @@
 //! let growing = grow(alloc, source.seed(), Mode::Base, source.items())?; // of `/ { a { }; l: b { }; };`
 //! growing.labelled(b"l");                                                // Some(2), the index of /b
 //! ```
+//!
+//! That source is a case of meanings.cases, compiled (docs/CASES.md).
 #![tactic(auto)]
 
 mod arena;

@@ -10,6 +10,8 @@
 //!
 //! A node is named by its index, in the order in which nodes were opened; nothing is walked but a path. dt_bodies makes such a tree of a source's items, and
 //! dt_naming the named nodes that it stands for.
+//!
+//! A source with these items is a case of meanings.cases, compiled (docs/CASES.md).
 #![tactic(auto)]
 
 mod growing;

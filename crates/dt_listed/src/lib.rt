@@ -5,6 +5,8 @@
 //! for cell in fixups(&blob) { .. }                // each cell by a label, or why its text is off
 //! for cell in local_fixups(&blob) { .. }          // each cell that holds a number of the object's own nodes
 //! ```
+//!
+//! Such lists are cases of overlays.cases (docs/CASES.md).
 #![tactic(auto)]
 
 mod laws;

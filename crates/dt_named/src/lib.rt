@@ -6,6 +6,8 @@
 //! let nodes = tree.nodes();               // of `/dts-v1/; / { a: b { c = <&a>; }; };` the root, and b at 1
 //! nodes[1].properties                     // c, a reference to 1
 //! ```
+//!
+//! It is a case of meanings.cases, compiled (docs/CASES.md).
 #![tactic(auto)]
 
 mod named;

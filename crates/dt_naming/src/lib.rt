@@ -5,6 +5,8 @@
 //! let nodes = named_nodes(alloc, seed, &growing)?; // of `/ { a { b { }; }; c { }; };`
 //! nodes[3].parent;                                 // 0: /c is below the root
 //! ```
+//!
+//! That source is a case of meanings.cases, compiled (docs/CASES.md).
 #![tactic(auto)]
 
 mod belongings;

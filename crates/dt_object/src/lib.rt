@@ -5,6 +5,8 @@
 //! let mut fragments = Vec::new(alloc);
 //! list_fragments(alloc, &object, &mut fragments)?; // of `/plugin/; &{/} { d { }; }; &gic { };`: two
 //! ```
+//!
+//! That object is a case of overlays.cases (docs/CASES.md).
 #![tactic(auto)]
 
 mod fixups;

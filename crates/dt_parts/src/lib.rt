@@ -6,6 +6,8 @@
 //! bring_all(&object, &fragments, &mut brought);    // of `/plugin/; &{/} { d { }; };`
 //! brought.fragments;                               // the content's and /d's node: Some(0); the others: None
 //! ```
+//!
+//! That object is a case of overlays.cases, and it lands in one of applied.cases (docs/CASES.md).
 #![tactic(auto)]
 
 mod brought;

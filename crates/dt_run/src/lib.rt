@@ -5,6 +5,8 @@
 //! run(alloc, line(alloc, words), &mut files, &mut out, &mut err)
 //! // the exit status: 0; 1 at a fault, which err is told as `dtool: input 0: fault 24 UnresolvedReference`; 2 where the words are no command
 //! ```
+//!
+//! Such runs are tests of dtool.
 #![tactic(auto)]
 
 mod job;

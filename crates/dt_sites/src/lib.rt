@@ -5,6 +5,8 @@
 //! find_sites(alloc, &tree, &object, &brought, &marks, &fragments, &mut places, &mut sites)?; // of `/plugin/; &{/} { d { }; };`: the root
 //! land_all(alloc, &mut tree, &object, &brought.numbers, &fragments, &sites)?;                // /d stands
 //! ```
+//!
+//! That object lands in a case of applied.cases (docs/CASES.md).
 #![tactic(auto)]
 
 mod landing;

@@ -6,6 +6,8 @@
 //! check(&texts[0], &mut out)?;                                        // ok nodes 225 properties 1448 reservations 0
 //! report(&mut err, 0, Fault::at(FaultKind::Syntax, 7))                // dtool: input 0: fault 12 Syntax at 7
 //! ```
+//!
+//! Such files and reports are in the tests of dtool.
 #![tactic(auto)]
 
 mod checking;

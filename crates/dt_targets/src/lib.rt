@@ -6,6 +6,8 @@
 //! target.find(&path);                                         // whether a node of the path stands
 //! land_content(alloc, &tree, &object, node, &path, &mut places)?; // what a fragment brings lands: each place once, and gets its number
 //! ```
+//!
+//! Objects that land are cases of applied.cases (docs/CASES.md).
 #![tactic(auto)]
 
 mod flat_target;

@@ -5,6 +5,8 @@
 //! texts(b"/:a:0\0/:b:4\0")                        // two texts
 //! cell_text(b"/fragment@0/__overlay__/d:p:1")     // the path, p, 1
 //! ```
+//!
+//! Both are what `__fixups__` holds in a case of overlays.cases (docs/CASES.md).
 #![tactic(auto)]
 
 mod cuts;

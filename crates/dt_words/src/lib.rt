@@ -2,9 +2,11 @@
 //! of its files; a job that asks one node has the node's path and the other words of its question.
 //!
 //! ```text
-//! line(alloc, &["dtool", "compile", "--hex", "stdin"])    // Ok: Job::Compile, in hexadecimal, of stdin
+//! line(alloc, &["dtool", "compile", "--hex", "a.dts"])    // Ok: Job::Compile, in hexadecimal, of a.dts
 //! line(alloc, &["dtool", "compile"])                      // clap's error: a file is missing
 //! ```
+//!
+//! Both are among the tests of dtool.
 #![tactic(auto)]
 
 mod command_line;
