@@ -1,18 +1,19 @@
 -- What the fragments bring lands by the numbers of nodes as it does by their paths.
-use Rattle.std.proofs.Common.{◌≡◌, ℕ, ◌<◌, List, [], ◌∷◌, length, map, Option, Some, None, refl, sym, ap, subst, ◌∙◌, inl, inr}
-use Rattle.std.specs.Prelude.{unwrap_or}
+use Rattle.std.proofs.Common.{◌≡◌, ℕ, ◌<◌, Bool, true, false, cond, List, [], ◌∷◌, ◌++◌, length, map, Option, Some, None, refl, sym, ap, subst, ◌∙◌, inl, inr}
+use Rattle.std.specs.Prelude.{codes, unwrap_or}
 use Rattle.std.specs.List.{AllByRecursion}
+use Rattle.std.specs.Str.{bytes_eq}
 use Rattle.dt_model.specs.Names.{Name}
 use Rattle.dt_model.specs.Path.{Path}
 use Rattle.dt_model.specs.Overlay.{content}
-use Rattle.dt_model.specs.Tree.{Reading, Node, node_at}
+use Rattle.dt_model.specs.Tree.{Property, Forest, no_nodes, branch, Reading, Node, node_at}
 use Rattle.dt_model.specs.Merged.{Site}
 use Rattle.dt_model.specs.Object.{fragment_names}
 use Rattle.dt_model.specs.Applied.{Write, brought}
 use Rattle.dt_flat.specs.Arena.{Arena, Slot, IsRooted, node_from, reading}
 use Rattle.dt_flat.proofs.Descent.{path-within}
 use Rattle.dt_landing.specs.Steps.{land_node, land_fragments, MayLandNode, MayLandFragments, FullAtNode, FullAtFragments}
-use Rattle.dt_landing.specs.Writing.{with_cells, landed}
+use Rattle.dt_landing.specs.Writing.{with_cells_of, cells_written, with_cells, landed}
 use Rattle.dt_landing.proofs.WrittenCells.{landed_is_brought}
 use Rattle.dt_parts.specs.declared.kept.Fragment.{Fragment}
 use Rattle.dt_parts.specs.declared.brought.Brought.{Brought}
@@ -45,6 +46,28 @@ there_of slots object (x ∷ xs) (f ∷ fs) rooted h = (path-within slots (conte
 pub contents_there : (object : Reading) (ws : List Write) (numbers : List (Path × ℕ)) (tree : Arena) (fragments : List Fragment) (b : Brought)
     → IsReady object ws numbers tree fragments b → IsRooted tree.slots → AllByRecursion (λ x. x.content < length tree.slots) fragments
 contents_there object ws numbers tree fragments b ready rooted = there_of tree.slots object fragments (fragment_names object.children) rooted ready.listed
+
+-- ---- an object into which nothing is written
+
+plain_property : (path : Path) (p : Property) → with_cells_of [] path p ≡ p
+plain_property path p = by (bytes_eq p.name (codes "phandle"))
+  where
+    by : (b : Bool) → record { name = p.name; value = cond b p.value p.value } ≡ p
+    by true = refl
+    by false = refl
+
+plain_properties : (path : Path) (ps : List Property) → map (with_cells_of [] path) ps ≡ ps
+plain_properties path [] = refl
+plain_properties path (p ∷ ps) = λ i. plain_property path p i ∷ plain_properties path ps i
+
+plain_forest : (path : Path) (fs : Forest) → cells_written [] path fs ≡ fs
+plain_forest path no_nodes = refl
+plain_forest path (branch name ps children siblings) =
+    λ i. branch name (plain_properties (path ++ name ∷ []) ps i) (plain_forest (path ++ name ∷ []) children i) (plain_forest path siblings i)
+
+-- is as it was
+pub unwritten : (t : Reading) → with_cells [] t ≡ t
+unwritten t = λ i. record t { properties = plain_properties [] t.properties i; children = plain_forest [] t.children i }
 
 -- ---- landings
 

@@ -26,12 +26,13 @@ use Rattle.dt_parts.specs.declared.kept.FragmentTarget.TheVariants.{Number, Path
 use Rattle.dt_parts.specs.declared.brought.Brought.{Brought}
 use Rattle.dt_parts.specs.declared.kept.Symbol.{Symbol}
 use Rattle.dt_parts.specs.declared.kept.Write.{Write as KeptWrite}
-use Rattle.dt_overlay.specs.Applying.{IsReadAs, IsSitedAs, IsWrittenAs}
-use Rattle.dt_parts.specs.Plans.{IsTargetOf, AreFragmentsOf, IsWriteOf, AreWritesOf, AreBrought, AreSymbolsOf, ListsFixups, ListsLocalFixups, ListsSymbols, symbol_brought, own_number, renumbered}
+use Rattle.dt_overlay.proofs.CarriedLandings.{unwritten}
+use Rattle.dt_overlay.specs.Applying.{IsReadAs, IsSitedAs, IsNumberedAs}
+use Rattle.dt_parts.specs.Plans.{IsTargetOf, AreFragmentsOf, IsWriteOf, AreWritesOf, AreBrought, AreSymbolsOf, ListsFixups, ListsLocalFixups, ListsSymbols, IsReady, symbol_brought, own_number, renumbered}
 use Rattle.dt_sites.specs.Writing.{AreWritable, with_writes}
 use Rattle.dt_sites.proofs.WritesKept.{HaveOneShape, writes_keep, all_still_writable, with_writes-append}
 use Rattle.dt_sites.proofs.WritesPaths.{EachHasPath}
-use Rattle.dt_sites.proofs.WritesPlans.{fragments_kept, brought_kept, symbols_kept, writes_append, writable_cells}
+use Rattle.dt_sites.proofs.WritesPlans.{fragments_kept, brought_kept, writes_append, writable_cells}
 use Rattle.dt_sites.proofs.WritesRead.{writes_read}
 
 -- what follows from an answer
@@ -163,19 +164,49 @@ module _ (base : Reading) (a : Arena) (b first : Brought) (p kept : Plan) (r : I
   waiting = subst (λ (q : Plan). AreWritesOf a.slots q.label_writes.items (map (label_write base) r.fixups)) (sym same) r.labels
 
   -- both may be written
-  pub locals_writable : AreWritable a.slots own_cells_of
+  locals_writable : AreWritable a.slots own_cells_of
   locals_writable = writable_cells a own_cells_of (map (local_write (reading a) numbers) (local_cells (reading a))) valid rooted own (own_cells (reading a) numbers (local_cells (reading a)) r.locals_there)
 
   labels_listed : AreWritable a.slots labels
   labels_listed = writable_cells a labels (map (label_write base) r.fixups) valid rooted waiting (label_cells base (reading a) r.fixups r.labels_there)
 
-  pub labels_writable : AreWritable (with_writes own_cells_of a.slots) labels
+  labels_writable : AreWritable (with_writes own_cells_of a.slots) labels
   labels_writable = all_still_writable a.slots own_cells_of labels locals_writable labels_listed
 
-  -- what is known then
-  pub written_as : (tree : Arena) → tree ≡ record a { slots = with_writes labels (with_writes own_cells_of a.slots) }
-      → IsWrittenAs base (reading a) tree b p
-  written_as tree is = subst (λ (t : Arena). IsWrittenAs base (reading a) t b p) (sym whole) (record {
+  abbrev all : List KeptWrite
+  all = own_cells_of ++ labels
+
+  abbrev names : List Name
+  names = fragment_names (reading a).children
+
+  abbrev ws : List Write
+  ws = writes base (reading a) r.fixups numbers
+
+  keeps : HaveOneShape a.slots (with_writes all a.slots)
+  keeps = writes_keep all a.slots
+
+  kept_all : AreWritesOf a.slots all ws
+  kept_all = writes_append a.slots own_cells_of labels (map (local_write (reading a) numbers) (local_cells (reading a))) (map (label_write base) r.fixups) own waiting
+
+  both : (xs ys : List KeptWrite) → AreWritable a.slots xs → AreWritable a.slots ys → AreWritable a.slots (xs ++ ys)
+  both [] ys h k = k
+  both (x ∷ xs) ys h k = (h.0, both xs ys h.1 k)
+
+  listed_still : AreFragmentsOf a.slots (reading a) p.fragments.items names
+  listed_still = subst (λ (q : Plan). AreFragmentsOf a.slots (reading a) q.fragments.items names) (sym same) r.fragments
+
+  -- the object is ready with its cells written
+  ready_written : IsReady (reading a) ws numbers (record a { slots = with_writes all a.slots }) p.fragments.items b
+  ready_written = record {
+    valid = valid;
+    written = writes_read a all ws valid rooted paths kept_all (both own_cells_of labels locals_writable labels_listed);
+    listed = fragments_kept a.slots (with_writes all a.slots) keeps (reading a) p.fragments.items names listed_still;
+    brought = brought_kept a.slots (with_writes all a.slots) keeps names numbers b s.brought;
+  }
+
+  -- what is known once the object's own cells have their numbers
+  pub numbered_as : (xs : Vec KeptWrite) → xs.items ≡ own_cells_of → IsNumberedAs base a b (record p { local_writes = xs })
+  numbered_as xs is = record {
     few = few;
     fixups = r.fixups;
     listed = r.listed;
@@ -183,55 +214,13 @@ module _ (base : Reading) (a : Arena) (b first : Brought) (p kept : Plan) (r : I
     end = s.end;
     sited = s.sited;
     sites = s.sites;
-    ready = record {
-      valid = valid;
-      written = writes_read a all ws valid rooted paths kept_all can;
-      listed = fragments_kept a.slots (with_writes all a.slots) keeps (reading a) p.fragments.items names
-          (subst (λ (q : Plan). AreFragmentsOf a.slots (reading a) q.fragments.items names) (sym same) r.fragments);
-      brought = brought_kept a.slots (with_writes all a.slots) keeps names numbers b s.brought;
-    };
-    symbols = symbols_kept a.slots (with_writes all a.slots) keeps p.symbols.items (flat_map (symbol_brought (reading a)) (symbols_in (reading a)))
-        (subst (λ (q : Plan). AreSymbolsOf a.slots q.symbols.items (flat_map (symbol_brought (reading a)) (symbols_in (reading a)))) (sym same) r.symbols);
-  })
-    where
-      names : List Name
-      names = fragment_names (reading a).children
-
-      all : List KeptWrite
-      all = own_cells_of ++ labels
-
-      ws : List Write
-      ws = writes base (reading a) r.fixups numbers
-
-      keeps : HaveOneShape a.slots (with_writes all a.slots)
-      keeps = writes_keep all a.slots
-
-      whole : tree ≡ record a { slots = with_writes all a.slots }
-      whole = is ∙ ap (λ (slots : List Slot). record a { slots = slots }) (sym (with_writes-append own_cells_of labels a.slots))
-
-      kept_all : AreWritesOf a.slots all ws
-      kept_all = writes_append a.slots own_cells_of labels (map (local_write (reading a) numbers) (local_cells (reading a))) (map (label_write base) r.fixups) own waiting
-
-      both : (xs ys : List KeptWrite) → AreWritable a.slots xs → AreWritable a.slots ys → AreWritable a.slots (xs ++ ys)
-      both [] ys h k = k
-      both (x ∷ xs) ys h k = (h.0, both xs ys h.1 k)
-
-      can : AreWritable a.slots all
-      can = both own_cells_of labels locals_writable labels_listed
-
--- nothing of it hangs on the list of the object's own cells
-pub with_local_writes : (base object : Reading) (tree : Arena) (b : Brought) (p : Plan) (xs : Vec KeptWrite) → IsWrittenAs base object tree b p → IsWrittenAs base object tree b (record p { local_writes = xs })
-with_local_writes base object tree b p xs h = record {
-  few = h.few;
-  fixups = h.fixups;
-  listed = h.listed;
-  well = h.well;
-  end = h.end;
-  sited = h.sited;
-  sites = h.sites;
-  ready = h.ready;
-  symbols = h.symbols;
-}
+    own = subst (λ (ys : List KeptWrite). AreWritable a.slots ys) (sym is) locals_writable;
+    labels = subst (λ (ys : List KeptWrite). AreWritable (with_writes ys a.slots) labels) (sym is) labels_writable;
+    ready = subst (λ (slots : List Slot). IsReady (reading a) ws numbers (record a { slots = slots }) p.fragments.items b)
+        (with_writes-append own_cells_of labels a.slots ∙ ap (λ (ys : List KeptWrite). with_writes labels (with_writes ys a.slots)) (sym is)) ready_written;
+    plain = record { valid = valid; written = sym (unwritten (reading a)); listed = listed_still; brought = s.brought };
+    symbols = subst (λ (q : Plan). AreSymbolsOf a.slots q.symbols.items (flat_map (symbol_brought (reading a)) (symbols_in (reading a)))) (sym same) r.symbols;
+  }
 
 -- the nodes of writes are there
 pub writes_within : (slots : List Slot) (xs : List KeptWrite) (ws : List Write) → IsRooted slots → AreWritesOf slots xs ws → AllByRecursion (λ (x : KeptWrite). x.node < length slots) xs

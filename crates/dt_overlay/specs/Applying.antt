@@ -16,6 +16,7 @@ use Rattle.dt_landing.specs.Objects.{HasCell, IsWellFormed, symbols_in}
 use Rattle.dt_landing.specs.Refusals.{IsCrowded}
 use Rattle.dt_overlay.specs.declared.applying.Plan.{Plan}
 use Rattle.dt_parts.specs.declared.brought.Brought.{Brought}
+use Rattle.dt_sites.specs.Writing.{AreWritable, with_writes}
 use Rattle.dt_targets.specs.Known.{IsKnown}
 use Rattle.dt_parts.specs.Plans.{AreBrought, AreFragmentsOf, AreSymbolsOf, AreWritesOf, IsReady, symbol_brought}
 
@@ -48,17 +49,24 @@ pub record IsSitedAs (base : Reading) (tree : Arena) (b : Brought) (p : Plan) (f
   pub sites : p.sites.items ≡ map (λ (x : Site). x.at) end.sites
   pub brought : AreBrought tree.slots (fragment_names (reading tree).children) (new_numbers base (reading tree) end) b
 
--- and it has its cells written
-pub record IsWrittenAs (base object : Reading) (tree : Arena) (b : Brought) (p : Plan) : Type 0 where
-  pub few : IsWithinLimits object
+-- the object with the numbers of nodes in its cells, those of its own nodes first
+abbrev pub with_numbers : Arena → Plan → Arena
+with_numbers tree p = record tree { slots = with_writes p.label_writes.items (with_writes p.local_writes.items tree.slots) }
+
+-- and the numbers of its cells are listed
+pub record IsNumberedAs (base : Reading) (tree : Arena) (b : Brought) (p : Plan) : Type 0 where
+  pub few : IsWithinLimits (reading tree)
   pub fixups : List (Name × Cell)
-  pub listed : HasFixups object fixups
-  pub well : IsWellFormed base object
+  pub listed : HasFixups (reading tree) fixups
+  pub well : IsWellFormed base (reading tree)
   pub end : Walked
-  pub sited : AreSited base object fixups nothing_walked (fragment_names object.children) end
+  pub sited : AreSited base (reading tree) fixups nothing_walked (fragment_names (reading tree).children) end
   pub sites : p.sites.items ≡ map (λ (x : Site). x.at) end.sites
-  pub ready : IsReady object (writes base object fixups (new_numbers base object end)) (new_numbers base object end) tree p.fragments.items b
-  pub symbols : AreSymbolsOf tree.slots p.symbols.items (flat_map (symbol_brought object) (symbols_in object))
+  pub own : AreWritable tree.slots p.local_writes.items
+  pub labels : AreWritable (with_writes p.local_writes.items tree.slots) p.label_writes.items
+  pub ready : IsReady (reading tree) (writes base (reading tree) fixups (new_numbers base (reading tree) end)) (new_numbers base (reading tree) end) (with_numbers tree p) p.fragments.items b
+  pub plain : IsReady (reading tree) [] (new_numbers base (reading tree) end) tree p.fragments.items b
+  pub symbols : AreSymbolsOf tree.slots p.symbols.items (flat_map (symbol_brought (reading tree)) (symbols_in (reading tree)))
 
 -- a fault leaves the base as it was, unless memory is wanted, or room on the way
 abbrev pub IsLeftBy : (Reading → Reading → Type 0) → FaultKind → (base object new : Reading) → Type 0

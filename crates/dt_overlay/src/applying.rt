@@ -1,6 +1,6 @@
 //! Applying an object.
 
-ghost use Rattle.std.specs.Prelude.{◌≡◌, ◌∷◌, ◌⊎◌, [], None, length, codes, OnOk, IfOk, IfErr};
+ghost use Rattle.std.specs.Prelude.{◌≡◌, ◌∷◌, ◌⊎◌, [], None, length, map, codes, OnOk, IfOk, IfErr};
 ghost use Rattle.dt_joining.specs.InTurn.{IsApplied};
 ghost use Rattle.dt_joining.specs.Walk.{nothing_walked};
 ghost use Rattle.dt_model.specs.Object.{fragment_names};
@@ -12,7 +12,8 @@ ghost use Rattle.dt_landing.specs.Refusals.{IsCrowded, WhyNotApplied};
 ghost use Rattle.dt_model.specs.Tree.{Reading};
 ghost use Rattle.dt_names.specs.declared.fault.FaultKind.TheVariants.{NoMemory, Limit};
 ghost use Rattle.dt_parts.specs.Plans.{IsUnbrought};
-ghost use Rattle.dt_overlay.specs.Applying.{IsEmptyPlan, IsReadAs, IsSitedAs, IsWrittenAs, IsLeftBy};
+ghost use Rattle.dt_overlay.specs.Applying.{IsEmptyPlan, IsReadAs, IsSitedAs, IsNumberedAs, IsLeftBy, with_numbers};
+ghost use Rattle.dt_sites.specs.Landed.{land_each};
 ghost use Rattle.dt_targets.specs.Known.{IsKnown};
 ghost use Rattle.dt_targets.specs.Targets.{HasNoRoom, IsWant};
 
@@ -22,9 +23,7 @@ use dt_names::{Fault, NodeName, Path, Seed};
 use dt_object::{list_fixups, list_fragments, list_local_fixups, list_symbols};
 use dt_parts::{Brought, Fragment, Symbol, Write, bring_all};
 use dt_read::Blob;
-use dt_sites::{
-    find_sites, land_all, number_all, renumber, set_symbols, target_marks, write_cells,
-};
+use dt_sites::{Values, find_sites, land_all, number_all, renumber, set_symbols, target_marks};
 use dt_targets::{Places, Target};
 use std::alloc::Global;
 
@@ -132,19 +131,68 @@ fn look<T: Target>(
     number_all(alloc, target, object, &plan.sites, &plan.places, brought)
 }
 
-// Writes the numbers into the object's cells, its own first.
-fn write_numbers(object: &mut FlatTree, brought: &Brought, plan: &mut Plan) -> Result<(), Fault>
-    requires read { (base : Reading) × (first : Brought) × (first_plan : Plan) × (read : IsReadAs base object.old first first_plan)
-        × IsSitedAs base object.old brought.now plan.old read.fixups × (plan.old ≡ record first_plan { sites = plan.old.sites; places = plan.old.places }) }
-    ensures written { (base : Reading) (first : Brought) (first_plan : Plan) (read : IsReadAs base object.old first first_plan) →
-        IsSitedAs base object.old brought.now plan.old read.fixups → (plan.old ≡ record first_plan { sites = plan.old.sites; places = plan.old.places }) →
-        OnOk result (IsWrittenAs base (reading object.old) object.new brought.now plan.new) }
-    ensures refused { IfErr result (λ fault. (fault.kind ≡ NoMemory) × (fault.at ≡ None)) }
+// The cells of the object's own nodes get the numbers that the nodes have now.
+fn number_cells(object: &FlatTree, brought: &Brought, plan: &mut Plan)
+    requires read { (base : Reading) × (first : Brought) × (first_plan : Plan) × (read : IsReadAs base object.now first first_plan)
+        × IsSitedAs base object.now brought.now plan.old read.fixups × (plan.old ≡ record first_plan { sites = plan.old.sites; places = plan.old.places }) }
+    ensures { (base : Reading) (first : Brought) (first_plan : Plan) (read : IsReadAs base object.now first first_plan) →
+        IsSitedAs base object.now brought.now plan.old read.fixups → (plan.old ≡ record first_plan { sites = plan.old.sites; places = plan.old.places }) →
+        IsNumberedAs base object.now brought.now plan.new }
 {
     object.validity();
     renumber(object, brought, &mut plan.local_writes);
-    write_cells(object, &plan.local_writes)?;
-    write_cells(object, &plan.label_writes)
+}
+
+// Lands what the fragments bring on their sites, with the numbers of nodes in its cells: those of the object's own nodes are written first.
+fn land_fragments<'w, T: Target>(
+    alloc: Global,
+    target: &mut T,
+    object: &FlatTree,
+    brought: &Brought,
+    plan: &'w Plan,
+    values: &mut Values<'w>,
+) -> Result<(), Fault>
+    requires none { values.old ≡ [] }
+    requires numbered { IsNumberedAs (T.reading target.old) object.now brought.now plan.now }
+    ensures landed { OnOk result (T.reading target.new
+        ≡ land_each brought.now.numbers.items (with_numbers object.now plan.now).slots (map (λ x. x.content) plan.now.fragments.items) plan.now.sites.items (T.reading target.old)) }
+    ensures refused { IfErr result (IsWant (IsCrowded (HasNoRoom T.reading T.has_room) (T.reading target.old) (reading object.now))) }
+{
+    sited_is_applied();
+    fragments_are_merged();
+    target.validity();
+    object.validity();
+    values.write_all(alloc, object, &plan.local_writes)?;
+    values.write_all(alloc, object, &plan.label_writes)?;
+    land_all(
+        alloc,
+        target,
+        object,
+        &brought.numbers,
+        values,
+        &plan.fragments,
+        &plan.sites,
+    )
+}
+
+// The same with values of its own.
+fn land_numbered<T: Target>(
+    alloc: Global,
+    target: &mut T,
+    object: &FlatTree,
+    brought: &Brought,
+    plan: &Plan,
+) -> Result<(), Fault>
+    requires numbered { IsNumberedAs (T.reading target.old) object.now brought.now plan.now }
+    ensures landed { OnOk result (T.reading target.new
+        ≡ land_each brought.now.numbers.items (with_numbers object.now plan.now).slots (map (λ x. x.content) plan.now.fragments.items) plan.now.sites.items (T.reading target.old)) }
+    ensures refused { IfErr result (IsWant (IsCrowded (HasNoRoom T.reading T.has_room) (T.reading target.old) (reading object.now))) }
+{
+    let mut values = Values::new(alloc, object.seed());
+    let done = land_fragments(alloc, target, object, brought, plan, &mut values);
+    // Let go of by hand: what goes at an exit by itself is proved there field by field.
+    drop(values);
+    done
 }
 
 // Lands what the fragments bring on their sites, and then the labels.
@@ -157,24 +205,15 @@ fn land_planned<T: Target>(
     plan: &mut Plan,
 ) -> Result<(), Fault>
     requires symbols { symbols.now ≡ codes "__symbols__" ∷ [] }
-    requires written { (read : Reading) × IsWrittenAs (T.reading target.old) read object.now brought.now plan.old }
-    ensures applied { (read : Reading) → IsWrittenAs (T.reading target.old) read object.now brought.now plan.old →
-        OnOk result (IsApplied (T.reading target.old) read (T.reading target.new)) }
-    ensures refused { (read : Reading) → IsWrittenAs (T.reading target.old) read object.now brought.now plan.old →
-        IfErr result (IsWant (IsCrowded (HasNoRoom T.reading T.has_room) (T.reading target.old) read)) }
+    requires numbered { IsNumberedAs (T.reading target.old) object.now brought.now plan.old }
+    ensures applied { OnOk result (IsApplied (T.reading target.old) (reading object.now) (T.reading target.new)) }
+    ensures refused { IfErr result (IsWant (IsCrowded (HasNoRoom T.reading T.has_room) (T.reading target.old) (reading object.now))) }
 {
     sited_is_applied();
     fragments_are_merged();
     target.validity();
     object.validity();
-    land_all(
-        alloc,
-        target,
-        object,
-        &brought.numbers,
-        &plan.fragments,
-        &plan.sites,
-    )?;
+    land_numbered(alloc, target, object, brought, plan)?;
     set_symbols(
         alloc,
         target,
@@ -192,22 +231,22 @@ fn carry_out<T: Target>(
     alloc: Global,
     target: &mut T,
     symbols: &Path,
-    object: &mut FlatTree,
+    object: &FlatTree,
     brought: &mut Brought,
     plan: &mut Plan,
 ) -> Result<(), Fault>
     requires symbols { symbols.now ≡ codes "__symbols__" ∷ [] }
     requires empty { IsEmptyPlan plan.old }
-    requires unbrought { IsUnbrought (length object.old.slots) brought.old }
-    ensures applied { OnOk result (IsApplied (T.reading target.old) (reading object.old) (T.reading target.new)) }
-    ensures well { OnOk result (IsWellFormed (T.reading target.old) (reading object.old)) }
+    requires unbrought { IsUnbrought (length object.now.slots) brought.old }
+    ensures applied { OnOk result (IsApplied (T.reading target.old) (reading object.now) (T.reading target.new)) }
+    ensures well { OnOk result (IsWellFormed (T.reading target.old) (reading object.now)) }
     ensures refused { IfErr result (λ fault. (fault.at ≡ None)
-        × WhyNotApplied (HasNoRoom T.reading T.has_room) fault.kind (T.reading target.old) (reading object.old)) }
-    ensures left { IfErr result (λ fault. IsLeftBy (HasNoRoom T.reading T.has_room) fault.kind (T.reading target.old) (reading object.old) (T.reading target.new)) }
+        × WhyNotApplied (HasNoRoom T.reading T.has_room) fault.kind (T.reading target.old) (reading object.now)) }
+    ensures left { IfErr result (λ fault. IsLeftBy (HasNoRoom T.reading T.has_room) fault.kind (T.reading target.old) (reading object.now) (T.reading target.new)) }
 {
     read(alloc, target, symbols, object, brought, plan)?;
     look(alloc, target, object, brought, plan)?;
-    write_numbers(object, brought, plan)?;
+    number_cells(object, brought, plan);
     land_planned(alloc, target, symbols, object, brought, plan)
 }
 
@@ -216,16 +255,16 @@ fn carry_out_planned<T: Target>(
     alloc: Global,
     target: &mut T,
     symbols: &Path,
-    object: &mut FlatTree,
+    object: &FlatTree,
     brought: &mut Brought,
 ) -> Result<(), Fault>
     requires symbols { symbols.now ≡ codes "__symbols__" ∷ [] }
-    requires unbrought { IsUnbrought (length object.old.slots) brought.old }
-    ensures applied { OnOk result (IsApplied (T.reading target.old) (reading object.old) (T.reading target.new)) }
-    ensures well { OnOk result (IsWellFormed (T.reading target.old) (reading object.old)) }
+    requires unbrought { IsUnbrought (length object.now.slots) brought.old }
+    ensures applied { OnOk result (IsApplied (T.reading target.old) (reading object.now) (T.reading target.new)) }
+    ensures well { OnOk result (IsWellFormed (T.reading target.old) (reading object.now)) }
     ensures refused { IfErr result (λ fault. (fault.at ≡ None)
-        × WhyNotApplied (HasNoRoom T.reading T.has_room) fault.kind (T.reading target.old) (reading object.old)) }
-    ensures left { IfErr result (λ fault. IsLeftBy (HasNoRoom T.reading T.has_room) fault.kind (T.reading target.old) (reading object.old) (T.reading target.new)) }
+        × WhyNotApplied (HasNoRoom T.reading T.has_room) fault.kind (T.reading target.old) (reading object.now)) }
+    ensures left { IfErr result (λ fault. IsLeftBy (HasNoRoom T.reading T.has_room) fault.kind (T.reading target.old) (reading object.now) (T.reading target.new)) }
 {
     let mut plan = Plan::new(alloc, object.seed().with(target.seed()));
     let done = carry_out(alloc, target, symbols, object, brought, &mut plan);
@@ -234,13 +273,13 @@ fn carry_out_planned<T: Target>(
     done
 }
 
-// Applies an object that may be written into.
-fn apply_tree<T: Target>(alloc: Global, target: &mut T, object: &mut FlatTree) -> Result<(), Fault>
-    ensures applied { OnOk result (IsApplied (T.reading target.old) (reading object.old) (T.reading target.new)) }
-    ensures well { OnOk result (IsWellFormed (T.reading target.old) (reading object.old)) }
+// Applies an object.
+fn apply_tree<T: Target>(alloc: Global, target: &mut T, object: &FlatTree) -> Result<(), Fault>
+    ensures applied { OnOk result (IsApplied (T.reading target.old) (reading object.now) (T.reading target.new)) }
+    ensures well { OnOk result (IsWellFormed (T.reading target.old) (reading object.now)) }
     ensures refused { IfErr result (λ fault. (fault.at ≡ None)
-        × WhyNotApplied (HasNoRoom T.reading T.has_room) fault.kind (T.reading target.old) (reading object.old)) }
-    ensures left { IfErr result (λ fault. IsLeftBy (HasNoRoom T.reading T.has_room) fault.kind (T.reading target.old) (reading object.old) (T.reading target.new)) }
+        × WhyNotApplied (HasNoRoom T.reading T.has_room) fault.kind (T.reading target.old) (reading object.now)) }
+    ensures left { IfErr result (λ fault. IsLeftBy (HasNoRoom T.reading T.has_room) fault.kind (T.reading target.old) (reading object.now) (T.reading target.new)) }
 {
     let symbols = symbols_path(alloc)?;
     let mut brought = Brought::new(alloc, object.node_count())?;
@@ -271,8 +310,8 @@ pub fn apply<T: Target>(alloc: Global, target: &mut T, object: &Blob<'_>) -> Res
         × WhyNotApplied (HasNoRoom T.reading T.has_room) fault.kind (T.reading target.old) (reading_of object.now)) }
     ensures left { IfErr result (λ fault. IsLeftBy (HasNoRoom T.reading T.has_room) fault.kind (T.reading target.old) (reading_of object.now) (T.reading target.new)) }
 {
-    let mut tree = object.to_flat(alloc)?;
-    let done = apply_tree(alloc, target, &mut tree);
+    let tree = object.to_flat(alloc)?;
+    let done = apply_tree(alloc, target, &tree);
     drop(tree);
     done
 }

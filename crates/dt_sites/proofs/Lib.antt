@@ -9,6 +9,8 @@ pub mod SitesNumbered
 pub mod SitesTurns
 pub mod SymbolLandingLabels
 pub mod SymbolLandingLeft
+pub mod ValuesKept
+pub mod ValuesLanded
 pub mod WritesKept
 pub mod WritesLanded
 pub mod WritesPaths

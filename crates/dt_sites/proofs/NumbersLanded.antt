@@ -24,7 +24,7 @@ use Rattle.dt_joining.proofs.Walks.{IsWalked}
 use Rattle.dt_landing.specs.Laws.{AreShallow}
 use Rattle.dt_landing.proofs.PassedOutcomes.{shallow_landings}
 use Rattle.dt_landing.proofs.Sited.{sited_walks}
-use Rattle.dt_targets.specs.declared.places.Places.{Places}
+use Rattle.dt_targets.specs.Known.{Known}
 use Rattle.dt_sites.specs.Turns.{IsLooked}
 use Rattle.dt_parts.proofs.Elements.{get-set_same, get-set_other, get_within}
 use Rattle.dt_targets.proofs.Reached.{value-led}
@@ -64,7 +64,7 @@ length_set {X} f xs ys i e = ap (λ zs. length zs) e ∙ step xs i
 
 -- ---- the numbers of an object's nodes, where all its fragments have sites
 
-module _ (base : Reading) (a : Arena) (valid : IsValid (reading a)) (few_base : IsWithinLimits base) (few : IsWithinLimits (reading a)) (fixups : List (Name × Cell)) (end : Walked) (paths : List Path) (places : Places)
+module _ (base : Reading) (a : Arena) (valid : IsValid (reading a)) (few_base : IsWithinLimits base) (few : IsWithinLimits (reading a)) (fixups : List (Name × Cell)) (end : Walked) (paths : List Path) (places : Known)
     (looked : IsLooked base fixups (reading a) end paths places) where
   abbrev names : List Name
   names = fragment_names (reading a).children

@@ -15,8 +15,7 @@ use Rattle.dt_landing.specs.Landings.{AreSited, WhyNoSite, HasNoSite}
 use Rattle.dt_parts.specs.declared.kept.Fragment.{Fragment}
 use Rattle.dt_sites.specs.declared.marks.TargetMark.{TargetMark}
 use Rattle.dt_parts.specs.declared.brought.Brought.{Brought}
-use Rattle.dt_targets.specs.declared.places.Places.{Places}
-use Rattle.dt_targets.specs.Known.{IsKnown, landed_paths}
+use Rattle.dt_targets.specs.Known.{Known, IsKnown, landed_paths}
 use Rattle.dt_sites.specs.Marks.{AreMarked}
 use Rattle.dt_parts.specs.Plans.{IsFragmentOf, AreFragmentsOf, AreBrought}
 use Rattle.dt_sites.specs.Turns.{IsTurn, IsTurnOf, IsSitedOn}
@@ -24,14 +23,14 @@ use Rattle.dt_parts.proofs.NumbersTurns.{at_index}
 use Rattle.dt_sites.proofs.SitesTurns.{sited_behind, none_behind}
 
 -- the fragments up to an index have sites
-pub record AreFound (base : Reading) (fixups : List (Name × Cell)) (tree : Arena) (b : Brought) (marks : List TargetMark) (fragments : List Fragment) (i : ℕ) (paths : List Path) (a : Places) : Type 0 where
+pub record AreFound (base : Reading) (fixups : List (Name × Cell)) (tree : Arena) (b : Brought) (marks : List TargetMark) (fragments : List Fragment) (i : ℕ) (paths : List Path) (a : Known) : Type 0 where
   pub walked : Walked
   pub done : List Name
   pub later : List Name
   pub turn : IsTurn base fixups tree b marks paths a walked done later
   pub left : AreFragmentsOf tree.slots (reading tree) (drop i fragments) later
 
-pub found_begun : (base : Reading) (fixups : List (Name × Cell)) (tree : Arena) (b : Brought) (marks : List TargetMark) (fragments : List Fragment) (paths : List Path) (a : Places)
+pub found_begun : (base : Reading) (fixups : List (Name × Cell)) (tree : Arena) (b : Brought) (marks : List TargetMark) (fragments : List Fragment) (paths : List Path) (a : Known)
     → AreBrought tree.slots (fragment_names (reading tree).children) [] b → AreMarked base fixups tree marks → AreFragmentsOf tree.slots (reading tree) fragments (fragment_names (reading tree).children)
     → paths ≡ [] → IsKnown base [] [] a → AreFound base fixups tree b marks fragments 0 paths a
 found_begun base fixups tree b marks fragments paths a brought marked listed none known = record {
@@ -42,7 +41,7 @@ found_begun base fixups tree b marks fragments paths a brought marked listed non
   left = listed;
 }
 
-module _ (base : Reading) (fixups : List (Name × Cell)) (tree : Arena) (b : Brought) (marks : List TargetMark) (fragments : List Fragment) (i : ℕ) (paths : List Path) (a : Places)
+module _ (base : Reading) (fixups : List (Name × Cell)) (tree : Arena) (b : Brought) (marks : List TargetMark) (fragments : List Fragment) (i : ℕ) (paths : List Path) (a : Known)
     (so_far : AreFound base fixups tree b marks fragments i paths a) where
   abbrev names : List Name
   names = fragment_names (reading tree).children
@@ -70,7 +69,7 @@ module _ (base : Reading) (fixups : List (Name × Cell)) (tree : Arena) (b : Bro
     }
 
     -- it has a site
-    pub found_on : (q : Path) → AllByRecursion IsNodeName q → (c : Places) → IsSitedOn base fixups (reading tree) so_far.walked next.name q c → (new : List Path) → new ≡ paths ++ q ∷ []
+    pub found_on : (q : Path) → AllByRecursion IsNodeName q → (c : Known) → IsSitedOn base fixups (reading tree) so_far.walked next.name q c → (new : List Path) → new ≡ paths ++ q ∷ []
         → AreFound base fixups tree b marks fragments (i + 1) new c
     found_on q good c h new e = record {
       walked = landed_on base (reading tree) so_far.walked next.name q;

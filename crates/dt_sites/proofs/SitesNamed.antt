@@ -21,8 +21,7 @@ use Rattle.dt_model.proofs.Listed.{stands_listed, listed_stands}
 use Rattle.dt_model.proofs.Finding.{node_of_text, landed_named_from, landed_named_some}
 use Rattle.dt_landing.proofs.PlainSymbols.{named_text}
 use Rattle.dt_landing.proofs.Depths.{within_depth}
-use Rattle.dt_targets.specs.declared.places.Places.{Places}
-use Rattle.dt_targets.specs.Known.{kept_at, IsKnown, landed_paths}
+use Rattle.dt_targets.specs.Known.{Known, kept_at, IsKnown, landed_paths}
 use Rattle.dt_sites.specs.Turns.{AreLandings}
 use Rattle.dt_targets.proofs.LooksNames.{stands_named}
 
@@ -48,7 +47,7 @@ named_listed (x ∷ nodes) value q h = step (named_listed nodes value q) (bytes_
     step more true e = (x, inl refl, (let z : Some x.path ≡ Some q = e in cc))
     step more false e = let w = more e in (w.0, inr w.1, w.2)
 
-module _ (base object : Reading) (valid_base : IsValid base) (valid : IsValid object) (within_base : IsWithinLimits base) (given : List (Path × ℕ)) (sites : List Site) (a : Places)
+module _ (base object : Reading) (valid_base : IsValid base) (valid : IsValid object) (within_base : IsWithinLimits base) (given : List (Path × ℕ)) (sites : List Site) (a : Known)
     (known : IsKnown base given (landed_paths object sites) a) (landings : AreLandings object sites) (value : List ℕ) where
   abbrev pub named : Option Path
   named = option_or (node_named (nodes_of base) value) (landed_named (nodes_of object) sites value)
@@ -85,14 +84,14 @@ module _ (base object : Reading) (valid_base : IsValid base) (valid : IsValid ob
       second_some (node_named (nodes_of base) value) (landed_named (nodes_of object) sites value) landed.0 landed.1
 
   -- what is kept of a path tells whether it stands
-  kept_stands : (p : Path) → AllByRecursion IsNodeName p → stands_in base p || is_some (kept_at a.numbers.entries p) ≡ true → Stands p
-  kept_stands p good either = elim (or_cases (stands_in base p) (is_some (kept_at a.numbers.entries p)) either) [
+  kept_stands : (p : Path) → AllByRecursion IsNodeName p → stands_in base p || is_some (kept_at a.landed p) ≡ true → Stands p
+  kept_stands p good either = elim (or_cases (stands_in base p) (is_some (kept_at a.landed p)) either) [
     | inl of_base ↦ inl of_base
     | inr kept ↦ inr ((known.places p good).0 kept)
   ]
 
   -- a path that stands is found by its text
-  pub named_found : (p : Path) → IsPathValue value p → stands_in base p || is_some (kept_at a.numbers.entries p) ≡ true → Some p ≡ named
+  pub named_found : (p : Path) → IsPathValue value p → stands_in base p || is_some (kept_at a.landed p) ≡ true → Some p ≡ named
   named_found p h either =
       let there : Stands p = kept_stands p h.named either in
       let w = named_some p h there in
@@ -110,10 +109,10 @@ module _ (base object : Reading) (valid_base : IsValid base) (valid : IsValid ob
           let good = stands_good r is.0 in
           absurd (never r (record { text = sym is.1; named = good.0 }) good.1 is.0)
 
-  pub named_missed : (p : Path) → IsPathValue value p → stands_in base p || is_some (kept_at a.numbers.entries p) ≡ false → None ≡ named
+  pub named_missed : (p : Path) → IsPathValue value p → stands_in base p || is_some (kept_at a.landed p) ≡ false → None ≡ named
   named_missed p h neither = named_none never
     where
-      kept_of : Stands p → (stands_in base p ≡ true) ⊎ (is_some (kept_at a.numbers.entries p) ≡ true)
+      kept_of : Stands p → (stands_in base p ≡ true) ⊎ (is_some (kept_at a.landed p) ≡ true)
       kept_of (inl there) = inl there
       kept_of (inr there) = inr ((known.places p h.named).1 there)
 
@@ -125,7 +124,7 @@ module _ (base object : Reading) (valid_base : IsValid base) (valid : IsValid ob
       never : (r : Path) → IsPathValue value r → length r ≤ most_names → Stands r → ⊥
       never r k few there =
           let same : r ≡ p = one_path p r h there (sym k.text) in
-          both (stands_in base p) (is_some (kept_at a.numbers.entries p)) neither (kept_of (subst Stands same there))
+          both (stands_in base p) (is_some (kept_at a.landed p)) neither (kept_of (subst Stands same there))
 
   pub named_refused : (kind : FaultKind) → WhyNoSymbolPath kind value → (kind ≡ NoMemory → ⊥) → None ≡ named
   named_refused NoMemory why other = absurd (other refl)

@@ -30,8 +30,7 @@ use Rattle.dt_landing.proofs.Landed.{lands_listed, landing_stands, plain_site}
 use Rattle.dt_landing.proofs.Sited.{sited_walks}
 use Rattle.dt_sites.specs.declared.marks.TargetMark.{TargetMark}
 use Rattle.dt_parts.specs.declared.brought.Brought.{Brought}
-use Rattle.dt_targets.specs.declared.places.Places.{Places}
-use Rattle.dt_targets.specs.Known.{IsKnown, HasRoom, placed, content_at, landed_paths}
+use Rattle.dt_targets.specs.Known.{Known, IsKnown, HasRoom, placed, content_at, landed_paths}
 use Rattle.dt_sites.specs.Turns.{IsTurn, AreLandings, LandsTooDeep}
 use Rattle.dt_targets.proofs.LooksNames.{stands_named}
 
@@ -125,7 +124,7 @@ each_good sites paths e h x i =
 
 -- ---- at a turn
 
-module _ (base : Reading) (fixups : List (Name × Cell)) (tree : Arena) (valid : IsValid (reading tree)) (b : Brought) (marks : List TargetMark) (paths : List Path) (a : Places) (w : Walked) (done later : List Name)
+module _ (base : Reading) (fixups : List (Name × Cell)) (tree : Arena) (valid : IsValid (reading tree)) (b : Brought) (marks : List TargetMark) (paths : List Path) (a : Known) (w : Walked) (done later : List Name)
     (t : IsTurn base fixups tree b marks paths a w done later) where
   pub turn_walked : IsWalked base (reading tree) done w
   turn_walked = front_walked base (reading tree) fixups valid done later w (sym t.names) t.sited
@@ -168,7 +167,7 @@ content_is tree f q k leads =
     ∙ (λ i. placed tree.slots k (append-nil q i) ∷ sym (ap (λ (p : Path). preorder p (below tree.slots k)) (sym (append-nil q)) ∙ moved_preorder q [] (below tree.slots k)) i)
 
 -- where it lands on a node that is no bookkeeping node there is room for its numbers
-pub room_for : (base : Reading) (fixups : List (Name × Cell)) (object : Reading) (valid : IsValid object) (few : IsWithinLimits object) (a : Places) (w : Walked) (done later : List Name) (f : Name) (q : Path)
+pub room_for : (base : Reading) (fixups : List (Name × Cell)) (object : Reading) (valid : IsValid object) (few : IsWithinLimits object) (a : Known) (w : Walked) (done later : List Name) (f : Name) (q : Path)
     → IsWalked base object done w → done ++ f ∷ later ≡ fragment_names object.children → is_bookkeeping q ≡ false → IsKnown base w.given (landed_paths object w.sites) a → HasRoom base (landings object (site f q)) a
 room_for base fixups object valid few a w done later f q h all plain known = record {
   given = w.given;
@@ -182,7 +181,7 @@ room_for base fixups object valid few a w done later f q h all plain known = rec
 }
 
 -- what is known behind it
-pub known_behind : (base object : Reading) (w : Walked) (f : Name) (q : Path) (a : Places) → IsKnown base (with_places base (landings object (site f q)) w.given) (landed_paths object w.sites ++ map (λ (n : Placed). n.path) (landings object (site f q))) a
+pub known_behind : (base object : Reading) (w : Walked) (f : Name) (q : Path) (a : Known) → IsKnown base (with_places base (landings object (site f q)) w.given) (landed_paths object w.sites ++ map (λ (n : Placed). n.path) (landings object (site f q))) a
     → IsKnown base (landed_on base object w f q).given (landed_paths object (landed_on base object w f q).sites) a
 known_behind base object w f q a h =
     let paths = λ (x : Site). map (λ (n : Placed). n.path) (landings object x) in

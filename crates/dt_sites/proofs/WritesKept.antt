@@ -9,7 +9,7 @@ use Rattle.dt_model.specs.Meaning.{cell}
 use Rattle.dt_model.specs.Names.{Name}
 use Rattle.dt_model.specs.Tree.{value_of}
 use Rattle.dt_model.proofs.Tests.{bytes_eq_true}
-use Rattle.dt_flat.specs.Arena.{Arena, Slot, named_children, properties, name_of, with_property}
+use Rattle.dt_flat.specs.Arena.{Slot, named_children, properties, name_of, with_property}
 use Rattle.dt_flat.proofs.AfterProperty.{length-with_property, children-with_property, value-with_property}
 use Rattle.dt_sites.specs.Writing.{IsWritable, AreWritable, with_write, with_writes}
 use Rattle.dt_parts.specs.declared.kept.Write.{Write}
@@ -134,11 +134,3 @@ with_writes-append (w ∷ ws) xs slots = with_writes-append ws xs (with_write w 
 -- the next write is the first of those that are left
 pub next_write : (xs : List Write) (i : ℕ) (w : Write) → i < length xs → w ≡ get_or xs i w → drop i xs ≡ w ∷ drop (i + 1) xs
 next_write xs i w lt is = drop_more xs i w lt ∙ ap (λ (x : Write). x ∷ drop (i + 1) xs) (sym is)
-
--- those behind it are still writable after it
-pub writable_left : (a b : Arena) (w : Write) (xs : List Write) → AreWritable a.slots (w ∷ xs) → b ≡ record a { slots = with_write w a.slots } → AreWritable b.slots xs
-writable_left a b w xs can is = subst (λ (t : Arena). AreWritable t.slots xs) (sym is) (still_writable a.slots w xs can.0 can.1)
-
--- what they give before the first of them is written, they give after that
-pub left_same : (a b : Arena) (w : Write) (xs ys : List Write) → xs ≡ w ∷ ys → b ≡ record a { slots = with_write w a.slots } → record b { slots = with_writes ys b.slots } ≡ record a { slots = with_writes xs a.slots }
-left_same a b w xs ys split is = ap (λ (t : Arena). record t { slots = with_writes ys t.slots }) is ∙ ap (λ (zs : List Write). record a { slots = with_writes zs a.slots }) (sym split)

@@ -1,6 +1,6 @@
 -- What is kept of an object by the numbers of its nodes stays after writes, which change no path.
 use Rattle.std.proofs.Common.{◌≡◌, ℕ, Bool, true, false, cond, List, [], ◌∷◌, ◌++◌, Option, Some, None, refl, sym, ap, subst, ◌∙◌, arith}
-use Rattle.std.specs.Prelude.{option_and_then, option_map}
+use Rattle.std.specs.Prelude.{codes, option_and_then, option_map}
 use Rattle.std.specs.List.{AllByRecursion}
 use Rattle.std.specs.Str.{bytes_eq}
 use Rattle.dt_model.specs.Applied.{Write}
@@ -11,18 +11,20 @@ use Rattle.dt_model.specs.Tree.{Property, Reading, root_of, value_of}
 use Rattle.dt_model.specs.Valid.{IsValid}
 use Rattle.dt_laws.proofs.KeptNames.{good_below}
 use Rattle.dt_model.proofs.Tests.{bytes_eq_true}
-use Rattle.dt_flat.specs.Arena.{Arena, Slot, IsRooted, named_children, child_of, properties, node_from, reading}
+use Rattle.dt_flat.specs.Arena.{Arena, Slot, IsRooted, named_children, child_of, properties, node_from, reading, with_property}
 use Rattle.dt_flat.proofs.ByPath.{has, reading_at}
 use Rattle.dt_flat.proofs.Descent.{path-within}
+use Rattle.dt_flat.proofs.Rooting.{IsRooted-property}
 use Rattle.dt_landing.specs.Objects.{HasCell}
 use Rattle.dt_parts.specs.Plans.{IsFragmentOf, AreFragmentsOf, IsWriteOf, AreWritesOf, AreBrought, IsSymbolOf, AreSymbolsOf}
-use Rattle.dt_sites.specs.Writing.{IsWritable, AreWritable}
+use Rattle.dt_sites.specs.Writing.{IsWritable, AreWritable, with_write, with_writes}
 use Rattle.dt_parts.specs.declared.kept.Fragment.{Fragment}
 use Rattle.dt_parts.specs.declared.brought.Brought.{Brought}
 use Rattle.dt_parts.specs.declared.kept.Symbol.{Symbol}
 use Rattle.dt_parts.specs.declared.kept.Write.{Write as KeptWrite}
 use Rattle.dt_targets.proofs.Reached.{value-led}
-use Rattle.dt_sites.proofs.WritesKept.{HaveOneShape}
+use Rattle.dt_sites.proofs.WritesKept.{HaveOneShape, patched}
+use Rattle.dt_sites.proofs.WritesPaths.{EachHasPath}
 
 module _ (slots new : List Slot) (keeps : HaveOneShape slots new) where
   -- a path leads to the node to which it led
@@ -70,6 +72,21 @@ module _ (slots new : List Slot) (keeps : HaveOneShape slots new) where
     fragments = λ p k i e. h.fragments p k i (sym (leads_kept p 0) ∙ e);
     numbered = λ p k e. h.numbered p k (sym (leads_kept p 0) ∙ e);
   }
+
+-- a path leads to each node that it led to
+pub paths_kept : (slots new : List Slot) → HaveOneShape slots new → EachHasPath slots → EachHasPath new
+paths_kept slots new keeps paths i lt =
+    let w = paths i (omega (arith, lt, keeps.count)) in
+    (w.0, leads_kept slots new keeps w.0 0 ∙ w.1)
+
+-- and the nodes still have one root
+pub rooted_kept : (ws : List KeptWrite) (slots : List Slot) → IsRooted slots → IsRooted (with_writes ws slots)
+rooted_kept [] slots rooted = rooted
+rooted_kept (w ∷ ws) slots rooted = rooted_kept ws (with_write w slots) (by (bytes_eq w.property.items (codes "phandle")))
+  where
+    by : (b : Bool) → IsRooted (cond b slots (with_property slots w.node w.property.items (patched slots w)))
+    by true = rooted
+    by false = IsRooted-property slots w.node w.property.items (patched slots w) rooted
 
 -- ---- one list of writes behind another
 

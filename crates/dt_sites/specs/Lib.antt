@@ -2,5 +2,6 @@
 pub mod Marks
 pub mod Turns
 pub mod Writing
+pub mod Values
 pub mod Landed
 pub mod SymbolLanding

@@ -14,13 +14,12 @@ use Rattle.dt_landing.specs.Landings.{target_in, MayAllLand, AreSited}
 use Rattle.dt_parts.specs.declared.kept.Fragment.{Fragment}
 use Rattle.dt_sites.specs.declared.marks.TargetMark.{TargetMark}
 use Rattle.dt_parts.specs.declared.brought.Brought.{Brought}
-use Rattle.dt_targets.specs.declared.places.Places.{Places}
-use Rattle.dt_targets.specs.Known.{IsKnown, landed_paths}
+use Rattle.dt_targets.specs.Known.{Known, IsKnown, landed_paths}
 use Rattle.dt_sites.specs.Marks.{AreMarked}
 use Rattle.dt_parts.specs.Plans.{AreBrought, IsFragmentOf}
 
 -- these fragments of the object have sites, and what is known is what they bring
-pub record IsTurn (base : Reading) (fixups : List (Name × Cell)) (tree : Arena) (b : Brought) (marks : List TargetMark) (paths : List Path) (a : Places) (w : Walked) (done later : List Name) : Type 0 where
+pub record IsTurn (base : Reading) (fixups : List (Name × Cell)) (tree : Arena) (b : Brought) (marks : List TargetMark) (paths : List Path) (a : Known) (w : Walked) (done later : List Name) : Type 0 where
   pub brought : AreBrought tree.slots (fragment_names (reading tree).children) [] b
   pub marked : AreMarked base fixups tree marks
   pub names : fragment_names (reading tree).children ≡ done ++ later
@@ -30,7 +29,7 @@ pub record IsTurn (base : Reading) (fixups : List (Name × Cell)) (tree : Arena)
   pub known : IsKnown base w.given (landed_paths (reading tree) w.sites) a
 
 -- the fragment x is the next one, and has the name f
-pub record IsTurnOf (base : Reading) (fixups : List (Name × Cell)) (tree : Arena) (b : Brought) (marks : List TargetMark) (paths : List Path) (a : Places) (w : Walked) (done : List Name) (x : Fragment) (f : Name) (later : List Name) : Type 0 where
+pub record IsTurnOf (base : Reading) (fixups : List (Name × Cell)) (tree : Arena) (b : Brought) (marks : List TargetMark) (paths : List Path) (a : Known) (w : Walked) (done : List Name) (x : Fragment) (f : Name) (later : List Name) : Type 0 where
   pub turn : IsTurn base fixups tree b marks paths a w done (f ∷ later)
   pub fragment : IsFragmentOf tree.slots (reading tree) x f
 
@@ -45,13 +44,13 @@ pub record AreLandings (object : Reading) (sites : List Site) : Type 0 where
   pub complete : (p q : Path) → stands_in object p ≡ true → landing sites p ≡ Some q → IsIn q (landed_paths object sites)
 
 -- the fragment lands on this path, and what is known then is what it brings besides
-pub record IsSitedOn (base : Reading) (fixups : List (Name × Cell)) (object : Reading) (w : Walked) (f : Name) (q : Path) (a : Places) : Type 0 where
+pub record IsSitedOn (base : Reading) (fixups : List (Name × Cell)) (object : Reading) (w : Walked) (f : Name) (q : Path) (a : Known) : Type 0 where
   pub named : target_in base object fixups w f ≡ Some q
   pub may : MayAllLand (landings object (site f q))
   pub known : IsKnown base (landed_on base object w f q).given (landed_paths object (landed_on base object w f q).sites) a
 
 -- all fragments have sites, and what is known is what they bring
-pub record IsLooked (base : Reading) (fixups : List (Name × Cell)) (object : Reading) (end : Walked) (paths : List Path) (a : Places) : Type 0 where
+pub record IsLooked (base : Reading) (fixups : List (Name × Cell)) (object : Reading) (end : Walked) (paths : List Path) (a : Known) : Type 0 where
   pub sited : AreSited base object fixups nothing_walked (fragment_names object.children) end
   pub sites : paths ≡ map (λ (x : Site). x.at) end.sites
   pub known : IsKnown base end.given (landed_paths object end.sites) a

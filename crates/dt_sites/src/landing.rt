@@ -9,56 +9,62 @@ ghost use Rattle.dt_model.specs.Changes.{with_child_at, with_property_at};
 ghost use Rattle.dt_names.specs.declared.fault.FaultKind.TheVariants.{NoMemory, Limit};
 ghost use Rattle.dt_landing.specs.Steps.{land_properties, land_node, MayLandProperties, MayLandNode, MaySetValue, FullAtProperties, FullAtNode};
 ghost use Rattle.dt_landing.specs.Writing.{landed_property};
+ghost use Rattle.dt_sites.specs.Values.{with_kept, with_values};
 ghost use Rattle.dt_sites.specs.Landed.{landed_at, land_each, MayLandEach, FullAtEach};
 ghost use Rattle.dt_targets.specs.Targets.{HasNoRoom, IsWant};
 
+use crate::values::Values;
 use dt_flat::{FlatTree, NodeId, Props};
 use dt_names::{Fault, NodeName, Path, PropName};
 use dt_parts::Fragment;
 use dt_targets::{Target, child_path};
 use std::alloc::Global;
 
-// Sets a property of the node that lands: a `phandle` to its new number.
+// Sets a property of the node that lands: a `phandle` to its new number, another one to the value that is kept of it, or to its own.
 fn land_property<T: Target>(
     target: &mut T,
     path: &Path,
+    node: NodeId,
     name: &[u8],
     value: &[u8],
     number: Option<u32>,
+    values: &Values<'_>,
 ) -> Result<(), Fault>
     requires stands { stands_in (T.reading target.old) path.now ≡ true }
     requires named { IsPropertyName name.now }
     requires may { MaySetValue path.now name.now
-        (landed_property number (record { name = name.now; value = value.now })).value (T.reading target.old) }
+        (landed_property number (with_kept values.now node (record { name = name.now; value = value.now }))).value (T.reading target.old) }
     ensures set { OnOk result (T.reading target.new ≡ with_property_at path.now name.now
-        (landed_property number (record { name = name.now; value = value.now })).value (T.reading target.old)) }
+        (landed_property number (with_kept values.now node (record { name = name.now; value = value.now }))).value (T.reading target.old)) }
     ensures refused { IfErr result (IsWant (HasNoRoom T.reading T.has_room (T.reading target.old) (with_property_at path.now name.now
-        (landed_property number (record { name = name.now; value = value.now })).value (T.reading target.old)))) }
+        (landed_property number (with_kept values.now node (record { name = name.now; value = value.now }))).value (T.reading target.old)))) }
 {
     let property = PropName::new(name)?;
     if name == b"phandle".as_slice() {
         return target.set_prop(path, &property, &number.unwrap_or(0).to_be_bytes());
     }
-    target.set_prop(path, &property, value)
+    target.set_prop(path, &property, values.get(node, name).unwrap_or(value))
 }
 
 // Sets the properties of the node that lands.
 fn set_properties<T: Target>(
     target: &mut T,
     path: &Path,
+    node: NodeId,
     props: Props<'_>,
     number: Option<u32>,
+    values: &Values<'_>,
 ) -> Result<(), Fault>
     requires stands { stands_in (T.reading target.old) path.now ≡ true }
     requires named { AllByRecursion (λ p. IsPropertyName p.name) props }
-    requires may { MayLandProperties path.now (map (landed_property number) props) (T.reading target.old) }
+    requires may { MayLandProperties path.now (map (landed_property number) (map (with_kept values.now node) props)) (T.reading target.old) }
     ensures landed { OnOk result
-        (T.reading target.new ≡ land_properties path.now (map (landed_property number) props.entry) (T.reading target.old)) }
-    ensures refused { IfErr result (IsWant (FullAtProperties (HasNoRoom T.reading T.has_room) path.now (map (landed_property number) props.entry)
+        (T.reading target.new ≡ land_properties path.now (map (landed_property number) (map (with_kept values.now node) props.entry)) (T.reading target.old)) }
+    ensures refused { IfErr result (IsWant (FullAtProperties (HasNoRoom T.reading T.has_room) path.now (map (landed_property number) (map (with_kept values.now node) props.entry))
         (T.reading target.old))) }
 {
     for (name, value) in props {
-        land_property(target, path, name, value, number)?;
+        land_property(target, path, node, name, value, number, values)?;
     }
     Ok(())
 }
@@ -91,29 +97,37 @@ fn land<T: Target>(
     target: &mut T,
     object: &FlatTree,
     numbers: &[Option<u32>],
+    values: &Values<'_>,
     node: NodeId,
     path: &Path,
 ) -> Result<(), Fault>
     requires node { node < length object.now.slots }
     requires numbers { length numbers.now ≡ length object.now.slots }
     requires stands { stands_in (T.reading target.old) path.now ≡ true }
-    requires may { MayLandNode path.now (landed_at numbers.now object.now.slots node) (T.reading target.old) }
+    requires may { MayLandNode path.now (landed_at numbers.now (with_values values.now 0 object.now.slots) node) (T.reading target.old) }
     ensures landed { OnOk result
-        (T.reading target.new ≡ land_node path.now (landed_at numbers.now object.now.slots node) (T.reading target.old)) }
+        (T.reading target.new ≡ land_node path.now (landed_at numbers.now (with_values values.now 0 object.now.slots) node) (T.reading target.old)) }
     ensures refused { IfErr result (IsWant (FullAtNode (HasNoRoom T.reading T.has_room) path.now
-        (landed_at numbers.now object.now.slots node) (T.reading target.old))) }
+        (landed_at numbers.now (with_values values.now 0 object.now.slots) node) (T.reading target.old))) }
 {
     object.validity();
-    set_properties(target, path, object.props(node), numbers[node])?;
+    set_properties(
+        target,
+        path,
+        node,
+        object.props(node),
+        numbers[node],
+        values,
+    )?;
     for child in object.children(node) {
         let path = add_child(alloc, target, path, object.name(child))?;
-        land(alloc, target, object, numbers, child, &path)?;
+        land(alloc, target, object, numbers, values, child, &path)?;
     }
     Ok(())
 }
 
-/// Lands what the fragments bring, each on its site, one after another (dtc's notes on overlay objects): a node's properties, each in
-/// the place of the one that is there, then its children, which are added where they aren't there.
+/// Lands what the fragments bring, each on its site, one after another (dtc's notes on overlay objects): a node's properties, each with the
+/// value that is kept of it, in the place of the one that is there, then its children, which are added where they aren't there.
 ///
 /// # Errors
 ///
@@ -123,19 +137,28 @@ pub fn land_all<T: Target>(
     target: &mut T,
     object: &FlatTree,
     numbers: &[Option<u32>],
+    values: &Values<'_>,
     fragments: &[Fragment],
     sites: &[Path],
 ) -> Result<(), Fault>
     requires nodes { AllByRecursion (λ x. x.content < length object.now.slots) fragments.now }
     requires numbers { length numbers.now ≡ length object.now.slots }
-    requires may { MayLandEach numbers.now object.now.slots (map (λ x. x.content) fragments.now) sites.now (T.reading target.old) }
+    requires may { MayLandEach numbers.now (with_values values.now 0 object.now.slots) (map (λ x. x.content) fragments.now) sites.now (T.reading target.old) }
     ensures landed { OnOk result (T.reading target.new
-        ≡ land_each numbers.now object.now.slots (map (λ x. x.content) fragments.now) sites.now (T.reading target.old)) }
-    ensures refused { IfErr result (IsWant (FullAtEach (HasNoRoom T.reading T.has_room) numbers.now object.now.slots
+        ≡ land_each numbers.now (with_values values.now 0 object.now.slots) (map (λ x. x.content) fragments.now) sites.now (T.reading target.old)) }
+    ensures refused { IfErr result (IsWant (FullAtEach (HasNoRoom T.reading T.has_room) numbers.now (with_values values.now 0 object.now.slots)
         (map (λ x. x.content) fragments.now) sites.now (T.reading target.old))) }
 {
     for (fragment, site) in fragments.iter().zip(sites) {
-        land(alloc, target, object, numbers, fragment.content, site)?;
+        land(
+            alloc,
+            target,
+            object,
+            numbers,
+            values,
+            fragment.content,
+            site,
+        )?;
     }
     Ok(())
 }

@@ -3,7 +3,7 @@
 //!
 //! ```text
 //! find_sites(alloc, &tree, &object, &brought, &marks, &fragments, &mut places, &mut sites)?; // of `/plugin/; &{/} { d { }; };`: the root
-//! land_all(alloc, &mut tree, &object, &brought.numbers, &fragments, &sites)?;                // /d stands
+//! land_all(alloc, &mut tree, &object, &brought.numbers, &Values::new(alloc, seed), &fragments, &sites)?; // /d stands
 //! ```
 //!
 //! That object lands in a case of applied.cases (docs/CASES.md).
@@ -14,11 +14,11 @@ mod marks;
 mod numbers;
 mod sites;
 mod symbol_landing;
-mod writes;
+mod values;
 
 pub use landing::land_all;
 pub use marks::{TargetMark, target_marks};
 pub use numbers::{number_all, renumber};
 pub use sites::find_sites;
 pub use symbol_landing::set_symbols;
-pub use writes::write_cells;
+pub use values::Values;

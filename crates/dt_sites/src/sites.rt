@@ -25,7 +25,7 @@ use crate::marks::TargetMark;
 use dt_flat::FlatTree;
 use dt_names::{Fault, FaultKind, NodeId, Path};
 use dt_parts::{Brought, Fragment, FragmentTarget};
-use dt_targets::{Places, Target, has_landed, is_bookkeeping, join, land_content, place_given};
+use dt_targets::{Places, Target, is_bookkeeping, join, land_content};
 use dt_texts::symbol_path;
 use std::alloc::Global;
 
@@ -104,7 +104,7 @@ fn numbered<T: Target>(
     if let Some(path) = target.by_phandle(alloc, number)? {
         return Ok(Some(path));
     }
-    match place_given(places, number) {
+    match places.place(number) {
         Some(place) => {
             let path = place.copy(alloc)?;
             Ok(Some(path))
@@ -115,13 +115,13 @@ fn numbered<T: Target>(
 
 // Does the path stand in the tree so far?
 fn stands<T: Target>(alloc: Global, target: &T, places: &Places, path: &Path) -> Result<bool, Fault>
-    ensures value { IfOk result (λ stands. stands ≡ (stands_in (T.reading target.now) path.now || is_some (kept_at places.now.numbers.entries path.now))) }
+    ensures value { IfOk result (λ stands. stands ≡ (stands_in (T.reading target.now) path.now || is_some (kept_at places.now.landed path.now))) }
     ensures refused { IfErr result (λ fault. (fault.at ≡ None) × (fault.kind ≡ NoMemory)) }
 {
     if target.find(path) {
         return Ok(true);
     }
-    let landed = has_landed(alloc, places, path)?;
+    let landed = places.has_landed(alloc, path)?;
     Ok(landed)
 }
 

@@ -10,8 +10,7 @@ use Rattle.dt_flat.specs.Arena.{Slot, name_of, properties, children, children_am
 use Rattle.dt_joining.specs.Walk.{number_there, with_place, with_places, has_phandle, least_free}
 use Rattle.dt_landing.specs.Landings.{MayAllLand, IsStuck}
 use Rattle.dt_model.specs.Numbers.{numbers_of}
-use Rattle.dt_targets.specs.declared.places.Places.{Places}
-use Rattle.dt_targets.specs.Known.{IsKnown, HasRoom, placed, trees_of}
+use Rattle.dt_targets.specs.Known.{Known, IsKnown, HasRoom, placed, trees_of}
 
 -- ---- the trees below a node are those of its children
 
@@ -81,7 +80,7 @@ places_add base (n ∷ nodes) given = step (has_phandle n) (λ g. places_add bas
     step false more = more given
 
 -- for the first of some nodes
-pub room_first : (base : Reading) (xs ys : List Placed) (a : Places) → HasRoom base (xs ++ ys) a → HasRoom base xs a
+pub room_first : (base : Reading) (xs ys : List Placed) (a : Known) → HasRoom base (xs ++ ys) a → HasRoom base xs a
 room_first base xs ys a h = record {
   given = h.given;
   landed = h.landed;
@@ -94,7 +93,7 @@ room_first base xs ys a h = record {
 }
 
 -- and for those behind them, once they have landed
-pub room_behind : (base : Reading) (xs ys : List Placed) (a b : Places) → HasRoom base (xs ++ ys) a
+pub room_behind : (base : Reading) (xs ys : List Placed) (a b : Known) → HasRoom base (xs ++ ys) a
     → ((given : List (Path × ℕ)) (landed : List Path) → IsKnown base given landed a → IsKnown base (with_places base xs given) (landed ++ map (λ (n : Placed). n.path) xs) b) → HasRoom base ys b
 room_behind base xs ys a b h f = record {
   given = with_places base xs h.given;
@@ -106,14 +105,14 @@ room_behind base xs ys a b h f = record {
 -- ---- one after another
 
 -- nodes have landed, and these are left
-pub record AreLeft (base : Reading) (all left : List Placed) (a b : Places) : Type 0 where
+pub record AreLeft (base : Reading) (all left : List Placed) (a b : Known) : Type 0 where
   pub known : (given : List (Path × ℕ)) (landed : List Path) → IsKnown base given landed a
       → (done : List Placed) × (all ≡ done ++ left) × IsKnown base (with_places base done given) (landed ++ map (λ (n : Placed). n.path) done) b
   pub room : HasRoom base left b
   pub may : MayAllLand left → MayAllLand all
   pub stuck : (kind : FaultKind) → IsStuck kind left → IsStuck kind all
 
-pub left_begun : (base : Reading) (all left : List Placed) (a : Places) → left ≡ all → HasRoom base all a → AreLeft base all left a a
+pub left_begun : (base : Reading) (all left : List Placed) (a : Known) → left ≡ all → HasRoom base all a → AreLeft base all left a a
 left_begun base all left a e room = record {
   known = λ given landed k. ([], sym e, subst (λ (ps : List Path). IsKnown base given ps a) (sym (append-nil landed)) k);
   room = subst (λ (ns : List Placed). HasRoom base ns a) (sym e) room;
@@ -122,7 +121,7 @@ left_begun base all left a e room = record {
 }
 
 -- what lands first lands behind what did
-landed_more : (base : Reading) (first rest : List Placed) (given : List (Path × ℕ)) (landed : List Path) (done : List Placed) (b : Places)
+landed_more : (base : Reading) (first rest : List Placed) (given : List (Path × ℕ)) (landed : List Path) (done : List Placed) (b : Known)
     → IsKnown base (with_places base first (with_places base done given)) ((landed ++ map (λ (n : Placed). n.path) done) ++ map (λ (n : Placed). n.path) first) b
     → IsKnown base (with_places base (done ++ first) given) (landed ++ map (λ (n : Placed). n.path) (done ++ first)) b
 landed_more base first rest given landed done b h =
@@ -131,7 +130,7 @@ landed_more base first rest given landed done b h =
     (subst (λ (ps : List Path). IsKnown base (with_places base first (with_places base done given)) ps b)
     (append_assoc landed (paths done) (paths first) ∙ ap (λ (ps : List Path). landed ++ ps) (sym (map-append (λ (n : Placed). n.path) done first))) h)
 
-pub left_on : (base : Reading) (all left first rest : List Placed) (a b c : Places) → left ≡ first ++ rest → AreLeft base all left a b
+pub left_on : (base : Reading) (all left first rest : List Placed) (a b c : Known) → left ≡ first ++ rest → AreLeft base all left a b
     → ((given : List (Path × ℕ)) (landed : List Path) → IsKnown base given landed b → IsKnown base (with_places base first given) (landed ++ map (λ (n : Placed). n.path) first) c) → MayAllLand first
     → AreLeft base all rest a c
 left_on base all left first rest a b c e w f may = record {
@@ -146,10 +145,10 @@ left_on base all left first rest a b c e w f may = record {
   stuck = λ kind h. w.stuck kind (subst (IsStuck kind) (sym e) (stuck_behind kind first rest may h));
 }
 
-pub left_failed : (base : Reading) (all left first rest : List Placed) (a b : Places) (kind : FaultKind) → left ≡ first ++ rest → AreLeft base all left a b → IsStuck kind first → IsStuck kind all
+pub left_failed : (base : Reading) (all left first rest : List Placed) (a b : Known) (kind : FaultKind) → left ≡ first ++ rest → AreLeft base all left a b → IsStuck kind first → IsStuck kind all
 left_failed base all left first rest a b kind e w h = w.stuck kind (subst (IsStuck kind) (sym e) (stuck_first kind first rest h))
 
-pub left_ended : (base : Reading) (all left : List Placed) (a b : Places) (given : List (Path × ℕ)) (landed : List Path) → left ≡ [] → AreLeft base all left a b → IsKnown base given landed a
+pub left_ended : (base : Reading) (all left : List Placed) (a b : Known) (given : List (Path × ℕ)) (landed : List Path) → left ≡ [] → AreLeft base all left a b → IsKnown base given landed a
     → IsKnown base (with_places base all given) (landed ++ map (λ (n : Placed). n.path) all) b
 left_ended base all left a b given landed e w known =
     let before = w.known given landed known in

@@ -20,8 +20,7 @@ use Rattle.dt_joining.proofs.Least.{least_is_free}
 use Rattle.dt_joining.proofs.Places.{none_there, numbers}
 use Rattle.dt_landing.proofs.PlainSymbols.{phandle_there}
 use Rattle.std.specs.List.{AllByRecursion}
-use Rattle.dt_targets.specs.declared.places.Places.{Places}
-use Rattle.dt_targets.specs.Known.{IsKnown, HasRoom}
+use Rattle.dt_targets.specs.Known.{Known, IsKnown, HasRoom}
 use Rattle.dt_targets.specs.Known.{IsNext}
 use Rattle.dt_targets.proofs.PlacesKept.{next_is_least}
 
@@ -55,7 +54,7 @@ number_read base given q v (Some n) valid there valued number = ap (λ (m : ℕ)
 -- ---- the next number
 
 -- the last number is small
-pub last_low : (base : Reading) (a : Places) → IsWithinLimits base → HasRoom base [] a → a.last ≤ 2 * most_nodes
+pub last_low : (base : Reading) (a : Known) → IsWithinLimits base → HasRoom base [] a → a.last ≤ 2 * most_nodes
 last_low base a within h =
     let known : IsKnown base h.given h.landed a = h.known in
     let le = few_below (numbers h.given ++ numbers_of base) (a.last + 1) (λ k one less. known.low k one (omega (arith, less))) in
@@ -65,7 +64,7 @@ last_low base a within h =
     omega (arith, le, whole, same, few, few_taken base within)
 
 -- the place gets the least number
-pub place_given_next : (base : Reading) (given : List (Path × ℕ)) (landed : List Path) (a : Places) (known : IsKnown base given landed a) (q : Path) → AllByRecursion IsNodeName q → IsIn q landed
+pub place_given_next : (base : Reading) (given : List (Path × ℕ)) (landed : List Path) (a : Known) (known : IsKnown base given landed a) (q : Path) → AllByRecursion IsNodeName q → IsIn q landed
     → (n : ℕ) → is_some (number_there base given q) ≡ false → IsNext (numbers_of base) a.last n → with_place base q given ≡ given ++ (q, n) ∷ []
 place_given_next base given landed a known q named there n none next =
     let bare = none_there_at base given q none in

@@ -10,7 +10,6 @@ use Rattle.std.specs.Str.{bytes_eq}
 use Rattle.std.proofs.lemmas.Bool.{cases_lt, eqb-true}
 use Rattle.std.proofs.lemmas.Bool.Decides.{Decides-eqb}
 use Rattle.std.proofs.lemmas.List.Folds.{list_any-append}
-use Rattle.indexmap.specs.IndexMap.{get}
 use Rattle.dt_model.specs.Lists.{IsIn}
 use Rattle.dt_model.specs.Names.{IsNodeName}
 use Rattle.dt_model.specs.Numbers.{numbers_of, number_in, IsLeastFree}
@@ -20,8 +19,7 @@ use Rattle.dt_model.proofs.Tests.{bytes_eq_refl, bytes_eq_true, path_eq_refl, pa
 use Rattle.dt_model.proofs.Texts.{one_value}
 use Rattle.dt_joining.specs.Walk.{place_given}
 use Rattle.dt_joining.proofs.Places.{numbers, number_in-last, in_last}
-use Rattle.dt_targets.specs.declared.places.Places.{Places}
-use Rattle.dt_targets.specs.Known.{kept_at, IsKnown}
+use Rattle.dt_targets.specs.Known.{Known, kept_at, place_of_number, IsKnown}
 use Rattle.dt_targets.specs.Known.{IsNext}
 
 -- ---- one entry changes
@@ -63,15 +61,15 @@ kept_after m n k w p q named_p named_q text u =
 
 -- ---- a node lands
 
-module _ (base : Reading) (given : List (Path × ℕ)) (landed : List Path) (a : Places) (known : IsKnown base given landed a) (p : Path) (named : AllByRecursion IsNodeName p) where
+module _ (base : Reading) (given : List (Path × ℕ)) (landed : List Path) (a : Known) (known : IsKnown base given landed a) (p : Path) (named : AllByRecursion IsNodeName p) where
   -- where something landed before
-  pub entered_there : is_some (kept_at a.numbers.entries p) ≡ true → IsKnown base given (landed ++ p ∷ []) a
+  pub entered_there : is_some (kept_at a.landed p) ≡ true → IsKnown base given (landed ++ p ∷ []) a
   entered_there there = record {
     places = λ q named_q. (
       (λ e. in_left q landed (p ∷ []) ((known.places q named_q).0 e)),
       (λ i. elim (in_last q p landed i) [
         | inl j ↦ (known.places q named_q).1 j
-        | inr same ↦ ap (λ r. is_some (kept_at a.numbers.entries r)) same ∙ there
+        | inr same ↦ ap (λ r. is_some (kept_at a.landed r)) same ∙ there
       ]),
     );
     numbers = known.numbers;
@@ -81,20 +79,20 @@ module _ (base : Reading) (given : List (Path × ℕ)) (landed : List Path) (a :
   }
 
   -- and where nothing did
-  pub entered : (b : Places) → is_some (kept_at a.numbers.entries p) ≡ false → ((q : Path) → AllByRecursion IsNodeName q → kept_at b.numbers.entries q ≡ (if path_eq p q then Some None else kept_at a.numbers.entries q))
-      → b.paths ≡ a.paths → b.last ≡ a.last → IsKnown base given (landed ++ p ∷ []) b
+  pub entered : (b : Known) → is_some (kept_at a.landed p) ≡ false → ((q : Path) → AllByRecursion IsNodeName q → kept_at b.landed q ≡ (if path_eq p q then Some None else kept_at a.landed q))
+      → ((m : ℕ) → place_of_number b m ≡ place_of_number a m) → b.last ≡ a.last → IsKnown base given (landed ++ p ∷ []) b
   entered b nothing after same_paths same_last = record {
     places = λ q named_q. place q named_q (path_eq p q) refl;
     numbers = λ q named_q. number q named_q (path_eq p q) refl;
-    paths = λ n. ap (λ ps. get nat_eq ps n) same_paths ∙ known.paths n;
+    paths = λ n. same_paths n ∙ known.paths n;
     low = λ n one le. known.low n one (omega (arith, le, same_last));
     high = λ n i. let le = known.high n i in omega (arith, le, same_last);
   }
     where
-      here : (q : Path) → AllByRecursion IsNodeName q → (t : Bool) → path_eq p q ≡ t → kept_at b.numbers.entries q ≡ (if t then Some None else kept_at a.numbers.entries q)
-      here q named_q t e = after q named_q ∙ ap (λ (c : Bool). if c then Some None else kept_at a.numbers.entries q) e
+      here : (q : Path) → AllByRecursion IsNodeName q → (t : Bool) → path_eq p q ≡ t → kept_at b.landed q ≡ (if t then Some None else kept_at a.landed q)
+      here q named_q t e = after q named_q ∙ ap (λ (c : Bool). if c then Some None else kept_at a.landed q) e
 
-      place : (q : Path) → AllByRecursion IsNodeName q → (t : Bool) → path_eq p q ≡ t → (is_some (kept_at b.numbers.entries q) ≡ true → IsIn q (landed ++ p ∷ [])) × (IsIn q (landed ++ p ∷ []) → is_some (kept_at b.numbers.entries q) ≡ true)
+      place : (q : Path) → AllByRecursion IsNodeName q → (t : Bool) → path_eq p q ≡ t → (is_some (kept_at b.landed q) ≡ true → IsIn q (landed ++ p ∷ [])) × (IsIn q (landed ++ p ∷ []) → is_some (kept_at b.landed q) ≡ true)
       place q named_q true e = (
         (λ k. in_right q landed (p ∷ []) (inl (sym (path_eq_true p q e)))),
         (λ i. ap is_some (here q named_q true e)),
@@ -107,11 +105,11 @@ module _ (base : Reading) (given : List (Path × ℕ)) (landed : List Path) (a :
         ]),
       )
 
-      number : (q : Path) → AllByRecursion IsNodeName q → (t : Bool) → path_eq p q ≡ t → option_and_then (λ n. n) (kept_at b.numbers.entries q) ≡ number_in given q
+      number : (q : Path) → AllByRecursion IsNodeName q → (t : Bool) → path_eq p q ≡ t → option_and_then (λ n. n) (kept_at b.landed q) ≡ number_in given q
       number q named_q false e = ap (option_and_then (λ n. n)) (here q named_q false e) ∙ known.numbers q named_q
       number q named_q true e =
           let same : p ≡ q = path_eq_true p q e in
-          ap (option_and_then (λ n. n)) (here q named_q true e) ∙ none (kept_at a.numbers.entries p) nothing ∙ known.numbers p named ∙ ap (number_in given) same
+          ap (option_and_then (λ n. n)) (here q named_q true e) ∙ none (kept_at a.landed p) nothing ∙ known.numbers p named ∙ ap (number_in given) same
         where
           none : (o : Option (Option ℕ)) → is_some o ≡ false → None ≡ option_and_then (λ n. n) o
           none None k = refl
@@ -141,7 +139,7 @@ numbers_last : (given : List (Path × ℕ)) (p : Path) (n : ℕ) → numbers (gi
 numbers_last [] p n = refl
 numbers_last (x ∷ given) p n = ap (λ ns. x.1 ∷ ns) (numbers_last given p n)
 
-module _ (base : Reading) (given : List (Path × ℕ)) (landed : List Path) (a : Places) (known : IsKnown base given landed a) (p : Path) (named : AllByRecursion IsNodeName p) (n : ℕ)
+module _ (base : Reading) (given : List (Path × ℕ)) (landed : List Path) (a : Known) (known : IsKnown base given landed a) (p : Path) (named : AllByRecursion IsNodeName p) (n : ℕ)
     (there : IsIn p landed) (bare : number_in given p ≡ None) (next : IsNext (numbers_of base) a.last n) where
   abbrev taken : List ℕ
   taken = numbers given ++ numbers_of base
@@ -168,8 +166,8 @@ module _ (base : Reading) (given : List (Path × ℕ)) (landed : List Path) (a :
           let le = known.high w.0 w.1 in
           absurd (omega (arith, same, le, next.above))
 
-  pub given_more : (b : Places) → ((q : Path) → AllByRecursion IsNodeName q → kept_at b.numbers.entries q ≡ (if path_eq p q then Some (Some n) else kept_at a.numbers.entries q))
-      → ((m : ℕ) → get nat_eq b.paths m ≡ (if nat_eq n m then Some p else get nat_eq a.paths m)) → b.last ≡ n → IsKnown base (given ++ (p, n) ∷ []) landed b
+  pub given_more : (b : Known) → ((q : Path) → AllByRecursion IsNodeName q → kept_at b.landed q ≡ (if path_eq p q then Some (Some n) else kept_at a.landed q))
+      → ((m : ℕ) → place_of_number b m ≡ (if nat_eq n m then Some p else place_of_number a m)) → b.last ≡ n → IsKnown base (given ++ (p, n) ∷ []) landed b
   given_more b after paths last = record {
     places = λ q named_q. place q named_q (path_eq p q) refl;
     numbers = λ q named_q. number q named_q (path_eq p q) refl ∙ sym (number_in-last given p q n);
@@ -178,10 +176,10 @@ module _ (base : Reading) (given : List (Path × ℕ)) (landed : List Path) (a :
     high = λ m i. high m (subst (IsIn m) (numbers_last given p n) i);
   }
     where
-      here : (q : Path) → AllByRecursion IsNodeName q → (t : Bool) → path_eq p q ≡ t → kept_at b.numbers.entries q ≡ (if t then Some (Some n) else kept_at a.numbers.entries q)
-      here q named_q t e = after q named_q ∙ ap (λ (c : Bool). if c then Some (Some n) else kept_at a.numbers.entries q) e
+      here : (q : Path) → AllByRecursion IsNodeName q → (t : Bool) → path_eq p q ≡ t → kept_at b.landed q ≡ (if t then Some (Some n) else kept_at a.landed q)
+      here q named_q t e = after q named_q ∙ ap (λ (c : Bool). if c then Some (Some n) else kept_at a.landed q) e
 
-      place : (q : Path) → AllByRecursion IsNodeName q → (t : Bool) → path_eq p q ≡ t → (is_some (kept_at b.numbers.entries q) ≡ true → IsIn q landed) × (IsIn q landed → is_some (kept_at b.numbers.entries q) ≡ true)
+      place : (q : Path) → AllByRecursion IsNodeName q → (t : Bool) → path_eq p q ≡ t → (is_some (kept_at b.landed q) ≡ true → IsIn q landed) × (IsIn q landed → is_some (kept_at b.landed q) ≡ true)
       place q named_q true e = (
         (λ k. subst (λ r. IsIn r landed) (path_eq_true p q e) there),
         (λ i. ap is_some (here q named_q true e)),
@@ -191,7 +189,7 @@ module _ (base : Reading) (given : List (Path × ℕ)) (landed : List Path) (a :
         (λ i. ap is_some (here q named_q false e) ∙ (known.places q named_q).1 i),
       )
 
-      number : (q : Path) → AllByRecursion IsNodeName q → (t : Bool) → path_eq p q ≡ t → option_and_then (λ (m : Option ℕ). m) (kept_at b.numbers.entries q) ≡ option_or (number_in given q) (if path_eq p q then Some n else None)
+      number : (q : Path) → AllByRecursion IsNodeName q → (t : Bool) → path_eq p q ≡ t → option_and_then (λ (m : Option ℕ). m) (kept_at b.landed q) ≡ option_or (number_in given q) (if path_eq p q then Some n else None)
       number q named_q false e =
           ap (option_and_then (λ (m : Option ℕ). m)) (here q named_q false e) ∙ known.numbers q named_q
           ∙ none_behind (number_in given q) ∙ ap (λ (c : Bool). option_or (number_in given q) (if c then Some n else None)) (sym e)
@@ -204,10 +202,10 @@ module _ (base : Reading) (given : List (Path × ℕ)) (landed : List Path) (a :
           ap (option_and_then (λ (m : Option ℕ). m)) (here q named_q true e)
           ∙ ap (λ (o : Option ℕ). option_or o (Some n)) (sym none) ∙ ap (λ (c : Bool). option_or (number_in given q) (if c then Some n else None)) (sym e)
 
-      path : (m : ℕ) (t : Bool) → nat_eq n m ≡ t → get nat_eq b.paths m ≡ option_or (place_given given m) (if nat_eq m n then Some p else None)
+      path : (m : ℕ) (t : Bool) → nat_eq n m ≡ t → place_of_number b m ≡ option_or (place_given given m) (if nat_eq m n then Some p else None)
       path m true t =
           let same : n ≡ m = eqb-true n m t in
-          paths m ∙ ap (λ (c : Bool). if c then Some p else get nat_eq a.paths m) t
+          paths m ∙ ap (λ (c : Bool). if c then Some p else place_of_number a m) t
           ∙ ap (λ (o : Option Path). option_or o (Some p)) (sym (fresh m same))
           ∙ ap (λ (c : Bool). option_or (place_given given m) (if c then Some p else None)) (sym ((Decides-eqb m n).1 (sym same)))
         where
@@ -218,7 +216,7 @@ module _ (base : Reading) (given : List (Path × ℕ)) (landed : List Path) (a :
               step None e = refl
               step (Some q) e = let le = known.high m (given_number given m q e) in absurd (omega (arith, same, le, next.above))
       path m false t =
-          paths m ∙ ap (λ (c : Bool). if c then Some p else get nat_eq a.paths m) t ∙ known.paths m
+          paths m ∙ ap (λ (c : Bool). if c then Some p else place_of_number a m) t ∙ known.paths m
           ∙ none_behind (place_given given m) ∙ ap (λ (c : Bool). option_or (place_given given m) (if c then Some p else None)) (sym (other (nat_eq m n) refl))
         where
           none_behind : (o : Option Path) → o ≡ option_or o None

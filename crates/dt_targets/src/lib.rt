@@ -18,6 +18,6 @@ mod texts;
 
 pub use flat_target::tree_room_is_counted;
 pub use looks::{is_bookkeeping, land_content, number_there};
-pub use places::{Places, has_landed, place_given};
+pub use places::Places;
 pub use target::Target;
 pub use texts::{child_path, join, node_of, put_path};

@@ -17,7 +17,7 @@ ghost use Rattle.dt_targets.specs.Known.{IsKnown, HasRoom, placed, trees_of, con
 ghost use Rattle.dt_targets.specs.Known.{IsNext};
 
 use crate::Target;
-use crate::places::{Places, enter, give, number_given};
+use crate::places::Places;
 use crate::texts::child_path;
 use dt_flat::FlatTree;
 use dt_names::{Fault, FaultKind, NodeId, Path, is_bookkeeping_name, phandle_of};
@@ -63,7 +63,7 @@ pub fn number_there<T: Target>(
     match target.prop(path, b"phandle".as_slice()) {
         Some(value) => Ok(phandle_of(value)),
         None => {
-            let number = number_given(alloc, places, path)?;
+            let number = places.number(alloc, path)?;
             Ok(number)
         }
     }
@@ -86,8 +86,8 @@ fn number_place<T: Target>(
     if number_there(alloc, target, places, path)?.is_some() {
         return Ok(());
     }
-    let number = free_number(alloc, target, places.last)?;
-    give(alloc, places, path, number)?;
+    let number = free_number(alloc, target, places.last())?;
+    places.give(alloc, path, number)?;
     Ok(())
 }
 
@@ -113,7 +113,7 @@ fn land_node<T: Target>(
     if is_bookkeeping(path) {
         return Err(Fault::of(FaultKind::ReservedPlace));
     }
-    enter(alloc, places, path)?;
+    places.enter(alloc, path)?;
     if object.value(node, b"phandle".as_slice()).is_some() {
         number_place(alloc, target, path, places)?;
     }

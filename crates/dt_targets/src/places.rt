@@ -1,31 +1,47 @@
 //! What is known of the places on which an object's nodes land.
 
-ghost use Rattle.std.specs.Prelude.{◌≡◌, ◌++◌, ◌∷◌, [], ℕ, List, None, is_some, option_and_then, nat_eq, OnOk, IfOk};
+ghost use Rattle.std.specs.Prelude.{◌≡◌, ◌++◌, ◌∷◌, [], ℕ, List, None, is_some, OnOk, IfOk};
 ghost use Rattle.std.specs.Option.{option_copied};
 ghost use Rattle.std.specs.List.{AllByRecursion};
-ghost use Rattle.indexmap.specs.IndexMap.{get};
 ghost use Rattle.dt_model.specs.Lists.{IsIn};
 ghost use Rattle.dt_model.specs.Names.{IsNodeName};
 ghost use Rattle.dt_model.specs.Numbers.{numbers_of, number_in};
 ghost use Rattle.dt_model.specs.Path.{path_value};
 ghost use Rattle.dt_model.specs.Path.{Path as Names};
 ghost use Rattle.dt_model.specs.Tree.{Reading};
-ghost use Rattle.dt_targets.specs.Known.{kept_at, IsKnown};
+ghost use Rattle.dt_targets.specs.Known.{IsKnown, kept_at, number_at_place, place_of_number};
 ghost use Rattle.dt_targets.specs.Known.{IsNext};
 
 use crate::texts::put_path;
-use dt_names::{Fault, Path, Seed};
+use dt_names::{Path, Seed};
 use indexmap::IndexMap;
 use std::alloc::{AllocError, Global};
+use std::marker::Model;
 
-/// The places on which nodes have landed so far, each once, by the text of its path, with the number that it got, if it got one.
+/// The places on which nodes have landed so far, each once, with the number that it got, if it got one. It is seen as what is known of each
+/// path, and of each number.
 #[derive(Drop)]
 pub struct Places {
-    pub numbers: IndexMap<Vec<u8>, Option<u32>, Seed>,
-    /// Which place got a number.
-    pub paths: IndexMap<u32, Path, Seed>,
-    /// The last number that a place got, 0 before the first.
-    pub last: u32,
+    // by the text of the place's path
+    numbers: IndexMap<Vec<u8>, Option<u32>, Seed>,
+    paths: IndexMap<u32, Path, Seed>,
+    last: u32,
+}
+
+impl Model for Places {
+    ghost use Rattle.dt_targets.specs.Known.{Known};
+
+    ghost Value = { Known };
+
+    ghost view = { λ a. record { landed = a.numbers.entries; numbered = a.paths.entries; last = a.last } };
+}
+
+fn text_of(alloc: Global, path: &Path) -> Result<Vec<u8>, AllocError>
+    ensures { IfOk result (λ text. text.items ≡ path_value path.now) }
+{
+    let mut text = Vec::new(alloc);
+    put_path(&mut text, path)?;
+    Ok(text)
 }
 
 impl Places {
@@ -39,66 +55,65 @@ impl Places {
             last: 0,
         }
     }
-}
 
-fn text_of(alloc: Global, path: &Path) -> Result<Vec<u8>, AllocError>
-    ensures { IfOk result (λ text. text.items ≡ path_value path.now) }
-{
-    let mut text = Vec::new(alloc);
-    put_path(&mut text, path)?;
-    Ok(text)
-}
-
-/// Has something landed on the path?
-pub fn has_landed(alloc: Global, places: &Places, path: &Path) -> Result<bool, AllocError>
-    ensures { IfOk result (λ landed. landed ≡ is_some (kept_at places.now.numbers.entries path.now)) }
-{
-    let text = text_of(alloc, path)?;
-    Ok(places.numbers.get(text.as_slice()).is_some())
-}
-
-/// The number that the path's place got.
-pub fn number_given(alloc: Global, places: &Places, path: &Path) -> Result<Option<u32>, AllocError>
-    ensures { IfOk result (λ number. number ≡ option_and_then (λ n. n) (kept_at places.now.numbers.entries path.now)) }
-{
-    let text = text_of(alloc, path)?;
-    match places.numbers.get(text.as_slice()) {
-        Some(number) => Ok(*number),
-        None => Ok(None),
+    /// Has something landed on the path?
+    pub fn has_landed(&self, alloc: Global, path: &Path) -> Result<bool, AllocError>
+        ensures { IfOk result (λ landed. landed ≡ is_some (kept_at self.now.landed path.now)) }
+    {
+        let text = text_of(alloc, path)?;
+        Ok(self.numbers.get(text.as_slice()).is_some())
     }
-}
 
-/// The place that got a number.
-pub fn place_given(places: &Places, number: u32) -> Option<&Path>
-    ensures { option_copied result ≡ get nat_eq places.now.paths number }
-{
-    places.paths.get(&number)
-}
-
-/// A node lands on the path.
-pub fn enter(alloc: Global, places: &mut Places, path: &Path) -> Result<(), AllocError>
-    requires { AllByRecursion IsNodeName path.now }
-    ensures { (base : Reading) (given : List (Names × ℕ)) (landed : List Names) → IsKnown base given landed places.old →
-        OnOk result (IsKnown base given (landed ++ path.now ∷ []) places.new) }
-{
-    let text = text_of(alloc, path)?;
-    if places.numbers.get(text.as_slice()).is_none() {
-        places.numbers.insert(text, None)?;
+    /// The number that the path's place got.
+    pub fn number(&self, alloc: Global, path: &Path) -> Result<Option<u32>, AllocError>
+        ensures { IfOk result (λ number. number ≡ number_at_place self.now path.now) }
+    {
+        let text = text_of(alloc, path)?;
+        match self.numbers.get(text.as_slice()) {
+            Some(number) => Ok(*number),
+            None => Ok(None),
+        }
     }
-    Ok(())
-}
 
-/// The path's place gets the next number that is free.
-pub fn give(alloc: Global, places: &mut Places, path: &Path, number: u32) -> Result<(), AllocError>
-    requires { AllByRecursion IsNodeName path.now }
-    ensures { (base : Reading) (given : List (Names × ℕ)) (landed : List Names) → IsKnown base given landed places.old →
-        IsIn path.now landed → number_in given path.now ≡ None → IsNext (numbers_of base) places.old.last number →
-        OnOk result (IsKnown base (given ++ (path.now, number) ∷ []) landed places.new) }
-{
-    let text = text_of(alloc, path)?;
-    let place = path.copy(alloc)?;
-    places.numbers.insert(text, Some(number))?;
-    places.paths.insert(number, place)?;
-    places.last = number;
-    Ok(())
+    /// The place that got a number.
+    pub fn place(&self, number: u32) -> Option<&Path>
+        ensures { option_copied result ≡ place_of_number self.now number }
+    {
+        self.paths.get(&number)
+    }
+
+    /// The last number that a place got, 0 before the first.
+    pub fn last(&self) -> u32
+        ensures { result ≡ self.now.last }
+    {
+        self.last
+    }
+
+    /// A node lands on the path.
+    pub fn enter(&mut self, alloc: Global, path: &Path) -> Result<(), AllocError>
+        requires { AllByRecursion IsNodeName path.now }
+        ensures { (base : Reading) (given : List (Names × ℕ)) (landed : List Names) → IsKnown base given landed self.old →
+            OnOk result (IsKnown base given (landed ++ path.now ∷ []) self.new) }
+    {
+        let text = text_of(alloc, path)?;
+        if self.numbers.get(text.as_slice()).is_none() {
+            self.numbers.insert(text, None)?;
+        }
+        Ok(())
+    }
+
+    /// The path's place gets the next number that is free.
+    pub fn give(&mut self, alloc: Global, path: &Path, number: u32) -> Result<(), AllocError>
+        requires { AllByRecursion IsNodeName path.now }
+        ensures { (base : Reading) (given : List (Names × ℕ)) (landed : List Names) → IsKnown base given landed self.old →
+            IsIn path.now landed → number_in given path.now ≡ None → IsNext (numbers_of base) self.old.last number →
+            OnOk result (IsKnown base (given ++ (path.now, number) ∷ []) landed self.new) }
+    {
+        let text = text_of(alloc, path)?;
+        let place = path.copy(alloc)?;
+        self.numbers.insert(text, Some(number))?;
+        self.paths.insert(number, place)?;
+        self.last = number;
+        Ok(())
+    }
 }

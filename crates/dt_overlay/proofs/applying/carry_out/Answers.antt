@@ -12,33 +12,23 @@ returns-in_err-look-clause-refused g c =
     rw (e.1, e.2)
     (site_told (HasNoRoom g.T.Target.reading g.T.Target.has_room) (g.T.Target.reading c.args.target.now) c.args.object.now c.read.new.brought c.read.new.plan read c.in_err-look.field-0.0 (c.in_err-look.ensures.refused read))
 
-pub write_numbers-requires : goal.write_numbers-requires
-write_numbers-requires g c =
+pub number_cells-requires : goal.number_cells-requires
+number_cells-requires g c =
     let read = c.in_ok-read.ensures.read in
     record { read = (g.T.Target.reading c.args.target.now, c.read.new.brought, c.read.new.plan, read, c.in_ok-look.ensures.sited read, c.in_ok-look.ensures.kept) }
 
-pub land_planned-requires-clause-written : goal.land_planned-requires-clause-written
-land_planned-requires-clause-written g c =
+pub land_planned-requires-clause-numbered : goal.land_planned-requires-clause-numbered
+land_planned-requires-clause-numbered g c =
     let base = g.T.Target.reading c.args.target.now in
     let read = c.in_ok-read.ensures.read in
-    (reading c.args.object.now, c.in_ok-write_numbers.ensures.written base c.read.new.brought c.read.new.plan read (c.in_ok-look.ensures.sited read) c.in_ok-look.ensures.kept)
-
-pub returns-clause-applied : goal.returns-clause-applied
-returns-clause-applied g c =
-    let base = g.T.Target.reading c.args.target.now in
-    let read = c.in_ok-read.ensures.read in
-    c.land_planned.ensures.applied (reading c.args.object.now) (c.in_ok-write_numbers.ensures.written base c.read.new.brought c.read.new.plan read (c.in_ok-look.ensures.sited read) c.in_ok-look.ensures.kept)
+    c.number_cells.ensures base c.read.new.brought c.read.new.plan read (c.in_ok-look.ensures.sited read) c.in_ok-look.ensures.kept
 
 pub returns-clause-refused : goal.returns-clause-refused
 returns-clause-refused g c =
-    let base = g.T.Target.reading c.args.target.now in
-    let read = c.in_ok-read.ensures.read in
-    if_err c.land_planned.result (landing_told (HasNoRoom g.T.Target.reading g.T.Target.has_room) base (reading c.args.object.now))
-    (c.land_planned.ensures.refused (reading c.args.object.now) (c.in_ok-write_numbers.ensures.written base c.read.new.brought c.read.new.plan read (c.in_ok-look.ensures.sited read) c.in_ok-look.ensures.kept))
+    if_err c.land_planned.result (landing_told (HasNoRoom g.T.Target.reading g.T.Target.has_room) (g.T.Target.reading c.args.target.now) (reading c.args.object.now)) c.land_planned.ensures.refused
 
 pub returns-clause-left : goal.returns-clause-left
 returns-clause-left g c =
-    let base = g.T.Target.reading c.args.target.now in
-    let read = c.in_ok-read.ensures.read in
-    if_err c.land_planned.result (landing_left (HasNoRoom g.T.Target.reading g.T.Target.has_room) base (reading c.args.object.now) (g.T.Target.reading c.land_planned.new.target))
-    (c.land_planned.ensures.refused (reading c.args.object.now) (c.in_ok-write_numbers.ensures.written base c.read.new.brought c.read.new.plan read (c.in_ok-look.ensures.sited read) c.in_ok-look.ensures.kept))
+    if_err c.land_planned.result
+    (landing_left (HasNoRoom g.T.Target.reading g.T.Target.has_room) (g.T.Target.reading c.args.target.now) (reading c.args.object.now) (g.T.Target.reading c.land_planned.new.target))
+    c.land_planned.ensures.refused

@@ -1,6 +1,7 @@
 use Rattle.std.proofs.Common.{◌-◌, length}
 use Rattle.dt_landing.specs.Steps.{land_node, FullAtNode}
 use Rattle.dt_targets.specs.Targets.{HasNoRoom}
+use Rattle.dt_sites.specs.Values.{with_values}
 use Rattle.dt_sites.specs.Landed.{landed_at}
 use Rattle.dt_sites.proofs.LandingNodes.{NodesLeft}
 use Rattle.dt_sites.proofs.landing.+land.Given as goal
@@ -12,7 +13,7 @@ abbrev pub invariant-loop-child : goal.invariant-loop-child
 invariant-loop-child g l = record {
   next : (goal.iterator-loop-child g).can_next l.child-iterator;
   ends : (goal.iterator-loop-child g).is_finite l.child-iterator;
-  left : NodesLeft (HasNoRoom g.T.Target.reading g.T.Target.has_room) l.numbers l.object.slots l.node l.path l.child-iterator (g.T.Target.reading l.target)
-      (land_node l.path (landed_at l.numbers l.object.slots l.node) (g.T.Target.reading l.fn.target))
-      (FullAtNode (HasNoRoom g.T.Target.reading g.T.Target.has_room) l.path (landed_at l.numbers l.object.slots l.node) (g.T.Target.reading l.fn.target));
+  left : NodesLeft (HasNoRoom g.T.Target.reading g.T.Target.has_room) l.numbers (with_values l.values 0 l.object.slots) l.node l.path l.child-iterator (g.T.Target.reading l.target)
+      (land_node l.path (landed_at l.numbers (with_values l.values 0 l.object.slots) l.node) (g.T.Target.reading l.fn.target))
+      (FullAtNode (HasNoRoom g.T.Target.reading g.T.Target.has_room) l.path (landed_at l.numbers (with_values l.values 0 l.object.slots) l.node) (g.T.Target.reading l.fn.target));
 }

@@ -1,20 +1,23 @@
-use Rattle.std.proofs.Common.{◌≡◌, List, ◌∙◌, sym, ap, refl, subst}
+use Rattle.std.proofs.Common.{◌≡◌, ℕ, ◌<◌, List, ◌∙◌, sym, ap, refl, subst}
+use Rattle.std.specs.List.{AllByRecursion}
 use Rattle.std.specs.Iterator.Adapters.{zip_first, zip_second}
 use Rattle.std.specs.Slice.Iter.{iter_rest}
 use Rattle.std.proofs.lemmas.Result.{err_from_is_err_and}
 use Rattle.std.proofs.lemmas.Slice.Zip.{either_empty_from_Zip}
 use Rattle.dt_model.specs.Path.{Path}
 use Rattle.dt_landing.specs.Steps.{FullAtNode}
+use Rattle.dt_sites.specs.Values.{with_values}
 use Rattle.dt_sites.specs.Landed.{landed_at, land_each, FullAtEach}
 use Rattle.dt_targets.specs.Targets.{HasNoRoom}
 use Rattle.dt_parts.specs.declared.kept.Fragment.{Fragment}
+use Rattle.dt_sites.proofs.ValuesKept.{length_with}
 use Rattle.dt_sites.proofs.LandingNodes.{want_whole}
 use Rattle.dt_sites.proofs.LandingEach.{contents, contents_there, contents_over, EachLeft, next_landing, each_over}
 use Rattle.dt_sites.proofs.landing.land_all.Goals as goal
 
 pub loop-fragment-init : goal.loop-fragment-init
 loop-fragment-init g c =
-    let slots = c.args.object.now.slots in
+    let slots = with_values c.args.values.now 0 c.args.object.now.slots in
     let numbers = c.args.numbers.now in
     let fragments = c.args.fragments.now in
     let r = g.T.Target.reading c.args.target.now in
@@ -24,7 +27,7 @@ loop-fragment-init g c =
     let first : iter_rest (zip_first s) ≡ fragments = (λ i. iter_rest (zip_first (same i))) ∙ ap iter_rest c.zip-fragment-items.ensures.first ∙ c.iter.ensures.rest in
     let second : iter_rest (zip_second s) ≡ c.args.sites.now = (λ i. iter_rest (zip_second (same i))) ∙ c.zip-fragment-items.ensures.second.0 in
     let crowded = FullAtEach (HasNoRoom g.T.Target.reading g.T.Target.has_room) numbers slots (contents fragments) c.args.sites.now r in
-    let all : EachLeft (HasNoRoom g.T.Target.reading g.T.Target.has_room) numbers slots (contents fragments) c.args.sites.now r whole crowded = record { lands = refl; may = c.requires.may; there = contents_there slots fragments c.requires.nodes; stuck = λ h. h } in
+    let all : EachLeft (HasNoRoom g.T.Target.reading g.T.Target.has_room) numbers slots (contents fragments) c.args.sites.now r whole crowded = record { lands = refl; may = c.requires.may; there = subst (λ (n : ℕ). AllByRecursion (λ k. k < n) (contents fragments)) (sym (length_with c.args.values.now 0 c.args.object.now.slots)) (contents_there c.args.object.now.slots fragments c.requires.nodes); stuck = λ h. h } in
     record {
       next = (tt, tt);
       ends = tt;
@@ -34,7 +37,7 @@ loop-fragment-init g c =
 
 pub returns-in_err-land-clause-refused : goal.returns-in_err-land-clause-refused
 returns-in_err-land-clause-refused g c =
-    let slots = c.args.object.now.slots in
+    let slots = with_values c.args.values.now 0 c.args.object.now.slots in
     let numbers = c.args.numbers.now in
     let s = c.loop-fragment.fragment-iterator in
     let t = c.next.new.self in
@@ -51,7 +54,7 @@ returns-in_err-land-clause-refused g c =
 
 pub returns-clause-landed : goal.returns-clause-landed
 returns-clause-landed g c =
-    let slots = c.args.object.now.slots in
+    let slots = with_values c.args.values.now 0 c.args.object.now.slots in
     let numbers = c.args.numbers.now in
     let s = c.loop-fragment.fragment-iterator in
     let whole = land_each numbers slots (contents c.args.fragments.now) c.args.sites.now (g.T.Target.reading c.args.target.now) in

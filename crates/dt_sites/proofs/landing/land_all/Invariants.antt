@@ -1,5 +1,6 @@
 use Rattle.std.specs.Iterator.Adapters.{zip_first, zip_second}
 use Rattle.std.specs.Slice.Iter.{iter_rest}
+use Rattle.dt_sites.specs.Values.{with_values}
 use Rattle.dt_sites.specs.Landed.{land_each, FullAtEach}
 use Rattle.dt_targets.specs.Targets.{HasNoRoom}
 use Rattle.dt_sites.proofs.LandingEach.{contents, EachLeft}
@@ -9,7 +10,7 @@ abbrev pub invariant-loop-fragment : goal.invariant-loop-fragment
 invariant-loop-fragment g l = record {
   next : (goal.iterator-loop-fragment g).can_next l.fragment-iterator;
   ends : (goal.iterator-loop-fragment g).is_finite l.fragment-iterator;
-  left : EachLeft (HasNoRoom g.T.Target.reading g.T.Target.has_room) l.numbers l.object.slots (contents (iter_rest (zip_first l.fragment-iterator))) (iter_rest (zip_second l.fragment-iterator))
-      (g.T.Target.reading l.target) (land_each l.numbers l.object.slots (contents l.fragments) l.sites (g.T.Target.reading l.fn.target))
-      (FullAtEach (HasNoRoom g.T.Target.reading g.T.Target.has_room) l.numbers l.object.slots (contents l.fragments) l.sites (g.T.Target.reading l.fn.target));
+  left : EachLeft (HasNoRoom g.T.Target.reading g.T.Target.has_room) l.numbers (with_values l.values 0 l.object.slots) (contents (iter_rest (zip_first l.fragment-iterator))) (iter_rest (zip_second l.fragment-iterator))
+      (g.T.Target.reading l.target) (land_each l.numbers (with_values l.values 0 l.object.slots) (contents l.fragments) l.sites (g.T.Target.reading l.fn.target))
+      (FullAtEach (HasNoRoom g.T.Target.reading g.T.Target.has_room) l.numbers (with_values l.values 0 l.object.slots) (contents l.fragments) l.sites (g.T.Target.reading l.fn.target));
 }

@@ -2,11 +2,12 @@ use Rattle.std.proofs.Common.{map}
 use Rattle.dt_landing.specs.Steps.{land_properties, FullAtProperties}
 use Rattle.dt_targets.specs.Targets.{HasNoRoom}
 use Rattle.dt_landing.specs.Writing.{landed_property}
+use Rattle.dt_sites.specs.Values.{with_kept}
 use Rattle.dt_sites.proofs.LandingNodes.{PropertiesLeft}
 use Rattle.dt_sites.proofs.landing.set_properties.Given as goal
 
 abbrev pub invariant-loop-name : goal.invariant-loop-name
 invariant-loop-name g l =
-    PropertiesLeft (HasNoRoom g.T.Target.reading g.T.Target.has_room) l.path l.number l.name-iterator (g.T.Target.reading l.target)
-    (land_properties l.path (map (landed_property l.number) l.fn.props) (g.T.Target.reading l.fn.target))
-    (FullAtProperties (HasNoRoom g.T.Target.reading g.T.Target.has_room) l.path (map (landed_property l.number) l.fn.props) (g.T.Target.reading l.fn.target))
+    PropertiesLeft (HasNoRoom g.T.Target.reading g.T.Target.has_room) l.path l.number (map (with_kept l.values l.node) l.name-iterator) (g.T.Target.reading l.target)
+    (land_properties l.path (map (landed_property l.number) (map (with_kept l.values l.node) l.fn.props)) (g.T.Target.reading l.fn.target))
+    (FullAtProperties (HasNoRoom g.T.Target.reading g.T.Target.has_room) l.path (map (landed_property l.number) (map (with_kept l.values l.node) l.fn.props)) (g.T.Target.reading l.fn.target))

@@ -24,12 +24,12 @@ returns-in-Some-clause-value g c given landed known =
     let has = MatchOption-at_some ((p : Path) → HasNumber base p n → ⊥) (λ p. HasNumber base p n) c.in-Some.path c.in-Some.is c.in_ok-path.ensures.found in
     ap (λ (o : Option Path). option_or o (place_given given n)) (sym (node_of_number base c.in-Some.path n c.validity.ensures.valid has))
 
-pub returns-in_ok-path-in-Some-place_given-clause-value : goal.returns-in_ok-path-in-Some-place_given-clause-value
-returns-in_ok-path-in-Some-place_given-clause-value g c given landed known =
+pub returns-in_ok-path-in-Some-place-clause-value : goal.returns-in_ok-path-in-Some-place-clause-value
+returns-in_ok-path-in-Some-place-clause-value g c given landed known =
     let base : Reading = g.T.Target.reading c.args.target.now in
     let n = c.args.number in
     let none : (p : Path) → HasNumber base p n → ⊥ = MatchOption-at_none ((p : Path) → HasNumber base p n → ⊥) (λ p. HasNumber base p n) c.in_default.is c.in_ok-path.ensures.found in
-    ap (λ (q : Path). Some q) c.in_ok-path-in-Some-place_given.ensures ∙ c.in-Some-place_given.ensures ∙ known.paths n
+    ap (λ (q : Path). Some q) c.in_ok-path-in-Some-place.ensures ∙ c.in-Some-place.ensures ∙ known.paths n
     ∙ ap (λ (o : Option Path). option_or o (place_given given n)) (sym (none_of_base base n c.validity.ensures.valid none))
 
 pub returns-in-None-clause-value : goal.returns-in-None-clause-value
