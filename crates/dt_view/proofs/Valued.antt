@@ -3,7 +3,7 @@ use Rattle.std.proofs.Common.{◌≡◌, ◌≢◌, ◌⊎◌, ℕ, ◌&&◌, na
 use Rattle.std.specs.Prelude.{is_some, option_and_then}
 use Rattle.std.specs.HashMap.{HashMap, UpdatesBy}
 use Rattle.std.specs.List.{AllByRecursion}
-use Rattle.std.specs.Map.{KeepsOthers}
+use Rattle.std.specs.Map.{lookup}
 use Rattle.std.specs.Option.{option_copied}
 use Rattle.std.specs.Str.{bytes_eq}
 use Rattle.std.proofs.lemmas.Bool.{eqb-true, eq-eqb}
@@ -35,32 +35,14 @@ both false b h = absurd (true≢false (sym h))
 key_is : (i j : ℕ) (x y : Name) → (nat_eq i j && bytes_eq x y) ≡ true → (i ≡ j) × (x ≡ y)
 key_is i j x y h = let p = both (nat_eq i j) (bytes_eq x y) h in (eqb-true i j p.0, (bytes_eq-Decides x y).0 p.1)
 
-key_same : (i : ℕ) (x : Name) → (nat_eq i i && bytes_eq x x) ≡ true
-key_same i x = rw (eq-eqb i i refl) ((bytes_eq-Decides x x).1 refl)
-
 pub puts_from_updates : {S : Type 0} (m n : HashMap Key (Bor (List ℕ)) S) (k : Key) (w : Bor (List ℕ))
     → UpdatesBy (λ (a b : Key). nat_eq a.0 b.0 && bytes_eq a.1.now b.1.now) (λ (b : Key). nat_eq k.0 b.0 && bytes_eq k.1.now b.1.now) m n (Some w)
     → PutsValue m.entries n.entries k.0 k.1.now w.now
-unfolding KeepsOthers
-puts_from_updates m n k w u j y = by (nat_eq k.0 j && bytes_eq k.1.now y) refl
+puts_from_updates m n k w u j y = ap option_copied (u.0 (j, record k.1 { now = y })) ∙ by (nat_eq k.0 j && bytes_eq k.1.now y)
   where
-    by : (b : Bool) → (nat_eq k.0 j && bytes_eq k.1.now y) ≡ b → value_at n.entries j y ≡ cond (nat_eq k.0 j && bytes_eq k.1.now y) (Some w.now) (value_at m.entries j y)
-    by true is =
-        let e : (k.0 ≡ j) × (k.1.now ≡ y) = key_is k.0 j k.1.now y is in
-        rw is (rw (← e.0, ← e.1) (ap option_copied u.1))
-    by false differ =
-        rw differ (ap option_copied
-        (u.3 (λ (b : Key). nat_eq j b.0 && bytes_eq y b.1.now)
-        (λ a b is. let e : (j ≡ a.0) × (y ≡ a.1.now) = key_is j a.0 y a.1.now is in rw (e.0, e.1) refl)
-        (λ a is. other a is (nat_eq j a.0 && bytes_eq y a.1.now) refl)))
-      where
-        other : (a : Key) → (nat_eq k.0 a.0 && bytes_eq k.1.now a.1.now) ≡ true → (c : Bool) → (nat_eq j a.0 && bytes_eq y a.1.now) ≡ c → (nat_eq j a.0 && bytes_eq y a.1.now) ≡ false
-        other a is false other' = other'
-        other a is true same' =
-            let e = key_is k.0 a.0 k.1.now a.1.now is in
-            let e' = key_is j a.0 y a.1.now same' in
-            let same : (nat_eq k.0 j && bytes_eq k.1.now y) ≡ true = rw (e.0, e'.0, e.1, e'.1) (key_same a.0 a.1.now) in
-            absurd (true≢false (sym same ∙ differ))
+    by : (b : Bool) → option_copied (cond b (Some w) (lookup (λ (key : Key). nat_eq j key.0 && bytes_eq y key.1.now) m.entries)) ≡ cond b (Some w.now) (value_at m.entries j y)
+    by true = refl
+    by false = refl
 
 -- ---- the properties of a node
 
