@@ -59,8 +59,8 @@ Does step old new item result =
     (so_far : SoFar) → Holds old item so_far → MatchResult result (λ _. GoesOn (step so_far) new (item + 1)) (TellsRefusal (step so_far))
 
 -- what the definition does with what the item says
-abbrev pub DoesAsSaid : Mode → Reading → Reading → ℕ → Place → Result (Unit {0}) Fault → Type 0
-DoesAsSaid mode old new item place result =
+abbrev pub ReadsItem : Mode → Reading → Reading → ℕ → Place → Result (Unit {0}) Fault → Type 0
+ReadsItem mode old new item place result =
     (so_far : SoFar) → Holds old item so_far → MatchResult result (λ _. GoesOn (read mode so_far place) new (item + 1)) (TellsRefusal (read mode so_far place))
 
 -- where no body is open, the node to which a reference refers, with the number of its names; or why there is none

@@ -9,7 +9,7 @@ ghost use Rattle.dt_items.specs.Said.{place_said, reference_of, value_said};
 ghost use Rattle.dt_growing.specs.Grown.{StandsUnder, IsGrown};
 ghost use Rattle.dt_growing.specs.Growing.{IsSoundGrowing};
 ghost use Rattle.dt_model.specs.OverlaySource.{open_fragment};
-ghost use Rattle.dt_bodies.specs.Reading.{is_behind, Does, DoesAsSaid, GoesOn, HasTarget, Holds, IsWhole, MayOpen};
+ghost use Rattle.dt_bodies.specs.Reading.{is_behind, Does, ReadsItem, GoesOn, HasTarget, Holds, IsWhole, MayOpen};
 ghost use Rattle.dt_bodies.specs.Refusals.{mode_said, TellsRefusal, WhyNotGrown};
 
 use dt_growing::{Growing, NameText};
@@ -110,7 +110,7 @@ impl<'s, 'a> Reading<'s, 'a> {
 
     pub fn root(&mut self, item: usize) -> Result<(), Fault>
         requires { IsWhole self.old }
-        ensures meaning { (mode : model.Mode) → DoesAsSaid mode self.old self.new item root result }
+        ensures meaning { (mode : model.Mode) → ReadsItem mode self.old self.new item root result }
         ensures whole { OnOk result (IsWhole self.new) }
         ensures grown { OnOk result (length self.old.growing.nodes.items ≤ length self.new.growing.nodes.items) }
     {
@@ -145,7 +145,7 @@ impl<'s, 'a> Reading<'s, 'a> {
 
     pub fn block(&mut self, item: usize, reference: &Reference<'a>) -> Result<(), Fault>
         requires { IsWhole self.old }
-        ensures meaning { (mode : model.Mode) → DoesAsSaid mode self.old self.new item (block (reference_of reference.now)) result }
+        ensures meaning { (mode : model.Mode) → ReadsItem mode self.old self.new item (block (reference_of reference.now)) result }
         ensures whole { OnOk result (IsWhole self.new) }
         ensures grown { OnOk result (length self.old.growing.nodes.items ≤ length self.new.growing.nodes.items) }
     {
@@ -156,7 +156,7 @@ impl<'s, 'a> Reading<'s, 'a> {
 
     fn delete_node(&mut self, item: usize, reference: &Reference<'a>) -> Result<(), Fault>
         requires { IsWhole self.old }
-        ensures meaning { (mode : model.Mode) → DoesAsSaid mode self.old self.new item (delete_node (reference_of reference.now)) result }
+        ensures meaning { (mode : model.Mode) → ReadsItem mode self.old self.new item (delete_node (reference_of reference.now)) result }
         ensures whole { OnOk result (IsWhole self.new) }
     {
         let (node, _) = self.target(reference)?;
@@ -190,7 +190,7 @@ impl<'s, 'a> Reading<'s, 'a> {
 
     pub fn child(&mut self, mode: Mode, item: usize, name: &'a [u8]) -> Result<(), Fault>
         requires { IsWhole self.old }
-        ensures meaning { DoesAsSaid (mode_said mode) self.old self.new item (child name.now) result }
+        ensures meaning { ReadsItem (mode_said mode) self.old self.new item (child name.now) result }
         ensures whole { OnOk result (IsWhole self.new) }
         ensures grown { OnOk result (length self.old.growing.nodes.items ≤ length self.new.growing.nodes.items) }
     {
@@ -205,7 +205,7 @@ impl<'s, 'a> Reading<'s, 'a> {
 
     pub fn label(&mut self, label: &'a [u8]) -> Result<(), Fault>
         requires { IsWhole self.old }
-        ensures meaning { (mode : model.Mode) (item : ℕ) → DoesAsSaid mode self.old self.new item (model.label label.now) result }
+        ensures meaning { (mode : model.Mode) (item : ℕ) → ReadsItem mode self.old self.new item (model.label label.now) result }
         ensures whole { OnOk result (IsWhole self.new) }
         ensures grown { OnOk result (length self.old.growing.nodes.items ≤ length self.new.growing.nodes.items) }
     {
@@ -227,7 +227,7 @@ impl<'s, 'a> Reading<'s, 'a> {
 
     pub fn define(&mut self, item: usize, name: &'a [u8], value: &'s Value<'a>) -> Result<(), Fault>
         requires { IsWhole self.old }
-        ensures meaning { (mode : model.Mode) → DoesAsSaid mode self.old self.new item (property name.now (value_said value.now)) result }
+        ensures meaning { (mode : model.Mode) → ReadsItem mode self.old self.new item (property name.now (value_said value.now)) result }
         ensures whole { OnOk result (IsWhole self.new) }
         ensures grown { OnOk result (length self.old.growing.nodes.items ≤ length self.new.growing.nodes.items) }
     {
@@ -241,7 +241,7 @@ impl<'s, 'a> Reading<'s, 'a> {
 
     fn undefine(&mut self, name: &[u8]) -> Result<(), Fault>
         requires { IsWhole self.old }
-        ensures meaning { (mode : model.Mode) (item : ℕ) → DoesAsSaid mode self.old self.new item (delete_property name.now) result }
+        ensures meaning { (mode : model.Mode) (item : ℕ) → ReadsItem mode self.old self.new item (delete_property name.now) result }
         ensures whole { OnOk result (IsWhole self.new) }
     {
         let body = self.innermost()?;
@@ -251,7 +251,7 @@ impl<'s, 'a> Reading<'s, 'a> {
 
     fn delete_child(&mut self, name: &[u8]) -> Result<(), Fault>
         requires { IsWhole self.old }
-        ensures meaning { (mode : model.Mode) (item : ℕ) → DoesAsSaid mode self.old self.new item (delete_child name.now) result }
+        ensures meaning { (mode : model.Mode) (item : ℕ) → ReadsItem mode self.old self.new item (delete_child name.now) result }
         ensures whole { OnOk result (IsWhole self.new) }
     {
         let body = self.innermost()?;
@@ -261,7 +261,7 @@ impl<'s, 'a> Reading<'s, 'a> {
 
     pub fn close(&mut self) -> Result<(), Fault>
         requires { IsWhole self.old }
-        ensures meaning { (mode : model.Mode) (item : ℕ) → DoesAsSaid mode self.old self.new item close result }
+        ensures meaning { (mode : model.Mode) (item : ℕ) → ReadsItem mode self.old self.new item close result }
         ensures whole { OnOk result (IsWhole self.new) }
         ensures grown { OnOk result (length self.old.growing.nodes.items ≤ length self.new.growing.nodes.items) }
     {
@@ -305,7 +305,7 @@ impl<'s, 'a> Reading<'s, 'a> {
     /// The next item, which has this number.
     fn step(&mut self, mode: Mode, item: usize, next: &'s Item<'a>) -> Result<(), Fault>
         requires { IsWhole self.old }
-        ensures meaning { DoesAsSaid (mode_said mode) self.old self.new item (place_said next.now) result }
+        ensures meaning { ReadsItem (mode_said mode) self.old self.new item (place_said next.now) result }
         ensures whole { OnOk result (IsWhole self.new) }
     {
         match next {

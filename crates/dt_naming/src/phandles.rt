@@ -13,7 +13,7 @@ use std::alloc::{AllocError, Global};
 use std::collections::HashSet;
 
 /// The phandle that a value of the property `phandle` writes: four bytes without a reference, of 1 to 0xfffffffe.
-fn phandle_in(value: &Value<'_>) -> Option<u32>
+fn written_number(value: &Value<'_>) -> Option<u32>
     ensures { result ≡ number_of_parts (value_said value.now) }
 {
     if !value.pieces.is_empty() {
@@ -44,7 +44,7 @@ fn phandle_written(property: &Property<'_, '_>, places: &[Option<usize>]) -> Opt
     ensures { result ≡ phandle_written places.now property.now }
 {
     if is_phandle(property, places) {
-        phandle_in(property.value)
+        written_number(property.value)
     } else {
         None
     }
@@ -54,7 +54,7 @@ fn phandle_written(property: &Property<'_, '_>, places: &[Option<usize>]) -> Opt
 fn is_unwritten(property: &Property<'_, '_>, places: &[Option<usize>]) -> bool
     ensures { result ≡ is_unwritten places.now property.now }
 {
-    is_phandle(property, places) && phandle_in(property.value).is_none()
+    is_phandle(property, places) && written_number(property.value).is_none()
 }
 
 /// Each `phandle` writes a number. `BadPhandle` where one doesn't.

@@ -33,7 +33,7 @@ fn number_of(value: &NamedValue<'_>) -> Option<u32>
 }
 
 /// The value of the property `phandle`.
-pub fn phandle_in<'a, 'b>(properties: &'a [NamedProperty<'b>]) -> Option<&'a NamedValue<'b>>
+pub fn phandle_value<'a, 'b>(properties: &'a [NamedProperty<'b>]) -> Option<&'a NamedValue<'b>>
     ensures { option_map (λ value. value_said value.now) result ≡ value_of (map property_said properties.now) (codes "phandle") }
 {
     for property in properties {
@@ -48,7 +48,7 @@ pub fn phandle_in<'a, 'b>(properties: &'a [NamedProperty<'b>]) -> Option<&'a Nam
 fn asked_by(node: &NamedNode<'_>) -> Asked
     ensures { asked_said result ≡ own (node_said node.now).content }
 {
-    let written = match phandle_in(&node.properties) {
+    let written = match phandle_value(&node.properties) {
         Some(value) => number_of(value),
         None => None,
     };

@@ -15,7 +15,7 @@ ghost use Rattle.dt_flat.specs.Planted.{with_properties};
 ghost use Rattle.dt_phandle.specs.Asking.{content_said};
 ghost use Rattle.dt_phandle.specs.Growth.{MayHave, with_node, MayCome, grown, MayGrow, grown_all, MayGrowAll};
 
-use crate::asked::phandle_in;
+use crate::asked::phandle_value;
 use crate::numbering::Numbering;
 use dt_flat::{FlatTree, may_be_planted, planted_reads};
 use dt_laws::instance_is_valid;
@@ -87,7 +87,7 @@ fn set_number(
     let Some(number) = numbering.of(id) else {
         return Ok(());
     };
-    if phandle_in(&node.properties).is_some() {
+    if phandle_value(&node.properties).is_some() {
         return Ok(());
     }
     let name = PropName::new(b"phandle".as_slice())?;

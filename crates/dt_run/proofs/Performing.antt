@@ -25,7 +25,7 @@ use Rattle.dt_lines.specs.declared.listing.Listing.TheVariants.{Regions, Routes}
 use Rattle.dt_lines.proofs.Nodes.{all_are_begun}
 use Rattle.dt_model.specs.Tree.{nodes_of}
 use Rattle.dt_run.specs.Job.{IsBegun, IsListed, IsListedFirst, IsWritten, TakesMemory, WhyNotMade, WhyNotPerformed, encoded}
-use Rattle.dt_streams.specs.Told.{IsNoBlobBy, WhyNotTold, no_blob, cut}
+use Rattle.dt_streams.specs.Told.{HasBlobFault, WhyNotTold, no_blob, cut}
 use Rattle.dt_run.specs.Showing.{WhyNotShown}
 use Rattle.dt_words.specs.declared.command_line.Job.{Job}
 use Rattle.dt_words.specs.declared.command_line.Job.TheVariants.{Compile, CompileRaw, Apply, Build, Print, Check, Regs, Irqs, Dma, Spec}
@@ -154,7 +154,7 @@ module _ (old new : Taken) (hex : Bool) (blob : List ℕ) where
   of_fault job checks.short_header at takes first same = (made blob job checks.short_header at takes first, same)
   of_fault job f at takes first same = (made blob job f at takes first, same)
 
-  of_kind : (job : Job) (kind : FaultKind) (at : Option ℕ) → TakesBlob job → IsNoBlobBy kind at blob → IsUntouched old new →
+  of_kind : (job : Job) (kind : FaultKind) (at : Option ℕ) → TakesBlob job → HasBlobFault kind at blob → IsUntouched old new →
       WhyNotPerformed 0 kind at job hex (blob ∷ []) old new
   of_kind job kind at takes why same =
       let (f, is, first) = why in

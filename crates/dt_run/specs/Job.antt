@@ -22,7 +22,7 @@ use Rattle.dt_lines.specs.declared.asking.Question.{Question}
 use Rattle.dt_lines.specs.declared.asking.Question.TheVariants as ask
 use Rattle.dt_lines.specs.declared.listing.Listing.{Listing}
 use Rattle.dt_lines.specs.declared.listing.Listing.TheVariants.{Regions, Routes}
-use Rattle.dt_streams.specs.Told.{IsPrinted, IsCounted, IsNoBlobBy}
+use Rattle.dt_streams.specs.Told.{IsPrinted, IsCounted, HasBlobFault}
 use Rattle.dt_words.specs.declared.command_line.Job.{Job}
 use Rattle.dt_words.specs.declared.command_line.Job.TheVariants.{Compile, CompileRaw, Apply, Build, Print, Check, Regs, Irqs, Dma, Spec}
 
@@ -100,13 +100,13 @@ WhyNotMade k kind at Apply (base ∷ objects) = WhyNoBlobApplied base objects k 
 WhyNotMade k kind at Apply _ = ⊥
 WhyNotMade k kind at Build (text ∷ overlays) = WhyNoBlobBuilt text overlays k (record { kind = kind; at = at })
 WhyNotMade k kind at Build _ = ⊥
-WhyNotMade k kind at Print (blob ∷ []) = (k ≡ 0) × IsNoBlobBy kind at blob
+WhyNotMade k kind at Print (blob ∷ []) = (k ≡ 0) × HasBlobFault kind at blob
 WhyNotMade k kind at Print _ = ⊥
-WhyNotMade k kind at Check (blob ∷ []) = (k ≡ 0) × IsNoBlobBy kind at blob
+WhyNotMade k kind at Check (blob ∷ []) = (k ≡ 0) × HasBlobFault kind at blob
 WhyNotMade k kind at Check _ = ⊥
-WhyNotMade k kind at Regs (blob ∷ []) = (k ≡ 0) × IsNoBlobBy kind at blob
+WhyNotMade k kind at Regs (blob ∷ []) = (k ≡ 0) × HasBlobFault kind at blob
 WhyNotMade k kind at Regs _ = ⊥
-WhyNotMade k kind at Irqs (blob ∷ []) = (k ≡ 0) × IsNoBlobBy kind at blob
+WhyNotMade k kind at Irqs (blob ∷ []) = (k ≡ 0) × HasBlobFault kind at blob
 WhyNotMade k kind at Irqs _ = ⊥
 WhyNotMade k kind at (Dma path address size) (blob ∷ []) = (k ≡ 0) × WhyUnanswered (ask.Dma address size) blob path.now (record { kind = kind; at = at })
 WhyNotMade k kind at (Dma path address size) _ = ⊥

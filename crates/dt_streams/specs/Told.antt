@@ -38,10 +38,10 @@ line_of c =
     ++ decimal c.reservations ++ 10 ∷ []
 
 -- the fault is the first one of bytes that are no blob
-abbrev pub IsNoBlobBy : FaultKind → Option ℕ → List ℕ → Type 0
-IsNoBlobBy kind at bytes = (f : BlobFault) × (kind ≡ kind_of f) × IsFirstFault bytes f at
+abbrev pub HasBlobFault : FaultKind → Option ℕ → List ℕ → Type 0
+HasBlobFault kind at bytes = (f : BlobFault) × (kind ≡ kind_of f) × IsFirstFault bytes f at
 
 -- The bytes are no blob, and nothing was written; or the sink failed, and took a front of the text that tells it.
 pub data WhyNotTold (fault : Fault) (bytes : List ℕ) (Is : List ℕ → Type 0) (old new : Taken) : Type 0 where
-  no_blob : IsNoBlobBy fault.kind fault.at bytes → IsUntouched old new → WhyNotTold fault bytes Is old new
+  no_blob : HasBlobFault fault.kind fault.at bytes → IsUntouched old new → WhyNotTold fault bytes Is old new
   cut : (text : List ℕ) → Is text → IsRefused fault text old new → WhyNotTold fault bytes Is old new

@@ -6,7 +6,7 @@
 //! cell_text(b"/fragment@0/__overlay__/d:p:1")     // the path, p, 1
 //! ```
 //!
-//! Both are what `__fixups__` holds in a case of overlays.cases (docs/CASES.md).
+//! Each is what `__fixups__` holds in a case of overlays.cases (docs/CASES.md).
 #![tactic(auto)]
 
 mod cuts;

@@ -1,6 +1,6 @@
 use Rattle.std.proofs.Common.{◌+◌, true, false, drop, codes, arith, sym, ◌∙◌}
 use Rattle.dt_phandle.proofs.Asking.{next_item, value_first}
-use Rattle.dt_phandle.proofs.asked.phandle_in.Goals as goal
+use Rattle.dt_phandle.proofs.asked.phandle_value.Goals as goal
 
 pub returns-then-eq : goal.returns-then-eq
 returns-then-eq c =

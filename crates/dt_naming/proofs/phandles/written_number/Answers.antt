@@ -1,7 +1,7 @@
 use Rattle.std.proofs.Common.{◌≡◌, ◌<◌, ℕ, zero, suc, false, subst, sym, arith}
 use Rattle.std.specs.Prelude.{◌==◌}
 use Rattle.dt_naming.proofs.Written.{pieces_unwritten}
-use Rattle.dt_naming.proofs.phandles.phandle_in.Goals as goal
+use Rattle.dt_naming.proofs.phandles.written_number.Goals as goal
 
 positive : (n : ℕ) → false ≡ (n == 0) → 0 < n
 positive zero e = cc

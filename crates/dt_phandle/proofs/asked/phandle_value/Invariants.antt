@@ -2,7 +2,7 @@
 use Rattle.std.proofs.Common.{◌≡◌, map, drop, codes}
 use Rattle.dt_model.specs.Named.{value_of}
 use Rattle.dt_named.specs.Said.{property_said}
-use Rattle.dt_phandle.proofs.asked.phandle_in.Given as goal
+use Rattle.dt_phandle.proofs.asked.phandle_value.Given as goal
 
 abbrev pub invariant-loop-property : goal.invariant-loop-property
 invariant-loop-property l =
