@@ -1,12 +1,15 @@
 //! Sources, blobs, and what blobs hold.
 
+ghost use Rattle.dt_model.specs.Path.{Path};
+ghost use Rattle.dt_read.specs.Placed.{IsAt};
+
 use crate::input::bytes_of;
 use crate::numbers::index;
 use crate::outcome::{Lines, Outcome, Stop};
 use crate::reading::{put_property, put_tree};
 use dt_chain::{compile, compile_raw};
 use dt_flat::FlatTree;
-use dt_names::Fault;
+use dt_names::{Fault, NodeId};
 use dt_read::Blob;
 use dt_write::write_blob;
 use std::alloc::{AllocError, Global};
@@ -85,15 +88,15 @@ fn tell_counts(blob: &Blob<'_>, out: &mut Outcome) {
 }
 
 /// Puts what the calls of a blob tell of it and of its root.
-fn put_blob(lines: &mut Lines, blob: &Blob<'_>) {
+pub fn put_blob(lines: &mut Lines, blob: &Blob<'_>) {
     let boot_cpu = blob.boot_cpu();
     writeln!(lines, "boot {boot_cpu}");
     put_reservations(lines, blob);
     let root = blob.root();
     let size = blob.name(root).len();
     writeln!(lines, "root at {root}, its name {size} bytes");
-    put_properties(lines, blob);
-    put_children(lines, blob);
+    put_properties(lines, blob, root);
+    put_children(lines, blob, root);
 }
 
 fn put_reservations(lines: &mut Lines, blob: &Blob<'_>) {
@@ -102,17 +105,22 @@ fn put_reservations(lines: &mut Lines, blob: &Blob<'_>) {
     }
 }
 
-fn put_children(lines: &mut Lines, blob: &Blob<'_>) {
-    for child in blob.children(blob.root()) {
+/// Puts where a node's children stand.
+pub fn put_children(lines: &mut Lines, blob: &Blob<'_>, node: NodeId)
+    requires { (path : Path) × IsAt blob.now path node }
+{
+    for child in blob.children(node) {
         writeln!(lines, "child at {child}");
     }
 }
 
-fn put_properties(lines: &mut Lines, blob: &Blob<'_>) {
-    let root = blob.root();
-    for (name, value) in blob.props(root) {
+/// Puts a node's properties, each looked up by its name too.
+pub fn put_properties(lines: &mut Lines, blob: &Blob<'_>, node: NodeId)
+    requires { (path : Path) × IsAt blob.now path node }
+{
+    for (name, value) in blob.props(node) {
         put_property(lines, name, value);
-        if blob.value(root, name) != Some(value) {
+        if blob.value(node, name) != Some(value) {
             lines.put("  and another value by its name\n");
         }
     }

@@ -1,7 +1,7 @@
 //! Names, labels and paths.
 
-use crate::outcome::{Outcome, Stop};
-use dt_names::{Label, NodeName, Out, Path, PathRef, PropName};
+use crate::outcome::{Lines, Outcome, Stop};
+use dt_names::{Fault, Label, NodeName, Out, Path, PathRef, PropName};
 use std::alloc::Global;
 
 /// `node-name`, `property-name` and `label` tell whether bytes are one; `path` tells how many names a path has, and each of
@@ -40,33 +40,31 @@ fn call_of_path(
 ) -> Result<(), Stop> {
     match name {
         "path" => {
-            tell_names(path, out);
-            Ok(())
+            put_names(path, out.lines());
+            return Ok(());
         }
-        "path-text" => give_text(alloc, path, out),
-        _ => {
-            path.push(&NodeName::new(words.as_bytes())?)?;
-            give_text(alloc, path, out)
-        }
+        "path-text" => {}
+        _ => path.push(&NodeName::new(words.as_bytes())?)?,
     }
+    out.give(text_of(alloc, path)?);
+    Ok(())
 }
 
 /// How many names a path has, and each in a line.
-fn tell_names(path: &Path, out: &mut Outcome) {
+pub fn put_names(path: &Path, lines: &mut Lines) {
     let count = path.len();
-    out.tell(format_args!("{count} names"));
+    writeln!(lines, "{count} names");
     for index in 0..=count {
         if let Some(name) = path.name(index) {
-            let lines = out.lines();
             lines.name(name);
             lines.put("\n");
         }
     }
 }
 
-fn give_text(alloc: Global, path: &Path, out: &mut Outcome) -> Result<(), Stop> {
+/// The text of a path.
+pub fn text_of(alloc: Global, path: &Path) -> Result<Vec<u8>, Fault> {
     let mut text = Out::new(Vec::new(alloc));
     path.write_to(&mut text)?;
-    out.give(text.into_inner());
-    Ok(())
+    Ok(text.into_inner())
 }

@@ -46,6 +46,8 @@ impl<T: Drop> From<AllocFailed<T>> for Stop {
 pub struct Lines {
     text: String,
     has_failed: bool,
+    /// How much was put, where it is only counted.
+    counted: Option<usize>,
 }
 
 impl Lines {
@@ -53,7 +55,22 @@ impl Lines {
         Lines {
             text: String::new(alloc),
             has_failed: false,
+            counted: None,
         }
+    }
+
+    /// Lines that are counted and not kept, which takes no memory: a text by its bytes, what something shows as one, and a fault not at all.
+    pub fn to_count(alloc: Global) -> Lines {
+        Lines {
+            text: String::new(alloc),
+            has_failed: false,
+            counted: Some(0),
+        }
+    }
+
+    /// How much was put into lines that are counted.
+    pub fn count(&self) -> usize {
+        self.counted.unwrap_or(0)
     }
 
     pub fn is_empty(&self) -> bool {
@@ -70,12 +87,30 @@ impl Lines {
 
     /// Puts a text.
     pub fn put(&mut self, text: &str) {
-        self.has_failed = self.has_failed || self.text.push_str(text).is_err();
+        match self.counted {
+            Some(count) => self.counted = Some(count.saturating_add(text.len())),
+            None => self.has_failed = self.has_failed || self.text.push_str(text).is_err(),
+        }
     }
 
     /// Puts what something shows: `write!` calls it.
     pub fn write_fmt<D: Display + Drop>(&mut self, shown: D) {
-        self.has_failed = self.has_failed || write!(self.text, "{shown}").is_err();
+        match self.counted {
+            Some(count) => self.counted = Some(count.saturating_add(1)),
+            None => self.has_failed = self.has_failed || write!(self.text, "{shown}").is_err(),
+        }
+    }
+
+    /// Puts a fault in a line.
+    pub fn fault(&mut self, fault: Fault) {
+        if self.counted.is_none() {
+            writeln!(self, "{fault}");
+        }
+    }
+
+    /// Puts the answer to a question.
+    pub fn yes(&mut self, is_so: bool) {
+        self.put(if is_so { "yes " } else { "no " });
     }
 
     /// Puts a name, or a question mark in the place of bytes that are no text.
@@ -91,7 +126,8 @@ impl Lines {
         }
     }
 
-    fn names(&mut self, path: &Path) {
+    /// Puts the names of a path.
+    pub fn names(&mut self, path: &Path) {
         if path.len() == 0 {
             self.put("/");
         }

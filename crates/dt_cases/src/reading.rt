@@ -5,10 +5,21 @@ ghost use Rattle.std.specs.Prelude.{◌<◌, length};
 
 use crate::outcome::Lines;
 use dt_flat::FlatTree;
+use dt_names::NodeId;
 use std::alloc::Global;
 
 /// Puts the lines of a tree.
 pub fn put_tree(lines: &mut Lines, alloc: Global, tree: &FlatTree) {
+    put_head(lines, tree);
+    for node in 0..tree.node_count() {
+        lines.path(tree.path(alloc, node));
+        lines.put("\n");
+        put_properties(lines, tree, node);
+    }
+}
+
+/// Puts what a tree has besides its nodes.
+pub fn put_head(lines: &mut Lines, tree: &FlatTree) {
     let boot_cpu = tree.boot_cpu();
     if boot_cpu != 0 {
         writeln!(lines, "boot {boot_cpu}");
@@ -16,17 +27,12 @@ pub fn put_tree(lines: &mut Lines, alloc: Global, tree: &FlatTree) {
     for (address, size) in tree.reservations() {
         writeln!(lines, "reserve {address:#x} {size:#x}");
     }
-    for node in 0..tree.node_count() {
-        put_node(lines, alloc, tree, node);
-    }
 }
 
-/// Puts a node's path and properties.
-fn put_node(lines: &mut Lines, alloc: Global, tree: &FlatTree, node: usize)
+/// Puts a node's properties.
+pub fn put_properties(lines: &mut Lines, tree: &FlatTree, node: NodeId)
     requires { node < length tree.now.slots }
 {
-    lines.path(tree.path(alloc, node));
-    lines.put("\n");
     for (name, value) in tree.props(node) {
         put_property(lines, name, value);
     }

@@ -4,15 +4,16 @@ ghost use Rattle.std.specs.Prelude.{◌<◌, length, IfOk};
 ghost use Rattle.dt_read.specs.Placed.{IsNode};
 ghost use Rattle.dt_irq.specs.Seen.{HasArrived};
 
+use crate::names::text_of;
 use crate::numbers::{number, wide};
 use crate::outcome::{Lines, Outcome, Stop};
 use dt_flat::FlatTree;
-use dt_irq::{Route, route, specifier_route};
+use dt_irq::{Route, Routes, route, specifier_route};
 use dt_lines::{Question, ask, irqs, regs};
 use dt_names::{Fault, NodeId, Out};
-use dt_ranges::{dma_region, region};
+use dt_ranges::{Regions, dma_region, region};
 use dt_read::Blob;
-use dt_view::{Index, TreeView, node_at, one_cell};
+use dt_view::{Index, TreeView, address_cells, cells, is_pci, node_at, one_cell};
 use dt_worlds::Region;
 use std::alloc::Global;
 
@@ -105,10 +106,7 @@ fn compare_at(
 ) -> Result<(), Stop>
     requires { node < length tree.now.slots }
 {
-    let path = tree.path(alloc, node)?;
-    let mut text = Out::new(Vec::new(alloc));
-    path.write_to(&mut text)?;
-    let text = text.into_inner();
+    let text = text_of(alloc, &tree.path(alloc, node)?)?;
     let of_blob = told_by(alloc, blob, &text)?;
     if told_by(alloc, index, &text)? != of_blob || told_by(alloc, tree, &text)? != of_blob {
         out.lines().name(&text);
@@ -117,24 +115,31 @@ fn compare_at(
     Ok(())
 }
 
-/// What a view tells of the node of a path: what stands around it, the node of its number, its first regions and routes, also those for DMA and of
-/// GPIOs.
 fn told_by<V: TreeView>(alloc: Global, view: &V, path: &[u8]) -> Result<String, Stop> {
     let mut lines = Lines::new(alloc);
+    put_told(view, path, &mut lines)?;
+    lines.into_text()
+}
+
+/// Puts what a view tells of the node of a path: what stands around it, the node of its number, what it says of its children's addresses, its first
+/// regions and routes, also those for DMA and of GPIOs.
+pub fn put_told<V: TreeView>(view: &V, path: &[u8], lines: &mut Lines) -> Result<(), Fault> {
     let node = node_at(view, path)?;
-    put_around(view, node, &mut lines);
-    put_numbered(view, node, &mut lines);
+    put_around(view, node, lines);
+    put_numbered(view, node, lines);
+    put_bus(view, node, lines);
+    put_first(view, node, lines);
     for index in 0..3 {
-        put_region(region(view, node, index), &mut lines);
-        put_route(view, route(view, node, index), &mut lines);
+        put_region(region(view, node, index), lines);
+        put_route(view, route(view, node, index), lines);
         put_route(
             view,
             specifier_route(view, node, b"gpios", b"gpio", index),
-            &mut lines,
+            lines,
         );
     }
-    put_region(dma_region(view, node, 0x1000, 2), &mut lines);
-    lines.into_text()
+    put_region(dma_region(view, node, 0x1000, 2), lines);
+    Ok(())
 }
 
 /// Puts a node, and what stands above it, first below it and behind it.
@@ -180,6 +185,28 @@ fn put_numbered<V: TreeView>(view: &V, node: NodeId, lines: &mut Lines)
     }
 }
 
+/// Puts whether a node has a child of the name `n`, counts of cells, a count for addresses, and whether it is a PCI bus.
+fn put_bus<V: TreeView>(view: &V, node: NodeId, lines: &mut Lines)
+    requires { IsNode (V.tree view.now) node }
+{
+    lines.yes(view.child(node, b"n").is_some());
+    lines.yes(cells(view, node).is_ok());
+    lines.yes(address_cells(view, node, 2).is_ok());
+    lines.yes(is_pci(view, node));
+}
+
+/// Puts whether a node has a first region and a first route, as they are listed.
+fn put_first<V: TreeView>(view: &V, node: NodeId, lines: &mut Lines)
+    requires { IsNode (V.tree view.now) node }
+{
+    if let Ok(mut regions) = Regions::of(view, node) {
+        lines.yes(matches!(regions.next(view), Some(Ok(_))));
+    }
+    if let Ok(mut routes) = Routes::of(view, node) {
+        lines.yes(matches!(routes.next(view), Some(Ok(_))));
+    }
+}
+
 fn put_region(region: Result<Region, Fault>, lines: &mut Lines) {
     match region {
         Ok(region) => writeln!(
@@ -187,7 +214,7 @@ fn put_region(region: Result<Region, Fault>, lines: &mut Lines) {
             "{:#x} {:#x} {}",
             region.address, region.size, region.whole
         ),
-        Err(fault) => writeln!(lines, "{fault}"),
+        Err(fault) => lines.fault(fault),
     }
 }
 
@@ -196,7 +223,7 @@ fn put_route<V: TreeView>(view: &V, route: Result<Route, Fault>, lines: &mut Lin
 {
     match route {
         Ok(route) => put_arrival(view, &route, lines),
-        Err(fault) => writeln!(lines, "{fault}"),
+        Err(fault) => lines.fault(fault),
     }
 }
 

@@ -1,12 +1,15 @@
 //! What takes no memory: calls between two requests of sizes for which nothing else asks. Under bench/refused_memory.py each request
 //! between the two is refused, and counted.
 
+ghost use Rattle.std.specs.Prelude.{◌<◌, length};
+
 use crate::expressions::expression_of;
-use crate::outcome::Stop;
+use crate::names::text_of;
+use crate::outcome::{Lines, Stop};
 use crate::{still_nodes, still_texts};
 use dt_expr::eval;
 use dt_flat::FlatTree;
-use dt_names::{Fault, Out, Path};
+use dt_names::NodeId;
 use dt_parse::parse;
 use dt_phandle::{Numbering, number};
 use dt_read::Blob;
@@ -37,37 +40,37 @@ fn ask_for(alloc: Global, size: usize) -> Result<(), AllocError> {
     Ok(())
 }
 
-fn of_bytes(alloc: Global, input: &[u8]) -> Result<usize, Stop> {
-    let mut changed = Vec::from_slice(alloc, input)?;
-    ask_for(alloc, BEGIN)?;
-    let answered = still_texts::in_bytes(input, &mut changed);
+/// What was answered since memory was asked for, if it was there then and is there now.
+fn finish(alloc: Global, begun: Result<(), AllocError>, answered: usize) -> Result<usize, Stop> {
+    begun?;
     ask_for(alloc, END)?;
     Ok(answered)
+}
+
+fn of_bytes(alloc: Global, input: &[u8]) -> Result<usize, Stop> {
+    let mut changed = Vec::from_slice(alloc, input)?;
+    let begun = ask_for(alloc, BEGIN);
+    let answered = still_texts::in_bytes(input, &mut changed);
+    finish(alloc, begun, answered)
 }
 
 fn of_expression(alloc: Global, input: &[u8]) -> Result<usize, Stop> {
     let Some(expression) = expression_of(alloc, input)? else {
         return Err(Stop::Malformed);
     };
-    ask_for(alloc, BEGIN)?;
+    let begun = ask_for(alloc, BEGIN);
     let is_answered = eval(&expression).is_ok();
-    ask_for(alloc, END)?;
-    Ok(
-        expression
-            .steps()
-            .len()
-            .saturating_add(usize::from(is_answered)),
-    )
+    let steps = expression.steps().len();
+    finish(alloc, begun, steps.saturating_add(usize::from(is_answered)))
 }
 
 fn of_source(alloc: Global, input: &[u8]) -> Result<usize, Stop> {
     let source = parse(alloc, input)?;
     let tree = build_base(alloc, &source, Mode::Base)?;
     let numbering = number(alloc, &tree)?;
-    ask_for(alloc, BEGIN)?;
+    let begun = ask_for(alloc, BEGIN);
     let answered = numbers_of(&numbering, tree.nodes().len());
-    ask_for(alloc, END)?;
-    Ok(answered)
+    finish(alloc, begun, answered)
 }
 
 /// How many of so many nodes, and of the one behind them, have a number.
@@ -84,45 +87,47 @@ fn numbers_of(numbering: &Numbering, nodes: usize) -> usize {
 fn of_blob(alloc: Global, input: &[u8]) -> Result<usize, Stop> {
     let blob = Blob::check(input)?;
     let tree = blob.to_flat(alloc)?;
-    let paths = paths_of(alloc, &tree)?;
-    let texts = texts_of(alloc, &paths)?;
-    of_views(alloc, &blob, &tree, &paths, &texts)
+    of_tree(alloc, &blob, &tree)
 }
 
-fn of_views(
+fn of_tree(alloc: Global, blob: &Blob<'_>, tree: &FlatTree) -> Result<usize, Stop> {
+    let index = Index::new(alloc, blob)?;
+    let mut lines = Lines::to_count(alloc);
+    put_all(alloc, blob, &index, tree, &mut lines)
+}
+
+/// Puts what is told of a blob, its index and its tree. Answers how much that was.
+fn put_all(
     alloc: Global,
     blob: &Blob<'_>,
+    index: &Index<'_>,
     tree: &FlatTree,
-    paths: &[Path],
-    texts: &[Vec<u8>],
+    lines: &mut Lines,
 ) -> Result<usize, Stop> {
-    let index = Index::new(alloc, blob)?;
-    ask_for(alloc, BEGIN)?;
-    let answered = still_nodes::in_view(blob, texts)
-        .saturating_add(still_nodes::in_view(&index, texts))
-        .saturating_add(still_nodes::in_view(tree, texts))
-        .saturating_add(still_nodes::in_blob(blob, texts))
-        .saturating_add(still_nodes::in_tree(tree, paths));
-    ask_for(alloc, END)?;
-    Ok(answered)
-}
-
-/// The paths of a tree's nodes.
-fn paths_of(alloc: Global, tree: &FlatTree) -> Result<Vec<Path>, Fault> {
-    let mut paths = Vec::new(alloc);
+    let begun = ask_for(alloc, BEGIN);
+    still_nodes::put_whole(blob, tree, lines);
+    let mut count = finish(alloc, begun, lines.count())?;
     for node in 0..tree.node_count() {
-        paths.push(tree.path(alloc, node)?)?;
+        count = put_at(alloc, blob, index, tree, node, lines)?;
     }
-    Ok(paths)
+    Ok(count)
 }
 
-/// The texts of paths.
-fn texts_of(alloc: Global, paths: &[Path]) -> Result<Vec<Vec<u8>>, Fault> {
-    let mut texts = Vec::new(alloc);
-    for path in paths {
-        let mut text = Out::new(Vec::new(alloc));
-        path.write_to(&mut text)?;
-        texts.push(text.into_inner())?;
-    }
-    Ok(texts)
+/// Puts what is told of a node.
+fn put_at(
+    alloc: Global,
+    blob: &Blob<'_>,
+    index: &Index<'_>,
+    tree: &FlatTree,
+    node: NodeId,
+    lines: &mut Lines,
+) -> Result<usize, Stop>
+    requires { node < length tree.now.slots }
+{
+    let path = tree.path(alloc, node)?;
+    let text = text_of(alloc, &path)?;
+    let begun = ask_for(alloc, BEGIN);
+    still_nodes::put_views(blob, index, tree, &text, lines);
+    still_nodes::put_slot(tree, node, &path, lines);
+    finish(alloc, begun, lines.count())
 }

@@ -2,40 +2,13 @@
 
 use dt_bytes::{be32, be64, put32, text_at};
 use dt_expr::fit;
-use dt_names::{Label, NodeName, Out, PathRef, PropName, is_bookkeeping_name, phandle_of};
+use dt_names::{Label, NodeName, Out, Path, PathRef, PropName, is_bookkeeping_name, phandle_of};
 use dt_streams::{check, print};
-use dt_texts::{cell_text, texts};
-use std::io::{Result as IoResult, Write};
-
-/// A writer that takes all, and counts it.
-#[derive(Drop)]
-pub struct Counter {
-    taken: usize,
-}
-
-impl Write for Counter {
-    fn write(&mut self, bytes: &[u8]) -> IoResult<usize> {
-        self.taken = self.taken.saturating_add(bytes.len());
-        Ok(bytes.len())
-    }
-
-    fn flush(&mut self) -> IoResult<()> {
-        Ok(())
-    }
-}
-
-/// A sink over such a writer.
-pub fn make_counter() -> Out<Counter> {
-    Out::new(Counter { taken: 0 })
-}
-
-/// How many bytes it took.
-pub fn taken(counter: Out<Counter>) -> usize {
-    counter.into_inner().taken
-}
+use dt_texts::{cell_text, has_cell, texts};
+use std::io::sink;
 
 /// How many of some answers are yes.
-pub fn how_many(answers: &[bool]) -> usize {
+fn how_many(answers: &[bool]) -> usize {
     answers.iter().filter(|is_yes| **is_yes).count()
 }
 
@@ -55,6 +28,7 @@ fn in_places(input: &[u8], others: &mut [u8]) -> usize {
             be32(input, at).is_some(),
             be64(input, at).is_some(),
             text_at(input, at).is_some(),
+            has_cell(input, at),
             put32(others, at, 7),
             fit(at as u64, 8).is_ok(),
         ]));
@@ -103,15 +77,15 @@ fn in_texts(input: &[u8]) -> usize {
     answered
 }
 
-/// How many bytes `check` and `print` write of a blob.
+/// How many of `check` and `print` write to their ends.
 fn written(input: &[u8]) -> usize {
-    let mut line = make_counter();
-    let mut text = make_counter();
-    let is_checked = check(input, &mut line).is_ok();
-    let is_printed = print(input, &mut text).is_ok();
-    if is_checked == is_printed {
-        taken(line).saturating_add(taken(text))
-    } else {
-        0
-    }
+    how_many(&[
+        check(input, &mut Out::new(sink())).is_ok(),
+        print(input, &mut Out::new(sink())).is_ok(),
+    ])
+}
+
+/// Whether a path's text is written.
+pub fn is_written(path: &Path) -> bool {
+    path.write_to(&mut Out::new(sink())).is_ok()
 }
