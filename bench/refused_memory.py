@@ -254,7 +254,7 @@ class Cases:
         with tempfile.NamedTemporaryFile("r") as told:
             status, _, said = run(self.of("still", asked), self.shim, refuse_still=told.name)
             begun, refused = map(int, (told.read() or "0 0").split())
-        print(f"calls that take no memory: {len(asked)} cases, {begun} of which came to such calls, {refused} allocations")
+        print(f"calls that take no memory: {len(asked)} cases, which came to such calls {begun} times, {refused} allocations")
         return status == 1 and begun > 0 and refused == 0
 
 
