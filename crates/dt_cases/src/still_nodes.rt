@@ -13,7 +13,7 @@ use dt_flat::FlatTree;
 use dt_listed::{fixups, local_fixups};
 use dt_names::{NodeId, Path};
 use dt_read::{Blob, Step};
-use dt_view::{Index, node_at};
+use dt_view::{Index, TreeView, node_at};
 
 /// Puts what the calls of a blob answer, and those of its tree.
 pub fn put_whole(blob: &Blob<'_>, tree: &FlatTree, lines: &mut Lines) {
@@ -66,6 +66,7 @@ pub fn put_views(
     for is_told in told {
         lines.yes(is_told);
     }
+    lines.yes(blob.node_count() == index.node_count());
     if let Ok(node) = node_at(blob, text) {
         put_node(blob, node, lines);
     }
