@@ -16,7 +16,7 @@ use Rattle.dt_joining.specs.Joining.{SitesAreOne}
 use Rattle.dt_landing.specs.Outcomes.{RefusedIsUndefined}
 use Rattle.dt_write.specs.Written.{written}
 use Rattle.dt_chain.specs.Apply as inputs
-use Rattle.dt_chain.specs.Apply.{IsOutcome, IsBlobOfAll, AreSteps, WhyNoneOfAll, IsRead, IsNoBlob, WhyNoBlobApplied}
+use Rattle.dt_chain.specs.Apply.{IsRead, IsNoBlob, WhyNoBlobApplied}
 use Rattle.dt_chain.specs.Laws.{IsBlobOfMeaning, IsBlobOfOverlay, AreBlobsOfOverlays, ApplyingIsMerging, RefusedIsNoMerge}
 use Rattle.dt_chain.proofs.Outcomes.{WrittenReads}
 use Rattle.dt_chain.proofs.ChainOutcomes.{IsFine, steps_fine}

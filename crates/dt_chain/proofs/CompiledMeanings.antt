@@ -25,7 +25,7 @@ use Rattle.dt_source.proofs.OverlayOutcomes as named_overlays
 use Rattle.dt_write.specs.Written.{written}
 use Rattle.dt_chain.specs.Build.{HasBaseTree, HasObject}
 use Rattle.dt_chain.specs.Compile as compile
-use Rattle.dt_chain.specs.Compile.{TextMeans, TextHasTree, OverlayTextMeans, OverlayTextHasTree, WhyNoTree, WhyNotCompiled, WhyNotCompiledOverlay, WhyNoBlob}
+use Rattle.dt_chain.specs.Compile.{TextMeans, TextHasTree, OverlayTextMeans, WhyNoTree, WhyNotCompiled, WhyNotCompiledOverlay, WhyNoBlob}
 use Rattle.dt_chain.specs.Laws.{IsOfBytes, BaseRepresents, RawIsInstance, OverlayIsObject, NotCompiledIsNoMeaning, RawNotCompiledIsNoMeaning}
 use Rattle.dt_chain.proofs.Outcomes.{SaidOnce, SaidOnly, WrittenReads}
 use Rattle.dt_chain.proofs.AppliedMeanings.{WrittenIsWithin, written_is_read}

@@ -17,7 +17,7 @@ use Rattle.dt_landing.specs.Refusals.{has_many, WhyNotApplied}
 use Rattle.dt_read.specs.Kinds.{kind_of}
 use Rattle.dt_source.specs.Refusals.{WhyNotNamed, WhyNoOverlay, IsOverlayFaultOf, fault_kind, overlay_fault_kind}
 use Rattle.dt_chain.specs.Apply as inputs
-use Rattle.dt_chain.specs.Apply.{IsRead, IsNoBlob, IsOutcome, WhyNoStep, IsStopped, WhyNoneOfAll}
+use Rattle.dt_chain.specs.Apply.{IsRead, IsNoBlob, IsOutcome, WhyNoStep, WhyNoneOfAll}
 use Rattle.dt_chain.specs.Build.{HasBaseTree, HasObject, WhyNoObject}
 use Rattle.dt_chain.specs.Compile as compile
 use Rattle.dt_chain.specs.Compile.{WhyNoTree, WhyNotCompiled, WhyNotCompiledOverlay, WhyNoBlob}

@@ -15,7 +15,7 @@ use Rattle.dt_model.specs.Source.{Mode, base, raw, duplicate_property, duplicate
 use Rattle.dt_model.specs.Refused.{SourceRefusal, at_place, at_end, too_many as too_many_nodes}
 use Rattle.dt_model.specs.Named as named
 use Rattle.dt_model.specs.Named.{NodeReference, Named, NamedForest, NamedNode, no_nodes, branch, sibling, node_at, list_of, listed, node_count}
-use Rattle.dt_model.specs.Instance.{numbered_forest, instance_of, symbols_of, with_symbols, added, followed_by}
+use Rattle.dt_model.specs.Instance.{numbered_forest, instance_of, symbols_of, with_symbols, followed_by}
 use Rattle.dt_laws.specs.Sources.{SourceIsPlain}
 use Rattle.dt_laws.specs.NamedTrees.{TreeIsMeant}
 use Rattle.dt_grammar.specs.Grammar.{Says}

@@ -6,7 +6,7 @@ use Rattle.dt_model.specs.Names.{IsNodeName, IsLabel}
 use Rattle.dt_model.specs.Path.{Path, path_text}
 use Rattle.dt_model.specs.Source.{Reference, by_path}
 use Rattle.dt_grammar.specs.Words.{IsReferenceWord, to_label, to_path}
-use Rattle.dt_grammar.specs.Unchecked.{a_label, a_path, all_but_last, ended_names, path_of_names, reference_in}
+use Rattle.dt_grammar.specs.Unchecked.{a_label, a_path, all_but_last, ended_names, path_of_names}
 use Rattle.dt_grammar.specs.Relaxed.{a_reference}
 use Rattle.dt_grammar.specs.Strict.{IsLabelText, IsReferenceText}
 use Rattle.dt_grammar.specs.Paths.{braced}

@@ -4,7 +4,6 @@ use Rattle.std.specs.HashMap.{HashMap, UpdatesBy}
 use Rattle.std.specs.Str.{bytes_eq}
 use Rattle.std.proofs.lemmas.Bool.{eqb-true, eq-eqb}
 use Rattle.std.proofs.lemmas.Slice.Eq.{bytes_eq-Decides}
-use Rattle.dt_model.proofs.Cases.{bool_cases}
 use Rattle.dt_model.proofs.EventSteps.{bytes_eq-refl}
 use Rattle.dt_model.specs.Names.{Name}
 use Rattle.dt_growing.specs.Table.{Key, Puts, PutsName}

@@ -16,7 +16,7 @@ use Rattle.dt_model.specs.Valid.{IsReservation}
 use Rattle.dt_model.specs.Numbering.{Asked, IsNumberFor, IsNumbering, asked_by, numbers_by, HasLeastNumbers}
 use Rattle.dt_model.specs.Ordered.{AreChildrenInOrder, ArePropertiesInOrder, unwritten, IsInOrder}
 use Rattle.dt_model.specs.Named as named
-use Rattle.dt_model.specs.Named.{NodeReference, Content, Named, NamedNode, NamedPlaced, NamedProperty, node_at, node_count, nodes_of, paths_of, number_of, written_in}
+use Rattle.dt_model.specs.Named.{NodeReference, Content, Named, NamedNode, NamedPlaced, NamedProperty, node_at, node_count, nodes_of, paths_of, written_in}
 use Rattle.dt_model.specs.Overlay.{inside, outside, object_number, reference_renamed}
 use Rattle.dt_model.specs.NamedOf.{IsBelow, bound_values, IsNamedOf, IsNamed, path_among, meant, has_reference_to, asked, asked_from, contents_of, asked_in}
 use Rattle.dt_model.specs.Instance.{number_for, number_at, numbered_properties, instance_of, IsInstance, IsInstanceOf}

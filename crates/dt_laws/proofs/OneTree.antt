@@ -11,7 +11,7 @@ use Rattle.dt_model.specs.Event.{stands, value_at}
 use Rattle.dt_model.specs.Source.{Events, Part, Place, Mode, SoFar, read_all, nothing, all_bound, written_number, labels_there, refers_there, meaning_of}
 use Rattle.dt_model.specs.Tree.{Property, Reading, Node, node_at, root_of, value_of, value_in}
 use Rattle.dt_model.specs.Valid as valid
-use Rattle.dt_model.specs.Valid.{AreDistinct, IsValid}
+use Rattle.dt_model.specs.Valid.{IsValid}
 use Rattle.dt_model.specs.Numbers.{paths_of}
 use Rattle.dt_model.specs.Numbering.{asked_by, numbers_by, written_numbers, IsNumbering, HasLeastNumbers}
 use Rattle.dt_model.specs.Ordered.{IsInOrder, unwritten}

@@ -14,7 +14,7 @@ use Rattle.dt_model.specs.OverlaySource.{OverlaySoFar, overlay_of, bad_fragment,
 use Rattle.dt_model.specs.Source.{Events, Place}
 use Rattle.dt_model.specs.Valid.{AreDistinct}
 use Rattle.dt_model.specs.Named as named
-use Rattle.dt_model.specs.Named.{NodeReference, NamedProperty, Content, Named, NamedNode, NamedPlaced, Listed, node_at, node_below, content_in, value_of, node_count, nodes_of, paths_of, list_of}
+use Rattle.dt_model.specs.Named.{NodeReference, NamedProperty, Content, Named, NamedNode, NamedPlaced, Listed, node_at, node_below, value_of, node_count, nodes_of, paths_of, list_of}
 use Rattle.dt_model.specs.NamedOf.{IsNamedBy, IsBelow, RefersBelow, path_among, meant, contents_of}
 use Rattle.dt_model.specs.NamedOverlay.{NamedTarget, to_reference, to_text, NamedFragment, IsTargetOf, AreFragmentsOf, IsNamedOverlayOf}
 use Rattle.dt_laws.specs.OverlayChecks.{fragments_among, HoldTarget, properties_at, AreFragmentsAmong, HasUntargeted, is_marked, AreBrought, is_within, refers_within, refer_within, is_target_within, AreContained, AreTargetsContained, HasUncontained, AreChecked, AreUncontained, IsTreeAfter, CheckedIsMeant, UntargetedIsRefused, UncontainedIsRefused}

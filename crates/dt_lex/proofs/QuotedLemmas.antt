@@ -6,7 +6,7 @@ use Rattle.dt_lex.specs.declared.byte.Class.TheVariants as class
 use Rattle.dt_lex.specs.Bytes.{is_in}
 use Rattle.dt_lex.specs.Numbers.{digits, number_behind}
 use Rattle.dt_lex.specs.Words.{Each, Word, Either, Begins, Then, Stops, IsLongestWord, NoneFits}
-use Rattle.dt_lex.specs.Vocabulary.{OneDigit, IsSimple, IsEscape, simple_value, Escape, IsInside, IsText, TextWord, IsCharacter, CharacterWord}
+use Rattle.dt_lex.specs.Vocabulary.{OneDigit, IsSimple, IsEscape, simple_value, Escape}
 use Rattle.dt_lex.specs.Vocabulary as vocabulary
 use Rattle.dt_lex.specs.Letters.{RunsUpTo}
 use Rattle.dt_lex.proofs.WordLemmas.{each_most}

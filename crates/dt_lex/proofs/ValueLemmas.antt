@@ -9,7 +9,7 @@ use Rattle.dt_lex.specs.Numbers.{digit_of, digits, number_behind}
 use Rattle.dt_lex.specs.Words.{Each, Stops, IsLongestWord}
 use Rattle.dt_lex.specs.Vocabulary.{Escape, IsInside, nothing, itself, escaped, IsText, IsCharacter, itself_alone, escaped_alone, simple_value}
 use Rattle.dt_lex.specs.Texts as texts
-use Rattle.dt_lex.specs.Texts.{plain, behind_backslash, unescaped, inner, text_bytes, character_value}
+use Rattle.dt_lex.specs.Texts.{plain, unescaped, inner, text_bytes, character_value}
 use Rattle.dt_lex.proofs.WordLemmas.{each_push}
 use Rattle.dt_lex.proofs.QuotedLemmas.{Digits, Form, simple_form, octal_form, hex_form, form, octal_escape, hex_escape, other_byte}
 

@@ -1,22 +1,21 @@
 -- One question to one node.
-use Rattle.std.proofs.Common.{◌≡◌, ℕ, true, false, List, [], ◌++◌, Option, Some, None, Result, Ok, Err, OnOk, IfErr, sym, ap, subst, ◌∙◌, append-nil}
+use Rattle.std.proofs.Common.{◌≡◌, ℕ, true, List, [], ◌++◌, Result, Ok, Err, OnOk, IfErr, sym, ap, subst, ◌∙◌, append-nil}
 use Rattle.std.specs.Prelude.{is_some}
 use Rattle.dt_model.specs.Path.{Path}
 use Rattle.dt_model.specs.Tree.{Reading, stands_in}
 use Rattle.dt_model.specs.Format.{Reads, IsWithin}
-use Rattle.dt_names.specs.Paths.{IsPathOf}
 use Rattle.dt_names.specs.Sink.{Taken, Takes, IsRefused}
 use Rattle.dt_names.specs.declared.fault.Fault.{Fault}
 use Rattle.dt_names.specs.declared.fault.FaultKind.{FaultKind}
 use Rattle.dt_names.specs.declared.fault.FaultKind.TheVariants.{BadName, NoNode}
-use Rattle.dt_read.specs.Placed.{PlacedTree, path_at, place_of, reading_of, IsAt}
+use Rattle.dt_read.specs.Placed.{PlacedTree, path_at, reading_of, IsAt}
 use Rattle.dt_read.proofs.NodePlaces.{path_is, stands_place}
 use Rattle.dt_worlds.specs.Answers.{Answer, refused, answer}
 use Rattle.dt_worlds.specs.World.{tree_world}
 use Rattle.dt_decompile.specs.Passed.{IsPassed}
 use Rattle.dt_decompile.proofs.Passing.{passed_then}
 use Rattle.dt_view.specs.Views.{IsFoundBy, WhyNotFound}
-use Rattle.dt_lines.specs.Asked.{answer_words, IsAnswer, WhyNoNode, WhyUnanswered, WhyNotAsked, WhyUntold, no_answer, unanswered, cut, refusal, failure}
+use Rattle.dt_lines.specs.Asked.{answer_words, IsAnswer, WhyNoNode, WhyNotAsked, WhyUntold, no_answer, unanswered, cut, refusal, failure}
 use Rattle.dt_lines.specs.declared.asking.Question.{Question}
 
 -- some bytes passed an empty buffer, which was emptied again

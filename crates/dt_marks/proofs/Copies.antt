@@ -7,7 +7,7 @@ use Rattle.std.proofs.lemmas.Slice.Eq.{bytes_eq-Decides}
 use Rattle.dt_model.specs.Fixups.{local_properties, mirror, unless_empty}
 use Rattle.dt_model.specs.Names.{Name}
 use Rattle.dt_model.specs.Named as named
-use Rattle.dt_model.specs.Named.{NodeReference, Content, NamedForest, Listed, node_count, listed}
+use Rattle.dt_model.specs.Named.{NodeReference, NamedForest, Listed, node_count, listed}
 use Rattle.dt_model.specs.NamedOf.{AreNamedNodes}
 use Rattle.dt_model.specs.Tree.{Property, Forest, no_nodes, branch}
 use Rattle.dt_model.specs.Valid.{AreDistinct}

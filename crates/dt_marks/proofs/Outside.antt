@@ -6,7 +6,7 @@ use Rattle.dt_model.specs.Fixups.{outside_cell, outside_cells_of, outside_cells}
 use Rattle.dt_model.specs.Meaning.{Item, byte, reference, EachReference}
 use Rattle.dt_model.specs.Names.{Name}
 use Rattle.dt_model.specs.Named as named
-use Rattle.dt_model.specs.Named.{NodeReference, NamedProperty, Content, NamedForest, Named, NamedPlaced, Listed, node_count, nodes_of, listed, list_of}
+use Rattle.dt_model.specs.Named.{NodeReference, NamedProperty, NamedForest, Named, NamedPlaced, Listed, node_count, nodes_of, listed, list_of}
 use Rattle.dt_model.specs.NamedOf.{IsBelow, RefersBelow, AreNamedNodes, IsNamed}
 use Rattle.dt_model.specs.Object.{references_from}
 use Rattle.dt_model.specs.Overlay.{inside, outside}

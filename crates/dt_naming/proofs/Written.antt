@@ -1,6 +1,6 @@
 -- Phandles that values write: four bytes, and no reference among them.
 use Rattle.std.proofs.Common.{◌≡◌, ℕ, ◌<◌, List, [], ◌∷◌, ◌++◌, map, length, None, refl, ap, ◌∙◌, arith, append_assoc}
-use Rattle.dt_model.specs.Source.{Part, one, number_of, text_of, number_of_parts}
+use Rattle.dt_model.specs.Source.{Part, one, number_of_parts}
 use Rattle.dt_model.specs.Source as model
 use Rattle.dt_items.specs.declared.source.Form.{Form}
 use Rattle.dt_items.specs.declared.source.Form.TheVariants as form

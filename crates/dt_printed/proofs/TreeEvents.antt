@@ -10,13 +10,13 @@ use Rattle.dt_model.specs.Lists.{IsIn}
 use Rattle.dt_model.specs.Event.{Stack, Event, opening, giving, definition, opens, takes, defines, drops, last_where, is_opening, defined, stands, value_at, names}
 use Rattle.dt_model.specs.Source.{Part, one, Events}
 use Rattle.dt_model.specs.Tree.{Property, Forest, no_nodes, branch, Reading, value_of, stands_in, value_in, Placed, preorder, nodes_of}
-use Rattle.dt_model.specs.Valid.{AreDistinct, AreProperties, AreNodes, IsValid}
+use Rattle.dt_model.specs.Valid.{AreDistinct, IsValid}
 use Rattle.dt_model.proofs.Distinct.{in_flat}
 use Rattle.dt_model.proofs.Flat.{from_flat}
 use Rattle.dt_laws.proofs.Lasts.{last_passes, stands_by, names_by, value_by}
 use Rattle.dt_model.proofs.Listed.{listed_stands, stands_listed, listed_value, value_listed, properties_listed}
 use Rattle.dt_laws.proofs.Meanings.{no_twice}
-use Rattle.dt_model.proofs.Tests.{in_append, in_map, each_in, bytes_eq_refl, bytes_eq_true, path_eq_refl}
+use Rattle.dt_model.proofs.Tests.{in_map, each_in, bytes_eq_refl, bytes_eq_true, path_eq_refl}
 use Rattle.dt_printed.proofs.ReadPlaces.{property_events, node_events, events_of}
 
 -- ---- the events node by node

@@ -3,7 +3,7 @@ use Rattle.std.proofs.Common.{◌≡◌, ℕ, zero, suc, ◌+◌, ◌<◌, ◌�
 use Rattle.std.specs.List.{AllByRecursion}
 use Rattle.std.proofs.lemmas.List.{length-append}
 use Rattle.dt_model.specs.Names.{IsPropertyName}
-use Rattle.dt_model.specs.Tree.{Property, Forest, branch, Reading}
+use Rattle.dt_model.specs.Tree.{Property, Forest, branch}
 use Rattle.dt_model.specs.Tree as tree
 use Rattle.dt_model.specs.Valid.{AreNodes, IsNoDeeper}
 use Rattle.dt_flat.specs.Arena.{Arena, Slot, root_alone, depth_of, with_child, with_property, reading}

@@ -10,7 +10,7 @@ use Rattle.dt_flat.proofs.Distinctness.{distinct-front, distinct-back}
 use Rattle.dt_read.specs.Placed.{Nodes, no_nodes, node}
 use Rattle.dt_read.specs.Marks.{Mark, begin_mark, end_mark, prop_mark, nop_mark, last_mark, Root, marks_of, marks_of_nodes}
 use Rattle.dt_read.specs.Parsing.{left_by}
-use Rattle.dt_read.specs.TreeTokens.{Parts, heads_of, node_of}
+use Rattle.dt_read.specs.TreeTokens.{Parts, heads_of}
 use Rattle.dt_read.specs.Order.{Rise, HasRisingPlaces}
 use Rattle.dt_read.specs.Distinct.{property_names, head_names, AreDistinctParts, HasDistinctNames, AreDistinctInEach}
 use Rattle.dt_read.specs.Keys.{Key, keys_in, keys_of}

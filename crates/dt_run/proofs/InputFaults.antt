@@ -21,7 +21,7 @@ use Rattle.dt_lines.specs.Asked.{answer_words, WhyNoNode, WhyUnanswered}
 use Rattle.dt_lines.specs.Lines.{region_words, route_words}
 use Rattle.dt_lines.specs.declared.asking.Question.{Question}
 use Rattle.dt_lines.specs.declared.asking.Question.TheVariants as ask
-use Rattle.dt_chain.specs.Apply.{IsNoBlob, WhyNoBlobApplied, WhyNoStep, WhyNoneOfAll, IsStopped}
+use Rattle.dt_chain.specs.Apply.{IsNoBlob, WhyNoBlobApplied, WhyNoStep, WhyNoneOfAll}
 use Rattle.dt_chain.specs.Build.{WhyNoObject, WhyNoBlobBuilt}
 use Rattle.dt_chain.specs.Compile as compile
 use Rattle.dt_chain.specs.Compile.{IsCompilerFault, WhyNoTree, WhyNotCompiled, WhyNotCompiledOverlay}

@@ -4,7 +4,7 @@ use Rattle.std.specs.List.{concat}
 use Rattle.dt_model.specs.Checks as checks
 use Rattle.dt_model.specs.Checks.{BlobFault, IsFirstFault}
 use Rattle.dt_model.specs.Source.{raw}
-use Rattle.dt_names.specs.Sink.{Taken, Takes, IsUntouched, IsRefused}
+use Rattle.dt_names.specs.Sink.{Taken, Takes, IsUntouched}
 use Rattle.dt_names.specs.declared.fault.Fault.{Fault}
 use Rattle.dt_names.specs.declared.fault.FaultKind.{FaultKind}
 use Rattle.dt_names.specs.declared.fault.FaultKind.TheVariants.{NoMemory, WriteFault}

@@ -1,16 +1,11 @@
 -- What a job writes of its inputs, and why it doesn't.
-use Rattle.std.specs.Prelude.{◌≡◌, ◌<◌, ◌++◌, ◌∷◌, [], ℕ, List, Bool, Option, None, length, codes, decimal, if◌then◌else◌}
-use Rattle.std.specs.List.{concat, sum_by}
+use Rattle.std.specs.Prelude.{◌≡◌, ◌<◌, ◌++◌, ◌∷◌, [], ℕ, List, Bool, Option, None, length, if◌then◌else◌}
+use Rattle.std.specs.List.{concat}
 use Rattle.hex.specs.Hex.{encode_lower}
 use Rattle.dt_model.specs.Source.{raw}
-use Rattle.dt_model.specs.Tree.{Reading, nodes_of}
-use Rattle.dt_model.specs.Format.{Reads, IsWithin}
-use Rattle.dt_model.specs.Checks.{BlobFault, IsFirstFault}
 use Rattle.dt_names.specs.Sink.{Taken, IsUntouched, IsCutShort}
 use Rattle.dt_names.specs.declared.fault.FaultKind.{FaultKind}
 use Rattle.dt_names.specs.declared.fault.FaultKind.TheVariants.{NoMemory, WriteFault}
-use Rattle.dt_model.specs.Printed.{printed}
-use Rattle.dt_read.specs.Kinds.{kind_of}
 use Rattle.dt_chain.specs.Apply.{IsBlobApplied, WhyNoBlobApplied}
 use Rattle.dt_chain.specs.Compile as compile
 use Rattle.dt_chain.specs.Build.{IsBlobBuilt, WhyNoBlobBuilt}

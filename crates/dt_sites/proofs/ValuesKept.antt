@@ -1,21 +1,18 @@
 -- What is kept of values, and the nodes with them, after a value is put.
 use Rattle.std.proofs.Common.{◌≡◌, ◌≢◌, ℕ, zero, suc, ◌+◌, ◌<◌, Bool, true, false, cond, ◌&&◌, List, [], ◌∷◌, length, drop, Option, Some, None, refl, sym, ap, subst, ◌∙◌, arith}
 use Rattle.std.specs.Prelude.{map, nat_eq, option_map, unwrap_or}
-use Rattle.std.specs.Borrow.{Bor}
 use Rattle.std.specs.Global.{Vec}
 use Rattle.std.specs.HashMap.{HashMap, UpdatesBy}
 use Rattle.std.specs.List.{AllByRecursion}
-use Rattle.std.specs.Map.{lookup, KeepsOthers}
+use Rattle.std.specs.Map.{lookup}
 use Rattle.std.specs.Str.{bytes_eq}
 use Rattle.std.proofs.lemmas.Bool.{eqb-true}
 use Rattle.std.proofs.lemmas.Bool.Decides.{Decides-eqb}
-use Rattle.std.proofs.lemmas.Slice.Eq.{bytes_eq-Decides}
 use Rattle.dt_model.specs.Changes.{set_property}
 use Rattle.dt_model.specs.Names.{Name}
 use Rattle.dt_model.specs.Tree.{Property, value_of}
 use Rattle.dt_model.specs.Valid.{AreDistinct}
-use Rattle.dt_model.proofs.Cases.{bool_cases}
-use Rattle.dt_model.proofs.Tests.{bytes_eq_true, bytes_eq_other, bytes_eq_refl}
+use Rattle.dt_model.proofs.Tests.{bytes_eq_true, bytes_eq_other}
 use Rattle.dt_flat.specs.Arena.{Slot, properties, name_of, children, children_among, with_property}
 use Rattle.dt_sites.specs.Values.{Kept, value_kept, Keeps, with_kept, with_values, Key, values_kept}
 

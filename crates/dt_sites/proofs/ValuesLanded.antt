@@ -1,9 +1,9 @@
 -- Nodes that land with the values that are kept of their properties.
-use Rattle.std.proofs.Common.{◌≡◌, ℕ, ◌+◌, ◌<◌, List, [], ◌∷◌, length, map, sym, ap, subst, ◌∙◌, arith}
+use Rattle.std.proofs.Common.{◌≡◌, ℕ, ◌+◌, ◌<◌, List, [], ◌∷◌, map, sym, ap, subst, ◌∙◌, arith}
 use Rattle.std.specs.List.{AllByRecursion}
 use Rattle.dt_model.specs.Names.{IsNodeName, IsPropertyName}
 use Rattle.dt_model.specs.Tree.{Property}
-use Rattle.dt_flat.specs.Arena.{Slot, properties, name_of}
+use Rattle.dt_flat.specs.Arena.{Slot, properties}
 use Rattle.dt_sites.specs.Values.{Kept, with_kept, with_values}
 use Rattle.dt_sites.proofs.LandingNodes.{IsChildOf}
 use Rattle.dt_sites.proofs.ValuesKept.{properties_with, name_with, length_with}

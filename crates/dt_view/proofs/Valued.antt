@@ -1,6 +1,6 @@
 -- The table of values, as it is filled on the way through a tree.
 use Rattle.std.proofs.Common.{◌≡◌, ◌≢◌, ◌⊎◌, ℕ, ◌&&◌, nat_eq, Bool, true, false, cond, List, [], ◌∷◌, ◌++◌, map, Option, Some, None, Bor, refl, sym, ap, subst, ◌∙◌, inl, inr, append_assoc, true≢false}
-use Rattle.std.specs.Prelude.{is_some, option_and_then}
+use Rattle.std.specs.Prelude.{is_some}
 use Rattle.std.specs.HashMap.{HashMap, UpdatesBy}
 use Rattle.std.specs.List.{AllByRecursion}
 use Rattle.std.specs.Map.{lookup}
@@ -8,13 +8,12 @@ use Rattle.std.specs.Option.{option_copied}
 use Rattle.std.specs.Str.{bytes_eq}
 use Rattle.std.proofs.lemmas.Bool.{eqb-true, eq-eqb}
 use Rattle.std.proofs.lemmas.List.{append-nil}
-use Rattle.std.proofs.lemmas.Option.{same_Some}
 use Rattle.std.proofs.lemmas.Slice.Eq.{bytes_eq-Decides}
 use Rattle.dt_model.specs.Lists.{IsIn}
 use Rattle.dt_model.specs.Names.{Name}
 use Rattle.dt_model.specs.Path.{Path}
-use Rattle.dt_model.specs.Tree.{Property, Forest, no_nodes, branch, Placed, Node, sibling, node_below, root_of, node_at, nodes_of, value_of, value_in}
-use Rattle.dt_model.specs.Valid.{IsValid, AreNodes, AreDistinct}
+use Rattle.dt_model.specs.Tree.{Property, Placed, Node, node_at, nodes_of, value_of, value_in}
+use Rattle.dt_model.specs.Valid.{IsValid, AreDistinct}
 use Rattle.dt_model.proofs.Listed.{stands_listed, at_listed, properties_listed}
 use Rattle.dt_model.proofs.Tests.{in_append}
 use Rattle.dt_read.specs.Placed.{PlacedTree, reading_of, path_at, place_of, properties_found, properties_at, IsAt, IsNode}

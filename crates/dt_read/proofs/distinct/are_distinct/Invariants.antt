@@ -1,5 +1,5 @@
 -- The keys of the classes so far are new where they stand.
-use Rattle.std.proofs.Common.{◌≡◌, ◌<◌, ◌%◌, ℕ, Some, List, length}
+use Rattle.std.proofs.Common.{◌≡◌, ◌<◌, ◌%◌, ℕ, Some, List}
 use Rattle.std.specs.List.{slice_get}
 use Rattle.dt_read.specs.Keys.{Key}
 use Rattle.dt_read.specs.Classes.{hash_of, IsNewIn}

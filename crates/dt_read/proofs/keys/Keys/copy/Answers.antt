@@ -1,4 +1,4 @@
-use Rattle.std.proofs.Common.{length, arith}
+use Rattle.std.proofs.Common.{arith}
 use Rattle.dt_read.proofs.KeyCounts.{length-keys_in}
 use Rattle.dt_read.proofs.keys.Keys.copy.Goals as goal
 

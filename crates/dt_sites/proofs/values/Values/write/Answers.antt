@@ -8,7 +8,7 @@ use Rattle.dt_model.specs.Applied.{with_cell}
 use Rattle.dt_model.specs.Meaning.{cell}
 use Rattle.dt_model.specs.Tree.{Property, value_of}
 use Rattle.dt_flat.specs.Arena.{properties, with_property}
-use Rattle.dt_sites.specs.Values.{Kept, Keeps, value_kept, with_values}
+use Rattle.dt_sites.specs.Values.{Keeps, value_kept, with_values}
 use Rattle.dt_sites.proofs.LandingNodes.{good_node}
 use Rattle.dt_sites.proofs.ValuesKept.{length_with, properties_with, value_with, value_without, keeps_again, put_in}
 use Rattle.dt_sites.proofs.values.Values.write.Goals as goal

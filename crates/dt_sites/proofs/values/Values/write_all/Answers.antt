@@ -2,7 +2,7 @@ use Rattle.std.proofs.Common.{◌≡◌, ◌+◌, ◌∙◌, List, drop, sym, ap
 use Rattle.dt_flat.specs.Arena.{Slot}
 use Rattle.dt_parts.specs.declared.kept.Write.{Write}
 use Rattle.dt_sites.specs.Values.{with_values}
-use Rattle.dt_sites.specs.Writing.{AreWritable, with_write, with_writes}
+use Rattle.dt_sites.specs.Writing.{AreWritable, with_writes}
 use Rattle.dt_sites.proofs.WritesKept.{next_write, still_writable}
 use Rattle.dt_sites.proofs.values.Values.write_all.Goals as goal
 
