@@ -1,5 +1,6 @@
 pub mod CarriedLandings
 pub mod CarriedOut
-pub mod ReadPlans
+pub mod ReadObjects
+pub mod SeenObjects
 pub mod Told
-pub mod MarksRead
+pub mod ValuesSaid

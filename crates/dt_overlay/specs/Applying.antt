@@ -1,72 +1,64 @@
 -- What is known of an object on the way, while it is applied.
-use Rattle.std.specs.Prelude.{◌≡◌, ◌⊎◌, List, [], map}
-use Rattle.std.specs.List.{AllByRecursion, flat_map}
+use Rattle.std.specs.Prelude.{◌≡◌, ◌⊎◌, ℕ, List, [], map}
 use Rattle.dt_model.specs.Names.{Name}
+use Rattle.dt_model.specs.Path.{Path}
 use Rattle.dt_model.specs.Tree.{Reading}
-use Rattle.dt_model.specs.Valid.{IsWithinLimits}
+use Rattle.dt_model.specs.Valid.{IsValid, IsWithinLimits}
 use Rattle.dt_model.specs.Merged.{Site}
 use Rattle.dt_model.specs.Object.{Cell, HasFixups, fragment_names, local_cells}
-use Rattle.dt_model.specs.Applied.{writes, local_write, label_write}
+use Rattle.dt_model.specs.Applied.{local_write, label_write}
 use Rattle.dt_names.specs.declared.fault.FaultKind.{FaultKind}
 use Rattle.dt_names.specs.declared.fault.FaultKind.TheVariants.{NoMemory, Limit}
-use Rattle.dt_flat.specs.Arena.{Arena, reading}
 use Rattle.dt_joining.specs.Walk.{Walked, nothing_walked, new_numbers}
 use Rattle.dt_landing.specs.Landings.{AreSited}
-use Rattle.dt_landing.specs.Objects.{HasCell, IsWellFormed, symbols_in}
+use Rattle.dt_landing.specs.Objects.{IsWellFormed}
 use Rattle.dt_landing.specs.Refusals.{IsCrowded}
-use Rattle.dt_overlay.specs.declared.applying.Plan.{Plan}
-use Rattle.dt_parts.specs.declared.brought.Brought.{Brought}
-use Rattle.dt_sites.specs.Writing.{AreWritable, with_writes}
+use Rattle.dt_overlay.specs.Objects.{Seen, IsSeenAs}
+use Rattle.dt_overlay.specs.declared.applying.Landing.{Landing}
+use Rattle.dt_overlay.specs.declared.object.Object.{Object}
 use Rattle.dt_targets.specs.Known.{IsKnown}
-use Rattle.dt_parts.specs.Plans.{AreBrought, AreFragmentsOf, AreSymbolsOf, AreWritesOf, IsReady, symbol_brought}
 
--- nothing is planned so far
-pub record IsEmptyPlan (p : Plan) : Type 0 where
-  pub fragments : p.fragments.items ≡ []
-  pub local_writes : p.local_writes.items ≡ []
-  pub label_writes : p.label_writes.items ≡ []
-  pub symbols : p.symbols.items ≡ []
-  pub sites : p.sites.items ≡ []
-  pub places : (base : Reading) → IsKnown base [] [] p.places
+-- nothing has landed so far
+pub record IsEmptyLanding (l : Landing) : Type 0 where
+  pub sites : l.sites.items ≡ []
+  pub places : (base : Reading) → IsKnown base [] [] l.places
+
+-- an object that lists these cells for labels, with the writes that these new numbers of its nodes make
+abbrev pub seen_with : (base object : Reading) → List (Name × Cell) → (numbers : List (Path × ℕ)) → Seen
+seen_with base object fixups numbers = record {
+  reading = object;
+  own = map (local_write object numbers) (local_cells object);
+  labels = map (label_write base) fixups;
+  numbers = numbers;
+}
 
 -- the object is read, and has no fault
-pub record IsReadAs (base : Reading) (tree : Arena) (b : Brought) (p : Plan) : Type 0 where
+pub record IsReadFor (base object : Reading) (o : Object) : Type 0 where
+  pub valid : IsValid object
+  pub few : IsWithinLimits object
   pub fixups : List (Name × Cell)
-  pub listed : HasFixups (reading tree) fixups
-  pub fragments : AreFragmentsOf tree.slots (reading tree) p.fragments.items (fragment_names (reading tree).children)
-  pub brought : AreBrought tree.slots (fragment_names (reading tree).children) [] b
-  pub locals : AreWritesOf tree.slots p.local_writes.items (map (local_write (reading tree) []) (local_cells (reading tree)))
-  pub labels : AreWritesOf tree.slots p.label_writes.items (map (label_write base) fixups)
-  pub locals_there : AllByRecursion (HasCell (reading tree)) (local_cells (reading tree))
-  pub labels_there : AllByRecursion (λ (x : Name × Cell). HasCell (reading tree) x.1) fixups
-  pub symbols : AreSymbolsOf tree.slots p.symbols.items (flat_map (symbol_brought (reading tree)) (symbols_in (reading tree)))
-  pub well : IsWellFormed base (reading tree)
+  pub listed : HasFixups object fixups
+  pub well : IsWellFormed base object
+  pub seen : IsSeenAs o (seen_with base object fixups [])
 
 -- and its fragments have sites, and its nodes numbers
-pub record IsSitedAs (base : Reading) (tree : Arena) (b : Brought) (p : Plan) (fixups : List (Name × Cell)) : Type 0 where
+pub record IsSitedFor (base object : Reading) (fixups : List (Name × Cell)) (o : Object) (sites : List Path) : Type 0 where
   pub end : Walked
-  pub sited : AreSited base (reading tree) fixups nothing_walked (fragment_names (reading tree).children) end
-  pub sites : p.sites.items ≡ map (λ (x : Site). x.at) end.sites
-  pub brought : AreBrought tree.slots (fragment_names (reading tree).children) (new_numbers base (reading tree) end) b
+  pub sited : AreSited base object fixups nothing_walked (fragment_names object.children) end
+  pub at : sites ≡ map (λ (x : Site). x.at) end.sites
+  pub seen : IsSeenAs o (record (seen_with base object fixups []) { numbers = new_numbers base object end })
 
--- the object with the numbers of nodes in its cells, those of its own nodes first
-abbrev pub with_numbers : Arena → Plan → Arena
-with_numbers tree p = record tree { slots = with_writes p.label_writes.items (with_writes p.local_writes.items tree.slots) }
-
--- and the numbers of its cells are listed
-pub record IsNumberedAs (base : Reading) (tree : Arena) (b : Brought) (p : Plan) : Type 0 where
-  pub few : IsWithinLimits (reading tree)
+-- and these are those of its cells
+pub record IsNumberedFor (base object : Reading) (o : Object) (sites : List Path) : Type 0 where
+  pub valid : IsValid object
+  pub few : IsWithinLimits object
   pub fixups : List (Name × Cell)
-  pub listed : HasFixups (reading tree) fixups
-  pub well : IsWellFormed base (reading tree)
+  pub listed : HasFixups object fixups
+  pub well : IsWellFormed base object
   pub end : Walked
-  pub sited : AreSited base (reading tree) fixups nothing_walked (fragment_names (reading tree).children) end
-  pub sites : p.sites.items ≡ map (λ (x : Site). x.at) end.sites
-  pub own : AreWritable tree.slots p.local_writes.items
-  pub labels : AreWritable (with_writes p.local_writes.items tree.slots) p.label_writes.items
-  pub ready : IsReady (reading tree) (writes base (reading tree) fixups (new_numbers base (reading tree) end)) (new_numbers base (reading tree) end) (with_numbers tree p) p.fragments.items b
-  pub plain : IsReady (reading tree) [] (new_numbers base (reading tree) end) tree p.fragments.items b
-  pub symbols : AreSymbolsOf tree.slots p.symbols.items (flat_map (symbol_brought (reading tree)) (symbols_in (reading tree)))
+  pub sited : AreSited base object fixups nothing_walked (fragment_names object.children) end
+  pub at : sites ≡ map (λ (x : Site). x.at) end.sites
+  pub seen : IsSeenAs o (seen_with base object fixups (new_numbers base object end))
 
 -- a fault leaves the base as it was, unless memory is wanted, or room on the way
 abbrev pub IsLeftBy : (Reading → Reading → Type 0) → FaultKind → (base object new : Reading) → Type 0

@@ -1,2 +1,4 @@
 -- what callers read, in this order
 pub mod Applying
+-- inside
+pub mod Objects

@@ -10,6 +10,7 @@
 #![tactic(auto)]
 
 mod applying;
+mod object;
 
 pub use applying::apply;
 pub use dt_targets::{Target, tree_room_is_counted};

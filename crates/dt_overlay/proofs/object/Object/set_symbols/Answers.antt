@@ -1,0 +1,33 @@
+use Rattle.std.proofs.Common.{◌≡◌, subst}
+use Rattle.std.specs.Prelude.{OnOk, IfErr}
+use Rattle.dt_model.specs.Applied.{landed_symbols, with_symbols_merged}
+use Rattle.dt_model.specs.Tree.{Reading}
+use Rattle.dt_flat.specs.Arena.{reading}
+use Rattle.dt_landing.specs.Objects.{symbols_in}
+use Rattle.dt_landing.specs.Steps.{FullAtSymbols}
+use Rattle.dt_overlay.proofs.SeenObjects.{to_land}
+use Rattle.dt_targets.specs.Targets.{HasNoRoom, IsWant}
+use Rattle.dt_overlay.proofs.object.Object.set_symbols.Goals as goal
+
+pub set_symbols-requires-clause-land : goal.set_symbols-requires-clause-land
+set_symbols-requires-clause-land g c =
+    let o = c.args.self.now in
+    let s = c.requires.sited in (
+      reading o.tree,
+      s.1,
+      to_land o s.0 s.2.seen c.validity.ensures.valid c.validity.ensures.rooted c.validity.ensures.paths s.1 c.args.sites.now s.2 s.3 c.deref.result.now c.deref.ensures.value,
+    )
+
+pub returns-clause-set : goal.returns-clause-set
+returns-clause-set g c seen found on shallow =
+    let o = c.args.self.now in
+    subst (λ (r : Reading). OnOk c.set_symbols.result (g.T.Target.reading c.set_symbols.new.target ≡ with_symbols_merged (landed_symbols r found (symbols_in r)) (g.T.Target.reading c.args.target.now))) on.seen.reads
+    (c.set_symbols.ensures.set (reading o.tree) found
+    (to_land o seen on.seen c.validity.ensures.valid c.validity.ensures.rooted c.validity.ensures.paths found c.args.sites.now on shallow c.deref.result.now c.deref.ensures.value))
+
+pub returns-clause-refused : goal.returns-clause-refused
+returns-clause-refused g c seen found on shallow =
+    let o = c.args.self.now in
+    subst (λ (r : Reading). IfErr c.set_symbols.result (IsWant (FullAtSymbols (HasNoRoom g.T.Target.reading g.T.Target.has_room) (landed_symbols r found (symbols_in r)) (g.T.Target.reading c.args.target.now)))) on.seen.reads
+    (c.set_symbols.ensures.refused (reading o.tree) found
+    (to_land o seen on.seen c.validity.ensures.valid c.validity.ensures.rooted c.validity.ensures.paths found c.args.sites.now on shallow c.deref.result.now c.deref.ensures.value))
