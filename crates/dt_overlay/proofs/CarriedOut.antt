@@ -1,10 +1,9 @@
 -- Landing an object whose fragments have sites is applying it.
-use Rattle.std.proofs.Common.{◌≡◌, ℕ, List, map, sym, ap, subst, ◌∙◌, inl, inr}
+use Rattle.std.proofs.Common.{◌≡◌, List, sym, ap, subst, ◌∙◌, inl, inr}
 use Rattle.dt_model.specs.Path.{Path}
 use Rattle.dt_model.specs.Tree.{Reading}
 use Rattle.dt_model.specs.Valid.{IsValid, IsWithinLimits}
 use Rattle.dt_model.specs.Merged.{Site}
-use Rattle.dt_model.specs.Object.{fragment_names}
 use Rattle.dt_model.specs.Applied.{with_fragments, with_symbols_merged, landed_symbols, applied_at}
 use Rattle.dt_names.specs.declared.fault.Fault.{Fault}
 use Rattle.dt_joining.specs.InTurn.{IsApplied}

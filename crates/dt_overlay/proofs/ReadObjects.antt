@@ -13,7 +13,7 @@ use Rattle.dt_model.specs.Applied.{Write, label_write, local_write, node_numbere
 use Rattle.dt_flat.specs.Arena.{Slot, IsRooted, reading}
 use Rattle.dt_flat.proofs.Descent.{path-within}
 use Rattle.dt_landing.specs.Objects.{HasCell, HasCells, symbols_in}
-use Rattle.dt_overlay.specs.Applying.{IsReadFor, seen_with}
+use Rattle.dt_overlay.specs.Applying.{IsReadFor}
 use Rattle.dt_overlay.specs.Objects.{Seen, IsSeenAs}
 use Rattle.dt_overlay.specs.declared.object.Object.{Object}
 use Rattle.dt_overlay.proofs.Told.{all_held}

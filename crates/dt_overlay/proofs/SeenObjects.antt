@@ -7,8 +7,7 @@ use Rattle.dt_model.specs.Tree.{Reading}
 use Rattle.dt_model.specs.Valid.{IsValid}
 use Rattle.dt_model.specs.Merged.{Site}
 use Rattle.dt_model.specs.Object.{fragment_names}
-use Rattle.dt_model.specs.Applied.{Write}
-use Rattle.dt_flat.specs.Arena.{Arena, Slot, IsRooted, reading}
+use Rattle.dt_flat.specs.Arena.{Slot, IsRooted, reading}
 use Rattle.dt_landing.specs.Laws.{AreShallow}
 use Rattle.dt_landing.specs.Objects.{symbols_in}
 use Rattle.dt_landing.specs.Steps.{land_fragments, MayLandFragments, FullAtFragments}
@@ -16,7 +15,6 @@ use Rattle.dt_names.specs.declared.fault.Fault.{Fault}
 use Rattle.dt_overlay.specs.Objects.{Seen, IsSeenAs, IsToLandOn, writes_of, with_numbers}
 use Rattle.dt_overlay.specs.declared.object.Object.{Object}
 use Rattle.dt_overlay.proofs.CarriedLandings.{unwritten, contents_there, each_is_fragments, each_may_land, each_stuck}
-use Rattle.dt_parts.specs.declared.brought.Brought.{Brought}
 use Rattle.dt_parts.specs.declared.kept.Fragment.{Fragment}
 use Rattle.dt_parts.specs.declared.kept.Symbol.{Symbol}
 use Rattle.dt_parts.specs.declared.kept.Write.{Write as KeptWrite}

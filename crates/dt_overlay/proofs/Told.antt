@@ -1,5 +1,5 @@
 -- How faults on the way are told of the object.
-use Rattle.std.proofs.Common.{◌≡◌, List, [], ◌∷◌, true, refl, sym, ap, subst, ◌∙◌, inl, inr, ◌⊎◌, Option, Some, None, codes, ℕ}
+use Rattle.std.proofs.Common.{◌≡◌, List, [], ◌∷◌, true, refl, sym, ap, subst, ◌∙◌, inl, inr, ◌⊎◌, Some, None, codes, ℕ}
 use Rattle.std.specs.Prelude.{Result, Ok, Err, OnOk, IfErr}
 use Rattle.std.specs.List.{AllByRecursion}
 use Rattle.dt_model.specs.Lists.{IsIn}

@@ -1,5 +1,5 @@
-use Rattle.std.proofs.Common.{◌≡◌, ◌⊎◌, ◌<◌, ◌∙◌, ℕ, [], length, map, replicate, sym, ap, subst}
-use Rattle.std.specs.Prelude.{None, OnOk, IfErr}
+use Rattle.std.proofs.Common.{◌≡◌, ◌⊎◌, ◌<◌, ◌∙◌, ℕ, [], length, replicate, sym, ap, subst}
+use Rattle.std.specs.Prelude.{None, OnOk}
 use Rattle.std.specs.List.{AllByRecursion}
 use Rattle.std.proofs.lemmas.List.{length-replicate}
 use Rattle.std.proofs.lemmas.Result.{err_from_is_err_and}

@@ -1,9 +1,8 @@
-use Rattle.std.proofs.Common.{◌≡◌, ◌∙◌, List, sym, ap, subst}
+use Rattle.std.proofs.Common.{◌≡◌, ◌∙◌, List, sym, subst}
 use Rattle.dt_flat.specs.Arena.{Slot}
 use Rattle.dt_overlay.proofs.SeenObjects.{own_writable, labels_writable, nodes_there, these_landed, these_may_land, these_told}
 use Rattle.dt_overlay.proofs.ValuesSaid.{none_said, own_said, all_said}
 use Rattle.dt_overlay.proofs.Told.{on_ok, if_err}
-use Rattle.dt_parts.specs.declared.kept.Fragment.{Fragment}
 use Rattle.dt_parts.specs.declared.kept.Write.{Write}
 use Rattle.dt_sites.specs.Values.{with_values}
 use Rattle.dt_sites.specs.Writing.{AreWritable, with_writes}

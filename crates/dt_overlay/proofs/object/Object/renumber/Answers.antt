@@ -1,4 +1,4 @@
-use Rattle.std.proofs.Common.{◌≡◌, sym, subst}
+use Rattle.std.proofs.Common.{◌≡◌, subst}
 use Rattle.std.specs.Prelude.{map}
 use Rattle.dt_model.specs.Tree.{Reading}
 use Rattle.dt_parts.specs.Plans.{renumbered}
