@@ -1,3 +1,5 @@
 -- what callers read, in this order
 pub mod Asked
 pub mod Words
+-- inside
+pub mod Usages

@@ -14,25 +14,9 @@ use Rattle.dt_words.specs.declared.command_line.Line.{Line}
 use Rattle.dt_words.specs.declared.words.LineFault.{LineFault}
 use Rattle.dt_words.specs.declared.words.LineFault.TheVariants.{Memory, Words}
 
--- `--hex`
-abbrev pub hex_flag : Rule
-hex_flag = record (new_rule (codes "hex")) { long = Some (codes "hex"); action = Some SetTrue }
-
--- `--raw`
-abbrev pub raw_flag : Rule
-raw_flag = record (new_rule (codes "raw")) { long = Some (codes "raw"); action = Some SetTrue }
-
--- `FILE`, which must be there
-abbrev pub file_word : Rule
-file_word = record (new_rule (codes "FILE")) { required = true }
-
--- `BASE`, which must be there
-abbrev pub base_word : Rule
-base_word = record (new_rule (codes "BASE")) { required = true }
-
--- `OVERLAY`, as often as there are overlays
-abbrev pub overlay_word : Rule
-overlay_word = record (new_rule (codes "OVERLAY")) { action = Some Append }
+-- `--ID`, which is there or not
+abbrev pub flag : Text → Rule
+flag id = record (new_rule id) { long = Some id; action = Some SetTrue }
 
 -- a word that must be there
 abbrev pub text_word : Text → Rule
@@ -42,17 +26,21 @@ text_word id = record (new_rule id) { required = true }
 abbrev pub number_word : Text → Rule
 number_word id = record (new_rule id) { required = true; parser = Some (Unsigned 0 (2 ^ 64 - 1)) }
 
+-- as many words as there are
+abbrev pub each_word : Text → Rule
+each_word id = record (new_rule id) { action = Some Append }
+
 -- a command of this shape, of which no word is one of the commands below it too
 abbrev pub IsCommand : App → Command → Type 0
 IsCommand app command = (app_of command ≡ app) × ((out-Command command).has_globals ≡ false)
 
 -- `compile [--hex] [--raw] FILE`
 abbrev pub compile_command : App
-compile_command = with_rule (with_rule (with_rule (new_app (codes "compile")) hex_flag) raw_flag) file_word
+compile_command = with_rule (with_rule (with_rule (new_app (codes "compile")) (flag (codes "hex"))) (flag (codes "raw"))) (text_word (codes "FILE"))
 
 -- a command of this name with `[--hex] BASE [OVERLAY..]`
 abbrev pub overlay_command : Text → App
-overlay_command name = with_rule (with_rule (with_rule (new_app name) hex_flag) base_word) overlay_word
+overlay_command name = with_rule (with_rule (with_rule (new_app name) (flag (codes "hex"))) (text_word (codes "BASE"))) (each_word (codes "OVERLAY"))
 
 -- `apply [--hex] BASE [OVERLAY..]`
 abbrev pub apply_command : App
@@ -64,7 +52,7 @@ build_command = overlay_command (codes "build")
 
 -- a command of this name with `FILE`
 abbrev pub blob_command : Text → App
-blob_command name = with_rule (new_app name) file_word
+blob_command name = with_rule (new_app name) (text_word (codes "FILE"))
 
 -- `dma FILE PATH ADDRESS SIZE`
 abbrev pub dma_command : App
@@ -79,18 +67,19 @@ spec_command =
 abbrev pub bare : App
 bare = let new = new_app (codes "dtool") in record new { top = record new.top { subcommand_required = true } }
 
--- `dtool` with the commands that make blobs
-abbrev pub makers : App
-makers = with_subcommand (with_subcommand (with_subcommand bare compile_command.top) apply_command.top) build_command.top
+-- with the commands that make blobs
+abbrev pub with_makers : App
+with_makers = with_subcommand (with_subcommand (with_subcommand bare compile_command.top) apply_command.top) build_command.top
 
 -- and with those that tell of a whole blob
-abbrev pub tellers : App
-tellers =
-    with_subcommand (with_subcommand (with_subcommand (with_subcommand makers (blob_command (codes "print")).top) (blob_command (codes "check")).top) (blob_command (codes "regs")).top) (blob_command (codes "irqs")).top
+abbrev pub with_tellers : App
+with_tellers =
+    with_subcommand (with_subcommand (with_subcommand (with_subcommand with_makers (blob_command (codes "print")).top) (blob_command (codes "check")).top) (blob_command (codes "regs")).top)
+    (blob_command (codes "irqs")).top
 
 -- `dtool`, with one of its commands
 abbrev pub dtool : App
-dtool = with_subcommand (with_subcommand tellers dma_command.top) spec_command.top
+dtool = with_subcommand (with_subcommand with_tellers dma_command.top) spec_command.top
 
 -- a job's command
 abbrev pub command_of : Job → Text

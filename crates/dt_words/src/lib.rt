@@ -10,6 +10,7 @@
 #![tactic(auto)]
 
 mod command_line;
+mod commands;
 mod words;
 
 pub use command_line::{Job, Line};

@@ -1,5 +1,0 @@
-use Rattle.std.proofs.Common.{rules, codes}
-use Rattle.dt_words.proofs.words.apply.Goals as goal
-
-pub returns : goal.returns
-returns c = c.with_overlays.ensures (codes "apply") (search rules)
