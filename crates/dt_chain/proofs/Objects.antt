@@ -1,22 +1,16 @@
 -- An input's object, read from its bytes or compiled from its text.
-use Rattle.std.proofs.Common.{◌≡◌, ℕ, ◌≤◌, List, None, length, sym, ap, subst, ◌∙◌}
+use Rattle.std.proofs.Common.{◌≡◌, ℕ, List, None, sym, ap, subst, ◌∙◌}
 use Rattle.dt_names.specs.declared.fault.Fault.{Fault}
 use Rattle.dt_names.specs.declared.fault.FaultKind.TheVariants.{NoMemory}
-use Rattle.dt_model.specs.Format.{Reads, IsWithin}
-use Rattle.dt_model.specs.Limits.{most_bytes}
 use Rattle.dt_model.specs.Tree.{Reading}
-use Rattle.dt_model.specs.Valid.{IsValid, IsWithinLimits}
 use Rattle.dt_format.specs.Laws.{BlobHasNoFault}
 use Rattle.dt_landing.specs.Refusals.{has_many, WhyNotApplied}
-use Rattle.dt_grammar.specs.Grammar.{Says}
-use Rattle.dt_write.specs.Written.{written}
 use Rattle.dt_names.specs.Fault.{placeless}
-use Rattle.dt_chain.specs.Apply.{WhyNoStep, no_memory, no_object, not_applied, IsRead, IsNoBlob}
-use Rattle.dt_chain.specs.Build.{HasObject, WhyNoObject}
-use Rattle.dt_chain.specs.Steps.{OfEachText}
-use Rattle.dt_chain.proofs.AppliedOutcomes.{OneReading}
-use Rattle.dt_chain.proofs.Stages.{fault_is}
-use Rattle.dt_chain.proofs.OverlayStages.{HasTree}
+use Rattle.dt_promises.specs.Apply.{WhyNoStep, no_memory, no_object, not_applied, IsRead, IsNoBlob}
+use Rattle.dt_promises.specs.Build.{HasObject, WhyNoObject}
+use Rattle.dt_promises.proofs.AppliedOutcomes.{OneReading}
+use Rattle.dt_compile.proofs.Stages.{fault_is}
+use Rattle.dt_compile.proofs.OverlayStages.{HasObjectBlob}
 use Rattle.dt_chain.proofs.Turns.{Goes}
 
 -- want of memory is told without a place
@@ -30,18 +24,6 @@ read_not_applied t object input fault read why =
     subst (WhyNoStep IsRead IsNoBlob t input) (fault_is fault None why.0) (not_applied object fault.kind read why.1)
 
 -- ---- the object of a text
-
--- the text has an object, and this is its blob
-abbrev pub HasObjectBlob : (text blob : List ℕ) → Type 0
-HasObjectBlob text blob = (t : Reading) × HasObject text t × IsRead blob t
-
-pub object_written : (s : Says) (t : Reading) (blob : List ℕ) → HasTree s t → IsValid t → IsWithinLimits t → blob ≡ written t → length blob ≤ most_bytes → Reads blob t → IsWithin blob t
-    → OfEachText s (λ text. HasObjectBlob text blob)
-object_written s t blob h valid within is size reads inside text parsed = (
-  t,
-  record { of_text = h text parsed; valid = valid; within = within; size = subst (λ (b : List ℕ). length b ≤ most_bytes) is size },
-  record { reads = reads; within = inside },
-)
 
 -- what is read from the blob of a text's object is the object
 pub of_text : OneReading → (text blob : List ℕ) (now next : Reading) → HasObjectBlob text blob → Goes IsRead blob now next → Goes HasObject text now next

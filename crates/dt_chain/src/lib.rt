@@ -1,5 +1,6 @@
-//! From the source of a devicetree to the blob that a kernel boots (Devicetree Specification v0.4, chapters 5 and 6), and back to a
-//! source. Sources and blobs are bytes; what goes wrong is a `Fault`, and of several inputs also the number of the one that is refused.
+//! From the source of a devicetree to the blob that a kernel boots (Devicetree Specification v0.4, chapters 5 and 6), with overlays
+//! applied to it, and back to a source. Sources and blobs are bytes; what goes wrong is a `Fault`, and of several inputs also the number
+//! of the one that is refused.
 //!
 //! ```text
 //! let base = compile(alloc, b"/dts-v1/; / { gic: ic { }; };")?;
@@ -12,17 +13,13 @@
 
 mod applying;
 mod building;
-mod compiling;
-mod decompiling;
 mod in_turn;
-mod laws;
 
 pub use applying::{apply_bytes, apply_list};
 pub use building::build;
-pub use compiling::{compile, compile_raw};
-pub use decompiling::decompile;
-pub use dt_streams::read_all;
-pub use laws::{
+pub use dt_compile::{compile, compile_raw, decompile};
+pub use dt_promises::{
     one_blob, one_meaning, one_outcome, one_text, what_applying_means, what_building_means,
     what_building_resolves, what_compiling_means, what_limits_mean, what_printing_means,
 };
+pub use dt_streams::read_all;

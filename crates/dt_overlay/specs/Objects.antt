@@ -27,6 +27,10 @@ writes_of s = s.own ++ s.labels
 
 -- ---- the struct
 
+-- the tree of which it is made
+abbrev pub tree_in : Object → Arena
+tree_in o = o.tree
+
 -- nothing is read of this tree so far
 pub record IsUnread (tree : Arena) (o : Object) : Type 0 where
   pub is : o.tree ≡ tree

@@ -9,7 +9,7 @@ ghost use Rattle.dt_landing.specs.Refusals.{IsCrowded, WhyNotApplied};
 ghost use Rattle.dt_model.specs.Tree.{Reading};
 ghost use Rattle.dt_names.specs.declared.fault.FaultKind.TheVariants.{NoMemory};
 ghost use Rattle.dt_overlay.specs.Applying.{IsEmptyLanding, IsNumberedFor, IsLeftBy};
-ghost use Rattle.dt_overlay.specs.Objects.{IsUnread};
+ghost use Rattle.dt_overlay.specs.Objects.{IsUnread, tree_in};
 ghost use Rattle.dt_targets.specs.Targets.{HasNoRoom, IsWant};
 
 use crate::object::Object;
@@ -81,13 +81,13 @@ fn carry_out<T: Target>(
     landing: &mut Landing,
 ) -> Result<(), Fault>
     requires symbols { symbols.now ≡ codes "__symbols__" ∷ [] }
-    requires unread { IsUnread object.old.tree object.old }
+    requires unread { IsUnread (tree_in object.old) object.old }
     requires empty { IsEmptyLanding landing.old }
-    ensures applied { OnOk result (IsApplied (T.reading target.old) (reading object.old.tree) (T.reading target.new)) }
-    ensures well { OnOk result (IsWellFormed (T.reading target.old) (reading object.old.tree)) }
+    ensures applied { OnOk result (IsApplied (T.reading target.old) (reading (tree_in object.old)) (T.reading target.new)) }
+    ensures well { OnOk result (IsWellFormed (T.reading target.old) (reading (tree_in object.old))) }
     ensures refused { IfErr result (λ fault. (fault.at ≡ None)
-        × WhyNotApplied (HasNoRoom T.reading T.has_room) fault.kind (T.reading target.old) (reading object.old.tree)) }
-    ensures left { IfErr result (λ fault. IsLeftBy (HasNoRoom T.reading T.has_room) fault.kind (T.reading target.old) (reading object.old.tree) (T.reading target.new)) }
+        × WhyNotApplied (HasNoRoom T.reading T.has_room) fault.kind (T.reading target.old) (reading (tree_in object.old))) }
+    ensures left { IfErr result (λ fault. IsLeftBy (HasNoRoom T.reading T.has_room) fault.kind (T.reading target.old) (reading (tree_in object.old)) (T.reading target.new)) }
 {
     object.read(alloc, target, symbols)?;
     object.find_sites(alloc, target, &mut landing.places, &mut landing.sites)?;
@@ -103,12 +103,12 @@ fn apply_object<T: Target>(
     object: &mut Object,
 ) -> Result<(), Fault>
     requires symbols { symbols.now ≡ codes "__symbols__" ∷ [] }
-    requires unread { IsUnread object.old.tree object.old }
-    ensures applied { OnOk result (IsApplied (T.reading target.old) (reading object.old.tree) (T.reading target.new)) }
-    ensures well { OnOk result (IsWellFormed (T.reading target.old) (reading object.old.tree)) }
+    requires unread { IsUnread (tree_in object.old) object.old }
+    ensures applied { OnOk result (IsApplied (T.reading target.old) (reading (tree_in object.old)) (T.reading target.new)) }
+    ensures well { OnOk result (IsWellFormed (T.reading target.old) (reading (tree_in object.old))) }
     ensures refused { IfErr result (λ fault. (fault.at ≡ None)
-        × WhyNotApplied (HasNoRoom T.reading T.has_room) fault.kind (T.reading target.old) (reading object.old.tree)) }
-    ensures left { IfErr result (λ fault. IsLeftBy (HasNoRoom T.reading T.has_room) fault.kind (T.reading target.old) (reading object.old.tree) (T.reading target.new)) }
+        × WhyNotApplied (HasNoRoom T.reading T.has_room) fault.kind (T.reading target.old) (reading (tree_in object.old))) }
+    ensures left { IfErr result (λ fault. IsLeftBy (HasNoRoom T.reading T.has_room) fault.kind (T.reading target.old) (reading (tree_in object.old)) (T.reading target.new)) }
 {
     let mut landing = Landing::new(alloc, object.seed().with(target.seed()));
     let done = carry_out(alloc, target, symbols, object, &mut landing);

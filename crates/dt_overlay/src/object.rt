@@ -16,7 +16,7 @@ ghost use Rattle.dt_landing.specs.Steps.{land_fragments, FullAtFragments, FullAt
 ghost use Rattle.dt_names.specs.declared.fault.FaultKind.TheVariants.{NoMemory};
 ghost use Rattle.dt_targets.specs.Known.{IsKnown};
 ghost use Rattle.dt_targets.specs.Targets.{HasNoRoom, IsWant};
-ghost use Rattle.dt_overlay.specs.Objects.{IsUnread, Seen, IsSeenAs, IsToLandOn, writes_of};
+ghost use Rattle.dt_overlay.specs.Objects.{IsUnread, Seen, IsSeenAs, IsToLandOn, tree_in, writes_of};
 ghost use Rattle.dt_overlay.specs.Applying.{IsReadFor, IsSitedFor};
 
 use dt_flat::FlatTree;
@@ -75,10 +75,10 @@ impl Object {
         symbols: &Path,
     ) -> Result<(), Fault>
         requires symbols { symbols.now ≡ codes "__symbols__" ∷ [] }
-        requires unread { IsUnread self.old.tree self.old }
-        ensures read { OnOk result (IsReadFor (T.reading target.now) (reading self.old.tree) self.new) }
+        requires unread { IsUnread (tree_in self.old) self.old }
+        ensures read { OnOk result (IsReadFor (T.reading target.now) (reading (tree_in self.old)) self.new) }
         ensures refused { IfErr result (λ fault. (fault.at ≡ None)
-            × WhyNotApplied (HasNoRoom T.reading T.has_room) fault.kind (T.reading target.now) (reading self.old.tree)) }
+            × WhyNotApplied (HasNoRoom T.reading T.has_room) fault.kind (T.reading target.now) (reading (tree_in self.old))) }
     {
         self.tree.validity();
         list_fragments(alloc, &self.tree, &mut self.fragments)?;

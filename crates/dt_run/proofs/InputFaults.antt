@@ -7,7 +7,7 @@ use Rattle.dt_model.specs.Source.{Mode, base}
 use Rattle.dt_model.specs.Tree.{Reading}
 use Rattle.dt_names.specs.declared.fault.Fault.{Fault}
 use Rattle.dt_names.specs.declared.fault.FaultKind.{FaultKind}
-use Rattle.dt_names.specs.declared.fault.FaultKind.TheVariants.{NoMemory, BadVersionTag, WriteFault}
+use Rattle.dt_names.specs.declared.fault.FaultKind.TheVariants.{NoMemory, WriteFault}
 use Rattle.dt_model.specs.Path.{Path}
 use Rattle.dt_read.specs.Kinds.{kind_of}
 use Rattle.dt_worlds.specs.Answers.{Answer, undetermined, refused, answer, ◌>>=◌}
@@ -21,14 +21,13 @@ use Rattle.dt_lines.specs.Asked.{answer_words, WhyNoNode, WhyUnanswered}
 use Rattle.dt_lines.specs.Lines.{region_words, route_words}
 use Rattle.dt_lines.specs.declared.asking.Question.{Question}
 use Rattle.dt_lines.specs.declared.asking.Question.TheVariants as ask
-use Rattle.dt_chain.specs.Apply.{IsNoBlob, WhyNoBlobApplied, WhyNoStep, WhyNoneOfAll}
-use Rattle.dt_chain.specs.Build.{WhyNoObject, WhyNoBlobBuilt}
-use Rattle.dt_chain.specs.Compile as compile
-use Rattle.dt_chain.specs.Compile.{IsCompilerFault, WhyNoTree, WhyNotCompiled, WhyNotCompiledOverlay}
-use Rattle.dt_chain.specs.Apply as inputs
-use Rattle.dt_chain.proofs.OverlayStages as overlays
-use Rattle.dt_chain.proofs.Places.{memory_unplaced}
-use Rattle.dt_chain.proofs.Stages as bases
+use Rattle.dt_promises.specs.Apply.{IsNoBlob, WhyNoBlobApplied, WhyNoStep, WhyNoneOfAll}
+use Rattle.dt_promises.specs.Build.{WhyNoObject, WhyNoBlobBuilt}
+use Rattle.dt_promises.specs.Compile as compile
+use Rattle.dt_promises.specs.Compile.{IsCompilerFault, WhyNoTree, WhyNotCompiled}
+use Rattle.dt_promises.specs.Apply as inputs
+use Rattle.dt_promises.proofs.ToldKinds.{base_kind, overlay_kind}
+use Rattle.dt_promises.proofs.Places.{memory_unplaced, overlay_unplaced}
 
 -- a fault that no sink has
 abbrev pub IsUnwritten : FaultKind → Type 0
@@ -82,18 +81,11 @@ blob_not_applied = of_all no_blob no_blob
 no_tree : (mode : Mode) (text : List ℕ) (e : Fault) → WhyNoTree mode text e → IsOfInput e
 no_tree mode text e why =
     let whole : WhyNotCompiled mode text e = compile.no_tree e why in
-    (compiler_only e.kind (bases.compiler_kind mode text e whole), memory_unplaced mode text e whole)
-
-overlay_unplaced : (text : List ℕ) (e : Fault) → WhyNotCompiledOverlay text e → e.kind ≡ NoMemory → e.at ≡ None
-overlay_unplaced text _ compile.no_memory h = refl
-overlay_unplaced text _ (compile.refused s BadVersionTag parsed why) h = cc
-overlay_unplaced text _ (compile.refused s _ parsed why) h = refl
-overlay_unplaced text _ (compile.large t few more) h = refl
-overlay_unplaced text _ (compile.big t few more) h = refl
+    (compiler_only e.kind (base_kind mode text e whole), memory_unplaced mode text e whole)
 
 no_object : (text : List ℕ) (e : Fault) → WhyNoObject text e → IsOfInput e
 no_object text e (inl why) = no_tree base text e (compile.unparsed e why)
-no_object text e (inr why) = (compiler_only e.kind (overlays.compiler_kind text e why), overlay_unplaced text e why)
+no_object text e (inr why) = (compiler_only e.kind (overlay_kind text e why), overlay_unplaced text e why)
 
 pub text_not_built : (text : List ℕ) (texts : List (List ℕ)) (k : ℕ) (e : Fault) → WhyNoBlobBuilt text texts k e → IsOfInput e
 text_not_built = of_all (no_tree base) no_object

@@ -9,11 +9,11 @@ use Rattle.dt_names.specs.declared.fault.Fault.{Fault}
 use Rattle.dt_names.specs.declared.fault.FaultKind.{FaultKind}
 use Rattle.dt_names.specs.declared.fault.FaultKind.TheVariants.{NoMemory, WriteFault}
 use Rattle.dt_read.specs.Kinds.{kind_of}
-use Rattle.dt_chain.specs.Apply.{IsBlobApplied, WhyNoBlobApplied}
-use Rattle.dt_chain.specs.Compile as compile
-use Rattle.dt_chain.specs.Build.{IsBlobBuilt, WhyNoBlobBuilt}
-use Rattle.dt_chain.specs.Compile.{IsCompiled, WhyNotCompiled, IsCompilerFault}
-use Rattle.dt_chain.proofs.Places.{memory_unplaced, blob_unplaced}
+use Rattle.dt_promises.specs.Apply.{IsBlobApplied, WhyNoBlobApplied}
+use Rattle.dt_promises.specs.Compile as compile
+use Rattle.dt_promises.specs.Build.{IsBlobBuilt, WhyNoBlobBuilt}
+use Rattle.dt_promises.specs.Compile.{IsCompiled, WhyNotCompiled, IsCompilerFault}
+use Rattle.dt_promises.proofs.Places.{memory_unplaced, blob_unplaced}
 use Rattle.dt_worlds.specs.Answers.{answer}
 use Rattle.dt_lines.specs.Asked as asked
 use Rattle.dt_lines.specs.Asked.{IsAnswer, WhyUnanswered, WhyNotAsked}

@@ -6,10 +6,10 @@ use Rattle.dt_model.specs.Source.{raw}
 use Rattle.dt_names.specs.Sink.{Taken, IsUntouched, IsCutShort}
 use Rattle.dt_names.specs.declared.fault.FaultKind.{FaultKind}
 use Rattle.dt_names.specs.declared.fault.FaultKind.TheVariants.{NoMemory, WriteFault}
-use Rattle.dt_chain.specs.Apply.{IsBlobApplied, WhyNoBlobApplied}
-use Rattle.dt_chain.specs.Compile as compile
-use Rattle.dt_chain.specs.Build.{IsBlobBuilt, WhyNoBlobBuilt}
-use Rattle.dt_chain.specs.Compile.{IsCompiled, WhyNotCompiled, IsCompilerFault}
+use Rattle.dt_promises.specs.Apply.{IsBlobApplied, WhyNoBlobApplied}
+use Rattle.dt_promises.specs.Compile as compile
+use Rattle.dt_promises.specs.Build.{IsBlobBuilt, WhyNoBlobBuilt}
+use Rattle.dt_promises.specs.Compile.{IsCompiled, WhyNotCompiled, IsCompilerFault}
 use Rattle.dt_worlds.specs.Answers.{answer}
 use Rattle.dt_lines.specs.Asked.{IsAnswer, WhyUnanswered}
 use Rattle.dt_lines.specs.Listed.{AreLinesOf, AreFirstOf}

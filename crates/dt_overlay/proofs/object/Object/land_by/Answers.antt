@@ -1,4 +1,4 @@
-use Rattle.std.proofs.Common.{◌≡◌, ◌∙◌, List, sym, subst}
+use Rattle.std.proofs.Common.{◌∙◌, List, sym, subst}
 use Rattle.dt_flat.specs.Arena.{Slot}
 use Rattle.dt_overlay.proofs.SeenObjects.{own_writable, labels_writable, nodes_there, these_landed, these_may_land, these_told}
 use Rattle.dt_overlay.proofs.ValuesSaid.{none_said, own_said, all_said}

@@ -1,9 +1,0 @@
--- what callers read, in this order
-pub mod Compile
-pub mod Apply
-pub mod Build
-pub mod Decompile
-pub mod Laws
-pub mod Limits
--- inside
-pub mod Steps

@@ -1,0 +1,2 @@
+pub mod OverlayStages
+pub mod Stages

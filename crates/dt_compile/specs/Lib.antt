@@ -1,0 +1,4 @@
+-- what callers read
+pub mod Sources
+-- inside
+pub mod Steps

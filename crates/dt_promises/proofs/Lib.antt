@@ -1,0 +1,15 @@
+pub mod AppliedMeanings
+pub mod AppliedOutcomes
+pub mod Blobs
+pub mod BuiltMeanings
+pub mod BuiltOutcomes
+pub mod ChainMeanings
+pub mod ChainOutcomes
+pub mod CompiledMeanings
+pub mod LimitOutcomes
+pub mod Outcomes
+pub mod OverlayOutcomes
+pub mod Places
+pub mod PrintedAgain
+pub mod ResolvedMeanings
+pub mod ToldKinds

@@ -1,0 +1,10 @@
+//! What the calls of `dt_chain` answer, whatever their code is, as definitions; and theorems of them: that there is one answer or one
+//! refusal, that what is answered is of what the texts mean, and what it tells of addresses and interrupts. No code.
+#![tactic(auto)]
+
+mod laws;
+
+pub use laws::{
+    one_blob, one_meaning, one_outcome, one_text, what_applying_means, what_building_means,
+    what_building_resolves, what_compiling_means, what_limits_mean, what_printing_means,
+};
