@@ -1,4 +1,4 @@
-//! What is true of what the compiler answers.
+//! What is true of what the calls answer, whatever their code is.
 
 ghost use Rattle.dt_promises.specs.Laws.{
   OneMeaning,
