@@ -8,7 +8,7 @@ use Rattle.dt_write.specs.Written.{written}
 use Rattle.dt_write.specs.Refusals.{WhyNoBytes}
 use Rattle.dt_names.specs.Fault.{placeless}
 use Rattle.dt_promises.specs.Apply.{IsOutcome, WhyNoneOfAll, no_memory, no_base, big}
-use Rattle.dt_compile.proofs.Stages.{fault_is}
+use Rattle.dt_chain.proofs.Stages.{fault_is}
 
 module _ (has_base has_object : List ℕ → Reading → Type 0) (lacks_base lacks_object : List ℕ → Fault → Type 0) where
   unwritten : (base : List ℕ) (inputs : List (List ℕ)) (t : Reading) (kind : FaultKind) → IsOutcome has_base has_object base inputs t → WhyNoBytes kind (length (written t))

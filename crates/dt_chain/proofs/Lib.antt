@@ -1,3 +1,5 @@
 pub mod Inputs
 pub mod Objects
+pub mod OverlayStages
+pub mod Stages
 pub mod Turns

@@ -9,8 +9,8 @@ use Rattle.dt_names.specs.Fault.{placeless}
 use Rattle.dt_promises.specs.Apply.{WhyNoStep, no_memory, no_object, not_applied, IsRead, IsNoBlob}
 use Rattle.dt_promises.specs.Build.{HasObject, WhyNoObject}
 use Rattle.dt_promises.proofs.AppliedOutcomes.{OneReading}
-use Rattle.dt_compile.proofs.Stages.{fault_is}
-use Rattle.dt_compile.proofs.OverlayStages.{HasObjectBlob}
+use Rattle.dt_chain.proofs.Stages.{fault_is}
+use Rattle.dt_chain.proofs.OverlayStages.{HasObjectBlob}
 use Rattle.dt_chain.proofs.Turns.{Goes}
 
 -- want of memory is told without a place

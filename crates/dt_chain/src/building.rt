@@ -8,8 +8,8 @@ ghost use Rattle.dt_promises.specs.Build.{HasBaseTree, HasObject, WhyNoObject, I
 ghost use Rattle.dt_promises.specs.Compile.{WhyNoTree};
 
 use crate::applying::Blobs;
+use crate::compiling::{overlay_blob, source_tree};
 use crate::in_turn::{Inputs, blob_of};
-use dt_compile::{overlay_blob, source_tree};
 use dt_flat::FlatTree;
 use dt_format::blob_has_no_fault;
 use dt_model::one_reading;

@@ -13,11 +13,14 @@
 
 mod applying;
 mod building;
+mod compiling;
+mod decompiling;
 mod in_turn;
 
 pub use applying::{apply_bytes, apply_list};
 pub use building::build;
-pub use dt_compile::{compile, compile_raw, decompile};
+pub use compiling::{compile, compile_raw};
+pub use decompiling::decompile;
 pub use dt_promises::{
     one_blob, one_meaning, one_outcome, one_text, what_applying_means, what_building_means,
     what_building_resolves, what_compiling_means, what_limits_mean, what_printing_means,

@@ -3,9 +3,9 @@ use Rattle.std.proofs.lemmas.Result.{err_from_is_err_and}
 use Rattle.dt_names.specs.declared.fault.Fault.{Fault}
 use Rattle.dt_promises.specs.Build.{WhyNoObject}
 use Rattle.dt_promises.specs.Compile.{WhyNotCompiledOverlay}
-use Rattle.dt_compile.specs.Sources.{OfEachText}
-use Rattle.dt_compile.proofs.Stages.{if_ok, if_err}
-use Rattle.dt_compile.proofs.OverlayStages.{HasObjectBlob}
+use Rattle.dt_chain.specs.Steps.{OfEachText}
+use Rattle.dt_chain.proofs.Stages.{if_ok, if_err}
+use Rattle.dt_chain.proofs.OverlayStages.{HasObjectBlob}
 use Rattle.dt_chain.proofs.building.object_of.Goals as goal
 
 pub returns-in_err-source-clause-refused : goal.returns-in_err-source-clause-refused

@@ -4,8 +4,8 @@ use Rattle.dt_names.specs.declared.fault.Fault.{Fault}
 use Rattle.dt_flat.specs.Arena.{reading}
 use Rattle.dt_promises.specs.Apply.{IsRead, IsNoBlob, WhyNoStep, no_object}
 use Rattle.dt_promises.specs.Build.{HasObject, WhyNoObject}
-use Rattle.dt_compile.proofs.Stages.{if_err}
-use Rattle.dt_compile.proofs.OverlayStages.{HasObjectBlob}
+use Rattle.dt_chain.proofs.Stages.{if_err}
+use Rattle.dt_chain.proofs.OverlayStages.{HasObjectBlob}
 use Rattle.dt_chain.proofs.Objects.{of_text, not_of_text}
 use Rattle.dt_chain.proofs.building.SourcesInputs.apply_to.Goals as goal
 

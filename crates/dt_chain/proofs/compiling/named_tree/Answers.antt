@@ -1,9 +1,9 @@
 use Rattle.dt_model.specs.Named.{tree_of}
 use Rattle.dt_source.specs.Meant.{HasTree}
 use Rattle.dt_bodies.specs.Refusals.{mode_said}
-use Rattle.dt_compile.specs.Steps.{HasNamed}
-use Rattle.dt_compile.proofs.Stages.{if_ok}
-use Rattle.dt_compile.proofs.compiling.named_tree.Goals as goal
+use Rattle.dt_chain.specs.Steps.{HasNamed}
+use Rattle.dt_chain.proofs.Stages.{if_ok}
+use Rattle.dt_chain.proofs.compiling.named_tree.Goals as goal
 
 pub returns-clause-named : goal.returns-clause-named
 returns-clause-named c =

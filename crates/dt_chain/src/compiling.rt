@@ -11,8 +11,7 @@ ghost use Rattle.dt_source.specs.Refusals.{WhyNotNamed, fault_place};
 ghost use Rattle.dt_promises.specs.Apply.{IsRead};
 ghost use Rattle.dt_promises.specs.Compile.{IsBlobOf, WhyNoBlob, IsCompiled, WhyNoTree, WhyNotCompiled, IsCompilerFault, IsCompiledOverlay, WhyNotCompiledOverlay, TextHasTree, OverlayTextHasTree};
 ghost use Rattle.dt_promises.specs.Build.{HasObject};
-ghost use Rattle.dt_compile.specs.Sources.{OfEachText};
-ghost use Rattle.dt_compile.specs.Steps.{HasNamed, IsNumbered, HasRoom, WhyNotLabelled, HasRooms, IsMarked, WhyNotMarked};
+ghost use Rattle.dt_chain.specs.Steps.{OfEachText, HasNamed, IsNumbered, HasRoom, WhyNotLabelled, HasRooms, IsMarked, WhyNotMarked};
 
 use dt_flat::FlatTree;
 use dt_laws::{overlay_source_is_an_overlay, source_is_a_meaning, tree_is_meant};
@@ -82,12 +81,8 @@ fn source_blob(alloc: Global, source: &Source<'_>, mode: Mode) -> Result<Vec<u8>
     write_blob(alloc, &tree)
 }
 
-/// The blob of an overlay's object, of its source as it was read: what `compile` answers to each text that says it.
-///
-/// # Errors
-///
-/// Those of `compile` of an overlay's source, but that its text is none; and of a source that is no overlay's: `BadVersionTag`, at 0.
-pub fn overlay_blob(alloc: Global, source: &Source<'_>) -> Result<Vec<u8>, Fault>
+/// The blob of an overlay's object.
+pub(crate) fn overlay_blob(alloc: Global, source: &Source<'_>) -> Result<Vec<u8>, Fault>
     ensures blob { IfOk result (λ blob. OfEachText source.now (λ text. IsCompiledOverlay text blob.items)) }
     ensures object { IfOk result (λ blob. OfEachText source.now (λ text. (t : Reading) × HasObject text t × IsRead blob.items t)) }
     ensures refused { IfErr result (λ fault. OfEachText source.now (λ text. WhyNotCompiledOverlay text fault)) }
@@ -150,14 +145,8 @@ fn marked(alloc: Global, named: &NamedTree<'_>) -> Result<FlatTree, Fault>
     }
 }
 
-/// The tree of a source that is no overlay's, as it was read: that of the blob which `compile` answers to each text that says it, or
-/// `compile_raw`. Its blob may be longer than 16 MiB.
-///
-/// # Errors
-///
-/// Those of `compile`, or of `compile_raw`, but that its text is none and that its blob is too long; and of an overlay's source:
-/// `BadVersionTag`, at 0.
-pub fn source_tree(alloc: Global, source: &Source<'_>, mode: Mode) -> Result<FlatTree, Fault>
+/// The tree of a source that is no overlay's.
+pub(crate) fn source_tree(alloc: Global, source: &Source<'_>, mode: Mode) -> Result<FlatTree, Fault>
     ensures tree { IfOk result (λ t. OfEachText source.now (λ text. TextHasTree (mode_said mode) text (reading t))) }
     ensures refused { IfErr result (λ fault. OfEachText source.now (λ text. WhyNoTree (mode_said mode) text fault)) }
 {

@@ -3,11 +3,10 @@ use Rattle.std.proofs.lemmas.Result.{err_from_is_err_and}
 use Rattle.dt_names.specs.declared.fault.Fault.{Fault}
 use Rattle.dt_model.specs.Named.{NodeReference, NamedList, tree_of}
 use Rattle.dt_promises.specs.Compile.{WhyNotCompiledOverlay}
-use Rattle.dt_compile.specs.Sources.{OfEachText}
-use Rattle.dt_compile.specs.Steps.{HasOverlay, HasRooms, WhyNotMarked}
-use Rattle.dt_compile.proofs.Stages.{if_err}
-use Rattle.dt_compile.proofs.OverlayStages.{overlay_has_rooms, not_built, not_whole}
-use Rattle.dt_compile.proofs.compiling.overlay_tree.Goals as goal
+use Rattle.dt_chain.specs.Steps.{OfEachText, HasOverlay, HasRooms, WhyNotMarked}
+use Rattle.dt_chain.proofs.Stages.{if_err}
+use Rattle.dt_chain.proofs.OverlayStages.{overlay_has_rooms, not_built, not_whole}
+use Rattle.dt_chain.proofs.compiling.overlay_tree.Goals as goal
 
 pub returns-in_err-overlay-clause-refused : goal.returns-in_err-overlay-clause-refused
 returns-in_err-overlay-clause-refused c =

@@ -27,8 +27,7 @@ use Rattle.dt_write.specs.Refusals.{WhyNoBytes}
 use Rattle.dt_promises.specs.Compile.{TextHasTree, IsCompiled, WhyNoTree, WhyNotCompiled, no_memory, unnamed, many, big}
 use Rattle.dt_names.specs.Fault.{placeless}
 use Rattle.dt_promises.proofs.Outcomes.{one_more}
-use Rattle.dt_compile.specs.Sources.{OfEachText}
-use Rattle.dt_compile.specs.Steps.{HasNamed, IsNumbered, HasRoom, WhyNotLabelled}
+use Rattle.dt_chain.specs.Steps.{OfEachText, HasNamed, IsNumbered, HasRoom, WhyNotLabelled}
 
 -- a fault is told by its kind and its place
 pub fault_is : (fault : Fault) (at : Option ℕ) → fault.at ≡ at → record { kind = fault.kind; at = at } ≡ fault

@@ -14,7 +14,12 @@ use Rattle.dt_model.specs.Valid.{IsReservation, IsWithinLimits}
 use Rattle.dt_names.specs.declared.fault.FaultKind.{FaultKind}
 use Rattle.dt_names.specs.declared.fault.FaultKind.TheVariants.{NoMemory, Limit}
 use Rattle.dt_grammar.specs.Grammar.{Says}
+use Rattle.dt_grammar.specs.Parsed.{IsParsed}
 use Rattle.dt_source.specs.Meant.{HasTree}
+
+-- what holds of each text that says this
+abbrev pub OfEachText : Says → (List ℕ → Type 0) → Type 0
+OfEachText s P = (text : List ℕ) → IsParsed text s → P text
 
 -- the source has this tree, and its places are places
 pub record HasNamed (mode : Mode) (says : Says) (t : Named NodeReference) : Type 0 where

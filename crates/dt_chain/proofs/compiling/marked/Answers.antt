@@ -1,8 +1,8 @@
 use Rattle.std.proofs.Common.{refl, codes}
 use Rattle.std.proofs.lemmas.Result.{err_from_is_err_and}
 use Rattle.dt_model.specs.Named.{tree_of}
-use Rattle.dt_compile.proofs.OverlayStages.{room_behind, not_labelled}
-use Rattle.dt_compile.proofs.compiling.marked.Goals as goal
+use Rattle.dt_chain.proofs.OverlayStages.{room_behind, not_labelled}
+use Rattle.dt_chain.proofs.compiling.marked.Goals as goal
 
 pub returns-in_err-tree-clause-refused : goal.returns-in_err-tree-clause-refused
 returns-in_err-tree-clause-refused c =

@@ -29,9 +29,8 @@ use Rattle.dt_promises.specs.Apply.{IsRead}
 use Rattle.dt_promises.specs.Build.{HasObject}
 use Rattle.dt_promises.specs.Compile.{OverlayTextHasTree, IsCompiledOverlay, WhyNotCompiledOverlay, no_memory, refused, large, big}
 use Rattle.dt_names.specs.Fault.{placeless}
-use Rattle.dt_compile.specs.Sources.{OfEachText}
-use Rattle.dt_compile.specs.Steps.{HasOverlay, IsNumbered, WhyNotLabelled, HasRooms, IsMarked, WhyNotMarked}
-use Rattle.dt_compile.proofs.Stages.{fault_is, no_sibling, no_child, not_there, too_many}
+use Rattle.dt_chain.specs.Steps.{OfEachText, HasOverlay, IsNumbered, WhyNotLabelled, HasRooms, IsMarked, WhyNotMarked}
+use Rattle.dt_chain.proofs.Stages.{fault_is, no_sibling, no_child, not_there, too_many}
 
 -- ---- room for the bookkeeping nodes
 

@@ -7,9 +7,9 @@ use Rattle.dt_write.specs.Written.{written}
 use Rattle.dt_write.specs.Refusals.{WhyNoBytes}
 use Rattle.dt_bodies.specs.Refusals.{mode_said}
 use Rattle.dt_promises.specs.Compile.{IsCompiled, WhyNotCompiled, no_tree}
-use Rattle.dt_compile.specs.Sources.{OfEachText}
-use Rattle.dt_compile.proofs.Stages.{not_written, is_written, if_err, if_ok_both}
-use Rattle.dt_compile.proofs.compiling.source_blob.Goals as goal
+use Rattle.dt_chain.specs.Steps.{OfEachText}
+use Rattle.dt_chain.proofs.Stages.{not_written, is_written, if_err, if_ok_both}
+use Rattle.dt_chain.proofs.compiling.source_blob.Goals as goal
 
 pub returns-in_err-tree-clause-refused : goal.returns-in_err-tree-clause-refused
 returns-in_err-tree-clause-refused c =

@@ -1,0 +1,2 @@
+-- inside
+pub mod Steps

@@ -1,2 +1,0 @@
-pub mod OverlayStages
-pub mod Stages

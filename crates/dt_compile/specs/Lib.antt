@@ -1,4 +1,0 @@
--- what callers read
-pub mod Sources
--- inside
-pub mod Steps
