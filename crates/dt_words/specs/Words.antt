@@ -63,9 +63,9 @@ abbrev pub spec_command : App
 spec_command =
     with_rule (with_rule (with_rule (with_rule (blob_command (codes "spec")) (text_word (codes "PATH"))) (text_word (codes "PROP"))) (text_word (codes "KIND"))) (number_word (codes "INDEX"))
 
--- `dtool` without its commands, of which it wants one
+-- `dtool [--version]` without its commands; it needs one
 abbrev pub bare : App
-bare = let new = new_app (codes "dtool") in record new { top = record new.top { subcommand_required = true } }
+bare = let new = new_app (codes "dtool") in record new { top = record new.top { has_version = true; subcommand_required = true } }
 
 -- with the commands that make blobs
 abbrev pub with_makers : App

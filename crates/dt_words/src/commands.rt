@@ -17,7 +17,10 @@ A fault is told on standard error, as `dtool: input K: fault N Name at P`: input
 Exit status:
   0  all was done
   1  an input has a fault, or can't be read, or the output can't be written
-  2  the words are no command, or ask for help";
+  2  the words are no command, or ask for help or the version";
+
+/// What `--version` prints after the name: the version, and the identity of the logic that the proofs are checked in, as `rt version` prints it.
+const VERSION: &str = "0.9.0 (proofs checked in logic dac8208d650f15bf)";
 
 /// What the help of `dma` ends with.
 const DMA_HELP: &str = "\
@@ -276,6 +279,7 @@ pub fn tool<'a>(alloc: Global) -> Result<Command<'a>, AllocError>
             "Compiles devicetree sources, applies overlays, and checks, prints and resolves blobs",
         )
         .after_help(STATUSES)
+        .version(VERSION)
         .subcommand_required(true);
     with_commands(alloc, tool, COMMANDS)
 }

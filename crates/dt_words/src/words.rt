@@ -37,7 +37,7 @@ pub enum LineFault {
     /// Memory was refused.
     #[error("dtool: out of memory\n")]
     Memory,
-    /// The words are no command, or ask for help.
+    /// The words are no command, or ask for help or the version.
     #[error("{0}")]
     Words(clap::Error),
 }
@@ -65,7 +65,7 @@ impl From<clap::Error> for LineFault {
 ///
 /// # Errors
 ///
-/// `Words` where they are no command that the tool has, or ask for help; and `Memory`.
+/// `Words` where they are no command that the tool has, or ask for help or the version; and `Memory`.
 // Apart, so that what clap takes of the stack is free again before the job.
 #[inline(never)]
 pub fn line<'a, S: AsStr>(alloc: Global, words: &'a [S]) -> Result<Line<'a>, LineFault>

@@ -487,6 +487,9 @@ const NO_COMMANDS: [&str; 30] = [
     "dtool --help",
     "dtool help",
     "dtool compile --help",
+    "dtool --version",
+    "dtool -V",
+    "dtool compile --version",
 ];
 
 fn is_no_command(alloc: Global, text: &str) -> bool {
@@ -683,6 +686,7 @@ fn statuses(rt: HostRuntime) {
         assert!(rt; status_of(rt.alloc(), "dtool compile a.dts", room) == Some(1));
         assert!(rt; status_of(rt.alloc(), "dtool compile none", room) == Some(1));
         assert!(rt; status_of(rt.alloc(), "dtool --help", room) == Some(2));
+        assert!(rt; status_of(rt.alloc(), "dtool --version", room) == Some(2));
         assert!(rt; status_of(rt.alloc(), "dtool compile", room) == Some(2));
     }
 }
