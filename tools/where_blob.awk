@@ -1,5 +1,5 @@
 # The part of a blob, or the node, that a place of it belongs to: reads its bytes as decimal numbers, as `od -An -v -tu1` writes them.
-# Variables: place, shown (the blob's name), fault, style.
+# Variable: place. Environment: WHERE_NAME (the blob's name), WHERE_WORDS, WHERE_STYLE.
 
 function word(at) { return ((bytes[at] * 256 + bytes[at + 1]) * 256 + bytes[at + 2]) * 256 + bytes[at + 3] }
 
@@ -32,5 +32,6 @@ function part() {
 { for (i = 1; i <= NF; i++) bytes[count++] = $i + 0 }
 
 END {
-    print (style == "error" ? "Error: " : "") shown ": " (fault == "" ? "" : fault ": ") "byte " place ", " part()
+    style = ENVIRON["WHERE_STYLE"]; words = ENVIRON["WHERE_WORDS"]
+    print (style == "" ? "" : style ": ") ENVIRON["WHERE_NAME"] ": " (words == "" ? "" : words ": ") "byte " place ", " part()
 }
