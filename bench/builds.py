@@ -1,12 +1,13 @@
 #!/usr/bin/env python3
 """Builds all blobs of an architecture of a Linux source tree with tools/dtc in place of dtc, compares what they say, and tells the time of both builds.
 
-    python3 bench/builds.py crates/dtool/out/dtool LINUX FOLDER [ARCH] [JOBS]
+    python3 bench/builds.py crates/dtool/out/dtool LINUX FOLDER [ARCH] [JOBS] [CONFIG]
 
-LINUX is an unpacked source tree, such as Debian's linux-source, FOLDER an empty folder for the two builds, which need flex and bison. Two blobs
-say the same where the nodes and the values are the same, a number of a node standing for that node, and siblings and properties may be
-in any order. Without -@ dtool numbers labelled nodes too, keeps the labels that an overlay refers to, and what /omit-if-no-ref/ lets dtc
-leave out: both are counted apart."""
+LINUX is an unpacked source tree, such as Debian's linux-source, FOLDER an empty folder for the two builds, which need flex and bison, CONFIG the
+name of a configuration, such as multi_v7_defconfig. A source tree of U-Boot is built by its own rules: ARCH is then `uboot`, and CROSS_COMPILE is
+taken from the environment. Prints the status with which make ends. Two blobs say the same where the nodes and the values are the same, a phandle
+standing for its node, and siblings and properties may be in any order. Without -@ dtool numbers labelled nodes too, and keeps the labels that an
+overlay refers to; and it keeps a property `name` that is its node's name: these are counted apart. A source that DTOOL_ELSE compiled is listed."""
 import os
 import resource
 import subprocess
@@ -16,26 +17,32 @@ from collections import Counter
 from boards import Tree, same_value
 
 
-def build(linux, folder, arch, jobs, *more):
-    """The blobs that a build makes, by their names, and its user time."""
+def configure(command, folder, arch, config, log):
+    subprocess.run([*command, config], stdout=log, stderr=log, check=True)
+    if arch == "uboot":
+        return
+    with open(os.path.join(folder, ".config"), "a") as file:
+        file.write("CONFIG_COMPILE_TEST=y\nCONFIG_OF_ALL_DTBS=y\n")
+    for target in ("olddefconfig", "scripts_dtc"):
+        subprocess.run([*command, target], stdout=log, stderr=log, check=True)
+
+
+def build(tree, folder, arch, jobs, config, *more):
+    """The blobs that a build makes, by their names, its user time, and the status of make."""
     os.makedirs(folder, exist_ok=True)
-    command = ["make", "-C", linux, f"ARCH={arch}", f"O={os.path.abspath(folder)}", f"-j{jobs}"]
+    command = ["make", "-C", tree, *([] if arch == "uboot" else [f"ARCH={arch}"]), f"O={os.path.abspath(folder)}", f"-j{jobs}"]
     with open(os.path.join(folder, "log"), "w") as log:
-        subprocess.run([*command, "defconfig"], stdout=log, stderr=log, check=True)
-        with open(os.path.join(folder, ".config"), "a") as config:
-            config.write("CONFIG_COMPILE_TEST=y\nCONFIG_OF_ALL_DTBS=y\n")
-        subprocess.run([*command, "olddefconfig"], stdout=log, stderr=log, check=True)
-        subprocess.run([*command, "scripts_dtc"], stdout=log, stderr=log, check=True)
+        configure(command, folder, arch, config, log)
         before = resource.getrusage(resource.RUSAGE_CHILDREN).ru_utime
-        subprocess.run([*command, "-k", "dtbs", *more], stdout=log, stderr=log)
+        status = subprocess.run([*command, "dtbs", *more], stdout=log, stderr=log).returncode
         took = resource.getrusage(resource.RUSAGE_CHILDREN).ru_utime - before
     blobs = {}
-    for base, _, names in os.walk(os.path.join(folder, "arch")):
+    for base, _, names in os.walk(folder):
         for name in names:
             if name.endswith((".dtb", ".dtbo")):
                 path = os.path.join(base, name)
                 blobs[os.path.relpath(path, folder)] = path
-    return blobs, took
+    return blobs, took, status
 
 
 def tree_of(path):
@@ -53,30 +60,42 @@ def compared(ours, theirs):
             if name not in mine[path] or name != b"phandle" and not same_value(mine[path][name], value, ours, theirs):
                 return "other"
     more = {(path, name) for path in others for name in mine[path].keys() - others[path].keys()}
-    if any(path != b"/__symbols__" and name != b"phandle" for path, name in more):
+    named = {(path, name) for path, name in more if name == b"name" and mine[path][name] == path.rpartition(b"/")[2].partition(b"@")[0] + b"\0"}
+    if any(path != b"/__symbols__" and name != b"phandle" for path, name in more - named):
         return "other"
+    if named:
+        return "the same, and a name that dtc drops"
     if mine.keys() != others.keys():
         return "the same, and nodes that dtc leaves out"
     return "the same, and more phandles or labels" if more else "the same"
 
 
 def main():
-    tool, linux, folder = os.path.abspath(sys.argv[1]), sys.argv[2], sys.argv[3]
+    tool, tree, folder = os.path.abspath(sys.argv[1]), sys.argv[2], sys.argv[3]
     arch = sys.argv[4] if len(sys.argv) > 4 else "arm64"
     jobs = sys.argv[5] if len(sys.argv) > 5 else str(os.cpu_count())
+    config = sys.argv[6] if len(sys.argv) > 6 else "defconfig"
     os.environ["DTOOL"] = tool
-    theirs, dtc_took = build(linux, os.path.join(folder, "theirs"), arch, jobs)
+    instead = os.environ.pop("DTOOL_ELSE", None)
+    theirs, dtc_took, dtc_status = build(tree, os.path.join(folder, "theirs"), arch, jobs, config)
+    if instead is not None:
+        os.environ["DTOOL_ELSE"] = instead
     script = os.path.join(os.path.dirname(os.path.abspath(__file__)), "../tools/dtc")
-    ours, dtool_took = build(linux, os.path.join(folder, "ours"), arch, jobs, f"DTC={os.path.abspath(script)}")
+    ours, dtool_took, status = build(tree, os.path.join(folder, "ours"), arch, jobs, config, f"DTC={os.path.abspath(script)}")
     words = Counter()
     for name, path in sorted(theirs.items()):
         word = compared(tree_of(ours[name]), tree_of(path)) if name in ours else "not made"
         words[word] += 1
         if word in ("other", "not made"):
             print(f"{word}: {name}")
+    with open(os.path.join(folder, "ours", "log")) as log:
+        for line in log:
+            if "compiled by" in line and "instead" in line:
+                print(line.strip())
     for word, count in words.most_common():
         print(f"{count:6} {word}")
-    print(f"{len(ours)} of {len(theirs)} blobs; user time {dtool_took:.0f} s, with the kernel's dtc {dtc_took:.0f} s")
+    print(f"{config}: {len(ours)} of {len(theirs)} blobs, make ended with {status} (with its own dtc {dtc_status}); "
+          f"user time {dtool_took:.0f} s, with its own dtc {dtc_took:.0f} s")
 
 
 if __name__ == "__main__":

@@ -121,12 +121,13 @@ function close_body() { if (depth) depth-- }
 
 function is_in(path, above) { return path == above || index(path, above "/") == 1 }
 
-function delete_node(node,    path, p, l) {
+function delete_node(node,    path, p, l, i) {
     if (node ~ /^&/) use_label(node)
     if (node ~ /^&/) path = block_path(node); else path = paths[depth] "/" node
     for (p in exists) if (is_in(p, path)) { delete exists[p]; deleted[p] = tail_place }
     for (l in label_path) if (is_in(label_path[l], path)) { deleted["&" l] = tail_place; delete label_path[l] }
     for (l in holders) take_labels(l, path)
+    for (l in holders) if (!(l in label_path)) for (i = 1; i <= holders[l]; i++) if (holder[l, i] != "") label_path[l] = holder[l, i]
 }
 
 # ---- labels that more than one node has, one after the other: `holder[label, i]` is the i-th node, `places_of` its definitions of the label
@@ -145,12 +146,12 @@ function use_label(reference,    l, i) {
     if (l in holders) for (i = 1; i <= holders[l]; i++) is_used[l, i] = 1
 }
 
-# The nodes below a path are deleted. Where one of them had a label before another node that has it too, and nothing named it by that label, the
-# label goes from it: in the end the other one has it.
+# The nodes below a path are deleted. Where one of them has a label that another node has too, and nothing named a node by it since both have it, nor
+# before where this one had it first, the label goes from the deleted one: in the end the other has it.
 function take_labels(l, path,    i, j, k, n, list) {
     for (i = holders[l]; i >= 1; i--) {
         if (holder[l, i] == "" || !is_in(holder[l, i], path)) continue
-        for (j = i + 1; j <= holders[l] && holder[l, j] == ""; j++);
+        for (j = 1; j <= holders[l] && (j == i || holder[l, j] == ""); j++);
         if (j <= holders[l] && !is_used[l, i]) {
             n = split(places_of[l, i], list, " ")
             for (k = 1; k <= n; k++) moved[l, list[k]] = 1

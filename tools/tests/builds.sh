@@ -22,6 +22,16 @@ let_through() {
 };' "$(text_of moved.dts)"
     printf '/dts-v1/;\n/ { c { l: a { }; }; };\n/ { l: b { }; };\n/ { /delete-node/ c; };\n' > moved.dts
     is 'dtc: a label below a node that is deleted later' 0 "$(status_of "$tools/dtc" -@ -o x.dtb moved.dts)"
+    printf '/dts-v1/;\n/ { p = <&l>; l: a { }; };\n&l { x; };\n/ { b: b { l: c { }; }; };\n/delete-node/ &b;\n&l { y; };\n' > moved.dts
+    is 'dtc: a label that a deleted node had besides' '/dts-v1/;
+/ {
+	p = <0x1>;
+	a {
+		x;
+		y;
+		phandle = <0x1>;
+	};
+};' "$(text_of moved.dts)"
     for it in '&l { x; };' '/delete-node/ &l;' '/omit-if-no-ref/ &l;'; do
         printf '/dts-v1/;\n/ { l: a { }; };\n/ { l: b { }; };\n%s\n/ { /delete-node/ a; };\n' "$it" > stays.dts
         is "dtc: a label of two nodes, and $it" 'Error: stays.dts:3.5: fault 22 DuplicateLabel: l' "$(told "$tools/dtc" -o x.dtb stays.dts | head -n 1)"
