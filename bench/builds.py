@@ -65,9 +65,9 @@ def compared(ours, theirs):
         return "other"
     if named:
         return "the same, and a name that dtc drops"
-    if mine.keys() != others.keys():
+    if mine.keys() - others.keys() - {b"/__symbols__"}:
         return "the same, and nodes that dtc leaves out"
-    return "the same, and more phandles or labels" if more else "the same"
+    return "the same, and more phandles or labels" if more or mine.keys() != others.keys() else "the same"
 
 
 def main():

@@ -111,7 +111,7 @@ def mistakes(linux):
         yield added(linux, "twice: child", BOARDS[names[i]][0], "/ {\n\tzz {\n\t\tone {\n\t\t};\n\t\tone {\n\t\t};\n\t};\n};", [4])
     yield added(linux, "twice: phandle", BOARDS["rk3399"][0], "/ {\n\tza {\n\t\tphandle = <0x777>;\n\t};\n\tzb {\n\t\tphandle = <0x777>;\n\t};\n};", [5])
     for value in ("0", "1 2"):
-        yield added(linux, "bad phandle", BOARDS["qcs404"][0], f"/ {{\n\tza {{\n\t\tphandle = <{value}>;\n\t}};\n}};", [2])
+        yield added(linux, "twice: bad phandle", BOARDS["qcs404"][0], f"/ {{\n\tza {{\n\t\tphandle = <{value}>;\n\t}};\n}};", [2])
 
     cut = lambda what: lambda it: it[::-1].replace(what, "", 1)[::-1]
     for i in range(6):
@@ -152,7 +152,7 @@ def run(*command):
 
 def places(told):
     """The files and lines of faults, notes and warnings, as either tool writes them."""
-    return [(file, int(line)) for file, line in re.findall(r"(?:^|: )([^\s:]+\.(?:dtsi?|dtso)):(\d+)[.:]\d+", told, re.M)]
+    return [(os.path.relpath(os.path.realpath(file)), int(line)) for file, line in re.findall(r"(?:^|: )([^\s:]+\.(?:dtsi?|dtso)):(\d+)[.:]\d+", told, re.M)]
 
 
 def main():

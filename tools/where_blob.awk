@@ -24,7 +24,7 @@ function in_structure(at, end,    token, from, property) {
 function part() {
     if (place < 40 || count < 40) return "the header"
     if (place >= word(8) && place < word(8) + word(36)) return in_structure(word(8), word(8) + word(36))
-    if (place >= word(12) && place < word(12) + word(32)) return "the strings block, behind " word(12)
+    if (place >= word(12) && place < word(12) + word(32)) return "the strings block, which begins at " word(12)
     if (place >= word(16)) return "the memory reservations"
     return "between the blocks"
 }

@@ -140,8 +140,8 @@ function bad_local_fixup(    i, path, mirror, listed, n, j, k, hex, offset, why,
                     number = "0x" substr(bytes_of(value["object", path, listed[j]]), 2 * offset + 1, 8)
                     sub(/^0x0+/, "0x", number); if (number == "0x") number = "0x0"
                     target = ("object", "<" number ">") in node_of ? node_of["object", "<" number ">"] : "none"
-                    if (target == "none") why = "no node of the object has the phandle " number
-                    else if (path ~ /^\/[^\/]*\/__overlay__(\/|$)/ && target !~ /^\/[^\/]*\/__overlay__(\/|$)/) why = "the phandle " number " is that of " target ", which no fragment brings"
+                    if (target == "none") why = "no node of the object has phandle " number
+                    else if (path ~ /^\/[^\/]*\/__overlay__(\/|$)/ && target !~ /^\/[^\/]*\/__overlay__(\/|$)/) why = "phandle " number " is that of " target ", which is in no fragment"
                 }
                 if (why != "") { tell(mirror " " listed[j] ", offset " offset ": " why); return }
             }
@@ -169,7 +169,7 @@ function look_at(f,    path, target, i) {
             path = list["object", i]
             if (index(path, f "/__overlay__/") != 1) continue
             path = substr(path, length(f "/__overlay__") + 1)
-            if (path ~ /^\/[^\/]*$/ && is_reserved(path)) tell(f " brings " path ", a bookkeeping node")
+            if (path ~ /^\/[^\/]*$/ && is_reserved(path)) tell(f " adds to " path ", a bookkeeping node")
         }
     }
 }
@@ -186,7 +186,7 @@ END {
     if (fault ~ / NoSymbol/) {
         n = split(names["object", "/__fixups__"], labels, "\n")
         for (i = 1; i <= n; i++) {
-            if (!(("base", "/__symbols__", labels[i]) in value)) tell("the base has no label " labels[i] ", for which " value["object", "/__fixups__", labels[i]] " waits")
+            if (!(("base", "/__symbols__", labels[i]) in value)) tell("the base has no label " labels[i] ", which " value["object", "/__fixups__", labels[i]] " needs")
         }
     } else if (fault ~ / BadFixup/) bad_fixup()
     else if (fault ~ / BadSymbol/) { bad_fixup(); if (!told) bad_symbol() }

@@ -128,7 +128,7 @@ blob_options() {
     is 'dtc -Wfoo' "dtc: -W foo: there is no such check" "$(told "$tools/dtc" -Wfoo r.dts)"
     is 'dtc -E all' "dtc: -E all: there is no such check" "$(told "$tools/dtc" -E all r.dts)"
     printf '/dts-v1/;\n/ { a; a; };\n' > twice.dts
-    is 'dtc -f, a fault' 'dtc: -f writes no blob here: dtool makes none of a source with a fault' "$(told "$tools/dtc" -f -o got.dtb twice.dts | tail -n 1)"
+    is 'dtc -f, a fault' 'dtc: -f has no effect: dtool writes no blob for a source with a fault' "$(told "$tools/dtc" -f -o got.dtb twice.dts | tail -n 1)"
     is 'dtc -f' 0 "$(status_of "$tools/dtc" -f -o got.dtb r.dts)"
 
     # A folder.
@@ -170,7 +170,7 @@ names_and_places() {
         is "dtc: the name $it, and its output" "$it.dtb" "$(cd odd && "$tools/dtc" -o "$it.dtb" -- "$it" && ls -- "$it.dtb")"
         is "dtc: the name $it, as a blob" "/dts-v1/;" "$(cd odd && "$tools/dtc" -I dtb -- "$it.dtb" | head -n 1)"
         printf '/dts-v1/; /plugin/;\n&nope { };\n' > odd/o.dts && "$DTOOL" compile odd/o.dts > "odd/$it.dtbo"
-        is "fdtoverlay: the name $it" "Error: $it.dtbo: fault 60 NoSymbol: the base has no label nope, for which \"/fragment@0:target:0\" waits" \
+        is "fdtoverlay: the name $it" "Error: $it.dtbo: fault 60 NoSymbol: the base has no label nope, which \"/fragment@0:target:0\" needs" \
             "$(cd odd && told "$tools/fdtoverlay" -i "$it.dtb" -o x.dtb -- "$it.dtbo")"
         is "where: the name $it" "$it.dtb: byte 4, the header" "$(cd odd && "$tools/where" -- "$it.dtb" 4)"
         rm -rf odd
@@ -261,7 +261,7 @@ $(cat bad.dts)" "$(READS=1; export READS; "$tools/dtc" -I dts - < bad.dts 2> /de
     "$DTOOL" compile good.dts > good.dtb
     printf '/dts-v1/; /plugin/;\n&nope { };\n' > no.dts && "$DTOOL" compile no.dts > no.dtbo
     is 'DTOOL_ELSE_FDTOVERLAY: what is answered' '0 run with: -i good.dtb -o x.dtb no.dtbo; else: none none' "$(got=$("$tools/fdtoverlay" -i good.dtb -o x.dtb no.dtbo 2> said); echo "$? $got")"
-    is 'DTOOL_ELSE_FDTOVERLAY: what is said' "Warning: no.dtbo: fault 60 NoSymbol: the base has no label nope, for which \"/fragment@0:target:0\" waits
+    is 'DTOOL_ELSE_FDTOVERLAY: what is said' "Warning: no.dtbo: fault 60 NoSymbol: the base has no label nope, which \"/fragment@0:target:0\" needs
 Warning: x.dtb: made by $DTOOL_ELSE_FDTOVERLAY instead" "$(cat said)"
     is 'DTOOL_ELSE_FDTOVERLAY: its status' 3 "$(ENDS=3; export ENDS; status_of "$tools/fdtoverlay" -i good.dtb -o x.dtb no.dtbo)"
     is 'DTOOL_ELSE_FDTOVERLAY: not for dtc' 1 "$(status_of "$tools/dtc" -o x.dtb bad.dts)"
@@ -282,13 +282,13 @@ objects() {
     object "$fragment __fixups__ { l = <1 2>; };"
     is 'where --apply: 63, no texts' 'obj.dtb: fault 63 BadFixup: /__fixups__ l = <0x1 0x2>: no texts PATH:PROPERTY:OFFSET' "$("$tools/where" --apply b.dtb obj.dtb)"
     object "$fragment __local_fixups__ { f { __overlay__ { p = <0>; }; }; };"
-    is 'where --apply: 64, no node' 'obj.dtb: fault 64 BadLocalFixup: /__local_fixups__/f/__overlay__ p, offset 0: no node of the object has the phandle 0xffffffff' "$("$tools/where" --apply b.dtb obj.dtb)"
+    is 'where --apply: 64, no node' 'obj.dtb: fault 64 BadLocalFixup: /__local_fixups__/f/__overlay__ p, offset 0: no node of the object has phandle 0xffffffff' "$("$tools/where" --apply b.dtb obj.dtb)"
     object "$fragment __local_fixups__ { f { __overlay__ { p = <4>; }; }; };"
     is 'where --apply: 64, beyond the value' 'obj.dtb: fault 64 BadLocalFixup: /__local_fixups__/f/__overlay__ p, offset 4: no four bytes there' "$("$tools/where" --apply b.dtb obj.dtb)"
     object "$fragment __local_fixups__ { f { __overlay__ { q = <0>; }; }; };"
     is 'where --apply: 64, no property' 'obj.dtb: fault 64 BadLocalFixup: /__local_fixups__/f/__overlay__ q, offset 0: no property q in /f/__overlay__' "$("$tools/where" --apply b.dtb obj.dtb)"
     object 'o { phandle = <9>; }; f { target-path = "/soc"; __overlay__ { p = <9>; }; }; __local_fixups__ { f { __overlay__ { p = <0>; }; }; };'
-    is 'where --apply: 64, a node outside' 'obj.dtb: fault 64 BadLocalFixup: /__local_fixups__/f/__overlay__ p, offset 0: the phandle 0x9 is that of /o, which no fragment brings' "$("$tools/where" --apply b.dtb obj.dtb)"
+    is 'where --apply: 64, a node outside' 'obj.dtb: fault 64 BadLocalFixup: /__local_fixups__/f/__overlay__ p, offset 0: phandle 0x9 is that of /o, which is in no fragment' "$("$tools/where" --apply b.dtb obj.dtb)"
     object "$fragment __symbols__ { m = \"/f/__overlay__/none\"; };"
     is 'where --apply: 61, of the object' 'obj.dtb: fault 61 BadSymbol: /__symbols__ m = "/f/__overlay__/none": no node of the object has this path' "$("$tools/where" --apply b.dtb obj.dtb)"
     object "$fragment __fixups__ { l = \"/f/__overlay__:p:0\"; };"
@@ -296,8 +296,8 @@ objects() {
     is 'where --apply: 61, of the base' 'c.dtb: fault 61 BadSymbol: /__symbols__ l = "/soc/uart": no node has this path' "$("$tools/where" --apply c.dtb obj.dtb)"
     printf '/dts-v1/; / { soc { uart { }; }; __symbols__ { l = "/soc/uart"; }; };' > c.dts && "$DTOOL" compile --raw c.dts > c.dtb
     is 'where --apply: 61, no phandle' 'c.dtb: fault 61 BadSymbol: /__symbols__ l = "/soc/uart": the node has no phandle' "$("$tools/where" --apply c.dtb obj.dtb)"
-    is 'where --apply: a source' 'b.dts: fault 41 BadMagic: this is a source, which dtool compile makes a blob of' "$("$tools/where" --apply b.dtb b.dts)"
-    is 'where --apply: the base is a source' 'b.dts: fault 41 BadMagic: this is a source, which dtool compile makes a blob of' "$("$tools/where" --apply b.dts b.dtb)"
+    is 'where --apply: a source' 'b.dts: fault 41 BadMagic: this is a source; compile it first' "$("$tools/where" --apply b.dtb b.dts)"
+    is 'where --apply: the base is a source' 'b.dts: fault 41 BadMagic: this is a source; compile it first' "$("$tools/where" --apply b.dts b.dtb)"
     head -c 60 b.dtb > short.dtb
     is 'where --apply: the base' 'short.dtb: fault 42 BadTotal' "$("$tools/where" --apply short.dtb obj.dtb)"
 }
