@@ -92,7 +92,7 @@ function block_path(reference,    label) {
     return label in label_path ? label_path[label] : reference
 }
 
-function omit(path) { omitted[++omissions] = path; omitted_at[omissions] = tail_at }
+function omit(path) { if (!(path in may_go)) { may_go[path] = 1; omitted[++omissions] = path; omitted_at[omissions] = tail_at } }
 
 function open_body(node,    path, is_there, i) {
     if (node ~ /^&/) use_label(node)
@@ -405,7 +405,7 @@ function read_all(path) {
     next_place = 0
     outs = warned = reads = nodes = values = references = omissions = 0
     pending = last = word = current = ""
-    split("", seen); split("", exists); split("", label_path); split("", out); split("", defined); split("", value_of)
+    split("", seen); split("", exists); split("", label_path); split("", out); split("", defined); split("", value_of); split("", may_go)
     split("", holders); split("", holder); split("", labels_of)
     read_file(path, escaped(ENVIRON["DIALECT_SHOWN"]))
     let_go()

@@ -66,6 +66,10 @@ Warning: drop.dts:6.2: this deletion has no effect on the base' "$(told "$tools/
 	t {
 	};
 };' "$(text_of omit.dts)"
+    printf '/dts-v1/;\n/ { /omit-if-no-ref/ l: a { b { }; /omit-if-no-ref/ c { }; }; };\n/omit-if-no-ref/ &l;\n' > twice.dts
+    is 'dtc: a node that is omitted twice' '/dts-v1/;
+/ {
+};' "$(text_of twice.dts)"
     is 'dtc -@: nodes to which nothing refers' 'a t u w ' "$(text_of -@ omit.dts | sed -n 's/^	\([a-z]\) {$/\1/p' | sort | tr '\n' ' ')"
     printf '/dts-v1/;\n/ { p = <&b>; /omit-if-no-ref/ a { b: b { }; }; };\n' > child.dts
     is 'dtc: a node of whose children one is referred to' 'Warning: child.dts:2.15: /a stays, although nothing refers to it: something refers to /a/b' "$(told "$tools/dtc" -o x.dtb child.dts)"
@@ -201,6 +205,7 @@ names_and_places() {
     ln -sf new.dtb deep/dangling.dtb
     "$tools/dtc" -o deep/dangling.dtb om.dts; is 'dtc: -o of a symlink to nothing yet' 'link, made' "$([ -L deep/dangling.dtb ] && [ -s deep/new.dtb ] && echo 'link, made')"
     is 'dtc: -o in no folder' "dtc: can't write \"none/x.dtb\": there is no folder \"none\"" "$(told "$tools/dtc" -o none/x.dtb om.dts)"
+    is 'dtc: -d in no folder' "dtc: can't write \"none/x.d\"" "$(told "$tools/dtc" -o x.dtb -d none/x.d om.dts)"
     is 'fdtoverlay: -o in no folder' "fdtoverlay: can't write \"none/x.dtb\": there is no folder \"none\"" "$(told "$tools/fdtoverlay" -i base.dtb -o none/x.dtb base.dtb)"
     is 'dtc: a new file has the usual mode' "$(rm -f m1 m2; : > m1; stat -c %a m1)" "$("$tools/dtc" -o m2 om.dts; stat -c %a m2)"
     "$tools/dtc" -o om.dtb om.dts && "$tools/dtc" -I dtb -O dtb -o om.dtb om.dtb
