@@ -184,35 +184,44 @@ function path_of(reference,    l, rest_of) {
     return l in label_path ? label_path[l] rest_of : ""
 }
 
-function has_label(path,    l) { for (l in label_path) if (label_path[l] == path) return 1; return 0 }
+function above(path) { sub(/\/[^\/]*$/, "", path); return path }
 
-function is_omitted(path,    i) { for (i in gone) if (is_in(path, gone[i])) return 1; return 0 }
+# Whether a node goes, or one above it.
+function is_going(path) { for (; path != ""; path = above(path)) if (path in going) return 1; return 0 }
+
+# Whether a value outside of what goes refers to a node below this one; that node is then in `referred`.
+function is_needed(path,    list, n, i) {
+    n = split(inner[path], list, " ")
+    for (i = 1; i <= n; i++) if (!is_going(refers_from[list[i]])) { referred = path_of(refers_to[list[i]]); return 1 }
+    return 0
+}
 
 # The nodes of /omit-if-no-ref/ that go: those to which no value refers. Where a value that stays refers to a node below, a number would name
 # nothing: the node stays.
-function leave_out(    i, r, n, changed, path) {
-    for (r = 1; r <= references; r++) if (stays(r)) { path = path_of(refers_to[r]); named[path] = 1; from[++n] = refers_from[r]; to[n] = path }
+function leave_out(    i, r, l, changed, path) {
+    for (r = 1; r <= references; r++) if (stays(r)) named[path_of(refers_to[r])] = 1
+    for (l in label_path) labelled[label_path[l]] = 1
     for (i = 1; i <= omissions; i++) {
         path = omitted[i]
-        if (path in exists && !(path in named) && substr(path, 1, 1) == "/" && (raw || !has_label(path))) gone[i] = path
+        if (path in exists && !(path in named) && substr(path, 1, 1) == "/" && (raw || !(path in labelled))) going[path] = 1
+    }
+    for (r = 1; r <= references; r++) {
+        if (!stays(r)) continue
+        for (path = above(path_of(refers_to[r])); path != ""; path = above(path)) if (path in going) inner[path] = inner[path] " " r
     }
     do {
         changed = 0
         for (i = 1; i <= omissions; i++) {
-            if (!(i in gone)) continue
-            for (r = 1; r <= n; r++) if (to[r] != gone[i] && is_in(to[r], gone[i]) && !is_omitted(from[r])) break
-            if (r > n) continue
-            warn(omitted_at[i], gone[i] " stays, although nothing refers to it: something refers to " to[r])
-            delete gone[i]
+            path = omitted[i]
+            if (!(path in going) || !(path in inner) || !is_needed(path)) continue
+            warn(omitted_at[i], path " stays, although nothing refers to it: something refers to " referred)
+            delete going[path]
             changed = 1
         }
     } while (changed)
     for (i = 1; i <= omissions; i++) {
-        if (!(i in gone)) continue
-        path = gone[i]
-        delete gone[i]
-        if (!is_omitted(path)) { out[++outs] = "\n" marker(number + 1, file) "\n/delete-node/ &{" path "};\n"; changes++ }
-        gone[i] = path
+        path = omitted[i]
+        if (path in going && !is_going(above(path))) { out[++outs] = "\n" marker(number + 1, file) "\n/delete-node/ &{" path "};\n"; changes++ }
     }
 }
 
