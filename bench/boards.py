@@ -4,7 +4,8 @@ and of memory.
 
     python3 bench/boards.py crates/dtool/out/dtool FOLDER [RUNS]
 
-With tools/dtc in place of the program it is seen what that script makes of them, the dialect of dtc included. A folder of real boards is made of a Linux source tree, each board behind the C preprocessor:
+With tools/dtc in place of the program it is seen what that script makes of them, the dialect of dtc included. A folder
+of real boards is made of a Linux source tree, each board behind the C preprocessor:
 
     apt-get install linux-source && tar -xf /usr/src/linux-source-*.tar.xz
     python3 bench/boards.py make linux-source-* FOLDER

@@ -13,19 +13,25 @@ import sys
 import tempfile
 from collections import Counter
 
-DTS = "arch/{}/boot/dts/{}"
+
+
+def dts(arch, *names):
+    return tuple(f"arch/{arch}/boot/dts/{name}" for name in names)
+
+
+# Of each board its file, one of its chip's, and one between them.
 BOARDS = {
-    "imx8mm": (DTS.format("arm64", "freescale/imx8mm-evk.dts"), DTS.format("arm64", "freescale/imx8mm.dtsi"), DTS.format("arm64", "freescale/imx8mm-evk.dtsi")),
-    "qcs404": (DTS.format("arm64", "qcom/qcs404-evb-4000.dts"), DTS.format("arm64", "qcom/qcs404.dtsi"), DTS.format("arm64", "qcom/qcs404-evb.dtsi")),
-    "rk3399": (DTS.format("arm64", "rockchip/rk3399-rockpro64.dts"), DTS.format("arm64", "rockchip/rk3399-base.dtsi"), DTS.format("arm64", "rockchip/rk3399-rockpro64.dtsi")),
-    "stm32": (DTS.format("arm", "st/stm32mp157c-dk2.dts"), DTS.format("arm", "st/stm32mp151.dtsi"), DTS.format("arm", "st/stm32mp15xx-dkx.dtsi")),
-    "am625": (DTS.format("arm64", "ti/k3-am625-sk.dts"), DTS.format("arm64", "ti/k3-am62-main.dtsi"), DTS.format("arm64", "ti/k3-am62x-sk-common.dtsi")),
-    "bcm2711": (DTS.format("arm64", "broadcom/bcm2711-rpi-4-b.dts"), DTS.format("arm", "broadcom/bcm2711.dtsi"), DTS.format("arm", "broadcom/bcm2711-rpi.dtsi")),
-    "fu540": (DTS.format("riscv", "sifive/hifive-unleashed-a00.dts"), DTS.format("riscv", "sifive/fu540-c000.dtsi"), DTS.format("riscv", "sifive/hifive-unleashed-a00.dts")),
-    "p1020": (DTS.format("powerpc", "fsl/p1020rdb.dts"), DTS.format("powerpc", "fsl/p1020rdb.dtsi"), DTS.format("powerpc", "fsl/p1020rdb.dtsi")),
+    "imx8mm": dts("arm64", "freescale/imx8mm-evk.dts", "freescale/imx8mm.dtsi", "freescale/imx8mm-evk.dtsi"),
+    "qcs404": dts("arm64", "qcom/qcs404-evb-4000.dts", "qcom/qcs404.dtsi", "qcom/qcs404-evb.dtsi"),
+    "rk3399": dts("arm64", "rockchip/rk3399-rockpro64.dts", "rockchip/rk3399-base.dtsi", "rockchip/rk3399-rockpro64.dtsi"),
+    "stm32": dts("arm", "st/stm32mp157c-dk2.dts", "st/stm32mp151.dtsi", "st/stm32mp15xx-dkx.dtsi"),
+    "am625": dts("arm64", "ti/k3-am625-sk.dts", "ti/k3-am62-main.dtsi", "ti/k3-am62x-sk-common.dtsi"),
+    "bcm2711": dts("arm64", "broadcom/bcm2711-rpi-4-b.dts") + dts("arm", "broadcom/bcm2711.dtsi", "broadcom/bcm2711-rpi.dtsi"),
+    "fu540": dts("riscv", "sifive/hifive-unleashed-a00.dts", "sifive/fu540-c000.dtsi", "sifive/hifive-unleashed-a00.dts"),
+    "p1020": dts("powerpc", "fsl/p1020rdb.dts", "fsl/p1020rdb.dtsi", "fsl/p1020rdb.dtsi"),
 }
-OVERLAYS = [DTS.format("arm64", "freescale/imx8mm-venice-gw72xx-0x-imx219.dtso"), DTS.format("arm64", "ti/k3-am62x-sk-csi2-imx219.dtso"),
-            DTS.format("arm64", "rockchip/rk3588-edgeble-neu6a-wifi.dtso")]
+OVERLAYS = dts("arm64", "freescale/imx8mm-venice-gw72xx-0x-imx219.dtso", "ti/k3-am62x-sk-csi2-imx219.dtso",
+               "rockchip/rk3588-edgeble-neu6a-wifi.dtso")
 
 
 class Mistake:
@@ -109,7 +115,8 @@ def mistakes(linux):
         yield changed(linux, "twice: property", board, soc, r'^\t\t+status = "\w+";$', lambda it: it + "\n" + it, 1)
     for i in (0, 6):
         yield added(linux, "twice: child", BOARDS[names[i]][0], "/ {\n\tzz {\n\t\tone {\n\t\t};\n\t\tone {\n\t\t};\n\t};\n};", [4])
-    yield added(linux, "twice: phandle", BOARDS["rk3399"][0], "/ {\n\tza {\n\t\tphandle = <0x777>;\n\t};\n\tzb {\n\t\tphandle = <0x777>;\n\t};\n};", [5])
+    two = "/ {\n\tza {\n\t\tphandle = <0x777>;\n\t};\n\tzb {\n\t\tphandle = <0x777>;\n\t};\n};"
+    yield added(linux, "twice: phandle", BOARDS["rk3399"][0], two, [5])
     for value in ("0", "1 2"):
         yield added(linux, "twice: bad phandle", BOARDS["qcs404"][0], f"/ {{\n\tza {{\n\t\tphandle = <{value}>;\n\t}};\n}};", [2])
 

@@ -63,7 +63,10 @@ task == "lacks" {
         rest = upto; at = start; line_has = 0
         while (rest != "") {
             if (comment) { n = index(rest, "*/"); if (n) { comment = 0; n++ } else n = length(rest) }
-            else if (text) { if (match(rest, /^([^"\\]|\\.)*"/)) { n = RLENGTH; text = 0; last_byte = "\""; last_at = at + n - 1; line_has = 1 } else n = length(rest) }
+            else if (text) {
+                if (!match(rest, /^([^"\\]|\\.)*"/)) n = length(rest)
+                else { n = RLENGTH; text = 0; last_byte = "\""; last_at = at + n - 1; line_has = 1 }
+            }
             else if (substr(rest, 1, 2) == "/*") { comment = 1; n = 2 }
             else if (substr(rest, 1, 2) == "//") n = length(rest)
             else if (match(rest, /^[ \t\r\f\v]+/)) n = RLENGTH

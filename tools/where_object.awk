@@ -66,6 +66,9 @@ function texts_of(printed, texts,    n, i, c, part) {
 
 function is_reserved(path) { return path ~ /^\/(__symbols__|__fixups__|__local_fixups__)(\/|$)/ }
 
+# Whether a node is in what a fragment brings.
+function is_content(path) { return path ~ /^\/[^\/]*\/__overlay__(\/|$)/ }
+
 function tell(words) { print head fault ": " words; told = 1 }
 
 # Why four bytes of the object aren't there; empty where they are.
@@ -115,7 +118,7 @@ function bad_symbol(    labels, n, i, texts, part) {
     n = split(names["object", "/__symbols__"], labels, "\n")
     for (i = 1; i <= n; i++) {
         if (texts_of(value["object", "/__symbols__", labels[i]], texts) != 1) part = "no text"
-        else if (texts[1] ~ /^\/[^\/]*\/__overlay__(\/|$)/ && !(("object", texts[1]) in there)) part = "no node of the object has this path"
+        else if (is_content(texts[1]) && !(("object", texts[1]) in there)) part = "no node of the object has this path"
         else continue
         tell("/__symbols__ " labels[i] " = " value["object", "/__symbols__", labels[i]] ": " part)
         return
@@ -141,7 +144,7 @@ function bad_local_fixup(    i, path, mirror, listed, n, j, k, hex, offset, why,
                     sub(/^0x0+/, "0x", number); if (number == "0x") number = "0x0"
                     target = ("object", "<" number ">") in node_of ? node_of["object", "<" number ">"] : "none"
                     if (target == "none") why = "no node of the object has phandle " number
-                    else if (path ~ /^\/[^\/]*\/__overlay__(\/|$)/ && target !~ /^\/[^\/]*\/__overlay__(\/|$)/) why = "phandle " number " is that of " target ", which is in no fragment"
+                    else if (is_content(path) && !is_content(target)) why = "phandle " number " is that of " target ", which is in no fragment"
                 }
                 if (why != "") { tell(mirror " " listed[j] ", offset " offset ": " why); return }
             }
@@ -186,7 +189,8 @@ END {
     if (fault ~ / NoSymbol/) {
         n = split(names["object", "/__fixups__"], labels, "\n")
         for (i = 1; i <= n; i++) {
-            if (!(("base", "/__symbols__", labels[i]) in value)) tell("the base has no label " labels[i] ", which " value["object", "/__fixups__", labels[i]] " needs")
+            if (("base", "/__symbols__", labels[i]) in value) continue
+            tell("the base has no label " labels[i] ", which " value["object", "/__fixups__", labels[i]] " needs")
         }
     } else if (fault ~ / BadFixup/) bad_fixup()
     else if (fault ~ / BadSymbol/) { bad_fixup(); if (!told) bad_symbol() }

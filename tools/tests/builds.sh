@@ -48,13 +48,15 @@ Warning: drop.dts:6.2: this deletion has no effect on the base' "$(told "$tools/
     printf '/dts-v1/; /plugin/; &x { k; };' > kept.dts
     "$DTOOL" compile kept.dts > kept.dtbo
     is 'dtc: an overlay without its deletions' "$(hex kept.dtbo)" "$(hex x.dtbo)"
-    for it in '/delete-node/ &outside;' '&x { k; /delete-property/ k; };' '&x { c { }; }; &x { /delete-node/ c; };' '/ { n: n { k; }; }; &n { /delete-property/ k; };'; do
+    for it in '/delete-node/ &outside;' '&x { k; /delete-property/ k; };' '&x { c { }; }; &x { /delete-node/ c; };' \
+        '/ { n: n { k; }; }; &n { /delete-property/ k; };'; do
         printf '/dts-v1/; /plugin/; %s\n' "$it" > refused.dts
         is "dtc: $it in an overlay" 1 "$(status_of "$tools/dtc" -@ -o x.dtbo refused.dts)"
     done
 
     # Nodes of /omit-if-no-ref/.
-    printf '/dts-v1/;\n/ { p = <&u>; q = &{/t}; /omit-if-no-ref/ l: a { x { }; }; /omit-if-no-ref/ u: u { }; /omit-if-no-ref/ t { }; /omit-if-no-ref/ v { }; w: w { }; };
+    printf '/dts-v1/;\n/ { p = <&u>; q = &{/t}; /omit-if-no-ref/ l: a { x { }; }; /omit-if-no-ref/ u: u { };
+	/omit-if-no-ref/ t { }; /omit-if-no-ref/ v { }; w: w { }; };
 &l { y; };\n/omit-if-no-ref/ &w;\n' > omit.dts
     is 'dtc: nodes to which nothing refers' '/dts-v1/;
 / {
@@ -72,8 +74,10 @@ Warning: drop.dts:6.2: this deletion has no effect on the base' "$(told "$tools/
 };' "$(text_of twice.dts)"
     is 'dtc -@: nodes to which nothing refers' 'a t u w ' "$(text_of -@ omit.dts | sed -n 's/^	\([a-z]\) {$/\1/p' | sort | tr '\n' ' ')"
     printf '/dts-v1/;\n/ { p = <&b>; /omit-if-no-ref/ a { b: b { }; }; };\n' > child.dts
-    is 'dtc: a node of whose children one is referred to' 'Warning: child.dts:2.15: /a stays, although nothing refers to it: something refers to /a/b' "$(told "$tools/dtc" -o x.dtb child.dts)"
-    printf '/dts-v1/;\n/ { /omit-if-no-ref/ a { p = <&b>; b: b { }; }; /omit-if-no-ref/ c: c { }; d { q = <&c>; }; };\n/ { d { /delete-property/ q; }; };\n' > inner.dts
+    is 'dtc: a node of whose children one is referred to' 'Warning: child.dts:2.15: /a stays, although nothing refers to it: something refers to /a/b' \
+        "$(told "$tools/dtc" -o x.dtb child.dts)"
+    printf '/dts-v1/;\n/ { /omit-if-no-ref/ a { p = <&b>; b: b { }; }; /omit-if-no-ref/ c: c { }; d { q = <&c>; }; };
+/ { d { /delete-property/ q; }; };\n' > inner.dts
     is 'dtc: a reference inside, and one that is deleted' '/dts-v1/;
 / {
 	d {
@@ -114,7 +118,8 @@ blob_options() {
 	};
 	e {
 	};
-};' "$(printf '/dts-v1/;\n/memreserve/ 0x10 0x20; /memreserve/ 2 3;\n/ { b; #c = "{ x; };"; B; e { }; a { z; y; d { }; c { }; }; };\n' > s.dts; "$tools/dtc" -s -I dts -O dts s.dts)"
+};' "$(printf '/dts-v1/;\n/memreserve/ 0x10 0x20; /memreserve/ 2 3;\n/ { b; #c = "{ x; };"; B; e { }; a { z; y; d { }; c { }; }; };\n' > s.dts
+    "$tools/dtc" -s -I dts -O dts s.dts)"
     "$tools/dtc" -b 7 -o s.dtb s.dts
     "$tools/dtc" -s -I dtb -O dtb -o sorted.dtb s.dtb
     is 'dtc: -s of a blob' "$("$tools/dtc" -s -I dts -O dts s.dts)" "$("$tools/dtc" -I dtb -O dts sorted.dtb)"
@@ -197,16 +202,19 @@ names_and_places() {
     done
     mkdir -p deep && rm -f deep/link.dtb deep/real.dtb && echo old > deep/real.dtb && chmod 640 deep/real.dtb && ln -s real.dtb deep/link.dtb
     "$tools/dtc" -o deep/link.dtb om.dts
-    is 'dtc: -o of a symlink' 'link, 640, dts' "$([ -L deep/link.dtb ] && echo "link, $(stat -c %a deep/real.dtb), $("$DTOOL" print deep/real.dtb | head -c 5 | cut -c2-4)")"
+    is 'dtc: -o of a symlink' 'link, 640, dts' \
+        "$([ -L deep/link.dtb ] && echo "link, $(stat -c %a deep/real.dtb), $("$DTOOL" print deep/real.dtb | head -c 5 | cut -c2-4)")"
     "$DTOOL" compile om.dts > base.dtb 2> /dev/null || "$tools/dtc" -@ -o base.dtb om.dts
     echo old > deep/real.dtb
     "$tools/fdtoverlay" -i base.dtb -o deep/link.dtb base.dtb
     is 'fdtoverlay: -o of a symlink' 'link, 640' "$([ -L deep/link.dtb ] && echo "link, $(stat -c %a deep/real.dtb)")"
     ln -sf new.dtb deep/dangling.dtb
-    "$tools/dtc" -o deep/dangling.dtb om.dts; is 'dtc: -o of a symlink to nothing yet' 'link, made' "$([ -L deep/dangling.dtb ] && [ -s deep/new.dtb ] && echo 'link, made')"
+    "$tools/dtc" -o deep/dangling.dtb om.dts
+    is 'dtc: -o of a symlink to nothing yet' 'link, made' "$([ -L deep/dangling.dtb ] && [ -s deep/new.dtb ] && echo 'link, made')"
     is 'dtc: -o in no folder' "dtc: can't write \"none/x.dtb\": there is no folder \"none\"" "$(told "$tools/dtc" -o none/x.dtb om.dts)"
     is 'dtc: -d in no folder' "dtc: can't write \"none/x.d\"" "$(told "$tools/dtc" -o x.dtb -d none/x.d om.dts)"
-    is 'fdtoverlay: -o in no folder' "fdtoverlay: can't write \"none/x.dtb\": there is no folder \"none\"" "$(told "$tools/fdtoverlay" -i base.dtb -o none/x.dtb base.dtb)"
+    is 'fdtoverlay: -o in no folder' "fdtoverlay: can't write \"none/x.dtb\": there is no folder \"none\"" \
+        "$(told "$tools/fdtoverlay" -i base.dtb -o none/x.dtb base.dtb)"
     is 'dtc: a new file has the usual mode' "$(rm -f m1 m2; : > m1; stat -c %a m1)" "$("$tools/dtc" -o m2 om.dts; stat -c %a m2)"
     "$tools/dtc" -o om.dtb om.dts && "$tools/dtc" -I dtb -O dtb -o om.dtb om.dtb
     is 'dtc: in its place' 0 "$(status_of "$DTOOL" check om.dtb)"
@@ -233,7 +241,8 @@ fallbacks() {
     other_program 'other dtc'
     DTOOL_ELSE=$PWD/'other dtc'
     export DTOOL_ELSE
-    is 'DTOOL_ELSE: what is answered' "0 run with: -@ -o x y.dtb bad.dts; else: none none" "$(got=$("$tools/dtc" -@ -o 'x y.dtb' bad.dts 2> said); echo "$? $got")"
+    is 'DTOOL_ELSE: what is answered' "0 run with: -@ -o x y.dtb bad.dts; else: none none" \
+        "$(got=$("$tools/dtc" -@ -o 'x y.dtb' bad.dts 2> said); echo "$? $got")"
     is 'DTOOL_ELSE: what is said' "Warning: bad.dts:3.5: fault 22 DuplicateLabel: l
 Warning: bad.dts: compiled by $DTOOL_ELSE instead" "$(grep Warning said)"
     is 'DTOOL_ELSE: nothing is left' 'none' "$(ls 'x y.dtb'* 2> /dev/null || echo none)"
@@ -251,11 +260,14 @@ $(cat bad.dts)" "$(READS=1; export READS; "$tools/dtc" -I dts - < bad.dts 2> /de
         is "DTOOL_ELSE: not for $it" "1 Error: good.dts: $it" "$(got=$(DTOOL=$PWD/failing "$tools/dtc" -o x.dtb good.dts 2>&1); echo "$? $got")"
     done
     printf '#!/bin/sh\nkill -9 $$\n' > failing
-    is 'DTOOL_ELSE: not where a signal ended dtool' 'Error: good.dts: dtool ended with status 137' "$(DTOOL=$PWD/failing told "$tools/dtc" -o x.dtb good.dts | tail -n 1)"
-    is 'DTOOL_ELSE: not where dtool is missing' '1 dtc: no program dtool: set DTOOL to its path' "$(got=$(DTOOL=$PWD/none "$tools/dtc" -o x.dtb bad.dts 2>&1); echo "$? $got")"
+    is 'DTOOL_ELSE: not where a signal ended dtool' 'Error: good.dts: dtool ended with status 137' \
+        "$(DTOOL=$PWD/failing told "$tools/dtc" -o x.dtb good.dts | tail -n 1)"
+    is 'DTOOL_ELSE: not where dtool is missing' '1 dtc: no program dtool: set DTOOL to its path' \
+        "$(got=$(DTOOL=$PWD/none "$tools/dtc" -o x.dtb bad.dts 2>&1); echo "$? $got")"
     # A fallback that is the script itself ends; one that isn't there is named.
     is 'DTOOL_ELSE: the script itself' 1 "$(DTOOL_ELSE=$tools/dtc status_of "$tools/dtc" -o x.dtb bad.dts)"
-    is 'DTOOL_ELSE: no program' "dtc: no program $PWD/none -x, which was to be run instead" "$(DTOOL_ELSE="$PWD/none -x" told "$tools/dtc" -o x.dtb bad.dts | tail -n 1)"
+    is 'DTOOL_ELSE: no program' "dtc: no program $PWD/none -x, which was to be run instead" \
+        "$(DTOOL_ELSE="$PWD/none -x" told "$tools/dtc" -o x.dtb bad.dts | tail -n 1)"
     DTOOL_ELSE=
     is 'DTOOL_ELSE: empty' 1 "$(status_of "$tools/dtc" -o x.dtb bad.dts)"
     unset DTOOL_ELSE
@@ -265,7 +277,8 @@ $(cat bad.dts)" "$(READS=1; export READS; "$tools/dtc" -I dts - < bad.dts 2> /de
     export DTOOL_ELSE_FDTOVERLAY
     "$DTOOL" compile good.dts > good.dtb
     printf '/dts-v1/; /plugin/;\n&nope { };\n' > no.dts && "$DTOOL" compile no.dts > no.dtbo
-    is 'DTOOL_ELSE_FDTOVERLAY: what is answered' '0 run with: -i good.dtb -o x.dtb no.dtbo; else: none none' "$(got=$("$tools/fdtoverlay" -i good.dtb -o x.dtb no.dtbo 2> said); echo "$? $got")"
+    is 'DTOOL_ELSE_FDTOVERLAY: what is answered' '0 run with: -i good.dtb -o x.dtb no.dtbo; else: none none' \
+        "$(got=$("$tools/fdtoverlay" -i good.dtb -o x.dtb no.dtbo 2> said); echo "$? $got")"
     is 'DTOOL_ELSE_FDTOVERLAY: what is said' "Warning: no.dtbo: fault 60 NoSymbol: the base has no label nope, which \"/fragment@0:target:0\" needs
 Warning: x.dtb: made by $DTOOL_ELSE_FDTOVERLAY instead" "$(cat said)"
     is 'DTOOL_ELSE_FDTOVERLAY: its status' 3 "$(ENDS=3; export ENDS; status_of "$tools/fdtoverlay" -i good.dtb -o x.dtb no.dtbo)"
@@ -280,27 +293,38 @@ objects() {
     printf '/dts-v1/; / { soc { l: uart { x = <1>; }; }; };' > b.dts && "$DTOOL" compile b.dts > b.dtb
     object() { printf '/dts-v1/; / { %s };' "$1" > obj.dts && "$DTOOL" compile --raw obj.dts > obj.dtb; }
     fragment='f { target-path = "/soc"; __overlay__ { p = <0xffffffff>; n { phandle = <1>; }; }; };'
-    for it in '/nope:p:0|no node /nope' '/f/__overlay__:q:0|no property q in /f/__overlay__' '/f/__overlay__:p:1|no four bytes there' 'f|no text PATH:PROPERTY:OFFSET'; do
+    for it in '/nope:p:0|no node /nope' '/f/__overlay__:q:0|no property q in /f/__overlay__' '/f/__overlay__:p:1|no four bytes there' \
+        'f|no text PATH:PROPERTY:OFFSET'; do
         object "$fragment __fixups__ { l = \"/f/__overlay__:p:0\", \"${it%|*}\"; };"
         is "where --apply: 63, ${it#*|}" "obj.dtb: fault 63 BadFixup: /__fixups__ l = \"${it%|*}\": ${it#*|}" "$("$tools/where" --apply b.dtb obj.dtb)"
     done
     object "$fragment __fixups__ { l = <1 2>; };"
-    is 'where --apply: 63, no texts' 'obj.dtb: fault 63 BadFixup: /__fixups__ l = <0x1 0x2>: no texts PATH:PROPERTY:OFFSET' "$("$tools/where" --apply b.dtb obj.dtb)"
+    is 'where --apply: 63, no texts' 'obj.dtb: fault 63 BadFixup: /__fixups__ l = <0x1 0x2>: no texts PATH:PROPERTY:OFFSET' \
+        "$("$tools/where" --apply b.dtb obj.dtb)"
     object "$fragment __local_fixups__ { f { __overlay__ { p = <0>; }; }; };"
-    is 'where --apply: 64, no node' 'obj.dtb: fault 64 BadLocalFixup: /__local_fixups__/f/__overlay__ p, offset 0: no node of the object has phandle 0xffffffff' "$("$tools/where" --apply b.dtb obj.dtb)"
+    is 'where --apply: 64, no node' \
+        'obj.dtb: fault 64 BadLocalFixup: /__local_fixups__/f/__overlay__ p, offset 0: no node of the object has phandle 0xffffffff' \
+        "$("$tools/where" --apply b.dtb obj.dtb)"
     object "$fragment __local_fixups__ { f { __overlay__ { p = <4>; }; }; };"
-    is 'where --apply: 64, beyond the value' 'obj.dtb: fault 64 BadLocalFixup: /__local_fixups__/f/__overlay__ p, offset 4: no four bytes there' "$("$tools/where" --apply b.dtb obj.dtb)"
+    is 'where --apply: 64, beyond the value' 'obj.dtb: fault 64 BadLocalFixup: /__local_fixups__/f/__overlay__ p, offset 4: no four bytes there' \
+        "$("$tools/where" --apply b.dtb obj.dtb)"
     object "$fragment __local_fixups__ { f { __overlay__ { q = <0>; }; }; };"
-    is 'where --apply: 64, no property' 'obj.dtb: fault 64 BadLocalFixup: /__local_fixups__/f/__overlay__ q, offset 0: no property q in /f/__overlay__' "$("$tools/where" --apply b.dtb obj.dtb)"
+    is 'where --apply: 64, no property' 'obj.dtb: fault 64 BadLocalFixup: /__local_fixups__/f/__overlay__ q, offset 0: no property q in /f/__overlay__' \
+        "$("$tools/where" --apply b.dtb obj.dtb)"
     object 'o { phandle = <9>; }; f { target-path = "/soc"; __overlay__ { p = <9>; }; }; __local_fixups__ { f { __overlay__ { p = <0>; }; }; };'
-    is 'where --apply: 64, a node outside' 'obj.dtb: fault 64 BadLocalFixup: /__local_fixups__/f/__overlay__ p, offset 0: phandle 0x9 is that of /o, which is in no fragment' "$("$tools/where" --apply b.dtb obj.dtb)"
+    is 'where --apply: 64, a node outside' \
+        'obj.dtb: fault 64 BadLocalFixup: /__local_fixups__/f/__overlay__ p, offset 0: phandle 0x9 is that of /o, which is in no fragment' \
+        "$("$tools/where" --apply b.dtb obj.dtb)"
     object "$fragment __symbols__ { m = \"/f/__overlay__/none\"; };"
-    is 'where --apply: 61, of the object' 'obj.dtb: fault 61 BadSymbol: /__symbols__ m = "/f/__overlay__/none": no node of the object has this path' "$("$tools/where" --apply b.dtb obj.dtb)"
+    is 'where --apply: 61, of the object' 'obj.dtb: fault 61 BadSymbol: /__symbols__ m = "/f/__overlay__/none": no node of the object has this path' \
+        "$("$tools/where" --apply b.dtb obj.dtb)"
     object "$fragment __fixups__ { l = \"/f/__overlay__:p:0\"; };"
     printf '/dts-v1/; / { soc { }; __symbols__ { l = "/soc/uart"; }; };' > c.dts && "$DTOOL" compile --raw c.dts > c.dtb
-    is 'where --apply: 61, of the base' 'c.dtb: fault 61 BadSymbol: /__symbols__ l = "/soc/uart": no node has this path' "$("$tools/where" --apply c.dtb obj.dtb)"
+    is 'where --apply: 61, of the base' 'c.dtb: fault 61 BadSymbol: /__symbols__ l = "/soc/uart": no node has this path' \
+        "$("$tools/where" --apply c.dtb obj.dtb)"
     printf '/dts-v1/; / { soc { uart { }; }; __symbols__ { l = "/soc/uart"; }; };' > c.dts && "$DTOOL" compile --raw c.dts > c.dtb
-    is 'where --apply: 61, no phandle' 'c.dtb: fault 61 BadSymbol: /__symbols__ l = "/soc/uart": the node has no phandle' "$("$tools/where" --apply c.dtb obj.dtb)"
+    is 'where --apply: 61, no phandle' 'c.dtb: fault 61 BadSymbol: /__symbols__ l = "/soc/uart": the node has no phandle' \
+        "$("$tools/where" --apply c.dtb obj.dtb)"
     is 'where --apply: a source' 'b.dts: fault 41 BadMagic: this is a source; compile it first' "$("$tools/where" --apply b.dtb b.dts)"
     is 'where --apply: the base is a source' 'b.dts: fault 41 BadMagic: this is a source; compile it first' "$("$tools/where" --apply b.dts b.dtb)"
     head -c 60 b.dtb > short.dtb
