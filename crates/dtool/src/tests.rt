@@ -456,7 +456,7 @@ fn words_that_are_a_command(rt: HostRuntime) {
     }
 }
 
-const NO_COMMANDS: [&str; 30] = [
+const NO_COMMANDS: [&str; 33] = [
     "",
     "dtool",
     "dtool compile",
