@@ -1,7 +1,7 @@
 //! The cells that objects list.
 
 use crate::outcome::{Lines, Outcome, Stop};
-use dt_listed::{ListedCell, fixups, local_fixups};
+use dt_marks_read::{ListedCell, fixups, local_fixups};
 use dt_names::NodeId;
 use dt_read::{Blob, Step};
 use std::alloc::{AllocError, Global};

@@ -9,12 +9,12 @@ use crate::numbers::{number, wide};
 use crate::outcome::{Lines, Outcome, Stop};
 use dt_flat::FlatTree;
 use dt_irq::{Route, Routes, route, specifier_route};
-use dt_lines::{Question, ask, irqs, regs};
 use dt_names::{Fault, NodeId, Out};
 use dt_ranges::{Regions, dma_region, region};
 use dt_read::Blob;
+use dt_resolve_lines::{Question, ask, irqs, regs};
+use dt_resolve_model::Region;
 use dt_view::{Index, TreeView, address_cells, cells, is_pci, node_at, one_cell};
-use dt_worlds::Region;
 use std::alloc::Global;
 
 /// `regs` tells the regions of a blob, and `irqs` its routes.

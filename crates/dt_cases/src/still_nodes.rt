@@ -10,7 +10,7 @@ use crate::reading;
 use crate::resolving::put_told;
 use crate::still_texts::is_written;
 use dt_flat::FlatTree;
-use dt_listed::{fixups, local_fixups};
+use dt_marks_read::{fixups, local_fixups};
 use dt_names::{NodeId, Path};
 use dt_read::{Blob, Step};
 use dt_view::{Index, TreeView, node_at};

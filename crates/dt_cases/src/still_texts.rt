@@ -3,8 +3,8 @@
 use dt_bytes::{be32, be64, put32, text_at};
 use dt_expr::fit;
 use dt_names::{Label, NodeName, Out, Path, PathRef, PropName, is_bookkeeping_name, phandle_of};
-use dt_streams::{check, print};
-use dt_texts::{cell_text, has_cell, texts};
+use dt_overlay_texts::{cell_text, has_cell, texts};
+use dt_run_streams::{check, print};
 use std::io::sink;
 
 /// How many of some answers are yes.

@@ -7,7 +7,7 @@ use Rattle.dt_model.specs.Tree.{Reading}
 use Rattle.dt_write.specs.Written.{written}
 use Rattle.dt_write.specs.Refusals.{WhyNoBytes}
 use Rattle.dt_names.specs.Fault.{placeless}
-use Rattle.dt_promises.specs.Apply.{IsOutcome, WhyNoneOfAll, no_memory, no_base, big}
+use Rattle.dt_chain_promises.specs.Apply.{IsOutcome, WhyNoneOfAll, no_memory, no_base, big}
 use Rattle.dt_chain.proofs.Stages.{fault_is}
 
 module _ (has_base has_object : List ℕ → Reading → Type 0) (lacks_base lacks_object : List ℕ → Fault → Type 0) where

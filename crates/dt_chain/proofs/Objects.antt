@@ -3,12 +3,12 @@ use Rattle.std.proofs.Common.{◌≡◌, ℕ, List, None, sym, ap, subst, ◌∙
 use Rattle.dt_names.specs.declared.fault.Fault.{Fault}
 use Rattle.dt_names.specs.declared.fault.FaultKind.TheVariants.{NoMemory}
 use Rattle.dt_model.specs.Tree.{Reading}
-use Rattle.dt_format.specs.Laws.{BlobHasNoFault}
-use Rattle.dt_landing.specs.Refusals.{has_many, WhyNotApplied}
+use Rattle.dt_model_format.specs.Laws.{BlobHasNoFault}
+use Rattle.dt_overlay_laws.specs.Refusals.{has_many, WhyNotApplied}
 use Rattle.dt_names.specs.Fault.{placeless}
-use Rattle.dt_promises.specs.Apply.{WhyNoStep, no_memory, no_object, not_applied, IsRead, IsNoBlob}
-use Rattle.dt_promises.specs.Build.{HasObject, WhyNoObject}
-use Rattle.dt_promises.proofs.AppliedOutcomes.{OneReading}
+use Rattle.dt_chain_promises.specs.Apply.{WhyNoStep, no_memory, no_object, not_applied, IsRead, IsNoBlob}
+use Rattle.dt_chain_promises.specs.Build.{HasObject, WhyNoObject}
+use Rattle.dt_chain_promises.proofs.AppliedOutcomes.{OneReading}
 use Rattle.dt_chain.proofs.Stages.{fault_is}
 use Rattle.dt_chain.proofs.OverlayStages.{HasObjectBlob}
 use Rattle.dt_chain.proofs.Turns.{Goes}

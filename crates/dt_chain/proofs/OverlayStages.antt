@@ -18,16 +18,16 @@ use Rattle.dt_model.specs.Named as named
 use Rattle.dt_model.specs.Named.{NodeReference, Named, sibling, node_at, list_of}
 use Rattle.dt_model.specs.Instance.{instance_of, symbols_of, with_symbols, followed_by}
 use Rattle.dt_model.specs.Fixups.{fixup_nodes, with_fixups}
-use Rattle.dt_laws.specs.Sources.{OverlaySourceIsOverlay}
+use Rattle.dt_model_laws.specs.Sources.{OverlaySourceIsOverlay}
 use Rattle.dt_grammar.specs.Grammar.{Says}
 use Rattle.dt_source.specs.Refusals.{WhyNoOverlay, fault_place}
 use Rattle.dt_flat.specs.Arena.{Arena, named_children, child_of, reading}
 use Rattle.dt_marks.specs.Refusals.{WhyNoFixups}
 use Rattle.dt_write.specs.Written.{written}
 use Rattle.dt_write.specs.Refusals.{WhyNoBytes}
-use Rattle.dt_promises.specs.Apply.{IsRead}
-use Rattle.dt_promises.specs.Build.{HasObject}
-use Rattle.dt_promises.specs.Compile.{OverlayTextHasTree, IsCompiledOverlay, WhyNotCompiledOverlay, no_memory, refused, large, big}
+use Rattle.dt_chain_promises.specs.Apply.{IsRead}
+use Rattle.dt_chain_promises.specs.Build.{HasObject}
+use Rattle.dt_chain_promises.specs.Compile.{OverlayTextHasTree, IsCompiledOverlay, WhyNotCompiledOverlay, no_memory, refused, large, big}
 use Rattle.dt_names.specs.Fault.{placeless}
 use Rattle.dt_chain.specs.Steps.{OfEachText, HasOverlay, IsNumbered, WhyNotLabelled, HasRooms, IsMarked, WhyNotMarked}
 use Rattle.dt_chain.proofs.Stages.{fault_is, no_sibling, no_child, not_there, too_many}

@@ -15,8 +15,8 @@ use Rattle.dt_model.specs.Source.{Mode, base, raw}
 use Rattle.dt_model.specs.Named as named
 use Rattle.dt_model.specs.Named.{NodeReference, Named, NamedForest, NamedNode, no_nodes, branch, sibling, node_at, list_of, listed, node_count}
 use Rattle.dt_model.specs.Instance.{numbered_forest, instance_of, symbols_of, with_symbols}
-use Rattle.dt_laws.specs.Sources.{SourceIsPlain}
-use Rattle.dt_laws.specs.NamedTrees.{TreeIsMeant}
+use Rattle.dt_model_laws.specs.Sources.{SourceIsPlain}
+use Rattle.dt_model_laws.specs.NamedTrees.{TreeIsMeant}
 use Rattle.dt_grammar.specs.Grammar.{Says}
 use Rattle.dt_source.specs.Refusals.{WhyNotNamed, fault_place}
 use Rattle.dt_flat.specs.Arena.{Arena, Slot, named_children, child_of, reading}
@@ -24,9 +24,9 @@ use Rattle.dt_flat.proofs.ByPath.{has, sibling_below}
 use Rattle.dt_marks.specs.Refusals.{WhyNoSymbols}
 use Rattle.dt_write.specs.Written.{written}
 use Rattle.dt_write.specs.Refusals.{WhyNoBytes}
-use Rattle.dt_promises.specs.Compile.{TextHasTree, IsCompiled, WhyNoTree, WhyNotCompiled, no_memory, unnamed, many, big}
+use Rattle.dt_chain_promises.specs.Compile.{TextHasTree, IsCompiled, WhyNoTree, WhyNotCompiled, no_memory, unnamed, many, big}
 use Rattle.dt_names.specs.Fault.{placeless}
-use Rattle.dt_promises.proofs.Outcomes.{one_more}
+use Rattle.dt_chain_promises.proofs.Outcomes.{one_more}
 use Rattle.dt_chain.specs.Steps.{OfEachText, HasNamed, IsNumbered, HasRoom, WhyNotLabelled}
 
 -- a fault is told by its kind and its place

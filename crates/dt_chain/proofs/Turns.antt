@@ -2,7 +2,7 @@
 use Rattle.std.proofs.Common.{◌≡◌, ℕ, suc, zero, ◌+◌, ◌<◌, ◌≤◌, List, [], ◌∷◌, ◌++◌, Bor, length, map, take, drop, get_or, refl, sym, ap, subst, arith}
 use Rattle.dt_names.specs.declared.fault.Fault.{Fault}
 use Rattle.dt_model.specs.Tree.{Reading}
-use Rattle.dt_promises.specs.Apply.{IsStep, AreSteps, WhyNoStep, IsStopped}
+use Rattle.dt_chain_promises.specs.Apply.{IsStep, AreSteps, WhyNoStep, IsStopped}
 
 -- the inputs of a slice
 abbrev pub inputs_of : List (Bor (List ℕ)) → List (List ℕ)

@@ -1,7 +1,7 @@
 //! Objects applied to a blob.
 
 ghost use Rattle.std.specs.Prelude.{◌∷◌, [], ℕ, map, IfOk, IfErr};
-ghost use Rattle.dt_promises.specs.Apply.{IsRead, IsNoBlob, IsBlobApplied, WhyNoBlobApplied};
+ghost use Rattle.dt_chain_promises.specs.Apply.{IsRead, IsNoBlob, IsBlobApplied, WhyNoBlobApplied};
 
 use crate::in_turn::{Inputs, blob_of};
 use dt_flat::FlatTree;

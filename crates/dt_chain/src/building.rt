@@ -3,16 +3,16 @@
 ghost use Rattle.std.specs.Prelude.{map, IfOk, IfErr};
 ghost use Rattle.dt_model.specs.Source.{base};
 ghost use Rattle.dt_model.specs.Tree.{Reading};
-ghost use Rattle.dt_promises.specs.Apply.{IsRead};
-ghost use Rattle.dt_promises.specs.Build.{HasBaseTree, HasObject, WhyNoObject, IsBlobBuilt, WhyNoBlobBuilt};
-ghost use Rattle.dt_promises.specs.Compile.{WhyNoTree};
+ghost use Rattle.dt_chain_promises.specs.Apply.{IsRead};
+ghost use Rattle.dt_chain_promises.specs.Build.{HasBaseTree, HasObject, WhyNoObject, IsBlobBuilt, WhyNoBlobBuilt};
+ghost use Rattle.dt_chain_promises.specs.Compile.{WhyNoTree};
 
 use crate::applying::Blobs;
 use crate::compiling::{overlay_blob, source_tree};
 use crate::in_turn::{Inputs, blob_of};
 use dt_flat::FlatTree;
-use dt_format::blob_has_no_fault;
 use dt_model::one_reading;
+use dt_model_format::blob_has_no_fault;
 use dt_names::{Fault, Seed};
 use dt_parse::parse;
 use dt_source::Mode;

@@ -6,21 +6,21 @@ ghost use Rattle.dt_model.specs.Named.{tree_of};
 ghost use Rattle.dt_model.specs.Source.{base, raw};
 ghost use Rattle.dt_model.specs.Tree.{Reading};
 ghost use Rattle.dt_names.specs.declared.fault.FaultKind.TheVariants.{NoMemory};
-ghost use Rattle.dt_bodies.specs.Refusals.{mode_said};
+ghost use Rattle.dt_source_bodies.specs.Refusals.{mode_said};
 ghost use Rattle.dt_source.specs.Refusals.{WhyNotNamed, fault_place};
-ghost use Rattle.dt_promises.specs.Apply.{IsRead};
-ghost use Rattle.dt_promises.specs.Compile.{IsBlobOf, WhyNoBlob, IsCompiled, WhyNoTree, WhyNotCompiled, IsCompilerFault, IsCompiledOverlay, WhyNotCompiledOverlay, TextHasTree, OverlayTextHasTree};
-ghost use Rattle.dt_promises.specs.Build.{HasObject};
+ghost use Rattle.dt_chain_promises.specs.Apply.{IsRead};
+ghost use Rattle.dt_chain_promises.specs.Compile.{IsBlobOf, WhyNoBlob, IsCompiled, WhyNoTree, WhyNotCompiled, IsCompilerFault, IsCompiledOverlay, WhyNotCompiledOverlay, TextHasTree, OverlayTextHasTree};
+ghost use Rattle.dt_chain_promises.specs.Build.{HasObject};
 ghost use Rattle.dt_chain.specs.Steps.{OfEachText, HasNamed, IsNumbered, HasRoom, WhyNotLabelled, HasRooms, IsMarked, WhyNotMarked};
 
 use dt_flat::FlatTree;
-use dt_laws::{overlay_source_is_an_overlay, source_is_a_meaning, tree_is_meant};
 use dt_marks::{add_fixups, add_symbols};
-use dt_named::NamedTree;
+use dt_model_laws::{overlay_source_is_an_overlay, source_is_a_meaning, tree_is_meant};
 use dt_names::Fault;
 use dt_parse::{Source, parse};
 use dt_phandle::{instance, number};
 use dt_source::{Mode, build_base, build_overlay};
+use dt_source_named_tree::NamedTree;
 use dt_write::write_blob;
 use std::alloc::Global;
 

@@ -5,7 +5,7 @@ ghost use Rattle.dt_names.specs.declared.fault.FaultKind.TheVariants.{NoMemory};
 ghost use Rattle.dt_model.specs.Printed.{printed};
 ghost use Rattle.dt_read.specs.Placed.{reading_of};
 ghost use Rattle.dt_names.specs.Fault.{placeless};
-ghost use Rattle.dt_promises.specs.Decompile.{IsDecompiled, WhyNotDecompiled};
+ghost use Rattle.dt_chain_promises.specs.Decompile.{IsDecompiled, WhyNotDecompiled};
 
 use dt_decompile::text_of;
 use dt_names::{Fault, FaultKind, Out};

@@ -6,7 +6,7 @@ ghost use Rattle.dt_model.specs.Tree.{Reading};
 ghost use Rattle.dt_names.specs.Fault.{placeless};
 ghost use Rattle.dt_names.specs.declared.fault.Fault.{Fault as AFault};
 ghost use Rattle.dt_names.specs.declared.fault.FaultKind.TheVariants.{NoMemory};
-ghost use Rattle.dt_promises.specs.Apply.{IsStep, AreSteps, WhyNoStep, IsStopped, IsBlobOfAll, WhyNoneOfAll};
+ghost use Rattle.dt_chain_promises.specs.Apply.{IsStep, AreSteps, WhyNoStep, IsStopped, IsBlobOfAll, WhyNoneOfAll};
 
 use dt_flat::FlatTree;
 use dt_names::{Fault, Seed};

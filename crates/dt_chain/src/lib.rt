@@ -21,8 +21,8 @@ pub use applying::{apply_bytes, apply_list};
 pub use building::build;
 pub use compiling::{compile, compile_raw};
 pub use decompiling::decompile;
-pub use dt_promises::{
+pub use dt_chain_promises::{
     one_blob, one_meaning, one_outcome, one_text, what_applying_means, what_building_means,
     what_building_resolves, what_compiling_means, what_limits_mean, what_printing_means,
 };
-pub use dt_streams::read_all;
+pub use dt_run_streams::read_all;

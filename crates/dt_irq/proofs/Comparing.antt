@@ -1,6 +1,6 @@
 -- Cells are compared one after another.
 use Rattle.std.proofs.Common.{◌≡◌, ◌≢◌, ℕ, suc, Bool, true, false, ◌&&◌, ◌==◌, List, [], ◌∷◌, drop, length, refl, ap, arith}
-use Rattle.dt_worlds.specs.Interrupts.{equal_under}
+use Rattle.dt_resolve_model.specs.Interrupts.{equal_under}
 use Rattle.dt_irq.specs.Cells.{agree}
 
 pub unequal_lengths : (xs ys mask : List ℕ) → length xs ≢ length ys → equal_under xs ys mask ≡ false

@@ -1,9 +1,9 @@
 -- The cells of bytes as numbers.
 use Rattle.std.proofs.Common.{◌≡◌, ℕ, suc, zero, ◌+◌, ◌/◌, ◌<◌, List, [], ◌∷◌, ◌++◌, drop, length, get_or, refl, sym, ap, ◌∙◌, arith}
-use Rattle.dt_worlds.specs.Answers.{answer}
-use Rattle.dt_worlds.specs.World.{Quad, figure, pointer, torn, quads_of}
-use Rattle.dt_worlds.specs.Interrupts.{as_numbers}
-use Rattle.dt_worlds.proofs.QuadsOfBytes.{quad_count}
+use Rattle.dt_resolve_model.specs.Answers.{answer}
+use Rattle.dt_resolve_model.specs.World.{Quad, figure, pointer, torn, quads_of}
+use Rattle.dt_resolve_model.specs.Interrupts.{as_numbers}
+use Rattle.dt_resolve_model.proofs.QuadsOfBytes.{quad_count}
 use Rattle.dt_irq.specs.Cells.{figures, numbers_of, quads}
 
 -- those of a blob are all used as numbers

@@ -5,11 +5,11 @@ use Rattle.std.proofs.lemmas.Bool.{le-ltb, lt-ltb}
 use Rattle.dt_model.specs.Path.{Path}
 use Rattle.dt_names.specs.declared.fault.Fault.{Fault}
 use Rattle.dt_names.specs.declared.fault.FaultKind.TheVariants.{BadCells, BadMap, NoInterrupts}
-use Rattle.dt_worlds.specs.Answers.{Answer, refused, refuse, answer, ◌>>=◌}
-use Rattle.dt_worlds.specs.World.{Quad, Value, World}
-use Rattle.dt_worlds.specs.Regions.{entries, entries_of, entry_at}
-use Rattle.dt_worlds.proofs.Entries.{eq_false, entries_whole}
-use Rattle.dt_worlds.specs.Interrupts.{Sent, Entry, entry_of, first_entry, entry_sent, listed_at, specifier_count, RowCells, MapRow, map_row_of, map_row}
+use Rattle.dt_resolve_model.specs.Answers.{Answer, refused, refuse, answer, ◌>>=◌}
+use Rattle.dt_resolve_model.specs.World.{Quad, Value, World}
+use Rattle.dt_resolve_model.specs.Regions.{entries, entries_of, entry_at}
+use Rattle.dt_resolve_model.proofs.Entries.{eq_false, entries_whole}
+use Rattle.dt_resolve_model.specs.Interrupts.{Sent, Entry, entry_of, first_entry, entry_sent, listed_at, specifier_count, RowCells, MapRow, map_row_of, map_row}
 
 -- an entry whose phandle and count were read
 read_entry : (w : World) (count : Path → Answer ℕ) (ragged : Bool) (list : List Quad) (cell : Quad) (cells : List Quad) (q : Path) (n : ℕ) → list ≡ cell ∷ cells → w.node cell ≡ answer q → count q ≡ answer n

@@ -4,10 +4,10 @@ use Rattle.std.specs.Prelude.{if◌then◌else◌, nat_lt, codes}
 use Rattle.std.proofs.lemmas.Bool.{le-ltb, lt-ltb}
 use Rattle.dt_model.specs.Path.{Path}
 use Rattle.dt_names.specs.declared.fault.FaultKind.TheVariants.{BadMap, Loop, NoUnitAddress}
-use Rattle.dt_worlds.specs.Answers.{Answer, refuse, answer, ◌>>=◌}
-use Rattle.dt_worlds.specs.World.{Quad, Value, World}
-use Rattle.dt_worlds.specs.Regions.{address_count}
-use Rattle.dt_worlds.specs.Interrupts.{Interrupt, MapRow, Route, as_numbers, first_match, hop, interrupt_row_cells, is_ragged, led, mask_of, routed, specifier_count, at_node}
+use Rattle.dt_resolve_model.specs.Answers.{Answer, refuse, answer, ◌>>=◌}
+use Rattle.dt_resolve_model.specs.World.{Quad, Value, World}
+use Rattle.dt_resolve_model.specs.Regions.{address_count}
+use Rattle.dt_resolve_model.specs.Interrupts.{Interrupt, MapRow, Route, as_numbers, first_match, hop, interrupt_row_cells, is_ragged, led, mask_of, routed, specifier_count, at_node}
 
 -- a row leads to its parent
 abbrev pub goes_to : MapRow → Interrupt

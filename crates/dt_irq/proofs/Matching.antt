@@ -3,10 +3,10 @@ use Rattle.std.proofs.Common.{◌≡◌, ◌≢◌, ℕ, suc, zero, ◌-◌, ◌
 use Rattle.std.specs.Prelude.{if◌then◌else◌}
 use Rattle.dt_model.specs.Path.{Path}
 use Rattle.dt_names.specs.declared.fault.Fault.{Fault}
-use Rattle.dt_worlds.specs.Answers.{Answer, refused, answer, ◌>>=◌}
-use Rattle.dt_worlds.specs.World.{Quad, World, quads_of}
-use Rattle.dt_worlds.specs.Interrupts.{RowCells, MapRow, map_row, as_numbers, equal_under, matches, first_match}
-use Rattle.dt_worlds.proofs.QuadsOfBytes.{quad_count}
+use Rattle.dt_resolve_model.specs.Answers.{Answer, refused, answer, ◌>>=◌}
+use Rattle.dt_resolve_model.specs.World.{Quad, World, quads_of}
+use Rattle.dt_resolve_model.specs.Interrupts.{RowCells, MapRow, map_row, as_numbers, equal_under, matches, first_match}
+use Rattle.dt_resolve_model.proofs.QuadsOfBytes.{quad_count}
 use Rattle.dt_irq.specs.Cells.{numbers_of, quads}
 use Rattle.dt_irq.proofs.Figures.{are_numbers, numbers_are}
 

@@ -2,9 +2,9 @@
 use Rattle.std.proofs.Common.{◌≡◌, ℕ, suc, zero, ◌+◌, ◌≤◌, Bool, true, false, ◌==◌, List, [], ◌∷◌, drop, length, refl, sym, ap, ◌∙◌, arith}
 use Rattle.std.specs.Prelude.{if◌then◌else◌}
 use Rattle.std.proofs.lemmas.List.{drop-drop}
-use Rattle.dt_worlds.specs.Answers.{Answer, answer, ◌>>=◌}
-use Rattle.dt_worlds.specs.World.{Quad, figure}
-use Rattle.dt_worlds.specs.Specifiers.{passed, passed_cell, merged}
+use Rattle.dt_resolve_model.specs.Answers.{Answer, answer, ◌>>=◌}
+use Rattle.dt_resolve_model.specs.World.{Quad, figure}
+use Rattle.dt_resolve_model.specs.Specifiers.{passed, passed_cell, merged}
 use Rattle.dt_irq.specs.Cells.{quads}
 use Rattle.dt_irq.specs.Merging.{number_passed, first_merged, merged_numbers}
 

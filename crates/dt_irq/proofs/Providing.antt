@@ -3,10 +3,10 @@ use Rattle.std.proofs.Common.{◌≡◌, ℕ, suc, zero, ◌+◌, List, length, 
 use Rattle.dt_model.specs.Names.{Name}
 use Rattle.dt_names.specs.declared.fault.Fault.{Fault}
 use Rattle.dt_names.specs.declared.fault.FaultKind.TheVariants.{Loop}
-use Rattle.dt_worlds.specs.Answers.{Answer, refused, refuse, answer, ◌>>=◌}
-use Rattle.dt_worlds.specs.World.{Quad, Value, World}
-use Rattle.dt_worlds.specs.Interrupts.{Sent, Route, as_numbers, first_match, is_ragged, mask_of}
-use Rattle.dt_worlds.specs.Specifiers.{map_name, mask_name, pass_name, provider_row_cells, led_by, provider_hop, provided_at, provision, provided}
+use Rattle.dt_resolve_model.specs.Answers.{Answer, refused, refuse, answer, ◌>>=◌}
+use Rattle.dt_resolve_model.specs.World.{Quad, Value, World}
+use Rattle.dt_resolve_model.specs.Interrupts.{Sent, Route, as_numbers, first_match, is_ragged, mask_of}
+use Rattle.dt_resolve_model.specs.Specifiers.{map_name, mask_name, pass_name, provider_row_cells, led_by, provider_hop, provided_at, provision, provided}
 
 -- ---- a hop
 

@@ -3,9 +3,9 @@ use Rattle.std.proofs.Common.{◌≡◌, ℕ, ◌+◌, List, Option, Some, None,
 use Rattle.std.specs.Prelude.{option_map, codes}
 use Rattle.dt_model.specs.Path.{Path}
 use Rattle.dt_model.specs.Tree.{Reading, value_in}
-use Rattle.dt_worlds.specs.Answers.{Answer, answer, ◌>>=◌}
-use Rattle.dt_worlds.specs.World.{Quad, Value, tree_world, value_of_bytes}
-use Rattle.dt_worlds.specs.Interrupts.{Sent, Route, IsInterruptParent, IsSentBy, IsSent, IsRoute, listed_at, most_hops, routed, unit_of}
+use Rattle.dt_resolve_model.specs.Answers.{Answer, answer, ◌>>=◌}
+use Rattle.dt_resolve_model.specs.World.{Quad, Value, tree_world, value_of_bytes}
+use Rattle.dt_resolve_model.specs.Interrupts.{Sent, Route, IsInterruptParent, IsSentBy, IsSent, IsRoute, listed_at, most_hops, routed, unit_of}
 use Rattle.dt_irq.specs.Cells.{unit_at}
 
 pub sent_to_parent : (t : Reading) (p : Path) (index : ℕ) (list : List ℕ) (q : Answer Path) (r : Answer Sent) → None ≡ value_in t p (codes "interrupts-extended") → Some list ≡ value_in t p (codes "interrupts")

@@ -2,7 +2,7 @@
 use Rattle.std.proofs.Common.{◌≡◌, ℕ, true, false, true≢false, List, Option, Some, None, Bor, refl, sym}
 use Rattle.std.specs.Prelude.{is_some, option_map}
 use Rattle.std.specs.Option.{option_copied}
-use Rattle.dt_worlds.specs.World.{Value, value_of_bytes}
+use Rattle.dt_resolve_model.specs.World.{Value, value_of_bytes}
 
 -- a value that was asked for is there, or isn't
 pub some_value : (o : Option (List ℕ)) → is_some o ≡ true → (v : Value) × (option_map value_of_bytes o ≡ Some v)

@@ -9,13 +9,13 @@ use Rattle.dt_model.specs.Applied.{is_cell, node_numbered}
 use Rattle.dt_model.proofs.Listed.{stands_listed, listed_stands}
 use Rattle.dt_names.specs.declared.fault.Fault.{Fault}
 use Rattle.dt_names.specs.declared.fault.FaultKind.TheVariants.{NoParent, Loop, UnknownPhandle}
-use Rattle.dt_worlds.specs.Above.{front}
-use Rattle.dt_worlds.specs.Answers.{Answer, undetermined, refused, answer, refuse, ◌>>=◌}
-use Rattle.dt_worlds.specs.World.{Quad, figure, pointer, torn, Value, World, tree_world, value_of_bytes, node_found, node_of_figure}
-use Rattle.dt_worlds.specs.Regions.{only_cell}
-use Rattle.dt_worlds.specs.Interrupts.{nowhere, arrived, onward, step_by, step_of, step_to, steps_from, after_step, ended, IsInterruptParent}
-use Rattle.dt_worlds.proofs.Ending.{IsIn, AreClosed, never_ends, comes_again}
-use Rattle.dt_worlds.proofs.InterruptsAgree.{ended_later}
+use Rattle.dt_resolve_model.specs.Above.{front}
+use Rattle.dt_resolve_model.specs.Answers.{Answer, undetermined, refused, answer, refuse, ◌>>=◌}
+use Rattle.dt_resolve_model.specs.World.{Quad, figure, pointer, torn, Value, World, tree_world, value_of_bytes, node_found, node_of_figure}
+use Rattle.dt_resolve_model.specs.Regions.{only_cell}
+use Rattle.dt_resolve_model.specs.Interrupts.{nowhere, arrived, onward, step_by, step_of, step_to, steps_from, after_step, ended, IsInterruptParent}
+use Rattle.dt_resolve_model.proofs.Ending.{IsIn, AreClosed, never_ends, comes_again}
+use Rattle.dt_resolve_model.proofs.InterruptsAgree.{ended_later}
 
 -- so many steps lead from one node to another
 abbrev pub Leads : World → ℕ → Path → Path → Type 0

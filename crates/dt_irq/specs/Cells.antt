@@ -2,9 +2,9 @@
 use Rattle.std.specs.Prelude.{ℕ, Bool, ◌==◌, List, [], ◌∷◌, map, codes}
 use Rattle.std.specs.Int.Bits.{bit_and}
 use Rattle.dt_model.specs.Path.{Path}
-use Rattle.dt_worlds.specs.Answers.{Answer, answer, ◌>>=◌}
-use Rattle.dt_worlds.specs.World.{Quad, figure, pointer, torn, World, quads_of}
-use Rattle.dt_worlds.specs.Interrupts.{unit_of}
+use Rattle.dt_resolve_model.specs.Answers.{Answer, answer, ◌>>=◌}
+use Rattle.dt_resolve_model.specs.World.{Quad, figure, pointer, torn, World, quads_of}
+use Rattle.dt_resolve_model.specs.Interrupts.{unit_of}
 
 abbrev pub figures : List Quad → List ℕ
 figures [] = []

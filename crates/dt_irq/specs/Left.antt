@@ -3,10 +3,10 @@ use Rattle.std.specs.Prelude.{◌≡◌, ◌+◌, ◌*◌, ◌≤◌, ℕ, List,
 use Rattle.dt_model.specs.Path.{Path}
 use Rattle.dt_names.specs.declared.fault.FaultKind.TheVariants.{NoInterrupts}
 use Rattle.dt_read.specs.Placed.{PlacedTree, path_at, reading_of, IsNode}
-use Rattle.dt_worlds.specs.Answers.{Answer, answer, ◌>>=◌}
-use Rattle.dt_worlds.specs.World.{Quad, tree_world, quads_of, value_of_bytes}
-use Rattle.dt_worlds.specs.Regions.{entries, entry_at}
-use Rattle.dt_worlds.specs.Interrupts.{Sent, specifier_count, is_ragged, entry_sent, listed_at, IsSent}
+use Rattle.dt_resolve_model.specs.Answers.{Answer, answer, ◌>>=◌}
+use Rattle.dt_resolve_model.specs.World.{Quad, tree_world, quads_of, value_of_bytes}
+use Rattle.dt_resolve_model.specs.Regions.{entries, entry_at}
+use Rattle.dt_resolve_model.specs.Interrupts.{Sent, specifier_count, is_ragged, entry_sent, listed_at, IsSent}
 use Rattle.dt_irq.specs.declared.lists.Listed.{Listed}
 use Rattle.dt_irq.specs.declared.lists.Entries.{Entries}
 use Rattle.dt_irq.specs.declared.lists.Entries.TheVariants.{Extended, Plain}

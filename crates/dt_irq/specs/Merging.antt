@@ -1,6 +1,6 @@
 -- Specifiers that pass through a map, as numbers.
 use Rattle.std.specs.Prelude.{ℕ, ◌==◌, List, [], ◌∷◌, if◌then◌else◌}
-use Rattle.dt_worlds.specs.Specifiers.{passed}
+use Rattle.dt_resolve_model.specs.Specifiers.{passed}
 
 -- a row's cell, through which the cell at hand passes in the bits of a mask
 abbrev pub number_passed : (row at_hand mask : ℕ) → ℕ

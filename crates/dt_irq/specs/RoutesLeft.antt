@@ -2,8 +2,8 @@
 use Rattle.std.specs.Prelude.{◌≡◌, ℕ}
 use Rattle.dt_model.specs.Path.{Path}
 use Rattle.dt_read.specs.Placed.{PlacedTree, reading_of}
-use Rattle.dt_worlds.specs.Answers.{answer}
-use Rattle.dt_worlds.specs.World.{tree_world, quads_of}
+use Rattle.dt_resolve_model.specs.Answers.{answer}
+use Rattle.dt_resolve_model.specs.World.{tree_world, quads_of}
 use Rattle.dt_irq.specs.Cells.{unit_at}
 use Rattle.dt_irq.specs.Left.{AreSentFrom, bytes_left}
 use Rattle.dt_irq.specs.declared.routing.Routes.{Routes}

@@ -1,8 +1,8 @@
 -- What the parts of a route stand for in a tree.
 use Rattle.std.specs.Prelude.{◌≡◌, ℕ, ◌-◌, ◌≤◌, List, length, take, drop, replicate}
 use Rattle.dt_read.specs.Placed.{PlacedTree, path_at, IsNode}
-use Rattle.dt_worlds.specs.World.{quads_of}
-use Rattle.dt_worlds.specs.Interrupts as meant
+use Rattle.dt_resolve_model.specs.World.{quads_of}
+use Rattle.dt_resolve_model.specs.Interrupts as meant
 use Rattle.dt_irq.specs.declared.sending.Sent.{Sent}
 use Rattle.dt_irq.specs.declared.sending.Entry.{Entry}
 use Rattle.dt_irq.specs.declared.rows.MapRow.{MapRow}

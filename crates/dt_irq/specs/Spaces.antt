@@ -1,10 +1,10 @@
 -- The cells that specifiers have in a space.
 use Rattle.std.specs.Prelude.{ℕ}
 use Rattle.dt_model.specs.Path.{Path}
-use Rattle.dt_worlds.specs.Answers.{Answer}
-use Rattle.dt_worlds.specs.World.{World}
-use Rattle.dt_worlds.specs.Interrupts.{RowCells, specifier_count, interrupt_row_cells}
-use Rattle.dt_worlds.specs.Specifiers.{provider_count, provider_row_cells}
+use Rattle.dt_resolve_model.specs.Answers.{Answer}
+use Rattle.dt_resolve_model.specs.World.{World}
+use Rattle.dt_resolve_model.specs.Interrupts.{RowCells, specifier_count, interrupt_row_cells}
+use Rattle.dt_resolve_model.specs.Specifiers.{provider_count, provider_row_cells}
 use Rattle.dt_irq.specs.declared.spaces.Space.{Space}
 use Rattle.dt_irq.specs.declared.spaces.Space.TheVariants.{Interrupts, Kind}
 

@@ -2,9 +2,9 @@
 
 ghost use Rattle.std.specs.Prelude.{◌≡◌, ◌+◌, ◌*◌, ◌/◌, ◌≤◌, ◌++◌, length, IfOk};
 ghost use Rattle.dt_read.specs.Placed.{path_at, reading_of};
-ghost use Rattle.dt_worlds.specs.Answers.{told_as};
-ghost use Rattle.dt_worlds.specs.World.{quads_of, tree_world, value_of_bytes};
-ghost use Rattle.dt_worlds.specs.Interrupts.{hop, led};
+ghost use Rattle.dt_resolve_model.specs.Answers.{told_as};
+ghost use Rattle.dt_resolve_model.specs.World.{quads_of, tree_world, value_of_bytes};
+ghost use Rattle.dt_resolve_model.specs.Interrupts.{hop, led};
 ghost use Rattle.dt_irq.specs.Cells.{numbers_of};
 ghost use Rattle.dt_irq.specs.Seen.{interrupt_in, IsSpecified};
 

@@ -4,9 +4,9 @@ ghost use Rattle.std.specs.Prelude.{◌≡◌, ◌+◌, ◌<◌, ℕ, IfOk, IfEr
 ghost use Rattle.dt_model.specs.Path.{Path};
 ghost use Rattle.dt_names.specs.declared.fault.FaultKind.TheVariants.{NoInterrupts};
 ghost use Rattle.dt_read.specs.Placed.{path_at, reading_of, IsNode};
-ghost use Rattle.dt_worlds.specs.Answers.{answer, refuse, refused, told_as};
-ghost use Rattle.dt_worlds.specs.World.{tree_world, value_of_bytes};
-ghost use Rattle.dt_worlds.specs.Interrupts.{listed_at, IsSent};
+ghost use Rattle.dt_resolve_model.specs.Answers.{answer, refuse, refused, told_as};
+ghost use Rattle.dt_resolve_model.specs.World.{tree_world, value_of_bytes};
+ghost use Rattle.dt_resolve_model.specs.Interrupts.{listed_at, IsSent};
 ghost use Rattle.dt_irq.specs.Left.{bytes_left, AreEntriesOf, AreListed, AreSentFrom, IsSentFrom};
 ghost use Rattle.dt_irq.specs.Seen.{sent_in, IsSpecified};
 

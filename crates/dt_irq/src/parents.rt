@@ -2,9 +2,9 @@
 
 ghost use Rattle.std.specs.Prelude.{◌≡◌, IfOk, IfSome, option_map};
 ghost use Rattle.dt_read.specs.Placed.{path_at, reading_of, IsNode};
-ghost use Rattle.dt_worlds.specs.Answers.{told_as};
-ghost use Rattle.dt_worlds.specs.World.{figure, node_of_figure, tree_world};
-ghost use Rattle.dt_worlds.specs.Interrupts.{step_of, IsInterruptParent};
+ghost use Rattle.dt_resolve_model.specs.Answers.{told_as};
+ghost use Rattle.dt_resolve_model.specs.World.{figure, node_of_figure, tree_world};
+ghost use Rattle.dt_resolve_model.specs.Interrupts.{step_of, IsInterruptParent};
 
 use dt_names::{Fault, FaultKind, NodeId};
 use dt_view::{TreeView, one_cell};

@@ -2,10 +2,10 @@
 
 ghost use Rattle.std.specs.Prelude.{◌≡◌, ◌+◌, ◌-◌, ◌*◌, ◌/◌, ◌<◌, ◌≤◌, ◌⊎◌, ◌++◌, length, drop, replicate, IfOk};
 ghost use Rattle.dt_read.specs.Placed.{path_at, reading_of, IsNode};
-ghost use Rattle.dt_worlds.specs.Answers.{told_as};
-ghost use Rattle.dt_worlds.specs.World.{tree_world, value_of_bytes};
-ghost use Rattle.dt_worlds.specs.Interrupts.{most_hops};
-ghost use Rattle.dt_worlds.specs.Specifiers.{provided, provider_hop, specifier_route};
+ghost use Rattle.dt_resolve_model.specs.Answers.{told_as};
+ghost use Rattle.dt_resolve_model.specs.World.{tree_world, value_of_bytes};
+ghost use Rattle.dt_resolve_model.specs.Interrupts.{most_hops};
+ghost use Rattle.dt_resolve_model.specs.Specifiers.{provided, provider_hop, specifier_route};
 ghost use Rattle.dt_irq.specs.Cells.{numbers_of};
 ghost use Rattle.dt_irq.specs.Merging.{first_merged, merged_numbers, number_passed};
 ghost use Rattle.dt_irq.specs.Seen.{end_of, route_in, sent_in, HasArrived, IsSpecified};

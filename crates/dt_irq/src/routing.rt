@@ -4,9 +4,9 @@ ghost use Rattle.std.specs.Prelude.{◌≡◌, ◌+◌, ◌<◌, ℕ, IfOk, IfEr
 ghost use Rattle.dt_model.specs.Path.{Path};
 ghost use Rattle.dt_names.specs.declared.fault.FaultKind.TheVariants.{NoInterrupts};
 ghost use Rattle.dt_read.specs.Placed.{path_at, reading_of, IsNode};
-ghost use Rattle.dt_worlds.specs.Answers.{answer, refuse, refused, told_as};
-ghost use Rattle.dt_worlds.specs.World.{quads_of, tree_world};
-ghost use Rattle.dt_worlds.specs.Interrupts.{IsRoute, most_hops, routed};
+ghost use Rattle.dt_resolve_model.specs.Answers.{answer, refuse, refused, told_as};
+ghost use Rattle.dt_resolve_model.specs.World.{quads_of, tree_world};
+ghost use Rattle.dt_resolve_model.specs.Interrupts.{IsRoute, most_hops, routed};
 ghost use Rattle.dt_irq.specs.Cells.{unit_at};
 ghost use Rattle.dt_irq.specs.RoutesLeft.{AreLeft, IsLeft, length_left};
 ghost use Rattle.dt_irq.specs.Seen.{interrupt_in, route_in, HasArrived, IsSpecified};

@@ -3,9 +3,9 @@
 ghost use Rattle.std.specs.Prelude.{◌≡◌, ◌+◌, ◌*◌, ◌≤◌, ◌⊎◌, length, drop, option_map, IfOk};
 ghost use Rattle.std.specs.Option.{option_copied};
 ghost use Rattle.dt_read.specs.Placed.{reading_of};
-ghost use Rattle.dt_worlds.specs.Answers.{answer, told_as};
-ghost use Rattle.dt_worlds.specs.World.{quads_of, tree_world, value_of_bytes};
-ghost use Rattle.dt_worlds.specs.Interrupts.{equal_under, first_match, is_ragged, map_row, mask_of};
+ghost use Rattle.dt_resolve_model.specs.Answers.{answer, told_as};
+ghost use Rattle.dt_resolve_model.specs.World.{quads_of, tree_world, value_of_bytes};
+ghost use Rattle.dt_resolve_model.specs.Interrupts.{equal_under, first_match, is_ragged, map_row, mask_of};
 ghost use Rattle.dt_irq.specs.Cells.{agree, numbers_of, quads};
 ghost use Rattle.dt_irq.specs.Seen.{row_in, IsSpecified};
 ghost use Rattle.dt_irq.specs.Spaces.{widths_in};

@@ -2,9 +2,9 @@
 
 ghost use Rattle.std.specs.Prelude.{◌≡◌, ◌<◌, length, None, IfOk, if◌then◌else◌};
 ghost use Rattle.dt_read.specs.Placed.{path_at, reading_of, IsNode};
-ghost use Rattle.dt_worlds.specs.World.{quads_of, tree_world, value_of_bytes};
-ghost use Rattle.dt_worlds.specs.Interrupts.{entry_sent, first_entry, is_ragged};
-ghost use Rattle.dt_worlds.specs.Answers.{told_as};
+ghost use Rattle.dt_resolve_model.specs.World.{quads_of, tree_world, value_of_bytes};
+ghost use Rattle.dt_resolve_model.specs.Interrupts.{entry_sent, first_entry, is_ragged};
+ghost use Rattle.dt_resolve_model.specs.Answers.{told_as};
 ghost use Rattle.dt_irq.specs.Seen.{entry_in, sent_in, IsSpecified};
 ghost use Rattle.dt_irq.specs.Spaces.{count_in};
 

@@ -3,8 +3,8 @@ use Rattle.std.proofs.Common.{◌≡◌, ℕ, ◌+◌, Bool, true, false, cond, 
 use Rattle.std.proofs.lemmas.List.{append-nil}
 use Rattle.dt_model.specs.Fixups.{local_properties, mirror}
 use Rattle.dt_model.specs.Named.{NodeReference, Content, Named, NamedForest, Listed, node_count, listed, list_of, content_of_root, names}
-use Rattle.dt_named.specs.Said.{node_said}
-use Rattle.dt_named.specs.declared.named.NamedNode.{NamedNode}
+use Rattle.dt_source_named_tree.specs.Said.{node_said}
+use Rattle.dt_source_named_tree.specs.declared.named.NamedNode.{NamedNode}
 use Rattle.dt_model.specs.NamedOf.{IsNamed}
 use Rattle.dt_model.specs.Tree.{no_nodes, branch}
 use Rattle.dt_flat.specs.Arena.{Slot, with_child}

@@ -12,8 +12,8 @@ use Rattle.dt_model.specs.Named.{NodeReference, Content, NamedForest, no_nodes, 
 use Rattle.dt_model.specs.NamedOf.{contents_of, AreNamedNodes, IsNamed}
 use Rattle.dt_model.specs.Tree.{Property}
 use Rattle.dt_model.specs.Valid.{AreDistinct}
-use Rattle.dt_named.specs.Said.{node_said}
-use Rattle.dt_named.specs.declared.named.NamedNode.{NamedNode}
+use Rattle.dt_source_named_tree.specs.Said.{node_said}
+use Rattle.dt_source_named_tree.specs.declared.named.NamedNode.{NamedNode}
 use Rattle.dt_marks.specs.Paths.{text_behind, label_property, symbols_behind, all_symbols, MayFollow, AreAll}
 use Rattle.dt_marks.proofs.PathTexts.{symbols_among, symbols_same}
 

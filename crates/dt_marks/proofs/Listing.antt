@@ -9,10 +9,10 @@ use Rattle.dt_model.specs.Names.{Name}
 use Rattle.dt_model.specs.Named.{NodeReference}
 use Rattle.dt_model.specs.Object.{references_from}
 use Rattle.dt_model.specs.Tree.{Property}
-use Rattle.dt_named.specs.Said.{reference_said, pieces_said, property_said, node_said}
-use Rattle.dt_named.specs.declared.named.NamedPiece.{NamedPiece}
-use Rattle.dt_named.specs.declared.named.NamedProperty.{NamedProperty}
-use Rattle.dt_named.specs.declared.named.NamedNode.{NamedNode}
+use Rattle.dt_source_named_tree.specs.Said.{reference_said, pieces_said, property_said, node_said}
+use Rattle.dt_source_named_tree.specs.declared.named.NamedPiece.{NamedPiece}
+use Rattle.dt_source_named_tree.specs.declared.named.NamedProperty.{NamedProperty}
+use Rattle.dt_source_named_tree.specs.declared.named.NamedNode.{NamedNode}
 use Rattle.dt_marks.specs.Paths.{text_behind}
 use Rattle.dt_marks.specs.Waiting.{with_text, with_texts, reference_text, property_texts, texts_behind}
 

@@ -8,10 +8,10 @@ use Rattle.dt_model.specs.Names.{Name}
 use Rattle.dt_model.specs.Named.{NodeReference}
 use Rattle.dt_model.specs.Object.{references_from}
 use Rattle.dt_model.specs.Overlay.{inside, outside}
-use Rattle.dt_named.specs.Said.{reference_said, value_said, property_said, node_said}
-use Rattle.dt_named.specs.declared.named.NamedPiece.{NamedPiece}
-use Rattle.dt_named.specs.declared.named.NamedProperty.{NamedProperty}
-use Rattle.dt_named.specs.declared.named.NamedNode.{NamedNode}
+use Rattle.dt_source_named_tree.specs.Said.{reference_said, value_said, property_said, node_said}
+use Rattle.dt_source_named_tree.specs.declared.named.NamedPiece.{NamedPiece}
+use Rattle.dt_source_named_tree.specs.declared.named.NamedProperty.{NamedProperty}
+use Rattle.dt_source_named_tree.specs.declared.named.NamedNode.{NamedNode}
 use Rattle.dt_marks.specs.Cells.{is_inside, has_cells, cells_of}
 use Rattle.dt_marks.specs.Mirrored.{has_some, marked_at, needed_by}
 use Rattle.dt_marks.specs.Paths.{MayFollow}

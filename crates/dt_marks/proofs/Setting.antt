@@ -12,8 +12,8 @@ use Rattle.dt_flat.specs.Arena.{Arena, Slot, with_property}
 use Rattle.dt_flat.specs.Planted.{with_properties}
 use Rattle.dt_flat.proofs.AfterProperty.{length-with_property}
 use Rattle.dt_flat.proofs.ManyProperties.{length-with_properties, properties-append}
-use Rattle.dt_named.specs.Said.{node_said}
-use Rattle.dt_named.specs.declared.named.NamedNode.{NamedNode}
+use Rattle.dt_source_named_tree.specs.Said.{node_said}
+use Rattle.dt_source_named_tree.specs.declared.named.NamedNode.{NamedNode}
 use Rattle.dt_marks.specs.Paths.{text_behind, label_property, symbols_behind, MayFollow}
 
 -- ---- a label is the name of a property

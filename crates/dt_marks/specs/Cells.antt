@@ -6,8 +6,8 @@ use Rattle.dt_model.specs.Named.{NodeReference, NamedProperty as Named}
 use Rattle.dt_model.specs.Object.{references_from}
 use Rattle.dt_model.specs.Overlay.{inside, outside}
 use Rattle.dt_model.specs.Tree.{Property}
-use Rattle.dt_named.specs.Said.{reference_said}
-use Rattle.dt_named.specs.declared.named.NamedProperty.{NamedProperty}
+use Rattle.dt_source_named_tree.specs.Said.{reference_said}
+use Rattle.dt_source_named_tree.specs.declared.named.NamedProperty.{NamedProperty}
 
 -- whether a reference is to a node of the tree
 abbrev pub is_inside : NodeReference → Bool

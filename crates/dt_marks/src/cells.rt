@@ -5,15 +5,15 @@ ghost use Rattle.std.specs.List.{AllByRecursion, flat_map, list_any};
 ghost use Rattle.dt_model.specs.Fixups.{inside_offset, offsets_as};
 ghost use Rattle.dt_model.specs.Object.{references_from};
 ghost use Rattle.dt_names.specs.declared.fault.FaultKind.TheVariants.{NoMemory};
-ghost use Rattle.dt_named.specs.Said.{reference_said, value_said, property_said, node_said};
+ghost use Rattle.dt_source_named_tree.specs.Said.{reference_said, value_said, property_said, node_said};
 ghost use Rattle.dt_flat.specs.Planted.{with_properties};
 ghost use Rattle.dt_marks.specs.Cells.{is_inside, has_cells, cells_of};
 ghost use Rattle.dt_marks.specs.Mirrored.{IsNoPhandle};
 
 use crate::fixup_texts::behind;
 use dt_flat::FlatTree;
-use dt_named::{NamedNode, NamedProperty, NamedReference, NamedValue};
 use dt_names::{Fault, NodeId, PropName};
+use dt_source_named_tree::{NamedNode, NamedProperty, NamedReference, NamedValue};
 use std::alloc::AllocError;
 
 // Is the reference to a node of the tree?

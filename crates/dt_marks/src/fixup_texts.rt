@@ -6,7 +6,7 @@ ghost use Rattle.dt_model.specs.Fixups.{unless_empty};
 ghost use Rattle.dt_model.specs.Names.{IsLabel};
 ghost use Rattle.dt_model.specs.Tree.{no_nodes};
 ghost use Rattle.dt_names.specs.declared.fault.FaultKind.TheVariants.{NoMemory};
-ghost use Rattle.dt_named.specs.Said.{reference_said, property_said, node_said};
+ghost use Rattle.dt_source_named_tree.specs.Said.{reference_said, property_said, node_said};
 ghost use Rattle.dt_flat.specs.Arena.{named_children, child_of};
 ghost use Rattle.dt_flat.specs.Planted.{planted, with_properties};
 ghost use Rattle.dt_marks.specs.Paths.{MayFollow, AreAll};
@@ -16,8 +16,8 @@ ghost use Rattle.dt_marks.specs.Waiting.{with_texts, reference_text, property_te
 use crate::paths::LastPath;
 use crate::waiting::Waiting;
 use dt_flat::FlatTree;
-use dt_named::{NamedNode, NamedProperty, NamedReference};
 use dt_names::{Fault, NodeId, NodeName, PropName};
+use dt_source_named_tree::{NamedNode, NamedProperty, NamedReference};
 use std::alloc::{AllocError, Global};
 
 // Lists the cell of a reference at an offset of a property, if it is one by a label.

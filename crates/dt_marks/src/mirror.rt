@@ -4,7 +4,7 @@ ghost use Rattle.std.specs.Prelude.{◌≡◌, ◌<◌, ◌+◌, ◌||◌, ◌&&
 ghost use Rattle.std.specs.List.{AllByRecursion};
 ghost use Rattle.dt_model.specs.Fixups.{local_properties};
 ghost use Rattle.dt_model.specs.Named.{tree_of};
-ghost use Rattle.dt_named.specs.Said.{node_said};
+ghost use Rattle.dt_source_named_tree.specs.Said.{node_said};
 ghost use Rattle.dt_flat.specs.Arena.{named_children, child_of, with_child};
 ghost use Rattle.dt_flat.specs.Planted.{with_properties};
 ghost use Rattle.dt_marks.specs.Cells.{has_cells};
@@ -14,8 +14,8 @@ ghost use Rattle.dt_marks.specs.Refusals.{WhyNotPlanted};
 
 use crate::cells::{holds_cells, set_cells};
 use dt_flat::FlatTree;
-use dt_named::{NamedNode, NamedTree};
 use dt_names::{Fault, NodeId, NodeName};
+use dt_source_named_tree::{NamedNode, NamedTree};
 use std::alloc::Global;
 
 // A node that has such cells, or is above one that has, is needed, and so is its parent.

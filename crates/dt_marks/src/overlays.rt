@@ -9,8 +9,8 @@ ghost use Rattle.dt_marks.specs.Refusals.{WhyNoFixups};
 use crate::fixup_texts::add_outside;
 use crate::mirror::add_inside;
 use dt_flat::FlatTree;
-use dt_named::NamedTree;
 use dt_names::Fault;
+use dt_source_named_tree::NamedTree;
 use std::alloc::Global;
 
 /// Adds the cells of an overlay's tree to a tree whose root has no child `__fixups__` and no child `__local_fixups__`, as

@@ -6,7 +6,7 @@ ghost use Rattle.dt_model.specs.Instance.{symbols_of, with_symbols};
 ghost use Rattle.dt_model.specs.Named.{tree_of};
 ghost use Rattle.dt_model.specs.Names.{IsLabel};
 ghost use Rattle.dt_names.specs.declared.fault.FaultKind.TheVariants.{NoMemory};
-ghost use Rattle.dt_named.specs.Said.{node_said};
+ghost use Rattle.dt_source_named_tree.specs.Said.{node_said};
 ghost use Rattle.dt_flat.specs.Arena.{reading, named_children, child_of, with_child};
 ghost use Rattle.dt_flat.specs.Planted.{with_properties};
 ghost use Rattle.dt_marks.specs.Paths.{label_property, symbols_behind, all_symbols, MayFollow, AreAll};
@@ -14,8 +14,8 @@ ghost use Rattle.dt_marks.specs.Refusals.{WhyFull, WhyNoSymbols};
 
 use crate::paths::LastPath;
 use dt_flat::FlatTree;
-use dt_named::{NamedNode, NamedTree};
 use dt_names::{Fault, NodeId, NodeName, PropName};
+use dt_source_named_tree::{NamedNode, NamedTree};
 use std::alloc::Global;
 
 // Has one of these nodes a label?

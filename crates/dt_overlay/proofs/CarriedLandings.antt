@@ -12,16 +12,16 @@ use Rattle.dt_model.specs.Object.{fragment_names}
 use Rattle.dt_model.specs.Applied.{Write, brought}
 use Rattle.dt_flat.specs.Arena.{Arena, Slot, IsRooted, node_from, reading}
 use Rattle.dt_flat.proofs.Descent.{path-within}
-use Rattle.dt_landing.specs.Steps.{land_node, land_fragments, MayLandNode, MayLandFragments, FullAtNode, FullAtFragments}
-use Rattle.dt_landing.specs.Writing.{with_cells_of, cells_written, with_cells, landed}
-use Rattle.dt_landing.proofs.WrittenCells.{landed_is_brought}
-use Rattle.dt_parts.specs.declared.kept.Fragment.{Fragment}
-use Rattle.dt_parts.specs.declared.brought.Brought.{Brought}
-use Rattle.dt_sites.specs.Landed.{landed_at, land_each, MayLandEach, FullAtEach}
-use Rattle.dt_parts.specs.Plans.{AreFragmentsOf, AreBrought, IsReady}
-use Rattle.dt_sites.proofs.LandingEach.{contents}
-use Rattle.dt_sites.proofs.WritesLanded.{AreNumberedByPath, landed_by_path}
-use Rattle.dt_sites.proofs.WritesPaths.{EachHasPath}
+use Rattle.dt_overlay_laws.specs.Steps.{land_node, land_fragments, MayLandNode, MayLandFragments, FullAtNode, FullAtFragments}
+use Rattle.dt_overlay_laws.specs.Writing.{with_cells_of, cells_written, with_cells, landed}
+use Rattle.dt_overlay_laws.proofs.WrittenCells.{landed_is_brought}
+use Rattle.dt_overlay_object.specs.declared.kept.Fragment.{Fragment}
+use Rattle.dt_overlay_object.specs.declared.brought.Brought.{Brought}
+use Rattle.dt_overlay_landing.specs.Landed.{landed_at, land_each, MayLandEach, FullAtEach}
+use Rattle.dt_overlay_object.specs.Plans.{AreFragmentsOf, AreBrought, IsReady}
+use Rattle.dt_overlay_landing.proofs.LandingEach.{contents}
+use Rattle.dt_overlay_landing.proofs.WritesLanded.{AreNumberedByPath, landed_by_path}
+use Rattle.dt_overlay_landing.proofs.WritesPaths.{EachHasPath}
 
 abbrev site_names : List Site → List Name
 site_names found = map (λ (x : Site). x.fragment) found

@@ -6,19 +6,19 @@ use Rattle.dt_model.specs.Valid.{IsValid, IsWithinLimits}
 use Rattle.dt_model.specs.Merged.{Site}
 use Rattle.dt_model.specs.Applied.{with_fragments, with_symbols_merged, landed_symbols, applied_at}
 use Rattle.dt_names.specs.declared.fault.Fault.{Fault}
-use Rattle.dt_joining.specs.InTurn.{IsApplied}
-use Rattle.dt_joining.specs.Walk.{new_numbers}
-use Rattle.dt_joining.proofs.Walks.{walked}
-use Rattle.dt_landing.specs.Laws.{AreShallow, FragmentsAreMerged}
-use Rattle.dt_landing.specs.Objects.{HasCells, symbols_in}
-use Rattle.dt_landing.specs.Outcomes.{MayBeApplied, SitedIsApplied}
-use Rattle.dt_landing.specs.Refusals.{IsCrowded}
-use Rattle.dt_landing.specs.Steps.{FullAtLanding, FullAtFragments, FullAtSymbols, MayLandFragments, land_fragments}
+use Rattle.dt_overlay_model.specs.InTurn.{IsApplied}
+use Rattle.dt_overlay_model.specs.Walk.{new_numbers}
+use Rattle.dt_overlay_model.proofs.Walks.{walked}
+use Rattle.dt_overlay_laws.specs.Laws.{AreShallow, FragmentsAreMerged}
+use Rattle.dt_overlay_laws.specs.Objects.{HasCells, symbols_in}
+use Rattle.dt_overlay_laws.specs.Outcomes.{MayBeApplied, SitedIsApplied}
+use Rattle.dt_overlay_laws.specs.Refusals.{IsCrowded}
+use Rattle.dt_overlay_laws.specs.Steps.{FullAtLanding, FullAtFragments, FullAtSymbols, MayLandFragments, land_fragments}
 use Rattle.dt_overlay.specs.Applying.{IsReadFor, IsSitedFor, IsNumberedFor, seen_with}
 use Rattle.dt_overlay.specs.Objects.{Seen, IsSeenAs, IsToLandOn, writes_of}
 use Rattle.dt_overlay.specs.declared.object.Object.{Object}
-use Rattle.dt_sites.proofs.LandingNodes.{want_whole}
-use Rattle.dt_targets.specs.Targets.{IsWant}
+use Rattle.dt_overlay_landing.proofs.LandingNodes.{want_whole}
+use Rattle.dt_overlay_base.specs.Targets.{IsWant}
 
 -- what an object is seen as, once its cells have their numbers
 abbrev pub seen_of : (base object : Reading) (o : Object) (sites : List Path) → IsNumberedFor base object o sites → Seen

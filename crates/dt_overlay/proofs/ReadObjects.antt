@@ -12,19 +12,19 @@ use Rattle.dt_model.specs.Numbers.{number_in}
 use Rattle.dt_model.specs.Applied.{Write, label_write, local_write, node_numbered, number_at}
 use Rattle.dt_flat.specs.Arena.{Slot, IsRooted, reading}
 use Rattle.dt_flat.proofs.Descent.{path-within}
-use Rattle.dt_landing.specs.Objects.{HasCell, HasCells, symbols_in}
+use Rattle.dt_overlay_laws.specs.Objects.{HasCell, HasCells, symbols_in}
 use Rattle.dt_overlay.specs.Applying.{IsReadFor}
 use Rattle.dt_overlay.specs.Objects.{Seen, IsSeenAs}
 use Rattle.dt_overlay.specs.declared.object.Object.{Object}
 use Rattle.dt_overlay.proofs.Told.{all_held}
-use Rattle.dt_parts.specs.declared.brought.Brought.{Brought}
-use Rattle.dt_parts.specs.declared.kept.Symbol.{Symbol}
-use Rattle.dt_parts.specs.declared.kept.Write.{Write as KeptWrite}
-use Rattle.dt_parts.specs.Plans.{AreFragmentsOf, IsWriteOf, AreWritesOf, AreBrought, AreSymbolsOf, ListsFixups, ListsLocalFixups, ListsSymbols, symbol_brought, own_number, renumbered}
-use Rattle.dt_sites.specs.declared.marks.TargetMark.{TargetMark}
-use Rattle.dt_sites.specs.declared.marks.TargetMark.TheVariants.{Bare}
-use Rattle.dt_sites.specs.Marks.{with_own, with_labels, AreMarked}
-use Rattle.dt_sites.proofs.MarksMade.{are_marked}
+use Rattle.dt_overlay_object.specs.declared.brought.Brought.{Brought}
+use Rattle.dt_overlay_object.specs.declared.kept.Symbol.{Symbol}
+use Rattle.dt_overlay_object.specs.declared.kept.Write.{Write as KeptWrite}
+use Rattle.dt_overlay_object.specs.Plans.{AreFragmentsOf, IsWriteOf, AreWritesOf, AreBrought, AreSymbolsOf, ListsFixups, ListsLocalFixups, ListsSymbols, symbol_brought, own_number, renumbered}
+use Rattle.dt_overlay_landing.specs.declared.marks.TargetMark.{TargetMark}
+use Rattle.dt_overlay_landing.specs.declared.marks.TargetMark.TheVariants.{Bare}
+use Rattle.dt_overlay_landing.specs.Marks.{with_own, with_labels, AreMarked}
+use Rattle.dt_overlay_landing.proofs.MarksMade.{are_marked}
 
 -- ---- cells
 

@@ -8,26 +8,26 @@ use Rattle.dt_model.specs.Valid.{IsValid}
 use Rattle.dt_model.specs.Merged.{Site}
 use Rattle.dt_model.specs.Object.{fragment_names}
 use Rattle.dt_flat.specs.Arena.{Slot, IsRooted, reading}
-use Rattle.dt_landing.specs.Laws.{AreShallow}
-use Rattle.dt_landing.specs.Objects.{symbols_in}
-use Rattle.dt_landing.specs.Steps.{land_fragments, MayLandFragments, FullAtFragments}
+use Rattle.dt_overlay_laws.specs.Laws.{AreShallow}
+use Rattle.dt_overlay_laws.specs.Objects.{symbols_in}
+use Rattle.dt_overlay_laws.specs.Steps.{land_fragments, MayLandFragments, FullAtFragments}
 use Rattle.dt_names.specs.declared.fault.Fault.{Fault}
 use Rattle.dt_overlay.specs.Objects.{Seen, IsSeenAs, IsToLandOn, writes_of, with_numbers}
 use Rattle.dt_overlay.specs.declared.object.Object.{Object}
 use Rattle.dt_overlay.proofs.CarriedLandings.{unwritten, contents_there, each_is_fragments, each_may_land, each_stuck}
-use Rattle.dt_parts.specs.declared.kept.Fragment.{Fragment}
-use Rattle.dt_parts.specs.declared.kept.Symbol.{Symbol}
-use Rattle.dt_parts.specs.declared.kept.Write.{Write as KeptWrite}
-use Rattle.dt_parts.specs.Plans.{AreSymbolsOf, AreWritesOf, IsReady, symbol_brought}
-use Rattle.dt_sites.specs.Landed.{land_each, MayLandEach, FullAtEach}
-use Rattle.dt_sites.specs.SymbolLanding.{AreToLand}
-use Rattle.dt_sites.specs.Writing.{AreWritable, with_writes}
-use Rattle.dt_sites.proofs.LandingNodes.{want_whole}
-use Rattle.dt_sites.proofs.WritesKept.{HaveOneShape, writes_keep, all_still_writable, with_writes-append}
-use Rattle.dt_sites.proofs.WritesPaths.{EachHasPath}
-use Rattle.dt_sites.proofs.WritesPlans.{fragments_kept, brought_kept, paths_kept, rooted_kept, writes_append, writable_cells}
-use Rattle.dt_sites.proofs.WritesRead.{writes_read}
-use Rattle.dt_targets.specs.Targets.{IsWant}
+use Rattle.dt_overlay_object.specs.declared.kept.Fragment.{Fragment}
+use Rattle.dt_overlay_object.specs.declared.kept.Symbol.{Symbol}
+use Rattle.dt_overlay_object.specs.declared.kept.Write.{Write as KeptWrite}
+use Rattle.dt_overlay_object.specs.Plans.{AreSymbolsOf, AreWritesOf, IsReady, symbol_brought}
+use Rattle.dt_overlay_landing.specs.Landed.{land_each, MayLandEach, FullAtEach}
+use Rattle.dt_overlay_landing.specs.SymbolLanding.{AreToLand}
+use Rattle.dt_overlay_landing.specs.Writing.{AreWritable, with_writes}
+use Rattle.dt_overlay_landing.proofs.LandingNodes.{want_whole}
+use Rattle.dt_overlay_landing.proofs.WritesKept.{HaveOneShape, writes_keep, all_still_writable, with_writes-append}
+use Rattle.dt_overlay_landing.proofs.WritesPaths.{EachHasPath}
+use Rattle.dt_overlay_landing.proofs.WritesPlans.{fragments_kept, brought_kept, paths_kept, rooted_kept, writes_append, writable_cells}
+use Rattle.dt_overlay_landing.proofs.WritesRead.{writes_read}
+use Rattle.dt_overlay_base.specs.Targets.{IsWant}
 
 -- of its own tree's reading
 pub seen_here : (o : Object) (s : Seen) → IsSeenAs o s → IsSeenAs o (record s { reading = reading o.tree })

@@ -11,17 +11,17 @@ use Rattle.dt_names.specs.declared.fault.Fault.{Fault}
 use Rattle.dt_names.specs.declared.fault.FaultKind.{FaultKind}
 use Rattle.dt_names.specs.declared.fault.FaultKind.TheVariants.{NoMemory, Limit, NoTarget, NoSymbol, BadSymbol, BadFixup, BadLocalFixup, ReservedPlace}
 use Rattle.dt_flat.specs.Arena.{Slot}
-use Rattle.dt_joining.specs.Walk.{Walked, nothing_walked, site, landings, landed_on}
-use Rattle.dt_landing.specs.Landings.{WhyNotLands, IsStuck, HasNoSite}
-use Rattle.dt_landing.specs.Objects.{HasTarget, HaveTargets, AreFixedUp, IsMirror, AreMirrors, IsSymbol, symbols_in}
-use Rattle.dt_landing.specs.Refusals.{HasNoFixup, HasNoSites, IsCrowded, WhyNotApplied}
+use Rattle.dt_overlay_model.specs.Walk.{Walked, nothing_walked, site, landings, landed_on}
+use Rattle.dt_overlay_laws.specs.Landings.{WhyNotLands, IsStuck, HasNoSite}
+use Rattle.dt_overlay_laws.specs.Objects.{HasTarget, HaveTargets, AreFixedUp, IsMirror, AreMirrors, IsSymbol, symbols_in}
+use Rattle.dt_overlay_laws.specs.Refusals.{HasNoFixup, HasNoSites, IsCrowded, WhyNotApplied}
 use Rattle.dt_overlay.specs.Applying.{IsReadFor, IsLeftBy}
 use Rattle.dt_overlay.specs.declared.object.Object.{Object}
-use Rattle.dt_parts.specs.declared.kept.Fragment.{Fragment}
-use Rattle.dt_parts.specs.declared.kept.FragmentTarget.{FragmentTarget}
-use Rattle.dt_parts.specs.declared.kept.FragmentTarget.TheVariants.{Number, Path as TargetPath}
-use Rattle.dt_parts.specs.Plans.{IsTargetOf, AreFragmentsOf}
-use Rattle.dt_targets.specs.Targets.{IsWant}
+use Rattle.dt_overlay_object.specs.declared.kept.Fragment.{Fragment}
+use Rattle.dt_overlay_object.specs.declared.kept.FragmentTarget.{FragmentTarget}
+use Rattle.dt_overlay_object.specs.declared.kept.FragmentTarget.TheVariants.{Number, Path as TargetPath}
+use Rattle.dt_overlay_object.specs.Plans.{IsTargetOf, AreFragmentsOf}
+use Rattle.dt_overlay_base.specs.Targets.{IsWant}
 
 -- what follows from an answer
 pub on_ok : {A E P Q : Type 0} (r : Result A E) → (P → Q) → OnOk r P → OnOk r Q

@@ -3,10 +3,10 @@ use Rattle.std.proofs.Common.{◌≡◌, List, [], ap, ◌∙◌}
 use Rattle.dt_flat.specs.Arena.{Slot}
 use Rattle.dt_overlay.specs.Objects.{with_numbers}
 use Rattle.dt_overlay.specs.declared.object.Object.{Object}
-use Rattle.dt_parts.specs.declared.kept.Write.{Write}
-use Rattle.dt_sites.specs.Values.{Kept, with_values}
-use Rattle.dt_sites.specs.Writing.{with_writes}
-use Rattle.dt_sites.proofs.ValuesKept.{nothing_kept}
+use Rattle.dt_overlay_object.specs.declared.kept.Write.{Write}
+use Rattle.dt_overlay_landing.specs.Values.{Kept, with_values}
+use Rattle.dt_overlay_landing.specs.Writing.{with_writes}
+use Rattle.dt_overlay_landing.proofs.ValuesKept.{nothing_kept}
 
 pub none_said : (none : List Kept) (slots : List Slot) → none ≡ [] → with_values none 0 slots ≡ slots
 none_said none slots is = ap (λ vs. with_values vs 0 slots) is ∙ nothing_kept 0 slots

@@ -9,14 +9,14 @@ use Rattle.dt_model.specs.Object.{Cell, HasFixups, fragment_names, local_cells}
 use Rattle.dt_model.specs.Applied.{local_write, label_write}
 use Rattle.dt_names.specs.declared.fault.FaultKind.{FaultKind}
 use Rattle.dt_names.specs.declared.fault.FaultKind.TheVariants.{NoMemory, Limit}
-use Rattle.dt_joining.specs.Walk.{Walked, nothing_walked, new_numbers}
-use Rattle.dt_landing.specs.Landings.{AreSited}
-use Rattle.dt_landing.specs.Objects.{IsWellFormed}
-use Rattle.dt_landing.specs.Refusals.{IsCrowded}
+use Rattle.dt_overlay_model.specs.Walk.{Walked, nothing_walked, new_numbers}
+use Rattle.dt_overlay_laws.specs.Landings.{AreSited}
+use Rattle.dt_overlay_laws.specs.Objects.{IsWellFormed}
+use Rattle.dt_overlay_laws.specs.Refusals.{IsCrowded}
 use Rattle.dt_overlay.specs.Objects.{Seen, IsSeenAs}
 use Rattle.dt_overlay.specs.declared.applying.Landing.{Landing}
 use Rattle.dt_overlay.specs.declared.object.Object.{Object}
-use Rattle.dt_targets.specs.Known.{IsKnown}
+use Rattle.dt_overlay_base.specs.Known.{IsKnown}
 
 -- nothing has landed so far
 pub record IsEmptyLanding (l : Landing) : Type 0 where

@@ -1,22 +1,22 @@
 //! Applying an object.
 
 ghost use Rattle.std.specs.Prelude.{◌≡◌, ◌∷◌, [], None, codes, OnOk, IfOk, IfErr};
-ghost use Rattle.dt_joining.specs.InTurn.{IsApplied};
+ghost use Rattle.dt_overlay_model.specs.InTurn.{IsApplied};
 ghost use Rattle.dt_flat.specs.Arena.{reading};
 ghost use Rattle.dt_read.specs.Placed.{reading_of};
-ghost use Rattle.dt_landing.specs.Objects.{IsWellFormed};
-ghost use Rattle.dt_landing.specs.Refusals.{IsCrowded, WhyNotApplied};
+ghost use Rattle.dt_overlay_laws.specs.Objects.{IsWellFormed};
+ghost use Rattle.dt_overlay_laws.specs.Refusals.{IsCrowded, WhyNotApplied};
 ghost use Rattle.dt_model.specs.Tree.{Reading};
 ghost use Rattle.dt_names.specs.declared.fault.FaultKind.TheVariants.{NoMemory};
 ghost use Rattle.dt_overlay.specs.Applying.{IsEmptyLanding, IsNumberedFor, IsLeftBy};
 ghost use Rattle.dt_overlay.specs.Objects.{IsUnread, tree_in};
-ghost use Rattle.dt_targets.specs.Targets.{HasNoRoom, IsWant};
+ghost use Rattle.dt_overlay_base.specs.Targets.{HasNoRoom, IsWant};
 
 use crate::object::Object;
-use dt_landing::{fragments_are_merged, sited_is_applied};
 use dt_names::{Fault, NodeName, Path, Seed};
+use dt_overlay_base::{Places, Target};
+use dt_overlay_laws::{fragments_are_merged, sited_is_applied};
 use dt_read::Blob;
-use dt_targets::{Places, Target};
 use std::alloc::Global;
 
 /// Where an object lands: its fragments' sites, what has landed so far, and room for the text of a path.

@@ -13,4 +13,4 @@ mod applying;
 mod object;
 
 pub use applying::apply;
-pub use dt_targets::{Target, tree_room_is_counted};
+pub use dt_overlay_base::{Target, tree_room_is_counted};

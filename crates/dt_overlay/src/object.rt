@@ -7,24 +7,26 @@ ghost use Rattle.dt_model.specs.Object.{fragment_names, local_cells};
 ghost use Rattle.dt_model.specs.Path.{Path as Names};
 ghost use Rattle.dt_model.specs.Tree.{Reading};
 ghost use Rattle.dt_flat.specs.Arena.{reading};
-ghost use Rattle.dt_joining.specs.Walk.{nothing_walked};
-ghost use Rattle.dt_landing.specs.Landings.{HasNoSite};
-ghost use Rattle.dt_landing.specs.Laws.{AreShallow};
-ghost use Rattle.dt_landing.specs.Objects.{symbols_in};
-ghost use Rattle.dt_landing.specs.Refusals.{WhyNotApplied};
-ghost use Rattle.dt_landing.specs.Steps.{land_fragments, FullAtFragments, FullAtSymbols, MayLandFragments};
+ghost use Rattle.dt_overlay_model.specs.Walk.{nothing_walked};
+ghost use Rattle.dt_overlay_laws.specs.Landings.{HasNoSite};
+ghost use Rattle.dt_overlay_laws.specs.Laws.{AreShallow};
+ghost use Rattle.dt_overlay_laws.specs.Objects.{symbols_in};
+ghost use Rattle.dt_overlay_laws.specs.Refusals.{WhyNotApplied};
+ghost use Rattle.dt_overlay_laws.specs.Steps.{land_fragments, FullAtFragments, FullAtSymbols, MayLandFragments};
 ghost use Rattle.dt_names.specs.declared.fault.FaultKind.TheVariants.{NoMemory};
-ghost use Rattle.dt_targets.specs.Known.{IsKnown};
-ghost use Rattle.dt_targets.specs.Targets.{HasNoRoom, IsWant};
+ghost use Rattle.dt_overlay_base.specs.Known.{IsKnown};
+ghost use Rattle.dt_overlay_base.specs.Targets.{HasNoRoom, IsWant};
 ghost use Rattle.dt_overlay.specs.Objects.{IsUnread, Seen, IsSeenAs, IsToLandOn, tree_in, writes_of};
 ghost use Rattle.dt_overlay.specs.Applying.{IsReadFor, IsSitedFor};
 
 use dt_flat::FlatTree;
 use dt_names::{Fault, Path, Seed};
-use dt_object::{list_fixups, list_fragments, list_local_fixups, list_symbols};
-use dt_parts::{Brought, Fragment, Symbol, Write, bring_all};
-use dt_sites::{Values, find_sites, land_all, number_all, renumber, set_symbols, target_marks};
-use dt_targets::{Places, Target};
+use dt_overlay_base::{Places, Target};
+use dt_overlay_landing::{
+    Values, find_sites, land_all, number_all, renumber, set_symbols, target_marks,
+};
+use dt_overlay_object::{Brought, Fragment, Symbol, Write, bring_all};
+use dt_overlay_read::{list_fixups, list_fragments, list_local_fixups, list_symbols};
 use std::alloc::{AllocError, Global};
 
 /// An overlay's object: its tree, what is listed of it, which fragment brings a node, and the numbers that its nodes get.

@@ -15,10 +15,10 @@ use Rattle.std.proofs.lemmas.List.{map-append}
 use Rattle.std.proofs.lemmas.Bool.{eqb-true}
 use Rattle.dt_model.specs.Source.{Place, label}
 use Rattle.dt_model.specs.Source as model
-use Rattle.dt_items.specs.declared.source.Item.TheVariants as item
-use Rattle.dt_items.specs.declared.source.Item.{Item}
+use Rattle.dt_source_items.specs.declared.source.Item.TheVariants as item
+use Rattle.dt_source_items.specs.declared.source.Item.{Item}
 use Rattle.dt_parse.specs.declared.body.Behind.{Behind}
-use Rattle.dt_items.specs.Said.{place_said, places_said}
+use Rattle.dt_source_items.specs.Said.{place_said, places_said}
 use Rattle.dt_grammar.specs.Words.{Word, Words}
 use Rattle.dt_grammar.specs.Unchecked.{RawComponent, RawPlace, raw_child, raw_label, raw_property, raw_delete_property, raw_delete_child, place_meant, all_but_last}
 use Rattle.dt_grammar.specs.Relaxed.{word, a_mark, a_keyword}

@@ -14,9 +14,9 @@ use Rattle.dt_parse.specs.declared.stop.Stop.{Stop}
 use Rattle.dt_grammar.specs.Words.{Words, word_of, words_of}
 use Rattle.dt_grammar.specs.Grammar.{SpellsSource}
 use Rattle.dt_grammar.specs.Unchecked.{RawPlace, RawReserve, RawSource, place_meant as said_at, reserve_of, says_of}
-use Rattle.dt_items.specs.declared.source.Item.{Item}
-use Rattle.dt_items.specs.declared.source.Reservation.{Reservation}
-use Rattle.dt_items.specs.Said.{reservation_said, places_said, said}
+use Rattle.dt_source_items.specs.declared.source.Item.{Item}
+use Rattle.dt_source_items.specs.declared.source.Reservation.{Reservation}
+use Rattle.dt_source_items.specs.Said.{reservation_said, places_said, said}
 use Rattle.dt_grammar.specs.Moves.{source_with}
 use Rattle.dt_grammar.specs.Strict.{IsReserve, IsStrict}
 use Rattle.dt_grammar.specs.Wanted.{Made, made_places, made_behind, made_source, Wanted, SomeCells, AfterMemberLabels, AfterName, Prim, StatementThen, Top, AfterAddress, Whole}

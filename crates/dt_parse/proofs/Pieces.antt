@@ -2,8 +2,8 @@
 use Rattle.std.proofs.Common.{◌≡◌, ℕ, List, [], ◌∷◌, ◌++◌, map, sym, ap, ◌∙◌, append_assoc}
 use Rattle.std.proofs.lemmas.List.{append-nil}
 use Rattle.dt_model.specs.Source.{Part, one}
-use Rattle.dt_items.specs.declared.source.Piece.{Piece}
-use Rattle.dt_items.specs.Said.{piece_parts, pieces_parts, referring, reference_of}
+use Rattle.dt_source_items.specs.declared.source.Piece.{Piece}
+use Rattle.dt_source_items.specs.Said.{piece_parts, pieces_parts, referring, reference_of}
 
 pieces_more : (ps : List Piece) (p : Piece) → pieces_parts (ps ++ p ∷ []) ≡ pieces_parts ps ++ piece_parts p
 pieces_more [] p = append-nil (piece_parts p)

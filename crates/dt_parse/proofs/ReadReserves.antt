@@ -21,8 +21,8 @@ use Rattle.dt_grammar.specs.Descent.{found, stuck, refuses, gives, Descends, fir
 use Rattle.dt_grammar.specs.Faults.{Around, outside, Passes, Shows, unwanted, unnamed, unplaced, IsReservedWith, NumberBreaks, cut_off, unended, too_long, valueless, too_large, IsFine, Breaks, shows, in_number, in_part, behind_part}
 use Rattle.dt_parse.specs.Reading.{IsRead, IsBroken}
 use Rattle.dt_parse.specs.Leading.{ReadsOn, Reserves}
-use Rattle.dt_items.specs.declared.source.Reservation.{Reservation}
-use Rattle.dt_items.specs.Said.{reservation_said}
+use Rattle.dt_source_items.specs.declared.source.Reservation.{Reservation}
+use Rattle.dt_source_items.specs.Said.{reservation_said}
 use Rattle.dt_grammar.proofs.Descent.{deterministic, by_move}
 use Rattle.dt_parse.proofs.Numbers.{number_of}
 use Rattle.dt_grammar.proofs.Stepping.{part_then}

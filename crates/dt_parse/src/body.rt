@@ -16,7 +16,7 @@ ghost use Rattle.dt_grammar.specs.Wanted.{AfterMemberLabels, AfterName, BlockOpe
 ghost use Rattle.dt_grammar.specs.Descent.{first, after, found, Descends};
 ghost use Rattle.dt_grammar.specs.Faults.{outside};
 ghost use Rattle.dt_parse.specs.Reading.{IsRead, IsBroken};
-ghost use Rattle.dt_items.specs.Said.{value_said, places_said};
+ghost use Rattle.dt_source_items.specs.Said.{value_said, places_said};
 ghost use Rattle.dt_parse.specs.declared.body.Front.TheVariants as front;
 ghost use Rattle.dt_parse.specs.declared.body.Behind.TheVariants as behind;
 ghost use Rattle.dt_parse.specs.Nested.{front_of, behind_of, in_body, Closes, IsMember, BreaksIn, Goes, IsUnclosed};
@@ -24,10 +24,10 @@ ghost use Rattle.dt_parse.specs.Nested.{front_of, behind_of, in_body, Closes, Is
 use crate::cursor::Cursor;
 use crate::stop::Stop;
 use crate::value::{empty, labels, value};
-use dt_items::{Item, Value};
 use dt_lex::{Keyword, Mark, TokenKind};
 use dt_names::limits::MOST_BODIES;
 use dt_names::{FaultKind, Label, NodeName, PropName};
+use dt_source_items::{Item, Value};
 use std::alloc::Global;
 
 /// What a member, or the end of a body, begins with.

@@ -1,4 +1,4 @@
-//! Sources of devicetree: the grammar of DTS version 1 (Devicetree Specification v0.4, chapter 6). It answers a `Source`, which dt_items
+//! Sources of devicetree: the grammar of DTS version 1 (Devicetree Specification v0.4, chapter 6). It answers a `Source`, which dt_source_items
 //! tells of, or the first fault and its place.
 //!
 //! ```text
@@ -21,6 +21,6 @@ mod statement;
 mod stop;
 mod value;
 
-pub use dt_items::{Form, Item, Piece, Reference, Reservation, Source, Value};
+pub use dt_source_items::{Form, Item, Piece, Reference, Reservation, Source, Value};
 pub use laws::{one_outcome, parsed_has_places};
 pub use parser::parse;

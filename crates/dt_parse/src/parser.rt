@@ -18,7 +18,7 @@ ghost use Rattle.dt_grammar.specs.Faults.{outside, Breaks};
 ghost use Rattle.dt_parse.specs.Reading.{IsRead, IsBroken, IsSourceFault};
 ghost use Rattle.dt_grammar.specs.Parsed.{IsTagged, token_place, told_at, IsParsed, WhyNotParsed};
 ghost use Rattle.dt_parse.specs.Leading.{ReadsOn, Reserves};
-ghost use Rattle.dt_items.specs.Said.{reservation_said};
+ghost use Rattle.dt_source_items.specs.Said.{reservation_said};
 
 use crate::cursor::Cursor;
 use crate::number::number;
@@ -26,9 +26,9 @@ use crate::seeding::seed_of;
 use crate::statement::statements;
 use crate::stop::Stop;
 use crate::value::labels;
-use dt_items::{Item, Reservation, Source};
 use dt_lex::{Keyword, Mark, Token, TokenKind, tokens};
 use dt_names::{Fault, FaultKind, Label, Seed};
+use dt_source_items::{Item, Reservation, Source};
 use std::alloc::Global;
 
 /// Whether the tokens begin with `/dts-v1/;`.

@@ -8,7 +8,7 @@ ghost use Rattle.dt_grammar.specs.Wanted.{OneStatement, StatementThen, made_plac
 ghost use Rattle.dt_grammar.specs.Descent.{first, after};
 ghost use Rattle.dt_grammar.specs.Faults.{outside};
 ghost use Rattle.dt_parse.specs.Reading.{IsRead, IsBroken};
-ghost use Rattle.dt_items.specs.Said.{places_said};
+ghost use Rattle.dt_source_items.specs.Said.{places_said};
 ghost use Rattle.dt_parse.specs.declared.statement.Start.TheVariants as start;
 ghost use Rattle.dt_parse.specs.Starts.{start_of};
 
@@ -16,9 +16,9 @@ use crate::body::{body, push_item, push_labels};
 use crate::cursor::Cursor;
 use crate::stop::Stop;
 use crate::value::{labels, reference};
-use dt_items::Item;
 use dt_lex::{Keyword, Mark, TokenKind};
 use dt_names::{FaultKind, Label};
+use dt_source_items::Item;
 use std::alloc::Global;
 
 /// What a statement begins with, behind its labels.

@@ -16,15 +16,15 @@ ghost use Rattle.dt_parse.specs.declared.value.Opening.TheVariants as opening;
 ghost use Rattle.dt_parse.specs.Openings.{opening_of, cell_opening, byte_opening};
 ghost use Rattle.dt_grammar.specs.Faults.{Around, in_elements};
 ghost use Rattle.dt_parse.specs.Reading.{IsRead, IsBroken};
-ghost use Rattle.dt_items.specs.Said.{value_said, reference_of, referring};
+ghost use Rattle.dt_source_items.specs.Said.{value_said, reference_of, referring};
 
 use crate::cursor::Cursor;
 use crate::number::number;
 use crate::referring::referred_path;
 use crate::stop::Stop;
-use dt_items::{Form, Piece, Reference, Value};
 use dt_lex::{Keyword, Mark, TokenKind, push_text};
 use dt_names::{FaultKind, Label};
+use dt_source_items::{Form, Piece, Reference, Value};
 use std::alloc::{AllocError, Global};
 
 /// The width of elements where none is told, in bits.

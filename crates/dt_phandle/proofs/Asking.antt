@@ -14,11 +14,11 @@ use Rattle.dt_model.specs.NamedOf.{asked, asked_from}
 use Rattle.dt_model.specs.Numbering as model
 use Rattle.dt_model.specs.Source.{in_range}
 use Rattle.dt_model.specs.Valid.{IsPhandle}
-use Rattle.dt_named.specs.Said.{reference_said, pieces_said, value_said, property_said}
-use Rattle.dt_named.specs.declared.named.NamedNode.{NamedNode}
-use Rattle.dt_named.specs.declared.named.NamedPiece.{NamedPiece}
-use Rattle.dt_named.specs.declared.named.NamedProperty.{NamedProperty}
-use Rattle.dt_named.specs.declared.named.NamedValue.{NamedValue}
+use Rattle.dt_source_named_tree.specs.Said.{reference_said, pieces_said, value_said, property_said}
+use Rattle.dt_source_named_tree.specs.declared.named.NamedNode.{NamedNode}
+use Rattle.dt_source_named_tree.specs.declared.named.NamedPiece.{NamedPiece}
+use Rattle.dt_source_named_tree.specs.declared.named.NamedProperty.{NamedProperty}
+use Rattle.dt_source_named_tree.specs.declared.named.NamedValue.{NamedValue}
 use Rattle.dt_phandle.specs.declared.asked.Asked.{Asked}
 use Rattle.dt_phandle.specs.Asking.{asked_said, content_said, own, keyed_too, is_to, is_in_value, is_in_nodes}
 

@@ -3,8 +3,8 @@ use Rattle.std.proofs.Common.{◌≡◌, ℕ, ◌≤◌, List, [], ◌∷◌, �
 use Rattle.std.proofs.lemmas.List.{drop_all}
 use Rattle.dt_model.specs.Meaning.{Item, byte, reference, cell, value_bytes}
 use Rattle.dt_model.specs.Named.{NodeReference}
-use Rattle.dt_named.specs.Said.{pieces_said}
-use Rattle.dt_named.specs.declared.named.NamedPiece.{NamedPiece}
+use Rattle.dt_source_named_tree.specs.Said.{pieces_said}
+use Rattle.dt_source_named_tree.specs.declared.named.NamedPiece.{NamedPiece}
 
 bytes_behind : (number : NodeReference → ℕ) (before : List ℕ) (n : NodeReference) (rest : List (Item NodeReference))
     → value_bytes number (map byte before ++ reference n ∷ rest) ≡ before ++ (cell (number n) ++ value_bytes number rest)

@@ -7,10 +7,10 @@ use Rattle.dt_model.specs.Numbering as model
 use Rattle.dt_model.specs.Path.{Path}
 use Rattle.dt_model.specs.Named.{NodeReference, Content, NamedForest, no_nodes, branch, Named, NamedPlaced, Listed, NamedList, node_count, preorder, nodes_of, listed, list_of, tree_of}
 use Rattle.dt_model.specs.NamedOf.{contents_of, asked_from, asked_in, RefersBelow, AreNamedNodes, IsNamed}
-use Rattle.dt_laws.proofs.NamedListed.{length-nodes}
+use Rattle.dt_model_laws.proofs.NamedListed.{length-nodes}
 use Rattle.dt_flat.proofs.Distinctness.{all-append}
-use Rattle.dt_named.specs.Said.{node_said}
-use Rattle.dt_named.specs.declared.named.NamedNode.{NamedNode}
+use Rattle.dt_source_named_tree.specs.Said.{node_said}
+use Rattle.dt_source_named_tree.specs.declared.named.NamedNode.{NamedNode}
 use Rattle.dt_phandle.specs.declared.asked.Asked.{Asked}
 use Rattle.dt_phandle.specs.Asking.{asked_said, content_said}
 

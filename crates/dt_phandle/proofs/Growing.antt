@@ -11,8 +11,8 @@ use Rattle.dt_flat.specs.Planted.{with_properties, planted, planted_tree, arena_
 use Rattle.dt_flat.proofs.AfterChild.{length-with_child}
 use Rattle.dt_flat.proofs.AfterProperty.{length-with_property}
 use Rattle.dt_flat.proofs.ManyProperties.{length-with_properties}
-use Rattle.dt_named.specs.Said.{node_said}
-use Rattle.dt_named.specs.declared.named.NamedNode.{NamedNode}
+use Rattle.dt_source_named_tree.specs.Said.{node_said}
+use Rattle.dt_source_named_tree.specs.declared.named.NamedNode.{NamedNode}
 use Rattle.dt_phandle.specs.Growth.{MayHave, MayCome, with_node, grown, MayGrow, grown_all, MayGrowAll}
 
 -- ---- the properties of a node

@@ -5,8 +5,8 @@ use Rattle.dt_model.specs.Meaning.{Item, reference}
 use Rattle.dt_model.specs.Named.{NodeReference, NamedProperty, Content, written_in}
 use Rattle.dt_model.specs.NamedOf.{refers_to, has_reference_to}
 use Rattle.dt_model.specs.Numbering as model
-use Rattle.dt_named.specs.Said.{node_said}
-use Rattle.dt_named.specs.declared.named.NamedNode.{NamedNode}
+use Rattle.dt_source_named_tree.specs.Said.{node_said}
+use Rattle.dt_source_named_tree.specs.declared.named.NamedNode.{NamedNode}
 use Rattle.dt_phandle.specs.declared.asked.Asked.{Asked}
 
 abbrev pub asked_said : Asked → model.Asked

@@ -6,11 +6,11 @@ ghost use Rattle.dt_model.specs.Meaning.{EachReference};
 ghost use Rattle.dt_model.specs.Named.{value_of};
 ghost use Rattle.dt_model.specs.Named.{number_of as written_number};
 ghost use Rattle.dt_model.specs.NamedOf.{IsBelow, RefersBelow, asked_from};
-ghost use Rattle.dt_named.specs.Said.{reference_said, value_said, property_said, node_said};
+ghost use Rattle.dt_source_named_tree.specs.Said.{reference_said, value_said, property_said, node_said};
 ghost use Rattle.dt_phandle.specs.Asking.{asked_said, content_said, own, keyed_too, is_to, is_in_value, is_in_properties, is_in_nodes};
 
-use dt_named::{NamedNode, NamedProperty, NamedReference, NamedValue};
 use dt_names::phandle_of;
+use dt_source_named_tree::{NamedNode, NamedProperty, NamedReference, NamedValue};
 use std::alloc::{AllocError, Global};
 
 /// What a node asks for.

@@ -9,7 +9,7 @@ ghost use Rattle.dt_model.specs.NamedOf.{asked_in};
 ghost use Rattle.dt_model.specs.Numbering.{IsNumbering};
 ghost use Rattle.dt_model.specs.Valid.{IsReservation};
 ghost use Rattle.dt_names.specs.declared.fault.FaultKind.TheVariants.{NoMemory};
-ghost use Rattle.dt_named.specs.Said.{reference_said, value_said, property_said, node_said};
+ghost use Rattle.dt_source_named_tree.specs.Said.{reference_said, value_said, property_said, node_said};
 ghost use Rattle.dt_flat.specs.Arena.{reading, root_alone};
 ghost use Rattle.dt_flat.specs.Planted.{with_properties};
 ghost use Rattle.dt_phandle.specs.Asking.{content_said};
@@ -18,9 +18,9 @@ ghost use Rattle.dt_phandle.specs.Growth.{MayHave, with_node, MayCome, grown, Ma
 use crate::asked::phandle_value;
 use crate::numbering::Numbering;
 use dt_flat::{FlatTree, may_be_planted, planted_reads};
-use dt_laws::instance_is_valid;
-use dt_named::{NamedNode, NamedProperty, NamedReference, NamedTree, NamedValue};
+use dt_model_laws::instance_is_valid;
 use dt_names::{Fault, NodeId, NodeName, PropName};
+use dt_source_named_tree::{NamedNode, NamedProperty, NamedReference, NamedTree, NamedValue};
 use std::alloc::{AllocError, Global};
 
 // The number that stands for a reference: its node's, or all ones where the node is of some other tree.

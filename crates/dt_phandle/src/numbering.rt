@@ -9,8 +9,8 @@ ghost use Rattle.dt_names.specs.declared.fault.FaultKind.TheVariants.{NoMemory};
 
 use crate::asked::asked_among;
 use crate::free::numbers_for;
-use dt_named::NamedTree;
 use dt_names::{Fault, NodeId};
+use dt_source_named_tree::NamedTree;
 use std::alloc::Global;
 use std::marker::Model;
 

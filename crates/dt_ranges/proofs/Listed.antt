@@ -3,14 +3,14 @@ use Rattle.std.proofs.Common.{◌≡◌, ◌≢◌, ℕ, suc, ◌+◌, ◌-◌, 
 use Rattle.std.specs.Prelude.{codes, option_map}
 use Rattle.dt_names.specs.declared.fault.Fault.{Fault}
 use Rattle.dt_names.specs.declared.fault.FaultKind.TheVariants.{NoReg}
-use Rattle.dt_worlds.specs.declared.regions.BusCells.{BusCells}
+use Rattle.dt_resolve_model.specs.declared.regions.BusCells.{BusCells}
 use Rattle.dt_model.specs.Path.{Path}
-use Rattle.dt_worlds.specs.Above.{front}
+use Rattle.dt_resolve_model.specs.Above.{front}
 use Rattle.dt_model.specs.Tree.{Reading, value_in}
-use Rattle.dt_worlds.specs.Answers.{Answer, refused, refuse, answer, ◌>>=◌}
-use Rattle.dt_worlds.specs.World.{Quad, World, quads_of, value_of_bytes, tree_world}
-use Rattle.dt_worlds.specs.Regions.{joined, cells_at, bus_cells, entries, entries_of, entry_at, region_at, listed, region}
-use Rattle.dt_worlds.proofs.Entries.{entries_whole, entry_there, entry_past}
+use Rattle.dt_resolve_model.specs.Answers.{Answer, refused, refuse, answer, ◌>>=◌}
+use Rattle.dt_resolve_model.specs.World.{Quad, World, quads_of, value_of_bytes, tree_world}
+use Rattle.dt_resolve_model.specs.Regions.{joined, cells_at, bus_cells, entries, entries_of, entry_at, region_at, listed, region}
+use Rattle.dt_resolve_model.proofs.Entries.{entries_whole, entry_there, entry_past}
 use Rattle.dt_read.specs.Placed.{PlacedTree, path_at, reading_of, IsNode}
 use Rattle.dt_ranges.specs.Left.{region_of, AreLeft}
 use Rattle.dt_ranges.specs.declared.listing.Regions.{Regions}

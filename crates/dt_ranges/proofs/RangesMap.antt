@@ -4,11 +4,11 @@ use Rattle.std.specs.Prelude.{if◌then◌else◌, nat_le, nat_lt}
 use Rattle.std.proofs.lemmas.Bool.Decides.{Decides-ltb}
 use Rattle.std.proofs.lemmas.Bool.{le-leb, leb-true}
 use Rattle.dt_names.specs.declared.fault.FaultKind.TheVariants.{Overflow}
-use Rattle.dt_worlds.specs.declared.regions.BusAddress.{BusAddress}
-use Rattle.dt_worlds.specs.declared.regions.RangeCells.{RangeCells}
-use Rattle.dt_worlds.specs.Answers.{Answer, refuse, answer, ◌>>=◌}
-use Rattle.dt_worlds.specs.World.{Quad}
-use Rattle.dt_worlds.specs.Regions.{joined, cells_at, entries, mapped_by, fitting}
+use Rattle.dt_resolve_model.specs.declared.regions.BusAddress.{BusAddress}
+use Rattle.dt_resolve_model.specs.declared.regions.RangeCells.{RangeCells}
+use Rattle.dt_resolve_model.specs.Answers.{Answer, refuse, answer, ◌>>=◌}
+use Rattle.dt_resolve_model.specs.World.{Quad}
+use Rattle.dt_resolve_model.specs.Regions.{joined, cells_at, entries, mapped_by, fitting}
 
 not_below : (x n : ℕ) → n ≤ x → nat_lt x n ≡ false
 not_below x n h = step (nat_lt x n) refl

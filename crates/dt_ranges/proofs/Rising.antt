@@ -1,12 +1,12 @@
 -- An address goes up one bus at a time.
 use Rattle.std.proofs.Common.{◌≡◌, ◌≢◌, ℕ, suc, ◌<◌, List, [], ◌∷◌, ◌++◌, length, refl, sym, ap, ◌∙◌, arith}
-use Rattle.dt_worlds.specs.declared.regions.BusAddress.{BusAddress}
+use Rattle.dt_resolve_model.specs.declared.regions.BusAddress.{BusAddress}
 use Rattle.dt_model.specs.Names.{Name}
 use Rattle.dt_model.specs.Path.{Path}
-use Rattle.dt_worlds.specs.Above.{front}
-use Rattle.dt_worlds.specs.Answers.{Answer, undetermined, refused, answer, ◌>>=◌}
-use Rattle.dt_worlds.specs.World.{World}
-use Rattle.dt_worlds.specs.Regions.{risen, translated}
+use Rattle.dt_resolve_model.specs.Above.{front}
+use Rattle.dt_resolve_model.specs.Answers.{Answer, undetermined, refused, answer, ◌>>=◌}
+use Rattle.dt_resolve_model.specs.World.{World}
+use Rattle.dt_resolve_model.specs.Regions.{risen, translated}
 
 bind_answer : {A : Type 0} (x : Answer A) → (x >>= λ a. answer a) ≡ x
 bind_answer undetermined = refl

@@ -2,13 +2,13 @@
 use Rattle.std.proofs.Common.{◌≡◌, ◌≢◌, ℕ, ◌*◌, ◌^◌, Bool, true, [], ◌∷◌, refl, sym, ap, ◌∙◌}
 use Rattle.std.specs.Prelude.{codes, nat_lt, if◌then◌else◌}
 use Rattle.dt_names.specs.declared.fault.FaultKind.TheVariants.{Overflow}
-use Rattle.dt_worlds.specs.declared.regions.BusCells.{BusCells}
-use Rattle.dt_worlds.specs.declared.regions.BusAddress.{BusAddress}
+use Rattle.dt_resolve_model.specs.declared.regions.BusCells.{BusCells}
+use Rattle.dt_resolve_model.specs.declared.regions.BusAddress.{BusAddress}
 use Rattle.dt_model.specs.Path.{Path}
-use Rattle.dt_worlds.specs.Above.{front}
-use Rattle.dt_worlds.specs.Answers.{Answer, refuse, answer, ◌>>=◌}
-use Rattle.dt_worlds.specs.World.{World}
-use Rattle.dt_worlds.specs.Regions.{bus_cells, region_at, sent, dma_region}
+use Rattle.dt_resolve_model.specs.Above.{front}
+use Rattle.dt_resolve_model.specs.Answers.{Answer, refuse, answer, ◌>>=◌}
+use Rattle.dt_resolve_model.specs.World.{World}
+use Rattle.dt_resolve_model.specs.Regions.{bus_cells, region_at, sent, dma_region}
 
 -- a device on a bus with these cells
 pub sent_on : (w : World) (p q : Path) (address size : ℕ) (own : BusCells) → p ≢ [] → q ≡ front p → answer own ≡ bus_cells w q → dma_region w p address size ≡ sent w q address size own

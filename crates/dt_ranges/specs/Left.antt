@@ -3,11 +3,11 @@ use Rattle.std.specs.Prelude.{◌≡◌, ◌+◌, ◌*◌, ◌≤◌, ℕ, List,
 use Rattle.dt_model.specs.Path.{Path}
 use Rattle.dt_names.specs.declared.fault.FaultKind.TheVariants.{NoReg}
 use Rattle.dt_read.specs.Placed.{PlacedTree, path_at, reading_of, IsNode}
-use Rattle.dt_worlds.specs.declared.regions.BusCells.{BusCells}
-use Rattle.dt_worlds.specs.declared.regions.Region.{Region}
-use Rattle.dt_worlds.specs.Answers.{Answer, ◌>>=◌}
-use Rattle.dt_worlds.specs.World.{Quad, World, tree_world, quads_of}
-use Rattle.dt_worlds.specs.Regions.{joined, cells_at, entries, entry_at, region_at, region}
+use Rattle.dt_resolve_model.specs.declared.regions.BusCells.{BusCells}
+use Rattle.dt_resolve_model.specs.declared.regions.Region.{Region}
+use Rattle.dt_resolve_model.specs.Answers.{Answer, ◌>>=◌}
+use Rattle.dt_resolve_model.specs.World.{Quad, World, tree_world, quads_of}
+use Rattle.dt_resolve_model.specs.Regions.{joined, cells_at, entries, entry_at, region_at, region}
 use Rattle.dt_ranges.specs.declared.listing.Regions.{Regions}
 
 -- the region of an entry, on a bus with these cells

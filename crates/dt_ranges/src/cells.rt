@@ -1,9 +1,9 @@
 //! Numbers of several cells.
 
 ghost use Rattle.std.specs.Prelude.{◌≡◌, ◌+◌, ◌*◌, ◌≤◌, length};
-ghost use Rattle.dt_worlds.specs.Answers.{answer};
-ghost use Rattle.dt_worlds.specs.World.{quads_of};
-ghost use Rattle.dt_worlds.specs.Regions.{cells_at, joined};
+ghost use Rattle.dt_resolve_model.specs.Answers.{answer};
+ghost use Rattle.dt_resolve_model.specs.World.{quads_of};
+ghost use Rattle.dt_resolve_model.specs.Regions.{cells_at, joined};
 
 use dt_view::cell_at;
 

@@ -2,14 +2,14 @@
 
 ghost use Rattle.std.specs.Prelude.{◌≡◌};
 ghost use Rattle.dt_read.specs.Placed.{path_at, reading_of, IsNode};
-ghost use Rattle.dt_worlds.specs.Answers.{told};
-ghost use Rattle.dt_worlds.specs.World.{tree_world};
-ghost use Rattle.dt_worlds.specs.Regions.{dma_region};
+ghost use Rattle.dt_resolve_model.specs.Answers.{told};
+ghost use Rattle.dt_resolve_model.specs.World.{tree_world};
+ghost use Rattle.dt_resolve_model.specs.Regions.{dma_region};
 
 use crate::translating::{fits, region_at};
 use dt_names::{Fault, FaultKind, NodeId};
+use dt_resolve_model::Region;
 use dt_view::{TreeView, cells};
-use dt_worlds::Region;
 
 /// The region of the root's bus that a device reaches where it puts an address on its bus for DMA (Devicetree Specification v0.4, 2.3.9): the address
 /// there and the size, both in bytes, and whether the whole of it is mapped without a break. The address goes up bus by bus, each time by the first

@@ -4,16 +4,16 @@ ghost use Rattle.std.specs.Prelude.{◌≡◌, ℕ, ◌+◌, ◌<◌, ◌⊎◌,
 ghost use Rattle.dt_model.specs.Path.{Path};
 ghost use Rattle.dt_names.specs.declared.fault.FaultKind.TheVariants.{BadCells, NoReg};
 ghost use Rattle.dt_read.specs.Placed.{path_at, reading_of, IsNode};
-ghost use Rattle.dt_worlds.specs.Answers.{refuse, refused, told};
-ghost use Rattle.dt_worlds.specs.World.{tree_world};
-ghost use Rattle.dt_worlds.specs.Regions.{region};
+ghost use Rattle.dt_resolve_model.specs.Answers.{refuse, refused, told};
+ghost use Rattle.dt_resolve_model.specs.World.{tree_world};
+ghost use Rattle.dt_resolve_model.specs.Regions.{region};
 ghost use Rattle.dt_ranges.specs.Left.{AreLeft, IsLeft, entries_left};
 
 use crate::cells::part_at;
 use crate::translating::region_at;
 use dt_names::{Fault, FaultKind, NodeId};
+use dt_resolve_model::{BusCells, Region};
 use dt_view::{TreeView, cells, cells_after};
-use dt_worlds::{BusCells, Region};
 
 /// The regions of a node's `reg` that are left. What a node and its bus have is looked up once, so that all entries are told in one pass.
 #[derive(Clone, Copy)]

@@ -2,14 +2,14 @@
 
 ghost use Rattle.std.specs.Prelude.{◌≡◌, ℕ, ◌+◌, ◌*◌, ◌^◌, ◌≤◌, ◌&&◌, nat_le, nat_lt, true, length};
 ghost use Rattle.dt_read.specs.Placed.{path_at, reading_of, IsNode};
-ghost use Rattle.dt_worlds.specs.Answers.{Answer, told};
-ghost use Rattle.dt_worlds.specs.World.{tree_world, value_of_bytes, quads_of};
-ghost use Rattle.dt_worlds.specs.Regions.{entries, fitting, fitted, mapped_by, mapped, risen, finished, translated, region_at};
+ghost use Rattle.dt_resolve_model.specs.Answers.{Answer, told};
+ghost use Rattle.dt_resolve_model.specs.World.{tree_world, value_of_bytes, quads_of};
+ghost use Rattle.dt_resolve_model.specs.Regions.{entries, fitting, fitted, mapped_by, mapped, risen, finished, translated, region_at};
 
 use crate::cells::part_at;
 use dt_names::{Fault, FaultKind, NodeId};
+use dt_resolve_model::{BusAddress, RangeCells, Region};
 use dt_view::{TreeView, cells, cells_after, is_pci};
-use dt_worlds::{BusAddress, RangeCells, Region};
 
 /// Whether an address is one of that many cells.
 pub fn fits(address: u128, cells: u32) -> bool

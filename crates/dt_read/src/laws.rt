@@ -5,7 +5,7 @@ ghost use Rattle.dt_model.specs.Checks.{BlobFault, IsFirstFault};
 ghost use Rattle.dt_model.specs.Format.{Reads, IsWithin};
 ghost use Rattle.dt_model.specs.Tree.{Reading};
 
-use dt_format::{blob_has_no_fault, first_fault_is_one};
+use dt_model_format::{blob_has_no_fault, first_fault_is_one};
 
 /// Bytes are read as one tree at most. Where they are read as one within the limits they have no fault, and else one first
 /// fault at most, at one place. So there is one answer to them, and one refusal.

@@ -10,24 +10,24 @@ use Rattle.dt_names.specs.declared.fault.FaultKind.{FaultKind}
 use Rattle.dt_names.specs.declared.fault.FaultKind.TheVariants.{NoMemory, WriteFault}
 use Rattle.dt_model.specs.Path.{Path}
 use Rattle.dt_read.specs.Kinds.{kind_of}
-use Rattle.dt_worlds.specs.Answers.{Answer, undetermined, refused, answer, ◌>>=◌}
-use Rattle.dt_worlds.specs.World.{tree_world}
-use Rattle.dt_worlds.specs.Regions.{dma_region}
-use Rattle.dt_worlds.specs.Specifiers.{specifier_route}
-use Rattle.dt_worlds.specs.Faults.{IsRegionFault, IsSpecifierFault, IsRefusedFor}
-use Rattle.dt_worlds.proofs.Named.{are_named}
-use Rattle.dt_lines.specs.Asked as asked
-use Rattle.dt_lines.specs.Asked.{answer_words, WhyNoNode, WhyUnanswered}
-use Rattle.dt_lines.specs.Lines.{region_words, route_words}
-use Rattle.dt_lines.specs.declared.asking.Question.{Question}
-use Rattle.dt_lines.specs.declared.asking.Question.TheVariants as ask
-use Rattle.dt_promises.specs.Apply.{IsNoBlob, WhyNoBlobApplied, WhyNoStep, WhyNoneOfAll}
-use Rattle.dt_promises.specs.Build.{WhyNoObject, WhyNoBlobBuilt}
-use Rattle.dt_promises.specs.Compile as compile
-use Rattle.dt_promises.specs.Compile.{IsCompilerFault, WhyNoTree, WhyNotCompiled}
-use Rattle.dt_promises.specs.Apply as inputs
-use Rattle.dt_promises.proofs.ToldKinds.{base_kind, overlay_kind}
-use Rattle.dt_promises.proofs.Places.{memory_unplaced, overlay_unplaced}
+use Rattle.dt_resolve_model.specs.Answers.{Answer, undetermined, refused, answer, ◌>>=◌}
+use Rattle.dt_resolve_model.specs.World.{tree_world}
+use Rattle.dt_resolve_model.specs.Regions.{dma_region}
+use Rattle.dt_resolve_model.specs.Specifiers.{specifier_route}
+use Rattle.dt_resolve_model.specs.Faults.{IsRegionFault, IsSpecifierFault, IsRefusedFor}
+use Rattle.dt_resolve_model.proofs.Named.{are_named}
+use Rattle.dt_resolve_lines.specs.Asked as asked
+use Rattle.dt_resolve_lines.specs.Asked.{answer_words, WhyNoNode, WhyUnanswered}
+use Rattle.dt_resolve_lines.specs.Lines.{region_words, route_words}
+use Rattle.dt_resolve_lines.specs.declared.asking.Question.{Question}
+use Rattle.dt_resolve_lines.specs.declared.asking.Question.TheVariants as ask
+use Rattle.dt_chain_promises.specs.Apply.{IsNoBlob, WhyNoBlobApplied, WhyNoStep, WhyNoneOfAll}
+use Rattle.dt_chain_promises.specs.Build.{WhyNoObject, WhyNoBlobBuilt}
+use Rattle.dt_chain_promises.specs.Compile as compile
+use Rattle.dt_chain_promises.specs.Compile.{IsCompilerFault, WhyNoTree, WhyNotCompiled}
+use Rattle.dt_chain_promises.specs.Apply as inputs
+use Rattle.dt_chain_promises.proofs.ToldKinds.{base_kind, overlay_kind}
+use Rattle.dt_chain_promises.proofs.Places.{memory_unplaced, overlay_unplaced}
 
 -- a fault that no sink has
 abbrev pub IsUnwritten : FaultKind → Type 0

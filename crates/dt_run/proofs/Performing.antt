@@ -9,26 +9,26 @@ use Rattle.dt_names.specs.declared.fault.Fault.{Fault}
 use Rattle.dt_names.specs.declared.fault.FaultKind.{FaultKind}
 use Rattle.dt_names.specs.declared.fault.FaultKind.TheVariants.{NoMemory, WriteFault}
 use Rattle.dt_read.specs.Kinds.{kind_of}
-use Rattle.dt_promises.specs.Apply.{IsBlobApplied, WhyNoBlobApplied}
-use Rattle.dt_promises.specs.Compile as compile
-use Rattle.dt_promises.specs.Build.{IsBlobBuilt, WhyNoBlobBuilt}
-use Rattle.dt_promises.specs.Compile.{IsCompiled, WhyNotCompiled, IsCompilerFault}
-use Rattle.dt_promises.proofs.Places.{memory_unplaced, blob_unplaced}
-use Rattle.dt_worlds.specs.Answers.{answer}
-use Rattle.dt_lines.specs.Asked as asked
-use Rattle.dt_lines.specs.Asked.{IsAnswer, WhyUnanswered, WhyNotAsked}
-use Rattle.dt_lines.specs.Listed as listed
-use Rattle.dt_lines.specs.Listed.{AreLinesOf, AreOwn, AreOwnBegun, WhyNotListed}
-use Rattle.dt_lines.specs.declared.asking.Question.{Question}
-use Rattle.dt_lines.specs.declared.listing.Listing.{Listing}
-use Rattle.dt_lines.specs.declared.listing.Listing.TheVariants.{Regions, Routes}
-use Rattle.dt_lines.proofs.Nodes.{all_are_begun}
+use Rattle.dt_chain_promises.specs.Apply.{IsBlobApplied, WhyNoBlobApplied}
+use Rattle.dt_chain_promises.specs.Compile as compile
+use Rattle.dt_chain_promises.specs.Build.{IsBlobBuilt, WhyNoBlobBuilt}
+use Rattle.dt_chain_promises.specs.Compile.{IsCompiled, WhyNotCompiled, IsCompilerFault}
+use Rattle.dt_chain_promises.proofs.Places.{memory_unplaced, blob_unplaced}
+use Rattle.dt_resolve_model.specs.Answers.{answer}
+use Rattle.dt_resolve_lines.specs.Asked as asked
+use Rattle.dt_resolve_lines.specs.Asked.{IsAnswer, WhyUnanswered, WhyNotAsked}
+use Rattle.dt_resolve_lines.specs.Listed as listed
+use Rattle.dt_resolve_lines.specs.Listed.{AreLinesOf, AreOwn, AreOwnBegun, WhyNotListed}
+use Rattle.dt_resolve_lines.specs.declared.asking.Question.{Question}
+use Rattle.dt_resolve_lines.specs.declared.listing.Listing.{Listing}
+use Rattle.dt_resolve_lines.specs.declared.listing.Listing.TheVariants.{Regions, Routes}
+use Rattle.dt_resolve_lines.proofs.Nodes.{all_are_begun}
 use Rattle.dt_model.specs.Tree.{nodes_of}
 use Rattle.dt_run.specs.Job.{IsBegun, IsListed, IsListedFirst, IsWritten, TakesMemory, WhyNotMade, WhyNotPerformed, encoded}
-use Rattle.dt_streams.specs.Told.{HasBlobFault, WhyNotTold, no_blob, cut}
+use Rattle.dt_run_streams.specs.Told.{HasBlobFault, WhyNotTold, no_blob, cut}
 use Rattle.dt_run.specs.Showing.{WhyNotShown}
-use Rattle.dt_words.specs.declared.command_line.Job.{Job}
-use Rattle.dt_words.specs.declared.command_line.Job.TheVariants.{Compile, CompileRaw, Apply, Build, Print, Check, Regs, Irqs, Dma, Spec}
+use Rattle.dt_run_words.specs.declared.command_line.Job.{Job}
+use Rattle.dt_run_words.specs.declared.command_line.Job.TheVariants.{Compile, CompileRaw, Apply, Build, Print, Check, Regs, Irqs, Dma, Spec}
 use Rattle.dt_run.proofs.InputFaults.{IsOfInput, blob_not_applied, compiler_only, inside, not_answered, text_not_built}
 
 -- ---- a fault of the first input

@@ -4,10 +4,10 @@ use Rattle.dt_names.specs.declared.fault.Fault.{Fault}
 use Rattle.dt_names.specs.declared.fault.FaultKind.TheVariants.{NoMemory}
 use Rattle.dt_names.specs.Sink.{Taken}
 use Rattle.dt_names.proofs.Faults.{own_placeless, is_placeless}
-use Rattle.dt_streams.specs.Files.{Loads, AreLoaded, WhyNotLoaded}
+use Rattle.dt_run_streams.specs.Files.{Loads, AreLoaded, WhyNotLoaded}
 use Rattle.dt_run.specs.Job.{WhyNotPerformed}
 use Rattle.dt_run.specs.Run.{WhyNotDone, WhyNotMadeOf, file_names, no_memory, unperformed, unloaded, unmade}
-use Rattle.dt_words.specs.declared.command_line.Line.{Line}
+use Rattle.dt_run_words.specs.declared.command_line.Line.{Line}
 
 -- what isn't made of inputs isn't made of the same texts
 pub unmade_of : {V : Type 0} (line : Line) (inputs texts : List (List ℕ)) (old new : Taken) (result : Result V (ℕ × Fault)) → inputs ≡ texts →

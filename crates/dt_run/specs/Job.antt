@@ -6,20 +6,20 @@ use Rattle.dt_model.specs.Source.{raw}
 use Rattle.dt_names.specs.Sink.{Taken, IsUntouched, IsCutShort}
 use Rattle.dt_names.specs.declared.fault.FaultKind.{FaultKind}
 use Rattle.dt_names.specs.declared.fault.FaultKind.TheVariants.{NoMemory, WriteFault}
-use Rattle.dt_promises.specs.Apply.{IsBlobApplied, WhyNoBlobApplied}
-use Rattle.dt_promises.specs.Compile as compile
-use Rattle.dt_promises.specs.Build.{IsBlobBuilt, WhyNoBlobBuilt}
-use Rattle.dt_promises.specs.Compile.{IsCompiled, WhyNotCompiled, IsCompilerFault}
-use Rattle.dt_worlds.specs.Answers.{answer}
-use Rattle.dt_lines.specs.Asked.{IsAnswer, WhyUnanswered}
-use Rattle.dt_lines.specs.Listed.{AreLinesOf, AreFirstOf}
-use Rattle.dt_lines.specs.declared.asking.Question.{Question}
-use Rattle.dt_lines.specs.declared.asking.Question.TheVariants as ask
-use Rattle.dt_lines.specs.declared.listing.Listing.{Listing}
-use Rattle.dt_lines.specs.declared.listing.Listing.TheVariants.{Regions, Routes}
-use Rattle.dt_streams.specs.Told.{IsPrinted, IsCounted, HasBlobFault}
-use Rattle.dt_words.specs.declared.command_line.Job.{Job}
-use Rattle.dt_words.specs.declared.command_line.Job.TheVariants.{Compile, CompileRaw, Apply, Build, Print, Check, Regs, Irqs, Dma, Spec}
+use Rattle.dt_chain_promises.specs.Apply.{IsBlobApplied, WhyNoBlobApplied}
+use Rattle.dt_chain_promises.specs.Compile as compile
+use Rattle.dt_chain_promises.specs.Build.{IsBlobBuilt, WhyNoBlobBuilt}
+use Rattle.dt_chain_promises.specs.Compile.{IsCompiled, WhyNotCompiled, IsCompilerFault}
+use Rattle.dt_resolve_model.specs.Answers.{answer}
+use Rattle.dt_resolve_lines.specs.Asked.{IsAnswer, WhyUnanswered}
+use Rattle.dt_resolve_lines.specs.Listed.{AreLinesOf, AreFirstOf}
+use Rattle.dt_resolve_lines.specs.declared.asking.Question.{Question}
+use Rattle.dt_resolve_lines.specs.declared.asking.Question.TheVariants as ask
+use Rattle.dt_resolve_lines.specs.declared.listing.Listing.{Listing}
+use Rattle.dt_resolve_lines.specs.declared.listing.Listing.TheVariants.{Regions, Routes}
+use Rattle.dt_run_streams.specs.Told.{IsPrinted, IsCounted, HasBlobFault}
+use Rattle.dt_run_words.specs.declared.command_line.Job.{Job}
+use Rattle.dt_run_words.specs.declared.command_line.Job.TheVariants.{Compile, CompileRaw, Apply, Build, Print, Check, Regs, Irqs, Dma, Spec}
 
 -- how a blob is written: as it is, or as hexadecimal and a line feed
 abbrev pub encoded : Bool → List ℕ → List ℕ

@@ -6,12 +6,12 @@ use Rattle.dt_names.specs.Sink.{Taken, Takes, IsUntouched, IsCutShort}
 use Rattle.dt_names.specs.declared.fault.Fault.{Fault}
 use Rattle.dt_names.specs.declared.fault.FaultKind.{FaultKind}
 use Rattle.dt_names.specs.declared.fault.FaultKind.TheVariants.{NoMemory}
-use Rattle.dt_streams.specs.Files.{Loads, AreLoaded, WhyNotLoaded}
+use Rattle.dt_run_streams.specs.Files.{Loads, AreLoaded, WhyNotLoaded}
 use Rattle.dt_run.specs.Job.{IsWritten, WhyNotPerformed}
-use Rattle.dt_streams.specs.Report.{fault_line}
-use Rattle.dt_words.specs.declared.command_line.Line.{Line}
-use Rattle.dt_words.specs.declared.words.LineFault.{LineFault}
-use Rattle.dt_words.specs.declared.words.LineFault.TheVariants.{Memory, Words}
+use Rattle.dt_run_streams.specs.Report.{fault_line}
+use Rattle.dt_run_words.specs.declared.command_line.Line.{Line}
+use Rattle.dt_run_words.specs.declared.words.LineFault.{LineFault}
+use Rattle.dt_run_words.specs.declared.words.LineFault.TheVariants.{Memory, Words}
 
 -- the names of a line's files
 abbrev pub file_names : Line → List (List ℕ)

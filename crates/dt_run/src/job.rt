@@ -2,16 +2,16 @@
 
 ghost use Rattle.std.specs.Prelude.{◌≡◌, List, ℕ, length, map, OnOk, IfErr};
 ghost use Rattle.dt_names.specs.Sink.{Takes};
-ghost use Rattle.dt_lines.specs.declared.asking.Question.TheVariants.{Dma};
+ghost use Rattle.dt_resolve_lines.specs.declared.asking.Question.TheVariants.{Dma};
 ghost use Rattle.dt_run.specs.Job.{IsOfSpecifier, IsWritten, WhyNotPerformed};
-ghost use Rattle.dt_words.specs.Asked.{IsAsked};
+ghost use Rattle.dt_run_words.specs.Asked.{IsAsked};
 
 use crate::showing::{of_first, show};
 use dt_chain::{apply_list, build, compile, compile_raw};
-use dt_lines::{Question, ask, irqs, regs};
 use dt_names::{Fault, Sink};
-use dt_streams::{check, print};
-use dt_words::Job;
+use dt_resolve_lines::{Question, ask, irqs, regs};
+use dt_run_streams::{check, print};
+use dt_run_words::Job;
 use std::alloc::Global;
 
 /// Does a job on its inputs, and writes what it makes: a blob as bytes, or with `hex` as lower-case hexadecimal and a

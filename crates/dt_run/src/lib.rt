@@ -13,6 +13,6 @@ mod job;
 mod running;
 mod showing;
 
-pub use dt_streams::{Files, Prompt, SystemFiles, load_all, report};
+pub use dt_run_streams::{Files, Prompt, SystemFiles, load_all, report};
 pub use job::perform;
 pub use running::run;

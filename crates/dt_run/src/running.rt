@@ -2,13 +2,13 @@
 
 ghost use Rattle.std.specs.Prelude.{◌≡◌, OnOk, IfOk, IfErr, length, map};
 ghost use Rattle.dt_run.specs.Run.{Ending, Ends, IsDone, IsMadeOf, IsReported, IsSaid, WhyNotDone, WhyNotMadeOf, faulty, file_names, no_command, status_of};
-ghost use Rattle.dt_streams.specs.Report.{fault_line};
+ghost use Rattle.dt_run_streams.specs.Report.{fault_line};
 
 use crate::job::perform;
 use clap::Error;
 use dt_names::{Fault, FaultKind, Sink, put_all};
-use dt_streams::{Files, load_all, report};
-use dt_words::{Line, LineFault};
+use dt_run_streams::{Files, load_all, report};
+use dt_run_words::{Line, LineFault};
 use std::alloc::{AllocError, Global};
 use std::fmt::Display;
 

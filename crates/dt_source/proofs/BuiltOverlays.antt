@@ -20,20 +20,20 @@ use Rattle.dt_model.specs.NamedOf.{IsNamed}
 use Rattle.dt_model.specs.NamedOverlay.{NamedFragment, IsNamedOverlayOf}
 use Rattle.dt_model.specs.Source.{by_label, by_path, Part, one, number_of, text_of, IsPart, Place, IsPlace, Events, labelled, duplicate_property, duplicate_node, duplicate_label, no_such_target, reserved_name, too_deep, misplaced}
 use Rattle.dt_model.specs.Refused.{OverlaySourceRefusal, at_place, at_end, too_many, IsOverlayRefusedFor}
-use Rattle.dt_laws.specs.NamedTrees.{ListIsOfItsTree}
-use Rattle.dt_laws.specs.OverlayTrees.{OverlayIsNamed, OverlayManyStand}
-use Rattle.dt_laws.specs.OverlayChecks.{AreBehind, ListedAreBehind, AreChecked, HasUntargeted, AreUncontained, IsTreeAfter, CheckedIsMeant, UntargetedIsRefused, UncontainedIsRefused}
+use Rattle.dt_model_laws.specs.NamedTrees.{ListIsOfItsTree}
+use Rattle.dt_model_laws.specs.OverlayTrees.{OverlayIsNamed, OverlayManyStand}
+use Rattle.dt_model_laws.specs.OverlayChecks.{AreBehind, ListedAreBehind, AreChecked, HasUntargeted, AreUncontained, IsTreeAfter, CheckedIsMeant, UntargetedIsRefused, UncontainedIsRefused}
 use Rattle.dt_grammar.specs.Grammar.{Says}
-use Rattle.dt_bodies.specs.Arena.{all_overlay}
+use Rattle.dt_source_bodies.specs.Arena.{all_overlay}
 use Rattle.dt_source.specs.Building.{MayBeWhole}
-use Rattle.dt_naming.specs.Contents.{named_part, named_parts, all_read, read_values, IsLabelledPart, AreLabelled}
-use Rattle.dt_fragments.specs.Fragments.{WhyUnchecked, IsUnchecked}
+use Rattle.dt_source_nodes.specs.Contents.{named_part, named_parts, all_read, read_values, IsLabelledPart, AreLabelled}
+use Rattle.dt_source_fragments.specs.Fragments.{WhyUnchecked, IsUnchecked}
 use Rattle.dt_source.specs.Fragments.{AreOverlayNodes}
-use Rattle.dt_naming.specs.Nodes.{AreNodesBy, HasUnread}
-use Rattle.dt_bodies.specs.OverlayReading.{TellsOverlayRefusal}
-use Rattle.dt_bodies.specs.Refusals.{overlay_kind}
+use Rattle.dt_source_nodes.specs.Nodes.{AreNodesBy, HasUnread}
+use Rattle.dt_source_bodies.specs.OverlayReading.{TellsOverlayRefusal}
+use Rattle.dt_source_bodies.specs.Refusals.{overlay_kind}
 use Rattle.dt_source.specs.Refusals.{overlay_fault_kind, WhyNoOverlayRead, IsOverlayFaultOf, WhyNoOverlay, fault_place}
-use Rattle.dt_growing.specs.declared.referring.Unnamed.TheVariants.{Kept}
+use Rattle.dt_source_growing.specs.declared.referring.Unnamed.TheVariants.{Kept}
 use Rattle.dt_source.proofs.BuiltTrees.{count_is}
 
 -- ---- values

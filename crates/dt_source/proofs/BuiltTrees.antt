@@ -12,11 +12,11 @@ use Rattle.dt_model.specs.NamedOf.{IsNamed, IsNamedOf}
 use Rattle.dt_model.specs.Source.{Place, IsPlace, Mode, SoFar, nothing, read_all, meaning_of, duplicate_property, duplicate_node, duplicate_label, no_such_target, reserved_name, too_deep, misplaced, unresolved, bad_phandle, duplicate_phandle}
 use Rattle.dt_model.specs.Refused.{SourceRefusal, at_place, at_end, too_many, IsRefusedFor}
 use Rattle.dt_model.specs.Valid.{IsReservation}
-use Rattle.dt_laws.specs.NamedTrees.{ListIsOfItsTree, MeantIsNamed, ManyStand}
+use Rattle.dt_model_laws.specs.NamedTrees.{ListIsOfItsTree, MeantIsNamed, ManyStand}
 use Rattle.dt_grammar.specs.Grammar.{Says}
 use Rattle.dt_source.specs.Building.{AreNodesOf, MayBeWhole}
-use Rattle.dt_naming.specs.Nodes.{WhyNotAfter}
-use Rattle.dt_bodies.specs.Refusals.{WhyNotGrown}
+use Rattle.dt_source_nodes.specs.Nodes.{WhyNotAfter}
+use Rattle.dt_source_bodies.specs.Refusals.{WhyNotGrown}
 use Rattle.dt_source.specs.Refusals.{IsFaultOf, WhyNotNamed, WhyNotRead, fault_kind, fault_place}
 
 -- ---- how many nodes there are

@@ -5,8 +5,8 @@ use Rattle.dt_names.specs.declared.fault.FaultKind.{FaultKind}
 use Rattle.dt_names.specs.declared.fault.FaultKind.TheVariants.{NoMemory, BadVersionTag}
 use Rattle.dt_model.specs.Named.{NodeReference, Named}
 use Rattle.dt_model.specs.Source.{Mode}
-use Rattle.dt_laws.specs.CompiledTrees.{RefusalIsOne}
-use Rattle.dt_laws.specs.NamedTrees.{NamedIsNotRefused}
+use Rattle.dt_model_laws.specs.CompiledTrees.{RefusalIsOne}
+use Rattle.dt_model_laws.specs.NamedTrees.{NamedIsNotRefused}
 use Rattle.dt_grammar.specs.Grammar.{Says}
 use Rattle.dt_source.specs.Meant.{HasTree}
 use Rattle.dt_source.specs.Refusals.{WhyNotNamed, IsFaultOf, fault_kind}

@@ -5,7 +5,7 @@ use Rattle.dt_names.specs.declared.fault.FaultKind.{FaultKind}
 use Rattle.dt_names.specs.declared.fault.FaultKind.TheVariants.{NoMemory, BadVersionTag, OverlayReserve}
 use Rattle.dt_model.specs.Named.{NodeReference, Named}
 use Rattle.dt_model.specs.NamedOverlay.{NamedFragment}
-use Rattle.dt_laws.specs.OverlayTrees.{NamedOverlayIsNotRefused, OverlayRefusalIsOne}
+use Rattle.dt_model_laws.specs.OverlayTrees.{NamedOverlayIsNotRefused, OverlayRefusalIsOne}
 use Rattle.dt_grammar.specs.Grammar.{Says}
 use Rattle.dt_source.specs.Meant.{HasOverlay}
 use Rattle.dt_source.specs.Refusals.{WhyNoOverlay, IsOverlayFaultOf, overlay_fault_kind}

@@ -3,8 +3,8 @@ use Rattle.std.specs.Prelude.{◌≡◌, ◌≤◌, List, length, Ok}
 use Rattle.dt_model.specs.Limits.{most_nodes}
 use Rattle.dt_model.specs.Named.{NodeReference, Listed, NamedList}
 use Rattle.dt_model.specs.Source.{Place, Mode, SoFar, nothing, read_all}
-use Rattle.dt_naming.specs.Nodes.{AreNodesAfter}
-use Rattle.dt_named.specs.Said.{IsTree}
+use Rattle.dt_source_nodes.specs.Nodes.{AreNodesAfter}
+use Rattle.dt_source_named_tree.specs.Said.{IsTree}
 
 -- the places are all read, and the nodes are those of a tree that has what stands after them
 pub record AreNodesOf (mode : Mode) (places : List Place) (ns : List (Listed NodeReference)) : Type 0 where

@@ -4,8 +4,8 @@ use Rattle.std.specs.Prelude as prelude
 use Rattle.dt_model.specs.Named.{NodeReference, Listed}
 use Rattle.dt_model.specs.OverlaySource.{OverlaySoFar, overlay_of}
 use Rattle.dt_model.specs.Source.{Place}
-use Rattle.dt_bodies.specs.Arena.{all_overlay}
-use Rattle.dt_naming.specs.Nodes.{AreNodesBy}
+use Rattle.dt_source_bodies.specs.Arena.{all_overlay}
+use Rattle.dt_source_nodes.specs.Nodes.{AreNodesBy}
 
 -- the places of an overlay's source are all read, and the nodes are those of a tree that has what stands after them
 pub record AreOverlayNodes (places : List Place) (ns : List (Listed NodeReference)) : Type 0 where

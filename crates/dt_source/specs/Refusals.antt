@@ -8,7 +8,7 @@ use Rattle.dt_grammar.specs.Grammar.{Says}
 use Rattle.dt_names.specs.declared.fault.Fault.{Fault}
 use Rattle.dt_names.specs.declared.fault.FaultKind.{FaultKind}
 use Rattle.dt_names.specs.declared.fault.FaultKind.TheVariants.{NoMemory, Limit, BadVersionTag, UnresolvedReference, BadPhandle, DuplicatePhandle, OverlayReserve, OutsideContent, BadFragment}
-use Rattle.dt_bodies.specs.Refusals.{refusal_kind, overlay_kind}
+use Rattle.dt_source_bodies.specs.Refusals.{refusal_kind, overlay_kind}
 
 -- ---- of a whole source
 

@@ -4,21 +4,21 @@ ghost use Rattle.std.specs.Prelude.{◌≡◌, ◌<◌, None, map, length, IfOk,
 ghost use Rattle.dt_model.specs.Limits.{most_nodes};
 ghost use Rattle.dt_model.specs.Named.{tree_of};
 ghost use Rattle.dt_names.specs.declared.fault.FaultKind.TheVariants.{Limit};
-ghost use Rattle.dt_items.specs.Said.{place_said, reservation_said};
+ghost use Rattle.dt_source_items.specs.Said.{place_said, reservation_said};
 ghost use Rattle.dt_source.specs.Building.{AreNodesOf, MayBeWhole};
 ghost use Rattle.dt_source.specs.Meant.{HasTree};
-ghost use Rattle.dt_bodies.specs.Refusals.{mode_said};
+ghost use Rattle.dt_source_bodies.specs.Refusals.{mode_said};
 ghost use Rattle.dt_source.specs.Refusals.{WhyNotNamed, WhyNotRead, fault_place};
-ghost use Rattle.dt_named.specs.Said.{IsTree, list_said, node_said};
+ghost use Rattle.dt_source_named_tree.specs.Said.{IsTree, list_said, node_said};
 
-use dt_bodies::{Mode, grow};
-use dt_items::{Item, Reservation, Source};
-use dt_laws::{list_is_of_its_tree, many_stand, meant_is_named, root_stands};
 use dt_model::nested_places;
-use dt_named::{NamedNode, NamedTree};
+use dt_model_laws::{list_is_of_its_tree, many_stand, meant_is_named, root_stands};
 use dt_names::limits::MOST_NODES;
 use dt_names::{Fault, FaultKind, Seed};
-use dt_naming::named_nodes;
+use dt_source_bodies::{Mode, grow};
+use dt_source_items::{Item, Reservation, Source};
+use dt_source_named_tree::{NamedNode, NamedTree};
+use dt_source_nodes::named_nodes;
 use std::alloc::{AllocError, Global};
 
 // The nodes of a source's items.

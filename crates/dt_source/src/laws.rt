@@ -10,7 +10,7 @@ ghost use Rattle.dt_source.specs.Meant.{HasTree};
 ghost use Rattle.dt_source.specs.Meant.{HasOverlay};
 ghost use Rattle.dt_source.specs.Refusals.{WhyNotNamed, WhyNoOverlay};
 
-use dt_laws::{
+use dt_model_laws::{
     named_is_not_refused, named_overlay_is_not_refused, overlay_refusal_is_one, refusal_is_one,
 };
 

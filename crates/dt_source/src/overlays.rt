@@ -7,25 +7,25 @@ ghost use Rattle.dt_model.specs.Named.{tree_of};
 ghost use Rattle.dt_model.specs.NamedOverlay.{IsNamedOverlayOf};
 ghost use Rattle.dt_model.specs.Source.{IsPlace};
 ghost use Rattle.dt_names.specs.declared.fault.FaultKind.TheVariants.{Limit};
-ghost use Rattle.dt_items.specs.Said.{place_said};
+ghost use Rattle.dt_source_items.specs.Said.{place_said};
 ghost use Rattle.dt_source.specs.Building.{MayBeWhole};
-ghost use Rattle.dt_fragments.specs.Fragments.{fragment_said};
+ghost use Rattle.dt_source_fragments.specs.Fragments.{fragment_said};
 ghost use Rattle.dt_source.specs.Fragments.{AreOverlayNodes};
 ghost use Rattle.dt_source.specs.Meant.{ListedOverlay};
 ghost use Rattle.dt_source.specs.Refusals.{WhyNoOverlay, WhyNoOverlayRead, fault_place};
-ghost use Rattle.dt_named.specs.Said.{IsTree, list_said, node_said};
+ghost use Rattle.dt_source_named_tree.specs.Said.{IsTree, list_said, node_said};
 
 use crate::building::whole;
-use dt_bodies::{Arena, grow_overlay};
-use dt_fragments::{Fragment, checked_fragments};
-use dt_items::{Item, Source};
-use dt_laws::{
+use dt_model_laws::{
     checked_overlay_is_meant, list_is_of_its_tree, nodes_are_behind, overlay_is_named,
     overlay_is_placed, overlay_nodes_are_shallow, overlay_values_are_plain,
 };
-use dt_named::{NamedNode, NamedTree};
 use dt_names::{Fault, FaultKind, Seed};
-use dt_naming::overlay_nodes;
+use dt_source_bodies::{Arena, grow_overlay};
+use dt_source_fragments::{Fragment, checked_fragments};
+use dt_source_items::{Item, Source};
+use dt_source_named_tree::{NamedNode, NamedTree};
+use dt_source_nodes::overlay_nodes;
 use std::alloc::Global;
 use std::marker::Model;
 
@@ -38,7 +38,7 @@ pub struct NamedOverlay<'a> {
 
 impl<'a> Model for NamedOverlay<'a> {
     ghost use Rattle.std.specs.Prelude.{map};
-    ghost use Rattle.dt_fragments.specs.Fragments.{fragment_said};
+    ghost use Rattle.dt_source_fragments.specs.Fragments.{fragment_said};
     ghost use Rattle.dt_source.specs.Meant.{ListedOverlay};
 
     ghost Value = { ListedOverlay };

@@ -21,7 +21,7 @@ use Rattle.dt_flat.proofs.Edges.{edge}
 use Rattle.dt_read.specs.Placed.{node, forest_of, PlacedTree, reading_of, place_below, place_of, path_at, names_under, last_name, child_names, first_place_of, names_behind, IsAt, IsNode}
 use Rattle.dt_read.proofs.Behind.{differs, behind_all}
 use Rattle.dt_read.proofs.NodePlaces.{path_is, at_node}
-use Rattle.dt_worlds.specs.Above.{front}
+use Rattle.dt_resolve_model.specs.Above.{front}
 use Rattle.dt_view.specs.Trees.{nodes_among, nodes_below, numbered_tree}
 use Rattle.dt_view.specs.Tables.{HasNumber}
 use Rattle.dt_view.specs.Views.{first_child_of, next_sibling_of, IsAbove}

@@ -12,7 +12,7 @@ use Rattle.dt_model.proofs.Tests.{bytes_eq_refl}
 use Rattle.dt_read.specs.Placed.{Nodes, no_nodes, node, forest_of, PlacedTree, reading_of, place_below, path_at, IsAt, IsNode}
 use Rattle.dt_read.specs.Walked.{Step, holds, closes, steps_of_nodes, steps_of}
 use Rattle.dt_read.proofs.NodePlaces.{path_is, at_node}
-use Rattle.dt_worlds.specs.Above.{front}
+use Rattle.dt_resolve_model.specs.Above.{front}
 use Rattle.dt_view.proofs.Openings.{other_name}
 use Rattle.dt_view.proofs.Walks.{parent_told}
 use Rattle.dt_view.specs.Views.{IsAbove}

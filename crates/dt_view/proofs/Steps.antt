@@ -7,7 +7,7 @@ use Rattle.dt_model.specs.Names.{Name}
 use Rattle.dt_model.specs.Path.{Path}
 use Rattle.dt_read.specs.Placed.{Nodes, no_nodes, node, PlacedTree, place_below, place_of, path_at, last_name, child_names, first_place_of, names_behind, IsAt, IsNode}
 use Rattle.dt_read.proofs.NodePlaces.{path_is, at_node}
-use Rattle.dt_worlds.specs.Above.{front}
+use Rattle.dt_resolve_model.specs.Above.{front}
 use Rattle.dt_view.specs.Views.{next_sibling_of}
 use Rattle.dt_view.proofs.Numbered.{AreApart}
 

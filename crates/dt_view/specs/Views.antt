@@ -5,7 +5,7 @@ use Rattle.dt_names.specs.Paths.{IsPathOf}
 use Rattle.dt_names.specs.declared.fault.FaultKind.{FaultKind}
 use Rattle.dt_names.specs.declared.fault.FaultKind.TheVariants.{BadName, NoNode}
 use Rattle.dt_read.specs.Placed.{PlacedTree, path_at, place_of, last_name, child_names, first_place_of, names_behind, IsAt, IsNode}
-use Rattle.dt_worlds.specs.Above.{front}
+use Rattle.dt_resolve_model.specs.Above.{front}
 
 -- the node above one, none above the root
 abbrev pub IsAbove : PlacedTree → ℕ → Option ℕ → Type 0

@@ -2,7 +2,7 @@
 
 ghost use Rattle.std.specs.Prelude.{◌≡◌, ◌+◌, ◌*◌, ◌≤◌, ◌∷◌, length, take, drop};
 ghost use Rattle.std.specs.Int.{w32, from_be_bytes};
-ghost use Rattle.dt_worlds.specs.World.{figure, quads_of};
+ghost use Rattle.dt_resolve_model.specs.World.{figure, quads_of};
 
 // The number at an offset.
 fn number_at(bytes: &[u8], at: usize) -> u32

@@ -10,7 +10,7 @@ ghost use Rattle.dt_names.specs.Fault.{IsExclusive, IsOneRefusal};
 ghost use Rattle.dt_write.specs.Refusals.{WhyNoBytes};
 ghost use Rattle.dt_write.specs.Written.{written};
 
-use dt_format::blob_has_no_fault;
+use dt_model_format::blob_has_no_fault;
 
 /// The blob of each tree that a blob may hold is read as the tree and as no other, and is within the limits where the tree
 /// is: then it has no fault, so that a reader that answers a blob's first fault takes it.

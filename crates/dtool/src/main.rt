@@ -15,7 +15,7 @@ mod tests;
 
 use dt_names::Out;
 use dt_run::{Prompt, SystemFiles, run};
-use dt_words::{Line, LineFault, line};
+use dt_run_words::{Line, LineFault, line};
 use std::io::ErrorKind;
 use std::process::ExitCode;
 use std::{env, io};

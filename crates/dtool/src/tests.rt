@@ -2,14 +2,14 @@
 //! function that borrows what is large, since a test that fails lets go of all that it holds.
 
 ghost use Rattle.std.specs.Prelude.{⊤, length};
-ghost use Rattle.dt_words.specs.Asked.{IsAsked};
+ghost use Rattle.dt_run_words.specs.Asked.{IsAsked};
 
 use dt_chain::{compile, read_all};
 use dt_decompile::text_of;
 use dt_names::{Fault, FaultKind, Feed, In, Out, Path, Sink, put_all};
 use dt_read::Blob;
 use dt_run::{Files, Prompt, SystemFiles, load_all, perform, report, run};
-use dt_words::{Job, LineFault, line};
+use dt_run_words::{Job, LineFault, line};
 use hex::decode;
 use std::alloc::Global;
 use std::fs;

@@ -1,8 +1,8 @@
 use Rattle.std.proofs.Common.{inl, inr}
 use Rattle.std.proofs.lemmas.Result.{err_from_is_err_and}
 use Rattle.dt_names.specs.declared.fault.Fault.{Fault}
-use Rattle.dt_promises.specs.Build.{WhyNoObject}
-use Rattle.dt_promises.specs.Compile.{WhyNotCompiledOverlay}
+use Rattle.dt_chain_promises.specs.Build.{WhyNoObject}
+use Rattle.dt_chain_promises.specs.Compile.{WhyNotCompiledOverlay}
 use Rattle.dt_chain.specs.Steps.{OfEachText}
 use Rattle.dt_chain.proofs.Stages.{if_ok, if_err}
 use Rattle.dt_chain.proofs.OverlayStages.{HasObjectBlob}

@@ -2,10 +2,10 @@ use Rattle.std.proofs.Common.{sym}
 use Rattle.std.proofs.lemmas.Result.{err_from_is_err_and}
 use Rattle.dt_names.specs.declared.fault.Fault.{Fault}
 use Rattle.dt_model.specs.Source.{base}
-use Rattle.dt_promises.specs.Compile.{WhyNoBlob, unparsed, as_base, as_overlay, WhyNotCompiled, IsCompilerFault, WhyNotCompiledOverlay}
+use Rattle.dt_chain_promises.specs.Compile.{WhyNoBlob, unparsed, as_base, as_overlay, WhyNotCompiled, IsCompilerFault, WhyNotCompiledOverlay}
 use Rattle.dt_chain.specs.Steps.{OfEachText}
 use Rattle.dt_chain.proofs.Stages.{if_err}
-use Rattle.dt_promises.proofs.ToldKinds.{blob_kind}
+use Rattle.dt_chain_promises.proofs.ToldKinds.{blob_kind}
 use Rattle.dt_chain.proofs.compiling.compile.Goals as goal
 
 pub returns-in_err-source-clause-refused : goal.returns-in_err-source-clause-refused

@@ -1,9 +1,9 @@
 use Rattle.std.proofs.lemmas.Result.{err_from_is_err_and}
 use Rattle.dt_names.specs.declared.fault.Fault.{Fault}
 use Rattle.dt_model.specs.Source.{raw}
-use Rattle.dt_promises.specs.Compile.{WhyNotCompiled, unparsed, no_tree, IsCompilerFault}
+use Rattle.dt_chain_promises.specs.Compile.{WhyNotCompiled, unparsed, no_tree, IsCompilerFault}
 use Rattle.dt_chain.specs.Steps.{OfEachText}
-use Rattle.dt_promises.proofs.ToldKinds.{base_kind}
+use Rattle.dt_chain_promises.proofs.ToldKinds.{base_kind}
 use Rattle.dt_chain.proofs.Stages.{if_err}
 use Rattle.dt_chain.proofs.compiling.compile_raw.Goals as goal
 

@@ -1,6 +1,6 @@
 use Rattle.dt_model.specs.Named.{tree_of}
 use Rattle.dt_source.specs.Meant.{HasTree}
-use Rattle.dt_bodies.specs.Refusals.{mode_said}
+use Rattle.dt_source_bodies.specs.Refusals.{mode_said}
 use Rattle.dt_chain.specs.Steps.{HasNamed}
 use Rattle.dt_chain.proofs.Stages.{if_ok}
 use Rattle.dt_chain.proofs.compiling.named_tree.Goals as goal

@@ -5,7 +5,7 @@ use Rattle.dt_model.specs.Format.{Reads, IsWithin}
 use Rattle.dt_model.specs.Limits.{most_bytes}
 use Rattle.dt_write.specs.Written.{written}
 use Rattle.dt_write.specs.Refusals.{WhyNoBytes}
-use Rattle.dt_promises.specs.Compile.{IsCompiledOverlay, WhyNotCompiledOverlay}
+use Rattle.dt_chain_promises.specs.Compile.{IsCompiledOverlay, WhyNotCompiledOverlay}
 use Rattle.dt_chain.specs.Steps.{OfEachText}
 use Rattle.dt_chain.proofs.Stages.{if_err, if_ok_both, if_ok_all}
 use Rattle.dt_chain.proofs.OverlayStages.{not_written, is_written, HasObjectBlob, object_written}

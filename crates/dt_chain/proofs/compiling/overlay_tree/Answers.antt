@@ -2,7 +2,7 @@ use Rattle.std.proofs.Common.{◌≡◌, None, refl, sym, subst}
 use Rattle.std.proofs.lemmas.Result.{err_from_is_err_and}
 use Rattle.dt_names.specs.declared.fault.Fault.{Fault}
 use Rattle.dt_model.specs.Named.{NodeReference, NamedList, tree_of}
-use Rattle.dt_promises.specs.Compile.{WhyNotCompiledOverlay}
+use Rattle.dt_chain_promises.specs.Compile.{WhyNotCompiledOverlay}
 use Rattle.dt_chain.specs.Steps.{OfEachText, HasOverlay, HasRooms, WhyNotMarked}
 use Rattle.dt_chain.proofs.Stages.{if_err}
 use Rattle.dt_chain.proofs.OverlayStages.{overlay_has_rooms, not_built, not_whole}

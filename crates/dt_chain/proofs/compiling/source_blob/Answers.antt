@@ -5,8 +5,8 @@ use Rattle.dt_flat.specs.Arena.{reading}
 use Rattle.dt_model.specs.Limits.{most_bytes}
 use Rattle.dt_write.specs.Written.{written}
 use Rattle.dt_write.specs.Refusals.{WhyNoBytes}
-use Rattle.dt_bodies.specs.Refusals.{mode_said}
-use Rattle.dt_promises.specs.Compile.{IsCompiled, WhyNotCompiled, no_tree}
+use Rattle.dt_source_bodies.specs.Refusals.{mode_said}
+use Rattle.dt_chain_promises.specs.Compile.{IsCompiled, WhyNotCompiled, no_tree}
 use Rattle.dt_chain.specs.Steps.{OfEachText}
 use Rattle.dt_chain.proofs.Stages.{not_written, is_written, if_err, if_ok_both}
 use Rattle.dt_chain.proofs.compiling.source_blob.Goals as goal

@@ -5,8 +5,8 @@ use Rattle.dt_names.specs.declared.fault.FaultKind.TheVariants.{NoMemory}
 use Rattle.dt_flat.specs.Arena.{reading}
 use Rattle.dt_model.specs.Named.{tree_of}
 use Rattle.dt_model.specs.Source.{base, raw}
-use Rattle.dt_bodies.specs.Refusals.{mode_said}
-use Rattle.dt_promises.specs.Compile.{WhyNoTree}
+use Rattle.dt_source_bodies.specs.Refusals.{mode_said}
+use Rattle.dt_chain_promises.specs.Compile.{WhyNoTree}
 use Rattle.dt_chain.specs.Steps.{OfEachText, IsNumbered, WhyNotLabelled}
 use Rattle.dt_chain.proofs.Stages.{HasTree, base_has_room, tree_of_text, not_named, not_labelled, not_numbered, if_ok, if_err}
 use Rattle.dt_chain.proofs.compiling.source_tree.Goals as goal

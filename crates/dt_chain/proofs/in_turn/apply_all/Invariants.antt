@@ -1,7 +1,7 @@
 -- The objects of the inputs so far are applied.
 use Rattle.std.proofs.Common.{map, take}
 use Rattle.dt_flat.specs.Arena.{reading}
-use Rattle.dt_promises.specs.Apply.{AreSteps}
+use Rattle.dt_chain_promises.specs.Apply.{AreSteps}
 use Rattle.dt_chain.proofs.in_turn.apply_all.Given as goal
 
 abbrev pub invariant-loop-k : goal.invariant-loop-k

@@ -1,7 +1,7 @@
 use Rattle.std.proofs.Common.{length}
 use Rattle.std.proofs.lemmas.Result.{err_from_is_err_and}
 use Rattle.dt_flat.specs.Arena.{reading}
-use Rattle.dt_promises.specs.Apply.{IsOutcome, stopped}
+use Rattle.dt_chain_promises.specs.Apply.{IsOutcome, stopped}
 use Rattle.dt_chain.proofs.Inputs.{not_written}
 use Rattle.dt_chain.proofs.Turns.{inputs_of, length_inputs}
 use Rattle.dt_chain.proofs.in_turn.apply_and_write.Goals as goal

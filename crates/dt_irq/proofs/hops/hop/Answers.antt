@@ -1,9 +1,9 @@
 use Rattle.std.proofs.Common.{sym, ◌∙◌, arith}
 use Rattle.dt_names.specs.declared.fault.FaultKind.TheVariants.{NoUnitAddress}
 use Rattle.dt_read.specs.Placed.{reading_of}
-use Rattle.dt_worlds.specs.World.{tree_world, value_of_bytes}
-use Rattle.dt_worlds.proofs.Told.{refuses}
-use Rattle.dt_worlds.proofs.QuadsOfBytes.{quad_count}
+use Rattle.dt_resolve_model.specs.World.{tree_world, value_of_bytes}
+use Rattle.dt_resolve_model.proofs.Told.{refuses}
+use Rattle.dt_resolve_model.proofs.QuadsOfBytes.{quad_count}
 use Rattle.dt_irq.specs.Seen.{interrupt_in}
 use Rattle.dt_irq.proofs.MapSteps.{too_short, hop_is}
 use Rattle.dt_irq.proofs.hops.hop.Goals as goal

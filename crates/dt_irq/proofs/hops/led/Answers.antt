@@ -1,14 +1,14 @@
 use Rattle.std.proofs.Common.{◌≡◌, ◌+◌, List, ◌++◌, take, sym, ap, ◌∙◌}
 use Rattle.std.specs.Prelude.{codes, option_map}
 use Rattle.dt_read.specs.Placed.{path_at, reading_of}
-use Rattle.dt_worlds.specs.Answers.{Answer, answer, ◌>>=◌}
-use Rattle.dt_worlds.specs.World.{Quad, quads_of, tree_world, value_of_bytes}
-use Rattle.dt_worlds.specs.Interrupts.{MapRow, first_match, interrupt_row_cells, is_ragged, mask_of}
+use Rattle.dt_resolve_model.specs.Answers.{Answer, answer, ◌>>=◌}
+use Rattle.dt_resolve_model.specs.World.{Quad, quads_of, tree_world, value_of_bytes}
+use Rattle.dt_resolve_model.specs.Interrupts.{MapRow, first_match, interrupt_row_cells, is_ragged, mask_of}
 use Rattle.dt_irq.specs.Cells.{quads, numbers_of}
 use Rattle.dt_irq.specs.Seen.{interrupt_in}
 use Rattle.dt_irq.proofs.Figures.{both_are}
 use Rattle.dt_irq.proofs.MapSteps.{by_row, led_by}
-use Rattle.dt_worlds.proofs.Told.{told_fault}
+use Rattle.dt_resolve_model.proofs.Told.{told_fault}
 use Rattle.dt_irq.proofs.hops.led.Goals as goal
 
 pub returns-in_err-row-clause-is : goal.returns-in_err-row-clause-is

@@ -4,11 +4,11 @@ use Rattle.dt_model.specs.Tree.{nodes_of, value_in}
 use Rattle.dt_names.specs.declared.fault.FaultKind.TheVariants.{NoParent, Loop}
 use Rattle.dt_read.specs.Placed.{path_at, reading_of, IsNode}
 use Rattle.dt_read.proofs.NodePlaces.{stands_place}
-use Rattle.dt_worlds.specs.Answers.{answer, refused, refuse}
-use Rattle.dt_worlds.specs.World.{tree_world}
-use Rattle.dt_worlds.specs.Interrupts.{step_of, IsInterruptParent}
-use Rattle.dt_worlds.proofs.Told.{refuses}
-use Rattle.dt_worlds.proofs.Told.{told_fault}
+use Rattle.dt_resolve_model.specs.Answers.{answer, refused, refuse}
+use Rattle.dt_resolve_model.specs.World.{tree_world}
+use Rattle.dt_resolve_model.specs.Interrupts.{step_of, IsInterruptParent}
+use Rattle.dt_resolve_model.proofs.Told.{refuses}
+use Rattle.dt_resolve_model.proofs.Told.{told_fault}
 use Rattle.dt_irq.proofs.Telling.{copied_some}
 use Rattle.dt_irq.proofs.Ways.{Leads, here_first, step_more, ends_here, goes_round, too_many, leads_nowhere, is_refused, leads_to, leads_on}
 use Rattle.dt_irq.proofs.parents.interrupt_parent.Goals as goal

@@ -2,11 +2,11 @@ use Rattle.std.proofs.Common.{◌≡◌, ℕ, ◌-◌, ◌/◌, List, take, leng
 use Rattle.std.specs.Prelude.{option_map}
 use Rattle.std.specs.Option.{option_copied}
 use Rattle.dt_read.specs.Placed.{path_at, reading_of}
-use Rattle.dt_worlds.specs.Answers.{Answer, answer, ◌>>=◌}
-use Rattle.dt_worlds.specs.World.{Quad, quads_of, tree_world, value_of_bytes}
-use Rattle.dt_worlds.specs.Interrupts.{MapRow, Sent, first_match, is_ragged, mask_of}
-use Rattle.dt_worlds.specs.Specifiers.{led_by, mask_name, merged, pass_name, provider_row_cells}
-use Rattle.dt_worlds.proofs.Told.{told_fault}
+use Rattle.dt_resolve_model.specs.Answers.{Answer, answer, ◌>>=◌}
+use Rattle.dt_resolve_model.specs.World.{Quad, quads_of, tree_world, value_of_bytes}
+use Rattle.dt_resolve_model.specs.Interrupts.{MapRow, Sent, first_match, is_ragged, mask_of}
+use Rattle.dt_resolve_model.specs.Specifiers.{led_by, mask_name, merged, pass_name, provider_row_cells}
+use Rattle.dt_resolve_model.proofs.Told.{told_fault}
 use Rattle.dt_irq.specs.Cells.{numbers_of, quads}
 use Rattle.dt_irq.specs.Merging.{merged_numbers}
 use Rattle.dt_irq.specs.Seen.{end_of}

@@ -2,11 +2,11 @@ use Rattle.std.proofs.Common.{◌≡◌, suc, ◌+◌, ◌-◌, ◌/◌, length,
 use Rattle.std.specs.Prelude.{option_map}
 use Rattle.dt_names.specs.declared.fault.FaultKind.TheVariants.{Loop}
 use Rattle.dt_read.specs.Placed.{path_at, reading_of}
-use Rattle.dt_worlds.specs.Answers.{Answer, answer, refused, ◌>>=◌}
-use Rattle.dt_worlds.specs.World.{tree_world, value_of_bytes}
-use Rattle.dt_worlds.specs.Interrupts.{Sent}
-use Rattle.dt_worlds.specs.Specifiers.{provided, provider_hop}
-use Rattle.dt_worlds.proofs.Told.{refuses, told_fault}
+use Rattle.dt_resolve_model.specs.Answers.{Answer, answer, refused, ◌>>=◌}
+use Rattle.dt_resolve_model.specs.World.{tree_world, value_of_bytes}
+use Rattle.dt_resolve_model.specs.Interrupts.{Sent}
+use Rattle.dt_resolve_model.specs.Specifiers.{provided, provider_hop}
+use Rattle.dt_resolve_model.proofs.Told.{refuses, told_fault}
 use Rattle.dt_irq.specs.Cells.{numbers_of, quads}
 use Rattle.dt_irq.specs.Seen.{end_of, route_in}
 use Rattle.dt_irq.proofs.Figures.{figure_count, numbers_are, quads_are}

@@ -1,9 +1,9 @@
 -- Going on from here is the whole route.
 use Rattle.std.specs.Prelude.{◌≡◌, ◌-◌, ◌≤◌}
 use Rattle.dt_read.specs.Placed.{reading_of}
-use Rattle.dt_worlds.specs.World.{tree_world}
-use Rattle.dt_worlds.specs.Interrupts.{most_hops}
-use Rattle.dt_worlds.specs.Specifiers.{provided}
+use Rattle.dt_resolve_model.specs.World.{tree_world}
+use Rattle.dt_resolve_model.specs.Interrupts.{most_hops}
+use Rattle.dt_resolve_model.specs.Specifiers.{provided}
 use Rattle.dt_irq.specs.Seen.{end_of, sent_in, HasArrived}
 use Rattle.dt_irq.proofs.providers.provided.Given as goal
 

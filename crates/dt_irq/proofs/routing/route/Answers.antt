@@ -1,11 +1,11 @@
 use Rattle.std.proofs.Common.{◌≡◌, ◌+◌, subst, arith}
 use Rattle.dt_read.specs.Placed.{path_at, reading_of}
-use Rattle.dt_worlds.specs.Answers.{answer, refused}
-use Rattle.dt_worlds.specs.World.{quads_of, tree_world}
-use Rattle.dt_worlds.specs.Interrupts.{IsSent}
+use Rattle.dt_resolve_model.specs.Answers.{answer, refused}
+use Rattle.dt_resolve_model.specs.World.{quads_of, tree_world}
+use Rattle.dt_resolve_model.specs.Interrupts.{IsSent}
 use Rattle.dt_irq.specs.Seen.{route_in, sent_in}
 use Rattle.dt_irq.proofs.Senders.{route_by}
-use Rattle.dt_worlds.proofs.Told.{told_fault}
+use Rattle.dt_resolve_model.proofs.Told.{told_fault}
 use Rattle.dt_irq.proofs.routing.route.Goals as goal
 
 pub returns-in_err-of-clause-is : goal.returns-in_err-of-clause-is

@@ -3,15 +3,15 @@ use Rattle.std.specs.Prelude.{is_some, option_map, codes}
 use Rattle.dt_model.specs.Tree.{value_in}
 use Rattle.dt_names.specs.declared.fault.FaultKind.TheVariants.{BadMap, Loop}
 use Rattle.dt_read.specs.Placed.{reading_of}
-use Rattle.dt_worlds.specs.Answers.{Answer, answer, refused, ◌>>=◌}
-use Rattle.dt_worlds.specs.World.{tree_world, value_of_bytes}
-use Rattle.dt_worlds.specs.Interrupts.{Interrupt, hop, routed}
-use Rattle.dt_worlds.proofs.Told.{refuses}
+use Rattle.dt_resolve_model.specs.Answers.{Answer, answer, refused, ◌>>=◌}
+use Rattle.dt_resolve_model.specs.World.{tree_world, value_of_bytes}
+use Rattle.dt_resolve_model.specs.Interrupts.{Interrupt, hop, routed}
+use Rattle.dt_resolve_model.proofs.Told.{refuses}
 use Rattle.dt_irq.specs.Cells.{numbers_of}
 use Rattle.dt_irq.specs.Seen.{interrupt_in, route_in}
 use Rattle.dt_irq.proofs.Figures.{are_numbers, figure_count}
 use Rattle.dt_irq.proofs.MapSteps.{arrives, no_map, too_far, goes_on}
-use Rattle.dt_worlds.proofs.Told.{told_fault}
+use Rattle.dt_resolve_model.proofs.Told.{told_fault}
 use Rattle.dt_irq.proofs.Telling.{some_value, no_value, copied_some}
 use Rattle.dt_irq.proofs.Zeros.{take_front}
 use Rattle.dt_irq.proofs.routing.routed.Goals as goal

@@ -1,8 +1,8 @@
 -- Going on from here is the whole route.
 use Rattle.std.specs.Prelude.{◌≡◌, ◌-◌, ◌≤◌}
 use Rattle.dt_read.specs.Placed.{reading_of}
-use Rattle.dt_worlds.specs.World.{tree_world}
-use Rattle.dt_worlds.specs.Interrupts.{most_hops, routed}
+use Rattle.dt_resolve_model.specs.World.{tree_world}
+use Rattle.dt_resolve_model.specs.Interrupts.{most_hops, routed}
 use Rattle.dt_irq.specs.Seen.{interrupt_in, IsSpecified}
 use Rattle.dt_irq.proofs.routing.routed.Given as goal
 

@@ -1,6 +1,6 @@
 use Rattle.std.proofs.Common.{◌≡◌, ◌≢◌, ◌+◌, true, false, ◌&&◌, ◌∷◌, drop, length, get_or, sym, ap, ◌∙◌, arith}
 use Rattle.std.proofs.lemmas.List.{drop-drop, length-drop}
-use Rattle.dt_worlds.specs.Interrupts.{equal_under}
+use Rattle.dt_resolve_model.specs.Interrupts.{equal_under}
 use Rattle.dt_irq.specs.Cells.{agree, numbers_of}
 use Rattle.dt_irq.proofs.Comparing.{unequal_lengths, first_equal, nothing_equal}
 use Rattle.dt_irq.proofs.Figures.{next_figure, next_number, figure_count}

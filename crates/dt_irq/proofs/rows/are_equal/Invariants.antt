@@ -1,6 +1,6 @@
 -- What is left is equal exactly where all is.
 use Rattle.std.specs.Prelude.{◌≡◌, drop}
-use Rattle.dt_worlds.specs.Interrupts.{equal_under}
+use Rattle.dt_resolve_model.specs.Interrupts.{equal_under}
 use Rattle.dt_irq.specs.Cells.{numbers_of}
 use Rattle.dt_irq.proofs.rows.are_equal.Given as goal
 

@@ -1,14 +1,14 @@
 use Rattle.std.proofs.Common.{◌≡◌, ◌-◌, ◌*◌, ◌%◌, ◌==◌, not, length, sym, ap, ◌∙◌, arith}
 use Rattle.std.proofs.lemmas.List.{length-drop}
 use Rattle.dt_read.specs.Placed.{reading_of}
-use Rattle.dt_worlds.specs.Answers.{answer, refused}
-use Rattle.dt_worlds.specs.World.{quads_of, tree_world, value_of_bytes}
-use Rattle.dt_worlds.specs.Interrupts.{first_match, is_ragged, map_row}
+use Rattle.dt_resolve_model.specs.Answers.{answer, refused}
+use Rattle.dt_resolve_model.specs.World.{quads_of, tree_world, value_of_bytes}
+use Rattle.dt_resolve_model.specs.Interrupts.{first_match, is_ragged, map_row}
 use Rattle.dt_irq.specs.Cells.{quads}
 use Rattle.dt_irq.specs.Seen.{row_in}
 use Rattle.dt_irq.specs.Spaces.{widths_in}
 use Rattle.dt_irq.proofs.Matching.{key_matches, match_is, match_is_later, match_is_refused, some_cells}
-use Rattle.dt_worlds.proofs.Told.{told_fault}
+use Rattle.dt_resolve_model.proofs.Told.{told_fault}
 use Rattle.dt_irq.proofs.rows.first_match.Goals as goal
 
 pub returns-in_err-row-clause-is : goal.returns-in_err-row-clause-is

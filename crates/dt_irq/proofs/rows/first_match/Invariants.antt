@@ -1,8 +1,8 @@
 -- The row that is sought is one of the rest.
 use Rattle.std.specs.Prelude.{◌≡◌, length}
 use Rattle.dt_read.specs.Placed.{reading_of}
-use Rattle.dt_worlds.specs.World.{quads_of, tree_world, value_of_bytes}
-use Rattle.dt_worlds.specs.Interrupts.{first_match, is_ragged}
+use Rattle.dt_resolve_model.specs.World.{quads_of, tree_world, value_of_bytes}
+use Rattle.dt_resolve_model.specs.Interrupts.{first_match, is_ragged}
 use Rattle.dt_irq.specs.Cells.{quads}
 use Rattle.dt_irq.specs.Spaces.{widths_in}
 use Rattle.dt_irq.proofs.rows.first_match.Given as goal

@@ -2,10 +2,10 @@ use Rattle.std.proofs.Common.{◌≡◌, ◌+◌, ◌∷◌, take, drop, length,
 use Rattle.std.proofs.lemmas.List.{length-drop, length-take-le}
 use Rattle.dt_names.specs.declared.fault.FaultKind.TheVariants.{BadMap}
 use Rattle.dt_read.specs.Placed.{path_at, reading_of}
-use Rattle.dt_worlds.specs.World.{figure, quads_of, tree_world}
-use Rattle.dt_worlds.specs.Answers.{answer}
-use Rattle.dt_worlds.proofs.Told.{refuses}
-use Rattle.dt_worlds.proofs.QuadsOfBytes.{quad_count}
+use Rattle.dt_resolve_model.specs.World.{figure, quads_of, tree_world}
+use Rattle.dt_resolve_model.specs.Answers.{answer}
+use Rattle.dt_resolve_model.proofs.Told.{refuses}
+use Rattle.dt_resolve_model.proofs.QuadsOfBytes.{quad_count}
 use Rattle.dt_irq.specs.Seen.{row_cells_in}
 use Rattle.dt_irq.specs.Spaces.{widths_in}
 use Rattle.dt_irq.proofs.Listing.{no_cells, row_is_short, row_is_cut, row_is}

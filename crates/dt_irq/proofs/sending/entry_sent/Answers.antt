@@ -1,12 +1,12 @@
 use Rattle.std.proofs.Common.{◌≡◌, ◌+◌, ◌-◌, sym, ap, ◌∙◌, arith}
 use Rattle.dt_read.specs.Placed.{reading_of}
-use Rattle.dt_worlds.specs.Answers.{Answer, refused, answer, ◌>>=◌}
-use Rattle.dt_worlds.specs.World.{quads_of, tree_world, value_of_bytes}
-use Rattle.dt_worlds.specs.Interrupts.{Entry, entry_sent, first_entry, is_ragged}
+use Rattle.dt_resolve_model.specs.Answers.{Answer, refused, answer, ◌>>=◌}
+use Rattle.dt_resolve_model.specs.World.{quads_of, tree_world, value_of_bytes}
+use Rattle.dt_resolve_model.specs.Interrupts.{Entry, entry_sent, first_entry, is_ragged}
 use Rattle.dt_irq.specs.Seen.{entry_in, sent_in}
 use Rattle.dt_irq.specs.Spaces.{count_in}
 use Rattle.dt_irq.proofs.Listing.{sent_first, sent_now, sent_later}
-use Rattle.dt_worlds.proofs.Told.{told_fault}
+use Rattle.dt_resolve_model.proofs.Told.{told_fault}
 use Rattle.dt_irq.proofs.sending.entry_sent.Goals as goal
 
 pub returns-in_err-rest-clause-is : goal.returns-in_err-rest-clause-is

@@ -1,8 +1,8 @@
 -- The entry that is sought is one of the rest.
 use Rattle.std.specs.Prelude.{◌≡◌, ◌-◌}
 use Rattle.dt_read.specs.Placed.{reading_of}
-use Rattle.dt_worlds.specs.World.{quads_of, tree_world, value_of_bytes}
-use Rattle.dt_worlds.specs.Interrupts.{entry_sent, is_ragged}
+use Rattle.dt_resolve_model.specs.World.{quads_of, tree_world, value_of_bytes}
+use Rattle.dt_resolve_model.specs.Interrupts.{entry_sent, is_ragged}
 use Rattle.dt_irq.specs.Spaces.{count_in}
 use Rattle.dt_irq.proofs.sending.entry_sent.Given as goal
 

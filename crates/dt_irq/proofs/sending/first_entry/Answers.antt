@@ -2,11 +2,11 @@ use Rattle.std.proofs.Common.{◌≡◌, ◌-◌, ◌*◌, ◌%◌, not, ◌==�
 use Rattle.std.proofs.lemmas.List.{length-drop}
 use Rattle.dt_names.specs.declared.fault.FaultKind.TheVariants.{BadCells}
 use Rattle.dt_read.specs.Placed.{path_at, reading_of}
-use Rattle.dt_worlds.specs.World.{figure, quads_of, tree_world, value_of_bytes}
-use Rattle.dt_worlds.specs.Interrupts.{is_ragged}
-use Rattle.dt_worlds.specs.Answers.{answer}
-use Rattle.dt_worlds.proofs.Told.{refuses}
-use Rattle.dt_worlds.proofs.QuadsOfBytes.{quad_count}
+use Rattle.dt_resolve_model.specs.World.{figure, quads_of, tree_world, value_of_bytes}
+use Rattle.dt_resolve_model.specs.Interrupts.{is_ragged}
+use Rattle.dt_resolve_model.specs.Answers.{answer}
+use Rattle.dt_resolve_model.proofs.Told.{refuses}
+use Rattle.dt_resolve_model.proofs.QuadsOfBytes.{quad_count}
 use Rattle.dt_irq.specs.Spaces.{count_in}
 use Rattle.dt_irq.proofs.Listing.{entry_is_cut, entry_is}
 use Rattle.dt_irq.proofs.sending.first_entry.Goals as goal

@@ -3,7 +3,7 @@ use Rattle.std.specs.List.{flat_map}
 use Rattle.std.proofs.lemmas.List.{drop_all, append-nil}
 use Rattle.dt_model.specs.Fixups.{inside_offset}
 use Rattle.dt_model.specs.Named.{NodeReference}
-use Rattle.dt_named.specs.declared.named.NamedPiece.{NamedPiece}
+use Rattle.dt_source_named_tree.specs.declared.named.NamedPiece.{NamedPiece}
 use Rattle.dt_marks.proofs.Listing.{references_left, none_left, offset_turn}
 use Rattle.dt_marks.proofs.cells.put_offsets.Goals as goal
 

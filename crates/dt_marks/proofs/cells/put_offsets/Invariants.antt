@@ -3,7 +3,7 @@ use Rattle.std.proofs.Common.{◌≡◌, ◌++◌, drop}
 use Rattle.std.specs.List.{flat_map}
 use Rattle.dt_model.specs.Fixups.{inside_offset}
 use Rattle.dt_model.specs.Object.{references_from}
-use Rattle.dt_named.specs.Said.{value_said}
+use Rattle.dt_source_named_tree.specs.Said.{value_said}
 use Rattle.dt_marks.proofs.Listing.{references_left}
 use Rattle.dt_marks.proofs.cells.put_offsets.Given as goal
 

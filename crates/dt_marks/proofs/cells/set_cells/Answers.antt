@@ -1,8 +1,8 @@
 use Rattle.std.proofs.Common.{◌≡◌, ◌+◌, ◌++◌, ℕ, List, map, drop, sym, ap, ◌∙◌, subst, arith}
 use Rattle.std.specs.List.{AllByRecursion}
 use Rattle.dt_model.specs.Fixups.{offsets_as}
-use Rattle.dt_named.specs.Said.{property_said}
-use Rattle.dt_named.specs.declared.named.NamedProperty.{NamedProperty}
+use Rattle.dt_source_named_tree.specs.Said.{property_said}
+use Rattle.dt_source_named_tree.specs.declared.named.NamedProperty.{NamedProperty}
 use Rattle.dt_flat.proofs.Distinctness.{all-back}
 use Rattle.dt_marks.specs.Cells.{cells_of}
 use Rattle.dt_marks.specs.Mirrored.{IsNoPhandle}

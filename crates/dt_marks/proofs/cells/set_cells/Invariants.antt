@@ -1,7 +1,7 @@
 -- The properties that are left give the node all.
 use Rattle.std.proofs.Common.{◌≡◌, ◌<◌, length, map, drop}
 use Rattle.std.specs.List.{AllByRecursion}
-use Rattle.dt_named.specs.Said.{property_said}
+use Rattle.dt_source_named_tree.specs.Said.{property_said}
 use Rattle.dt_flat.specs.Planted.{with_properties}
 use Rattle.dt_marks.specs.Cells.{cells_of}
 use Rattle.dt_marks.specs.Mirrored.{IsNoPhandle}

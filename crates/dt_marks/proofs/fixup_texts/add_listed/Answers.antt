@@ -2,7 +2,7 @@ use Rattle.std.proofs.Common.{◌≡◌, List, [], ap, sym, ◌∙◌, subst, ma
 use Rattle.std.specs.List.{AllByRecursion}
 use Rattle.dt_model.specs.Names.{IsLabel}
 use Rattle.dt_model.specs.Tree.{Property}
-use Rattle.dt_named.specs.Said.{node_said}
+use Rattle.dt_source_named_tree.specs.Said.{node_said}
 use Rattle.dt_marks.specs.Waiting.{with_texts, all_texts}
 use Rattle.dt_marks.proofs.FirstCome.{labelled_texts}
 use Rattle.dt_marks.proofs.fixup_texts.add_listed.Goals as goal

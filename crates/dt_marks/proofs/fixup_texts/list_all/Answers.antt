@@ -2,8 +2,8 @@ use Rattle.std.proofs.Common.{ℕ, List, [], ◌∷◌, map, codes, ◌∙◌, s
 use Rattle.std.specs.List.{flat_map}
 use Rattle.std.proofs.lemmas.Result.{on_ok_weaker}
 use Rattle.dt_model.specs.Names.{Name}
-use Rattle.dt_named.specs.Said.{property_said, node_said}
-use Rattle.dt_named.specs.declared.named.NamedNode.{NamedNode}
+use Rattle.dt_source_named_tree.specs.Said.{property_said, node_said}
+use Rattle.dt_source_named_tree.specs.declared.named.NamedNode.{NamedNode}
 use Rattle.dt_marks.specs.Waiting.{with_texts, property_texts, texts_behind, all_texts}
 use Rattle.dt_marks.proofs.Listing.{texts-append}
 use Rattle.dt_marks.proofs.fixup_texts.list_all.Goals as goal

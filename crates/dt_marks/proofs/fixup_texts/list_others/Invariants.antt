@@ -1,6 +1,6 @@
 -- The nodes that are left give the table all.
 use Rattle.std.proofs.Common.{◌≡◌, length, map, drop}
-use Rattle.dt_named.specs.Said.{node_said}
+use Rattle.dt_source_named_tree.specs.Said.{node_said}
 use Rattle.dt_marks.specs.Paths.{MayFollow}
 use Rattle.dt_marks.specs.Waiting.{with_texts, texts_behind}
 use Rattle.dt_marks.proofs.fixup_texts.list_others.Given as goal

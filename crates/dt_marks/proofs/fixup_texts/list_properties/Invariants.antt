@@ -1,7 +1,7 @@
 -- The properties that are left give the table all.
 use Rattle.std.proofs.Common.{◌≡◌, drop, map}
 use Rattle.std.specs.List.{flat_map}
-use Rattle.dt_named.specs.Said.{property_said}
+use Rattle.dt_source_named_tree.specs.Said.{property_said}
 use Rattle.dt_marks.specs.Waiting.{with_texts, property_texts}
 use Rattle.dt_marks.proofs.fixup_texts.list_properties.Given as goal
 

@@ -2,7 +2,7 @@ use Rattle.std.proofs.Common.{◌≡◌, ◌+◌, ℕ, List, [], ◌∙◌, sym,
 use Rattle.std.specs.List.{flat_map}
 use Rattle.std.proofs.lemmas.List.{drop_all}
 use Rattle.dt_model.specs.Named.{NodeReference}
-use Rattle.dt_named.specs.declared.named.NamedPiece.{NamedPiece}
+use Rattle.dt_source_named_tree.specs.declared.named.NamedPiece.{NamedPiece}
 use Rattle.dt_marks.specs.Waiting.{with_texts, reference_text}
 use Rattle.dt_marks.proofs.Listing.{references_left, none_left, reference_turn}
 use Rattle.dt_marks.proofs.fixup_texts.list_property.Goals as goal

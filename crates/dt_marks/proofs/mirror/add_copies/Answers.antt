@@ -1,7 +1,7 @@
 use Rattle.std.proofs.Common.{◌+◌, ◌∙◌, List, map, drop, ap, sym, subst, arith}
 use Rattle.std.proofs.lemmas.Result.{err_from_is_err_and}
-use Rattle.dt_named.specs.Said.{node_said}
-use Rattle.dt_named.specs.declared.named.NamedNode.{NamedNode}
+use Rattle.dt_source_named_tree.specs.Said.{node_said}
+use Rattle.dt_source_named_tree.specs.declared.named.NamedNode.{NamedNode}
 use Rattle.dt_flat.specs.Arena.{Arena}
 use Rattle.dt_marks.specs.Mirrored.{marked_at, mirrored}
 use Rattle.dt_marks.specs.Refusals.{AreWithin}

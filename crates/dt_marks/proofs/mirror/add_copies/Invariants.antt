@@ -1,6 +1,6 @@
 -- The nodes that are left give the tree all.
 use Rattle.std.proofs.Common.{◌≡◌, ◌+◌, map, drop}
-use Rattle.dt_named.specs.Said.{node_said}
+use Rattle.dt_source_named_tree.specs.Said.{node_said}
 use Rattle.dt_marks.specs.Mirrored.{marked_at, mirrored, MayMirror}
 use Rattle.dt_marks.proofs.mirror.add_copies.Given as goal
 

@@ -4,7 +4,7 @@ use Rattle.std.proofs.lemmas.Result.{on_ok_weaker, IfErr-weaker}
 use Rattle.dt_model.specs.Fixups.{local_properties}
 use Rattle.dt_model.specs.Named.{NodeReference, Content, node_count, tree_of}
 use Rattle.dt_names.specs.declared.fault.Fault.{Fault}
-use Rattle.dt_named.specs.Said.{node_said}
+use Rattle.dt_source_named_tree.specs.Said.{node_said}
 use Rattle.dt_flat.specs.Arena.{Slot}
 use Rattle.dt_marks.specs.Mirrored.{marked_at, mirrored, with_mirror_root, with_inside, IsNoPhandle}
 use Rattle.dt_marks.specs.Paths.{MayFollow}

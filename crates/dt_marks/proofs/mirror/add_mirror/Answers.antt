@@ -1,6 +1,6 @@
 use Rattle.std.proofs.Common.{◌∷◌, [], length, map}
 use Rattle.std.proofs.lemmas.Result.{err_from_is_err_and}
-use Rattle.dt_named.specs.Said.{node_said}
+use Rattle.dt_source_named_tree.specs.Said.{node_said}
 use Rattle.dt_marks.specs.Mirrored.{marked_at, with_mirror_root}
 use Rattle.dt_marks.proofs.Mirroring.{within_before_all, why_later}
 use Rattle.dt_marks.proofs.mirror.add_mirror.Goals as goal

@@ -1,7 +1,7 @@
 use Rattle.std.proofs.Common.{length, codes}
 use Rattle.std.proofs.lemmas.Result.{err_from_is_err_and}
 use Rattle.dt_model.specs.Fixups.{local_properties}
-use Rattle.dt_named.specs.Said.{node_said}
+use Rattle.dt_source_named_tree.specs.Said.{node_said}
 use Rattle.dt_flat.specs.Arena.{with_child}
 use Rattle.dt_marks.proofs.Refused.{within_before_properties, why_not_planted}
 use Rattle.dt_marks.proofs.mirror.add_root.Goals as goal

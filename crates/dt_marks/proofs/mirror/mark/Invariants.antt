@@ -1,6 +1,6 @@
 -- The nodes behind have marked those that they need.
 use Rattle.std.proofs.Common.{◌≡◌, ◌+◌, ℕ, length, map, drop}
-use Rattle.dt_named.specs.Said.{node_said}
+use Rattle.dt_source_named_tree.specs.Said.{node_said}
 use Rattle.dt_marks.specs.Mirrored.{marked_at, needed_by}
 use Rattle.dt_marks.proofs.mirror.mark.Given as goal
 

@@ -3,7 +3,7 @@ use Rattle.std.proofs.lemmas.Result.{on_ok_weaker, IfErr-weaker, err_from_is_err
 use Rattle.dt_model.specs.Fixups.{with_fixups}
 use Rattle.dt_model.specs.Named.{NodeReference, Named, Listed, list_of, tree_of}
 use Rattle.dt_names.specs.declared.fault.Fault.{Fault}
-use Rattle.dt_named.specs.Said.{node_said}
+use Rattle.dt_source_named_tree.specs.Said.{node_said}
 use Rattle.dt_flat.specs.Arena.{Arena, Slot, named_children, child_of, reading}
 use Rattle.dt_flat.specs.Planted.{planted}
 use Rattle.dt_marks.specs.Mirrored.{with_inside}

@@ -1,8 +1,8 @@
 use Rattle.std.proofs.Common.{◌≡◌, List, map, Bor, codes, [], ◌∷◌, ◌++◌, sym, ap, ◌∙◌}
 use Rattle.std.proofs.lemmas.Result.{on_ok_weaker}
 use Rattle.dt_model.specs.Names.{Name}
-use Rattle.dt_named.specs.Said.{node_said}
-use Rattle.dt_named.specs.declared.named.NamedNode.{NamedNode}
+use Rattle.dt_source_named_tree.specs.Said.{node_said}
+use Rattle.dt_source_named_tree.specs.declared.named.NamedNode.{NamedNode}
 use Rattle.dt_marks.specs.Paths.{label_property, symbols_behind, all_symbols}
 use Rattle.dt_marks.proofs.Setting.{still_there, both_set}
 use Rattle.dt_marks.proofs.symbols.add_all.Goals as goal

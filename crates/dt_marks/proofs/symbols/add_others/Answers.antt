@@ -1,6 +1,6 @@
 use Rattle.std.proofs.Common.{◌+◌, length, map, drop, Bor, arith, ◌∙◌}
 use Rattle.dt_model.specs.Names.{Name}
-use Rattle.dt_named.specs.Said.{node_said}
+use Rattle.dt_source_named_tree.specs.Said.{node_said}
 use Rattle.dt_marks.specs.Paths.{text_behind, label_property, symbols_behind}
 use Rattle.dt_marks.proofs.Setting.{still_there, both_set, next_node, node_turn, follow_turn}
 use Rattle.dt_marks.proofs.symbols.add_others.Goals as goal

@@ -1,6 +1,6 @@
 -- The nodes that are left give the labels of all.
 use Rattle.std.proofs.Common.{◌≡◌, ◌<◌, length, map, drop}
-use Rattle.dt_named.specs.Said.{node_said}
+use Rattle.dt_source_named_tree.specs.Said.{node_said}
 use Rattle.dt_flat.specs.Planted.{with_properties}
 use Rattle.dt_marks.specs.Paths.{symbols_behind, MayFollow}
 use Rattle.dt_marks.proofs.symbols.add_others.Given as goal

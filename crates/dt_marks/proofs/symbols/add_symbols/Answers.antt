@@ -4,7 +4,7 @@ use Rattle.dt_model.specs.Instance.{symbols_of, with_symbols}
 use Rattle.dt_model.specs.Named.{tree_of}
 use Rattle.dt_model.specs.Tree.{Property}
 use Rattle.dt_names.specs.declared.fault.Fault.{Fault}
-use Rattle.dt_named.specs.Said.{node_said}
+use Rattle.dt_source_named_tree.specs.Said.{node_said}
 use Rattle.dt_flat.specs.Arena.{reading}
 use Rattle.dt_marks.specs.Paths.{all_symbols, AreAll}
 use Rattle.dt_marks.specs.Refusals.{WhyFull, WhyNoSymbols}

@@ -3,14 +3,14 @@ use Rattle.std.specs.Prelude.{None, OnOk, IfErr}
 use Rattle.std.proofs.lemmas.Result.{err_from_is_err_and}
 use Rattle.dt_model.specs.Tree.{Reading}
 use Rattle.dt_flat.specs.Arena.{Arena, reading}
-use Rattle.dt_joining.specs.InTurn.{IsApplied}
-use Rattle.dt_landing.specs.Objects.{IsWellFormed}
-use Rattle.dt_landing.specs.Refusals.{WhyNotApplied}
+use Rattle.dt_overlay_model.specs.InTurn.{IsApplied}
+use Rattle.dt_overlay_laws.specs.Objects.{IsWellFormed}
+use Rattle.dt_overlay_laws.specs.Refusals.{WhyNotApplied}
 use Rattle.dt_read.specs.Placed.{reading_of}
 use Rattle.dt_overlay.specs.Applying.{IsLeftBy}
 use Rattle.dt_overlay.specs.Objects.{IsUnread}
 use Rattle.dt_overlay.proofs.Told.{memory_told}
-use Rattle.dt_targets.specs.Targets.{HasNoRoom}
+use Rattle.dt_overlay_base.specs.Targets.{HasNoRoom}
 use Rattle.dt_overlay.proofs.applying.apply.Goals as goal
 
 pub returns-in_err-symbols-clause-refused : goal.returns-in_err-symbols-clause-refused

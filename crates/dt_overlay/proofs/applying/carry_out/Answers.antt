@@ -3,7 +3,7 @@ use Rattle.std.proofs.lemmas.Result.{err_from_is_err_and}
 use Rattle.dt_flat.specs.Arena.{reading}
 use Rattle.dt_overlay.proofs.CarriedOut.{numbered_for}
 use Rattle.dt_overlay.proofs.Told.{if_err, site_told, landing_told, landing_left}
-use Rattle.dt_targets.specs.Targets.{HasNoRoom}
+use Rattle.dt_overlay_base.specs.Targets.{HasNoRoom}
 use Rattle.dt_overlay.proofs.applying.carry_out.Goals as goal
 
 pub find_sites-requires-clause-read : goal.find_sites-requires-clause-read

@@ -1,7 +1,7 @@
 use Rattle.std.proofs.Common.{arith, sym, subst, ◌≡◌, ◌++◌, [], false, ℕ}
 use Rattle.std.proofs.lemmas.Result.{err_from_is_err_and}
 use Rattle.std.proofs.lemmas.List.{append-nil}
-use Rattle.dt_items.specs.Said.{places_said}
+use Rattle.dt_source_items.specs.Said.{places_said}
 use Rattle.dt_parse.specs.Nested.{Goes}
 use Rattle.dt_parse.proofs.Members.{err_is, said_more, not_open}
 use Rattle.dt_parse.proofs.NestedBodies.{goes_on, goes_nowhere, block_reads, block_stops, block_ordered}

@@ -1,6 +1,6 @@
 use Rattle.std.proofs.Common.{◌≡◌, ◌++◌, List, map, length, false}
 use Rattle.dt_grammar.specs.Unchecked.{RawPlace, place_meant}
-use Rattle.dt_items.specs.Said.{places_said}
+use Rattle.dt_source_items.specs.Said.{places_said}
 use Rattle.dt_parse.specs.Nested.{Goes}
 use Rattle.dt_parse.proofs.body.body.Given as goal
 

@@ -1,6 +1,6 @@
 use Rattle.std.proofs.Common.{sym, ◌∙◌}
 use Rattle.std.proofs.lemmas.List.{append-nil, map-id}
-use Rattle.dt_items.specs.Said.{places_said}
+use Rattle.dt_source_items.specs.Said.{places_said}
 use Rattle.dt_parse.proofs.Members.{label_said, labels_said}
 use Rattle.std.proofs.lemmas.Iterator.Adapters.{YieldsList-from_vec}
 use Rattle.std.proofs.lemmas.Iterator.Consumers.{YieldsList-end}

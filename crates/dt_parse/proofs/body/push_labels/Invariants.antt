@@ -1,6 +1,6 @@
 use Rattle.std.proofs.Common.{◌≡◌, ◌++◌, map}
 use Rattle.dt_model.specs.Source.{label}
-use Rattle.dt_items.specs.Said.{places_said}
+use Rattle.dt_source_items.specs.Said.{places_said}
 use Rattle.dt_parse.proofs.body.push_labels.Given as goal
 
 abbrev pub invariant-loop-name : goal.invariant-loop-name

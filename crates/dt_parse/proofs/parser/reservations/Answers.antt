@@ -5,7 +5,7 @@ use Rattle.dt_lex.specs.declared.token.Keyword.TheVariants as keyword
 use Rattle.dt_grammar.specs.Descent.{first}
 use Rattle.dt_grammar.specs.Faults.{outside}
 use Rattle.dt_parse.specs.Reading.{IsBroken}
-use Rattle.dt_items.specs.Said.{reservation_said}
+use Rattle.dt_source_items.specs.Said.{reservation_said}
 use Rattle.dt_grammar.specs.Wanted.{Top, kind_at}
 use Rattle.dt_grammar.proofs.SameKinds.{other_next}
 use Rattle.dt_parse.proofs.Leading.{handed_on}

@@ -1,6 +1,6 @@
 use Rattle.std.proofs.Common.{◌≡◌, List, map, length}
 use Rattle.dt_grammar.specs.Unchecked.{RawReserve, reserve_of}
-use Rattle.dt_items.specs.Said.{reservation_said}
+use Rattle.dt_source_items.specs.Said.{reservation_said}
 use Rattle.dt_parse.proofs.ReadReserves.{ReservesRead}
 use Rattle.dt_parse.proofs.parser.reservations.Given as goal
 

@@ -1,11 +1,11 @@
 use Rattle.std.proofs.Common.{List, sym, ◌∙◌, ap, subst, ◌++◌, map}
 use Rattle.std.proofs.lemmas.Result.{err_from_is_err_and}
-use Rattle.dt_items.specs.declared.source.Item.{Item}
+use Rattle.dt_source_items.specs.declared.source.Item.{Item}
 use Rattle.dt_grammar.specs.Unchecked.{place_meant}
 use Rattle.dt_grammar.specs.Wanted.{StatementThen, Top, Whole}
 use Rattle.dt_grammar.specs.Faults.{outside}
 use Rattle.dt_parse.specs.Reading.{IsBroken}
-use Rattle.dt_items.specs.Said.{places_said}
+use Rattle.dt_source_items.specs.Said.{places_said}
 use Rattle.dt_parse.proofs.Stopping.{stops_too}
 use Rattle.dt_parse.proofs.Parsing.{whole_read, whole_says, whole_spelled}
 use Rattle.dt_parse.proofs.parser.source.Goals as goal

@@ -1,6 +1,6 @@
 use Rattle.std.proofs.Common.{refl, ◌∷◌, []}
 use Rattle.std.proofs.lemmas.Result.{err_from_is_err_and, IfErr-weaker, on_ok_weaker}
-use Rattle.dt_items.specs.declared.source.Item.TheVariants as item
+use Rattle.dt_source_items.specs.declared.source.Item.TheVariants as item
 use Rattle.dt_grammar.specs.Unchecked.{raw_root}
 use Rattle.dt_parse.specs.Reading.{no_memory}
 use Rattle.dt_parse.proofs.Members.{err_is, said_one, said_more}

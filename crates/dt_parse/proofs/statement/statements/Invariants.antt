@@ -5,7 +5,7 @@ use Rattle.dt_grammar.specs.Strict.{AreLabelTexts}
 use Rattle.dt_grammar.specs.Wanted.{OneStatement, made_places}
 use Rattle.dt_grammar.specs.Faults.{outside}
 use Rattle.dt_parse.specs.Reading.{IsRead}
-use Rattle.dt_items.specs.Said.{places_said}
+use Rattle.dt_source_items.specs.Said.{places_said}
 use Rattle.dt_parse.specs.Starts.{StatementsFollow}
 use Rattle.dt_parse.proofs.statement.statements.Given as goal
 

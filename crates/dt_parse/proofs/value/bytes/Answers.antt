@@ -6,7 +6,7 @@ use Rattle.dt_grammar.specs.Descent.{first}
 use Rattle.dt_grammar.specs.Faults.{Around}
 use Rattle.dt_parse.specs.Reading.{IsBroken}
 use Rattle.dt_parse.specs.Openings.{byte_opening}
-use Rattle.dt_items.specs.Said.{value_said}
+use Rattle.dt_source_items.specs.Said.{value_said}
 use Rattle.dt_parse.proofs.Leading.{handed_on, goes_on, goes_to_end, goes_stop}
 use Rattle.dt_parse.proofs.ReadCells.{byte_label, byte_byte, no_bytes_read, byte_label_goes, byte_label_stop, byte_goes, said_more}
 use Rattle.dt_parse.proofs.value.bytes.Goals as goal

@@ -8,7 +8,7 @@ use Rattle.dt_grammar.specs.Descent.{first}
 use Rattle.dt_grammar.specs.Faults.{Around, outside, in_elements}
 use Rattle.dt_parse.specs.Reading.{IsBroken}
 use Rattle.dt_parse.specs.Openings.{cell_opening}
-use Rattle.dt_items.specs.Said.{value_said}
+use Rattle.dt_source_items.specs.Said.{value_said}
 use Rattle.dt_parse.proofs.Leading.{handed_on, goes_on, goes_to_end, goes_stop}
 use Rattle.dt_parse.proofs.ReadCells.{cell_label, cell_reference, no_cells_read, label_goes, label_stop, reference_goes, cell_reference_stop, width_stop, number_stop, number_read, number_goes, number_shorter, said_more, element_fits}
 use Rattle.dt_parse.proofs.value.cells.Goals as goal

@@ -2,7 +2,7 @@ use Rattle.std.proofs.Common.{◌≡◌, ◌++◌, List, length}
 use Rattle.dt_grammar.specs.Unchecked.{RawCell, cells_parts}
 use Rattle.dt_grammar.specs.Wanted.{made_cells, SomeCells}
 use Rattle.dt_grammar.specs.Faults.{in_elements}
-use Rattle.dt_items.specs.Said.{value_said}
+use Rattle.dt_source_items.specs.Said.{value_said}
 use Rattle.dt_parse.proofs.Leading.{Goes}
 use Rattle.dt_parse.proofs.value.cells.Given as goal
 

@@ -3,7 +3,7 @@ use Rattle.std.proofs.lemmas.Bool.{not-true, not-false}
 use Rattle.dt_grammar.specs.Wanted.{made_value, OneValue}
 use Rattle.dt_grammar.specs.Faults.{Around}
 use Rattle.dt_parse.specs.Reading.{IsBroken}
-use Rattle.dt_items.specs.Said.{value_said}
+use Rattle.dt_source_items.specs.Said.{value_said}
 use Rattle.dt_grammar.proofs.SameKinds.{same_next, other_next}
 use Rattle.dt_parse.proofs.Leading.{handed_on, goes_nowhere, goes_on, goes_stop}
 use Rattle.dt_parse.proofs.ReadValues.{labels_stop, item_breaks, behind_stop, component_read, last_read, component_goes, component_shorter, value_more}

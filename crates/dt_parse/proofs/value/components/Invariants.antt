@@ -1,7 +1,7 @@
 use Rattle.std.proofs.Common.{◌≡◌, List, length}
 use Rattle.dt_grammar.specs.Unchecked.{RawComponent, value_parts}
 use Rattle.dt_grammar.specs.Wanted.{made_value, OneValue}
-use Rattle.dt_items.specs.Said.{value_said}
+use Rattle.dt_source_items.specs.Said.{value_said}
 use Rattle.dt_parse.proofs.Leading.{Goes}
 use Rattle.dt_parse.proofs.value.components.Given as goal
 

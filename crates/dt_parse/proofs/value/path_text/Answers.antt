@@ -5,7 +5,7 @@ use Rattle.dt_grammar.specs.Wanted.{OneItem, kind_at, bytes_at}
 use Rattle.dt_grammar.specs.Descent.{first}
 use Rattle.dt_grammar.specs.Faults.{Around}
 use Rattle.dt_parse.specs.Reading.{IsBroken}
-use Rattle.dt_items.specs.Said.{value_said}
+use Rattle.dt_source_items.specs.Said.{value_said}
 use Rattle.dt_parse.proofs.Leading.{handed_on}
 use Rattle.dt_parse.proofs.ReadItems.{at_reference, reference_read, reference_stop}
 use Rattle.dt_parse.proofs.value.path_text.Goals as goal

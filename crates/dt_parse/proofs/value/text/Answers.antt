@@ -4,7 +4,7 @@ use Rattle.dt_lex.specs.Texts.{text_bytes}
 use Rattle.dt_grammar.specs.Unchecked.{text_item}
 use Rattle.dt_grammar.specs.Wanted.{kind_at, bytes_at}
 use Rattle.dt_grammar.specs.Descent.{first}
-use Rattle.dt_items.specs.Said.{value_said}
+use Rattle.dt_source_items.specs.Said.{value_said}
 use Rattle.dt_parse.proofs.ReadItems.{at_text, text_read}
 use Rattle.dt_parse.proofs.value.text.Goals as goal
 

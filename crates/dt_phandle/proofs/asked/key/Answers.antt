@@ -1,7 +1,7 @@
 use Rattle.std.proofs.Common.{None, false, length, map, refl, sym, ap, ◌∙◌, subst}
 use Rattle.dt_model.specs.NamedOf.{IsBelow}
-use Rattle.dt_named.specs.Said.{reference_said}
-use Rattle.dt_named.specs.declared.named.NamedReference.{NamedReference}
+use Rattle.dt_source_named_tree.specs.Said.{reference_said}
+use Rattle.dt_source_named_tree.specs.declared.named.NamedReference.{NamedReference}
 use Rattle.dt_phandle.specs.declared.asked.Asked.{Asked}
 use Rattle.dt_phandle.specs.Asking.{asked_said, keyed_too, is_to}
 use Rattle.dt_phandle.proofs.Asking.{keyed_to, keyed_outside}

@@ -3,8 +3,8 @@ use Rattle.std.specs.List.{AllByRecursion}
 use Rattle.std.proofs.lemmas.List.{drop_all}
 use Rattle.dt_model.specs.NamedOf.{IsBelow}
 use Rattle.dt_model.specs.Meaning.{EachReference}
-use Rattle.dt_named.specs.Said.{property_said, value_said}
-use Rattle.dt_named.specs.declared.named.NamedProperty.{NamedProperty}
+use Rattle.dt_source_named_tree.specs.Said.{property_said, value_said}
+use Rattle.dt_source_named_tree.specs.declared.named.NamedProperty.{NamedProperty}
 use Rattle.dt_phandle.specs.Asking.{asked_said, keyed_too, is_in_value, is_in_properties}
 use Rattle.dt_phandle.proofs.Asking.{next_item, several_turn, keyed_none}
 use Rattle.dt_phandle.proofs.asked.key_properties.Goals as goal

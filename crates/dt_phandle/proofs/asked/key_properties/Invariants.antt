@@ -3,7 +3,7 @@ use Rattle.std.proofs.Common.{◌≡◌, length, map, drop}
 use Rattle.std.specs.List.{AllByRecursion}
 use Rattle.dt_model.specs.NamedOf.{IsBelow}
 use Rattle.dt_model.specs.Meaning.{EachReference}
-use Rattle.dt_named.specs.Said.{property_said}
+use Rattle.dt_source_named_tree.specs.Said.{property_said}
 use Rattle.dt_phandle.specs.Asking.{asked_said, keyed_too, is_in_properties}
 use Rattle.dt_phandle.proofs.asked.key_properties.Given as goal
 

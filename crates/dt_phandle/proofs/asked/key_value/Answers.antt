@@ -2,8 +2,8 @@ use Rattle.std.proofs.Common.{◌≡◌, ◌∷◌, ◌+◌, ◌<◌, ◌≤◌,
 use Rattle.dt_model.specs.Meaning.{Item, byte, reference, EachReference}
 use Rattle.dt_model.specs.Named.{NodeReference}
 use Rattle.dt_model.specs.NamedOf.{IsBelow}
-use Rattle.dt_named.specs.Said.{reference_said, pieces_said, value_said}
-use Rattle.dt_named.specs.declared.named.NamedPiece.{NamedPiece}
+use Rattle.dt_source_named_tree.specs.Said.{reference_said, pieces_said, value_said}
+use Rattle.dt_source_named_tree.specs.declared.named.NamedPiece.{NamedPiece}
 use Rattle.dt_phandle.specs.Asking.{asked_said, keyed_too, is_to, is_in_value}
 use Rattle.dt_phandle.proofs.Asking.{next_item, piece_next, each_behind, in_value_behind, several_turn, value_over}
 use Rattle.dt_phandle.proofs.asked.key_value.Goals as goal

@@ -2,7 +2,7 @@
 use Rattle.std.proofs.Common.{◌≡◌, ◌++◌, length, map, drop}
 use Rattle.dt_model.specs.NamedOf.{IsBelow}
 use Rattle.dt_model.specs.Meaning.{byte, EachReference}
-use Rattle.dt_named.specs.Said.{pieces_said, value_said}
+use Rattle.dt_source_named_tree.specs.Said.{pieces_said, value_said}
 use Rattle.dt_phandle.specs.Asking.{asked_said, keyed_too, is_in_value}
 use Rattle.dt_phandle.proofs.asked.key_value.Given as goal
 

@@ -1,7 +1,7 @@
 -- The property is among those that are left.
 use Rattle.std.proofs.Common.{◌≡◌, map, drop, codes}
 use Rattle.dt_model.specs.Named.{value_of}
-use Rattle.dt_named.specs.Said.{property_said}
+use Rattle.dt_source_named_tree.specs.Said.{property_said}
 use Rattle.dt_phandle.proofs.asked.phandle_value.Given as goal
 
 abbrev pub invariant-loop-property : goal.invariant-loop-property

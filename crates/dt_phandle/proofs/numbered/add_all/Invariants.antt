@@ -1,6 +1,6 @@
 -- The nodes that are left make what all make.
 use Rattle.std.proofs.Common.{◌≡◌, map, drop}
-use Rattle.dt_named.specs.Said.{node_said}
+use Rattle.dt_source_named_tree.specs.Said.{node_said}
 use Rattle.dt_phandle.specs.Growth.{grown, MayGrow}
 use Rattle.dt_phandle.proofs.numbered.add_all.Given as goal
 

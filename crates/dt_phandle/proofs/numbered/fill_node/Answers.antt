@@ -2,8 +2,8 @@ use Rattle.std.proofs.Common.{List, map, sym, ap, ◌∙◌, subst}
 use Rattle.std.proofs.lemmas.Result.{on_ok_weaker}
 use Rattle.dt_model.specs.Instance.{number_at, numbered, phandle_of}
 use Rattle.dt_model.specs.Tree.{Property}
-use Rattle.dt_named.specs.Said.{property_said}
-use Rattle.dt_named.specs.declared.named.NamedProperty.{NamedProperty}
+use Rattle.dt_source_named_tree.specs.Said.{property_said}
+use Rattle.dt_source_named_tree.specs.declared.named.NamedProperty.{NamedProperty}
 use Rattle.dt_flat.specs.Arena.{Arena, Slot}
 use Rattle.dt_flat.specs.Planted.{with_properties}
 use Rattle.dt_flat.proofs.ManyProperties.{properties-append}

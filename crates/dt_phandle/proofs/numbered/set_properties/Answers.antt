@@ -1,8 +1,8 @@
 use Rattle.std.proofs.Common.{◌+◌, List, map, drop, arith, sym, ap, ◌∙◌, subst}
 use Rattle.dt_model.specs.Instance.{numbered}
 use Rattle.dt_model.specs.Tree.{Property}
-use Rattle.dt_named.specs.Said.{property_said}
-use Rattle.dt_named.specs.declared.named.NamedProperty.{NamedProperty}
+use Rattle.dt_source_named_tree.specs.Said.{property_said}
+use Rattle.dt_source_named_tree.specs.declared.named.NamedProperty.{NamedProperty}
 use Rattle.dt_flat.specs.Planted.{with_properties}
 use Rattle.dt_phandle.specs.Growth.{MayHave}
 use Rattle.dt_phandle.proofs.Asking.{next_item}

@@ -1,7 +1,7 @@
 -- The properties that are left give the node all.
 use Rattle.std.proofs.Common.{◌≡◌, map, drop}
 use Rattle.dt_model.specs.Instance.{numbered}
-use Rattle.dt_named.specs.Said.{property_said}
+use Rattle.dt_source_named_tree.specs.Said.{property_said}
 use Rattle.dt_flat.specs.Planted.{with_properties}
 use Rattle.dt_phandle.specs.Growth.{MayHave}
 use Rattle.dt_phandle.proofs.numbered.set_properties.Given as goal

@@ -2,8 +2,8 @@ use Rattle.std.proofs.Common.{◌≡◌, ℕ, ◌+◌, ◌<◌, ◌≤◌, List,
 use Rattle.dt_model.specs.Instance.{number_for}
 use Rattle.dt_model.specs.Meaning.{byte, cell, value_bytes}
 use Rattle.dt_model.specs.Named.{NodeReference}
-use Rattle.dt_named.specs.Said.{reference_said, pieces_said, value_said}
-use Rattle.dt_named.specs.declared.named.NamedPiece.{NamedPiece}
+use Rattle.dt_source_named_tree.specs.Said.{reference_said, pieces_said, value_said}
+use Rattle.dt_source_named_tree.specs.declared.named.NamedPiece.{NamedPiece}
 use Rattle.dt_phandle.proofs.Asking.{next_item, piece_next}
 use Rattle.dt_phandle.proofs.Cells.{piece_written, last_written}
 use Rattle.dt_phandle.proofs.numbered.write_value.Goals as goal

@@ -2,7 +2,7 @@
 use Rattle.std.proofs.Common.{◌≡◌, ◌++◌, map, drop}
 use Rattle.dt_model.specs.Instance.{number_for}
 use Rattle.dt_model.specs.Meaning.{byte, value_bytes}
-use Rattle.dt_named.specs.Said.{pieces_said, value_said}
+use Rattle.dt_source_named_tree.specs.Said.{pieces_said, value_said}
 use Rattle.dt_phandle.proofs.numbered.write_value.Given as goal
 
 abbrev pub invariant-loop-piece : goal.invariant-loop-piece

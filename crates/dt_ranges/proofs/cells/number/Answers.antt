@@ -1,6 +1,6 @@
 use Rattle.std.proofs.Common.{ℕ, ◌+◌, ◌*◌, ◌^◌, ◌≤◌, ◌<◌, drop, ap, sym, ◌∙◌, arith}
-use Rattle.dt_worlds.specs.World.{quads_of}
-use Rattle.dt_worlds.specs.Regions.{joined_to}
+use Rattle.dt_resolve_model.specs.World.{quads_of}
+use Rattle.dt_resolve_model.specs.Regions.{joined_to}
 use Rattle.dt_ranges.proofs.RangesMap.{more_low}
 use Rattle.dt_ranges.proofs.cells.number.Goals as goal
 

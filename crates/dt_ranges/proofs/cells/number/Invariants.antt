@@ -1,6 +1,6 @@
 use Rattle.std.proofs.Common.{◌≡◌, ◌*◌, ◌^◌, ◌<◌, drop}
-use Rattle.dt_worlds.specs.World.{quads_of}
-use Rattle.dt_worlds.specs.Regions.{joined, joined_to}
+use Rattle.dt_resolve_model.specs.World.{quads_of}
+use Rattle.dt_resolve_model.specs.Regions.{joined, joined_to}
 use Rattle.dt_ranges.proofs.cells.number.Given as goal
 
 -- the number so far, joined to the cells that are left, is the number of all

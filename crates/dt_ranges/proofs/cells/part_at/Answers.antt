@@ -1,7 +1,7 @@
 use Rattle.std.proofs.Common.{◌≡◌, ℕ, ◌+◌, ◌*◌, ◌-◌, take, drop, ap, sym, ◌∙◌, arith}
-use Rattle.dt_worlds.specs.World.{quads_of}
-use Rattle.dt_worlds.specs.Regions.{joined}
-use Rattle.dt_worlds.proofs.QuadsOfBytes.{quads_drop, quads_take}
+use Rattle.dt_resolve_model.specs.World.{quads_of}
+use Rattle.dt_resolve_model.specs.Regions.{joined}
+use Rattle.dt_resolve_model.proofs.QuadsOfBytes.{quads_drop, quads_take}
 use Rattle.dt_ranges.proofs.cells.part_at.Goals as goal
 
 pub returns : goal.returns

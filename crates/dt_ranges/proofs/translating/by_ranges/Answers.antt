@@ -1,9 +1,9 @@
 use Rattle.std.proofs.Common.{◌≡◌, ℕ, suc, ◌+◌, ◌-◌, ◌*◌, Bool, ◌&&◌, false, List, length, drop, refl, ap, sym, ◌∙◌, arith}
 use Rattle.std.specs.Prelude.{nat_le, nat_lt}
 use Rattle.std.proofs.lemmas.List.{length-drop}
-use Rattle.dt_worlds.specs.World.{Quad, quads_of}
-use Rattle.dt_worlds.specs.Regions.{entries, mapped_by, fitting, fitted}
-use Rattle.dt_worlds.proofs.QuadsOfBytes.{quads_drop}
+use Rattle.dt_resolve_model.specs.World.{Quad, quads_of}
+use Rattle.dt_resolve_model.specs.Regions.{entries, mapped_by, fitting, fitted}
+use Rattle.dt_resolve_model.proofs.QuadsOfBytes.{quads_drop}
 use Rattle.dt_ranges.proofs.RangesMap.{mapped_here, mapped_later, is_held, is_past, is_before, entry_left}
 use Rattle.dt_ranges.proofs.translating.by_ranges.Goals as goal
 use Rattle.dt_ranges.proofs.translating.by_ranges.Goals.{else-begin-at-via-then-begin-at+else-at-begin, else-begin-at-via-else-begin-at}

@@ -1,6 +1,6 @@
 use Rattle.std.proofs.Common.{◌≡◌, ◌+◌, ◌*◌, ◌-◌, length}
-use Rattle.dt_worlds.specs.World.{quads_of}
-use Rattle.dt_worlds.specs.Regions.{entries, mapped_by}
+use Rattle.dt_resolve_model.specs.World.{quads_of}
+use Rattle.dt_resolve_model.specs.Regions.{entries, mapped_by}
 use Rattle.dt_ranges.proofs.translating.by_ranges.Given as goal
 
 -- mapping by the ranges that are left is mapping by all

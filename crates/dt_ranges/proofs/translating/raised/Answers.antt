@@ -1,5 +1,5 @@
 use Rattle.dt_names.specs.declared.fault.FaultKind.TheVariants.{Overflow}
-use Rattle.dt_worlds.proofs.Told.{refuses}
+use Rattle.dt_resolve_model.proofs.Told.{refuses}
 use Rattle.std.proofs.Common.{◌∙◌, ◌+◌, sym, arith}
 use Rattle.dt_ranges.proofs.RangesMap.{too_far}
 use Rattle.dt_ranges.proofs.translating.raised.Goals as goal

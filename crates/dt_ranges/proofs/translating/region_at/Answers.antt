@@ -1,10 +1,10 @@
 use Rattle.dt_read.specs.Placed.{path_at, reading_of}
 use Rattle.std.proofs.Common.{◌≡◌, [], sym, ap, ◌∙◌}
-use Rattle.dt_worlds.specs.declared.regions.BusAddress.{BusAddress}
-use Rattle.dt_worlds.specs.Answers.{Answer, refused, answer, ◌>>=◌}
-use Rattle.dt_worlds.specs.World.{tree_world}
-use Rattle.dt_worlds.specs.Regions.{risen, translated, finished, region_at}
-use Rattle.dt_worlds.proofs.Told.{told_fault}
+use Rattle.dt_resolve_model.specs.declared.regions.BusAddress.{BusAddress}
+use Rattle.dt_resolve_model.specs.Answers.{Answer, refused, answer, ◌>>=◌}
+use Rattle.dt_resolve_model.specs.World.{tree_world}
+use Rattle.dt_resolve_model.specs.Regions.{risen, translated, finished, region_at}
+use Rattle.dt_resolve_model.proofs.Told.{told_fault}
 use Rattle.dt_ranges.proofs.Rising.{risen_once, front_shorter}
 use Rattle.dt_ranges.proofs.translating.region_at.Goals as goal
 

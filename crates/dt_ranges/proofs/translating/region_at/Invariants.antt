@@ -1,7 +1,7 @@
 use Rattle.dt_read.specs.Placed.{path_at, reading_of, IsNode}
 use Rattle.std.proofs.Common.{◌≡◌, length, []}
-use Rattle.dt_worlds.specs.World.{tree_world}
-use Rattle.dt_worlds.specs.Regions.{finished, translated, region_at}
+use Rattle.dt_resolve_model.specs.World.{tree_world}
+use Rattle.dt_resolve_model.specs.Regions.{finished, translated, region_at}
 use Rattle.dt_ranges.proofs.translating.region_at.Given as goal
 
 -- going on from here gives the region of the bus at which it began

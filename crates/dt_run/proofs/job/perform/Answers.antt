@@ -1,14 +1,14 @@
 use Rattle.std.proofs.Common.{◌≡◌, ◌≤◌, ◌-◌, ℕ, List, ◌∷◌, [], length, map, take, drop, get_or, refl, subst, arith, Bor}
 use Rattle.dt_names.specs.Sink.{Takes}
 use Rattle.dt_names.specs.declared.fault.Fault.{Fault}
-use Rattle.dt_worlds.specs.Answers.{answer}
-use Rattle.dt_lines.specs.Asked.{IsAnswer, WhyUnanswered}
+use Rattle.dt_resolve_model.specs.Answers.{answer}
+use Rattle.dt_resolve_lines.specs.Asked.{IsAnswer, WhyUnanswered}
 use Rattle.dt_run.specs.Job.{IsListed, IsWritten, WhyNotMade, WhyNotPerformed}
-use Rattle.dt_streams.specs.Told.{IsCounted, IsPrinted}
-use Rattle.dt_words.specs.Asked.{IsAsked}
-use Rattle.dt_words.specs.declared.command_line.Job.{Job}
-use Rattle.dt_words.specs.declared.command_line.Job.TheVariants.{Compile, CompileRaw, Apply, Build, Print, Check, Regs, Irqs, Dma, Spec}
-use Rattle.dt_lines.specs.declared.listing.Listing.TheVariants.{Regions, Routes}
+use Rattle.dt_run_streams.specs.Told.{IsCounted, IsPrinted}
+use Rattle.dt_run_words.specs.Asked.{IsAsked}
+use Rattle.dt_run_words.specs.declared.command_line.Job.{Job}
+use Rattle.dt_run_words.specs.declared.command_line.Job.TheVariants.{Compile, CompileRaw, Apply, Build, Print, Check, Regs, Irqs, Dma, Spec}
+use Rattle.dt_resolve_lines.specs.declared.listing.Listing.TheVariants.{Regions, Routes}
 use Rattle.dt_run.proofs.Performing.{answered, applied, blob_refused, blob_written, built, compiled, compiled_raw, first_and_others, first_done, first_refused, lines_written, not_applied, not_asked, not_built, not_compiled, not_compiled_raw, not_listed, not_told, only_first}
 use Rattle.std.proofs.lemmas.Result.{IfErr-weaker}
 use Rattle.dt_run.proofs.job.perform.Goals as goal

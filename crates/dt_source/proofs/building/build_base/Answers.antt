@@ -8,9 +8,9 @@ use Rattle.dt_model.specs.NamedOf.{IsNamedOf}
 use Rattle.dt_model.specs.Source.{Place}
 use Rattle.dt_source.specs.Building.{AreNodesOf, MayBeWhole}
 use Rattle.dt_source.specs.Meant.{HasTree}
-use Rattle.dt_bodies.specs.Refusals.{mode_said}
+use Rattle.dt_source_bodies.specs.Refusals.{mode_said}
 use Rattle.dt_source.specs.Refusals.{WhyNotNamed, fault_place}
-use Rattle.dt_named.specs.Said.{IsTree, list_said, node_said}
+use Rattle.dt_source_named_tree.specs.Said.{IsTree, list_said, node_said}
 use Rattle.dt_source.proofs.BuiltTrees.{tree_means, may_be_whole, many_are_refused, too_many_named, answered_result, refused_result}
 use Rattle.dt_source.proofs.building.build_base.Goals as goal
 

@@ -1,12 +1,12 @@
 use Rattle.std.proofs.Common.{◌<◌, length, map, arith}
 use Rattle.std.proofs.lemmas.List.{length-map}
 use Rattle.std.proofs.lemmas.Result.{err_from_is_err_and}
-use Rattle.dt_items.specs.Said.{place_said}
+use Rattle.dt_source_items.specs.Said.{place_said}
 use Rattle.dt_source.specs.Building.{AreNodesOf}
-use Rattle.dt_naming.specs.Nodes.{AreListed, IsUnlisted}
-use Rattle.dt_bodies.specs.Refusals.{mode_said}
+use Rattle.dt_source_nodes.specs.Nodes.{AreListed, IsUnlisted}
+use Rattle.dt_source_bodies.specs.Refusals.{mode_said}
 use Rattle.dt_source.specs.Refusals.{WhyNotRead}
-use Rattle.dt_named.specs.Said.{node_said}
+use Rattle.dt_source_named_tree.specs.Said.{node_said}
 use Rattle.dt_source.proofs.BuiltTrees.{grown_refused, late_refused, either}
 use Rattle.dt_source.proofs.building.nodes_of.Goals as goal
 

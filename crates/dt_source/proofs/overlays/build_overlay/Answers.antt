@@ -6,16 +6,16 @@ use Rattle.dt_model.specs.Named.{tree_of}
 use Rattle.dt_model.specs.NamedOverlay.{IsNamedOverlayOf}
 use Rattle.dt_model.specs.Refused.{too_many}
 use Rattle.dt_model.specs.Source.{Place}
-use Rattle.dt_laws.specs.OverlayChecks.{AreBehind, AreChecked}
+use Rattle.dt_model_laws.specs.OverlayChecks.{AreBehind, AreChecked}
 use Rattle.dt_names.specs.declared.fault.Fault.{Fault}
 use Rattle.dt_names.specs.declared.fault.FaultKind.TheVariants.{Limit}
-use Rattle.dt_items.specs.Said.{reservation_said}
-use Rattle.dt_fragments.specs.Fragments.{IsUnchecked, fragment_said}
+use Rattle.dt_source_items.specs.Said.{reservation_said}
+use Rattle.dt_source_fragments.specs.Fragments.{IsUnchecked, fragment_said}
 use Rattle.dt_source.specs.Fragments.{AreOverlayNodes}
 use Rattle.dt_source.specs.Meant.{ListedOverlay}
 use Rattle.dt_source.specs.Refusals.{WhyNoOverlay, WhyNoOverlayRead, fault_place}
-use Rattle.dt_named.specs.Said.{IsTree, list_said, node_said}
-use Rattle.dt_named.specs.declared.named.NamedNode.{NamedNode}
+use Rattle.dt_source_named_tree.specs.Said.{IsTree, list_said, node_said}
+use Rattle.dt_source_named_tree.specs.declared.named.NamedNode.{NamedNode}
 use Rattle.dt_source.proofs.BuiltOverlays.{are_behind, overlay_means, overlay_may_be_whole, too_many_stand, late_overlay_refused, no_overlay_read, none_reserved}
 use Rattle.dt_source.proofs.BuiltTrees.{answered_result, refused_result}
 use Rattle.dt_source.proofs.overlays.build_overlay.Goals as goal

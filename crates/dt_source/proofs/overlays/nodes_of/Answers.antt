@@ -1,10 +1,10 @@
 use Rattle.std.proofs.Common.{inl, inr, map}
 use Rattle.std.proofs.lemmas.Result.{err_from_is_err_and}
-use Rattle.dt_items.specs.Said.{place_said}
+use Rattle.dt_source_items.specs.Said.{place_said}
 use Rattle.dt_source.specs.Fragments.{AreOverlayNodes}
-use Rattle.dt_naming.specs.Nodes.{AreKept, IsUnkept}
+use Rattle.dt_source_nodes.specs.Nodes.{AreKept, IsUnkept}
 use Rattle.dt_source.specs.Refusals.{WhyNoOverlayRead}
-use Rattle.dt_named.specs.Said.{node_said}
+use Rattle.dt_source_named_tree.specs.Said.{node_said}
 use Rattle.dt_source.proofs.BuiltOverlays.{are_labelled, none_unread, nodes_after, overlay_grown_refused}
 use Rattle.dt_source.proofs.BuiltTrees.{either}
 use Rattle.dt_source.proofs.overlays.nodes_of.Goals as goal

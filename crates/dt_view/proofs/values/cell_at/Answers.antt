@@ -1,6 +1,6 @@
 use Rattle.std.proofs.Common.{◌≡◌, ◌+◌, ◌*◌, ◌∷◌, ◌≤◌, length, drop, sym, ap, ◌∙◌, arith}
-use Rattle.dt_worlds.specs.World.{figure, quads_of}
-use Rattle.dt_worlds.proofs.QuadsOfBytes.{next_cell, quads_drop}
+use Rattle.dt_resolve_model.specs.World.{figure, quads_of}
+use Rattle.dt_resolve_model.proofs.QuadsOfBytes.{next_cell, quads_drop}
 use Rattle.dt_view.proofs.values.cell_at.Goals as goal
 
 pub returns : goal.returns

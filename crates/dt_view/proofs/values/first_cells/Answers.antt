@@ -1,4 +1,4 @@
-use Rattle.dt_worlds.proofs.QuadsOfBytes.{quads_take}
+use Rattle.dt_resolve_model.proofs.QuadsOfBytes.{quads_take}
 use Rattle.dt_view.proofs.values.first_cells.Goals as goal
 
 pub returns-clause-cells : goal.returns-clause-cells

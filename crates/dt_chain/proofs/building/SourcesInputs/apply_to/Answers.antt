@@ -2,8 +2,8 @@ use Rattle.std.proofs.Common.{sym, subst}
 use Rattle.std.proofs.lemmas.Result.{err_from_is_err_and, on_ok_weaker}
 use Rattle.dt_names.specs.declared.fault.Fault.{Fault}
 use Rattle.dt_flat.specs.Arena.{reading}
-use Rattle.dt_promises.specs.Apply.{IsRead, IsNoBlob, WhyNoStep, no_object}
-use Rattle.dt_promises.specs.Build.{HasObject, WhyNoObject}
+use Rattle.dt_chain_promises.specs.Apply.{IsRead, IsNoBlob, WhyNoStep, no_object}
+use Rattle.dt_chain_promises.specs.Build.{HasObject, WhyNoObject}
 use Rattle.dt_chain.proofs.Stages.{if_err}
 use Rattle.dt_chain.proofs.OverlayStages.{HasObjectBlob}
 use Rattle.dt_chain.proofs.Objects.{of_text, not_of_text}

@@ -1,7 +1,7 @@
 use Rattle.std.proofs.Common.{inr, sym, subst}
 use Rattle.std.proofs.lemmas.Result.{err_from_is_err_and}
 use Rattle.dt_grammar.specs.Parsed.{IsParsed}
-use Rattle.dt_promises.specs.Compile.{unparsed}
+use Rattle.dt_chain_promises.specs.Compile.{unparsed}
 use Rattle.dt_chain.proofs.building.SourcesInputs.base_tree.Goals as goal
 
 pub returns-in_err-source-clause-refused : goal.returns-in_err-source-clause-refused

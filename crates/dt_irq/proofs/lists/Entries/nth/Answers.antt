@@ -1,9 +1,9 @@
 use Rattle.std.proofs.Common.{◌+◌, sym, subst}
 use Rattle.dt_names.specs.declared.fault.FaultKind.TheVariants.{NoInterrupts}
 use Rattle.dt_read.specs.Placed.{reading_of}
-use Rattle.dt_worlds.specs.World.{tree_world}
-use Rattle.dt_worlds.specs.Interrupts.{IsSent}
-use Rattle.dt_worlds.proofs.Told.{refuses}
+use Rattle.dt_resolve_model.specs.World.{tree_world}
+use Rattle.dt_resolve_model.specs.Interrupts.{IsSent}
+use Rattle.dt_resolve_model.proofs.Told.{refuses}
 use Rattle.dt_irq.specs.Left.{AreSentFrom}
 use Rattle.dt_irq.proofs.lists.Entries.nth.Goals as goal
 

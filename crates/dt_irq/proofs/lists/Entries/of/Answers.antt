@@ -1,10 +1,10 @@
 use Rattle.std.proofs.Common.{sym, subst, refl}
 use Rattle.dt_read.specs.Placed.{path_at, reading_of, IsNode}
-use Rattle.dt_worlds.specs.Answers.{answer, refused}
-use Rattle.dt_worlds.specs.World.{tree_world}
-use Rattle.dt_worlds.specs.Interrupts.{IsInterruptParent}
+use Rattle.dt_resolve_model.specs.Answers.{answer, refused}
+use Rattle.dt_resolve_model.specs.World.{tree_world}
+use Rattle.dt_resolve_model.specs.Interrupts.{IsInterruptParent}
 use Rattle.dt_irq.proofs.Senders.{sent_to_parent, sent_from}
-use Rattle.dt_worlds.proofs.Told.{if_fault}
+use Rattle.dt_resolve_model.proofs.Told.{if_fault}
 use Rattle.dt_irq.proofs.lists.Entries.of.Goals as goal
 
 pub returns-in_err-parent-clause-refused : goal.returns-in_err-parent-clause-refused

@@ -1,11 +1,11 @@
 use Rattle.std.proofs.Common.{◌-◌, ◌*◌, length, refl, ap, ◌∙◌, arith}
 use Rattle.std.proofs.lemmas.List.{length-drop}
 use Rattle.dt_read.specs.Placed.{reading_of}
-use Rattle.dt_worlds.specs.World.{tree_world}
+use Rattle.dt_resolve_model.specs.World.{tree_world}
 use Rattle.dt_names.specs.declared.fault.FaultKind.TheVariants.{NoInterrupts}
-use Rattle.dt_worlds.specs.Answers.{answer, refuse}
+use Rattle.dt_resolve_model.specs.Answers.{answer, refuse}
 use Rattle.dt_irq.specs.Seen.{sent_in}
-use Rattle.dt_worlds.proofs.Entries.{one_entry}
+use Rattle.dt_resolve_model.proofs.Entries.{one_entry}
 use Rattle.dt_irq.proofs.Lefts.{at_once, listed_later}
 use Rattle.dt_irq.proofs.lists.Listed.next.Goals as goal
 

@@ -1,9 +1,9 @@
 use Rattle.std.proofs.Common.{refl, subst}
 use Rattle.dt_names.specs.declared.fault.FaultKind.TheVariants.{NoInterrupts}
 use Rattle.dt_read.specs.Placed.{reading_of}
-use Rattle.dt_worlds.specs.Answers.{refuse, refused, told_as}
-use Rattle.dt_worlds.specs.World.{quads_of, tree_world}
-use Rattle.dt_worlds.specs.Interrupts.{IsSent}
+use Rattle.dt_resolve_model.specs.Answers.{refuse, refused, told_as}
+use Rattle.dt_resolve_model.specs.World.{quads_of, tree_world}
+use Rattle.dt_resolve_model.specs.Interrupts.{IsSent}
 use Rattle.dt_irq.specs.Seen.{sent_in}
 use Rattle.dt_irq.proofs.Senders.{route_by}
 use Rattle.dt_irq.proofs.routing.Routes.next.Goals as goal

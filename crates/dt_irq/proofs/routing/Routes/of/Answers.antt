@@ -1,6 +1,6 @@
 use Rattle.std.proofs.Common.{refl}
-use Rattle.dt_worlds.specs.Answers.{refused}
-use Rattle.dt_worlds.proofs.Told.{if_fault}
+use Rattle.dt_resolve_model.specs.Answers.{refused}
+use Rattle.dt_resolve_model.proofs.Told.{if_fault}
 use Rattle.dt_irq.proofs.routing.Routes.of.Goals as goal
 
 pub returns-in_err-entries-clause-refused : goal.returns-in_err-entries-clause-refused

@@ -6,17 +6,17 @@ use Rattle.std.proofs.lemmas.Result.{err_from_is_err_and}
 use Rattle.dt_model.specs.Object.{fragment_names}
 use Rattle.dt_model.specs.Tree.{Reading}
 use Rattle.dt_flat.specs.Arena.{reading}
-use Rattle.dt_joining.specs.Walk.{nothing_walked, new_numbers}
-use Rattle.dt_landing.specs.Landings.{HasNoSite}
+use Rattle.dt_overlay_model.specs.Walk.{nothing_walked, new_numbers}
+use Rattle.dt_overlay_laws.specs.Landings.{HasNoSite}
 use Rattle.dt_names.specs.declared.fault.FaultKind.TheVariants.{NoMemory}
 use Rattle.dt_overlay.specs.Applying.{IsReadFor, IsSitedFor, seen_with}
 use Rattle.dt_overlay.proofs.ReadObjects.{marks_are, seen_numbered, writes_within}
 use Rattle.dt_overlay.proofs.SeenObjects.{seen_here}
 use Rattle.dt_overlay.proofs.Told.{on_ok}
-use Rattle.dt_parts.specs.declared.kept.Write.{Write}
-use Rattle.dt_sites.specs.Marks.{with_own}
-use Rattle.dt_sites.specs.declared.marks.TargetMark.TheVariants.{Bare}
-use Rattle.dt_sites.proofs.MarksMade.{length-with_own, length-with_labels}
+use Rattle.dt_overlay_object.specs.declared.kept.Write.{Write}
+use Rattle.dt_overlay_landing.specs.Marks.{with_own}
+use Rattle.dt_overlay_landing.specs.declared.marks.TargetMark.TheVariants.{Bare}
+use Rattle.dt_overlay_landing.proofs.MarksMade.{length-with_own, length-with_labels}
 use Rattle.dt_overlay.proofs.object.Object.find_sites.Goals as goal
 
 pub target_marks-requires-clause-own : goal.target_marks-requires-clause-own

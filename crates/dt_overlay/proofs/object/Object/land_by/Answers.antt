@@ -3,10 +3,10 @@ use Rattle.dt_flat.specs.Arena.{Slot}
 use Rattle.dt_overlay.proofs.SeenObjects.{own_writable, labels_writable, nodes_there, these_landed, these_may_land, these_told}
 use Rattle.dt_overlay.proofs.ValuesSaid.{none_said, own_said, all_said}
 use Rattle.dt_overlay.proofs.Told.{on_ok, if_err}
-use Rattle.dt_parts.specs.declared.kept.Write.{Write}
-use Rattle.dt_sites.specs.Values.{with_values}
-use Rattle.dt_sites.specs.Writing.{AreWritable, with_writes}
-use Rattle.dt_targets.specs.Targets.{HasNoRoom}
+use Rattle.dt_overlay_object.specs.declared.kept.Write.{Write}
+use Rattle.dt_overlay_landing.specs.Values.{with_values}
+use Rattle.dt_overlay_landing.specs.Writing.{AreWritable, with_writes}
+use Rattle.dt_overlay_base.specs.Targets.{HasNoRoom}
 use Rattle.dt_overlay.proofs.object.Object.land_by.Goals as goal
 
 pub write_all-requires : goal.write_all-requires

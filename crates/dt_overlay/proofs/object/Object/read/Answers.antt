@@ -4,10 +4,10 @@ use Rattle.dt_model.specs.Object.{fragment_names}
 use Rattle.dt_flat.specs.Arena.{reading}
 use Rattle.dt_overlay.proofs.ReadObjects.{read_for}
 use Rattle.dt_overlay.proofs.Told.{on_ok, if_err, all_held, label_told, local_told, symbol_told}
-use Rattle.dt_parts.specs.Plans.{ListsFixups, ListsLocalFixups, ListsSymbols}
-use Rattle.dt_parts.specs.declared.kept.Symbol.{Symbol}
-use Rattle.dt_parts.specs.declared.kept.Write.{Write}
-use Rattle.dt_targets.specs.Targets.{HasNoRoom}
+use Rattle.dt_overlay_object.specs.Plans.{ListsFixups, ListsLocalFixups, ListsSymbols}
+use Rattle.dt_overlay_object.specs.declared.kept.Symbol.{Symbol}
+use Rattle.dt_overlay_object.specs.declared.kept.Write.{Write}
+use Rattle.dt_overlay_base.specs.Targets.{HasNoRoom}
 use Rattle.dt_overlay.proofs.object.Object.read.Goals as goal
 
 pub returns-in_err-list_fixups-clause-refused : goal.returns-in_err-list_fixups-clause-refused

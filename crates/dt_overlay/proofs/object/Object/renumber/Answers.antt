@@ -1,7 +1,7 @@
 use Rattle.std.proofs.Common.{◌≡◌, subst}
 use Rattle.std.specs.Prelude.{map}
 use Rattle.dt_model.specs.Tree.{Reading}
-use Rattle.dt_parts.specs.Plans.{renumbered}
+use Rattle.dt_overlay_object.specs.Plans.{renumbered}
 use Rattle.dt_overlay.proofs.ReadObjects.{seen_renumbered}
 use Rattle.dt_overlay.proofs.SeenObjects.{seen_here}
 use Rattle.dt_overlay.proofs.object.Object.renumber.Goals as goal

@@ -3,10 +3,10 @@ use Rattle.std.specs.Prelude.{OnOk, IfErr}
 use Rattle.dt_model.specs.Applied.{landed_symbols, with_symbols_merged}
 use Rattle.dt_model.specs.Tree.{Reading}
 use Rattle.dt_flat.specs.Arena.{reading}
-use Rattle.dt_landing.specs.Objects.{symbols_in}
-use Rattle.dt_landing.specs.Steps.{FullAtSymbols}
+use Rattle.dt_overlay_laws.specs.Objects.{symbols_in}
+use Rattle.dt_overlay_laws.specs.Steps.{FullAtSymbols}
 use Rattle.dt_overlay.proofs.SeenObjects.{to_land}
-use Rattle.dt_targets.specs.Targets.{HasNoRoom, IsWant}
+use Rattle.dt_overlay_base.specs.Targets.{HasNoRoom, IsWant}
 use Rattle.dt_overlay.proofs.object.Object.set_symbols.Goals as goal
 
 pub set_symbols-requires-clause-land : goal.set_symbols-requires-clause-land

@@ -1,9 +1,9 @@
 use Rattle.std.proofs.Common.{◌≡◌, ◌+◌, ◌-◌, ◌*◌, length, refl, ap, ◌∙◌, arith}
 use Rattle.std.proofs.lemmas.List.{length-drop}
 use Rattle.dt_read.specs.Placed.{reading_of}
-use Rattle.dt_worlds.specs.World.{tree_world}
-use Rattle.dt_worlds.specs.Regions.{region}
-use Rattle.dt_worlds.proofs.Entries.{one_entry}
+use Rattle.dt_resolve_model.specs.World.{tree_world}
+use Rattle.dt_resolve_model.specs.Regions.{region}
+use Rattle.dt_resolve_model.proofs.Entries.{one_entry}
 use Rattle.dt_ranges.proofs.Listed.{left_behind}
 use Rattle.dt_ranges.proofs.listing.Regions.next.Goals as goal
 

@@ -1,6 +1,6 @@
 use Rattle.std.proofs.Common.{arith}
 use Rattle.dt_read.specs.Placed.{path_at, reading_of}
-use Rattle.dt_worlds.proofs.Told.{if_fault}
+use Rattle.dt_resolve_model.proofs.Told.{if_fault}
 use Rattle.dt_ranges.proofs.Listed.{region_refused, listed_left}
 use Rattle.dt_ranges.proofs.listing.Regions.of.Goals as goal
 

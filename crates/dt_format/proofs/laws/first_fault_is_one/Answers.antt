@@ -1,5 +1,0 @@
-use Rattle.dt_format.proofs.FirstFaults.{one_first_fault}
-use Rattle.dt_format.proofs.laws.first_fault_is_one.Goals as goal
-
-pub returns : goal.returns
-returns c = one_first_fault

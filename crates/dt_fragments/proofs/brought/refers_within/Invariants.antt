@@ -1,9 +1,0 @@
--- What is left decides as the whole value does.
-use Rattle.std.proofs.Common.{◌≡◌, ◌++◌, map, drop}
-use Rattle.dt_model.specs.Meaning.{byte}
-use Rattle.dt_laws.specs.OverlayChecks as checks
-use Rattle.dt_named.specs.Said.{pieces_said, value_said}
-use Rattle.dt_fragments.proofs.brought.refers_within.Given as goal
-
-abbrev pub invariant-loop-piece : goal.invariant-loop-piece
-invariant-loop-piece l = checks.refers_within l.marks (pieces_said (drop l.piece-index l.value.pieces.items) ++ map byte l.value.bytes.items) ≡ checks.refers_within l.marks (value_said l.value)

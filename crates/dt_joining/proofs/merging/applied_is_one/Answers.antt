@@ -1,5 +1,0 @@
-use Rattle.dt_joining.proofs.Folding.{applied_is_one}
-use Rattle.dt_joining.proofs.merging.applied_is_one.Goals as goal
-
-pub returns : goal.returns
-returns c = applied_is_one

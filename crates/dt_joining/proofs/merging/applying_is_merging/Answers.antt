@@ -1,5 +1,0 @@
-use Rattle.dt_joining.proofs.Exactly.{applying_is_merging}
-use Rattle.dt_joining.proofs.merging.applying_is_merging.Goals as goal
-
-pub returns : goal.returns
-returns c = applying_is_merging

@@ -1,5 +1,0 @@
-use Rattle.dt_joining.proofs.Folding.{fold_is_in_turn}
-use Rattle.dt_joining.proofs.merging.fold_is_in_turn.Goals as goal
-
-pub returns : goal.returns
-returns c = fold_is_in_turn

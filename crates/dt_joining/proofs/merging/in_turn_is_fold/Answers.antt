@@ -1,5 +1,0 @@
-use Rattle.dt_joining.proofs.Folding.{in_turn_is_fold}
-use Rattle.dt_joining.proofs.merging.in_turn_is_fold.Goals as goal
-
-pub returns : goal.returns
-returns c = in_turn_is_fold

@@ -1,5 +1,0 @@
-use Rattle.dt_landing.proofs.MayLand.{allowed_may_land}
-use Rattle.dt_landing.proofs.landing.allowed_may_land.Goals as goal
-
-pub returns : goal.returns
-returns c = allowed_may_land

@@ -1,5 +1,0 @@
-use Rattle.dt_landing.proofs.LandedNodes.{fragments_are_merged}
-use Rattle.dt_landing.proofs.landing.fragments_are_merged.Goals as goal
-
-pub returns : goal.returns
-returns c = fragments_are_merged

@@ -1,5 +1,0 @@
-use Rattle.dt_landing.proofs.LandedNodes.{landing_is_merging}
-use Rattle.dt_landing.proofs.landing.landing_is_merging.Goals as goal
-
-pub returns : goal.returns
-returns c = landing_is_merging

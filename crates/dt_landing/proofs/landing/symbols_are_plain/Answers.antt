@@ -1,5 +1,0 @@
-use Rattle.dt_landing.proofs.PlainSymbols.{symbols_are_plain}
-use Rattle.dt_landing.proofs.landing.symbols_are_plain.Goals as goal
-
-pub returns : goal.returns
-returns c = symbols_are_plain

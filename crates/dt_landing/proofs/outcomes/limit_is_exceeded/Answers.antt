@@ -1,5 +1,0 @@
-use Rattle.dt_landing.proofs.ExceededLimits.{limit_is_exceeded}
-use Rattle.dt_landing.proofs.outcomes.limit_is_exceeded.Goals as goal
-
-pub returns : goal.returns
-returns c = limit_is_exceeded

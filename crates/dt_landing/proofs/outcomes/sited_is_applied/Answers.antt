@@ -1,5 +1,0 @@
-use Rattle.dt_landing.proofs.PassedOutcomes.{sited_is_applied}
-use Rattle.dt_landing.proofs.outcomes.sited_is_applied.Goals as goal
-
-pub returns : goal.returns
-returns c = sited_is_applied c.allowed_may_land.ensures

@@ -1,8 +1,0 @@
-//! An object with its cells written.
-
-ghost use Rattle.dt_landing.specs.Writing.{LandedIsBrought};
-
-/// What its fragments bring.
-pub fn cells_are_written()
-    ensures { LandedIsBrought }
-{}

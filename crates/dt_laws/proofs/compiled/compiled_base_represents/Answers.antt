@@ -1,5 +1,0 @@
-use Rattle.dt_laws.proofs.CompiledTrees.{base_tree_represents}
-use Rattle.dt_laws.proofs.compiled.compiled_base_represents.Goals as goal
-
-pub returns : goal.returns
-returns c = base_tree_represents

@@ -1,5 +1,0 @@
-use Rattle.dt_laws.proofs.OneTree.{one_tree}
-use Rattle.dt_laws.proofs.compiled.compiled_tree_is_one.Goals as goal
-
-pub returns : goal.returns
-returns c = one_tree

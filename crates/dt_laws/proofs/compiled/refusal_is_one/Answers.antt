@@ -1,5 +1,0 @@
-use Rattle.dt_laws.proofs.SourceRefusals.{one_refusal}
-use Rattle.dt_laws.proofs.compiled.refusal_is_one.Goals as goal
-
-pub returns : goal.returns
-returns c = one_refusal

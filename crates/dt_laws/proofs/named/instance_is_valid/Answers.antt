@@ -1,5 +1,0 @@
-use Rattle.dt_laws.proofs.InstanceValid.{instance_is_valid}
-use Rattle.dt_laws.proofs.named.instance_is_valid.Goals as goal
-
-pub returns : goal.returns
-returns c = instance_is_valid

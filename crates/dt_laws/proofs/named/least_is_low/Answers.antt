@@ -1,5 +1,0 @@
-use Rattle.dt_laws.proofs.Fresh.{small}
-use Rattle.dt_laws.proofs.named.least_is_low.Goals as goal
-
-pub returns : goal.returns
-returns c = small

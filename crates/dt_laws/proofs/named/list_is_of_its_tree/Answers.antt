@@ -1,5 +1,0 @@
-use Rattle.dt_laws.proofs.NamedLists.{list_is_of_its_tree}
-use Rattle.dt_laws.proofs.named.list_is_of_its_tree.Goals as goal
-
-pub returns : goal.returns
-returns c = list_is_of_its_tree

@@ -1,5 +1,0 @@
-use Rattle.dt_laws.proofs.NamedMeant.{meant_is_named}
-use Rattle.dt_laws.proofs.named.meant_is_named.Goals as goal
-
-pub returns : goal.returns
-returns c = meant_is_named

@@ -1,5 +1,0 @@
-use Rattle.dt_laws.proofs.ObjectLaws.{object_valid}
-use Rattle.dt_laws.proofs.objects.object_is_valid.Goals as goal
-
-pub returns : goal.returns
-returns c = object_valid

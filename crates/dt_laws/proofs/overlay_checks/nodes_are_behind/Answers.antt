@@ -1,5 +1,0 @@
-use Rattle.dt_laws.proofs.ListedShapes.{listed_are_behind}
-use Rattle.dt_laws.proofs.overlay_checks.nodes_are_behind.Goals as goal
-
-pub returns : goal.returns
-returns c = listed_are_behind

@@ -1,5 +1,0 @@
-use Rattle.dt_laws.proofs.SampleOverlay.{sample_means}
-use Rattle.dt_laws.proofs.samples.sample_overlay.Goals as goal
-
-pub returns : goal.returns
-returns c = sample_means

@@ -1,5 +1,0 @@
-use Rattle.dt_laws.proofs.SampleSource.{sample_means}
-use Rattle.dt_laws.proofs.samples.sample_source.Goals as goal
-
-pub returns : goal.returns
-returns c = sample_means

@@ -1,6 +1,0 @@
-use Rattle.std.proofs.Common.{◌≡◌, take}
-use Rattle.dt_naming.specs.Listing.{parents_of}
-use Rattle.dt_naming.proofs.listing.parents.Given as goal
-
-abbrev pub invariant-loop-index : goal.invariant-loop-index
-invariant-loop-index l = l.parents.items ≡ parents_of (take l.index l.nodes)

@@ -1,5 +1,0 @@
-use Rattle.dt_naming.proofs.Twice.{AreSeen}
-use Rattle.dt_naming.proofs.phandles.find_twice.Given as goal
-
-abbrev pub invariant-loop-property : goal.invariant-loop-property
-invariant-loop-property l = AreSeen l.places l.properties l.property-index l.seen

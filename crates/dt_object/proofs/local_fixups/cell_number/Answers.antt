@@ -1,6 +1,0 @@
-use Rattle.std.proofs.Common.{◌∙◌}
-use Rattle.dt_object.proofs.LocalFixupsWords.{four_bytes}
-use Rattle.dt_object.proofs.local_fixups.cell_number.Goals as goal
-
-pub returns : goal.returns
-returns c = c.from_be_bytes.ensures ∙ four_bytes c.args.bytes.now c.requires

@@ -1,0 +1,79 @@
+-- What is kept of the places on which an object's nodes land, and what it stands for.
+use Rattle.std.specs.Prelude.{◌≡◌, ◌↔◌, ℕ, ◌<◌, ◌≤◌, true, false, List, [], ◌∷◌, ◌++◌, length, map, Option, is_some, option_and_then, nat_eq}
+use Rattle.std.specs.Global.{Vec}
+use Rattle.std.specs.List.{AllByRecursion, list_any, flat_map}
+use Rattle.std.specs.Map.{lookup}
+use Rattle.std.specs.Str.{bytes_eq}
+use Rattle.dt_model.specs.Limits.{most_nodes}
+use Rattle.dt_model.specs.Lists.{IsIn}
+use Rattle.dt_model.specs.Names.{IsNodeName}
+use Rattle.dt_model.specs.Numbers.{numbers_of, number_in}
+use Rattle.dt_model.specs.Path.{Path, path_value}
+use Rattle.dt_model.specs.Tree.{Forest, no_nodes, branch, Reading, Placed, preorder}
+use Rattle.dt_model.specs.Merged.{Site}
+use Rattle.dt_flat.specs.Arena.{Slot, properties, below, name_of}
+use Rattle.dt_overlay_model.specs.Walk.{place_given, with_places, landings}
+
+-- ---- nodes of an object, by their numbers
+
+-- some nodes as siblings, each with what is below it
+abbrev pub trees_of : List Slot → List ℕ → Forest
+trees_of slots [] = no_nodes
+trees_of slots (k ∷ ks) = branch (name_of slots k) (properties slots k) (below slots k) (trees_of slots ks)
+
+-- a node on the path on which it lands
+abbrev pub placed : List Slot → ℕ → Path → Placed
+placed slots k q = record { path = q; properties = properties slots k }
+
+-- a node and those below it, where it lands on q
+abbrev pub content_at : List Slot → ℕ → Path → List Placed
+content_at slots k q = placed slots k q ∷ preorder q (below slots k)
+
+-- ---- places
+
+-- what is kept for a path, by its text
+abbrev pub kept_at : List (Vec ℕ × Option ℕ) → Path → Option (Option ℕ)
+kept_at entries q = lookup (λ (k : Vec ℕ). bytes_eq (path_value q) k.items) entries
+
+-- What is known of places: those on which something has landed, by the texts of their paths, each with the number that it got, if it got one;
+-- which place got a number; and the last number that one got, 0 before the first.
+pub record Known : Type 0 where
+  pub landed : List (Vec ℕ × Option ℕ)
+  pub numbered : List (ℕ × Path)
+  pub last : ℕ
+
+-- the place that got a number
+abbrev pub place_of_number : Known → ℕ → Option Path
+place_of_number a n = lookup (nat_eq n) a.numbered
+
+-- the number that a path's place got
+abbrev pub number_at_place : Known → Path → Option ℕ
+number_at_place a q = option_and_then (λ n. n) (kept_at a.landed q)
+
+-- Something has landed on these paths, and on no others, and of these some got numbers: it is known so.
+pub record IsKnown (base : Reading) (given : List (Path × ℕ)) (landed : List Path) (a : Known) : Type 0 where
+  pub places : (q : Path) → AllByRecursion IsNodeName q → (is_some (kept_at a.landed q) ≡ true) ↔ IsIn q landed
+  pub numbers : (q : Path) → AllByRecursion IsNodeName q → number_at_place a q ≡ number_in given q
+  pub paths : (n : ℕ) → place_of_number a n ≡ place_given given n
+  -- the numbers up to the last are taken or given, and none that was given is behind it
+  pub low : (n : ℕ) → 1 ≤ n → n ≤ a.last → list_any (nat_eq n) (map (λ (x : Path × ℕ). x.1) given ++ numbers_of base) ≡ true
+  pub high : (n : ℕ) → IsIn n (map (λ (x : Path × ℕ). x.1) given) → n ≤ a.last
+
+-- where these nodes land, at most 65,536 places have a number then
+pub record HasRoom (base : Reading) (nodes : List Placed) (a : Known) : Type 0 where
+  pub given : List (Path × ℕ)
+  pub landed : List Path
+  pub known : IsKnown base given landed a
+  pub few : length (with_places base nodes given) ≤ most_nodes
+
+-- the paths on which nodes of an object land, fragment by fragment
+abbrev pub landed_paths : Reading → List Site → List Path
+landed_paths object sites = flat_map (λ (x : Site). map (λ (n : Placed). n.path) (landings object x)) sites
+
+-- ---- numbers
+
+-- the least number above another that is not taken
+pub record IsNext (taken : List ℕ) (last n : ℕ) : Type 0 where
+  pub above : last < n
+  pub free : list_any (nat_eq n) taken ≡ false
+  pub between : (k : ℕ) → last < k → k < n → list_any (nat_eq k) taken ≡ true

@@ -1,0 +1,85 @@
+//! A tree in memory takes an overlay.
+
+ghost use Rattle.std.specs.Prelude.{◌≡◌, true};
+ghost use Rattle.dt_flat.specs.Arena.{reading as arena_reading};
+ghost use Rattle.dt_model.specs.Tree.{stands_in};
+ghost use Rattle.dt_overlay_base.specs.FlatTargets.{HasRoom, IsPlaced, TreeRoomIsCounted};
+
+use crate::target::Target;
+use dt_flat::{FlatTree, NodeId};
+use dt_names::{Fault, NodeName, Path, PropName, Seed};
+use std::alloc::Global;
+
+// The node of a path that stands in the tree.
+fn node_at(tree: &FlatTree, path: &Path) -> NodeId
+    requires { stands_in (arena_reading tree.now) path.now ≡ true }
+    ensures { IsPlaced tree.now path.now result }
+{
+    tree.validity();
+    match tree.node(path) {
+        Some(node) => node,
+        None => unreachable!(),
+    }
+}
+
+impl Target for FlatTree {
+    ghost reading = { arena_reading };
+
+    ghost has_room = { HasRoom };
+
+    fn validity(&self) {
+        FlatTree::validity(self);
+    }
+
+    fn seed(&self) -> Seed {
+        FlatTree::seed(self)
+    }
+
+    fn find(&self, path: &Path) -> bool {
+        self.node(path).is_some()
+    }
+
+    fn prop(&self, path: &Path, name: &[u8]) -> Option<&[u8]> {
+        FlatTree::validity(self);
+        let node = self.node(path)?;
+        self.value(node, name)
+    }
+
+    fn by_phandle(&self, alloc: Global, number: u32) -> Result<Option<Path>, Fault> {
+        FlatTree::validity(self);
+        match FlatTree::by_phandle(self, number) {
+            Some(node) => Ok(Some(self.path(alloc, node)?)),
+            None => Ok(None),
+        }
+    }
+
+    fn set_prop(&mut self, path: &Path, name: &PropName<'_>, value: &[u8]) -> Result<(), Fault> {
+        FlatTree::validity(self);
+        let node = node_at(self, path);
+        FlatTree::set_prop(self, node, name, value)
+    }
+
+    fn add_node(&mut self, parent: &Path, name: &NodeName<'_>) -> Result<(), Fault> {
+        let node = node_at(self, parent);
+        FlatTree::add_node(self, node, name)?;
+        Ok(())
+    }
+
+    fn patch_cell(
+        &mut self,
+        path: &Path,
+        name: &PropName<'_>,
+        offset: usize,
+        number: u32,
+    ) -> Result<(), Fault> {
+        FlatTree::validity(self);
+        let node = node_at(self, path);
+        FlatTree::patch_cell(self, node, name, offset, number)
+    }
+}
+
+/// What there is room for in a `FlatTree` is told by the number of nodes: an object isn't applied to one for want of room only where more than
+/// 65,536 nodes would come of it. There it is refused for that, memory aside, as `dt_overlay_laws`'s `room_is_counted` and `one_refusal` say.
+pub fn tree_room_is_counted()
+    ensures { TreeRoomIsCounted }
+{}

@@ -1,0 +1,200 @@
+//! A look at where things land.
+
+ghost use Rattle.std.specs.Prelude.{◌≡◌, ◌<◌, ◌≤◌, ◌*◌, ◌++◌, ◌∷◌, ◌⊎◌, [], true, false, ℕ, List, None, length, map, OnOk, IfOk, IfErr};
+ghost use Rattle.std.specs.List.{AllByRecursion};
+ghost use Rattle.dt_model.specs.Limits.{most_names, most_nodes};
+ghost use Rattle.dt_model.specs.Lists.{IsIn};
+ghost use Rattle.dt_model.specs.Names.{IsNodeName};
+ghost use Rattle.dt_model.specs.Numbers.{numbers_of};
+ghost use Rattle.dt_model.specs.Path.{Path as Names};
+ghost use Rattle.dt_model.specs.Path.{is_bookkeeping as is_bookkeeping_path};
+ghost use Rattle.dt_model.specs.Tree.{Placed, preorder};
+ghost use Rattle.dt_flat.specs.Arena.{properties, below};
+ghost use Rattle.dt_overlay_model.specs.Walk.{number_there as number_known, with_place, with_places};
+ghost use Rattle.dt_overlay_laws.specs.Landings.{MayLand, WhyNotLands, MayAllLand, IsStuck};
+ghost use Rattle.dt_names.specs.declared.fault.FaultKind.TheVariants.{NoMemory};
+ghost use Rattle.dt_overlay_base.specs.Known.{IsKnown, HasRoom, placed, trees_of, content_at};
+ghost use Rattle.dt_overlay_base.specs.Known.{IsNext};
+
+use crate::Target;
+use crate::places::Places;
+use crate::texts::child_path;
+use dt_flat::FlatTree;
+use dt_names::{Fault, FaultKind, NodeId, Path, is_bookkeeping_name, phandle_of};
+use std::alloc::Global;
+
+/// Is the node a bookkeeping node, or below one?
+pub fn is_bookkeeping(path: &Path) -> bool
+    ensures { result ≡ is_bookkeeping_path path.now }
+{
+    match path.name(0) {
+        Some(name) => is_bookkeeping_name(name),
+        None => false,
+    }
+}
+
+// The least number above another that no node of the base has: the base has too few nodes for it to be far above.
+fn free_number<T: Target>(alloc: Global, target: &T, last: u32) -> Result<u32, Fault>
+    requires { last ≤ 2 * most_nodes }
+    ensures next { IfOk result (IsNext (numbers_of (T.reading target.now)) last) }
+    ensures refused { IfErr result (λ fault. (fault.kind ≡ NoMemory) × (fault.at ≡ None)) }
+{
+    target.validity();
+    let mut number = last + 1;
+    while target.by_phandle(alloc, number)?.is_some() {
+        number += 1;
+    }
+    Ok(number)
+}
+
+/// The number of the node at a place: the base's, or the one that the place got.
+pub fn number_there<T: Target>(
+    alloc: Global,
+    target: &T,
+    places: &Places,
+    path: &Path,
+) -> Result<Option<u32>, Fault>
+    requires named { AllByRecursion IsNodeName path.now }
+    ensures number { (given : List (Names × ℕ)) (landed : List Names) → IsKnown (T.reading target.now) given landed places.now →
+        IfOk result (λ number. number ≡ number_known (T.reading target.now) given path.now) }
+    ensures refused { IfErr result (λ fault. (fault.kind ≡ NoMemory) × (fault.at ≡ None)) }
+{
+    target.validity();
+    match target.prop(path, b"phandle".as_slice()) {
+        Some(value) => Ok(phandle_of(value)),
+        None => {
+            let number = places.number(alloc, path)?;
+            Ok(number)
+        }
+    }
+}
+
+// A node with a phandle lands on a place, which gets a number where it has none.
+fn number_place<T: Target>(
+    alloc: Global,
+    target: &T,
+    path: &Path,
+    places: &mut Places,
+) -> Result<(), Fault>
+    requires named { AllByRecursion IsNodeName path.now }
+    requires room { HasRoom (T.reading target.now) [] places.old }
+    ensures known { (given : List (Names × ℕ)) (landed : List Names) → IsKnown (T.reading target.now) given landed places.old → IsIn path.now landed →
+        OnOk result (IsKnown (T.reading target.now) (with_place (T.reading target.now) path.now given) landed places.new) }
+    ensures refused { IfErr result (λ fault. (fault.kind ≡ NoMemory) × (fault.at ≡ None)) }
+{
+    target.validity();
+    if number_there(alloc, target, places, path)?.is_some() {
+        return Ok(());
+    }
+    let number = free_number(alloc, target, places.last())?;
+    places.give(alloc, path, number)?;
+    Ok(())
+}
+
+// A node lands on a path.
+fn land_node<T: Target>(
+    alloc: Global,
+    target: &T,
+    object: &FlatTree,
+    node: NodeId,
+    path: &Path,
+    places: &mut Places,
+) -> Result<(), Fault>
+    requires node { node < length object.now.slots }
+    requires named { AllByRecursion IsNodeName path.now }
+    requires short { length path.now ≤ most_names }
+    requires room { HasRoom (T.reading target.now) [] places.old }
+    ensures known { (given : List (Names × ℕ)) (landed : List Names) → IsKnown (T.reading target.now) given landed places.old →
+        OnOk result (IsKnown (T.reading target.now) (with_places (T.reading target.now) (placed object.now.slots node path.now ∷ []) given) (landed ++ path.now ∷ []) places.new) }
+    ensures may { OnOk result (MayLand (placed object.now.slots node path.now)) }
+    ensures refused { IfErr result (λ fault. (fault.at ≡ None) × ((fault.kind ≡ NoMemory)
+        ⊎ WhyNotLands fault.kind (placed object.now.slots node path.now))) }
+{
+    if is_bookkeeping(path) {
+        return Err(Fault::of(FaultKind::ReservedPlace));
+    }
+    places.enter(alloc, path)?;
+    if object.value(node, b"phandle".as_slice()).is_some() {
+        number_place(alloc, target, path, places)?;
+    }
+    Ok(())
+}
+
+// A child of a node lands with what is below it.
+#[cycle(lands)]
+fn land_child<T: Target>(
+    alloc: Global,
+    target: &T,
+    object: &FlatTree,
+    node: NodeId,
+    parent: &Path,
+    places: &mut Places,
+) -> Result<(), Fault>
+    requires node { node < length object.now.slots }
+    requires below { 0 < node }
+    requires named { AllByRecursion IsNodeName parent.now }
+    requires plain { is_bookkeeping_path parent.now ≡ false }
+    requires room { HasRoom (T.reading target.now) (preorder parent.now (trees_of object.now.slots (node ∷ []))) places.old }
+    ensures known { (given : List (Names × ℕ)) (landed : List Names) → IsKnown (T.reading target.now) given landed places.old →
+        OnOk result (IsKnown (T.reading target.now) (with_places (T.reading target.now) (preorder parent.now (trees_of object.now.slots (node ∷ []))) given)
+        (landed ++ map (λ (n : Placed). n.path) (preorder parent.now (trees_of object.now.slots (node ∷ [])))) places.new) }
+    ensures may { OnOk result (MayAllLand (preorder parent.now (trees_of object.now.slots (node ∷ [])))) }
+    ensures refused { IfErr result (λ fault. (fault.at ≡ None) × ((fault.kind ≡ NoMemory)
+        ⊎ IsStuck fault.kind (preorder parent.now (trees_of object.now.slots (node ∷ []))))) }
+{
+    object.validity();
+    let path = child_path(alloc, parent, object.name(node))?;
+    land_node(alloc, target, object, node, &path, places)?;
+    land_children(alloc, target, object, node, &path, places)
+}
+
+// The children of a node land, each with what is below it.
+#[cycle(lands)]
+fn land_children<T: Target>(
+    alloc: Global,
+    target: &T,
+    object: &FlatTree,
+    node: NodeId,
+    path: &Path,
+    places: &mut Places,
+) -> Result<(), Fault>
+    requires node { node < length object.now.slots }
+    requires named { AllByRecursion IsNodeName path.now }
+    requires plain { is_bookkeeping_path path.now ≡ false }
+    requires room { HasRoom (T.reading target.now) (preorder path.now (below object.now.slots node)) places.old }
+    ensures known { (given : List (Names × ℕ)) (landed : List Names) → IsKnown (T.reading target.now) given landed places.old →
+        OnOk result (IsKnown (T.reading target.now) (with_places (T.reading target.now) (preorder path.now (below object.now.slots node)) given)
+        (landed ++ map (λ (n : Placed). n.path) (preorder path.now (below object.now.slots node))) places.new) }
+    ensures may { OnOk result (MayAllLand (preorder path.now (below object.now.slots node))) }
+    ensures refused { IfErr result (λ fault. (fault.at ≡ None) × ((fault.kind ≡ NoMemory)
+        ⊎ IsStuck fault.kind (preorder path.now (below object.now.slots node)))) }
+{
+    for child in object.children(node) {
+        land_child(alloc, target, object, child, path, places)?;
+    }
+    Ok(())
+}
+
+/// What a fragment brings lands on a path.
+pub fn land_content<T: Target>(
+    alloc: Global,
+    target: &T,
+    object: &FlatTree,
+    content: NodeId,
+    path: &Path,
+    places: &mut Places,
+) -> Result<(), Fault>
+    requires content { content < length object.now.slots }
+    requires named { AllByRecursion IsNodeName path.now }
+    requires short { length path.now ≤ most_names }
+    requires room { HasRoom (T.reading target.now) (content_at object.now.slots content path.now) places.old }
+    ensures known { (given : List (Names × ℕ)) (landed : List Names) → IsKnown (T.reading target.now) given landed places.old →
+        OnOk result (IsKnown (T.reading target.now) (with_places (T.reading target.now) (content_at object.now.slots content path.now) given)
+        (landed ++ map (λ (n : Placed). n.path) (content_at object.now.slots content path.now)) places.new) }
+    ensures may { OnOk result (MayAllLand (content_at object.now.slots content path.now)) }
+    ensures refused { IfErr result (λ fault. (fault.at ≡ None) × ((fault.kind ≡ NoMemory)
+        ⊎ IsStuck fault.kind (content_at object.now.slots content path.now))) }
+{
+    land_node(alloc, target, object, content, path, places)?;
+    land_children(alloc, target, object, content, path, places)
+}

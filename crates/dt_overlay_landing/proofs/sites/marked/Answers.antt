@@ -1,0 +1,63 @@
+use Rattle.std.proofs.Common.{◌≡◌, ◌∙◌, ◌⊎◌, ℕ, Option, Some, None, Bool, sym, ap, subst, inl, inr}
+use Rattle.std.specs.Prelude.{MatchOption, option_and_then}
+use Rattle.std.specs.List.{list_any}
+use Rattle.std.proofs.lemmas.Result.{IfOk-weaker, IfErr-weaker}
+use Rattle.dt_model.specs.Names.{Name}
+use Rattle.dt_model.specs.Path.{Path}
+use Rattle.dt_model.specs.Tree.{Reading, nodes_of}
+use Rattle.dt_model.specs.Valid.{IsValid}
+use Rattle.dt_model.specs.Applied.{node_numbered, symbol}
+use Rattle.dt_model.specs.Object.{local_cells}
+use Rattle.dt_model.specs.Merged.{landing}
+use Rattle.dt_model.proofs.Finding.{node_of_number}
+use Rattle.dt_names.specs.declared.fault.Fault.{Fault}
+use Rattle.dt_names.specs.declared.fault.FaultKind.TheVariants.{NoMemory}
+use Rattle.dt_flat.specs.Arena.{reading}
+use Rattle.dt_overlay_model.specs.Walk.{named_node, target_label, is_target}
+use Rattle.dt_overlay_laws.specs.Objects.{HasNumber, SymbolHasNumber}
+use Rattle.dt_overlay_landing.specs.Marks.{IsMark}
+use Rattle.dt_overlay_landing.specs.Turns.{LandsTooDeep}
+use Rattle.dt_overlay_landing.specs.declared.marks.TargetMark.TheVariants.{Own, Label}
+use Rattle.dt_overlay_landing.proofs.SitesTurns.{turn_front, not_too_deep}
+use Rattle.dt_overlay_landing.proofs.sites.marked.Goals as goal
+
+-- the label's node is the only one of its number
+found_label : (base : Reading) (l : Name) (n : ℕ) (o : Option Path) → IsValid base → SymbolHasNumber base l n → MatchOption o ((p : Path) → HasNumber base p n → ⊥) (λ p. HasNumber base p n) → o ≡ symbol base l
+found_label base l n None valid has none = absurd (none has.0 has.2)
+found_label base l n (Some p) valid has found = sym (node_of_number base p n valid found) ∙ node_of_number base has.0 n valid has.2 ∙ sym has.1
+
+pub returns-in-Label-clause-value : goal.returns-in-Label-clause-value
+returns-in-Label-clause-value g c fixups marks w done later f t mark =
+    let base : Reading = g.T.Target.reading c.args.target.now in
+    let object = reading c.args.object.now in
+    let own = list_any (is_target f) (local_cells object) in
+    let m : IsMark base object fixups f (Label c.in-Label.number) = subst (IsMark base object fixups f) c.in-Label.is mark in
+    IfOk-weaker c.by_phandle.result (λ (o : Option Path). MatchOption o ((p : Path) → HasNumber base p c.in-Label.number → ⊥) (λ p. HasNumber base p c.in-Label.number))
+    (λ (o : Option Path). o ≡ named_node base object w (target_label f fixups) own c.args.number)
+    (λ o found. found_label base m.0 c.in-Label.number o c.validity.ensures.valid m.2 found ∙ sym (ap (λ (l : Option Name). named_node base object w l own c.args.number) m.1))
+    c.by_phandle.ensures.found
+
+pub returns-in-Own-clause-value : goal.returns-in-Own-clause-value
+returns-in-Own-clause-value g c fixups marks w done later f t mark =
+    let base : Reading = g.T.Target.reading c.args.target.now in
+    let object = reading c.args.object.now in
+    let own = list_any (is_target f) (local_cells object) in
+    let m : IsMark base object fixups f Own = subst (IsMark base object fixups f) c.in-Own.is mark in
+    IfOk-weaker c.own_place.result (λ (o : Option Path). o ≡ option_and_then (landing w.sites) (node_numbered (nodes_of object) c.args.number))
+    (λ (o : Option Path). o ≡ named_node base object w (target_label f fixups) own c.args.number)
+    (λ o e. e ∙ sym (ap (λ (l : Option Name). named_node base object w l own c.args.number) m.0 ∙ ap (λ (b : Bool). named_node base object w None b c.args.number) m.1))
+    (c.own_place.ensures.value w.sites t.brought (turn_front base fixups c.args.object.now c.validity-2.ensures.valid c.args.brought.now marks c.args.sites.now c.args.places.now w done later t) t.sites)
+
+pub returns-in-Own-clause-refused : goal.returns-in-Own-clause-refused
+returns-in-Own-clause-refused g c fixups marks w done later t =
+    let base : Reading = g.T.Target.reading c.args.target.now in
+    let object = reading c.args.object.now in
+    IfErr-weaker c.own_place.result (λ (fault : Fault). (fault.at ≡ None) × ((fault.kind ≡ NoMemory) ⊎ LandsTooDeep object w.sites)) (λ (fault : Fault). (fault.at ≡ None) × (fault.kind ≡ NoMemory))
+    (λ fault why. (
+      why.0,
+      elim why.1 [
+        | inl memory ↦ memory
+        | inr deep ↦ absurd (not_too_deep base fixups c.args.object.now c.validity-2.ensures.valid c.args.brought.now marks c.args.sites.now c.args.places.now w done later t deep)
+      ],
+    ))
+    (c.own_place.ensures.refused w.sites t.brought (turn_front base fixups c.args.object.now c.validity-2.ensures.valid c.args.brought.now marks c.args.sites.now c.args.places.now w done later t) t.sites)

@@ -1,0 +1,17 @@
+//! What is kept of an overlay's object while it is applied (dtc's notes on overlay objects): its fragments, the cells that get numbers, its labels, and which
+//! fragment brings a node. A node is named by its number in the object's tree. dt_overlay_read fills these, and dt_overlay_landing lands what they say.
+//!
+//! ```text
+//! let mut brought = Brought::new(alloc, object.node_count())?;
+//! bring_all(&object, &fragments, &mut brought);    // of `/plugin/; &{/} { d { }; };`
+//! brought.fragments;                               // the content's and /d's node: Some(0); the others: None
+//! ```
+//!
+//! That object is a case of overlays.cases, and it lands in one of applied.cases (docs/CASES.md).
+#![tactic(auto)]
+
+mod brought;
+mod kept;
+
+pub use brought::{Brought, bring_all};
+pub use kept::{Fragment, FragmentTarget, Symbol, Write};

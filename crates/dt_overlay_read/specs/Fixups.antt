@@ -1,0 +1,61 @@
+-- The cells of an object that wait for labels, text by text and label by label.
+use Rattle.std.specs.Prelude.{◌≡◌, ◌≢◌, ℕ, List, [], ◌∷◌, ◌++◌, map, None, codes}
+use Rattle.std.specs.List.{AllByRecursion}
+use Rattle.dt_model.specs.Names.{Name}
+use Rattle.dt_model.specs.Tree.{Property, Reading, value_in}
+use Rattle.dt_model.specs.Object.{Cell, AreFixups, IsCellText}
+use Rattle.dt_model.specs.Applied.{Write, label_write}
+use Rattle.dt_flat.specs.Arena.{Arena, reading}
+use Rattle.dt_names.specs.declared.fault.FaultKind.{FaultKind}
+use Rattle.dt_names.specs.declared.fault.FaultKind.TheVariants.{NoMemory, NoSymbol, BadSymbol}
+use Rattle.dt_overlay_texts.specs.Texts.{TellCells}
+use Rattle.dt_overlay_texts.specs.declared.reading.CellText.{CellText}
+use Rattle.dt_overlay_laws.specs.Objects.{HasCell, AreCellsOf, SymbolHasNumber, IsFixup}
+use Rattle.dt_overlay_object.specs.declared.kept.Write.{Write as KeptWrite}
+use Rattle.dt_overlay_object.specs.Plans.{AreWritesOf}
+
+-- the cell of which a text tells
+abbrev pub cell_told : CellText → Cell
+cell_told x = record { path = x.path; property = x.property.now; offset = x.offset }
+
+-- the object has the cell of which the text tells
+abbrev pub HasTold : Reading → List ℕ → Cell → Type 0
+HasTold object text c = IsCellText text c × HasCell object c
+
+-- a cell gets a number
+abbrev pub numbered : ℕ → Cell → Write
+numbered n c = record { cell = c; number = n }
+
+-- the cells of which the texts tell are listed behind what was
+pub record ListsTold (object : Arena) (texts : List (List ℕ)) (n : ℕ) (old new : List KeptWrite) : Type 0 where
+  pub more : List KeptWrite
+  pub appended : new ≡ old ++ more
+  pub cells : List Cell
+  pub told : TellCells texts cells
+  pub there : AllByRecursion (HasCell (reading object)) cells
+  pub writes : AreWritesOf object.slots more (map (numbered n) cells)
+
+-- the cells whose texts the value is are
+pub record ListsCells (object : Arena) (value : List ℕ) (n : ℕ) (old new : List KeptWrite) : Type 0 where
+  pub more : List KeptWrite
+  pub appended : new ≡ old ++ more
+  pub cells : List Cell
+  pub listed : AreCellsOf (reading object) value cells
+  pub writes : AreWritesOf object.slots more (map (numbered n) cells)
+
+-- the cells that wait for the labels of these properties are
+pub record ListsLabels (base : Reading) (object : Arena) (ps : List Property) (old new : List KeptWrite) : Type 0 where
+  pub more : List KeptWrite
+  pub appended : new ≡ old ++ more
+  pub fixups : List (Name × Cell)
+  pub listed : AreFixups ps fixups
+  pub writes : AreWritesOf object.slots more (map (label_write base) fixups)
+  pub cells : AllByRecursion (λ (x : Name × Cell). HasCell (reading object) x.1) fixups
+  pub well : AllByRecursion (IsFixup base (reading object)) ps
+
+-- the base has no number for a label
+abbrev pub WhyNoNumber : FaultKind → Reading → Name → Type 0
+WhyNoNumber NoMemory base l = Unit {0}
+WhyNoNumber NoSymbol base l = value_in base (codes "__symbols__" ∷ []) l ≡ None
+WhyNoNumber BadSymbol base l = (value_in base (codes "__symbols__" ∷ []) l ≢ None) × ((n : ℕ) → ¬ SymbolHasNumber base l n)
+WhyNoNumber _ base l = ⊥

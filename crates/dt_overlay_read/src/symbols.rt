@@ -1,0 +1,133 @@
+//! The labels of an object.
+
+ghost use Rattle.std.specs.Prelude.{◌≡◌, ◌⊎◌, ◌↔◌, ◌∷◌, [], ℕ, List, None, IsTrue, MatchOption, OnOk, IfErr};
+ghost use Rattle.dt_model.specs.Lists.{IsIn};
+ghost use Rattle.dt_model.specs.Tree.{Property};
+ghost use Rattle.dt_names.specs.declared.fault.FaultKind.TheVariants.{NoMemory, BadSymbol};
+ghost use Rattle.dt_flat.specs.Arena.{reading};
+ghost use Rattle.dt_overlay_texts.specs.Cuts.{IsCut};
+ghost use Rattle.dt_overlay_laws.specs.Objects.{IsOfFragment, IsSymbol, symbols_in};
+ghost use Rattle.dt_overlay_object.specs.Plans.{ListsSymbols};
+ghost use Rattle.dt_overlay_read.specs.Symbols.{IsFirstName, IsWhatTextNames, ListsNamed};
+
+use crate::fragments::content_of;
+use dt_flat::FlatTree;
+use dt_names::{Fault, FaultKind, NodeId, PathRef};
+use dt_overlay_base::node_of;
+use dt_overlay_object::Symbol;
+use dt_overlay_texts::cut;
+use memchr::memchr;
+use std::alloc::Global;
+
+// What the text of a symbol names.
+enum SymbolNames {
+    // No node that a fragment brings.
+    Nothing,
+    // A node that a fragment would bring, if it were there.
+    Missing,
+    Node(NodeId),
+}
+
+// The text of a value that has a NUL at its end and none before.
+fn whole_text(value: &[u8]) -> Option<&[u8]>
+    ensures { MatchOption result ((text : List ℕ) → ¬ IsCut 0 value.now text []) (λ text. IsCut 0 value.now text.now []) }
+{
+    match memchr(0, value) {
+        Some(at) if at + 1 == value.len() => Some(&value[..at]),
+        _ => None,
+    }
+}
+
+// The bytes before the first `/`; all where there is none.
+fn first_name(bytes: &[u8]) -> &[u8]
+    ensures { IsFirstName bytes.now result.now }
+{
+    match cut(bytes, b'/') {
+        Some((name, _)) => name,
+        None => bytes,
+    }
+}
+
+// Does a text begin with the path of what a fragment brings?
+fn is_within_fragment(object: &FlatTree, text: &[u8]) -> bool
+    ensures { IsTrue result ↔ IsOfFragment (reading object.now) text.now }
+{
+    object.validity();
+    let Some((b'/', names)) = text.split_first() else {
+        return false;
+    };
+    let Some((name, rest)) = cut(names, b'/') else {
+        return false;
+    };
+    if first_name(rest) != b"__overlay__".as_slice() {
+        return false;
+    }
+    match object.child(object.root(), name) {
+        Some(node) => content_of(object, node).is_some(),
+        None => false,
+    }
+}
+
+// The node that a text names, if a fragment brings it.
+fn symbol_names(object: &FlatTree, text: &[u8]) -> SymbolNames
+    ensures { IsWhatTextNames object.now text.now result }
+{
+    object.validity();
+    if !is_within_fragment(object, text) {
+        return SymbolNames::Nothing;
+    }
+    let Some(path) = PathRef::new(text) else {
+        return SymbolNames::Missing;
+    };
+    match node_of(object, &path) {
+        Some(node) => SymbolNames::Node(node),
+        None => SymbolNames::Missing,
+    }
+}
+
+// A symbol of the object, if its node lands.
+fn list_symbol(
+    alloc: Global,
+    object: &FlatTree,
+    label: &[u8],
+    value: &[u8],
+    out: &mut Vec<Symbol>,
+) -> Result<(), Fault>
+    ensures listed { OnOk result (ListsNamed object.now (record { name = label.now; value = value.now } ∷ []) out.old.items out.new.items) }
+    ensures refused { IfErr result (λ fault. (fault.at ≡ None)
+        × ((fault.kind ≡ NoMemory) ⊎ ((fault.kind ≡ BadSymbol) × ¬ IsSymbol (reading object.now) value.now))) }
+{
+    object.validity();
+    let Some(text) = whole_text(value) else {
+        return Err(Fault::of(FaultKind::BadSymbol));
+    };
+    match symbol_names(object, text) {
+        SymbolNames::Nothing => Ok(()),
+        SymbolNames::Missing => Err(Fault::of(FaultKind::BadSymbol)),
+        SymbolNames::Node(node) => {
+            let label = Vec::from_slice(alloc, label)?;
+            out.push(Symbol { label, node })?;
+            Ok(())
+        }
+    }
+}
+
+/// Lists the labels of the nodes that land, in the order of the object's `__symbols__` (dtc's notes on overlay objects).
+///
+/// # Errors
+///
+/// `BadSymbol` where a value isn't a text with its NUL, or names a node that a fragment would bring if it were there; and `NoMemory`.
+/// None has a place.
+pub fn list_symbols(alloc: Global, object: &FlatTree, out: &mut Vec<Symbol>) -> Result<(), Fault>
+    ensures listed { OnOk result (ListsSymbols object.now out.old.items out.new.items) }
+    ensures refused { IfErr result (λ fault. (fault.at ≡ None) × ((fault.kind ≡ NoMemory) ⊎ ((fault.kind ≡ BadSymbol)
+        × ((x : Property) × IsIn x (symbols_in (reading object.now)) × ¬ IsSymbol (reading object.now) x.value)))) }
+{
+    let Some(node) = object.child(object.root(), b"__symbols__".as_slice()) else {
+        return Ok(());
+    };
+    for (label, value) in object.props(node) {
+        list_symbol(alloc, object, label, value, out)?;
+    }
+    Ok(())
+}

@@ -1,5 +1,0 @@
-use Rattle.dt_printed.proofs.HeldBytes.{read_trees_hold_bytes}
-use Rattle.dt_printed.proofs.meaning.read_trees_hold_bytes.Goals as goal
-
-pub returns : goal.returns
-returns c = read_trees_hold_bytes

@@ -1,0 +1,120 @@
+//! The lines of all nodes of a blob.
+
+ghost use Rattle.std.specs.Prelude.{List, ℕ, OnOk, IfErr};
+ghost use Rattle.std.specs.List.{concat};
+ghost use Rattle.dt_names.specs.Sink.{Takes, IsRefused};
+ghost use Rattle.dt_read.specs.Placed.{path_at, reading_of, IsNode};
+ghost use Rattle.dt_resolve_lines.specs.Given.{ArePassed, AreRefused};
+ghost use Rattle.dt_resolve_lines.specs.declared.listing.Listing.TheVariants.{Regions, Routes};
+ghost use Rattle.dt_resolve_lines.specs.Listed.{AreAll, AreAllBegun, AreOwn, AreOwnBegun, AreLinesOf, WhyNotListed};
+
+use crate::regions::put_regions;
+use crate::routes::put_routes;
+use dt_decompile::Buffer;
+use dt_names::{Fault, NodeId, Sink};
+use dt_read::{Blob, Step};
+use dt_view::{Index, TreeView};
+use std::alloc::Global;
+
+/// What the lines tell.
+#[derive(Clone, Copy)]
+pub enum Listing {
+    /// The regions of `reg`.
+    Regions,
+    /// The routes of interrupts.
+    Routes,
+}
+
+// Writes the lines of a node.
+fn put_node<V: TreeView, S: Sink>(
+    view: &V,
+    buffer: &mut Buffer,
+    out: &mut S,
+    node: NodeId,
+    listing: Listing,
+) -> Result<(), Fault>
+    requires { IsNode (V.tree view.now) node }
+    ensures passed { OnOk result (ArePassed (AreOwn listing (reading_of (V.tree view.now)) (path_at (V.tree view.now) node)) (S.taken out.old) (S.taken out.new) buffer.old buffer.new) }
+    ensures refused { IfErr result (λ fault. AreRefused (AreOwnBegun listing (reading_of (V.tree view.now)) (path_at (V.tree view.now) node)) fault (S.taken out.old) (S.taken out.new) buffer.old) }
+{
+    match listing {
+        Listing::Regions => put_regions(view, buffer, out, node),
+        Listing::Routes => put_routes(view, buffer, out, node),
+    }
+}
+
+// Writes the lines of all nodes.
+fn put_nodes<S: Sink>(
+    index: &Index<'_>,
+    buffer: &mut Buffer,
+    out: &mut S,
+    listing: Listing,
+) -> Result<(), Fault>
+    ensures passed { OnOk result (ArePassed (AreAll listing (reading_of index.now)) (S.taken out.old) (S.taken out.new) buffer.old buffer.new) }
+    ensures refused { IfErr result (λ fault. AreRefused (AreAllBegun listing (reading_of index.now)) fault (S.taken out.old) (S.taken out.new) buffer.old) }
+{
+    index.validity();
+    for step in index.blob().steps() {
+        match step {
+            Step::Open { node, .. } => put_node(index, buffer, out, node, listing)?,
+            Step::Property { .. } => {}
+            Step::Close => {}
+        }
+    }
+    Ok(())
+}
+
+// Writes all lines. Apart, so that the buffer isn't on the stack while the blob is checked.
+#[inline(never)]
+fn put_lines<S: Sink>(index: &Index<'_>, out: &mut S, listing: Listing) -> Result<(), Fault>
+    ensures written { OnOk result ((lines : List (List ℕ)) × AreAll listing (reading_of index.now) lines × Takes (concat lines) (S.taken out.old) (S.taken out.new)) }
+    ensures refused { IfErr result (λ fault. (lines : List (List ℕ)) × AreAllBegun listing (reading_of index.now) lines × IsRefused fault (concat lines) (S.taken out.old) (S.taken out.new)) }
+{
+    let mut buffer = Buffer::new();
+    put_nodes(index, &mut buffer, out, listing)?;
+    buffer.flush(out)
+}
+
+// Writes the lines of a blob.
+fn put_listing<S: Sink>(
+    alloc: Global,
+    bytes: &[u8],
+    out: &mut S,
+    listing: Listing,
+) -> Result<(), Fault>
+    ensures written { OnOk result ((lines : List (List ℕ)) × AreLinesOf listing bytes.now lines × Takes (concat lines) (S.taken out.old) (S.taken out.new)) }
+    ensures refused { IfErr result (WhyNotListed listing bytes.now (S.taken out.old) (S.taken out.new)) }
+{
+    let blob = Blob::check(bytes)?;
+    let index = Index::new(alloc, &blob)?;
+    put_lines(&index, out, listing)
+}
+
+/// Writes the regions of a blob (Devicetree Specification v0.4, 2.3.6 and 2.3.8), of all nodes in preorder, bookkeeping ones among them, and of
+/// each for its indices from 0 on, a line for each: the node's path, the index, and `0xADDRESS 0xSIZE whole`, or `cut` where not all of it is
+/// mapped, or `fault` with its number and its name. A node's lines end at `NoReg`, without one, and behind that of `BadCells`.
+///
+/// # Errors
+///
+/// The first fault of bytes that are no blob, and `NoMemory`, where nothing is written; `WriteFault`, where the sink took a front of the lines.
+pub fn regs<S: Sink>(alloc: Global, bytes: &[u8], out: &mut S) -> Result<(), Fault>
+    ensures written { OnOk result ((lines : List (List ℕ)) × AreLinesOf Regions bytes.now lines × Takes (concat lines) (S.taken out.old) (S.taken out.new)) }
+    ensures refused { IfErr result (WhyNotListed Regions bytes.now (S.taken out.old) (S.taken out.new)) }
+{
+    put_listing(alloc, bytes, out, Listing::Regions)
+}
+
+/// Writes the routes of a blob's interrupts (Devicetree Specification v0.4, 2.4), of all nodes in preorder, bookkeeping ones among them, and of
+/// each for its indices from 0 on, a line for each: the node's path, the index, and the controller's path, the cells of the specifier there in
+/// hexadecimal, and `hops` with the number of interrupt maps on the way, or `fault` with its number and its name. A node's lines end at
+/// `NoInterrupts`, without one, and behind that of any other fault.
+///
+/// # Errors
+///
+/// The first fault of bytes that are no blob, and `NoMemory`, where nothing is written; `WriteFault`, where the sink took a front of the lines.
+pub fn irqs<S: Sink>(alloc: Global, bytes: &[u8], out: &mut S) -> Result<(), Fault>
+    ensures written { OnOk result ((lines : List (List ℕ)) × AreLinesOf Routes bytes.now lines × Takes (concat lines) (S.taken out.old) (S.taken out.new)) }
+    ensures refused { IfErr result (WhyNotListed Routes bytes.now (S.taken out.old) (S.taken out.new)) }
+{
+    put_listing(alloc, bytes, out, Listing::Routes)
+}

@@ -1,0 +1,106 @@
+//! The lines of a node's regions.
+
+ghost use Rattle.std.specs.Prelude.{◌≡◌, ◌++◌, OnOk, IfErr};
+ghost use Rattle.dt_names.specs.Sink.{IsRefused};
+ghost use Rattle.dt_read.specs.Placed.{path_at, reading_of, IsNode};
+ghost use Rattle.dt_resolve_model.specs.Answers.{told};
+ghost use Rattle.dt_decompile.specs.Passed.{IsPassed};
+ghost use Rattle.dt_resolve_lines.specs.Lines.{line, region_words};
+ghost use Rattle.dt_resolve_lines.specs.AllLines.{is_fault, is_bad_cells, is_no_reg, regions_told, AreFrom, AreBegun};
+ghost use Rattle.dt_resolve_lines.specs.Given.{ArePassed, AreRefused};
+ghost use Rattle.dt_ranges.specs.Left.{AreLeft};
+
+use crate::words::{put_fault, put_place, put_region};
+use dt_decompile::Buffer;
+use dt_names::{Fault, FaultKind, NodeId, Sink};
+use dt_ranges::Regions;
+use dt_resolve_model::Region;
+use dt_view::TreeView;
+
+// Writes the line of a node's entry.
+fn put_line<V: TreeView, S: Sink>(
+    view: &V,
+    buffer: &mut Buffer,
+    out: &mut S,
+    node: NodeId,
+    index: u64,
+    region: &Result<Region, Fault>,
+) -> Result<(), Fault>
+    requires { IsNode (V.tree view.now) node }
+    ensures passed { OnOk result (IsPassed (S.taken out.old) (S.taken out.new) buffer.old (line region_words (path_at (V.tree view.now) node) index (told region.now)) buffer.new) }
+    ensures refused { IfErr result (λ fault. IsRefused fault (buffer.old ++ line region_words (path_at (V.tree view.now) node) index (told region.now)) (S.taken out.old) (S.taken out.new)) }
+{
+    put_place(view, buffer, out, node, index)?;
+    match *region {
+        Ok(region) => put_region(buffer, out, region),
+        Err(fault) => put_fault(buffer, out, fault),
+    }
+}
+
+// Whether an entry's answer ends a node's lines, and has none itself.
+fn is_silent(region: &Result<Region, Fault>) -> bool
+    ensures { result ≡ is_fault is_no_reg (told region.now) }
+{
+    match *region {
+        Ok(_) => false,
+        Err(fault) => matches!(fault.kind, FaultKind::NoReg),
+    }
+}
+
+// Whether an entry's answer ends a node's lines behind its own.
+fn is_last(region: &Result<Region, Fault>) -> bool
+    ensures { result ≡ is_fault is_bad_cells (told region.now) }
+{
+    match *region {
+        Ok(_) => false,
+        Err(fault) => matches!(fault.kind, FaultKind::BadCells),
+    }
+}
+
+// Writes the lines of a node's entries.
+fn put_entries<V: TreeView, S: Sink>(
+    view: &V,
+    buffer: &mut Buffer,
+    out: &mut S,
+    node: NodeId,
+    regions: Regions<'_>,
+) -> Result<(), Fault>
+    requires node { IsNode (V.tree view.now) node }
+    requires regions { AreLeft (V.tree view.now) (path_at (V.tree view.now) node) 0 regions }
+    ensures passed { OnOk result (ArePassed (AreFrom (regions_told (reading_of (V.tree view.now)) (path_at (V.tree view.now) node)) 0) (S.taken out.old) (S.taken out.new) buffer.old buffer.new) }
+    ensures refused { IfErr result (λ fault. AreRefused (AreBegun (regions_told (reading_of (V.tree view.now)) (path_at (V.tree view.now) node)) 0) fault (S.taken out.old) (S.taken out.new) buffer.old) }
+{
+    let mut entries = regions;
+    let mut index = 0;
+    while let Some(region) = entries.next(view) {
+        if is_silent(&region) {
+            return Ok(());
+        }
+        put_line(view, buffer, out, node, index, &region)?;
+        if is_last(&region) {
+            return Ok(());
+        }
+        index += 1;
+    }
+    Ok(())
+}
+
+/// Writes the lines of a node's regions.
+pub fn put_regions<V: TreeView, S: Sink>(
+    view: &V,
+    buffer: &mut Buffer,
+    out: &mut S,
+    node: NodeId,
+) -> Result<(), Fault>
+    requires { IsNode (V.tree view.now) node }
+    ensures passed { OnOk result (ArePassed (AreFrom (regions_told (reading_of (V.tree view.now)) (path_at (V.tree view.now) node)) 0) (S.taken out.old) (S.taken out.new) buffer.old buffer.new) }
+    ensures refused { IfErr result (λ fault. AreRefused (AreBegun (regions_told (reading_of (V.tree view.now)) (path_at (V.tree view.now) node)) 0) fault (S.taken out.old) (S.taken out.new) buffer.old) }
+{
+    match Regions::of(view, node) {
+        Ok(regions) => put_entries(view, buffer, out, node, regions),
+        Err(fault) => match fault.kind {
+            FaultKind::NoReg => Ok(()),
+            _ => put_line(view, buffer, out, node, 0, &Err(fault)),
+        },
+    }
+}

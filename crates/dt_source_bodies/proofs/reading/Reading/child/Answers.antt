@@ -1,0 +1,43 @@
+use Rattle.std.proofs.Common.{◌≡◌, ◌+◌, inl, inr, length, arith}
+use Rattle.std.proofs.lemmas.Result.{err_from_is_err_and}
+use Rattle.dt_model.specs.Source.{read, child}
+use Rattle.dt_source_growing.specs.Growing.{shape}
+use Rattle.dt_source_bodies.specs.Refusals.{mode_said}
+use Rattle.dt_source_bodies.specs.declared.reading.Reading.{Reading}
+use Rattle.dt_source_bodies.proofs.Items.{inner_of, child-goes-new, child-goes-again}
+use Rattle.dt_source_growing.proofs.Soundness.{forest}
+use Rattle.dt_source_bodies.proofs.Wholes.{goes_on_more, whole_more}
+use Rattle.dt_source_bodies.proofs.reading.Reading.child.Goals as goal
+
+pub returns-in_err-body-clause-meaning : goal.returns-in_err-body-clause-meaning
+returns-in_err-body-clause-meaning c = λ u h.
+    let q = err_from_is_err_and c.from_residual.result c.from_residual.ensures.1 in
+    rw (q.1, q.2) (c.in_err-body.ensures.meaning u c.args.item h)
+
+pub returns-clause-meaning : goal.returns-clause-meaning
+returns-clause-meaning c = λ u h.
+    let old : Reading = c.args.self.now in
+    let new : Reading = record { growing = c.open_child.new.self; bodies = c.enter.new.bodies } in
+    let m = mode_said c.args.mode in
+    let b = c.in_ok-body.body in
+    let may = c.in_ok-body.ensures.may in
+    let i = inner_of (shape old.growing) old.bodies.items c.args.item u b h may.last in
+    let free = c.in_ok-body.ensures.meaning u c.args.item h in
+    let f = forest old.growing c.requires.sound in
+    goes_on_more (read m u (child c.args.name.now)) new (c.args.item + 1) _ c.in_ok-enter.ensures
+    (elim c.in_ok-node.ensures.opened [
+      | inl made ↦ rw made.2 (child-goes-new m (shape old.growing) (shape new.growing) old.bodies.items c.args.item u b c.args.name.now f h i free may.once may.few made.0 made.1)
+      | inr there ↦ child-goes-again m (shape old.growing) (shape new.growing) old.bodies.items c.args.item u b c.args.name.now c.in_ok-node.node f h i free may.once may.few there.0 there.1
+    ])
+
+pub returns-clause-whole : goal.returns-clause-whole
+returns-clause-whole c =
+    let old : Reading = c.args.self.now in
+    let new : Reading = record { growing = c.open_child.new.self; bodies = c.enter.new.bodies } in
+    let f = forest old.growing c.requires.sound in
+    (elim c.in_ok-node.ensures.opened [
+      | inl made ↦ (let z : length new.growing.nodes.items ≡ length old.growing.nodes.items + 1 = made.1.size in
+          whole_more old new _ c.requires c.in_ok-node.ensures.sound (omega arith) (omega (arith, made.2)) c.in_ok-enter.ensures)
+      | inr there ↦ (let z : length new.growing.nodes.items ≡ length old.growing.nodes.items = there.1.size in
+          whole_more old new _ c.requires c.in_ok-node.ensures.sound (omega arith) (let e = (f.edge _ _ _ there.0).1 in omega (arith, e)) c.in_ok-enter.ensures)
+    ])

@@ -1,0 +1,34 @@
+-- A change of the hash map is a change of the table.
+use Rattle.std.proofs.Common.{◌≡◌, ℕ, Bool, true, false, List, Some, Bor, ◌&&◌, nat_eq, refl}
+use Rattle.std.specs.HashMap.{HashMap, UpdatesBy}
+use Rattle.std.specs.Str.{bytes_eq}
+use Rattle.std.proofs.lemmas.Bool.{eqb-true, eq-eqb}
+use Rattle.std.proofs.lemmas.Slice.Eq.{bytes_eq-Decides}
+use Rattle.dt_model.proofs.EventSteps.{bytes_eq-refl}
+use Rattle.dt_model.specs.Names.{Name}
+use Rattle.dt_source_growing.specs.Table.{Key, Puts, PutsName}
+use Rattle.dt_source_growing.specs.declared.table.Last.{Last}
+
+pub both : (a b : Bool) → (a && b) ≡ true → (a ≡ true) × (b ≡ true)
+both true true h = (refl, refl)
+both true false h = cc
+both false b h = cc
+
+-- the test of an index and a name is passed by exactly one key's content
+pub key_is : (i j : ℕ) (x y : Name) → (nat_eq i j && bytes_eq x y) ≡ true → (i ≡ j) × (x ≡ y)
+key_is i j x y h = let p = both (nat_eq i j) (bytes_eq x y) h in (eqb-true i j p.0, (bytes_eq-Decides x y).0 p.1)
+
+pub key-refl : (i : ℕ) (x : Name) → (nat_eq i i && bytes_eq x x) ≡ true
+key-refl i x = rw (eq-eqb i i refl) (bytes_eq-refl x)
+
+-- the hash map's change is the table's
+pub puts_from_updates : {S : Type 0} (m n : HashMap Key Last S) (k : Key) (w : Last)
+    → UpdatesBy (λ (a b : Key). nat_eq a.0 b.0 && bytes_eq a.1.now b.1.now) (λ (b : Key). nat_eq k.0 b.0 && bytes_eq k.1.now b.1.now) m n (Some w)
+    → Puts m.entries n.entries k.0 k.1.now w
+puts_from_updates m n k w u j y = u.0 (j, record k.1 { now = y })
+
+-- the same of a table of names alone
+pub puts_name_from_updates : {S : Type 0} (m n : HashMap (Bor (List ℕ)) ℕ S) (k : Bor (List ℕ)) (w : ℕ)
+    → UpdatesBy (λ (a b : Bor (List ℕ)). bytes_eq a.now b.now) (λ (b : Bor (List ℕ)). bytes_eq k.now b.now) m n (Some w)
+    → PutsName m.entries n.entries k.now w
+puts_name_from_updates m n k w u y = u.0 (record k { now = y })

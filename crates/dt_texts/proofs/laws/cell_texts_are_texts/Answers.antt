@@ -1,5 +1,0 @@
-use Rattle.dt_texts.proofs.CellTexts.{cells_told, texts_tell}
-use Rattle.dt_texts.proofs.laws.cell_texts_are_texts.Goals as goal
-
-pub returns : goal.returns
-returns c = record { told = cells_told; tell = texts_tell }

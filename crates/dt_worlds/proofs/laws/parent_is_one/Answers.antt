@@ -1,5 +1,0 @@
-use Rattle.dt_worlds.proofs.InterruptsAgree.{one_parent}
-use Rattle.dt_worlds.proofs.laws.parent_is_one.Goals as goal
-
-pub returns : goal.returns
-returns c = λ w p q r h k. one_parent w p q r h k
