@@ -1,8 +1,4 @@
-# The `reg` of the first node in /cpus, where it is one cell; else 0. Reads a blob's bytes as decimal numbers, as `od -An -v -tu1` writes them.
-
-function word(at) { return ((bytes[at] * 256 + bytes[at + 1]) * 256 + bytes[at + 2]) * 256 + bytes[at + 3] }
-
-function text_at(at,    text) { text = ""; while (bytes[at]) text = text sprintf("%c", bytes[at++]); ended = at; return text }
+# The `reg` of the first node in /cpus, where it is one cell; else 0; over blob.awk.
 
 function first_cpu(    at, token, depth, in_cpus, strings, size) {
     at = word(8); strings = word(12)
@@ -23,7 +19,5 @@ function first_cpu(    at, token, depth, in_cpus, strings, size) {
     }
     return 0
 }
-
-{ for (i = 1; i <= NF; i++) bytes[count++] = $i + 0 }
 
 END { printf "%.0f\n", first_cpu() }

@@ -27,6 +27,14 @@ can_read() {
     [ -z "$why" ]
 }
 
+# Whether dtc's dialect may cause a fault, as dtool reports it; then `dialect` may make a source of it that dtool compiles.
+is_of_dialect() {
+    case $1 in
+    *' BadToken'* | *' DuplicateNode' | *' DuplicateProperty' | *' DuplicateLabel' | *' OverlayDelete' | *' BadName'*) return 0 ;;
+    esac
+    return 1
+}
+
 # What the toolchain is that proves and builds dtool, for whoever lacks it.
 lacks_toolchain() {
     die "rt is not on the path. dtool is proved and built by the Rattle toolchain, rattle-kit-13b or later (README.md, \"The toolchain\")"

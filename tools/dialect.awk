@@ -6,20 +6,8 @@
 # until the end. Nothing is moved: what is put in stands on lines of its own between line markers, and what stands behind it is put below its old
 # column, so that `tools/where` finds the place in the source of each place in what comes out.
 
-# `file` is a name as line markers write it: with a backslash before each quote and backslash.
+# `file` is a name as line markers write it.
 function marker(line, file) { return "# " line " \"" file "\"" }
-
-function escaped(name,    text, i, c) {
-    if (name !~ /["\\]/) return name
-    for (i = 1; i <= length(name); i++) { c = substr(name, i, 1); text = text (c ~ /["\\]/ ? "\\" : "") c }
-    return text
-}
-
-function unescaped(name,    text, i, c) {
-    if (name !~ /\\/) return name
-    for (i = 1; i <= length(name); i++) { c = substr(name, i, 1); if (c == "\\") c = substr(name, ++i, 1); text = text c }
-    return text
-}
 
 # Blanks as wide as the first n bytes of a line.
 function blanks(line, n,    t) { t = substr(line, 1, n); gsub(/[^\t]/, " ", t); return t }
@@ -110,8 +98,8 @@ function open_body(node,    path, is_there, i) {
     depth++
     name[depth] = node; body[depth] = ++bodies; paths[depth] = path; merges[depth] = is_there; has_child[depth] = 0
     if (!(path in exists)) exists[path] = ++nodes
-    if (omits && depth > 1 && !(path in defined)) omit(path)
-    defined[path] = 1
+    if (omits && depth > 1 && !(path in opened)) omit(path)
+    opened[path] = defined[path] = 1
     omits = 0
     for (i = 1; i <= labels; i++) give_label(label[i], label_at[i], path)
     labels = 0
@@ -394,7 +382,7 @@ function read_file(path, named,    line, kept) {
     while ((getline line < path) > 0) {
         number++
         line_place = next_place; next_place += length(line) + 1
-        if (!comment && !text && line ~ /^#(line)?[ \t]+[0-9]+[ \t]+"/) {
+        if (!comment && !text && is_marker(line)) {
             put(line "\n")
             match(line, /[0-9]+/); number = substr(line, RSTART, RLENGTH) - 1
             sub(/^[^"]*"/, "", line); sub(/"[^"]*$/, "", line)
@@ -414,7 +402,7 @@ function read_all(path) {
     next_place = 0
     outs = warned = reads = nodes = values = references = omissions = 0
     pending = last = word = current = ""
-    split("", seen); split("", exists); split("", label_path); split("", out); split("", defined); split("", value_of); split("", may_go)
+    split("", seen); split("", exists); split("", label_path); split("", out); split("", defined); split("", value_of); split("", may_go); split("", opened)
     split("", holders); split("", holder); split("", labels_of)
     read_file(path, escaped(ENVIRON["DIALECT_SHOWN"]))
     let_go()

@@ -3,12 +3,6 @@
 #
 # A file `name` has to hold the name of its node, without the unit address, and is left out. Line markers name what each part comes from.
 
-function escaped(name,    text, i, c) {
-    if (name !~ /["\\]/) return name
-    for (i = 1; i <= length(name); i++) { c = substr(name, i, 1); text = text (c ~ /["\\]/ ? "\\" : "") c }
-    return text
-}
-
 function above(path) { sub(/\/[^\/]*$/, "", path); return path }
 
 function last_name(path) { sub(/.*\//, "", path); return path }

@@ -25,15 +25,6 @@ function show(column, text,    head, mark) {
     shown = 1
 }
 
-function is_marker(line) { return line ~ /^#(line)?[ \t]+[0-9]+[ \t]+"/ }
-
-# A name as a line marker writes it: with a backslash before each quote and backslash.
-function unescaped(name,    text, i, c) {
-    if (name !~ /\\/) return name
-    for (i = 1; i <= length(name); i++) { c = substr(name, i, 1); if (c == "\\") c = substr(name, ++i, 1); text = text c }
-    return text
-}
-
 function follow(line) {
     match(line, /[0-9]+/); number = substr(line, RSTART, RLENGTH) + 0
     sub(/^[^"]*"/, "", line); sub(/"[^"]*$/, "", line)

@@ -1,9 +1,5 @@
-# The part of a blob, or the node, that a place of it belongs to: reads its bytes as decimal numbers, as `od -An -v -tu1` writes them.
+# The part of a blob, or the node, that a place of it belongs to; over blob.awk.
 # Variable: place. Environment: WHERE_NAME (the blob's name), WHERE_WORDS, WHERE_STYLE.
-
-function word(at) { return ((bytes[at] * 256 + bytes[at + 1]) * 256 + bytes[at + 2]) * 256 + bytes[at + 3] }
-
-function name_at(at,    name) { name = ""; while (at < count && bytes[at] != 0) name = name sprintf("%c", bytes[at++]); ended = at; return name }
 
 function path(    text, i) { text = ""; for (i = 2; i <= depth; i++) text = text "/" names[i]; return text == "" ? "/" : text }
 
@@ -12,8 +8,8 @@ function in_structure(at, end,    token, from, property) {
     strings = word(12)
     while (at < end && at < count) {
         from = at; token = word(at); at += 4; property = ""
-        if (token == 1) { names[++depth] = name_at(at); at = ended + 4 - ended % 4 }
-        else if (token == 3) { property = name_at(strings + word(at + 4)); at += 8 + int((word(at) + 3) / 4) * 4 }
+        if (token == 1) { names[++depth] = text_at(at); at = ended + 4 - ended % 4 }
+        else if (token == 3) { property = text_at(strings + word(at + 4)); at += 8 + int((word(at) + 3) / 4) * 4 }
         if (place >= from && place < at) return "node " path() (property == "" ? "" : ", property " property)
         if (token == 2) depth--
         else if (token != 1 && token != 3 && token != 4) break
@@ -28,8 +24,6 @@ function part() {
     if (place >= word(16)) return "the memory reservations"
     return "between the blocks"
 }
-
-{ for (i = 1; i <= NF; i++) bytes[count++] = $i + 0 }
 
 END {
     style = ENVIRON["WHERE_STYLE"]; words = ENVIRON["WHERE_WORDS"]

@@ -72,6 +72,14 @@ Warning: drop.dts:6.2: this deletion has no effect on the base' "$(told "$tools/
     is 'dtc: a node that is omitted twice' '/dts-v1/;
 / {
 };' "$(text_of twice.dts)"
+    printf '/dts-v1/;\n/ { n { x; }; };\n/ { n { c; }; };\n&{/n} { /omit-if-no-ref/ c { }; };\n' > both.dts
+    is 'dtc: a node that has the name of a property' '/dts-v1/;
+/ {
+	n {
+		x;
+		c;
+	};
+};' "$(text_of both.dts)"
     is 'dtc -@: nodes to which nothing refers' 'a t u w ' "$(text_of -@ omit.dts | sed -n 's/^	\([a-z]\) {$/\1/p' | sort | tr '\n' ' ')"
     printf '/dts-v1/;\n/ { p = <&b>; /omit-if-no-ref/ a { b: b { }; }; };\n' > child.dts
     is 'dtc: a node of whose children one is referred to' 'Warning: child.dts:2.15: /a stays, although nothing refers to it: something refers to /a/b' \
