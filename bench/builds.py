@@ -63,10 +63,10 @@ def compared(ours, theirs):
     named = {(path, name) for path, name in more if name == b"name" and mine[path][name] == path.rpartition(b"/")[2].partition(b"@")[0] + b"\0"}
     if any(path != b"/__symbols__" and name != b"phandle" for path, name in more - named):
         return "other"
-    if named:
-        return "the same, and a name that dtc drops"
     if mine.keys() - others.keys() - {b"/__symbols__"}:
         return "the same, and nodes that dtc leaves out"
+    if named:
+        return "the same, and a name that dtc drops"
     return "the same, and more phandles or labels" if more or mine.keys() != others.keys() else "the same"
 
 

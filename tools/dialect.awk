@@ -134,8 +134,8 @@ function use_label(reference,    l, i) {
     if (l in holders) for (i = 1; i <= holders[l]; i++) is_used[l, i] = 1
 }
 
-# The nodes below a path are deleted. Where one of them has a label that another node has too, and nothing named a node by it since both have it, nor
-# before where this one had it first, the label goes from the deleted one: in the end the other has it.
+# The nodes below a path are deleted. Where one of them has a label that another node has too, and nothing named a node by it since this one got it,
+# the label goes from the deleted one: in the end the other has it.
 function take_labels(l, path,    i, j, k, n, list) {
     for (i = holders[l]; i >= 1; i--) {
         if (holder[l, i] == "" || !is_in(holder[l, i], path)) continue
