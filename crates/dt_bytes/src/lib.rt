@@ -34,8 +34,8 @@ pub fn put32(bytes: &mut [u8], at: usize, number: u32) -> bool
     true
 }
 
-// Whether so many bytes stand at a place.
-fn stand(bytes: &[u8], at: usize, size: usize) -> bool
+/// Whether so many bytes stand at a place.
+fn has_bytes(bytes: &[u8], at: usize, size: usize) -> bool
     ensures { IsTrue result ↔ (at + size ≤ length bytes.now) }
 {
     at <= bytes.len() && size <= bytes.len() - at
@@ -45,7 +45,7 @@ fn stand(bytes: &[u8], at: usize, size: usize) -> bool
 pub fn be32(bytes: &[u8], at: usize) -> Option<u32>
     ensures { result ≡ word_at bytes.now at }
 {
-    if !stand(bytes, at, 4) {
+    if !has_bytes(bytes, at, 4) {
         return None;
     }
     Some(BigEndian::read_u32(&bytes[at..at + 4]))
@@ -55,13 +55,13 @@ pub fn be32(bytes: &[u8], at: usize) -> Option<u32>
 pub fn be64(bytes: &[u8], at: usize) -> Option<u64>
     ensures { result ≡ long_at bytes.now at }
 {
-    if !stand(bytes, at, 8) {
+    if !has_bytes(bytes, at, 8) {
         return None;
     }
     Some(BigEndian::read_u64(&bytes[at..at + 8]))
 }
 
-// The bytes up to the first NUL.
+/// The bytes up to the first NUL.
 fn first_text(bytes: &[u8]) -> Option<&[u8]>
     ensures text { option_copied result ≡ text_in bytes.now }
     ensures within { IfSome result (λ text. length text.now < length bytes.now) }

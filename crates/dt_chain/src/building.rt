@@ -62,7 +62,7 @@ impl Inputs for Sources {
     }
 }
 
-// The blob of an overlay's source.
+/// The blob of an overlay's source.
 fn object_of(alloc: Global, text: &[u8]) -> Result<Vec<u8>, Fault>
     ensures object { IfOk result (λ blob. (t : Reading) × HasObject text.now t × IsRead blob.items t) }
     ensures refused { IfErr result (λ fault. WhyNoObject text.now fault) }

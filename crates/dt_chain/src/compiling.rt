@@ -12,6 +12,7 @@ ghost use Rattle.dt_chain_promises.specs.Apply.{IsRead};
 ghost use Rattle.dt_chain_promises.specs.Compile.{IsBlobOf, WhyNoBlob, IsCompiled, WhyNoTree, WhyNotCompiled, IsCompilerFault, IsCompiledOverlay, WhyNotCompiledOverlay, TextHasTree, OverlayTextHasTree};
 ghost use Rattle.dt_chain_promises.specs.Build.{HasObject};
 ghost use Rattle.dt_chain.specs.Steps.{OfEachText, HasNamed, IsNumbered, HasRoom, WhyNotLabelled, HasRooms, IsMarked, WhyNotMarked};
+ghost use Rattle.dt_names.specs.Fault.{IsNoMemory};
 
 use dt_flat::FlatTree;
 use dt_marks::{add_fixups, add_symbols};
@@ -71,7 +72,7 @@ pub fn compile_raw(alloc: Global, text: &[u8]) -> Result<Vec<u8>, Fault>
     source_blob(alloc, &source, Mode::Raw)
 }
 
-// The blob of a source that is no overlay's.
+/// The blob of a source that is no overlay's.
 fn source_blob(alloc: Global, source: &Source<'_>, mode: Mode) -> Result<Vec<u8>, Fault>
     ensures blob { IfOk result (λ blob. OfEachText source.now (λ text. IsCompiled (mode_said mode) text blob.items)) }
     ensures refused { IfErr result (λ fault. OfEachText source.now (λ text. WhyNotCompiled (mode_said mode) text fault)) }
@@ -105,7 +106,7 @@ fn named_tree<'a>(alloc: Global, source: &Source<'a>, mode: Mode) -> Result<Name
 fn numbered(alloc: Global, named: &NamedTree<'_>) -> Result<FlatTree, Fault>
     ensures tree { IfOk result (λ t. IsNumbered raw (tree_of named.now) (reading t)) }
     ensures count { IfOk result (λ t. length t.slots ≡ length named.now.nodes) }
-    ensures refused { IfErr result (λ fault. (fault.kind ≡ NoMemory) × (fault.at ≡ None)) }
+    ensures refused { IfErr result IsNoMemory }
 {
     let numbering = number(alloc, named)?;
     instance(alloc, named, &numbering)

@@ -26,7 +26,7 @@ pub fn decompile(alloc: Global, bytes: &[u8]) -> Result<Vec<u8>, Fault>
     text_in_memory(alloc, &blob)
 }
 
-// The text of a blob. A vector takes all that there is memory for.
+/// The text of a blob. A vector takes all that there is memory for.
 fn text_in_memory(alloc: Global, blob: &Blob) -> Result<Vec<u8>, Fault>
     ensures printed { IfOk result (λ text. text.items ≡ printed (reading_of blob.now)) }
     ensures refused { IfErr result (λ fault. fault ≡ placeless NoMemory) }

@@ -52,7 +52,7 @@ pub(crate) fn blob_of<I: Inputs>(
     apply_and_write::<I>(alloc, &mut tree, inputs)
 }
 
-// The blob of a tree with the objects applied to it. It borrows the tree, since each exit where one is owned costs its proof.
+/// The blob of a tree with the objects applied to it. It borrows the tree, since each exit where one is owned costs its proof.
 fn apply_and_write<I: Inputs>(
     alloc: Global,
     tree: &mut FlatTree,
@@ -70,7 +70,7 @@ fn apply_and_write<I: Inputs>(
     }
 }
 
-// Applies the objects to a tree.
+/// Applies the objects to a tree.
 fn apply_all<I: Inputs>(
     alloc: Global,
     tree: &mut FlatTree,

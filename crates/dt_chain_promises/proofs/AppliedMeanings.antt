@@ -10,7 +10,8 @@ use Rattle.dt_model.specs.Valid.{IsValid, IsWithinLimits}
 use Rattle.dt_names.specs.declared.fault.Fault.{Fault}
 use Rattle.dt_names.specs.declared.fault.FaultKind.TheVariants.{NoMemory, Limit}
 use Rattle.dt_model_format.specs.Laws.{BlobHasNoFault}
-use Rattle.dt_model_laws.specs.Applying.{IsOf, IsObject}
+use Rattle.dt_model_laws.specs.Applying.{IsObject}
+use Rattle.dt_model.specs.Represents.{IsOf}
 use Rattle.dt_overlay_model.specs.InTurn.{InTurnIsFold}
 use Rattle.dt_overlay_model.specs.Joining.{SitesAreOne}
 use Rattle.dt_overlay_laws.specs.Outcomes.{RefusedIsUndefined}

@@ -9,7 +9,8 @@ use Rattle.dt_model.specs.Tree.{Reading}
 use Rattle.dt_names.specs.declared.fault.Fault.{Fault}
 use Rattle.dt_names.specs.declared.fault.FaultKind.TheVariants.{NoMemory, Limit}
 use Rattle.dt_model_laws.specs.CompiledTrees.{BaseTreeRepresents, MeantIsNotRefused}
-use Rattle.dt_model_laws.specs.Applying.{IsOf, IsObject}
+use Rattle.dt_model_laws.specs.Applying.{IsObject}
+use Rattle.dt_model.specs.Represents.{IsOf}
 use Rattle.dt_overlay_model.specs.InTurn.{InTurnIsFold}
 use Rattle.dt_overlay_model.specs.Joining.{SitesAreOne}
 use Rattle.dt_model_laws.specs.OverlayTrees.{OneOverlay, OverlayIsNotRefused}
@@ -96,7 +97,12 @@ module _ (places : PlacesAre) (reads : WrittenReads) (encodes : ShortObjectEncod
           record {
             result = w.0;
             merged = record { meaning = b.meaning; means = b.means; overlays = os.0; of_overlays = os.1; fold = w.2 };
+            base_tree = out.tree;
+            of_base = out.of_base;
+            before = b.number;
+            base_represents = b.of_meaning.represents;
             number = w.1;
+            extends = w.4;
             of_meaning = record { tree = h.result; read = read; represents = w.3.represents; meaning = w.3.meaning; plain = w.3.plain };
             boot_cpu = steps_keep_boot_cpu HasObject out.tree texts h.result out.steps ∙ base_boot_cpu text out.tree out.of_base.of_text;
           }

@@ -9,7 +9,8 @@ use Rattle.dt_model.specs.Tree.{Property, Reading}
 use Rattle.dt_model.specs.Valid.{IsWithinLimits}
 use Rattle.dt_names.specs.declared.fault.Fault.{Fault}
 use Rattle.dt_names.specs.declared.fault.FaultKind.TheVariants.{NoMemory, Limit}
-use Rattle.dt_model_laws.specs.Applying.{AreOf, IsOf, IsObject, AreObjects}
+use Rattle.dt_model_laws.specs.Applying.{AreOf, IsObject, AreObjects}
+use Rattle.dt_model.specs.Represents.{IsOf}
 use Rattle.dt_overlay_model.specs.InTurn.{IsApplied, AreApplied, InTurnIsFold}
 use Rattle.dt_overlay_model.specs.Joining.{SitesAreOne}
 use Rattle.dt_overlay_model.specs.Walk.{new_numbers}

@@ -12,7 +12,8 @@ use Rattle.dt_model.specs.Tree.{Property, Reading}
 use Rattle.dt_model.specs.Valid.{IsReservation}
 use Rattle.dt_names.specs.declared.fault.Fault.{Fault}
 use Rattle.dt_names.specs.declared.fault.FaultKind.TheVariants.{NoMemory, Limit}
-use Rattle.dt_model_laws.specs.Applying.{IsOf, IsObject}
+use Rattle.dt_model_laws.specs.Applying.{IsObject}
+use Rattle.dt_model.specs.Represents.{IsOf}
 use Rattle.dt_model_laws.specs.CompiledTrees.{BaseTreeRepresents, TreeIsValid, MeantIsNotRefused}
 use Rattle.dt_model_laws.specs.OverlayTrees.{ObjectIsValid, OverlayIsNotRefused}
 use Rattle.dt_model_laws.specs.ShortValues.{ReadValuesAreShort, ShortObjectEncodes}

@@ -18,7 +18,7 @@ use Rattle.dt_names.specs.declared.fault.FaultKind.TheVariants.{NoMemory, Limit}
 use Rattle.dt_resolve_model.specs.Laws.{IsResolvedIn}
 use Rattle.dt_write.specs.Written.{written}
 use Rattle.dt_chain_promises.specs.Apply.{IsRead, IsBlobApplied, WhyNoBlobApplied}
-use Rattle.dt_chain_promises.specs.Build.{IsBlobBuilt, WhyNoBlobBuilt}
+use Rattle.dt_chain_promises.specs.Build.{HasBaseTree, IsBlobBuilt, WhyNoBlobBuilt}
 use Rattle.dt_chain_promises.specs.Compile.{TextMeans, OverlayTextMeans, TextHasTree, IsCompiled, WhyNotCompiled, IsCompiledOverlay, IsBlobOf, WhyNoBlob}
 use Rattle.dt_chain_promises.specs.Decompile.{IsDecompiled, WhyNotDecompiled}
 
@@ -202,11 +202,17 @@ abbrev pub OneMergedMeaning : Type 0
 OneMergedMeaning = (text : List ℕ) (texts : List (List ℕ)) (m n : Meaning) → TextsAreMerged text texts m → TextsAreMerged text texts n → m ≡ n
 
 -- What building answers is a blob of the meaning of the base's text with those of the overlays' texts merged into it one after
--- another, each keyed node having one number of its own that stands in every reference to it; with boot CPU 0.
+-- another, each keyed node having one number of its own that stands in every reference to it, with boot CPU 0. These numbers extend those of
+-- the tree that the base's text is compiled to.
 pub record BlobIsOfTexts (text : List ℕ) (texts : List (List ℕ)) (blob : List ℕ) : Type 0 where
   pub result : Meaning
   pub merged : TextsAreMerged text texts result
+  pub base_tree : Reading
+  pub of_base : HasBaseTree text base_tree
+  pub before : Path → ℕ
+  pub base_represents : Represents base_tree merged.meaning before
   pub number : Path → ℕ
+  pub extends : Extends merged.meaning before number
   pub of_meaning : IsBlobOfMeaning blob result number
   pub boot_cpu : of_meaning.tree.boot_cpu ≡ 0
 

@@ -154,8 +154,9 @@ pub fn what_applying_means()
 }
 
 /// What building answers is read as a tree that represents the one thing that the base's text followed by the overlays' texts means, each
-/// keyed node having one number of its own that stands in every reference to it; and memory and limits aside, it is refused
-/// only where one of the texts means nothing, or one of the merges isn't defined.
+/// keyed node having one number of its own that stands in every reference to it, by numbers that extend those of the tree that the base's
+/// text is compiled to; and memory and limits aside, it is refused only where one of the texts means nothing, or one of the merges isn't
+/// defined.
 pub fn what_building_means()
     ensures one { OneMergedMeaning }
     ensures merged { BuildingIsMerging }
@@ -176,11 +177,11 @@ pub fn what_building_means()
     written_reads();
 }
 
-/// The whole promise: each address of `reg` and each route of an interrupt that the base's text followed by the overlays' texts determines, an
-/// answer or a fault, is the one of the blob that building answers, read as a tree; and so it is of what applying answers, whoever wrote the
-/// base and the objects, and of what a base's text is compiled to. What the texts leave open is claimed of the blob alone: a number used as a
-/// phandle that no node of the texts writes, and a number that a reference gets where it is used as one. `dt_ranges::region` and
-/// `dt_irq::route` answer them of each view of that tree.
+/// The whole promise: each address of `reg`, each address for DMA and each route of an interrupt or of another specifier that the base's text
+/// followed by the overlays' texts determines, an answer or a fault, is the one of the blob that building answers, read as a tree; and so it is
+/// of what applying answers, whoever wrote the base and the objects, and of what a base's text is compiled to. What the texts leave open is
+/// claimed of the blob alone: a number used as a phandle that no node of the texts writes, and a number that a reference gets where it is used
+/// as one. `dt_ranges::region`, `dt_ranges::dma_region`, `dt_irq::route` and `dt_irq::specifier_route` answer them of each view of that tree.
 pub fn what_building_resolves()
     ensures built { BuildingIsResolved }
     ensures applied { ApplyingIsResolved }

@@ -36,7 +36,7 @@ impl Buffer {
         }
     }
 
-    // Puts some bytes behind those that wait; false, and nothing changed, where they don't fit.
+    /// Puts some bytes behind those that wait; false, and nothing changed, where they don't fit.
     fn hold(&mut self, bytes: &[u8]) -> bool
         ensures held { OnTrue result (self.new ≡ self.old ++ bytes.now) }
         ensures full { OnFalse result (self.new ≡ self.old) }

@@ -10,7 +10,7 @@ use crate::buffer::Buffer;
 use crate::digits::{without_zeros, write_digits};
 use dt_names::{Fault, Sink};
 
-// Writes a cell behind what leads to it.
+/// Writes a cell behind what leads to it.
 fn put_cell<S: Sink>(
     buffer: &mut Buffer,
     out: &mut S,
@@ -28,7 +28,7 @@ fn put_cell<S: Sink>(
     buffer.put(out, without_zeros(&digits))
 }
 
-// Writes cells behind a cell.
+/// Writes cells behind a cell.
 fn put_cells_behind<S: Sink>(buffer: &mut Buffer, out: &mut S, cells: &[u8]) -> Result<(), Fault>
     ensures passed { OnOk result (IsPassed (S.taken out.old) (S.taken out.new)
         buffer.old (cells_behind cells.now) buffer.new) }
@@ -44,7 +44,11 @@ fn put_cells_behind<S: Sink>(buffer: &mut Buffer, out: &mut S, cells: &[u8]) -> 
 }
 
 /// Writes cells between angle brackets.
-pub fn put_cells<S: Sink>(buffer: &mut Buffer, out: &mut S, cells: &[u8]) -> Result<(), Fault>
+pub(crate) fn put_cells<S: Sink>(
+    buffer: &mut Buffer,
+    out: &mut S,
+    cells: &[u8],
+) -> Result<(), Fault>
     requires some { 0 < length cells.now }
     requires whole { length cells.now % 4 ≡ 0 }
     ensures passed { OnOk result (IsPassed (S.taken out.old) (S.taken out.new)
@@ -60,7 +64,7 @@ pub fn put_cells<S: Sink>(buffer: &mut Buffer, out: &mut S, cells: &[u8]) -> Res
     buffer.put(out, b">")
 }
 
-// Writes a byte behind what leads to it.
+/// Writes a byte behind what leads to it.
 fn put_byte<S: Sink>(buffer: &mut Buffer, out: &mut S, lead: &[u8], byte: u8) -> Result<(), Fault>
     ensures passed { OnOk result (IsPassed (S.taken out.old) (S.taken out.new)
         buffer.old (lead.now ++ hexadecimal (byte ∷ [])) buffer.new) }
@@ -73,7 +77,7 @@ fn put_byte<S: Sink>(buffer: &mut Buffer, out: &mut S, lead: &[u8], byte: u8) ->
     buffer.put(out, &digits)
 }
 
-// Writes bytes behind a byte.
+/// Writes bytes behind a byte.
 fn put_bytes_behind<S: Sink>(buffer: &mut Buffer, out: &mut S, bytes: &[u8]) -> Result<(), Fault>
     ensures passed { OnOk result (IsPassed (S.taken out.old) (S.taken out.new)
         buffer.old (bytes_behind bytes.now) buffer.new) }
@@ -87,7 +91,11 @@ fn put_bytes_behind<S: Sink>(buffer: &mut Buffer, out: &mut S, bytes: &[u8]) -> 
 }
 
 /// Writes bytes between square brackets.
-pub fn put_bytes<S: Sink>(buffer: &mut Buffer, out: &mut S, bytes: &[u8]) -> Result<(), Fault>
+pub(crate) fn put_bytes<S: Sink>(
+    buffer: &mut Buffer,
+    out: &mut S,
+    bytes: &[u8],
+) -> Result<(), Fault>
     requires { 0 < length bytes.now }
     ensures passed { OnOk result (IsPassed (S.taken out.old) (S.taken out.new)
         buffer.old (codes " = [" ++ (bytes_text bytes.now ++ codes "]")) buffer.new) }

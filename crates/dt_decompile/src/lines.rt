@@ -13,7 +13,7 @@ use dt_names::{Fault, Sink};
 
 const TABS: &[u8; 8] = b"\t\t\t\t\t\t\t\t";
 
-// Writes so many tabs.
+/// Writes so many tabs.
 fn put_tabs<S: Sink>(buffer: &mut Buffer, out: &mut S, count: usize) -> Result<(), Fault>
     ensures passed { OnOk result (IsPassed (S.taken out.old) (S.taken out.new)
         buffer.old (tabs count) buffer.new) }
@@ -29,7 +29,7 @@ fn put_tabs<S: Sink>(buffer: &mut Buffer, out: &mut S, count: usize) -> Result<(
     buffer.put(out, &TABS[..left])
 }
 
-// The name of a node inside so many others; the root's is a slash.
+/// The name of a node inside so many others; the root's is a slash.
 fn shown(depth: usize, name: &[u8]) -> &[u8]
     ensures { result.now ≡ shown_name depth name.now }
 {
@@ -37,7 +37,7 @@ fn shown(depth: usize, name: &[u8]) -> &[u8]
 }
 
 /// Writes the line at which a node begins, inside so many others.
-pub fn put_open<S: Sink>(
+pub(crate) fn put_open<S: Sink>(
     buffer: &mut Buffer,
     out: &mut S,
     depth: usize,
@@ -54,7 +54,7 @@ pub fn put_open<S: Sink>(
 }
 
 /// Writes the line of a property, inside so many nodes.
-pub fn put_property<S: Sink>(
+pub(crate) fn put_property<S: Sink>(
     buffer: &mut Buffer,
     out: &mut S,
     depth: usize,
@@ -73,7 +73,11 @@ pub fn put_property<S: Sink>(
 }
 
 /// Writes the line at which a node ends, inside so many others.
-pub fn put_close<S: Sink>(buffer: &mut Buffer, out: &mut S, depth: usize) -> Result<(), Fault>
+pub(crate) fn put_close<S: Sink>(
+    buffer: &mut Buffer,
+    out: &mut S,
+    depth: usize,
+) -> Result<(), Fault>
     ensures passed { OnOk result (IsPassed (S.taken out.old) (S.taken out.new)
         buffer.old (close_line depth) buffer.new) }
     ensures refused { IfErr result (λ fault. IsRefused fault (buffer.old ++ close_line depth)

@@ -11,7 +11,7 @@ use crate::digits::write_digits;
 use dt_names::{Fault, Sink};
 use dt_read::Reservations;
 
-// Writes a number of sixteen digits behind what leads to it.
+/// Writes a number of sixteen digits behind what leads to it.
 fn put_number<S: Sink>(
     buffer: &mut Buffer,
     out: &mut S,
@@ -29,7 +29,7 @@ fn put_number<S: Sink>(
     buffer.put(out, &digits)
 }
 
-// Writes the line of a reservation.
+/// Writes the line of a reservation.
 fn put_reservation<S: Sink>(
     buffer: &mut Buffer,
     out: &mut S,
@@ -47,7 +47,7 @@ fn put_reservation<S: Sink>(
 }
 
 /// Writes a line for each reservation.
-pub fn put_reservations<S: Sink>(
+pub(crate) fn put_reservations<S: Sink>(
     buffer: &mut Buffer,
     out: &mut S,
     reservations: Reservations,

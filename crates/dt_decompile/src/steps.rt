@@ -11,7 +11,7 @@ use crate::lines::{put_close, put_open, put_property};
 use dt_names::{Fault, Sink};
 use dt_read::{Step, Steps};
 
-// Writes the line of a step inside so many nodes.
+/// Writes the line of a step inside so many nodes.
 fn put_step<S: Sink>(
     buffer: &mut Buffer,
     out: &mut S,
@@ -30,7 +30,7 @@ fn put_step<S: Sink>(
     }
 }
 
-// Inside how many nodes the next step stands.
+/// Inside how many nodes the next step stands.
 fn depth_behind(depth: usize, step: Step) -> usize
     requires { depth + 1 < 2 ^ 64 }
     ensures { result ≡ depth_after depth (step_view step.entry) }
@@ -43,7 +43,11 @@ fn depth_behind(depth: usize, step: Step) -> usize
 }
 
 /// Writes the lines of a walk that begins at the root.
-pub fn put_steps<S: Sink>(buffer: &mut Buffer, out: &mut S, steps: Steps) -> Result<(), Fault>
+pub(crate) fn put_steps<S: Sink>(
+    buffer: &mut Buffer,
+    out: &mut S,
+    steps: Steps,
+) -> Result<(), Fault>
     requires { opened steps < 2 ^ 32 }
     ensures passed { OnOk result (IsPassed (S.taken out.old) (S.taken out.new)
         buffer.old (lines_of 0 steps.entry) buffer.new) }

@@ -12,7 +12,7 @@ use crate::steps::put_steps;
 use dt_names::{Fault, Sink};
 use dt_read::Blob;
 
-// Writes a tree.
+/// Writes a tree.
 fn put_text<S: Sink>(buffer: &mut Buffer, out: &mut S, blob: &Blob) -> Result<(), Fault>
     ensures passed { OnOk result (IsPassed (S.taken out.old) (S.taken out.new)
         buffer.old (printed (reading_of blob.now)) buffer.new) }

@@ -11,7 +11,7 @@ use dt_names::{Fault, Sink};
 use memchr::memchr3;
 
 /// Whether a value is texts, none of them empty, each with a NUL.
-pub fn are_texts(value: &[u8]) -> bool
+pub(crate) fn are_texts(value: &[u8]) -> bool
     ensures { result ≡ are_texts_of value.now }
 {
     if value.is_empty() {
@@ -29,7 +29,7 @@ pub fn are_texts(value: &[u8]) -> bool
     begins
 }
 
-// What is written for a byte between quotes that doesn't stand there as it is: a NUL, a quote or a backslash.
+/// What is written for a byte between quotes that doesn't stand there as it is: a NUL, a quote or a backslash.
 fn mark(byte: u8, behind: &[u8]) -> &'static [u8]
     requires { is_byte3 0 34 92 byte ≡ true }
     ensures { texts_from (byte ∷ behind.now) ≡ result.now ++ texts_from behind.now }
@@ -42,7 +42,7 @@ fn mark(byte: u8, behind: &[u8]) -> &'static [u8]
     }
 }
 
-// The bytes up to a NUL, a quote or a backslash, what is written for it, and the bytes behind it.
+/// The bytes up to a NUL, a quote or a backslash, what is written for it, and the bytes behind it.
 fn next_mark(texts: &[u8]) -> Option<(&[u8], &'static [u8], &[u8])>
     ensures { MatchOption result (texts_from texts.now ≡ texts.now)
         (λ m. (texts_from texts.now ≡ m.0.now ++ (m.1.now ++ texts_from m.2.now)) × (length m.2.now < length texts.now)) }
@@ -52,7 +52,7 @@ fn next_mark(texts: &[u8]) -> Option<(&[u8], &'static [u8], &[u8])>
     Some((&texts[..at], mark(texts[at], behind), behind))
 }
 
-// Writes texts from the inside of the first on.
+/// Writes texts from the inside of the first on.
 fn put_texts_from<S: Sink>(buffer: &mut Buffer, out: &mut S, texts: &[u8]) -> Result<(), Fault>
     ensures passed { OnOk result (IsPassed (S.taken out.old) (S.taken out.new)
         buffer.old (texts_from texts.now) buffer.new) }
@@ -69,7 +69,11 @@ fn put_texts_from<S: Sink>(buffer: &mut Buffer, out: &mut S, texts: &[u8]) -> Re
 }
 
 /// Writes texts between quotes.
-pub fn put_texts<S: Sink>(buffer: &mut Buffer, out: &mut S, texts: &[u8]) -> Result<(), Fault>
+pub(crate) fn put_texts<S: Sink>(
+    buffer: &mut Buffer,
+    out: &mut S,
+    texts: &[u8],
+) -> Result<(), Fault>
     ensures passed { OnOk result (IsPassed (S.taken out.old) (S.taken out.new)
         buffer.old (codes " = \"" ++ texts_from texts.now) buffer.new) }
     ensures refused { IfErr result (λ fault. IsRefused fault (buffer.old ++ (codes " = \"" ++ texts_from texts.now))

@@ -11,7 +11,11 @@ use crate::texts::{are_texts, put_texts};
 use dt_names::{Fault, Sink};
 
 /// Writes what stands behind a property's name: nothing for no bytes, else texts, cells or bytes, the first of these that fits.
-pub fn put_value<S: Sink>(buffer: &mut Buffer, out: &mut S, value: &[u8]) -> Result<(), Fault>
+pub(crate) fn put_value<S: Sink>(
+    buffer: &mut Buffer,
+    out: &mut S,
+    value: &[u8],
+) -> Result<(), Fault>
     ensures passed { OnOk result (IsPassed (S.taken out.old) (S.taken out.new)
         buffer.old (value_text value.now) buffer.new) }
     ensures refused { IfErr result (λ fault. IsRefused fault (buffer.old ++ value_text value.now)

@@ -13,7 +13,7 @@ use Rattle.dt_model.specs.Tree.{Property, Forest, no_nodes, branch, Reading, val
 use Rattle.dt_model.specs.Valid.{AreDistinct, IsValid}
 use Rattle.dt_model.proofs.Distinct.{in_flat}
 use Rattle.dt_model.proofs.Flat.{from_flat}
-use Rattle.dt_model_laws.proofs.Lasts.{last_passes, stands_by, names_by, value_by}
+use Rattle.dt_model.proofs.Lasts.{last_passes, stands_by, names_by, value_by}
 use Rattle.dt_model.proofs.Listed.{listed_stands, stands_listed, listed_value, value_listed, properties_listed}
 use Rattle.dt_model_laws.proofs.Meanings.{no_twice}
 use Rattle.dt_model.proofs.Tests.{in_map, each_in, bytes_eq_refl, bytes_eq_true, path_eq_refl}

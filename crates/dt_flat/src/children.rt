@@ -12,7 +12,7 @@ use std::marker::Model;
 
 /// Names and numbers of children, in the order in which they were added.
 #[derive(Drop)]
-pub struct ChildTable {
+pub(crate) struct ChildTable {
     nodes: IndexMap<Vec<u8>, NodeId, Seed>,
 }
 

@@ -13,16 +13,16 @@ use indexmap::IndexMap;
 use std::alloc::{AllocError, Global};
 
 /// Which node has a number.
-pub type Phandles = IndexMap<u32, NodeId, Seed>;
+pub(crate) type Phandles = IndexMap<u32, NodeId, Seed>;
 
 /// The node that has the number.
-pub fn find_number(phandles: &Phandles, number: u32) -> Option<NodeId>
+pub(crate) fn find_number(phandles: &Phandles, number: u32) -> Option<NodeId>
     ensures { result ≡ holder phandles.now number }
 {
     phandles.get(&number).copied()
 }
 
-// Has no other node the number?
+/// Has no other node the number?
 fn is_free(phandles: &Phandles, number: u32, node: NodeId) -> bool
     ensures { IsTrue result ↔ ((i : ℕ) → holder phandles.now number ≡ Some i → i ≡ node) }
 {
@@ -33,7 +33,7 @@ fn is_free(phandles: &Phandles, number: u32, node: NodeId) -> bool
 }
 
 /// The number that a value of the property `phandle` gives a node; None where it gives none, or another node has it.
-pub fn free_number(phandles: &Phandles, node: NodeId, value: &[u8]) -> Option<u32>
+pub(crate) fn free_number(phandles: &Phandles, node: NodeId, value: &[u8]) -> Option<u32>
     ensures may { IsSome result ↔ MayGive phandles.now node value.now }
     ensures number { IfSome result (λ number. number ≡ from_be_bytes w32 value.now) }
     ensures cell { IfSome result (λ number. value.now ≡ cell number) }
@@ -46,7 +46,7 @@ pub fn free_number(phandles: &Phandles, node: NodeId, value: &[u8]) -> Option<u3
 }
 
 /// Gives a node a number in the place of the one before. No node has the number yet, or this node has it.
-pub fn give(phandles: &mut Phandles, before: Option<u32>, number: u32, node: NodeId)
+pub(crate) fn give(phandles: &mut Phandles, before: Option<u32>, number: u32, node: NodeId)
     requires { 0 < spare phandles.old }
     ensures { (n : ℕ) → holder phandles.new n ≡ given phandles.old before number node n }
 {

@@ -16,7 +16,7 @@ use std::marker::Model;
 
 /// What is kept of a node.
 #[derive(Drop)]
-pub struct Place {
+pub(crate) struct Place {
     pub parent: NodeId,
     pub depth: usize,
     pub name: Vec<u8>,
@@ -26,7 +26,7 @@ pub struct Place {
 
 /// All nodes by their numbers. The root stands beside the others, so that a tree of a root alone takes no memory.
 #[derive(Drop)]
-pub struct Places {
+pub(crate) struct Places {
     seed: Seed,
     root: Place,
     others: Vec<Place>,
@@ -62,7 +62,7 @@ impl Place {
     }
 }
 
-// Adds to the children that a node lists.
+/// Adds to the children that a node lists.
 fn list(
     root: &mut Place,
     others: &mut Vec<Place>,
@@ -87,7 +87,7 @@ fn list(
     }
 }
 
-// Adds the node that comes next to the children that its parent lists, and makes room for it at the end.
+/// Adds the node that comes next to the children that its parent lists, and makes room for it at the end.
 fn list_next(
     root: &mut Place,
     others: &mut Vec<Place>,
@@ -108,8 +108,8 @@ fn list_next(
     list(root, others, alloc, parent, name, node)
 }
 
-// Sets a property of a node.
-fn put(
+/// Sets a property of a node.
+fn set_value(
     root: &mut Place,
     others: &mut Vec<Place>,
     alloc: Global,
@@ -129,7 +129,7 @@ fn put(
     }
 }
 
-// Writes a number at an offset of the value of a property.
+/// Writes a number at an offset of the value of a property.
 fn patch(
     root: &mut Place,
     others: &mut Vec<Place>,
@@ -226,7 +226,7 @@ impl Places {
         ensures ok { OnOk result (self.new ≡ with_property self.old node name.now value.now) }
         ensures err { OnErr result (self.new ≡ self.old) }
     {
-        put(&mut self.root, &mut self.others, alloc, node, name, value)?;
+        set_value(&mut self.root, &mut self.others, alloc, node, name, value)?;
         Ok(())
     }
 

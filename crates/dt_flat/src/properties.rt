@@ -13,7 +13,7 @@ use std::marker::Model;
 
 /// Properties in the order in which they were first set.
 #[derive(Drop)]
-pub struct PropertyTable {
+pub(crate) struct PropertyTable {
     values: IndexMap<Vec<u8>, Vec<u8>, Seed>,
 }
 
@@ -27,7 +27,7 @@ impl Model for PropertyTable {
     ghost view = { λ a. properties_kept a.values.entries };
 }
 
-// Writes a number, the highest byte first, at an offset.
+/// Writes a number, the highest byte first, at an offset.
 fn write_cell(bytes: &mut [u8], offset: usize, number: u32)
     requires { offset + 4 ≤ length bytes.old }
     ensures { bytes.new ≡ with_cell bytes.old offset number }

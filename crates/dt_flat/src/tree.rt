@@ -10,6 +10,7 @@ ghost use Rattle.dt_flat.specs.Refusals.{WhyNoNode, WhyNotReserved, WhyNotSet, M
 ghost use Rattle.dt_flat.specs.Arena.{Arena, IsRooted, root_alone, children, named_children, child_of, children_behind, first_node, with_child, with_property, properties, name_of, parent_of, node_from, phandle_at, reading};
 ghost use Rattle.dt_flat.specs.Sound.{AreCells};
 ghost use Rattle.dt_names.specs.declared.fault.FaultKind.TheVariants.{NoMemory};
+ghost use Rattle.dt_names.specs.Fault.{IsNoMemory};
 
 use crate::NodeId;
 use crate::children::Children;
@@ -45,7 +46,7 @@ impl Model for FlatTree {
     ghost invariant = { λ a. IsSoundArena (record { boot_cpu = a.boot_cpu; reservations = a.reservations.items; slots = a.places }) a.phandles };
 }
 
-// The number that a node's property `phandle` gives it.
+/// The number that a node's property `phandle` gives it.
 fn number_at(places: &Places, node: NodeId) -> Option<u32>
     requires { node < length places.now }
     ensures { result ≡ phandle_at places.now node }
@@ -57,7 +58,7 @@ fn number_at(places: &Places, node: NodeId) -> Option<u32>
     Some(u32::from_be_bytes([value[0], value[1], value[2], value[3]]))
 }
 
-// Sets the property `phandle` of a node, which gives it a number in the place of the one before.
+/// Sets the property `phandle` of a node, which gives it a number in the place of the one before.
 fn put_number(
     places: &mut Places,
     phandles: &mut Phandles,
@@ -177,7 +178,7 @@ impl FlatTree {
         self.set_phandle(node, value)
     }
 
-    // Sets the property `phandle` of a node.
+    /// Sets the property `phandle` of a node.
     fn set_phandle(&mut self, node: NodeId, value: &[u8]) -> Result<(), Fault>
         requires { node < length self.old.slots }
         ensures ok { OnOk result
@@ -346,7 +347,7 @@ impl FlatTree {
     pub fn path(&self, alloc: Global, node: NodeId) -> Result<Path, Fault>
         requires { node < length self.now.slots }
         ensures value { IfOk result (λ path. node_from self.now.slots 0 path ≡ Some node) }
-        ensures refused { IfErr result (λ fault. (fault.kind ≡ NoMemory) × (fault.at ≡ None)) }
+        ensures refused { IfErr result IsNoMemory }
     {
         path_of(&self.places, alloc, node)
     }

@@ -108,7 +108,7 @@ pub fn source_has_places()
 {}
 
 /// Small sources say what they should, and one that ends too early, or has a property behind a child, says nothing.
-pub fn small_sources()
+pub(crate) fn small_sources()
     ensures empty { SpellsSource empty_root empty_root_says }
     ensures unended { (s : Says) → ¬ SpellsSource unended_root s }
     ensures disordered { (s : Says) → ¬ SpellsSource property_behind_child s }
@@ -116,6 +116,6 @@ pub fn small_sources()
 {}
 
 /// Small sources with a fault of each kind, and the token at which it shows.
-pub fn first_faults()
+pub(crate) fn first_faults()
     ensures { FirstFaults }
 {}

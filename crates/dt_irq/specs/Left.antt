@@ -2,14 +2,15 @@
 use Rattle.std.specs.Prelude.{◌≡◌, ◌+◌, ◌*◌, ◌≤◌, ℕ, List, length}
 use Rattle.dt_model.specs.Path.{Path}
 use Rattle.dt_names.specs.declared.fault.FaultKind.TheVariants.{NoInterrupts}
-use Rattle.dt_read.specs.Placed.{PlacedTree, path_at, reading_of, IsNode}
+use Rattle.dt_read.specs.Placed.{PlacedTree, path_at, IsNode}
 use Rattle.dt_resolve_model.specs.Answers.{Answer, answer, ◌>>=◌}
-use Rattle.dt_resolve_model.specs.World.{Quad, tree_world, quads_of, value_of_bytes}
+use Rattle.dt_resolve_model.specs.World.{Quad, quads_of, value_of_bytes}
 use Rattle.dt_resolve_model.specs.Regions.{entries, entry_at}
 use Rattle.dt_resolve_model.specs.Interrupts.{Sent, specifier_count, is_ragged, entry_sent, listed_at, IsSent}
 use Rattle.dt_irq.specs.declared.lists.Listed.{Listed}
 use Rattle.dt_irq.specs.declared.lists.Entries.{Entries}
 use Rattle.dt_irq.specs.declared.lists.Entries.TheVariants.{Extended, Plain}
+use Rattle.dt_view.specs.Views.{world_of}
 
 -- the entry of `interrupts` that an index names, where this many cells are at the interrupt parent
 abbrev pub entry_listed : Path → ℕ → ℕ → ℕ → List Quad → Answer Sent
@@ -21,19 +22,19 @@ pub record AreListed (t : PlacedTree) (p : Path) (i : ℕ) (r : Listed) : Type 0
   pub some : 1 ≤ r.cells
   pub few : r.cells ≤ 8
   pub long : length r.rest.now ≡ r.count * (4 * r.cells)
-  pub left : (k : ℕ) → IsSent (tree_world (reading_of t)) p (i + k) (entry_listed (path_at t r.parent) k r.count r.cells (quads_of r.rest.now))
+  pub left : (k : ℕ) → IsSent (world_of t) p (i + k) (entry_listed (path_at t r.parent) k r.count r.cells (quads_of r.rest.now))
 
 -- they are all those of a list
 pub record AreEntriesOf (t : PlacedTree) (list : List ℕ) (r : Listed) : Type 0 where
   pub some : 1 ≤ r.cells
   pub few : r.cells ≤ 8
   pub long : length r.rest.now ≡ r.count * (4 * r.cells)
-  pub is : (k : ℕ) → listed_at (tree_world (reading_of t)) k (value_of_bytes list) (path_at t r.parent) ≡ entry_listed (path_at t r.parent) k r.count r.cells (quads_of r.rest.now)
+  pub is : (k : ℕ) → listed_at (world_of t) k (value_of_bytes list) (path_at t r.parent) ≡ entry_listed (path_at t r.parent) k r.count r.cells (quads_of r.rest.now)
 
 -- the bytes are those of its `interrupts-extended`
 abbrev pub AreExtended : PlacedTree → Path → ℕ → List ℕ → Type 0
 AreExtended t p i rest =
-    (k : ℕ) → IsSent (tree_world (reading_of t)) p (i + k) (entry_sent (tree_world (reading_of t)) (specifier_count (tree_world (reading_of t))) (is_ragged (value_of_bytes rest)) k (quads_of rest))
+    (k : ℕ) → IsSent (world_of t) p (i + k) (entry_sent (world_of t) (specifier_count (world_of t)) (is_ragged (value_of_bytes rest)) k (quads_of rest))
 
 abbrev pub AreSentFrom : PlacedTree → Path → ℕ → Entries → Type 0
 AreSentFrom t p i (Extended rest) = AreExtended t p i rest.now

@@ -1,17 +1,18 @@
 -- The interrupts of a node that are left, as routes.
 use Rattle.std.specs.Prelude.{◌≡◌, ℕ}
 use Rattle.dt_model.specs.Path.{Path}
-use Rattle.dt_read.specs.Placed.{PlacedTree, reading_of}
+use Rattle.dt_read.specs.Placed.{PlacedTree}
 use Rattle.dt_resolve_model.specs.Answers.{answer}
-use Rattle.dt_resolve_model.specs.World.{tree_world, quads_of}
+use Rattle.dt_resolve_model.specs.World.{quads_of}
 use Rattle.dt_irq.specs.Cells.{unit_at}
 use Rattle.dt_irq.specs.Left.{AreSentFrom, bytes_left}
 use Rattle.dt_irq.specs.declared.routing.Routes.{Routes}
+use Rattle.dt_view.specs.Views.{world_of}
 
 -- the routes are those of a node from an index on
 pub record AreLeft (t : PlacedTree) (p : Path) (i : ℕ) (r : Routes) : Type 0 where
   pub entries : AreSentFrom t p i r.entries
-  pub unit : unit_at (tree_world (reading_of t)) p ≡ answer (quads_of r.unit.now)
+  pub unit : unit_at (world_of t) p ≡ answer (quads_of r.unit.now)
 
 -- they are some node's
 abbrev pub IsLeft : PlacedTree → Routes → Type 0

@@ -1,12 +1,13 @@
 //! Hops of interrupts through the maps of nexus nodes (Devicetree Specification v0.4, 2.4.3).
 
 ghost use Rattle.std.specs.Prelude.{◌≡◌, ◌+◌, ◌*◌, ◌/◌, ◌≤◌, ◌++◌, length, IfOk};
-ghost use Rattle.dt_read.specs.Placed.{path_at, reading_of};
+ghost use Rattle.dt_read.specs.Placed.{path_at};
 ghost use Rattle.dt_resolve_model.specs.Answers.{told_as};
-ghost use Rattle.dt_resolve_model.specs.World.{quads_of, tree_world, value_of_bytes};
+ghost use Rattle.dt_resolve_model.specs.World.{quads_of, value_of_bytes};
 ghost use Rattle.dt_resolve_model.specs.Interrupts.{hop, led};
 ghost use Rattle.dt_irq.specs.Cells.{numbers_of};
 ghost use Rattle.dt_irq.specs.Seen.{interrupt_in, IsSpecified};
+ghost use Rattle.dt_view.specs.Views.{world_of};
 
 use crate::rows::{first_match, mask_of};
 use crate::spaces::{Space, interrupt_cells};
@@ -19,7 +20,7 @@ const MOST_COMPARED: usize = 12;
 
 /// An interrupt on its way: the node that it has come to, the unit address and the specifier there.
 #[derive(Clone, Copy)]
-pub struct Interrupt<'v> {
+pub(crate) struct Interrupt<'v> {
     pub node: NodeId,
     pub unit: &'v [u8],
     pub specifier: &'v [u8],
@@ -48,7 +49,7 @@ fn led<'v, V: TreeView>(
     requires address { address ≤ 4 }
     requires specifier { specifier ≤ 8 }
     ensures is { told_as (interrupt_in (V.tree view.now)) result
-        ≡ led (tree_world (reading_of (V.tree view.now))) (path_at (V.tree view.now) at.now.node) (quads_of at.now.unit.now) (quads_of at.now.specifier.now) (value_of_bytes map.now) address specifier }
+        ≡ led (world_of (V.tree view.now)) (path_at (V.tree view.now) at.now.node) (quads_of at.now.unit.now) (quads_of at.now.specifier.now) (value_of_bytes map.now) address specifier }
     ensures there { IfOk result (λ i. IsSpecified (V.tree view.now) i.node i.specifier.now) }
 {
     let width = address + specifier;
@@ -65,13 +66,13 @@ fn led<'v, V: TreeView>(
 }
 
 /// A hop by the map of the node that an interrupt has come to.
-pub fn hop<'v, V: TreeView>(
+pub(crate) fn hop<'v, V: TreeView>(
     view: &'v V,
     at: &Interrupt<'v>,
     map: &'v [u8],
 ) -> Result<Interrupt<'v>, Fault>
     requires { IsSpecified (V.tree view.now) at.now.node at.now.specifier.now }
-    ensures is { told_as (interrupt_in (V.tree view.now)) result ≡ hop (tree_world (reading_of (V.tree view.now))) (interrupt_in (V.tree view.now) at.now) (value_of_bytes map.now) }
+    ensures is { told_as (interrupt_in (V.tree view.now)) result ≡ hop (world_of (V.tree view.now)) (interrupt_in (V.tree view.now) at.now) (value_of_bytes map.now) }
     ensures there { IfOk result (λ i. IsSpecified (V.tree view.now) i.node i.specifier.now) }
 {
     let address = address_cells(view, at.node, 2)? as usize;

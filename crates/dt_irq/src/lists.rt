@@ -3,12 +3,13 @@
 ghost use Rattle.std.specs.Prelude.{◌≡◌, ◌+◌, ◌<◌, ℕ, IfOk, IfErr, IfSome, OnOk, MatchOption, length};
 ghost use Rattle.dt_model.specs.Path.{Path};
 ghost use Rattle.dt_names.specs.declared.fault.FaultKind.TheVariants.{NoInterrupts};
-ghost use Rattle.dt_read.specs.Placed.{path_at, reading_of, IsNode};
+ghost use Rattle.dt_read.specs.Placed.{path_at, IsNode};
 ghost use Rattle.dt_resolve_model.specs.Answers.{answer, refuse, refused, told_as};
-ghost use Rattle.dt_resolve_model.specs.World.{tree_world, value_of_bytes};
+ghost use Rattle.dt_resolve_model.specs.World.{value_of_bytes};
 ghost use Rattle.dt_resolve_model.specs.Interrupts.{listed_at, IsSent};
 ghost use Rattle.dt_irq.specs.Left.{bytes_left, AreEntriesOf, AreListed, AreSentFrom, IsSentFrom};
 ghost use Rattle.dt_irq.specs.Seen.{sent_in, IsSpecified};
+ghost use Rattle.dt_view.specs.Views.{world_of};
 
 use crate::parents::interrupt_parent;
 use crate::sending::{Sent, entry_sent, first_entry};
@@ -18,7 +19,7 @@ use dt_view::{TreeView, cells_after, first_cells};
 
 /// The entries of `interrupts` that are left, each of so many cells, at the interrupt parent.
 #[derive(Clone, Copy)]
-pub struct Listed<'v> {
+pub(crate) struct Listed<'v> {
     pub parent: NodeId,
     pub cells: usize,
     pub rest: &'v [u8],
@@ -27,18 +28,18 @@ pub struct Listed<'v> {
 
 /// The entries of a node that are left: of `interrupts-extended`, or where that is absent, of `interrupts`.
 #[derive(Clone, Copy)]
-pub enum Entries<'v> {
+pub(crate) enum Entries<'v> {
     Extended(&'v [u8]),
     Plain(Listed<'v>),
 }
 
 impl<'v> Listed<'v> {
-    // Those of a list at an interrupt parent.
+    /// Those of a list at an interrupt parent.
     fn of<V: TreeView>(view: &V, parent: NodeId, list: &'v [u8]) -> Result<Listed<'v>, Fault>
         requires { IsNode (V.tree view.now) parent }
         ensures parent { IfOk result (λ listed. listed.parent ≡ parent) }
         ensures left { IfOk result (AreEntriesOf (V.tree view.now) list.now) }
-        ensures refused { IfErr result (λ fault. (i : ℕ) → listed_at (tree_world (reading_of (V.tree view.now))) i (value_of_bytes list.now) (path_at (V.tree view.now) parent) ≡ refused fault) }
+        ensures refused { IfErr result (λ fault. (i : ℕ) → listed_at (world_of (V.tree view.now)) i (value_of_bytes list.now) (path_at (V.tree view.now) parent) ≡ refused fault) }
     {
         let cells = interrupt_cells(view, parent)?;
         if list.len() % (4 * cells) != 0 {
@@ -52,12 +53,12 @@ impl<'v> Listed<'v> {
         })
     }
 
-    // The entry that has so many before it; None where it isn't there.
+    /// The entry that has so many before it; None where it isn't there.
     fn nth<V: TreeView>(&self, view: &V, index: u64) -> Option<Sent<'v>>
         requires { (p : Path) × (i : ℕ) × AreListed (V.tree view.now) p i self.now }
         ensures is { (p : Path) (i : ℕ) → AreListed (V.tree view.now) p i self.now
-            → MatchOption result (IsSent (tree_world (reading_of (V.tree view.now))) p (i + index) (refuse NoInterrupts))
-            (λ sent. IsSent (tree_world (reading_of (V.tree view.now))) p (i + index) (answer (sent_in (V.tree view.now) sent))) }
+            → MatchOption result (IsSent (world_of (V.tree view.now)) p (i + index) (refuse NoInterrupts))
+            (λ sent. IsSent (world_of (V.tree view.now)) p (i + index) (answer (sent_in (V.tree view.now) sent))) }
         ensures specified { IfSome result (λ sent. IsSpecified (V.tree view.now) sent.node sent.specifier.now) }
         ensures there { IfSome result (λ _. index < self.now.count) }
     {
@@ -74,12 +75,12 @@ impl<'v> Listed<'v> {
         })
     }
 
-    // The next entry; None behind the last one.
+    /// The next entry; None behind the last one.
     fn next<V: TreeView>(&mut self, view: &V) -> Option<Sent<'v>>
         requires { (p : Path) × (i : ℕ) × AreListed (V.tree view.now) p i self.old }
         ensures is { (p : Path) (i : ℕ) → AreListed (V.tree view.now) p i self.old
-            → MatchOption result (IsSent (tree_world (reading_of (V.tree view.now))) p i (refuse NoInterrupts) × AreListed (V.tree view.now) p i self.new)
-            (λ sent. IsSent (tree_world (reading_of (V.tree view.now))) p i (answer (sent_in (V.tree view.now) sent)) × AreListed (V.tree view.now) p (i + 1) self.new) }
+            → MatchOption result (IsSent (world_of (V.tree view.now)) p i (refuse NoInterrupts) × AreListed (V.tree view.now) p i self.new)
+            (λ sent. IsSent (world_of (V.tree view.now)) p i (answer (sent_in (V.tree view.now) sent)) × AreListed (V.tree view.now) p (i + 1) self.new) }
         ensures specified { IfSome result (λ sent. IsSpecified (V.tree view.now) sent.node sent.specifier.now) }
         ensures shorter { IfSome result (λ _. length self.new.rest.now < length self.old.rest.now) }
     {
@@ -98,7 +99,7 @@ impl<'v> Entries<'v> {
     pub fn of<V: TreeView>(view: &'v V, node: NodeId) -> Result<Entries<'v>, Fault>
         requires { IsNode (V.tree view.now) node }
         ensures left { IfOk result (AreSentFrom (V.tree view.now) (path_at (V.tree view.now) node) 0) }
-        ensures refused { IfErr result (λ fault. (i : ℕ) → IsSent (tree_world (reading_of (V.tree view.now))) (path_at (V.tree view.now) node) i (refused fault)) }
+        ensures refused { IfErr result (λ fault. (i : ℕ) → IsSent (world_of (V.tree view.now)) (path_at (V.tree view.now) node) i (refused fault)) }
     {
         if let Some(list) = view.value(node, b"interrupts-extended") {
             return Ok(Entries::Extended(list));
@@ -114,7 +115,7 @@ impl<'v> Entries<'v> {
     /// Where the entry is sent that has so many before it among those left.
     pub fn nth<V: TreeView>(&self, view: &V, index: u64) -> Result<Sent<'v>, Fault>
         requires { IsSentFrom (V.tree view.now) self.now }
-        ensures is { (p : Path) (i : ℕ) → AreSentFrom (V.tree view.now) p i self.now → IsSent (tree_world (reading_of (V.tree view.now))) p (i + index) (told_as (sent_in (V.tree view.now)) result) }
+        ensures is { (p : Path) (i : ℕ) → AreSentFrom (V.tree view.now) p i self.now → IsSent (world_of (V.tree view.now)) p (i + index) (told_as (sent_in (V.tree view.now)) result) }
         ensures specified { IfOk result (λ sent. IsSpecified (V.tree view.now) sent.node sent.specifier.now) }
     {
         match *self {
@@ -130,8 +131,8 @@ impl<'v> Entries<'v> {
     pub fn next<V: TreeView>(&mut self, view: &V) -> Option<Result<Sent<'v>, Fault>>
         requires { IsSentFrom (V.tree view.now) self.old }
         ensures is { (p : Path) (i : ℕ) → AreSentFrom (V.tree view.now) p i self.old
-            → MatchOption result (IsSent (tree_world (reading_of (V.tree view.now))) p i (refuse NoInterrupts) × AreSentFrom (V.tree view.now) p i self.new)
-            (λ r. IsSent (tree_world (reading_of (V.tree view.now))) p i (told_as (sent_in (V.tree view.now)) r) × AreSentFrom (V.tree view.now) p (i + 1) self.new) }
+            → MatchOption result (IsSent (world_of (V.tree view.now)) p i (refuse NoInterrupts) × AreSentFrom (V.tree view.now) p i self.new)
+            (λ r. IsSent (world_of (V.tree view.now)) p i (told_as (sent_in (V.tree view.now)) r) × AreSentFrom (V.tree view.now) p (i + 1) self.new) }
         ensures specified { IfSome result (λ r. IfOk r (λ sent. IsSpecified (V.tree view.now) sent.node sent.specifier.now)) }
         ensures shorter { IfSome result (λ r. OnOk r (bytes_left self.new < bytes_left self.old)) }
     {

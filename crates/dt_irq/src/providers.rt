@@ -1,14 +1,15 @@
 //! Routes of specifiers to their providers (Devicetree Specification v0.4, 2.5).
 
 ghost use Rattle.std.specs.Prelude.{◌≡◌, ◌+◌, ◌-◌, ◌*◌, ◌/◌, ◌<◌, ◌≤◌, ◌⊎◌, ◌++◌, length, drop, replicate, IfOk};
-ghost use Rattle.dt_read.specs.Placed.{path_at, reading_of, IsNode};
+ghost use Rattle.dt_read.specs.Placed.{path_at, IsNode};
 ghost use Rattle.dt_resolve_model.specs.Answers.{told_as};
-ghost use Rattle.dt_resolve_model.specs.World.{tree_world, value_of_bytes};
+ghost use Rattle.dt_resolve_model.specs.World.{value_of_bytes};
 ghost use Rattle.dt_resolve_model.specs.Interrupts.{most_hops};
 ghost use Rattle.dt_resolve_model.specs.Specifiers.{provided, provider_hop, specifier_route};
 ghost use Rattle.dt_irq.specs.Cells.{numbers_of};
 ghost use Rattle.dt_irq.specs.Merging.{first_merged, merged_numbers, number_passed};
 ghost use Rattle.dt_irq.specs.Seen.{end_of, route_in, sent_in, HasArrived, IsSpecified};
+ghost use Rattle.dt_view.specs.Views.{world_of};
 
 use crate::reached::{MOST_CELLS, MOST_HOPS, Route, cells_of};
 use crate::rows::{first_match, mask_of};
@@ -59,7 +60,7 @@ fn merged(row: &[u8], at_hand: &[u32], mask: &[u8]) -> [u32; MOST_CELLS]
 fn onward<V: TreeView>(view: &V, kind: &[u8], so_far: &Route, map: &[u8]) -> Result<Route, Fault>
     requires arrived { HasArrived (V.tree view.now) so_far.now }
     requires few { so_far.now.hops < 64 }
-    ensures is { told_as (end_of (V.tree view.now)) result ≡ provider_hop (tree_world (reading_of (V.tree view.now))) kind.now (end_of (V.tree view.now) so_far.now) (value_of_bytes map.now) }
+    ensures is { told_as (end_of (V.tree view.now)) result ≡ provider_hop (world_of (V.tree view.now)) kind.now (end_of (V.tree view.now) so_far.now) (value_of_bytes map.now) }
     ensures arrived { IfOk result (HasArrived (V.tree view.now)) }
     ensures hops { IfOk result (λ route. route.hops ≡ so_far.now.hops + 1) }
 {
@@ -83,7 +84,7 @@ fn onward<V: TreeView>(view: &V, kind: &[u8], so_far: &Route, map: &[u8]) -> Res
 /// The route of a specifier that was sent to a node.
 fn provided<V: TreeView>(view: &V, kind: &[u8], sent: Sent<'_>) -> Result<Route, Fault>
     requires { IsSpecified (V.tree view.now) sent.node sent.specifier.now }
-    ensures is { told_as (route_in (V.tree view.now)) result ≡ provided (tree_world (reading_of (V.tree view.now))) kind.now most_hops 0 (sent_in (V.tree view.now) sent.entry) }
+    ensures is { told_as (route_in (V.tree view.now)) result ≡ provided (world_of (V.tree view.now)) kind.now most_hops 0 (sent_in (V.tree view.now) sent.entry) }
     ensures arrived { IfOk result (HasArrived (V.tree view.now)) }
 {
     let mut route = Route {
@@ -119,7 +120,7 @@ pub fn specifier_route<V: TreeView>(
     index: u64,
 ) -> Result<Route, Fault>
     requires { IsNode (V.tree view.now) node }
-    ensures is { told_as (route_in (V.tree view.now)) result ≡ specifier_route (tree_world (reading_of (V.tree view.now))) (path_at (V.tree view.now) node) property.now kind.now index }
+    ensures is { told_as (route_in (V.tree view.now)) result ≡ specifier_route (world_of (V.tree view.now)) (path_at (V.tree view.now) node) property.now kind.now index }
     ensures arrived { IfOk result (HasArrived (V.tree view.now)) }
 {
     let Some(list) = view.value(node, property) else {

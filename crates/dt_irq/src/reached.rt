@@ -7,10 +7,10 @@ use dt_names::NodeId;
 use dt_view::cell_at;
 
 /// The most cells of a specifier.
-pub const MOST_CELLS: usize = 8;
+pub(crate) const MOST_CELLS: usize = 8;
 
 /// The most maps of a route.
-pub const MOST_HOPS: usize = 64;
+pub(crate) const MOST_HOPS: usize = 64;
 
 /// The node to which a specifier comes, which is an interrupt's controller or another provider, the specifier there, which is the first `len` of the
 /// cells, with zeros behind them, and how many maps it went through (Devicetree Specification v0.4, 2.4 and 2.5).
@@ -23,7 +23,7 @@ pub struct Route {
 }
 
 /// The cells of a specifier, with zeros behind them.
-pub fn cells_of(specifier: &[u8]) -> [u32; MOST_CELLS]
+pub(crate) fn cells_of(specifier: &[u8]) -> [u32; MOST_CELLS]
     requires { length specifier.now ≤ 32 }
     ensures { result ≡ numbers_of specifier.now ++ replicate (8 - length specifier.now / 4) 0 }
 {

@@ -3,13 +3,14 @@
 ghost use Rattle.std.specs.Prelude.{◌≡◌, ◌+◌, ◌<◌, ℕ, IfOk, IfErr, IfSome, OnOk, MatchOption};
 ghost use Rattle.dt_model.specs.Path.{Path};
 ghost use Rattle.dt_names.specs.declared.fault.FaultKind.TheVariants.{NoInterrupts};
-ghost use Rattle.dt_read.specs.Placed.{path_at, reading_of, IsNode};
+ghost use Rattle.dt_read.specs.Placed.{path_at, IsNode};
 ghost use Rattle.dt_resolve_model.specs.Answers.{answer, refuse, refused, told_as};
-ghost use Rattle.dt_resolve_model.specs.World.{quads_of, tree_world};
+ghost use Rattle.dt_resolve_model.specs.World.{quads_of};
 ghost use Rattle.dt_resolve_model.specs.Interrupts.{IsRoute, most_hops, routed};
 ghost use Rattle.dt_irq.specs.Cells.{unit_at};
 ghost use Rattle.dt_irq.specs.RoutesLeft.{AreLeft, IsLeft, length_left};
 ghost use Rattle.dt_irq.specs.Seen.{interrupt_in, route_in, HasArrived, IsSpecified};
+ghost use Rattle.dt_view.specs.Views.{world_of};
 
 use crate::hops::{Interrupt, hop};
 use crate::lists::Entries;
@@ -20,7 +21,7 @@ use dt_view::TreeView;
 /// The route of an interrupt that was sent to a node.
 fn routed<'v, V: TreeView>(view: &'v V, sent: Interrupt<'v>) -> Result<Route, Fault>
     requires { IsSpecified (V.tree view.now) sent.node sent.specifier.now }
-    ensures is { told_as (route_in (V.tree view.now)) result ≡ routed (tree_world (reading_of (V.tree view.now))) most_hops 0 (interrupt_in (V.tree view.now) sent.entry) }
+    ensures is { told_as (route_in (V.tree view.now)) result ≡ routed (world_of (V.tree view.now)) most_hops 0 (interrupt_in (V.tree view.now) sent.entry) }
     ensures arrived { IfOk result (HasArrived (V.tree view.now)) }
 {
     let mut at = sent;
@@ -48,7 +49,7 @@ fn routed<'v, V: TreeView>(view: &'v V, sent: Interrupt<'v>) -> Result<Route, Fa
 /// The bytes of a node's `reg`, whose whole cells are its unit address; none where it is absent.
 fn unit_of<V: TreeView>(view: &V, node: NodeId) -> &[u8]
     requires { IsNode (V.tree view.now) node }
-    ensures { unit_at (tree_world (reading_of (V.tree view.now))) (path_at (V.tree view.now) node) ≡ answer (quads_of result.now) }
+    ensures { unit_at (world_of (V.tree view.now)) (path_at (V.tree view.now) node) ≡ answer (quads_of result.now) }
 {
     match view.value(node, b"reg") {
         Some(reg) => reg,
@@ -74,7 +75,7 @@ impl<'v> Routes<'v> {
     pub fn of<V: TreeView>(view: &'v V, node: NodeId) -> Result<Routes<'v>, Fault>
         requires { IsNode (V.tree view.now) node }
         ensures left { IfOk result (AreLeft (V.tree view.now) (path_at (V.tree view.now) node) 0) }
-        ensures refused { IfErr result (λ fault. (i : ℕ) → IsRoute (tree_world (reading_of (V.tree view.now))) (path_at (V.tree view.now) node) i (refused fault)) }
+        ensures refused { IfErr result (λ fault. (i : ℕ) → IsRoute (world_of (V.tree view.now)) (path_at (V.tree view.now) node) i (refused fault)) }
     {
         let entries = Entries::of(view, node)?;
         let unit = unit_of(view, node);
@@ -85,8 +86,8 @@ impl<'v> Routes<'v> {
     pub fn next<V: TreeView>(&mut self, view: &'v V) -> Option<Result<Route, Fault>>
         requires { IsLeft (V.tree view.now) self.old }
         ensures is { (p : Path) (i : ℕ) → AreLeft (V.tree view.now) p i self.old
-            → MatchOption result (IsRoute (tree_world (reading_of (V.tree view.now))) p i (refuse NoInterrupts) × AreLeft (V.tree view.now) p i self.new)
-            (λ r. IsRoute (tree_world (reading_of (V.tree view.now))) p i (told_as (route_in (V.tree view.now)) r) × AreLeft (V.tree view.now) p (i + 1) self.new) }
+            → MatchOption result (IsRoute (world_of (V.tree view.now)) p i (refuse NoInterrupts) × AreLeft (V.tree view.now) p i self.new)
+            (λ r. IsRoute (world_of (V.tree view.now)) p i (told_as (route_in (V.tree view.now)) r) × AreLeft (V.tree view.now) p (i + 1) self.new) }
         ensures arrived { IfSome result (λ r. IfOk r (HasArrived (V.tree view.now))) }
         ensures shorter { IfSome result (λ r. OnOk r (length_left self.new < length_left self.old)) }
     {
@@ -119,7 +120,7 @@ impl<'v> Routes<'v> {
 /// nexus wants more cells of an address than the sender's `reg` has. The first of these on the way; none has a place.
 pub fn route<V: TreeView>(view: &V, node: NodeId, index: u64) -> Result<Route, Fault>
     requires { IsNode (V.tree view.now) node }
-    ensures is { IsRoute (tree_world (reading_of (V.tree view.now))) (path_at (V.tree view.now) node) index (told_as (route_in (V.tree view.now)) result) }
+    ensures is { IsRoute (world_of (V.tree view.now)) (path_at (V.tree view.now) node) index (told_as (route_in (V.tree view.now)) result) }
     ensures arrived { IfOk result (HasArrived (V.tree view.now)) }
 {
     let sent = Entries::of(view, node)?.nth(view, index)?;

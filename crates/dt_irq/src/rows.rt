@@ -2,13 +2,13 @@
 
 ghost use Rattle.std.specs.Prelude.{◌≡◌, ◌+◌, ◌*◌, ◌≤◌, ◌⊎◌, length, drop, option_map, IfOk};
 ghost use Rattle.std.specs.Option.{option_copied};
-ghost use Rattle.dt_read.specs.Placed.{reading_of};
 ghost use Rattle.dt_resolve_model.specs.Answers.{answer, told_as};
-ghost use Rattle.dt_resolve_model.specs.World.{quads_of, tree_world, value_of_bytes};
+ghost use Rattle.dt_resolve_model.specs.World.{quads_of, value_of_bytes};
 ghost use Rattle.dt_resolve_model.specs.Interrupts.{equal_under, first_match, is_ragged, map_row, mask_of};
 ghost use Rattle.dt_irq.specs.Cells.{agree, numbers_of, quads};
 ghost use Rattle.dt_irq.specs.Seen.{row_in, IsSpecified};
 ghost use Rattle.dt_irq.specs.Spaces.{widths_in};
+ghost use Rattle.dt_view.specs.Views.{world_of};
 
 use crate::parents::node_of;
 use crate::sending::at_the_end;
@@ -18,7 +18,7 @@ use dt_view::{TreeView, cell_at, cells_after, first_cells};
 
 /// A map's row: what is compared, where it leads, and the number of its cells.
 #[derive(Clone, Copy)]
-pub struct MapRow<'v> {
+pub(crate) struct MapRow<'v> {
     pub compared: &'v [u8],
     pub parent: NodeId,
     pub unit: &'v [u8],
@@ -34,7 +34,7 @@ fn map_row<'v, V: TreeView>(
     cells: &'v [u8],
 ) -> Result<MapRow<'v>, Fault>
     requires { width ≤ 12 }
-    ensures is { told_as (row_in (V.tree view.now)) result ≡ map_row (tree_world (reading_of (V.tree view.now))) (widths_in space.entry (tree_world (reading_of (V.tree view.now)))) width (quads_of cells.now) }
+    ensures is { told_as (row_in (V.tree view.now)) result ≡ map_row (world_of (V.tree view.now)) (widths_in space.entry (world_of (V.tree view.now))) width (quads_of cells.now) }
     ensures there { IfOk result (λ r. IsSpecified (V.tree view.now) r.parent r.specifier.now) }
     ensures compared { IfOk result (λ r. length r.compared.now ≡ 4 * width) }
     ensures size { IfOk result (λ r. 4 * r.size ≤ length cells.now) }
@@ -88,7 +88,7 @@ fn are_equal(compared: &[u8], key: &[u32], mask: &[u8]) -> bool
 }
 
 /// The first row of a map, of which so many cells are compared, that is equal to a key under a mask.
-pub fn first_match<'v, V: TreeView>(
+pub(crate) fn first_match<'v, V: TreeView>(
     view: &V,
     space: Space<'_>,
     width: usize,
@@ -99,7 +99,7 @@ pub fn first_match<'v, V: TreeView>(
     requires width { width ≤ 12 }
     requires mask { (length mask.now ≡ 0) ⊎ (length mask.now ≡ 4 * width) }
     ensures is { told_as (row_in (V.tree view.now)) result
-        ≡ first_match (tree_world (reading_of (V.tree view.now))) (widths_in space.entry (tree_world (reading_of (V.tree view.now)))) (is_ragged (value_of_bytes map.now)) width (quads key.now) (quads_of mask.now) 0 (quads_of map.now) }
+        ≡ first_match (world_of (V.tree view.now)) (widths_in space.entry (world_of (V.tree view.now))) (is_ragged (value_of_bytes map.now)) width (quads key.now) (quads_of mask.now) 0 (quads_of map.now) }
     ensures there { IfOk result (λ r. IsSpecified (V.tree view.now) r.parent r.specifier.now) }
 {
     let mut rest = map;
@@ -114,7 +114,7 @@ pub fn first_match<'v, V: TreeView>(
 }
 
 /// The bits of so many cells that a nexus has in a property, empty where it has none. `BadMap` where it has another number of cells.
-pub fn mask_of(value: Option<&[u8]>, width: usize) -> Result<&[u8], Fault>
+pub(crate) fn mask_of(value: Option<&[u8]>, width: usize) -> Result<&[u8], Fault>
     requires { width ≤ 12 }
     ensures is { told_as (λ mask. quads_of mask.now) result ≡ mask_of width (option_map value_of_bytes (option_copied value.entry)) }
     ensures long { IfOk result (λ mask. (length mask.now ≡ 0) ⊎ (length mask.now ≡ 4 * width)) }

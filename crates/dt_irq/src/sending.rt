@@ -1,12 +1,13 @@
 //! Phandles with specifiers, as `interrupts-extended` and the properties of providers' users list them (Devicetree Specification v0.4, 2.4.1.4 and 2.5).
 
 ghost use Rattle.std.specs.Prelude.{◌≡◌, ◌<◌, length, None, IfOk, if◌then◌else◌};
-ghost use Rattle.dt_read.specs.Placed.{path_at, reading_of, IsNode};
-ghost use Rattle.dt_resolve_model.specs.World.{quads_of, tree_world, value_of_bytes};
+ghost use Rattle.dt_read.specs.Placed.{path_at, IsNode};
+ghost use Rattle.dt_resolve_model.specs.World.{quads_of, value_of_bytes};
 ghost use Rattle.dt_resolve_model.specs.Interrupts.{entry_sent, first_entry, is_ragged};
 ghost use Rattle.dt_resolve_model.specs.Answers.{told_as};
 ghost use Rattle.dt_irq.specs.Seen.{entry_in, sent_in, IsSpecified};
 ghost use Rattle.dt_irq.specs.Spaces.{count_in};
+ghost use Rattle.dt_view.specs.Views.{world_of};
 
 use crate::parents::node_of;
 use crate::spaces::Space;
@@ -15,20 +16,20 @@ use dt_view::{TreeView, cell_at, cells_after, first_cells};
 
 /// A specifier at a node.
 #[derive(Clone, Copy)]
-pub struct Sent<'v> {
+pub(crate) struct Sent<'v> {
     pub node: NodeId,
     pub specifier: &'v [u8],
 }
 
 /// An entry of a list of phandles with specifiers, and what is behind it.
 #[derive(Clone, Copy)]
-pub struct Entry<'v> {
+pub(crate) struct Entry<'v> {
     pub sent: Sent<'v>,
     pub rest: &'v [u8],
 }
 
 /// The fault at the end of a list, behind its last whole cell: one where nothing is left, and one where bytes are.
-pub fn at_the_end(rest: &[u8], nothing: FaultKind, cut: FaultKind) -> Fault
+pub(crate) fn at_the_end(rest: &[u8], nothing: FaultKind, cut: FaultKind) -> Fault
     requires { length rest.now < 4 }
     ensures kind { result.kind ≡ (if is_ragged (value_of_bytes rest.now) then cut else nothing) }
     ensures place { result.at ≡ None }
@@ -41,13 +42,13 @@ pub fn at_the_end(rest: &[u8], nothing: FaultKind, cut: FaultKind) -> Fault
 }
 
 /// The first entry of a list.
-pub fn first_entry<'v, V: TreeView>(
+pub(crate) fn first_entry<'v, V: TreeView>(
     view: &V,
     space: Space<'_>,
     list: &'v [u8],
 ) -> Result<Entry<'v>, Fault>
     ensures is { told_as (entry_in (V.tree view.now)) result
-        ≡ first_entry (tree_world (reading_of (V.tree view.now))) (count_in space.entry (tree_world (reading_of (V.tree view.now)))) (is_ragged (value_of_bytes list.now)) (quads_of list.now) }
+        ≡ first_entry (world_of (V.tree view.now)) (count_in space.entry (world_of (V.tree view.now))) (is_ragged (value_of_bytes list.now)) (quads_of list.now) }
     ensures there { IfOk result (λ e. IsSpecified (V.tree view.now) e.sent.node e.sent.specifier.now) }
     ensures ragged { IfOk result (λ e. is_ragged (value_of_bytes e.rest.now) ≡ is_ragged (value_of_bytes list.now)) }
     ensures shorter { IfOk result (λ e. length e.rest.now < length list.now) }
@@ -69,14 +70,14 @@ pub fn first_entry<'v, V: TreeView>(
 }
 
 /// The entry of a list that an index names, those before it read in order.
-pub fn entry_sent<'v, V: TreeView>(
+pub(crate) fn entry_sent<'v, V: TreeView>(
     view: &V,
     space: Space<'_>,
     list: &'v [u8],
     index: u64,
 ) -> Result<Sent<'v>, Fault>
     ensures is { told_as (sent_in (V.tree view.now)) result
-        ≡ entry_sent (tree_world (reading_of (V.tree view.now))) (count_in space.entry (tree_world (reading_of (V.tree view.now)))) (is_ragged (value_of_bytes list.now)) index (quads_of list.now) }
+        ≡ entry_sent (world_of (V.tree view.now)) (count_in space.entry (world_of (V.tree view.now))) (is_ragged (value_of_bytes list.now)) index (quads_of list.now) }
     ensures there { IfOk result (λ s. IsSpecified (V.tree view.now) s.node s.specifier.now) }
 {
     let mut rest = list;

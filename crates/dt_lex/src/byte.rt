@@ -33,7 +33,7 @@ pub enum Class {
 }
 
 /// Whether a byte is in a class.
-pub fn is_in(class: Class, b: u8) -> bool
+pub(crate) fn is_in(class: Class, b: u8) -> bool
     ensures { result ≡ is_in class b }
 {
     match class {

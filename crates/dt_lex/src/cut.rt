@@ -90,7 +90,7 @@ fn after(rule: Rule, mode: Mode, fresh: bool, unlabelled: usize, text: &[u8]) ->
 }
 
 /// The first rule that has a word at the front, and the text after its longest word, where so many bytes begin no label.
-pub fn cut(mode: Mode, fresh: bool, unlabelled: usize, text: &[u8]) -> Option<(Rule, &[u8])>
+pub(crate) fn cut(mode: Mode, fresh: bool, unlabelled: usize, text: &[u8]) -> Option<(Rule, &[u8])>
     requires { IsUnlabelled unlabelled text.now }
     ensures exact { CutsTo mode fresh text.now result }
     ensures shorter { IfSome result (λ found. length found.1.now < length text.now) }

@@ -6,7 +6,7 @@ use crate::byte::Class;
 use crate::word::{after_all, after_word, begins};
 
 /// How many bytes at the front begin no label: as many as are known already, or those of a first word with no `:` behind it.
-pub fn unlabelled(text: &[u8], known: usize) -> usize
+pub(crate) fn unlabelled(text: &[u8], known: usize) -> usize
     requires { IsUnlabelled known text.now }
     ensures { IsUnlabelled result text.now }
 {

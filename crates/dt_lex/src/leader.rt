@@ -44,7 +44,7 @@ pub enum Leader {
 }
 
 /// What the first byte of a text is.
-pub fn leader_of(text: &[u8]) -> Leader
+pub(crate) fn leader_of(text: &[u8]) -> Leader
     ensures { result ≡ leader_of (slice_index text.now 0) }
 {
     let Some(first) = text.first() else {
@@ -104,7 +104,7 @@ fn behind_slash() -> &'static [Rule]
 }
 
 /// The rules whose words may begin so, in the order in which they are tried.
-pub fn candidates(leader: Leader) -> &'static [Rule]
+pub(crate) fn candidates(leader: Leader) -> &'static [Rule]
     ensures { result.now ≡ filter (leads leader) rules }
 {
     match leader {

@@ -123,7 +123,7 @@ fn inner(word: &[u8]) -> &[u8]
 }
 
 /// The value of a character between quotes.
-pub fn character_value(word: &[u8]) -> u8
+pub(crate) fn character_value(word: &[u8]) -> u8
     ensures { result ≡ character_value word.now }
 {
     match letter(inner(word)) {

@@ -10,7 +10,7 @@ use crate::byte::{Class, is_in};
 use crate::word::split;
 
 /// The digit that a byte stands for.
-pub fn digit_of(b: u8) -> u64
+pub(crate) fn digit_of(b: u8) -> u64
     requires { is_in class.Hex b ≡ true }
     ensures value { result ≡ digit_of b }
     ensures bound { result < 16 }
@@ -32,7 +32,7 @@ fn scaled(value: u64, base: u64, digit: u64) -> Option<u64>
 }
 
 /// The number that the digits of a class at the front spell.
-pub fn integer(word: &[u8], class: Class, base: u64) -> Option<u64>
+pub(crate) fn integer(word: &[u8], class: Class, base: u64) -> Option<u64>
     requires class { IsDigits class }
     requires base { 2 ≤ base }
     ensures { result ≡ integer_of base (digits (is_in class) word.now) }
@@ -57,7 +57,7 @@ pub fn integer(word: &[u8], class: Class, base: u64) -> Option<u64>
 }
 
 /// The base of a number without a prefix: octal where its first digit is 0.
-pub fn base_of(word: &[u8]) -> u64
+pub(crate) fn base_of(word: &[u8]) -> u64
     ensures value { result ≡ base_of word.now }
     ensures least { 2 ≤ result }
 {

@@ -24,7 +24,7 @@ fn behind_prefix(word: &[u8]) -> &[u8]
 }
 
 /// The byte at a place of a word; 0 behind its end.
-pub fn byte_at(word: &[u8], place: usize) -> u8
+pub(crate) fn byte_at(word: &[u8], place: usize) -> u8
     ensures { result ≡ slice_index word.now place }
 {
     if place < word.len() { word[place] } else { 0 }
@@ -51,7 +51,7 @@ fn of_integer(value: Option<u64>) -> Result<Option<TokenKind>, Flaw>
 }
 
 /// What a word of a rule is.
-pub fn outcome(rule: Rule, word: &[u8]) -> Result<Option<TokenKind>, Flaw>
+pub(crate) fn outcome(rule: Rule, word: &[u8]) -> Result<Option<TokenKind>, Flaw>
     requires { IsWordOf rule word.now }
     ensures { result ≡ outcome rule word.now }
 {

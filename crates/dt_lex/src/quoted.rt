@@ -81,7 +81,7 @@ fn after_inside(text: &[u8]) -> Option<&[u8]>
 }
 
 /// After a text between quotes.
-pub fn after_text(text: &[u8]) -> Option<&[u8]>
+pub(crate) fn after_text(text: &[u8]) -> Option<&[u8]>
     ensures exact { Skips TextWord text.now result }
     ensures shorter { IfSome result (λ rest. length rest.now < length text.now) }
 {
@@ -89,7 +89,7 @@ pub fn after_text(text: &[u8]) -> Option<&[u8]>
 }
 
 /// After a character between quotes.
-pub fn after_character(text: &[u8]) -> Option<&[u8]>
+pub(crate) fn after_character(text: &[u8]) -> Option<&[u8]>
     ensures exact { Skips CharacterWord text.now result }
     ensures shorter { IfSome result (λ rest. length rest.now < length text.now) }
 {

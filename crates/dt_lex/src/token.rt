@@ -106,7 +106,7 @@ pub struct Token {
 
 /// What is wrong with a word.
 #[derive(Clone, Copy)]
-pub enum Flaw {
+pub(crate) enum Flaw {
     /// It begins no token.
     BadToken,
     /// It is an integer with a digit that its base lacks, or of 2^64 or more.
@@ -169,7 +169,7 @@ pub fn keyword_bytes(keyword: Keyword) -> &'static [u8]
 }
 
 /// The mode that a token leaves.
-pub fn mode_behind(kind: TokenKind, mode: Mode) -> Mode
+pub(crate) fn mode_behind(kind: TokenKind, mode: Mode) -> Mode
     ensures { result ≡ mode_behind kind mode }
 {
     match mode {

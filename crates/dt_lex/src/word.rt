@@ -8,7 +8,7 @@ ghost use Rattle.dt_lex.specs.Vocabulary.{Run, Closing, IntegerSuffix, Digits, I
 use crate::byte::{Class, is_in};
 
 /// The first byte, and the text after it.
-pub fn split(text: &[u8]) -> Option<(u8, &[u8])>
+pub(crate) fn split(text: &[u8]) -> Option<(u8, &[u8])>
     ensures some { IfSome result (λ found. text.now ≡ found.0 ∷ found.1.now) }
     ensures none { IfNone result (text.now ≡ []) }
 {
@@ -19,7 +19,7 @@ pub fn split(text: &[u8]) -> Option<(u8, &[u8])>
 }
 
 /// Whether the first byte is in a class.
-pub fn begins(text: &[u8], class: Class) -> bool
+pub(crate) fn begins(text: &[u8], class: Class) -> bool
     ensures { IsTrue result ↔ Begins (is_in class) text.now }
 {
     match text.split_first() {
@@ -29,7 +29,7 @@ pub fn begins(text: &[u8], class: Class) -> bool
 }
 
 /// After a word.
-pub fn after_word<'a>(text: &'a [u8], word: &[u8]) -> Option<&'a [u8]>
+pub(crate) fn after_word<'a>(text: &'a [u8], word: &[u8]) -> Option<&'a [u8]>
     ensures exact { Skips (Word word.now) text.now result }
     ensures shorter { IfSome result (λ rest. length rest.now + length word.now ≡ length text.now) }
 {
@@ -37,7 +37,7 @@ pub fn after_word<'a>(text: &'a [u8], word: &[u8]) -> Option<&'a [u8]>
 }
 
 /// After all bytes of a class at the front.
-pub fn after_all(text: &[u8], class: Class) -> &[u8]
+pub(crate) fn after_all(text: &[u8], class: Class) -> &[u8]
     ensures exact { RunsTo (is_in class) text.now result.now }
     ensures shorter { length result.now ≤ length text.now }
 {
@@ -52,7 +52,7 @@ pub fn after_all(text: &[u8], class: Class) -> &[u8]
 }
 
 /// After one or more bytes of a class.
-pub fn after_run(text: &[u8], class: Class) -> Option<&[u8]>
+pub(crate) fn after_run(text: &[u8], class: Class) -> Option<&[u8]>
     ensures exact { Skips (Run class) text.now result }
     ensures shorter { IfSome result (λ rest. length rest.now < length text.now) }
 {
@@ -63,7 +63,7 @@ pub fn after_run(text: &[u8], class: Class) -> Option<&[u8]>
 }
 
 /// After the next `*/`.
-pub fn after_closing(text: &[u8]) -> Option<&[u8]>
+pub(crate) fn after_closing(text: &[u8]) -> Option<&[u8]>
     ensures exact { Skips Closing text.now result }
     ensures shorter { IfSome result (λ rest. length rest.now < length text.now) }
 {
@@ -78,7 +78,7 @@ pub fn after_closing(text: &[u8]) -> Option<&[u8]>
 }
 
 /// After a comment between `/*` and `*/`.
-pub fn after_block_comment(text: &[u8]) -> Option<&[u8]>
+pub(crate) fn after_block_comment(text: &[u8]) -> Option<&[u8]>
     ensures exact { Skips BlockComment text.now result }
     ensures shorter { IfSome result (λ rest. length rest.now < length text.now) }
 {
@@ -86,7 +86,7 @@ pub fn after_block_comment(text: &[u8]) -> Option<&[u8]>
 }
 
 /// After a comment from `//` to the line's end.
-pub fn after_line_comment(text: &[u8]) -> Option<&[u8]>
+pub(crate) fn after_line_comment(text: &[u8]) -> Option<&[u8]>
     ensures exact { Skips LineComment text.now result }
     ensures shorter { IfSome result (λ rest. length rest.now < length text.now) }
 {
@@ -94,7 +94,7 @@ pub fn after_line_comment(text: &[u8]) -> Option<&[u8]>
 }
 
 /// After the suffix of an integer, which may be empty.
-pub fn after_suffix(text: &[u8]) -> Option<&[u8]>
+pub(crate) fn after_suffix(text: &[u8]) -> Option<&[u8]>
     ensures exact { Skips IntegerSuffix text.now result }
     ensures shorter { IfSome result (λ rest. length rest.now ≤ length text.now) }
 {
@@ -117,7 +117,7 @@ pub fn after_suffix(text: &[u8]) -> Option<&[u8]>
 }
 
 /// After digits and a suffix.
-pub fn after_digits(text: &[u8], class: Class) -> Option<&[u8]>
+pub(crate) fn after_digits(text: &[u8], class: Class) -> Option<&[u8]>
     requires { IsDigits class }
     ensures exact { Skips (Digits class) text.now result }
     ensures shorter { IfSome result (λ rest. length rest.now < length text.now) }
@@ -129,7 +129,7 @@ pub fn after_digits(text: &[u8], class: Class) -> Option<&[u8]>
 }
 
 /// After a prefix, hexadecimal digits and a suffix.
-pub fn after_hexadecimal<'a>(text: &'a [u8], prefix: &[u8]) -> Option<&'a [u8]>
+pub(crate) fn after_hexadecimal<'a>(text: &'a [u8], prefix: &[u8]) -> Option<&'a [u8]>
     ensures exact { Skips (Hexadecimal prefix.now) text.now result }
     ensures shorter { IfSome result (λ rest. length rest.now < length text.now) }
 {
@@ -137,7 +137,7 @@ pub fn after_hexadecimal<'a>(text: &'a [u8], prefix: &[u8]) -> Option<&'a [u8]>
 }
 
 /// After two hexadecimal digits.
-pub fn after_byte(text: &[u8]) -> Option<&[u8]>
+pub(crate) fn after_byte(text: &[u8]) -> Option<&[u8]>
     ensures exact { Skips ByteWord text.now result }
     ensures shorter { IfSome result (λ rest. length rest.now < length text.now) }
 {
@@ -151,7 +151,7 @@ pub fn after_byte(text: &[u8]) -> Option<&[u8]>
 }
 
 /// After what the C preprocessor leaves: an opening, spaces or tabs, a digit, and the rest of the line.
-pub fn after_line_marker<'a>(text: &'a [u8], opening: &[u8]) -> Option<&'a [u8]>
+pub(crate) fn after_line_marker<'a>(text: &'a [u8], opening: &[u8]) -> Option<&'a [u8]>
     ensures exact { Skips (LineMarker opening.now) text.now result }
     ensures shorter { IfSome result (λ rest. length rest.now < length text.now) }
 {
@@ -167,7 +167,7 @@ pub fn after_line_marker<'a>(text: &'a [u8], opening: &[u8]) -> Option<&'a [u8]>
 }
 
 /// After letters, digits and `_`, of which the first is no digit.
-pub fn after_identifier(text: &[u8]) -> Option<&[u8]>
+pub(crate) fn after_identifier(text: &[u8]) -> Option<&[u8]>
     ensures exact { Skips Identifier text.now result }
     ensures shorter { IfSome result (λ rest. length rest.now < length text.now) }
 {
@@ -178,7 +178,7 @@ pub fn after_identifier(text: &[u8]) -> Option<&[u8]>
 }
 
 /// After an identifier and `:`.
-pub fn after_label(text: &[u8]) -> Option<&[u8]>
+pub(crate) fn after_label(text: &[u8]) -> Option<&[u8]>
     ensures exact { Skips LabelWord text.now result }
     ensures shorter { IfSome result (λ rest. length rest.now < length text.now) }
 {
@@ -189,7 +189,7 @@ pub fn after_label(text: &[u8]) -> Option<&[u8]>
 }
 
 /// After `&` and an identifier.
-pub fn after_label_reference(text: &[u8]) -> Option<&[u8]>
+pub(crate) fn after_label_reference(text: &[u8]) -> Option<&[u8]>
     ensures exact { Skips LabelReference text.now result }
     ensures shorter { IfSome result (λ rest. length rest.now < length text.now) }
 {
@@ -197,7 +197,7 @@ pub fn after_label_reference(text: &[u8]) -> Option<&[u8]>
 }
 
 /// After `&{`, bytes of names and `/`, and `}`.
-pub fn after_path_reference(text: &[u8]) -> Option<&[u8]>
+pub(crate) fn after_path_reference(text: &[u8]) -> Option<&[u8]>
     ensures exact { Skips PathReference text.now result }
     ensures shorter { IfSome result (λ rest. length rest.now < length text.now) }
 {

@@ -1,14 +1,14 @@
 //! The cells that hold numbers of a tree's own nodes, by their offsets.
 
-ghost use Rattle.std.specs.Prelude.{◌≡◌, ◌<◌, ◌++◌, None, length, map, OnOk, IfErr};
+ghost use Rattle.std.specs.Prelude.{◌≡◌, ◌<◌, ◌++◌, length, map, OnOk, IfErr};
 ghost use Rattle.std.specs.List.{AllByRecursion, flat_map, list_any};
 ghost use Rattle.dt_model.specs.Fixups.{inside_offset, offsets_as};
 ghost use Rattle.dt_model.specs.Object.{references_from};
-ghost use Rattle.dt_names.specs.declared.fault.FaultKind.TheVariants.{NoMemory};
 ghost use Rattle.dt_source_named_tree.specs.Said.{reference_said, value_said, property_said, node_said};
 ghost use Rattle.dt_flat.specs.Planted.{with_properties};
 ghost use Rattle.dt_marks.specs.Cells.{is_inside, has_cells, cells_of};
 ghost use Rattle.dt_marks.specs.Mirrored.{IsNoPhandle};
+ghost use Rattle.dt_names.specs.Fault.{IsNoMemory};
 
 use crate::fixup_texts::behind;
 use dt_flat::FlatTree;
@@ -16,14 +16,14 @@ use dt_names::{Fault, NodeId, PropName};
 use dt_source_named_tree::{NamedNode, NamedProperty, NamedReference, NamedValue};
 use std::alloc::AllocError;
 
-// Is the reference to a node of the tree?
+/// Is the reference to a node of the tree?
 fn is_to_a_node(reference: &NamedReference<'_>) -> bool
     ensures { result ≡ is_inside (reference_said reference.now) }
 {
     matches!(reference, NamedReference::Node(_))
 }
 
-// Has a property such cells?
+/// Has a property such cells?
 fn refers(property: &NamedProperty<'_>) -> bool
     ensures { result ≡ list_any (λ p. is_inside (reference_said p.reference)) property.now.value.pieces.items }
 {
@@ -35,13 +35,13 @@ fn refers(property: &NamedProperty<'_>) -> bool
 }
 
 /// Has a node such cells?
-pub fn holds_cells(node: &NamedNode<'_>) -> bool
+pub(crate) fn holds_cells(node: &NamedNode<'_>) -> bool
     ensures { result ≡ has_cells node.now.properties.items }
 {
     node.properties.iter().any(|property| refers(property))
 }
 
-// Puts the offset of a reference as a cell, of which it is the lowest 32 bits, if the reference is to a node.
+/// Puts the offset of a reference as a cell, of which it is the lowest 32 bits, if the reference is to a node.
 fn put_offset(
     out: &mut Vec<u8>,
     offset: usize,
@@ -55,7 +55,7 @@ fn put_offset(
     }
 }
 
-// Writes the offsets of a value's cells.
+/// Writes the offsets of a value's cells.
 fn put_offsets(out: &mut Vec<u8>, value: &NamedValue<'_>) -> Result<(), AllocError>
     ensures { OnOk result (out.new.items ≡ flat_map inside_offset (references_from 0 (value_said value.now))) }
 {
@@ -69,13 +69,13 @@ fn put_offsets(out: &mut Vec<u8>, value: &NamedValue<'_>) -> Result<(), AllocErr
     Ok(())
 }
 
-// Sets a property to some offsets, if there are some.
+/// Sets a property to some offsets, if there are some.
 fn set_offsets(tree: &mut FlatTree, node: NodeId, name: &[u8], offsets: &[u8]) -> Result<(), Fault>
     requires there { node < length tree.old.slots }
     requires plain { AllByRecursion IsNoPhandle (offsets_as name.now offsets.now) }
     ensures tree { OnOk result (tree.new ≡ record tree.old
         { slots = with_properties tree.old.slots node (offsets_as name.now offsets.now) }) }
-    ensures refused { IfErr result (λ fault. (fault.kind ≡ NoMemory) × (fault.at ≡ None)) }
+    ensures refused { IfErr result IsNoMemory }
 {
     if offsets.is_empty() {
         return Ok(());
@@ -85,7 +85,7 @@ fn set_offsets(tree: &mut FlatTree, node: NodeId, name: &[u8], offsets: &[u8]) -
 }
 
 /// Sets the properties of a node that have such cells to the offsets of these.
-pub fn set_cells(
+pub(crate) fn set_cells(
     tree: &mut FlatTree,
     node: NodeId,
     out: &mut Vec<u8>,
@@ -95,7 +95,7 @@ pub fn set_cells(
     requires plain { AllByRecursion IsNoPhandle (cells_of (map property_said properties.now)) }
     ensures tree { OnOk result (tree.new ≡ record tree.old
         { slots = with_properties tree.old.slots node (cells_of (map property_said properties.now)) }) }
-    ensures refused { IfErr result (λ fault. (fault.kind ≡ NoMemory) × (fault.at ≡ None)) }
+    ensures refused { IfErr result IsNoMemory }
 {
     for property in properties {
         put_offsets(out, &property.value)?;

@@ -12,6 +12,7 @@ ghost use Rattle.dt_flat.specs.Planted.{planted, with_properties};
 ghost use Rattle.dt_marks.specs.Paths.{MayFollow, AreAll};
 ghost use Rattle.dt_marks.specs.Refusals.{WhyNotPlanted};
 ghost use Rattle.dt_marks.specs.Waiting.{with_texts, reference_text, property_texts, texts_behind, all_texts, AreListable, with_outside};
+ghost use Rattle.dt_names.specs.Fault.{IsNoMemory};
 
 use crate::paths::LastPath;
 use crate::waiting::Waiting;
@@ -20,7 +21,7 @@ use dt_names::{Fault, NodeId, NodeName, PropName};
 use dt_source_named_tree::{NamedNode, NamedProperty, NamedReference};
 use std::alloc::{AllocError, Global};
 
-// Lists the cell of a reference at an offset of a property, if it is one by a label.
+/// Lists the cell of a reference at an offset of a property, if it is one by a label.
 fn list_reference(
     table: &mut Waiting,
     path: &[u8],
@@ -37,8 +38,8 @@ fn list_reference(
     }
 }
 
-// The offset behind some more bytes. A value for which there is none has no room in memory.
-pub fn behind(offset: usize, bytes: usize) -> Result<usize, AllocError>
+/// The offset behind some more bytes. A value for which there is none has no room in memory.
+pub(crate) fn behind(offset: usize, bytes: usize) -> Result<usize, AllocError>
     ensures { IfOk result (λ behind. behind ≡ offset + bytes) }
 {
     match offset.checked_add(bytes) {
@@ -47,7 +48,7 @@ pub fn behind(offset: usize, bytes: usize) -> Result<usize, AllocError>
     }
 }
 
-// Lists the cells of a property.
+/// Lists the cells of a property.
 fn list_property(
     table: &mut Waiting,
     path: &[u8],
@@ -64,7 +65,7 @@ fn list_property(
     Ok(())
 }
 
-// Lists the cells of some properties of a node, whose path has this text.
+/// Lists the cells of some properties of a node, whose path has this text.
 fn list_properties(
     table: &mut Waiting,
     path: &[u8],
@@ -79,7 +80,7 @@ fn list_properties(
     Ok(())
 }
 
-// Lists the cells of the nodes behind the root, one after another.
+/// Lists the cells of the nodes behind the root, one after another.
 fn list_others(
     table: &mut Waiting,
     path: &mut LastPath,
@@ -96,7 +97,7 @@ fn list_others(
     Ok(())
 }
 
-// Lists the cells of all nodes.
+/// Lists the cells of all nodes.
 fn list_all(
     table: &mut Waiting,
     path: &mut LastPath,
@@ -113,12 +114,12 @@ fn list_all(
     list_others(table, path, others)
 }
 
-// Sets the texts of each label as a property.
+/// Sets the texts of each label as a property.
 fn set_texts(tree: &mut FlatTree, node: NodeId, table: &Waiting) -> Result<(), Fault>
     requires there { node < length tree.old.slots }
     requires labels { AllByRecursion (λ p. IsLabel p.name) table.now }
     ensures tree { OnOk result (tree.new ≡ record tree.old { slots = with_properties tree.old.slots node table.now }) }
-    ensures refused { IfErr result (λ fault. (fault.kind ≡ NoMemory) × (fault.at ≡ None)) }
+    ensures refused { IfErr result IsNoMemory }
 {
     for place in 0..table.len() {
         let (label, text) = table.at(place);
@@ -128,7 +129,7 @@ fn set_texts(tree: &mut FlatTree, node: NodeId, table: &Waiting) -> Result<(), F
     Ok(())
 }
 
-// The node with these texts, if there are some.
+/// The node with these texts, if there are some.
 fn add_node(tree: &mut FlatTree, table: &Waiting) -> Result<(), Fault>
     requires absent { child_of (named_children tree.old.slots 0) (codes "__fixups__") ≡ None }
     requires labels { AllByRecursion (λ p. IsLabel p.name) table.now }
@@ -147,7 +148,7 @@ fn add_node(tree: &mut FlatTree, table: &Waiting) -> Result<(), Fault>
     set_texts(tree, node, table)
 }
 
-// Lists the cells, and adds the node.
+/// Lists the cells, and adds the node.
 fn add_listed(
     tree: &mut FlatTree,
     table: &mut Waiting,
@@ -169,7 +170,11 @@ fn add_listed(
 
 /// Adds the node `__fixups__`, where a cell waits for a node of some other tree. `Limit`: the nodes would pass the limits.
 /// `NoMemory`: memory was refused.
-pub fn add_outside(alloc: Global, tree: &mut FlatTree, nodes: &[NamedNode<'_>]) -> Result<(), Fault>
+pub(crate) fn add_outside(
+    alloc: Global,
+    tree: &mut FlatTree,
+    nodes: &[NamedNode<'_>],
+) -> Result<(), Fault>
     requires absent { child_of (named_children tree.old.slots 0) (codes "__fixups__") ≡ None }
     requires all { AreAll (map node_said nodes.now) }
     requires labels { AreListable (all_texts (map node_said nodes.now)) }

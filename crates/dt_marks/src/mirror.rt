@@ -18,7 +18,7 @@ use dt_names::{Fault, NodeId, NodeName};
 use dt_source_named_tree::{NamedNode, NamedTree};
 use std::alloc::Global;
 
-// A node that has such cells, or is above one that has, is needed, and so is its parent.
+/// A node that has such cells, or is above one that has, is needed, and so is its parent.
 fn mark_node(needed: &mut [bool], node: NodeId, parent: NodeId, holds: bool)
     requires node { node < length needed.old }
     requires parent { parent < length needed.old }
@@ -31,7 +31,7 @@ fn mark_node(needed: &mut [bool], node: NodeId, parent: NodeId, holds: bool)
     }
 }
 
-// Which nodes are made again: from the last one back, so that a node comes behind those below it.
+/// Which nodes are made again: from the last one back, so that a node comes behind those below it.
 fn mark(needed: &mut [bool], others: &[NamedNode<'_>])
     requires all { length needed.old ≡ length others.now + 1 }
     requires follow { MayFollow 1 (map node_said others.now) }
@@ -44,7 +44,7 @@ fn mark(needed: &mut [bool], others: &[NamedNode<'_>])
     }
 }
 
-// Makes a node again below the copy of its parent.
+/// Makes a node again below the copy of its parent.
 fn copy_node(
     tree: &mut FlatTree,
     copies: &[NodeId],
@@ -64,7 +64,7 @@ fn copy_node(
     Ok(copy)
 }
 
-// Makes a node again, if it is needed, and notes its copy.
+/// Makes a node again, if it is needed, and notes its copy.
 fn visit(
     tree: &mut FlatTree,
     copies: &mut Vec<NodeId>,
@@ -88,7 +88,7 @@ fn visit(
     Ok(())
 }
 
-// Makes those of the nodes again that are needed, one after another.
+/// Makes those of the nodes again that are needed, one after another.
 fn add_copies(
     tree: &mut FlatTree,
     copies: &mut Vec<NodeId>,
@@ -109,7 +109,7 @@ fn add_copies(
     Ok(())
 }
 
-// The node with the cells of the root.
+/// The node with the cells of the root.
 fn add_root(tree: &mut FlatTree, out: &mut Vec<u8>, root: &NamedNode<'_>) -> Result<NodeId, Fault>
     requires absent { child_of (named_children tree.old.slots 0) (codes "__local_fixups__") ≡ None }
     requires plain { AllByRecursion IsNoPhandle (local_properties (node_said root.now).content) }
@@ -125,7 +125,7 @@ fn add_root(tree: &mut FlatTree, out: &mut Vec<u8>, root: &NamedNode<'_>) -> Res
     Ok(node)
 }
 
-// The node with the copies below it.
+/// The node with the copies below it.
 fn add_mirror(
     tree: &mut FlatTree,
     copies: &mut Vec<NodeId>,
@@ -153,7 +153,7 @@ fn add_mirror(
     add_copies(tree, copies, out, needed, others)
 }
 
-// Is the root made again?
+/// Is the root made again?
 fn is_wanted(needed: &[bool], root: &NamedNode<'_>) -> bool
     requires { 0 < length needed.now }
     ensures { result ≡ (marked_at needed.now 0 || has_cells root.now.properties.items) }
@@ -161,7 +161,7 @@ fn is_wanted(needed: &[bool], root: &NamedNode<'_>) -> bool
     needed[0] || holds_cells(root)
 }
 
-// Marks the nodes, and makes those again that are needed.
+/// Marks the nodes, and makes those again that are needed.
 fn add_marked(
     tree: &mut FlatTree,
     needed: &mut [bool],
@@ -190,7 +190,11 @@ fn add_marked(
 
 /// Adds the node `__local_fixups__`, where a cell holds a number of a node of the tree itself. `Limit`: the nodes would pass
 /// the limits. `NoMemory`: memory was refused.
-pub fn add_inside(alloc: Global, tree: &mut FlatTree, named: &NamedTree<'_>) -> Result<(), Fault>
+pub(crate) fn add_inside(
+    alloc: Global,
+    tree: &mut FlatTree,
+    named: &NamedTree<'_>,
+) -> Result<(), Fault>
     requires absent { child_of (named_children tree.old.slots 0) (codes "__local_fixups__") ≡ None }
     ensures tree { OnOk result (tree.new ≡ record tree.old { slots = with_inside tree.old.slots (tree_of named.now) }) }
     ensures refused { IfErr result

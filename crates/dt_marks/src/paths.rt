@@ -9,7 +9,7 @@ use std::alloc::{AllocError, Global};
 /// The path of the node that came last, as a property's value, and how long the text of each node's path is so far: that
 /// of a node's parent is the front of the last one's.
 #[derive(Drop)]
-pub struct LastPath {
+pub(crate) struct LastPath {
     pub value: Vec<u8>,
     pub lengths: Vec<usize>,
 }

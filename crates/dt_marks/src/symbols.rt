@@ -11,6 +11,7 @@ ghost use Rattle.dt_flat.specs.Arena.{reading, named_children, child_of, with_ch
 ghost use Rattle.dt_flat.specs.Planted.{with_properties};
 ghost use Rattle.dt_marks.specs.Paths.{label_property, symbols_behind, all_symbols, MayFollow, AreAll};
 ghost use Rattle.dt_marks.specs.Refusals.{WhyFull, WhyNoSymbols};
+ghost use Rattle.dt_names.specs.Fault.{IsNoMemory};
 
 use crate::paths::LastPath;
 use dt_flat::FlatTree;
@@ -18,14 +19,14 @@ use dt_names::{Fault, NodeId, NodeName, PropName};
 use dt_source_named_tree::{NamedNode, NamedTree};
 use std::alloc::Global;
 
-// Has one of these nodes a label?
+/// Has one of these nodes a label?
 fn have_labels(nodes: &[NamedNode<'_>]) -> bool
     ensures { result ≡ list_any (λ n. nat_lt 0 (length n.labels.items)) nodes.now }
 {
     nodes.iter().any(|node| !node.labels.is_empty())
 }
 
-// The labels of a node, whose path is this value.
+/// The labels of a node, whose path is this value.
 fn add_labels(
     tree: &mut FlatTree,
     symbols: NodeId,
@@ -36,7 +37,7 @@ fn add_labels(
     requires labels { AllByRecursion IsLabel (map (λ l. l.now) labels.now) }
     ensures tree { OnOk result (tree.new ≡ record tree.old
         { slots = with_properties tree.old.slots symbols (map (label_property path.now) (map (λ l. l.now) labels.now)) }) }
-    ensures refused { IfErr result (λ fault. (fault.kind ≡ NoMemory) × (fault.at ≡ None)) }
+    ensures refused { IfErr result IsNoMemory }
 {
     for label in labels {
         let name = PropName::new(label)?;
@@ -45,7 +46,7 @@ fn add_labels(
     Ok(())
 }
 
-// The labels of the nodes behind the root, one after another.
+/// The labels of the nodes behind the root, one after another.
 fn add_others(
     tree: &mut FlatTree,
     symbols: NodeId,
@@ -58,7 +59,7 @@ fn add_others(
       slots = with_properties tree.old.slots symbols
           (symbols_behind path.old.value.items path.old.lengths.items (map node_said nodes.now));
     }) }
-    ensures refused { IfErr result (λ fault. (fault.kind ≡ NoMemory) × (fault.at ≡ None)) }
+    ensures refused { IfErr result IsNoMemory }
 {
     for node in nodes {
         path.enter(node.parent, node.name.as_slice())?;
@@ -67,7 +68,7 @@ fn add_others(
     Ok(())
 }
 
-// The labels of all nodes.
+/// The labels of all nodes.
 fn add_all(
     tree: &mut FlatTree,
     symbols: NodeId,
@@ -81,7 +82,7 @@ fn add_all(
       slots = with_properties tree.old.slots symbols
           (all_symbols (map node_said nodes.now));
     }) }
-    ensures refused { IfErr result (λ fault. (fault.kind ≡ NoMemory) × (fault.at ≡ None)) }
+    ensures refused { IfErr result IsNoMemory }
 {
     let Some((root, others)) = nodes.split_first() else {
         return Ok(());
@@ -90,7 +91,7 @@ fn add_all(
     add_others(tree, symbols, path, others)
 }
 
-// The node with the labels of all nodes.
+/// The node with the labels of all nodes.
 fn add_node(tree: &mut FlatTree, path: &mut LastPath, nodes: &[NamedNode<'_>]) -> Result<(), Fault>
     requires absent { child_of (named_children tree.old.slots 0) (codes "__symbols__") ≡ None }
     requires begins { (path.old.value.items ≡ []) × (path.old.lengths.items ≡ 0 ∷ []) }

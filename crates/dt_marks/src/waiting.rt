@@ -16,7 +16,7 @@ type Texts = IndexMap<Vec<u8>, Vec<u8>, Seed>;
 /// The texts of the cells that wait, by the labels of the nodes for which they wait, in the order in which the labels come
 /// first. It is seen as properties.
 #[derive(Drop)]
-pub struct Waiting {
+pub(crate) struct Waiting {
     alloc: Global,
     texts: Texts,
     // the text of the cell that came last
@@ -33,7 +33,7 @@ impl Model for Waiting {
     ghost view = { λ a. properties_kept a.texts.entries };
 }
 
-// Puts a text behind those of its label.
+/// Puts a text behind those of its label.
 fn append(texts: &mut Texts, alloc: Global, label: &[u8], text: &[u8]) -> Result<(), AllocError>
     ensures { OnOk result (properties_kept texts.new.entries ≡ with_text (properties_kept texts.old.entries) label.now text.now) }
 {
@@ -47,7 +47,7 @@ fn append(texts: &mut Texts, alloc: Global, label: &[u8], text: &[u8]) -> Result
     Ok(())
 }
 
-// Writes the place of a cell.
+/// Writes the place of a cell.
 fn put_place(
     out: &mut Vec<u8>,
     path: &[u8],

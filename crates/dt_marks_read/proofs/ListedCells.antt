@@ -11,7 +11,7 @@ use Rattle.std.specs.Str.Parse.{IsNumeral, AllDigits, digits_value}
 use Rattle.dt_model.specs.Names.{Name, IsNodeName, IsPropertyName, is_property_name}
 use Rattle.dt_model.specs.Path.{Path, path_text, path_value}
 use Rattle.dt_model.specs.Lists.{IsIn}
-use Rattle.dt_model.specs.Object.{Cell, IsCellText, properties_of}
+use Rattle.dt_model.specs.Object.{Cell, IsCellText, properties_of, HasCell}
 use Rattle.dt_model.specs.Tree.{Node, Reading, Placed, node_at, stands_in, value_in, nodes_of}
 use Rattle.dt_model.specs.Valid.{IsValid}
 use Rattle.dt_model.specs.Applied.{node_named}
@@ -24,7 +24,6 @@ use Rattle.dt_model.proofs.Tests.{and_both, and_left, and_right, bytes_eq_true}
 use Rattle.dt_names.specs.Paths.{IsPathOf}
 use Rattle.dt_read.specs.Placed.{Nodes, no_nodes, node, PlacedTree, reading_of, place_below, place_of}
 use Rattle.dt_read.proofs.NodePlaces.{stands_place}
-use Rattle.dt_overlay_laws.specs.Objects.{HasCell}
 use Rattle.dt_overlay_texts.specs.Cuts.{Lacks, IsCut, IsNumeralOf}
 use Rattle.dt_overlay_texts.specs.Texts.{IsPathValue}
 use Rattle.dt_marks_read.specs.Listed.{ListedCell, IsListed}

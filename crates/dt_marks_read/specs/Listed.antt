@@ -4,12 +4,11 @@ use Rattle.std.specs.Prelude.{◌≡◌, ◌≢◌, ◌⊎◌, ℕ, ◌+◌, ◌
 use Rattle.dt_model.specs.Names.{Name}
 use Rattle.dt_model.specs.Path.{Path}
 use Rattle.dt_model.specs.Tree.{Property, Placed, node_at, stands_in, value_in}
-use Rattle.dt_model.specs.Object.{Cell, IsCellText, words_of, nodes_from, properties_of}
+use Rattle.dt_model.specs.Object.{Cell, IsCellText, words_of, nodes_from, properties_of, HasCell}
 use Rattle.dt_names.specs.Fault.{placeless}
 use Rattle.dt_names.specs.declared.fault.Fault.{Fault}
 use Rattle.dt_names.specs.declared.fault.FaultKind.TheVariants.{BadFixup, BadLocalFixup}
 use Rattle.dt_read.specs.Placed.{PlacedTree, reading_of, IsAt}
-use Rattle.dt_overlay_laws.specs.Objects.{HasCell}
 use Rattle.dt_overlay_texts.specs.Texts.{AreTexts}
 
 -- a cell that is listed: the place of its node, its property, its offset

@@ -18,7 +18,7 @@ pub struct ListedCell<'a> {
     pub offset: usize,
 }
 
-// The node of a path.
+/// The node of a path.
 fn node_of(blob: &Blob<'_>, path: &PathRef<'_>) -> Option<NodeId>
     ensures { result ≡ place_of blob.now path.now }
 {
@@ -29,7 +29,7 @@ fn node_of(blob: &Blob<'_>, path: &PathRef<'_>) -> Option<NodeId>
     Some(node)
 }
 
-// The cell at an offset of a value, by the offset's digits.
+/// The cell at an offset of a value, by the offset's digits.
 fn cell_within<'a>(
     node: NodeId,
     property: &'a [u8],
@@ -49,7 +49,7 @@ fn cell_within<'a>(
     })
 }
 
-// The cell of a path's text, a property and an offset's digits.
+/// The cell of a path's text, a property and an offset's digits.
 fn cell_at<'a>(
     blob: &Blob<'_>,
     path: &[u8],
@@ -67,7 +67,7 @@ fn cell_at<'a>(
 }
 
 /// The cell of which a text tells; None where it is no such text, or the blob has no such cell. Takes no memory.
-pub fn told_cell<'a>(blob: &Blob<'_>, text: &'a [u8]) -> Option<ListedCell<'a>>
+pub(crate) fn told_cell<'a>(blob: &Blob<'_>, text: &'a [u8]) -> Option<ListedCell<'a>>
     ensures { option_map listed_view result ≡ cell_in blob.now text.now }
 {
     let (path, rest) = cut(text, b':')?;

@@ -12,7 +12,7 @@ use dt_overlay_texts::{Texts, texts};
 use dt_read::{Blob, Props};
 use std::marker::Model;
 
-// What is left of a label's texts, and the labels behind it.
+/// What is left of a label's texts, and the labels behind it.
 #[derive(Drop)]
 struct Labels<'a> {
     blob: &'a Blob<'a>,
@@ -22,7 +22,7 @@ struct Labels<'a> {
 }
 
 impl<'a> Labels<'a> {
-    // Tells the cell of a text of the label. Nothing comes behind a fault.
+    /// Tells the cell of a text of the label. Nothing comes behind a fault.
     fn tell(&mut self, text: &'a [u8]) -> Result<(&'a [u8], ListedCell<'a>), Fault>
         ensures { told_next self.old.label.now (cell_in self.old.blob.now text.now)
             (fixups_left self.old.blob.now self.old.rest self.old.label.now self.old.texts)
@@ -38,7 +38,7 @@ impl<'a> Labels<'a> {
         }
     }
 
-    // Goes on to the next label, and tells the cell of its first text.
+    /// Goes on to the next label, and tells the cell of its first text.
     fn next_label(&mut self) -> Option<Result<(&'a [u8], ListedCell<'a>), Fault>>
         requires { self.old.texts ≡ [] }
         ensures { MatchOption result

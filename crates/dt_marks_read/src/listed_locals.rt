@@ -23,8 +23,8 @@ use dt_overlay_texts::has_cell;
 use dt_read::{Blob, OpenNodes, Step, Steps};
 use std::marker::Model;
 
-// What is left of a walk through a mirror: the counterparts of its open nodes, and the offsets that the property which came
-// last lists of its counterpart's value.
+/// What is left of a walk through a mirror: the counterparts of its open nodes, and the offsets that the property which came
+/// last lists of its counterpart's value.
 #[derive(Drop)]
 struct Mirror<'a> {
     blob: &'a Blob<'a>,
@@ -36,7 +36,7 @@ struct Mirror<'a> {
     offsets: &'a [u8],
 }
 
-// The first 32-bit number of some bytes, and what stands behind it.
+/// The first 32-bit number of some bytes, and what stands behind it.
 fn next_word(bytes: &[u8]) -> Option<(usize, &[u8])>
     ensures { MatchOption result (words_of bytes.now ≡ []) (λ found. words_of bytes.now ≡ found.0 ∷ words_of found.1.now) }
 {
@@ -44,7 +44,7 @@ fn next_word(bytes: &[u8]) -> Option<(usize, &[u8])>
     Some((word as usize, &bytes[4..]))
 }
 
-// The child of a node that has a name.
+/// The child of a node that has a name.
 fn child_of(blob: &Blob<'_>, node: NodeId, name: &[u8]) -> Option<NodeId>
     requires { (p : Path) × IsAt blob.now p node }
     ensures { result ≡ place_of blob.now (path_at blob.now node ++ name.now ∷ []) }
@@ -53,7 +53,7 @@ fn child_of(blob: &Blob<'_>, node: NodeId, name: &[u8]) -> Option<NodeId>
     blob.child(node, name)
 }
 
-// The value of a node's property.
+/// The value of a node's property.
 fn value_of<'a>(blob: &'a Blob<'a>, node: NodeId, name: &[u8]) -> Option<&'a [u8]>
     requires { (p : Path) × IsAt blob.now p node }
     ensures { option_copied result ≡ value_in (reading_of blob.now) (path_at blob.now node) name.now }
@@ -63,7 +63,7 @@ fn value_of<'a>(blob: &'a Blob<'a>, node: NodeId, name: &[u8]) -> Option<&'a [u8
 }
 
 impl<'a> Mirror<'a> {
-    // The list is off. Nothing comes any more.
+    /// The list is off. Nothing comes any more.
     fn refuse(&mut self) -> Fault
         ensures fault { result ≡ placeless BadLocalFixup }
         ensures nothing { mirror_left self.new ≡ [] }
@@ -75,7 +75,7 @@ impl<'a> Mirror<'a> {
         Fault::of(FaultKind::BadLocalFixup)
     }
 
-    // A node of the mirror begins.
+    /// A node of the mirror begins.
     fn open(&mut self, node: NodeId, name: &[u8]) -> Result<(), Fault>
         requires open { self.old.open_nodes ≡ node ∷ drop 1 self.old.open_nodes }
         requires empty { words_of self.old.offsets.now ≡ [] }
@@ -92,7 +92,7 @@ impl<'a> Mirror<'a> {
         Ok(())
     }
 
-    // A node of the mirror has a property.
+    /// A node of the mirror has a property.
     fn hold(&mut self, node: NodeId, name: &'a [u8], offsets: &'a [u8]) -> Result<(), Fault>
         requires open { self.old.open_nodes ≡ node ∷ drop 1 self.old.open_nodes }
         requires may { MayGoOn self.old }
@@ -114,7 +114,7 @@ impl<'a> Mirror<'a> {
         Ok(())
     }
 
-    // The innermost open node of the mirror ends.
+    /// The innermost open node of the mirror ends.
     fn close(&mut self)
         requires empty { words_of self.old.offsets.now ≡ [] }
         requires may { MayWalk self.old.blob.now self.old.open_nodes (closes ∷ self.old.steps) }
@@ -125,7 +125,7 @@ impl<'a> Mirror<'a> {
         self.open_nodes.pop();
     }
 
-    // Takes a step, where a node is open.
+    /// Takes a step, where a node is open.
     fn take(&mut self, node: NodeId, step: Step<'a>) -> Result<(), Fault>
         requires open { self.old.open_nodes ≡ node ∷ drop 1 self.old.open_nodes }
         requires empty { words_of self.old.offsets.now ≡ [] }
@@ -145,7 +145,7 @@ impl<'a> Mirror<'a> {
         }
     }
 
-    // Tells the next offset of the property that came last.
+    /// Tells the next offset of the property that came last.
     fn next_offset(&mut self) -> Option<Result<ListedCell<'a>, Fault>>
         requires { MayGoOn self.old }
         ensures told { MatchOption result ((words_of self.old.offsets.now ≡ []) × (self.new ≡ self.old))

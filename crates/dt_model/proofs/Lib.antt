@@ -15,3 +15,7 @@ pub mod Flat
 pub mod Preorder
 pub mod Finding
 pub mod Texts
+pub mod Lasts
+pub mod Labels
+pub mod Inside
+pub mod Depths

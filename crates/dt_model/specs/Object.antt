@@ -20,6 +20,10 @@ pub record Cell : Type 0 where
   pub property : Name
   pub offset : ℕ
 
+-- the object has the cell
+abbrev pub HasCell : Reading → Cell → Type 0
+HasCell object c = (value : List ℕ) × (value_in object c.path c.property ≡ Some value) × (c.offset + 4 ≤ length value)
+
 -- the references of a value with the offsets of their cells, where the value begins at the offset k
 abbrev pub references_from : {R : Type 0} → ℕ → List (Item R) → List (ℕ × R)
 references_from k [] = []

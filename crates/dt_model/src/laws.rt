@@ -24,7 +24,7 @@ ghost use Rattle.dt_model.specs.Format.{Reads};
 ghost use Rattle.dt_model.specs.Samples.{one_cell, blob_with_nops, blob_with_suffix, blob_with_late_property};
 
 /// The texts of paths.
-pub fn path_texts()
+pub(crate) fn path_texts()
     ensures root { path_value [] ≡ codes "/" ++ 0 ∷ [] }
     ensures child { path_text (codes "soc" ∷ codes "uart@10" ∷ []) ≡ codes "/soc/uart@10" }
     ensures marks { is_bookkeeping (codes "__symbols__" ∷ codes "x" ∷ []) ≡ true }
@@ -38,7 +38,7 @@ pub fn one_reading()
 
 /// A blob may have NOPs before its tokens (Devicetree Specification v0.4, 5.4.1) and names inside longer ones (5.5). A
 /// property behind a child of its node is in no reading (5.4.2).
-pub fn sample_blobs()
+pub(crate) fn sample_blobs()
     ensures nops { Reads blob_with_nops one_cell }
     ensures suffix { Reads blob_with_suffix one_cell }
     ensures late { (t : Reading) → Reads blob_with_late_property t → ⊥ }
@@ -52,7 +52,7 @@ pub fn nested_places()
 
 /// Two blocks with a child each are well nested; a body that is left open or closed twice isn't, nor is a block in a body, a
 /// child or a label outside one, or a deletion by a reference inside one.
-pub fn sample_nesting()
+pub(crate) fn sample_nesting()
     ensures nested { AreNested 0 opened_again }
     ensures left_open { AreNested 0 (root ∷ child (codes "n") ∷ close ∷ []) → ⊥ }
     ensures closed_twice { AreNested 0 (root ∷ close ∷ close ∷ []) → ⊥ }

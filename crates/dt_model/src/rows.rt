@@ -114,7 +114,7 @@ ghost use Rattle.dt_model.specs.Rows.{
 // ---- sources
 
 /// A node that is deleted and opened again begins empty, without its labels; a value that is defined again is the last one.
-pub fn opened_again_begins_empty()
+pub(crate) fn opened_again_begins_empty()
     ensures read { refusal opened_again ≡ None }
     ensures value { (meaning opened_again).value [] (codes "a") ≡ Some (map byte (codes "x" ++ 0 ∷ [])) }
     ensures node { (meaning opened_again).stands (codes "n" ∷ []) ≡ true }
@@ -125,7 +125,7 @@ pub fn opened_again_begins_empty()
 {}
 
 /// A node takes the labels below it with it.
-pub fn deleted_label_names_nothing()
+pub(crate) fn deleted_label_names_nothing()
     ensures read { refusal deleted_label ≡ None }
     ensures label { (meaning deleted_label).label (codes "l") ≡ None }
     ensures unresolved { all_bound (events deleted_label) (number_of (by_label (codes "l")) ∷ []) ≡ None }
@@ -133,7 +133,7 @@ pub fn deleted_label_names_nothing()
 
 /// A written phandle is its node's number, and a reference outside a cell list is its node's path text with its NUL. The
 /// other keyed nodes get numbers of their own.
-pub fn written_phandle_stays()
+pub(crate) fn written_phandle_stays()
     ensures read { refusal written_phandle ≡ None }
     ensures number { (meaning written_phandle).number (codes "b" ∷ []) ≡ Some 1 }
     ensures no_property { (meaning written_phandle).value (codes "b" ∷ []) (codes "phandle") ≡ None }
@@ -148,7 +148,7 @@ pub fn written_phandle_stays()
 {}
 
 /// A node that a reference by a path names is keyed, and one that nothing names isn't.
-pub fn referred_nodes_are_keyed()
+pub(crate) fn referred_nodes_are_keyed()
     ensures read { refusal gap_of_numbers ≡ None }
     ensures path { (meaning gap_of_numbers).keyed (codes "c" ∷ []) ≡ true }
     ensures label { (meaning gap_of_numbers).keyed (codes "c" ∷ codes "d" ∷ []) ≡ true }
@@ -158,34 +158,34 @@ pub fn referred_nodes_are_keyed()
 {}
 
 /// The keyed nodes get, in preorder, the least numbers that are not written; other nodes get none.
-pub fn numbers_of_a_source()
+pub(crate) fn numbers_of_a_source()
     ensures { IsNumbering (asked_by (meaning gap_of_numbers) (paths_of gap_tree))
         (None ∷ Some 2 ∷ Some 1 ∷ Some 3 ∷ Some 4 ∷ None ∷ []) }
 {}
 
 /// A label can be given to another node once the node that it named is deleted, and not before.
-pub fn label_moves_after_a_deletion()
+pub(crate) fn label_moves_after_a_deletion()
     ensures moved { (meaning label_again).label (codes "l") ≡ Some (codes "b" ∷ []) }
     ensures read { refusal label_again ≡ None }
     ensures twice { refusal label_twice ≡ Some duplicate_label }
 {}
 
 /// A label of a block that opens the root names the root.
-pub fn label_of_the_root()
+pub(crate) fn label_of_the_root()
     ensures read { refusal root_label ≡ None }
     ensures label { (meaning root_label).label (codes "l") ≡ Some [] }
     ensures keyed { (meaning root_label).keyed [] ≡ true }
 {}
 
 /// A raw source may have the bookkeeping nodes, and a base may not.
-pub fn bookkeeping_nodes_of_a_raw_source()
+pub(crate) fn bookkeeping_nodes_of_a_raw_source()
     ensures read { refusal_of (read_all raw nothing reserved) ≡ None }
     ensures node { (meaning_of [] (events_of (read_all raw nothing reserved))).stands (codes "__symbols__" ∷ []) ≡ true }
     ensures refused { IsRefusedFor base reserved (at_place reserved_name) }
 {}
 
 /// What is refused, and what has no effect.
-pub fn refused_places()
+pub(crate) fn refused_places()
     ensures deleted { refusal deleted_property ≡ None }
     ensures nothing { (meaning deleted_property).value [] (codes "a") ≡ None }
     ensures property { refusal property_twice ≡ Some duplicate_property }
@@ -197,13 +197,13 @@ pub fn refused_places()
 {}
 
 /// A node may have 64 names in its path, and no more.
-pub fn depth_limit()
+pub(crate) fn depth_limit()
     ensures deepest { refusal (levels 64) ≡ None }
     ensures deeper { refusal (levels 65) ≡ Some too_deep }
 {}
 
 /// Of two nodes, and of two properties, the older one was opened or defined first; one that comes again after a deletion is new.
-pub fn order_of_the_text()
+pub(crate) fn order_of_the_text()
     ensures nodes { age (events written_phandle) (codes "a" ∷ []) ≡ 5 }
     ensures later { age (events written_phandle) (codes "b" ∷ []) ≡ 3 }
     ensures again { age (events opened_again) (codes "n" ∷ []) ≡ 2 }
@@ -216,7 +216,7 @@ pub fn order_of_the_text()
 // ---- overlay sources
 
 /// A block of another tree's node opens a fragment; a reference by a label of the source is inside, any other outside.
-pub fn overlay_with_two_cells()
+pub(crate) fn overlay_with_two_cells()
     ensures read { overlay_refusal two_cells_source ≡ None }
     ensures target { (overlay two_cells_source []).value (fragment 0 ∷ []) (codes "target-path") ≡ Some (map byte (codes "/" ++ 0 ∷ [])) }
     ensures outside { (overlay two_cells_source []).value (content_of 0 ++ codes "d" ∷ []) (codes "p") ≡
@@ -230,7 +230,7 @@ pub fn overlay_with_two_cells()
 {}
 
 /// A block of a label that the source has given opens that node, and no fragment.
-pub fn overlay_with_a_label_of_its_own()
+pub(crate) fn overlay_with_a_label_of_its_own()
     ensures read { overlay_refusal three_values_source ≡ None }
     ensures first { (overlay three_values_source []).value (content_of 0 ++ codes "x" ∷ []) (codes "p") ≡ Some (map byte (cell 3)) }
     ensures second { (overlay three_values_source []).value (content_of 1 ++ codes "x" ∷ []) (codes "p") ≡ Some (map byte (cell 2)) }
@@ -239,14 +239,14 @@ pub fn overlay_with_a_label_of_its_own()
 {}
 
 /// A new fragment's name is none that a `/ { }` block opens, before it or behind it.
-pub fn overlay_with_a_written_fragment()
+pub(crate) fn overlay_with_a_written_fragment()
     ensures next { (overlay written_fragment_source []).value (fragment 1 ∷ []) (codes "target") ≡ Some (reference (outside (codes "x")) ∷ []) }
     ensures before { (overlay later_fragment_source []).value (fragment 1 ∷ []) (codes "target") ≡ Some (reference (outside (codes "x")) ∷ []) }
     ensures written { (overlay later_fragment_source []).value (fragment 0 ∷ []) (codes "target") ≡ None }
 {}
 
 /// What an overlay may not have.
-pub fn refused_overlays()
+pub(crate) fn refused_overlays()
     ensures deletion { overlay_refusal deleting_source ≡ Some overlay_delete }
     ensures phandle { overlay_refusal numbering_source ≡ Some overlay_phandle }
     ensures text { overlay_refusal text_source ≡ Some overlay_path }
@@ -259,7 +259,7 @@ pub fn refused_overlays()
 
 /// Of what is wrong after the last place of an overlay, a fragment that holds no target is told first, then a reference to a
 /// node that no fragment brings.
-pub fn late_overlay_refusals()
+pub(crate) fn late_overlay_refusals()
     ensures target { IsOverlayRefusedFor no_target_source (at_end bad_fragment) }
     ensures reference { IsOverlayRefusedFor outside_content_source (at_end outside_content) }
 {}
@@ -267,7 +267,7 @@ pub fn late_overlay_refusals()
 // ---- merging meanings
 
 /// The sites of fragments: by a label of the tree, by a path, and by a node that an earlier fragment brings.
-pub fn sites_of_fragments()
+pub(crate) fn sites_of_fragments()
     ensures labels { AreSites (meaning one_node_source) (overlay three_values_source three_values_fragments) [] three_values_fragments three_values_sites }
     ensures inside { AreSites (meaning controller_source) (overlay inner_source inner_fragments) [] inner_fragments inner_sites }
     ensures later { (sites : List Site) → AreSites (meaning controller_source) (overlay inner_source inner_fragments) [] (reverse inner_fragments) sites → ⊥ }
@@ -275,7 +275,7 @@ pub fn sites_of_fragments()
 
 /// Of several fragments that land one property the last decides; nodes, keyed nodes and labels are the tree's and those
 /// that land.
-pub fn merged_by_fragments()
+pub(crate) fn merged_by_fragments()
     ensures value { (merged (meaning one_node_source) (overlay three_values_source three_values_fragments) three_values_sites).value
         (codes "s" ∷ codes "x" ∷ []) (codes "p") ≡ Some (map byte (cell 2)) }
     ensures label { (merged (meaning one_node_source) (overlay three_values_source three_values_fragments) three_values_sites).label (codes "n") ≡
@@ -287,7 +287,7 @@ pub fn merged_by_fragments()
 {}
 
 /// References inside a fragment go to the nodes on which their nodes land, others to the nodes that the tree's labels name.
-pub fn merged_references()
+pub(crate) fn merged_references()
     ensures outside { (merged (meaning controller_source) (overlay two_cells_source two_cells_fragments) two_cells_sites).value
         (codes "d" ∷ []) (codes "p") ≡ Some (byte 1 ∷ reference (codes "ic" ∷ []) ∷ []) }
     ensures inside { (merged (meaning controller_source) (overlay two_cells_source two_cells_fragments) two_cells_sites).value
@@ -295,7 +295,7 @@ pub fn merged_references()
 {}
 
 /// An overlay that takes over a label leaves the references that were made by it.
-pub fn merged_label_taken_over()
+pub(crate) fn merged_label_taken_over()
     ensures label { (merged (meaning referring_source) (overlay label_taken_source two_cells_fragments) two_cells_sites).label (codes "l") ≡
         Some (codes "b" ∷ []) }
     ensures reference { (merged (meaning referring_source) (overlay label_taken_source two_cells_fragments) two_cells_sites).value [] (codes "r") ≡
@@ -306,7 +306,7 @@ pub fn merged_label_taken_over()
 // ---- applying
 
 /// What an object lists.
-pub fn marks_of_an_object()
+pub(crate) fn marks_of_an_object()
     ensures fragments { fragment_names two_cells.children ≡ fragment 0 ∷ [] }
     ensures cells { local_cells two_cells ≡ record { path = content_of 0 ++ codes "d" ∷ []; property = codes "q"; offset = 0 } ∷ [] }
     ensures numbers { numbers_of controller ≡ 1 ∷ [] }
@@ -316,14 +316,14 @@ pub fn marks_of_an_object()
 {}
 
 /// An object's cells get their numbers at any offset, and symbols are those of the nodes on which labels land.
-pub fn object_applied()
+pub(crate) fn object_applied()
     ensures { applied_at controller two_cells
         ((codes "gic", record { path = content_of 0 ++ codes "d" ∷ []; property = codes "p"; offset = 1 }) ∷ [])
         ((content_of 0 ++ codes "f" ∷ [], 2) ∷ []) two_cells_sites ≡ with_two_cells }
 {}
 
 /// Of several fragments that land one property the last decides.
-pub fn last_fragment_decides()
+pub(crate) fn last_fragment_decides()
     ensures { applied_at one_node three_values
         ((codes "a", record { path = fragment 0 ∷ []; property = codes "target"; offset = 0 })
         ∷ (codes "a", record { path = fragment 1 ∷ []; property = codes "target"; offset = 0 }) ∷ [])

@@ -14,7 +14,7 @@ use Rattle.dt_model.specs.NamedOf.{IsBelow, IsNamedBy, IsNamed, path_among, mean
 use Rattle.dt_model.proofs.Cases.{map_some}
 use Rattle.dt_model.proofs.Tests.{each_in, in_map, in_map_from}
 use Rattle.dt_model.proofs.Flat.{from_flat}
-use Rattle.dt_model_laws.proofs.Inside.{each_at}
+use Rattle.dt_model.proofs.Inside.{each_at}
 use Rattle.dt_model_laws.proofs.AskedNumbers.{named_apart, content_is}
 use Rattle.dt_model_laws.proofs.ReferenceCells.{renamed_references, cell_at, cells_of_property, cells_of_node, cells_in, HaveOneEach, cell_from, cell_in}
 use Rattle.dt_model_laws.proofs.ObjectCells.{inside_cells, waiting_from, waiting_in, local_from, local_in}

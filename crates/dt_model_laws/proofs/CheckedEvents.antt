@@ -11,8 +11,8 @@ use Rattle.dt_model.specs.Event.{Stack, Event, opening, giving, definition, unde
 use Rattle.dt_model.specs.Source.{Part, Events, gives_label, node_of, labelled}
 use Rattle.dt_model.specs.Tree.{Property, Reading, Placed, value_of, nodes_of, stands_in, value_in}
 use Rattle.dt_model.proofs.Tests.{and_left, and_right, all_at, bytes_eq_true}
-use Rattle.dt_model_laws.proofs.Lasts.{last_each, stands_by, value_by}
-use Rattle.dt_model_laws.proofs.Labels.{labelled_by}
+use Rattle.dt_model.proofs.Lasts.{last_each, stands_by, value_by}
+use Rattle.dt_model.proofs.Labels.{labelled_by}
 use Rattle.dt_model.proofs.Listed.{stands_listed, value_listed}
 use Rattle.dt_model_laws.proofs.CheckedWords.{has, has_in, same_names, same_paths, each_by}
 

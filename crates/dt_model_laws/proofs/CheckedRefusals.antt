@@ -6,7 +6,7 @@ use Rattle.dt_model.specs.Event.{Event, opening, giving, definition, undefinitio
 use Rattle.dt_model.specs.Source.{Part, Events, all_bound, number_of_parts, HasUnresolved, HasBadPhandle}
 use Rattle.dt_model.proofs.Cases.{all_pass}
 use Rattle.dt_model_laws.proofs.CheckedWords.{implies, implied}
-use Rattle.dt_model_laws.proofs.Lasts.{last_each, value_by}
+use Rattle.dt_model.proofs.Lasts.{last_each, value_by}
 use Rattle.dt_model.proofs.Tests.{bytes_eq_refl}
 
 -- the references of a definition's value name nodes

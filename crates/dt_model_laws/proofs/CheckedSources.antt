@@ -12,7 +12,7 @@ use Rattle.dt_model.specs.Event.{Stack, Event, opening, giving, definition, unde
 use Rattle.dt_model.specs.Source.{Part, Place, base, Events, Refusal, SoFar, nothing, read_all, all_bound, number_of_parts, written_number, meaning_of, IsResolved, SourceMeans}
 use Rattle.dt_model.proofs.Tests.{and_left, and_right, all_at, bytes_eq_refl, path_eq_true}
 use Rattle.dt_model.proofs.Cases.{then_some}
-use Rattle.dt_model_laws.proofs.Lasts.{last_each, value_by}
+use Rattle.dt_model.proofs.Lasts.{last_each, value_by}
 use Rattle.dt_model_laws.proofs.Meanings.{source_meaning, no_twice}
 use Rattle.dt_model_laws.proofs.Plain.{source_plain}
 use Rattle.dt_model_laws.proofs.CheckedWords.{implies, implied, each_by, same_numbers}

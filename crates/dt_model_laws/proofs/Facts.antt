@@ -11,7 +11,7 @@ use Rattle.dt_model.specs.Object.{Cell, IsCellOf, HasFixups, properties_of}
 use Rattle.dt_model.specs.Tree.{Reading, node_at}
 use Rattle.dt_model_laws.specs.Applying.{AreOf}
 use Rattle.dt_model_laws.proofs.CellTexts.{one_fixups}
-use Rattle.dt_model_laws.proofs.Inside.{each_at}
+use Rattle.dt_model.proofs.Inside.{each_at}
 
 module _ (base object : Reading) (m : Meaning) (o : Overlay) (number local : Path → ℕ) where
   -- any list of an object's fixups is the list of the cells that wait for labels

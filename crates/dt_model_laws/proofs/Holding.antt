@@ -9,8 +9,8 @@ use Rattle.dt_model.specs.Source.{Reference, by_label, by_path, Part, Place, roo
 use Rattle.dt_model.proofs.EventSteps.{stands-push, path_eq-is}
 use Rattle.dt_model.proofs.Tests.{each_append}
 use Rattle.dt_model_laws.proofs.Stands.{child_not_within, opened_itself, not_deleted}
-use Rattle.dt_model_laws.proofs.Lasts.{last_each, stands_by, names_by, value_by}
-use Rattle.dt_model_laws.proofs.Labels.{labelled_names, labelled_none, some_label, by_path_stands}
+use Rattle.dt_model.proofs.Lasts.{last_each, stands_by, names_by, value_by}
+use Rattle.dt_model.proofs.Labels.{labelled_names, labelled_none, some_label, by_path_stands}
 use Rattle.dt_model_laws.proofs.Sound.{Sound, sound-opening, sound-giving, sound-definition, sound-undefinition, sound-deletion}
 use Rattle.dt_model_laws.proofs.Making.{with_child, with_property, Makes, makes}
 

@@ -12,7 +12,7 @@ use Rattle.dt_model.specs.Source.{Events, Part}
 use Rattle.dt_model.proofs.Tests.{and_left, and_right, all_at, each_from, bytes_eq_true, path_eq_refl}
 use Rattle.dt_model.proofs.Cases.{some_there}
 use Rattle.dt_model_laws.proofs.CheckedWords.{implies, implied}
-use Rattle.dt_model_laws.proofs.Lasts.{stands_by, names_by, value_by, last_each}
+use Rattle.dt_model.proofs.Lasts.{stands_by, names_by, value_by, last_each}
 
 -- ---- what has a name among some
 

@@ -9,7 +9,7 @@ use Rattle.dt_model.specs.Event.{Stack, Event, opening, giving, definition, unde
 use Rattle.dt_model.specs.Source.{Part, one, number_of, text_of, Events, referent, refers, refers_there, labels_there}
 use Rattle.dt_model.proofs.EventSteps.{path_eq-is}
 use Rattle.dt_model.proofs.Cases.{map_or_true}
-use Rattle.dt_model_laws.proofs.Lasts.{last_any, value_by}
+use Rattle.dt_model.proofs.Lasts.{last_any, value_by}
 use Rattle.dt_model_laws.proofs.Sound.{Sound}
 use Rattle.dt_model_laws.proofs.Holding.{referent_stands}
 

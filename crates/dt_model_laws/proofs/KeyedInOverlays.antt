@@ -18,9 +18,9 @@ use Rattle.dt_model.specs.Named.{NodeReference, NamedProperty, Content, Named, N
 use Rattle.dt_model.specs.NamedOf.{IsNamedBy, IsBelow, RefersBelow, path_among, meant, refers_to, has_reference_to, asked, contents_of}
 use Rattle.dt_model.proofs.Cases.{map_some, map_or_true}
 use Rattle.dt_model.proofs.Tests.{any_from, any_here, each_in, in_append, in_map, in_map_from}
-use Rattle.dt_model_laws.proofs.Lasts.{last_any, names_by}
+use Rattle.dt_model.proofs.Lasts.{last_any, names_by}
 use Rattle.dt_model_laws.proofs.Sound.{Sound}
-use Rattle.dt_model_laws.proofs.Labels.{some_label}
+use Rattle.dt_model.proofs.Labels.{some_label}
 use Rattle.dt_model_laws.proofs.Keyed.{referred_there}
 use Rattle.dt_model_laws.proofs.KeyedNodes.{same_tests}
 use Rattle.dt_model_laws.proofs.Orders.{falls_distinct}

@@ -16,7 +16,7 @@ use Rattle.dt_model.specs.Overlay.{OverlayReference, inside, outside, reference_
 use Rattle.dt_model.specs.NamedOf.{IsNamedOf, IsBelow, RefersBelow, bound_values, path_among, meant, refers_to, has_reference_to, asked, contents_of}
 use Rattle.dt_model.proofs.Cases.{map_some, then_some, map_or_true}
 use Rattle.dt_model.proofs.Tests.{any_from, any_here, each_in, in_left, in_right, in_map, in_map_from}
-use Rattle.dt_model_laws.proofs.Lasts.{last_any, names_by}
+use Rattle.dt_model.proofs.Lasts.{last_any, names_by}
 use Rattle.dt_model_laws.proofs.Bound.{named_rules, all_each_bound}
 use Rattle.dt_model_laws.proofs.Holding.{Holds}
 use Rattle.dt_model_laws.proofs.Keyed.{referred_there}

@@ -15,7 +15,7 @@ use Rattle.dt_model.specs.Valid.{AreDistinct, AreProperties}
 use Rattle.dt_model.specs.Instance.{symbol, AreSymbols}
 use Rattle.dt_model.proofs.Cases.{all_map}
 use Rattle.dt_model.proofs.Distinct.{distinct_append}
-use Rattle.dt_model_laws.proofs.Labels.{labelled_names, labelled_none}
+use Rattle.dt_model.proofs.Labels.{labelled_names, labelled_none}
 use Rattle.dt_model_laws.proofs.Meanings.{at_path, no_twice}
 use Rattle.dt_model_laws.proofs.Merging.{no_value}
 use Rattle.dt_model_laws.proofs.Orders.{falls_distinct}

@@ -5,7 +5,6 @@ pub mod Changing
 pub mod Brought
 pub mod Landing
 pub mod Cells
-pub mod Inside
 pub mod Fresh
 pub mod Given
 pub mod Numbered
@@ -44,8 +43,6 @@ pub mod CheckedNamedBy
 pub mod CheckedNamed
 pub mod WorkedNamed
 pub mod Stands
-pub mod Lasts
-pub mod Labels
 pub mod Sound
 pub mod Making
 pub mod Holding

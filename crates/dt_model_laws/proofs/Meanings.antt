@@ -12,7 +12,7 @@ use Rattle.dt_model.specs.Meaning.{Item, Meaning, IsMeaning}
 use Rattle.dt_model.specs.Event.{Stack, stands, value_at}
 use Rattle.dt_model.specs.Source.{Reference, Part, Place, IsPlace, Mode, Events, referent, labelled, all_bound, number_of_parts, written_number, labels_there, refers_there, meaning_of, IsResolved, SourceMeans}
 use Rattle.dt_model.proofs.Cases.{map_some, then_some, some_there, cond_none, either_left, either_right, all_map}
-use Rattle.dt_model_laws.proofs.Labels.{labelled_names, labelled_there}
+use Rattle.dt_model.proofs.Labels.{labelled_names, labelled_there}
 use Rattle.dt_model_laws.proofs.Sound.{Sound}
 use Rattle.dt_model_laws.proofs.Holding.{Follows, Obeys, node_follows, label_follows, value_follows, referent_stands}
 use Rattle.dt_model_laws.proofs.ReadAll.{holds-source}

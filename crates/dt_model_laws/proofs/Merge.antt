@@ -20,7 +20,7 @@ use Rattle.dt_model_laws.specs.Applying.{AreOf}
 use Rattle.dt_model.proofs.Tests.{bytes_eq_true, any_from, any_here}
 use Rattle.dt_model_laws.proofs.Lands.{landing_of, last_from, last_one, last_map}
 use Rattle.dt_model_laws.proofs.Landing.{reservations_stay, boot_cpu_stays}
-use Rattle.dt_model_laws.proofs.Inside.{IsInside, final_number, each_more, each_both, referred_inside}
+use Rattle.dt_model.proofs.Inside.{IsInside, final_number, each_more, each_both, referred_inside}
 use Rattle.dt_model_laws.proofs.Naming.{Follows, naming_after, naming_extends, follows}
 use Rattle.dt_model_laws.proofs.Placed.{lands_at}
 use Rattle.dt_model_laws.proofs.Results.{distinct, brought, source_brought, keeps, symbols_are, nodes_are, values_are, phandles_are}

@@ -13,7 +13,7 @@ use Rattle.dt_model.specs.Valid.{AreDistinct}
 use Rattle.dt_model_laws.specs.Merging.{MergedIsMeaning}
 use Rattle.dt_model.proofs.Tests.{or_cases, or_left, or_right, any_from, any_here}
 use Rattle.dt_model_laws.proofs.Lands.{source_of, landing_of, last_from}
-use Rattle.dt_model_laws.proofs.Inside.{IsInside, each_more, each_both, referred_inside}
+use Rattle.dt_model.proofs.Inside.{IsInside, each_more, each_both, referred_inside}
 use Rattle.dt_model_laws.proofs.Placed.{site_names, same_fragments, brought_at, lands_at}
 use Rattle.dt_model_laws.proofs.MergedTree.{merged_tree}
 

@@ -11,7 +11,7 @@ use Rattle.dt_model_laws.proofs.Joined.{IsJoined, number_after}
 use Rattle.dt_model.specs.Valid.{AreDistinct}
 use Rattle.dt_model.proofs.Tests.{or_cases, any_from}
 use Rattle.dt_model_laws.proofs.Lands.{source_of, landing_of, last_from, last_one}
-use Rattle.dt_model_laws.proofs.Inside.{IsInside}
+use Rattle.dt_model.proofs.Inside.{IsInside}
 use Rattle.dt_model_laws.proofs.Placed.{site_names}
 
 -- the tree's numbers stay, and each keyed node that lands has the number of the node on which it lands

@@ -13,8 +13,8 @@ use Rattle.dt_model.proofs.EventSteps.{bytes_eq-refl}
 use Rattle.dt_model_laws.specs.Fragments.{NewFragment}
 use Rattle.dt_model.proofs.Cases.{all_map, either_left, either_right}
 use Rattle.dt_model.proofs.Tests.{each_append}
-use Rattle.dt_model_laws.proofs.Lasts.{last_each, stands_by}
-use Rattle.dt_model_laws.proofs.Labels.{labelled_names}
+use Rattle.dt_model.proofs.Lasts.{last_each, stands_by}
+use Rattle.dt_model.proofs.Labels.{labelled_names}
 use Rattle.dt_model_laws.proofs.Holding.{Holds}
 use Rattle.dt_model_laws.proofs.OverlayMaking.{next_number, MakesAsAny, MakesFragment, MakesBlock, OverlayMakes, overlay_makes}
 use Rattle.dt_model_laws.proofs.OverlayHolding.{overlay_rules, holds-overlay_start, holds-overlay_made, if_read_ok}

@@ -20,7 +20,7 @@ use Rattle.dt_model.proofs.Distinct.{in_flat}
 use Rattle.dt_model_laws.proofs.Lands.{below-append, append-below}
 use Rattle.dt_model.proofs.Listed.{listed_value, value_listed}
 use Rattle.dt_model.proofs.Preorder.{phandle_list, all_phandles, value_in_list, length-preorder, length-flat}
-use Rattle.dt_model_laws.proofs.Inside.{IsInside, plain_brought}
+use Rattle.dt_model.proofs.Inside.{IsInside, plain_brought}
 use Rattle.dt_model_laws.proofs.Given.{object_phandle}
 
 length-filter_le : {X : Type 0} (test : X → Bool) (xs : List X) → length (filter test xs) ≤ length xs

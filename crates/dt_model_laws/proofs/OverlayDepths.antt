@@ -13,7 +13,7 @@ use Rattle.dt_model_laws.specs.OverlayTrees.{OverlayNodesAreShallow, OverlayRoot
 use Rattle.dt_model.proofs.Cases.{not_refused}
 use Rattle.dt_model_laws.proofs.Depths.{AreShallow, shallow-opening, shallow-read}
 use Rattle.dt_model_laws.proofs.Holding.{Holds, holds-again, holds-made}
-use Rattle.dt_model_laws.proofs.Labels.{labelled_names}
+use Rattle.dt_model.proofs.Labels.{labelled_names}
 use Rattle.dt_model_laws.proofs.Making.{makes}
 use Rattle.dt_model_laws.proofs.OverlayHolding.{if_read_ok, holds-opened}
 use Rattle.dt_model_laws.proofs.OverlayMaking.{next_number, MakesFragment, MakesBlock, OverlayMakes, with_next_ok, overlay_makes, one_by_one}

@@ -8,7 +8,7 @@ use Rattle.dt_model.specs.Overlay.{content}
 use Rattle.dt_model.specs.Event.{Stack, opening, definition, stands}
 use Rattle.dt_model.specs.Source.{by_label, by_path, Part, one, number_of, IsPart, Place, root, block, delete_node, child, label, property, delete_property, delete_child, close, IsPlace, base, Body, SoFar, enter, labelled}
 use Rattle.dt_model.specs.OverlaySource.{fragment_name, OverlaySoFar, overlay_start, OverlayRefusal, open_fragment, read_overlay, and_if_read, read_overlays}
-use Rattle.dt_model_laws.proofs.Labels.{labelled_names}
+use Rattle.dt_model.proofs.Labels.{labelled_names}
 use Rattle.dt_model_laws.proofs.Sound.{sound-start}
 use Rattle.dt_model_laws.proofs.Holding.{Rules, Obeys, Holds, holds-enter, holds-again, holds-property, holds-made}
 use Rattle.dt_model_laws.proofs.OverlayMaking.{next_number, MakesAsAny, MakesFragment, MakesBlock, OverlayMakes, overlay_makes, one_by_one}

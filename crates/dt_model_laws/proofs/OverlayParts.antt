@@ -9,7 +9,7 @@ use Rattle.dt_model.specs.Event.{Stack, Event, opening, giving, definition, unde
 use Rattle.dt_model.specs.Source.{by_label, by_path, Part, one, number_of, Place, root, block, delete_node, child, label, property, delete_property, delete_child, close, base, Events, SoFar, read}
 use Rattle.dt_model.specs.OverlaySource.{fragment_name, OverlaySoFar, overlay_start, overlay_phandle, overlay_path, with_next, is_overlay_part, read_overlay, read_overlays}
 use Rattle.dt_model.proofs.Cases.{not_refused}
-use Rattle.dt_model_laws.proofs.Lasts.{last_each, value_by}
+use Rattle.dt_model.proofs.Lasts.{last_each, value_by}
 use Rattle.dt_model.proofs.Tests.{each_append}
 use Rattle.dt_model_laws.proofs.OverlayMaking.{next_number, MakesFragment, OverlayMakes, overlay_makes}
 use Rattle.dt_model_laws.proofs.OverlayHolding.{if_read_ok}

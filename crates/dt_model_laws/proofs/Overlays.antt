@@ -16,7 +16,7 @@ use Rattle.dt_model.proofs.EventSteps.{path_eq-refl}
 use Rattle.dt_model.proofs.Cases.{map_some, some_there, either_left, either_right}
 use Rattle.dt_model.proofs.Tests.{each_in}
 use Rattle.dt_model_laws.proofs.Orders.{falls_distinct}
-use Rattle.dt_model_laws.proofs.Labels.{labelled_names, labelled_there, some_label}
+use Rattle.dt_model.proofs.Labels.{labelled_names, labelled_there, some_label}
 use Rattle.dt_model_laws.proofs.Sound.{Sound}
 use Rattle.dt_model_laws.proofs.Holding.{Follows, Holds, node_follows, label_follows, value_follows}
 use Rattle.dt_model_laws.proofs.Keyed.{labels_stand, references_stand, referred_there}

@@ -22,7 +22,7 @@ use Rattle.dt_model_laws.proofs.Lands.{landing_of, last_same, last_none}
 use Rattle.dt_model.proofs.Listed.{value_stands}
 use Rattle.dt_model_laws.proofs.Brought.{written_value, apart_below, root_apart}
 use Rattle.dt_model_laws.proofs.Landing.{AreThere, value-with_fragments, stands-with_fragments}
-use Rattle.dt_model_laws.proofs.Inside.{final_number, plain_brought, referred_inside}
+use Rattle.dt_model.proofs.Inside.{final_number, plain_brought, referred_inside}
 use Rattle.dt_model_laws.proofs.Given.{base_value, base_phandle, object_phandle, object_value_is, label_is}
 use Rattle.dt_model_laws.proofs.Facts.{exact, given_each}
 use Rattle.dt_model_laws.proofs.Placed.{site_names, same_fragments, brought_at}

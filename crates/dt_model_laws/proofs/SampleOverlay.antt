@@ -18,7 +18,7 @@ use Rattle.dt_model.proofs.EventSteps.{bytes_eq-is}
 use Rattle.dt_model_laws.specs.SampleSources.{sample_overlay, sample_fragments, sample_node, IsSampleOverlay}
 use Rattle.dt_model.proofs.Cases.{map_some, all_pass}
 use Rattle.dt_model.proofs.Tests.{each_in}
-use Rattle.dt_model_laws.proofs.Lasts.{last_each, stands_by, value_by}
+use Rattle.dt_model.proofs.Lasts.{last_each, stands_by, value_by}
 
 abbrev read_or_start : Result OverlaySoFar OverlayRefusal → OverlaySoFar
 read_or_start (Ok s) = s

@@ -10,7 +10,7 @@ use Rattle.dt_model.specs.Source.{Part, Refusal, Events, SoFar, base, nothing, r
 use Rattle.dt_model.proofs.EventSteps.{path_eq-is}
 use Rattle.dt_model_laws.specs.SampleSources.{sample_source, IsSampleMeaning}
 use Rattle.dt_model.proofs.Cases.{then_some, all_pass}
-use Rattle.dt_model_laws.proofs.Lasts.{last_each, value_by}
+use Rattle.dt_model.proofs.Lasts.{last_each, value_by}
 
 -- a test of the definitions
 abbrev pub on_definition : (Stack → Name → List Part → Bool) → Event (List Part) → Bool

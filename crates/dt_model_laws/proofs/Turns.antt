@@ -12,7 +12,7 @@ use Rattle.dt_model_laws.specs.Applying.{AreOf}
 use Rattle.dt_model.proofs.Tests.{any_same, in_map, in_map_from}
 use Rattle.dt_model_laws.proofs.Lands.{moved_is}
 use Rattle.dt_model_laws.proofs.Landing.{StandInTurn, AreThere, there_from}
-use Rattle.dt_model_laws.proofs.Inside.{plain_fragment}
+use Rattle.dt_model.proofs.Inside.{plain_fragment}
 use Rattle.dt_model_laws.proofs.Placed.{fragment_list}
 
 -- a source is below the node of one of the sites' fragments

@@ -16,7 +16,7 @@ use Rattle.dt_model.specs.Valid.{IsValid}
 use Rattle.dt_model.specs.Applied.{number_at, node_numbered, Write, local_write, label_write, writes, is_at, value_after_writes, symbol}
 use Rattle.dt_model.proofs.Tests.{bytes_eq_true, bytes_eq_refl, path_eq_refl, path_eq_true, and_left, and_right, and_both}
 use Rattle.dt_model_laws.proofs.Cells.{bytes_from, plain_bytes, offset_from, IsSound, IsWritten, all_cells}
-use Rattle.dt_model_laws.proofs.Inside.{IsInside, final_number, each_at, plain_brought}
+use Rattle.dt_model.proofs.Inside.{IsInside, final_number, each_at, plain_brought}
 use Rattle.dt_model.proofs.Finding.{node_of_number}
 use Rattle.dt_model_laws.proofs.Given.{phandle_of, symbol_is, object_items, object_phandle}
 use Rattle.dt_model_laws.proofs.Numbered.{small_number}

@@ -26,13 +26,6 @@ pub record KeepsBookkeeping (base t : Reading) : Type 0 where
   pub nodes : (x : Name) (p : Path) → is_bookkeeping (x ∷ p) ≡ true → x ∷ p ≢ codes "__symbols__" ∷ [] → stands_in t (x ∷ p) ≡ stands_in base (x ∷ p)
   pub values : (x : Name) (p : Path) (name : Name) → is_bookkeeping (x ∷ p) ≡ true → x ∷ p ≢ codes "__symbols__" ∷ [] → value_in t (x ∷ p) name ≡ value_in base (x ∷ p) name
 
--- a tree is of a meaning by these numbers, and may take objects
-pub record IsOf (t : Reading) (m : Meaning) (number : Path → ℕ) : Type 0 where
-  pub represents : Represents t m number
-  pub meaning : IsMeaning m
-  pub plain : IsPlain m
-  pub valid : IsValid t
-
 -- an object is an overlay's, by numbers of its own
 pub record IsObject (object : Reading) (o : Overlay) : Type 0 where
   pub local : Path → ℕ

@@ -66,7 +66,7 @@ pub fn tree_is_meant()
 
 /// A small source's named tree, its nodes' numbers, and the tree that it is compiled to: a node with a label gets a number, and
 /// one to which a value refers, and a number that isn't written stands behind the node's properties.
-pub fn named_sample()
+pub(crate) fn named_sample()
     ensures named { IsNamedOf base [] named_source named_tree }
     ensures numbered { IsNumbering (asked_in named_tree) named_numbers }
     ensures compiled { added base (symbols_of named_tree) (instance_of named_numbers named_tree) ≡ named_compiled }

@@ -47,7 +47,7 @@ pub fn overlay_refusal_is_one()
 
 /// A small overlay's named tree, its nodes' numbers, and its object: a label that the overlay doesn't give waits in
 /// `__fixups__`, and a reference to a node of the overlay is in `__local_fixups__`.
-pub fn object_sample()
+pub(crate) fn object_sample()
     ensures named { IsNamedOverlayOf two_cells_source two_cells_named two_cells_targets }
     ensures numbered { IsNumbering (asked_in two_cells_named) two_cells_numbered }
     ensures compiled { with_fixups two_cells_named (with_symbols (symbols_of two_cells_named) (instance_of two_cells_numbered two_cells_named)) ≡ two_cells }

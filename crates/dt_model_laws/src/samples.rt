@@ -5,11 +5,11 @@ ghost use Rattle.dt_model.specs.Meaning.{Meaning};
 ghost use Rattle.dt_model.specs.Overlay.{Overlay};
 
 /// A source with labels, references, a written number and a deleted node means a tree.
-pub fn sample_source()
+pub(crate) fn sample_source()
     ensures { (m : Meaning) × IsSampleMeaning m }
 {}
 
 /// An overlay of two fragments, one by a label and one by a path.
-pub fn sample_overlay()
+pub(crate) fn sample_overlay()
     ensures { (o : Overlay) × IsSampleOverlay o }
 {}

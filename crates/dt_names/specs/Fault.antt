@@ -153,6 +153,10 @@ fault_text fault = kind_text fault.kind ++ place_text fault.at
 abbrev pub placeless : FaultKind → Fault
 placeless kind = record { kind = kind; at = None }
 
+-- memory was refused, which has no place
+abbrev pub IsNoMemory : Fault → Type 0
+IsNoMemory fault = (fault.kind ≡ NoMemory) × (fault.at ≡ None)
+
 -- what is answered isn't refused, unless memory is wanted
 abbrev pub IsExclusive : (answered : Type 0) (refused : FaultKind → Type 0) → Type 0
 IsExclusive answered refused = (kind : FaultKind) → answered → refused kind → kind ≡ NoMemory

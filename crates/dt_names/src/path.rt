@@ -72,7 +72,7 @@ impl<'a> Model for PathNames<'a> {
     ghost view = { λ n. parts_left n.rest };
 }
 
-// The bytes before the first `/`, and those behind it, where there is one.
+/// The bytes before the first `/`, and those behind it, where there is one.
 fn cut(bytes: &[u8]) -> (&[u8], Option<&[u8]>)
     ensures { parts bytes.now ≡ result.0.now ∷ parts_left result.1 }
 {
@@ -84,7 +84,7 @@ fn cut(bytes: &[u8]) -> (&[u8], Option<&[u8]>)
     (bytes, None)
 }
 
-// How many names the text has, each with a `/` before it; None where it isn't names of nodes.
+/// How many names the text has, each with a `/` before it; None where it isn't names of nodes.
 fn count_names(text: &[u8]) -> Option<usize>
     ensures { MatchOption result (¬ AreNames text.now)
         (λ n. AreNames text.now × (n ≡ length (names_in text.now))) }
@@ -105,7 +105,7 @@ fn count_names(text: &[u8]) -> Option<usize>
     Some(count)
 }
 
-// Adds a name at the end, with a `/` before it.
+/// Adds a name at the end, with a `/` before it.
 fn add(text: &mut Vec<u8>, name: &[u8]) -> Result<(), AllocError>
     ensures ok { OnOk result (text.new.items ≡ text.old.items ++ 47 ∷ name.now) }
     ensures err { OnErr result (text.new.items ≡ text.old.items) }
@@ -279,7 +279,7 @@ impl Path {
         PathNames { rest }
     }
 
-    // The text of the path.
+    /// The text of the path.
     fn text(&self) -> &[u8]
         ensures { result.now ≡ path_text self.now }
     {

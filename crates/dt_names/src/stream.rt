@@ -82,7 +82,7 @@ impl<W: Write> Sink for Out<W> {
     }
 }
 
-// One write that isn't interrupted, and None where the writer failed.
+/// One write that isn't interrupted, and None where the writer failed.
 fn write_once<W: Write>(writer: &mut W, bytes: &[u8]) -> Option<usize>
     ensures bound { IfSome result (λ n. n ≤ length bytes.now) }
     ensures progress { IfSome result (λ n. 0 < length bytes.now → 0 < n) }
@@ -142,7 +142,7 @@ impl<R: Read> Feed for In<R> {
     }
 }
 
-// One read that isn't interrupted, and None where the reader failed.
+/// One read that isn't interrupted, and None where the reader failed.
 fn read_once<R: Read>(reader: &mut R, buffer: &mut [u8]) -> Option<usize>
     ensures bound { IfSome result (λ n. n ≤ length buffer.new) }
     ensures bytes { MatchOption result (Keeps (R.remaining reader.old) (R.remaining reader.new))

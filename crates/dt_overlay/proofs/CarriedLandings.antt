@@ -15,7 +15,7 @@ use Rattle.dt_flat.proofs.Descent.{path-within}
 use Rattle.dt_overlay_laws.specs.Steps.{land_node, land_fragments, MayLandNode, MayLandFragments, FullAtNode, FullAtFragments}
 use Rattle.dt_overlay_laws.specs.Writing.{with_cells_of, cells_written, with_cells, landed}
 use Rattle.dt_overlay_laws.proofs.WrittenCells.{landed_is_brought}
-use Rattle.dt_overlay_object.specs.declared.kept.Fragment.{Fragment}
+use Rattle.dt_overlay_object.specs.declared.kept.ObjectFragment.{ObjectFragment}
 use Rattle.dt_overlay_object.specs.declared.brought.Brought.{Brought}
 use Rattle.dt_overlay_landing.specs.Landed.{landed_at, land_each, MayLandEach, FullAtEach}
 use Rattle.dt_overlay_object.specs.Plans.{AreFragmentsOf, AreBrought, IsReady}
@@ -35,7 +35,7 @@ site_paths found = map (λ (x : Site). x.at) found
 pub brought_by_path : (slots : List Slot) (names : List Name) (numbers : List (Path × ℕ)) (b : Brought) → AreBrought slots names numbers b → AreNumberedByPath b.numbers.items slots numbers
 brought_by_path slots names numbers b brought p i leads = ap (λ (o : Option (Option ℕ)). unwrap_or o None) (brought.numbered p i leads)
 
-there_of : (slots : List Slot) (object : Reading) (fragments : List Fragment) (names : List Name) → IsRooted slots → AreFragmentsOf slots object fragments names
+there_of : (slots : List Slot) (object : Reading) (fragments : List ObjectFragment) (names : List Name) → IsRooted slots → AreFragmentsOf slots object fragments names
     → AllByRecursion (λ x. x.content < length slots) fragments
 there_of slots object [] [] rooted h = tt
 there_of slots object [] (f ∷ fs) rooted h = absurd h
@@ -43,7 +43,7 @@ there_of slots object (x ∷ xs) [] rooted h = absurd h
 there_of slots object (x ∷ xs) (f ∷ fs) rooted h = (path-within slots (content f) 0 x.content rooted.some h.0.content, there_of slots object xs fs rooted h.1)
 
 -- the nodes that the fragments bring are there
-pub contents_there : (object : Reading) (ws : List Write) (numbers : List (Path × ℕ)) (tree : Arena) (fragments : List Fragment) (b : Brought)
+pub contents_there : (object : Reading) (ws : List Write) (numbers : List (Path × ℕ)) (tree : Arena) (fragments : List ObjectFragment) (b : Brought)
     → IsReady object ws numbers tree fragments b → IsRooted tree.slots → AllByRecursion (λ x. x.content < length tree.slots) fragments
 contents_there object ws numbers tree fragments b ready rooted = there_of tree.slots object fragments (fragment_names object.children) rooted ready.listed
 
@@ -79,7 +79,7 @@ module _ (object : Reading) (ws : List Write) (numbers : List (Path × ℕ)) (tr
       landed_by_path tree new numbers f k rooted paths numbered leads ∙ ap (λ (t : Reading). landed numbers f (node_at t (content f))) written ∙ landed_is_brought ws numbers object f
 
   -- what fragments bring
-  each-landed : (fragments : List Fragment) (found : List Site) → AreFragmentsOf tree.slots object fragments (site_names found) → (t : Reading)
+  each-landed : (fragments : List ObjectFragment) (found : List Site) → AreFragmentsOf tree.slots object fragments (site_names found) → (t : Reading)
       → land_each new tree.slots (contents fragments) (site_paths found) t ≡ land_fragments t object ws numbers found
   each-landed [] [] h t = refl
   each-landed [] (y ∷ found) h t = absurd h
@@ -89,7 +89,7 @@ module _ (object : Reading) (ws : List Write) (numbers : List (Path × ℕ)) (tr
       ∙ ap (λ (n : Node). land_fragments (land_node y.at n t) object ws numbers found) (content-landed y.fragment x.content h.0.content)
 
   -- may land
-  each-may : (fragments : List Fragment) (found : List Site) → AreFragmentsOf tree.slots object fragments (site_names found) → (t : Reading)
+  each-may : (fragments : List ObjectFragment) (found : List Site) → AreFragmentsOf tree.slots object fragments (site_names found) → (t : Reading)
       → MayLandFragments t object ws numbers found → MayLandEach new tree.slots (contents fragments) (site_paths found) t
   each-may [] [] h t may = tt
   each-may [] (y ∷ found) h t may = absurd h
@@ -103,7 +103,7 @@ module _ (object : Reading) (ws : List Write) (numbers : List (Path × ℕ)) (tr
       )
 
   -- where there is no room on the way of the ones, there is none on that of the others
-  each-stuck : (full : Reading → Reading → Type 0) (fragments : List Fragment) (found : List Site) → AreFragmentsOf tree.slots object fragments (site_names found) → (t : Reading)
+  each-stuck : (full : Reading → Reading → Type 0) (fragments : List ObjectFragment) (found : List Site) → AreFragmentsOf tree.slots object fragments (site_names found) → (t : Reading)
       → FullAtEach full new tree.slots (contents fragments) (site_paths found) t → FullAtFragments full t object ws numbers found
   each-stuck full [] [] h t stuck = absurd stuck
   each-stuck full [] (y ∷ found) h t stuck = absurd h
@@ -113,22 +113,22 @@ module _ (object : Reading) (ws : List Write) (numbers : List (Path × ℕ)) (tr
       inr (subst (λ (n : Node). FullAtFragments full (land_node y.at n t) object ws numbers found) (content-landed y.fragment x.content h.0.content)
       (each-stuck full xs found h.1 (land_node y.at (landed_at new tree.slots x.content) t) stuck))
 
-module _ (object : Reading) (ws : List Write) (numbers : List (Path × ℕ)) (tree : Arena) (fragments : List Fragment) (b : Brought) (ready : IsReady object ws numbers tree fragments b)
+module _ (object : Reading) (ws : List Write) (numbers : List (Path × ℕ)) (tree : Arena) (fragments : List ObjectFragment) (b : Brought) (ready : IsReady object ws numbers tree fragments b)
     (rooted : IsRooted tree.slots) (paths : EachHasPath tree.slots) (found : List Site) (named : map (λ (x : Site). x.fragment) found ≡ fragment_names object.children) where
   listed-by-site : AreFragmentsOf tree.slots object fragments (site_names found)
   listed-by-site = subst (AreFragmentsOf tree.slots object fragments) (sym named) ready.listed
 
   -- the fragments of an object that is ready, by their numbers and by their names
-  pub each_is_fragments : (t : Reading) → land_each b.numbers.items tree.slots (map (λ (x : Fragment). x.content) fragments) (map (λ (x : Site). x.at) found) t ≡ land_fragments t object ws numbers found
+  pub each_is_fragments : (t : Reading) → land_each b.numbers.items tree.slots (map (λ (x : ObjectFragment). x.content) fragments) (map (λ (x : Site). x.at) found) t ≡ land_fragments t object ws numbers found
   each_is_fragments t =
       each-landed object ws numbers tree b.numbers.items rooted paths (brought_by_path tree.slots (fragment_names object.children) numbers b ready.brought) ready.written fragments found listed-by-site t
 
   -- nothing more is in the way of the ones than of the others
-  pub each_may_land : (t : Reading) → MayLandFragments t object ws numbers found → MayLandEach b.numbers.items tree.slots (map (λ (x : Fragment). x.content) fragments) (map (λ (x : Site). x.at) found) t
+  pub each_may_land : (t : Reading) → MayLandFragments t object ws numbers found → MayLandEach b.numbers.items tree.slots (map (λ (x : ObjectFragment). x.content) fragments) (map (λ (x : Site). x.at) found) t
   each_may_land t may =
       each-may object ws numbers tree b.numbers.items rooted paths (brought_by_path tree.slots (fragment_names object.children) numbers b ready.brought) ready.written fragments found listed-by-site t may
 
-  pub each_stuck : (full : Reading → Reading → Type 0) (t : Reading) → FullAtEach full b.numbers.items tree.slots (map (λ (x : Fragment). x.content) fragments) (map (λ (x : Site). x.at) found) t
+  pub each_stuck : (full : Reading → Reading → Type 0) (t : Reading) → FullAtEach full b.numbers.items tree.slots (map (λ (x : ObjectFragment). x.content) fragments) (map (λ (x : Site). x.at) found) t
       → FullAtFragments full t object ws numbers found
   each_stuck full t stuck =
       each-stuck object ws numbers tree b.numbers.items rooted paths (brought_by_path tree.slots (fragment_names object.children) numbers b ready.brought) ready.written full fragments found listed-by-site t stuck

@@ -7,12 +7,12 @@ use Rattle.dt_model.specs.Names.{Name}
 use Rattle.dt_model.specs.Path.{Path}
 use Rattle.dt_model.specs.Tree.{Reading, nodes_of, value_in}
 use Rattle.dt_model.specs.Valid.{IsValid, IsWithinLimits}
-use Rattle.dt_model.specs.Object.{Cell, fragment_names, local_cells}
+use Rattle.dt_model.specs.Object.{Cell, fragment_names, local_cells, HasCell}
 use Rattle.dt_model.specs.Numbers.{number_in}
 use Rattle.dt_model.specs.Applied.{Write, label_write, local_write, node_numbered, number_at}
 use Rattle.dt_flat.specs.Arena.{Slot, IsRooted, reading}
 use Rattle.dt_flat.proofs.Descent.{path-within}
-use Rattle.dt_overlay_laws.specs.Objects.{HasCell, HasCells, symbols_in}
+use Rattle.dt_overlay_laws.specs.Objects.{HasCells, symbols_in}
 use Rattle.dt_overlay.specs.Applying.{IsReadFor}
 use Rattle.dt_overlay.specs.Objects.{Seen, IsSeenAs}
 use Rattle.dt_overlay.specs.declared.object.Object.{Object}

@@ -15,7 +15,7 @@ use Rattle.dt_names.specs.declared.fault.Fault.{Fault}
 use Rattle.dt_overlay.specs.Objects.{Seen, IsSeenAs, IsToLandOn, writes_of, with_numbers}
 use Rattle.dt_overlay.specs.declared.object.Object.{Object}
 use Rattle.dt_overlay.proofs.CarriedLandings.{unwritten, contents_there, each_is_fragments, each_may_land, each_stuck}
-use Rattle.dt_overlay_object.specs.declared.kept.Fragment.{Fragment}
+use Rattle.dt_overlay_object.specs.declared.kept.ObjectFragment.{ObjectFragment}
 use Rattle.dt_overlay_object.specs.declared.kept.Symbol.{Symbol}
 use Rattle.dt_overlay_object.specs.declared.kept.Write.{Write as KeptWrite}
 use Rattle.dt_overlay_object.specs.Plans.{AreSymbolsOf, AreWritesOf, IsReady, symbol_brought}
@@ -102,7 +102,7 @@ module _ (o : Object) (s : Seen) (is : IsSeenAs o s) (valid : IsValid (reading o
     named = on.named ∙ ap (λ (r : Reading). fragment_names r.children) (sym is.reads)
 
     abbrev contents : List ℕ
-    contents = map (λ (x : Fragment). x.content) o.fragments.items
+    contents = map (λ (x : ObjectFragment). x.content) o.fragments.items
 
     abbrev numbers : List (Option ℕ)
     numbers = o.brought.numbers.items
@@ -127,20 +127,20 @@ module _ (o : Object) (s : Seen) (is : IsSeenAs o s) (valid : IsValid (reading o
         (subst (λ (qs : List Path). FullAtEach full numbers (with_numbers o).slots contents qs t) on.at h))
 
     -- the same of lists that are these
-    module _ (kept : List (Option ℕ)) (nodes : List Slot) (fragments : List Fragment) (of_numbers : kept ≡ numbers) (of_nodes : nodes ≡ (with_numbers o).slots) (of_fragments : fragments ≡ o.fragments.items) where
-      abbrev of_each : (P : List (Option ℕ) → List Slot → List ℕ → Type 0) → P numbers (with_numbers o).slots contents → P kept nodes (map (λ (x : Fragment). x.content) fragments)
+    module _ (kept : List (Option ℕ)) (nodes : List Slot) (fragments : List ObjectFragment) (of_numbers : kept ≡ numbers) (of_nodes : nodes ≡ (with_numbers o).slots) (of_fragments : fragments ≡ o.fragments.items) where
+      abbrev of_each : (P : List (Option ℕ) → List Slot → List ℕ → Type 0) → P numbers (with_numbers o).slots contents → P kept nodes (map (λ (x : ObjectFragment). x.content) fragments)
       of_each P h =
-          subst (λ (ns : List (Option ℕ)). P ns nodes (map (λ (x : Fragment). x.content) fragments)) (sym of_numbers)
-          (subst (λ (ns : List Slot). P numbers ns (map (λ (x : Fragment). x.content) fragments)) (sym of_nodes)
-          (subst (λ (fs : List Fragment). P numbers (with_numbers o).slots (map (λ (x : Fragment). x.content) fs)) (sym of_fragments) h))
+          subst (λ (ns : List (Option ℕ)). P ns nodes (map (λ (x : ObjectFragment). x.content) fragments)) (sym of_numbers)
+          (subst (λ (ns : List Slot). P numbers ns (map (λ (x : ObjectFragment). x.content) fragments)) (sym of_nodes)
+          (subst (λ (fs : List ObjectFragment). P numbers (with_numbers o).slots (map (λ (x : ObjectFragment). x.content) fs)) (sym of_fragments) h))
 
-      pub these_landed : (t : Reading) → land_each kept nodes (map (λ (x : Fragment). x.content) fragments) sites t ≡ land_fragments t s.reading (writes_of s) s.numbers found
-      these_landed t = (λ i. land_each (of_numbers i) (of_nodes i) (map (λ (x : Fragment). x.content) (of_fragments i)) sites t) ∙ landed_is t
+      pub these_landed : (t : Reading) → land_each kept nodes (map (λ (x : ObjectFragment). x.content) fragments) sites t ≡ land_fragments t s.reading (writes_of s) s.numbers found
+      these_landed t = (λ i. land_each (of_numbers i) (of_nodes i) (map (λ (x : ObjectFragment). x.content) (of_fragments i)) sites t) ∙ landed_is t
 
-      pub these_may_land : (t : Reading) → MayLandFragments t s.reading (writes_of s) s.numbers found → MayLandEach kept nodes (map (λ (x : Fragment). x.content) fragments) sites t
+      pub these_may_land : (t : Reading) → MayLandFragments t s.reading (writes_of s) s.numbers found → MayLandEach kept nodes (map (λ (x : ObjectFragment). x.content) fragments) sites t
       these_may_land t may = of_each (λ ns slots cs. MayLandEach ns slots cs sites t) (may_land t may)
 
-      pub these_told : (full : Reading → Reading → Type 0) (t : Reading) (e : Fault) → IsWant (FullAtEach full kept nodes (map (λ (x : Fragment). x.content) fragments) sites t) e
+      pub these_told : (full : Reading → Reading → Type 0) (t : Reading) (e : Fault) → IsWant (FullAtEach full kept nodes (map (λ (x : ObjectFragment). x.content) fragments) sites t) e
           → IsWant (FullAtFragments full t s.reading (writes_of s) s.numbers found) e
       these_told full t e =
           of_each (λ ns slots cs. IsWant (FullAtEach full ns slots cs sites t) e → IsWant (FullAtFragments full t s.reading (writes_of s) s.numbers found) e)

@@ -17,9 +17,9 @@ use Rattle.dt_overlay_laws.specs.Objects.{HasTarget, HaveTargets, AreFixedUp, Is
 use Rattle.dt_overlay_laws.specs.Refusals.{HasNoFixup, HasNoSites, IsCrowded, WhyNotApplied}
 use Rattle.dt_overlay.specs.Applying.{IsReadFor, IsLeftBy}
 use Rattle.dt_overlay.specs.declared.object.Object.{Object}
-use Rattle.dt_overlay_object.specs.declared.kept.Fragment.{Fragment}
-use Rattle.dt_overlay_object.specs.declared.kept.FragmentTarget.{FragmentTarget}
-use Rattle.dt_overlay_object.specs.declared.kept.FragmentTarget.TheVariants.{Number, Path as TargetPath}
+use Rattle.dt_overlay_object.specs.declared.kept.ObjectFragment.{ObjectFragment}
+use Rattle.dt_overlay_object.specs.declared.kept.ObjectTarget.{ObjectTarget}
+use Rattle.dt_overlay_object.specs.declared.kept.ObjectTarget.TheVariants.{Number, Path as TargetPath}
 use Rattle.dt_overlay_object.specs.Plans.{IsTargetOf, AreFragmentsOf}
 use Rattle.dt_overlay_base.specs.Targets.{IsWant}
 
@@ -36,11 +36,11 @@ if_err (Err e) f h = f e h
 -- ---- targets
 
 -- a fragment that is kept has a target
-held : (object : Reading) (f : Name) (t : FragmentTarget) → IsTargetOf object f t → HasTarget object f
+held : (object : Reading) (f : Name) (t : ObjectTarget) → IsTargetOf object f t → HasTarget object f
 held object f Number is = inl is
 held object f (TargetPath value) is = inr (is.0, (is.2.0, is.1 ∙ ap (λ (bytes : List ℕ). Some bytes) is.2.1.text, is.2.1.named))
 
-pub all_held : (slots : List Slot) (object : Reading) (xs : List Fragment) (fs : List Name) → AreFragmentsOf slots object xs fs → AllByRecursion (HasTarget object) fs
+pub all_held : (slots : List Slot) (object : Reading) (xs : List ObjectFragment) (fs : List Name) → AreFragmentsOf slots object xs fs → AllByRecursion (HasTarget object) fs
 all_held slots object [] [] h = tt
 all_held slots object [] (f ∷ fs) h = absurd h
 all_held slots object (x ∷ xs) [] h = absurd h

@@ -4,10 +4,10 @@ use Rattle.std.specs.List.{AllByRecursion, flat_map}
 use Rattle.dt_model.specs.Path.{Path}
 use Rattle.dt_model.specs.Tree.{Reading}
 use Rattle.dt_model.specs.Merged.{Site}
-use Rattle.dt_model.specs.Object.{fragment_names}
+use Rattle.dt_model.specs.Object.{fragment_names, HasCell}
 use Rattle.dt_model.specs.Applied.{Write}
 use Rattle.dt_flat.specs.Arena.{Arena, reading}
-use Rattle.dt_overlay_laws.specs.Objects.{HasCell, symbols_in}
+use Rattle.dt_overlay_laws.specs.Objects.{symbols_in}
 use Rattle.dt_overlay.specs.declared.object.Object.{Object}
 use Rattle.dt_overlay_object.specs.Plans.{AreBrought, AreFragmentsOf, AreSymbolsOf, AreWritesOf, IsUnbrought, symbol_brought}
 use Rattle.dt_overlay_landing.specs.Writing.{with_writes}

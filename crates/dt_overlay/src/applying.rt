@@ -11,6 +11,7 @@ ghost use Rattle.dt_names.specs.declared.fault.FaultKind.TheVariants.{NoMemory};
 ghost use Rattle.dt_overlay.specs.Applying.{IsEmptyLanding, IsNumberedFor, IsLeftBy};
 ghost use Rattle.dt_overlay.specs.Objects.{IsUnread, tree_in};
 ghost use Rattle.dt_overlay_base.specs.Targets.{HasNoRoom, IsWant};
+ghost use Rattle.dt_names.specs.Fault.{IsNoMemory};
 
 use crate::object::Object;
 use dt_names::{Fault, NodeName, Path, Seed};
@@ -39,10 +40,10 @@ impl Landing {
     }
 }
 
-// The path of the node that holds the labels.
+/// The path of the node that holds the labels.
 fn symbols_path(alloc: Global) -> Result<Path, Fault>
     ensures value { IfOk result (λ path. path ≡ codes "__symbols__" ∷ []) }
-    ensures refused { IfErr result (λ fault. (fault.kind ≡ NoMemory) × (fault.at ≡ None)) }
+    ensures refused { IfErr result IsNoMemory }
 {
     let name = NodeName::new(b"__symbols__".as_slice())?;
     let mut path = Path::root(alloc);
@@ -50,7 +51,7 @@ fn symbols_path(alloc: Global) -> Result<Path, Fault>
     Ok(path)
 }
 
-// Lands what the fragments bring on their sites, and then the labels.
+/// Lands what the fragments bring on their sites, and then the labels.
 fn land<T: Target>(
     alloc: Global,
     target: &mut T,
@@ -72,7 +73,7 @@ fn land<T: Target>(
     object.set_symbols(alloc, target, symbols, &landing.sites, &mut landing.value)
 }
 
-// Applies an object of which nothing is read, and nothing has landed.
+/// Applies an object of which nothing is read, and nothing has landed.
 fn carry_out<T: Target>(
     alloc: Global,
     target: &mut T,
@@ -95,7 +96,7 @@ fn carry_out<T: Target>(
     land(alloc, target, symbols, object, landing)
 }
 
-// Applies an object of which nothing is read.
+/// Applies an object of which nothing is read.
 fn apply_object<T: Target>(
     alloc: Global,
     target: &mut T,

@@ -25,15 +25,15 @@ use dt_overlay_base::{Places, Target};
 use dt_overlay_landing::{
     Values, find_sites, land_all, number_all, renumber, set_symbols, target_marks,
 };
-use dt_overlay_object::{Brought, Fragment, Symbol, Write, bring_all};
+use dt_overlay_object::{Brought, ObjectFragment, Symbol, Write, bring_all};
 use dt_overlay_read::{list_fixups, list_fragments, list_local_fixups, list_symbols};
 use std::alloc::{AllocError, Global};
 
 /// An overlay's object: its tree, what is listed of it, which fragment brings a node, and the numbers that its nodes get.
 #[derive(Drop)]
-pub struct Object {
+pub(crate) struct Object {
     tree: FlatTree,
-    fragments: Vec<Fragment>,
+    fragments: Vec<ObjectFragment>,
     own_writes: Vec<Write>,
     label_writes: Vec<Write>,
     symbols: Vec<Symbol>,
@@ -142,7 +142,7 @@ impl Object {
         renumber(&self.tree, &self.brought, &mut self.own_writes);
     }
 
-    // Lands what the fragments bring, by a table of values that is empty.
+    /// Lands what the fragments bring, by a table of values that is empty.
     fn land_by<'o, T: Target>(
         &'o self,
         alloc: Global,

@@ -10,7 +10,7 @@ use dt_flat::{FlatTree, NodeId};
 use dt_names::{Fault, NodeName, Path, PropName, Seed};
 use std::alloc::Global;
 
-// The node of a path that stands in the tree.
+/// The node of a path that stands in the tree.
 fn node_at(tree: &FlatTree, path: &Path) -> NodeId
     requires { stands_in (arena_reading tree.now) path.now ≡ true }
     ensures { IsPlaced tree.now path.now result }

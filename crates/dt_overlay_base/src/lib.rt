@@ -4,7 +4,7 @@
 //!
 //! ```text
 //! target.find(&path);                                         // whether a node of the path stands
-//! land_content(alloc, &tree, &object, node, &path, &mut places)?; // what a fragment brings lands: each place once, and gets its number
+//! note_content(alloc, &tree, &object, node, &path, &mut places)?; // what a fragment brings lands: each place once, and gets its number
 //! ```
 //!
 //! Objects that land are cases of applied.cases (docs/CASES.md).
@@ -17,7 +17,7 @@ mod target;
 mod texts;
 
 pub use flat_target::tree_room_is_counted;
-pub use looks::{is_bookkeeping, land_content, number_there};
+pub use looks::{is_bookkeeping, note_content, number_there};
 pub use places::Places;
 pub use target::Target;
 pub use texts::{child_path, join, node_of, put_path};

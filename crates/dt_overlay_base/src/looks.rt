@@ -15,6 +15,7 @@ ghost use Rattle.dt_overlay_laws.specs.Landings.{MayLand, WhyNotLands, MayAllLan
 ghost use Rattle.dt_names.specs.declared.fault.FaultKind.TheVariants.{NoMemory};
 ghost use Rattle.dt_overlay_base.specs.Known.{IsKnown, HasRoom, placed, trees_of, content_at};
 ghost use Rattle.dt_overlay_base.specs.Known.{IsNext};
+ghost use Rattle.dt_names.specs.Fault.{IsNoMemory};
 
 use crate::Target;
 use crate::places::Places;
@@ -33,11 +34,11 @@ pub fn is_bookkeeping(path: &Path) -> bool
     }
 }
 
-// The least number above another that no node of the base has: the base has too few nodes for it to be far above.
+/// The least number above another that no node of the base has: the base has too few nodes for it to be far above.
 fn free_number<T: Target>(alloc: Global, target: &T, last: u32) -> Result<u32, Fault>
     requires { last ≤ 2 * most_nodes }
     ensures next { IfOk result (IsNext (numbers_of (T.reading target.now)) last) }
-    ensures refused { IfErr result (λ fault. (fault.kind ≡ NoMemory) × (fault.at ≡ None)) }
+    ensures refused { IfErr result IsNoMemory }
 {
     target.validity();
     let mut number = last + 1;
@@ -57,7 +58,7 @@ pub fn number_there<T: Target>(
     requires named { AllByRecursion IsNodeName path.now }
     ensures number { (given : List (Names × ℕ)) (landed : List Names) → IsKnown (T.reading target.now) given landed places.now →
         IfOk result (λ number. number ≡ number_known (T.reading target.now) given path.now) }
-    ensures refused { IfErr result (λ fault. (fault.kind ≡ NoMemory) × (fault.at ≡ None)) }
+    ensures refused { IfErr result IsNoMemory }
 {
     target.validity();
     match target.prop(path, b"phandle".as_slice()) {
@@ -69,7 +70,7 @@ pub fn number_there<T: Target>(
     }
 }
 
-// A node with a phandle lands on a place, which gets a number where it has none.
+/// A node with a phandle lands on a place, which gets a number where it has none.
 fn number_place<T: Target>(
     alloc: Global,
     target: &T,
@@ -80,7 +81,7 @@ fn number_place<T: Target>(
     requires room { HasRoom (T.reading target.now) [] places.old }
     ensures known { (given : List (Names × ℕ)) (landed : List Names) → IsKnown (T.reading target.now) given landed places.old → IsIn path.now landed →
         OnOk result (IsKnown (T.reading target.now) (with_place (T.reading target.now) path.now given) landed places.new) }
-    ensures refused { IfErr result (λ fault. (fault.kind ≡ NoMemory) × (fault.at ≡ None)) }
+    ensures refused { IfErr result IsNoMemory }
 {
     target.validity();
     if number_there(alloc, target, places, path)?.is_some() {
@@ -91,8 +92,8 @@ fn number_place<T: Target>(
     Ok(())
 }
 
-// A node lands on a path.
-fn land_node<T: Target>(
+/// A node lands on a path.
+fn note_node<T: Target>(
     alloc: Global,
     target: &T,
     object: &FlatTree,
@@ -120,9 +121,9 @@ fn land_node<T: Target>(
     Ok(())
 }
 
-// A child of a node lands with what is below it.
-#[cycle(lands)]
-fn land_child<T: Target>(
+/// A child of a node lands with what is below it.
+#[cycle(notes)]
+fn note_child<T: Target>(
     alloc: Global,
     target: &T,
     object: &FlatTree,
@@ -144,13 +145,13 @@ fn land_child<T: Target>(
 {
     object.validity();
     let path = child_path(alloc, parent, object.name(node))?;
-    land_node(alloc, target, object, node, &path, places)?;
-    land_children(alloc, target, object, node, &path, places)
+    note_node(alloc, target, object, node, &path, places)?;
+    note_children(alloc, target, object, node, &path, places)
 }
 
-// The children of a node land, each with what is below it.
-#[cycle(lands)]
-fn land_children<T: Target>(
+/// The children of a node land, each with what is below it.
+#[cycle(notes)]
+fn note_children<T: Target>(
     alloc: Global,
     target: &T,
     object: &FlatTree,
@@ -170,13 +171,13 @@ fn land_children<T: Target>(
         ⊎ IsStuck fault.kind (preorder path.now (below object.now.slots node)))) }
 {
     for child in object.children(node) {
-        land_child(alloc, target, object, child, path, places)?;
+        note_child(alloc, target, object, child, path, places)?;
     }
     Ok(())
 }
 
 /// What a fragment brings lands on a path.
-pub fn land_content<T: Target>(
+pub fn note_content<T: Target>(
     alloc: Global,
     target: &T,
     object: &FlatTree,
@@ -195,6 +196,6 @@ pub fn land_content<T: Target>(
     ensures refused { IfErr result (λ fault. (fault.at ≡ None) × ((fault.kind ≡ NoMemory)
         ⊎ IsStuck fault.kind (content_at object.now.slots content path.now))) }
 {
-    land_node(alloc, target, object, content, path, places)?;
-    land_children(alloc, target, object, content, path, places)
+    note_node(alloc, target, object, content, path, places)?;
+    note_children(alloc, target, object, content, path, places)
 }

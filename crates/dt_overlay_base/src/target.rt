@@ -10,6 +10,7 @@ ghost use Rattle.dt_model.specs.Valid.{IsValid, IsWithinLimits};
 ghost use Rattle.dt_names.specs.declared.fault.FaultKind.TheVariants.{NoMemory};
 ghost use Rattle.dt_overlay_laws.specs.Objects.{HasCells, HasNumber};
 ghost use Rattle.dt_overlay_base.specs.Targets.{MayAddAt, HasRoomAt, WhyNotAddedAt, WhyNotSetAt};
+ghost use Rattle.dt_names.specs.Fault.{IsNoMemory};
 
 use dt_names::{Fault, NodeName, Path, PropName, Seed};
 use std::alloc::Global;
@@ -50,7 +51,7 @@ pub trait Target {
     fn by_phandle(&self, alloc: Global, number: u32) -> Result<Option<Path>, Fault>
         ensures found { IfOk result (λ found. MatchOption found ((p : Names) → HasNumber (reading self.now) p number → ⊥)
             (λ path. HasNumber (reading self.now) path number)) }
-        ensures refused { IfErr result (λ fault. (fault.kind ≡ NoMemory) × (fault.at ≡ None)) };
+        ensures refused { IfErr result IsNoMemory };
 
     /// Sets a property of a path's node: one that is there keeps its place, a new one goes last.
     ///

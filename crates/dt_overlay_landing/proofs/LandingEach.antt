@@ -6,20 +6,20 @@ use Rattle.dt_model.specs.Path.{Path}
 use Rattle.dt_model.specs.Tree.{Reading, stands_in}
 use Rattle.dt_flat.specs.Arena.{Slot}
 use Rattle.dt_overlay_laws.specs.Steps.{land_node, MayLandNode, FullAtNode}
-use Rattle.dt_overlay_object.specs.declared.kept.Fragment.{Fragment}
+use Rattle.dt_overlay_object.specs.declared.kept.ObjectFragment.{ObjectFragment}
 use Rattle.dt_overlay_landing.specs.Landed.{landed_at, land_each, MayLandEach, FullAtEach}
 
 -- what the fragments bring, by number
-abbrev pub contents : List Fragment → List ℕ
-contents fragments = map (λ (x : Fragment). x.content) fragments
+abbrev pub contents : List ObjectFragment → List ℕ
+contents fragments = map (λ (x : ObjectFragment). x.content) fragments
 
 -- each of them is there
-pub contents_there : (slots : List Slot) (fragments : List Fragment) → AllByRecursion (λ x. x.content < length slots) fragments → AllByRecursion (λ k. k < length slots) (contents fragments)
+pub contents_there : (slots : List Slot) (fragments : List ObjectFragment) → AllByRecursion (λ x. x.content < length slots) fragments → AllByRecursion (λ k. k < length slots) (contents fragments)
 contents_there slots [] h = tt
 contents_there slots (x ∷ xs) h = (h.0, contents_there slots xs h.1)
 
 -- none is left where no fragment is
-pub contents_over : (fragments : List Fragment) (sites : List Path) → (fragments ≡ []) ⊎ (sites ≡ []) → (contents fragments ≡ []) ⊎ (sites ≡ [])
+pub contents_over : (fragments : List ObjectFragment) (sites : List Path) → (fragments ≡ []) ⊎ (sites ≡ []) → (contents fragments ≡ []) ⊎ (sites ≡ [])
 contents_over fragments sites (inl e) = inl (ap contents e)
 contents_over fragments sites (inr e) = inr e
 

@@ -12,7 +12,7 @@ use Rattle.dt_flat.specs.Arena.{Arena, reading}
 use Rattle.dt_flat.proofs.Linking.{drop_item}
 use Rattle.dt_overlay_model.specs.Walk.{Walked, nothing_walked, site, landed_on}
 use Rattle.dt_overlay_laws.specs.Landings.{AreSited, WhyNoSite, HasNoSite}
-use Rattle.dt_overlay_object.specs.declared.kept.Fragment.{Fragment}
+use Rattle.dt_overlay_object.specs.declared.kept.ObjectFragment.{ObjectFragment}
 use Rattle.dt_overlay_landing.specs.declared.marks.TargetMark.{TargetMark}
 use Rattle.dt_overlay_object.specs.declared.brought.Brought.{Brought}
 use Rattle.dt_overlay_base.specs.Known.{Known, IsKnown, landed_paths}
@@ -23,14 +23,14 @@ use Rattle.dt_overlay_object.proofs.NumbersTurns.{at_index}
 use Rattle.dt_overlay_landing.proofs.SitesTurns.{sited_behind, none_behind}
 
 -- the fragments up to an index have sites
-pub record AreFound (base : Reading) (fixups : List (Name × Cell)) (tree : Arena) (b : Brought) (marks : List TargetMark) (fragments : List Fragment) (i : ℕ) (paths : List Path) (a : Known) : Type 0 where
+pub record AreFound (base : Reading) (fixups : List (Name × Cell)) (tree : Arena) (b : Brought) (marks : List TargetMark) (fragments : List ObjectFragment) (i : ℕ) (paths : List Path) (a : Known) : Type 0 where
   pub walked : Walked
   pub done : List Name
   pub later : List Name
   pub turn : IsTurn base fixups tree b marks paths a walked done later
   pub left : AreFragmentsOf tree.slots (reading tree) (drop i fragments) later
 
-pub found_begun : (base : Reading) (fixups : List (Name × Cell)) (tree : Arena) (b : Brought) (marks : List TargetMark) (fragments : List Fragment) (paths : List Path) (a : Known)
+pub found_begun : (base : Reading) (fixups : List (Name × Cell)) (tree : Arena) (b : Brought) (marks : List TargetMark) (fragments : List ObjectFragment) (paths : List Path) (a : Known)
     → AreBrought tree.slots (fragment_names (reading tree).children) [] b → AreMarked base fixups tree marks → AreFragmentsOf tree.slots (reading tree) fragments (fragment_names (reading tree).children)
     → paths ≡ [] → IsKnown base [] [] a → AreFound base fixups tree b marks fragments 0 paths a
 found_begun base fixups tree b marks fragments paths a brought marked listed none known = record {
@@ -41,12 +41,12 @@ found_begun base fixups tree b marks fragments paths a brought marked listed non
   left = listed;
 }
 
-module _ (base : Reading) (fixups : List (Name × Cell)) (tree : Arena) (b : Brought) (marks : List TargetMark) (fragments : List Fragment) (i : ℕ) (paths : List Path) (a : Known)
+module _ (base : Reading) (fixups : List (Name × Cell)) (tree : Arena) (b : Brought) (marks : List TargetMark) (fragments : List ObjectFragment) (i : ℕ) (paths : List Path) (a : Known)
     (so_far : AreFound base fixups tree b marks fragments i paths a) where
   abbrev names : List Name
   names = fragment_names (reading tree).children
 
-  module _ (x : Fragment) (lt : i < length fragments) (at : x ≡ get_or fragments i x) where
+  module _ (x : ObjectFragment) (lt : i < length fragments) (at : x ≡ get_or fragments i x) where
     pub record IsNext : Type 0 where
       pub name : Name
       pub later : List Name
@@ -56,7 +56,7 @@ module _ (base : Reading) (fixups : List (Name × Cell)) (tree : Arena) (b : Bro
 
     -- the fragment of the index is the next
     pub next : IsNext
-    next = step so_far.later refl (subst (λ (xs : List Fragment). AreFragmentsOf tree.slots (reading tree) xs so_far.later) (drop_item fragments i x (at_index fragments i x lt at)) so_far.left)
+    next = step so_far.later refl (subst (λ (xs : List ObjectFragment). AreFragmentsOf tree.slots (reading tree) xs so_far.later) (drop_item fragments i x (at_index fragments i x lt at)) so_far.left)
       where
         step : (fs : List Name) → so_far.later ≡ fs → AreFragmentsOf tree.slots (reading tree) (x ∷ drop (i + 1) fragments) fs → IsNext
         step [] e h = absurd h
@@ -109,4 +109,4 @@ module _ (base : Reading) (fixups : List (Name × Cell)) (tree : Arena) (b : Bro
       none : (fs : List Name) → so_far.later ≡ fs → so_far.later ≡ []
       none [] e = e
       none (f ∷ fs) e =
-          absurd (subst (λ (gs : List Name). AreFragmentsOf tree.slots (reading tree) [] gs) e (subst (λ (xs : List Fragment). AreFragmentsOf tree.slots (reading tree) xs so_far.later) (drop_all i fragments past) so_far.left))
+          absurd (subst (λ (gs : List Name). AreFragmentsOf tree.slots (reading tree) [] gs) e (subst (λ (xs : List ObjectFragment). AreFragmentsOf tree.slots (reading tree) xs so_far.later) (drop_all i fragments past) so_far.left))

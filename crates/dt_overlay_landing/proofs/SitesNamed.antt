@@ -20,7 +20,7 @@ use Rattle.dt_model.proofs.Texts.{one_value}
 use Rattle.dt_model.proofs.Listed.{stands_listed, listed_stands}
 use Rattle.dt_model.proofs.Finding.{node_of_text, landed_named_from, landed_named_some}
 use Rattle.dt_overlay_laws.proofs.PlainSymbols.{named_text}
-use Rattle.dt_overlay_laws.proofs.Depths.{within_depth}
+use Rattle.dt_model.proofs.Depths.{within_depth}
 use Rattle.dt_overlay_base.specs.Known.{Known, kept_at, IsKnown, landed_paths}
 use Rattle.dt_overlay_landing.specs.Turns.{AreLandings}
 use Rattle.dt_overlay_base.proofs.LooksNames.{stands_named}

@@ -22,7 +22,7 @@ use Rattle.dt_model.proofs.Listed.{listed_stands}
 use Rattle.dt_overlay_laws.specs.Laws.{AreShallow}
 use Rattle.dt_overlay_laws.specs.Objects.{symbols_in}
 use Rattle.dt_overlay_laws.proofs.PlainSymbols.{symbols_are_plain}
-use Rattle.dt_overlay_object.specs.declared.kept.Fragment.{Fragment}
+use Rattle.dt_overlay_object.specs.declared.kept.ObjectFragment.{ObjectFragment}
 use Rattle.dt_overlay_object.specs.declared.brought.Brought.{Brought}
 use Rattle.dt_overlay_object.specs.declared.kept.Symbol.{Symbol}
 use Rattle.dt_overlay_object.specs.Plans.{AreSymbolsOf, IsReady, symbol_brought}
@@ -67,7 +67,7 @@ module _ (object : Reading) where
 abbrev IsPlain : Property → Type 0
 IsPlain x = IsPropertyName x.name × (x.name ≢ codes "phandle")
 
-module _ (object : Reading) (found : List Site) (tree : Arena) (b : Brought) (sites : List Path) (ws : List Write) (numbers : List (Path × ℕ)) (fragments : List Fragment)
+module _ (object : Reading) (found : List Site) (tree : Arena) (b : Brought) (sites : List Path) (ws : List Write) (numbers : List (Path × ℕ)) (fragments : List ObjectFragment)
     (ready : IsReady object ws numbers tree fragments b) (named : map (λ (x : Site). x.fragment) found ≡ fragment_names object.children) (sited : sites ≡ map (λ (x : Site). x.at) found)
     (shallow : AreShallow object found) where
   abbrev landed : List Property → List Property

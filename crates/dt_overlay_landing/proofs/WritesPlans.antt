@@ -15,10 +15,10 @@ use Rattle.dt_flat.specs.Arena.{Arena, Slot, IsRooted, named_children, child_of,
 use Rattle.dt_flat.proofs.ByPath.{has, reading_at}
 use Rattle.dt_flat.proofs.Descent.{path-within}
 use Rattle.dt_flat.proofs.Rooting.{IsRooted-property}
-use Rattle.dt_overlay_laws.specs.Objects.{HasCell}
+use Rattle.dt_model.specs.Object.{HasCell}
 use Rattle.dt_overlay_object.specs.Plans.{IsFragmentOf, AreFragmentsOf, IsWriteOf, AreWritesOf, AreBrought, IsSymbolOf, AreSymbolsOf}
 use Rattle.dt_overlay_landing.specs.Writing.{IsWritable, AreWritable, with_write, with_writes}
-use Rattle.dt_overlay_object.specs.declared.kept.Fragment.{Fragment}
+use Rattle.dt_overlay_object.specs.declared.kept.ObjectFragment.{ObjectFragment}
 use Rattle.dt_overlay_object.specs.declared.brought.Brought.{Brought}
 use Rattle.dt_overlay_object.specs.declared.kept.Symbol.{Symbol}
 use Rattle.dt_overlay_object.specs.declared.kept.Write.{Write as KeptWrite}
@@ -38,7 +38,7 @@ module _ (slots new : List Slot) (keeps : HaveOneShape slots new) where
       by (Some c) f = f c
 
   -- so fragments are kept by the same numbers
-  pub fragments_kept : (object : Reading) (xs : List Fragment) (fs : List Name) → AreFragmentsOf slots object xs fs → AreFragmentsOf new object xs fs
+  pub fragments_kept : (object : Reading) (xs : List ObjectFragment) (fs : List Name) → AreFragmentsOf slots object xs fs → AreFragmentsOf new object xs fs
   fragments_kept object [] [] h = tt
   fragments_kept object [] (f ∷ fs) h = absurd h
   fragments_kept object (x ∷ xs) [] h = absurd h

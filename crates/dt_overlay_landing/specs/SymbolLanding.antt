@@ -11,7 +11,7 @@ use Rattle.dt_model.specs.Applied.{Write}
 use Rattle.dt_flat.specs.Arena.{Arena, node_from}
 use Rattle.dt_overlay_laws.specs.Laws.{AreShallow}
 use Rattle.dt_overlay_laws.specs.Objects.{symbols_in}
-use Rattle.dt_overlay_object.specs.declared.kept.Fragment.{Fragment}
+use Rattle.dt_overlay_object.specs.declared.kept.ObjectFragment.{ObjectFragment}
 use Rattle.dt_overlay_object.specs.declared.brought.Brought.{Brought}
 use Rattle.dt_overlay_object.specs.declared.kept.Symbol.{Symbol}
 use Rattle.dt_overlay_object.specs.Plans.{AreSymbolsOf, IsReady, symbol_brought}
@@ -20,7 +20,7 @@ use Rattle.dt_overlay_object.specs.Plans.{AreSymbolsOf, IsReady, symbol_brought}
 pub record AreToLand (object : Reading) (found : List Site) (tree : Arena) (b : Brought) (sites : List Path) (labels : List Symbol) : Type 0 where
   pub writes : List Write
   pub numbers : List (Path × ℕ)
-  pub fragments : List Fragment
+  pub fragments : List ObjectFragment
   pub ready : IsReady object writes numbers tree fragments b
   pub symbols : AreSymbolsOf tree.slots labels (flat_map (symbol_brought object) (symbols_in object))
   pub named : map (λ (x : Site). x.fragment) found ≡ fragment_names object.children
@@ -32,7 +32,7 @@ pub record LandsAt (tree : Arena) (b : Brought) (sites : List Path) (x : Symbol)
   pub object : Reading
   pub writes : List Write
   pub numbers : List (Path × ℕ)
-  pub fragments : List Fragment
+  pub fragments : List ObjectFragment
   pub ready : IsReady object writes numbers tree fragments b
   pub found : List Site
   pub named : map (λ (s : Site). s.fragment) found ≡ fragment_names object.children

@@ -11,7 +11,7 @@ use Rattle.dt_model.specs.Object.{Cell, fragment_names}
 use Rattle.dt_flat.specs.Arena.{Arena, reading}
 use Rattle.dt_overlay_model.specs.Walk.{Walked, nothing_walked, site, landings, landed_on}
 use Rattle.dt_overlay_laws.specs.Landings.{target_in, MayAllLand, AreSited}
-use Rattle.dt_overlay_object.specs.declared.kept.Fragment.{Fragment}
+use Rattle.dt_overlay_object.specs.declared.kept.ObjectFragment.{ObjectFragment}
 use Rattle.dt_overlay_landing.specs.declared.marks.TargetMark.{TargetMark}
 use Rattle.dt_overlay_object.specs.declared.brought.Brought.{Brought}
 use Rattle.dt_overlay_base.specs.Known.{Known, IsKnown, landed_paths}
@@ -29,7 +29,7 @@ pub record IsTurn (base : Reading) (fixups : List (Name × Cell)) (tree : Arena)
   pub known : IsKnown base w.given (landed_paths (reading tree) w.sites) a
 
 -- the fragment x is the next one, and has the name f
-pub record IsTurnOf (base : Reading) (fixups : List (Name × Cell)) (tree : Arena) (b : Brought) (marks : List TargetMark) (paths : List Path) (a : Known) (w : Walked) (done : List Name) (x : Fragment) (f : Name) (later : List Name) : Type 0 where
+pub record IsTurnOf (base : Reading) (fixups : List (Name × Cell)) (tree : Arena) (b : Brought) (marks : List TargetMark) (paths : List Path) (a : Known) (w : Walked) (done : List Name) (x : ObjectFragment) (f : Name) (later : List Name) : Type 0 where
   pub turn : IsTurn base fixups tree b marks paths a w done (f ∷ later)
   pub fragment : IsFragmentOf tree.slots (reading tree) x f
 

@@ -17,10 +17,10 @@ use crate::values::Values;
 use dt_flat::{FlatTree, NodeId, Props};
 use dt_names::{Fault, NodeName, Path, PropName};
 use dt_overlay_base::{Target, child_path};
-use dt_overlay_object::Fragment;
+use dt_overlay_object::ObjectFragment;
 use std::alloc::Global;
 
-// Sets a property of the node that lands: a `phandle` to its new number, another one to the value that is kept of it, or to its own.
+/// Sets a property of the node that lands: a `phandle` to its new number, another one to the value that is kept of it, or to its own.
 fn land_property<T: Target>(
     target: &mut T,
     path: &Path,
@@ -46,7 +46,7 @@ fn land_property<T: Target>(
     target.set_prop(path, &property, values.get(node, name).unwrap_or(value))
 }
 
-// Sets the properties of the node that lands.
+/// Sets the properties of the node that lands.
 fn set_properties<T: Target>(
     target: &mut T,
     path: &Path,
@@ -69,7 +69,7 @@ fn set_properties<T: Target>(
     Ok(())
 }
 
-// The path on which a child lands: it is added where it isn't there.
+/// The path on which a child lands: it is added where it isn't there.
 fn add_child<T: Target>(
     alloc: Global,
     target: &mut T,
@@ -91,7 +91,7 @@ fn add_child<T: Target>(
     Ok(path)
 }
 
-// A node lands on one that is there, with what is below it.
+/// A node lands on one that is there, with what is below it.
 fn land<T: Target>(
     alloc: Global,
     target: &mut T,
@@ -138,7 +138,7 @@ pub fn land_all<T: Target>(
     object: &FlatTree,
     numbers: &[Option<u32>],
     values: &Values<'_>,
-    fragments: &[Fragment],
+    fragments: &[ObjectFragment],
     sites: &[Path],
 ) -> Result<(), Fault>
     requires nodes { AllByRecursion (λ x. x.content < length object.now.slots) fragments.now }

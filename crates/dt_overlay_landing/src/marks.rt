@@ -19,7 +19,7 @@ pub enum TargetMark {
     Label(u32),
 }
 
-// Marks the targets into which numbers of the object's own nodes are written.
+/// Marks the targets into which numbers of the object's own nodes are written.
 fn mark_own(writes: &[Write], marks: &mut Vec<TargetMark>)
     requires { AllByRecursion (λ w. w.node < length marks.old.items) writes.now }
     ensures { marks.new.items ≡ with_own writes.now marks.old.items }
@@ -31,7 +31,7 @@ fn mark_own(writes: &[Write], marks: &mut Vec<TargetMark>)
     }
 }
 
-// Marks the targets into which labels' numbers are written.
+/// Marks the targets into which labels' numbers are written.
 fn mark_labels(writes: &[Write], marks: &mut Vec<TargetMark>)
     requires { AllByRecursion (λ w. w.node < length marks.old.items) writes.now }
     ensures { marks.new.items ≡ with_labels writes.now marks.old.items }

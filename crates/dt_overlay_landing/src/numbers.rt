@@ -9,6 +9,7 @@ ghost use Rattle.dt_names.specs.declared.fault.FaultKind.TheVariants.{NoMemory};
 ghost use Rattle.dt_flat.specs.Arena.{reading};
 ghost use Rattle.dt_overlay_landing.specs.Turns.{IsLooked};
 ghost use Rattle.dt_overlay_object.specs.Plans.{AreBrought, own_number, renumbered};
+ghost use Rattle.dt_names.specs.Fault.{IsNoMemory};
 
 use crate::sites::landing;
 use dt_flat::FlatTree;
@@ -35,7 +36,7 @@ pub fn number_all<T: Target>(
     requires looked { (fixups : List (Name × Cell)) × (end : Walked) × IsLooked (T.reading target.now) fixups (reading object.now) end sites.now places.now }
     ensures numbered { (fixups : List (Name × Cell)) (end : Walked) → IsLooked (T.reading target.now) fixups (reading object.now) end sites.now places.now →
         OnOk result (AreBrought object.now.slots (fragment_names (reading object.now).children) (new_numbers (T.reading target.now) (reading object.now) end) brought.new) }
-    ensures refused { IfErr result (λ fault. (fault.kind ≡ NoMemory) × (fault.at ≡ None)) }
+    ensures refused { IfErr result IsNoMemory }
 {
     target.validity();
     object.validity();
@@ -49,7 +50,7 @@ pub fn number_all<T: Target>(
     Ok(())
 }
 
-// The number that a cell gets, which holds this one of the object's own.
+/// The number that a cell gets, which holds this one of the object's own.
 fn new_number(object: &FlatTree, brought: &Brought, number: u32) -> u32
     requires { (numbers : List (Names × ℕ)) × AreBrought object.now.slots (fragment_names (reading object.now).children) numbers brought.now }
     ensures { (numbers : List (Names × ℕ)) → AreBrought object.now.slots (fragment_names (reading object.now).children) numbers brought.now →

@@ -20,12 +20,13 @@ ghost use Rattle.dt_overlay_landing.specs.Marks.{IsMark, AreMarked};
 ghost use Rattle.dt_overlay_object.specs.Plans.{IsKeptFor, AreBrought, AreFragmentsOf};
 ghost use Rattle.dt_overlay_landing.specs.Turns.{IsTurn, IsTurnOf, IsSitedOn, AreLandings, LandsTooDeep};
 ghost use Rattle.dt_overlay_landing.specs.declared.marks.TargetMark.{TargetMark};
+ghost use Rattle.dt_names.specs.Fault.{IsNoMemory};
 
 use crate::marks::TargetMark;
 use dt_flat::FlatTree;
 use dt_names::{Fault, FaultKind, NodeId, Path};
-use dt_overlay_base::{Places, Target, is_bookkeeping, join, land_content};
-use dt_overlay_object::{Brought, Fragment, FragmentTarget};
+use dt_overlay_base::{Places, Target, is_bookkeeping, join, note_content};
+use dt_overlay_object::{Brought, ObjectFragment, ObjectTarget};
 use dt_overlay_texts::symbol_path;
 use std::alloc::Global;
 
@@ -34,7 +35,7 @@ use std::alloc::Global;
 /// # Errors
 ///
 /// `Limit` where the path has more than 64 names, and `NoMemory`. Neither has a place.
-pub fn landing(
+pub(crate) fn landing(
     alloc: Global,
     object: &FlatTree,
     brought: &Brought,
@@ -64,7 +65,7 @@ pub fn landing(
     }
 }
 
-// The place on which the object's node of a number has landed.
+/// The place on which the object's node of a number has landed.
 fn own_place(
     alloc: Global,
     object: &FlatTree,
@@ -89,7 +90,7 @@ fn own_place(
     }
 }
 
-// The node of the tree so far that has a number.
+/// The node of the tree so far that has a number.
 fn numbered<T: Target>(
     alloc: Global,
     target: &T,
@@ -98,7 +99,7 @@ fn numbered<T: Target>(
 ) -> Result<Option<Path>, Fault>
     ensures value { (given : List (Names × ℕ)) (landed : List Names) → IsKnown (T.reading target.now) given landed places.now →
         IfOk result (λ found. found ≡ option_or (node_numbered (nodes_of (T.reading target.now)) number) (place_known given number)) }
-    ensures refused { IfErr result (λ fault. (fault.at ≡ None) × (fault.kind ≡ NoMemory)) }
+    ensures refused { IfErr result IsNoMemory }
 {
     target.validity();
     if let Some(path) = target.by_phandle(alloc, number)? {
@@ -113,10 +114,10 @@ fn numbered<T: Target>(
     }
 }
 
-// Does the path stand in the tree so far?
+/// Does the path stand in the tree so far?
 fn stands<T: Target>(alloc: Global, target: &T, places: &Places, path: &Path) -> Result<bool, Fault>
     ensures value { IfOk result (λ stands. stands ≡ (stands_in (T.reading target.now) path.now || is_some (kept_at places.now.landed path.now))) }
-    ensures refused { IfErr result (λ fault. (fault.at ≡ None) × (fault.kind ≡ NoMemory)) }
+    ensures refused { IfErr result IsNoMemory }
 {
     if target.find(path) {
         return Ok(true);
@@ -125,7 +126,7 @@ fn stands<T: Target>(alloc: Global, target: &T, places: &Places, path: &Path) ->
     Ok(landed)
 }
 
-// The node of the tree so far that is named by a path's text.
+/// The node of the tree so far that is named by a path's text.
 fn named<T: Target>(
     alloc: Global,
     target: &T,
@@ -135,7 +136,7 @@ fn named<T: Target>(
     ensures value { (object : Reading) (sites : List Site) (given : List (Names × ℕ)) → IsValid object →
         IsKnown (T.reading target.now) given (landed_paths object sites) places.now → AreLandings object sites →
         IfOk result (λ found. found ≡ option_or (node_named (nodes_of (T.reading target.now)) value.now) (landed_named (nodes_of object) sites value.now)) }
-    ensures refused { IfErr result (λ fault. (fault.at ≡ None) × (fault.kind ≡ NoMemory)) }
+    ensures refused { IfErr result IsNoMemory }
 {
     target.validity();
     let path = match symbol_path(alloc, value) {
@@ -150,7 +151,7 @@ fn named<T: Target>(
     }
 }
 
-// The number in the first four bytes of a node's property `target`.
+/// The number in the first four bytes of a node's property `target`.
 fn target_number(object: &FlatTree, node: NodeId) -> Option<u32>
     requires { node < length object.now.slots }
     ensures { (value : List ℕ) → value_of (properties object.now.slots node) (codes "target") ≡ Some value → 4 ≤ length value →
@@ -163,7 +164,7 @@ fn target_number(object: &FlatTree, node: NodeId) -> Option<u32>
     Some(u32::from_be_bytes([value[0], value[1], value[2], value[3]]))
 }
 
-// The node of the tree so far that a number in `target` names, by what the object's lists tell of it.
+/// The node of the tree so far that a number in `target` names, by what the object's lists tell of it.
 fn marked<T: Target>(
     alloc: Global,
     target: &T,
@@ -182,7 +183,7 @@ fn marked<T: Target>(
         (list_any (is_target f) (local_cells (reading object.now))) number) }
     ensures refused { (fixups : List (Name × Cell)) (marks : List TargetMark) (w : Walked) (done later : List Name) →
         IsTurn (T.reading target.now) fixups object.now brought.now marks sites.now places.now w done later →
-        IfErr result (λ fault. (fault.at ≡ None) × (fault.kind ≡ NoMemory)) }
+        IfErr result IsNoMemory }
 {
     target.validity();
     object.validity();
@@ -193,7 +194,7 @@ fn marked<T: Target>(
     }
 }
 
-// The node of the tree so far that a fragment names.
+/// The node of the tree so far that a fragment names.
 fn target_path<T: Target>(
     alloc: Global,
     target: &T,
@@ -202,7 +203,7 @@ fn target_path<T: Target>(
     sites: &[Path],
     places: &Places,
     marks: &[TargetMark],
-    fragment: &Fragment,
+    fragment: &ObjectFragment,
 ) -> Result<Option<Path>, Fault>
     requires brought { length brought.now.fragments.items ≡ length object.now.slots }
     requires marks { length marks.now ≡ length object.now.slots }
@@ -212,12 +213,12 @@ fn target_path<T: Target>(
         IfOk result (λ found. found ≡ target_in (T.reading target.now) (reading object.now) fixups w f) }
     ensures refused { (fixups : List (Name × Cell)) (w : Walked) (done later : List Name) (f : Name) →
         IsTurnOf (T.reading target.now) fixups object.now brought.now marks.now sites.now places.now w done fragment.now f later →
-        IfErr result (λ fault. (fault.at ≡ None) × (fault.kind ≡ NoMemory)) }
+        IfErr result IsNoMemory }
 {
     object.validity();
     match &fragment.target {
-        FragmentTarget::Path(value) => named(alloc, target, places, value),
-        FragmentTarget::Number => match target_number(object, fragment.node) {
+        ObjectTarget::Path(value) => named(alloc, target, places, value),
+        ObjectTarget::Number => match target_number(object, fragment.node) {
             Some(number) => {
                 let mark = marks[fragment.node];
                 marked(alloc, target, object, brought, sites, places, mark, number)
@@ -227,7 +228,7 @@ fn target_path<T: Target>(
     }
 }
 
-// The site of a fragment, on which all that it brings may land.
+/// The site of a fragment, on which all that it brings may land.
 fn find_site<T: Target>(
     alloc: Global,
     target: &T,
@@ -236,7 +237,7 @@ fn find_site<T: Target>(
     sites: &[Path],
     places: &mut Places,
     marks: &[TargetMark],
-    fragment: &Fragment,
+    fragment: &ObjectFragment,
 ) -> Result<Path, Fault>
     requires brought { length brought.now.fragments.items ≡ length object.now.slots }
     requires marks { length marks.now ≡ length object.now.slots }
@@ -264,7 +265,7 @@ fn find_site<T: Target>(
     if is_bookkeeping(&path) {
         return Err(Fault::of(FaultKind::ReservedPlace));
     }
-    land_content(alloc, target, object, fragment.content, &path, places)?;
+    note_content(alloc, target, object, fragment.content, &path, places)?;
     Ok(path)
 }
 
@@ -282,7 +283,7 @@ pub fn find_sites<T: Target>(
     object: &FlatTree,
     brought: &Brought,
     marks: &[TargetMark],
-    fragments: &[Fragment],
+    fragments: &[ObjectFragment],
     places: &mut Places,
     sites: &mut Vec<Path>,
 ) -> Result<(), Fault>

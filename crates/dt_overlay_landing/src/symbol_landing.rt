@@ -19,7 +19,7 @@ use dt_overlay_base::{Target, put_path};
 use dt_overlay_object::{Brought, Symbol};
 use std::alloc::Global;
 
-// Adds `__symbols__` where it isn't there.
+/// Adds `__symbols__` where it isn't there.
 fn add_symbols<T: Target>(alloc: Global, target: &mut T, symbols: &Path) -> Result<(), Fault>
     requires symbols { symbols.now ≡ codes "__symbols__" ∷ [] }
     ensures added { OnOk result (T.reading target.new ≡ with_child_at [] (codes "__symbols__") (T.reading target.old)) }
@@ -33,7 +33,7 @@ fn add_symbols<T: Target>(alloc: Global, target: &mut T, symbols: &Path) -> Resu
     target.add_node(&root, &NodeName::new(b"__symbols__".as_slice())?)
 }
 
-// Sets the label of a node that landed.
+/// Sets the label of a node that landed.
 fn set_symbol<T: Target>(
     alloc: Global,
     target: &mut T,

@@ -63,7 +63,7 @@ impl<'w> Values<'w> {
         Ok(())
     }
 
-    // The value that a node's property has so far, which is kept no more.
+    /// The value that a node's property has so far, which is kept no more.
     fn take_value(
         &mut self,
         alloc: Global,
@@ -82,7 +82,7 @@ impl<'w> Values<'w> {
         Vec::from_slice(alloc, value.unwrap_or(b"".as_slice()))
     }
 
-    // A number is written. A `phandle` keeps its value here: it gets its node's new number where it lands.
+    /// A number is written. A `phandle` keeps its value here: it gets its node's new number where it lands.
     fn write(
         &mut self,
         alloc: Global,

@@ -17,7 +17,7 @@ use Rattle.dt_model_laws.proofs.Lands.{source_of}
 use Rattle.dt_overlay_model.specs.Walk.{new_numbers}
 use Rattle.dt_overlay_model.proofs.Lookups.{are_there}
 use Rattle.dt_overlay_laws.specs.Outcomes.{LimitIsExceeded}
-use Rattle.dt_overlay_laws.proofs.Depths.{within_depth}
+use Rattle.dt_model.proofs.Depths.{within_depth}
 use Rattle.dt_overlay_laws.proofs.LandedNodes.{symbols_are_merged}
 use Rattle.dt_overlay_laws.proofs.RefusedOutcomes.{LandsTooDeep, applied_with, applied_deep}
 use Rattle.dt_overlay_laws.proofs.Crowded.{crowded_over}

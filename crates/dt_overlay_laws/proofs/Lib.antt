@@ -1,5 +1,4 @@
 pub mod Crowded
-pub mod Depths
 pub mod ExceededLimits
 pub mod Landed
 pub mod LandedNodes

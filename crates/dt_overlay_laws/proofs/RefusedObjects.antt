@@ -7,19 +7,19 @@ use Rattle.dt_model.specs.Lists.{IsIn}
 use Rattle.dt_model.specs.Meaning.{byte, reference, cell, value_bytes, Meaning}
 use Rattle.dt_model.specs.Overlay.{object_number, OverlayReference, inside, outside, Target, at_reference, at_path, Fragment, Overlay, IsOverlay, IsBrought, IsReferent, IsContained, HoldsTarget}
 use Rattle.dt_model.specs.Merged.{Site, IsDefined}
-use Rattle.dt_model.specs.Object.{Cell, IsCellOf, fragment_names, properties_of, words_of, Encodes}
+use Rattle.dt_model.specs.Object.{Cell, IsCellOf, fragment_names, properties_of, words_of, Encodes, HasCell}
 use Rattle.dt_model.specs.Numbers.{is_brought}
 use Rattle.dt_model.specs.Tree.{Property, Reading, node_at, nodes_of, stands_in, value_in}
 use Rattle.dt_model.specs.Valid.{IsValid}
 use Rattle.dt_model.specs.Applied.{node_named, node_numbered}
 use Rattle.dt_model_laws.specs.Applying.{AreOf}
-use Rattle.dt_overlay_laws.specs.Objects.{HasTarget, fixups_in, HasCell, AreCellsOf, SymbolHasNumber, IsFixup, IsLocalCell, IsLocalFixup, IsMirror, symbols_in, IsSymbol, IsWellFormed}
+use Rattle.dt_overlay_laws.specs.Objects.{HasTarget, fixups_in, AreCellsOf, SymbolHasNumber, IsFixup, IsLocalCell, IsLocalFixup, IsMirror, symbols_in, IsSymbol, IsWellFormed}
 use Rattle.dt_model.proofs.Tests.{each_from, in_map_from}
 use Rattle.dt_model.proofs.Texts.{path_text_has_no}
 use Rattle.dt_model_laws.proofs.ReferenceCells.{offset_within}
 use Rattle.dt_model.proofs.Finding.{node_of_number, node_of_text}
 use Rattle.dt_model_laws.proofs.Given.{phandle_of, symbol_is, object_value_is, object_items, object_phandle}
-use Rattle.dt_model_laws.proofs.Inside.{each_at, plain_fragment}
+use Rattle.dt_model.proofs.Inside.{each_at, plain_fragment}
 use Rattle.dt_model_laws.proofs.Numbered.{small_number, brought_from, brought_to}
 use Rattle.dt_model_laws.proofs.Facts.{given_each}
 use Rattle.dt_model_laws.proofs.Writes.{read_value}

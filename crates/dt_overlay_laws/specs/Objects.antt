@@ -8,7 +8,7 @@ use Rattle.dt_model.specs.Meaning.{cell}
 use Rattle.dt_model.specs.Lists.{IsIn}
 use Rattle.dt_model.specs.Tree.{Property, Reading, node_at, stands_in, value_in, nodes_of}
 use Rattle.dt_model.specs.Overlay.{content}
-use Rattle.dt_model.specs.Object.{Cell, AreCellTexts, fragment_names, properties_of, words_of}
+use Rattle.dt_model.specs.Object.{Cell, AreCellTexts, fragment_names, properties_of, words_of, HasCell}
 use Rattle.dt_model.specs.Numbers.{is_brought}
 use Rattle.dt_model.specs.Applied.{node_named, node_numbered, number_at, symbol}
 
@@ -39,10 +39,6 @@ HasTarget object f = HoldsNumber object f ⊎ HoldsPath object f
 
 abbrev pub fixups_in : Reading → List Property
 fixups_in object = properties_of (node_at object (codes "__fixups__" ∷ []))
-
--- the object has the cell
-abbrev pub HasCell : Reading → Cell → Type 0
-HasCell object c = (value : List ℕ) × (value_in object c.path c.property ≡ Some value) × (c.offset + 4 ≤ length value)
 
 -- the value is the texts of one or more cells that the object has
 pub record AreCellsOf (object : Reading) (value : List ℕ) (cells : List Cell) : Type 0 where

@@ -18,7 +18,7 @@ use Rattle.dt_model.specs.Applied.{symbol, is_plain, applied_at}
 use Rattle.dt_model.proofs.Tests.{and_left, and_right, and_both, not_true, all_at, all_from}
 use Rattle.dt_model.proofs.Listed.{stands_listed, listed_stands}
 use Rattle.dt_model_laws.specs.Applying.{AreOf}
-use Rattle.dt_model_laws.proofs.Inside.{each_from_references, plain_brought}
+use Rattle.dt_model.proofs.Inside.{each_from_references, plain_brought}
 use Rattle.dt_model_laws.proofs.Given.{symbol_is, phandle_of, no_phandle}
 use Rattle.dt_model_laws.proofs.Numbered.{small_number}
 use Rattle.dt_model_laws.proofs.Facts.{exact, given_each}

@@ -10,7 +10,8 @@ use Rattle.dt_model.specs.Object.{properties_of}
 use Rattle.dt_model.specs.Tree.{Reading, node_at}
 use Rattle.dt_model.specs.Valid.{IsWithinLimits}
 use Rattle.dt_model.proofs.Tests.{or_right}
-use Rattle.dt_model_laws.specs.Applying.{AreOf, IsOf, IsObject}
+use Rattle.dt_model_laws.specs.Applying.{AreOf, IsObject}
+use Rattle.dt_model.specs.Represents.{IsOf}
 use Rattle.dt_model_laws.proofs.CellTexts.{one_fixups}
 use Rattle.dt_model_laws.proofs.MergedMeaning.{merged_is_a_meaning}
 use Rattle.dt_overlay_model.specs.Walk.{applied}

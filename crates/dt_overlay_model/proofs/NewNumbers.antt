@@ -20,7 +20,7 @@ use Rattle.dt_model_laws.specs.Applying.{AreOf}
 use Rattle.dt_model_laws.proofs.Fresh.{number_is_free, own_number, number_low}
 use Rattle.dt_model_laws.proofs.Numbered.{new_inside, inside_new, small_number, taken_all, few_taken, few_new}
 use Rattle.dt_model_laws.proofs.Given.{base_phandle, phandle_of}
-use Rattle.dt_model_laws.proofs.Inside.{IsInside}
+use Rattle.dt_model.proofs.Inside.{IsInside}
 use Rattle.dt_model_laws.proofs.Placed.{lands_at}
 use Rattle.dt_overlay_model.specs.Walk.{Walked, number_there, new_number, new_numbers}
 use Rattle.dt_overlay_model.proofs.Counting.{no_more}

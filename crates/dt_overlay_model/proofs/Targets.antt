@@ -19,7 +19,7 @@ use Rattle.dt_model.proofs.Listed.{stands_listed, listed_stands}
 use Rattle.dt_model.proofs.Finding.{node_of_number, node_of_text, text_of_node, landed_named_from, landed_named_some}
 use Rattle.dt_model_laws.specs.Applying.{AreOf}
 use Rattle.dt_model_laws.proofs.Lands.{source_of, landing_of}
-use Rattle.dt_model_laws.proofs.Inside.{IsInside, plain_brought, plain_fragment, target_inside}
+use Rattle.dt_model.proofs.Inside.{IsInside, plain_brought, plain_fragment, target_inside}
 use Rattle.dt_model_laws.proofs.Given.{symbol_is, object_value_is, object_items, object_phandle}
 use Rattle.dt_model_laws.proofs.Numbered.{small_number}
 use Rattle.dt_model_laws.proofs.Writes.{read_value}

@@ -8,7 +8,8 @@ use Rattle.dt_model.specs.Valid.{IsWithinLimits}
 use Rattle.dt_model.specs.Overlay.{Overlay}
 use Rattle.dt_model.specs.Merged.{IsFold}
 use Rattle.dt_model.specs.Object.{Cell, HasFixups}
-use Rattle.dt_model_laws.specs.Applying.{IsOf, AreObjects}
+use Rattle.dt_model_laws.specs.Applying.{AreObjects}
+use Rattle.dt_model.specs.Represents.{IsOf}
 use Rattle.dt_overlay_model.specs.Walk.{applied}
 
 -- the object is applied to the tree, with the cells that it lists

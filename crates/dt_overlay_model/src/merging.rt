@@ -29,7 +29,7 @@ pub fn applied_is_one()
 /// the object lands; a property is that of the last node that lands with one, with the numbers of their nodes in its cells, a
 /// `phandle` its node's, or else the base's; a label is the path of the node that lands with it, or else the base's; reservations
 /// and boot CPU are the base's.
-pub fn applied_is_found()
+pub(crate) fn applied_is_found()
     ensures { AppliedIsFound }
 {}
 

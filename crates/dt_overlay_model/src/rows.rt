@@ -40,13 +40,13 @@ pub fn rows_are_joined()
 {}
 
 /// New numbers avoid the base's, references get them at any offset, symbols are those of the nodes on which labels land.
-pub fn object_applied()
+pub(crate) fn object_applied()
     ensures { applied controller two_cells
         ((codes "gic", record { path = content_of 0 ++ codes "d" ∷ []; property = codes "p"; offset = 1 }) ∷ []) ≡ Some with_two_cells }
 {}
 
 /// A label of an earlier overlay is a target of a later one.
-pub fn object_applied_to_a_result()
+pub(crate) fn object_applied_to_a_result()
     ensures { applied with_two_cells next_object
         ((codes "e", record { path = fragment 0 ∷ []; property = codes "target"; offset = 0 }) ∷ []) ≡
         Some (tree []
@@ -60,7 +60,7 @@ pub fn object_applied_to_a_result()
 {}
 
 /// Of several fragments that land one property the last decides.
-pub fn last_fragment_decides()
+pub(crate) fn last_fragment_decides()
     ensures { applied one_node three_values
         ((codes "a", record { path = fragment 0 ∷ []; property = codes "target"; offset = 0 })
         ∷ (codes "a", record { path = fragment 1 ∷ []; property = codes "target"; offset = 0 }) ∷ []) ≡
@@ -71,7 +71,7 @@ pub fn last_fragment_decides()
 {}
 
 /// New numbers fill the gaps of the base's, in preorder.
-pub fn new_numbers_fill_gaps()
+pub(crate) fn new_numbers_fill_gaps()
     ensures { applied second_number two_nodes
         ((codes "a", record { path = fragment 0 ∷ []; property = codes "target"; offset = 0 }) ∷ []) ≡
         Some (tree []
@@ -83,12 +83,12 @@ pub fn new_numbers_fill_gaps()
 {}
 
 /// An overlay that takes over a label leaves the references that were made by it; later ones follow.
-pub fn label_taken_over()
+pub(crate) fn label_taken_over()
     ensures taken { applied referring label_taken [] ≡ Some with_label_taken }
 {}
 
 /// A fragment may name a node that an earlier one brings, and not one of a later one.
-pub fn target_of_an_earlier_fragment()
+pub(crate) fn target_of_an_earlier_fragment()
     ensures earlier { applied controller inner_target [] ≡
         Some (tree []
         (branch (codes "ic") (set (codes "phandle") (cell 1) ∷ []) no_nodes
@@ -98,7 +98,7 @@ pub fn target_of_an_earlier_fragment()
 {}
 
 /// What can't be applied, and what has no effect.
-pub fn objects_refused()
+pub(crate) fn objects_refused()
     ensures label { applied one_cell two_cells
         ((codes "gic", record { path = content_of 0 ++ codes "d" ∷ []; property = codes "p"; offset = 1 }) ∷ []) ≡ None }
     ensures target { applied controller missing_target [] ≡ None }

@@ -19,7 +19,7 @@ use Rattle.dt_model.proofs.Flat.{from_flat}
 use Rattle.dt_model.proofs.Distinct.{apart, distinct_append, distinct_right}
 use Rattle.dt_model_laws.proofs.Lands.{below-append, append-below}
 use Rattle.dt_overlay_model.proofs.Brought.{fragments_distinct}
-use Rattle.dt_overlay_object.specs.declared.kept.Fragment.{Fragment}
+use Rattle.dt_overlay_object.specs.declared.kept.ObjectFragment.{ObjectFragment}
 use Rattle.dt_overlay_object.specs.declared.brought.Brought.{Brought}
 use Rattle.dt_overlay_object.specs.Plans.{IsFragmentOf, AreFragmentsOf, IsBroughtAt, AreBrought, IsUnbrought}
 use Rattle.dt_overlay_object.specs.NumbersGiven.{walk, with_fragment, with_fragments}
@@ -28,24 +28,24 @@ use Rattle.dt_overlay_object.proofs.NumbersWalk.{AreLed, led_walk, path_below, w
 use Rattle.dt_overlay_object.proofs.NumbersTurns.{length-with_fragment}
 
 -- all nodes that the fragments bring, fragment by fragment
-abbrev contents : List Slot → List Fragment → List ℕ
-contents slots xs = flat_map (λ (x : Fragment). walk slots x.content) xs
+abbrev contents : List Slot → List ObjectFragment → List ℕ
+contents slots xs = flat_map (λ (x : ObjectFragment). walk slots x.content) xs
 
 -- ---- fragments and what they bring
 
-fragment_of : (slots : List Slot) (object : Reading) (xs : List Fragment) (fs : List Name) (x : Fragment) → AreFragmentsOf slots object xs fs → IsIn x xs → (f : Name) × IsIn f fs × IsFragmentOf slots object x f
+fragment_of : (slots : List Slot) (object : Reading) (xs : List ObjectFragment) (fs : List Name) (x : ObjectFragment) → AreFragmentsOf slots object xs fs → IsIn x xs → (f : Name) × IsIn f fs × IsFragmentOf slots object x f
 fragment_of slots object [] fs x h i = absurd i
 fragment_of slots object (y ∷ xs) [] x h i = absurd h
-fragment_of slots object (y ∷ xs) (f ∷ fs) x h (inl same) = (f, inl refl, subst (λ (z : Fragment). IsFragmentOf slots object z f) (sym same) h.0)
+fragment_of slots object (y ∷ xs) (f ∷ fs) x h (inl same) = (f, inl refl, subst (λ (z : ObjectFragment). IsFragmentOf slots object z f) (sym same) h.0)
 fragment_of slots object (y ∷ xs) (f ∷ fs) x h (inr i) = let w = fragment_of slots object xs fs x h.1 i in (w.0, inr w.1, w.2)
 
-pub fragment_at : (slots : List Slot) (object : Reading) (xs : List Fragment) (fs : List Name) (i : ℕ) (x : Fragment) → AreFragmentsOf slots object xs fs → slice_get xs i ≡ Some x → (f : Name) × (slice_get fs i ≡ Some f) × IsFragmentOf slots object x f
+pub fragment_at : (slots : List Slot) (object : Reading) (xs : List ObjectFragment) (fs : List Name) (i : ℕ) (x : ObjectFragment) → AreFragmentsOf slots object xs fs → slice_get xs i ≡ Some x → (f : Name) × (slice_get fs i ≡ Some f) × IsFragmentOf slots object x f
 fragment_at slots object [] fs i x h e = absurd cc
 fragment_at slots object (y ∷ xs) [] i x h e = absurd h
-fragment_at slots object (y ∷ xs) (f ∷ fs) zero x h e = let same : y ≡ x = cc in (f, refl, subst (λ (z : Fragment). IsFragmentOf slots object z f) same h.0)
+fragment_at slots object (y ∷ xs) (f ∷ fs) zero x h e = let same : y ≡ x = cc in (f, refl, subst (λ (z : ObjectFragment). IsFragmentOf slots object z f) same h.0)
 fragment_at slots object (y ∷ xs) (f ∷ fs) (suc i) x h e = fragment_at slots object xs fs i x h.1 e
 
-name_at : (slots : List Slot) (object : Reading) (xs : List Fragment) (fs : List Name) (i : ℕ) (f : Name) → AreFragmentsOf slots object xs fs → slice_get fs i ≡ Some f → (x : Fragment) × (slice_get xs i ≡ Some x) × IsFragmentOf slots object x f
+name_at : (slots : List Slot) (object : Reading) (xs : List ObjectFragment) (fs : List Name) (i : ℕ) (f : Name) → AreFragmentsOf slots object xs fs → slice_get fs i ≡ Some f → (x : ObjectFragment) × (slice_get xs i ≡ Some x) × IsFragmentOf slots object x f
 name_at slots object xs [] i f h e = absurd cc
 name_at slots object [] (g ∷ fs) i f h e = absurd h
 name_at slots object (y ∷ xs) (g ∷ fs) zero f h e = let same : g ≡ f = cc in (y, refl, subst (IsFragmentOf slots object y) same h.0)
@@ -93,18 +93,18 @@ module _ (i : ℕ) where
   fragment_other (j ∷ ks) xs k none = fragment_other ks (slice_set xs j (Some i)) k (λ h. none (inr h)) ∙ get-set_other xs j k (Some i) (λ e. none (inl e))
 
 module _ (slots : List Slot) where
-  fragments_other : (xs : List Fragment) (i : ℕ) (acc : List (Option ℕ)) (k : ℕ) → (IsIn k (contents slots xs) → ⊥) → slice_get (with_fragments slots i xs acc) k ≡ slice_get acc k
+  fragments_other : (xs : List ObjectFragment) (i : ℕ) (acc : List (Option ℕ)) (k : ℕ) → (IsIn k (contents slots xs) → ⊥) → slice_get (with_fragments slots i xs acc) k ≡ slice_get acc k
   fragments_other [] i acc k none = refl
   fragments_other (x ∷ xs) i acc k none =
       fragments_other xs (i + 1) (with_fragment i (walk slots x.content) acc) k (λ h. none (in_right k (walk slots x.content) (contents slots xs) h))
       ∙ fragment_other i (walk slots x.content) acc k (λ h. none (in_left k (walk slots x.content) (contents slots xs) h))
 
-  fragments_kept : (xs : List Fragment) (i : ℕ) (acc : List (Option ℕ)) (k m : ℕ) (x : Fragment) → AreDistinct (contents slots xs) → k < length acc → slice_get xs m ≡ Some x → IsIn k (walk slots x.content)
+  fragments_kept : (xs : List ObjectFragment) (i : ℕ) (acc : List (Option ℕ)) (k m : ℕ) (x : ObjectFragment) → AreDistinct (contents slots xs) → k < length acc → slice_get xs m ≡ Some x → IsIn k (walk slots x.content)
       → slice_get (with_fragments slots i xs acc) k ≡ Some (Some (i + m))
   fragments_kept [] i acc k m x differ lt e h = absurd cc
   fragments_kept (y ∷ xs) i acc k zero x differ lt e h =
       let same : y ≡ x = cc in
-      let own : IsIn k (walk slots y.content) = subst (λ (z : Fragment). IsIn k (walk slots z.content)) (sym same) h in
+      let own : IsIn k (walk slots y.content) = subst (λ (z : ObjectFragment). IsIn k (walk slots z.content)) (sym same) h in
       let none : i ≡ i + 0 = omega arith in
       fragments_other xs (i + 1) (with_fragment i (walk slots y.content) acc) k (λ g. apart (walk slots y.content) (contents slots xs) k differ own g)
       ∙ fragment_kept i (walk slots y.content) acc k lt own ∙ ap (λ (n : ℕ). Some (Some n)) none
@@ -114,26 +114,26 @@ module _ (slots : List Slot) where
       fragments_kept xs (i + 1) (with_fragment i (walk slots y.content) acc) k m x (distinct_right (walk slots y.content) (contents slots xs) differ) (omega (arith, same)) e h
       ∙ ap (λ (n : ℕ). Some (Some n)) next
 
-  decide_content : (xs : List Fragment) (k : ℕ) → ((m : ℕ) × (x : Fragment) × (slice_get xs m ≡ Some x) × IsIn k (walk slots x.content)) ⊎ (IsIn k (contents slots xs) → ⊥)
+  decide_content : (xs : List ObjectFragment) (k : ℕ) → ((m : ℕ) × (x : ObjectFragment) × (slice_get xs m ≡ Some x) × IsIn k (walk slots x.content)) ⊎ (IsIn k (contents slots xs) → ⊥)
   decide_content [] k = inr (λ i. i)
   decide_content (x ∷ xs) k = by (decide_in k (walk slots x.content)) (decide_content xs k)
     where
-      by : IsIn k (walk slots x.content) ⊎ (IsIn k (walk slots x.content) → ⊥) → ((m : ℕ) × (y : Fragment) × (slice_get xs m ≡ Some y) × IsIn k (walk slots y.content)) ⊎ (IsIn k (contents slots xs) → ⊥)
-          → ((m : ℕ) × (y : Fragment) × (slice_get (x ∷ xs) m ≡ Some y) × IsIn k (walk slots y.content)) ⊎ (IsIn k (walk slots x.content ++ contents slots xs) → ⊥)
+      by : IsIn k (walk slots x.content) ⊎ (IsIn k (walk slots x.content) → ⊥) → ((m : ℕ) × (y : ObjectFragment) × (slice_get xs m ≡ Some y) × IsIn k (walk slots y.content)) ⊎ (IsIn k (contents slots xs) → ⊥)
+          → ((m : ℕ) × (y : ObjectFragment) × (slice_get (x ∷ xs) m ≡ Some y) × IsIn k (walk slots y.content)) ⊎ (IsIn k (walk slots x.content ++ contents slots xs) → ⊥)
       by (inl i) rest = inl (0, x, refl, i)
       by (inr none) (inl w) = inl (suc w.0, w.1, w.2, w.3)
       by (inr none) (inr nowhere) = inr (λ i. elim (in_append k (walk slots x.content) (contents slots xs) i) [ inl a ↦ none a | inr a ↦ nowhere a ])
 
 module _ (slots : List Slot) (rooted : IsRooted slots) (led : AreLed slots) (object : Reading) where
   -- no node is brought twice
-  pub contents_distinct : (xs : List Fragment) (fs : List Name) → AreFragmentsOf slots object xs fs → AreDistinct fs → AreDistinct (contents slots xs)
+  pub contents_distinct : (xs : List ObjectFragment) (fs : List Name) → AreFragmentsOf slots object xs fs → AreDistinct fs → AreDistinct (contents slots xs)
   contents_distinct [] fs h differ = tt
   contents_distinct (x ∷ xs) [] h differ = absurd h
   contents_distinct (x ∷ xs) (f ∷ fs) h differ = distinct_append (walk slots x.content) (contents slots xs) (walk_distinct slots rooted led x.content) (contents_distinct xs fs h.1 differ.1) (not_both h.0 h.1 differ.0)
     where
       not_both : IsFragmentOf slots object x f → AreFragmentsOf slots object xs fs → AllByRecursion (λ g. g ≢ f) fs → (m : ℕ) → IsIn m (walk slots x.content) → IsIn m (contents slots xs) → ⊥
       not_both own others apart m i j =
-          let w = from_flat (λ (y : Fragment). walk slots y.content) xs m j in
+          let w = from_flat (λ (y : ObjectFragment). walk slots y.content) xs m j in
           let g = fragment_of slots object xs fs w.0 others w.1 in
           let a = path-length slots (content f) 0 x.content rooted own.content in
           let b = path-length slots (content g.0) 0 w.0.content rooted g.2.content in
@@ -142,16 +142,16 @@ module _ (slots : List Slot) (rooted : IsRooted slots) (led : AreLed slots) (obj
           let names : g.0 ≡ f = cc in
           each_in (λ y. y ≢ f) fs g.0 apart g.1 names
 
-  pub content_within : (x : Fragment) (f : Name) → IsFragmentOf slots object x f → x.content < length slots
+  pub content_within : (x : ObjectFragment) (f : Name) → IsFragmentOf slots object x f → x.content < length slots
   content_within x f h = path-within slots (content f) 0 x.content rooted.some h.content
 
-  module _ (xs : List Fragment) (fs : List Name) (listed : AreFragmentsOf slots object xs fs) where
-    brought_in : (p : Path) (k i : ℕ) → node_from slots 0 p ≡ Some k → IsBroughtAt fs i p → (x : Fragment) × (slice_get xs i ≡ Some x) × IsIn k (walk slots x.content)
+  module _ (xs : List ObjectFragment) (fs : List Name) (listed : AreFragmentsOf slots object xs fs) where
+    brought_in : (p : Path) (k i : ℕ) → node_from slots 0 p ≡ Some k → IsBroughtAt fs i p → (x : ObjectFragment) × (slice_get xs i ≡ Some x) × IsIn k (walk slots x.content)
     brought_in p k i e b =
         let w = name_at slots object xs fs i b.0 listed b.1 in
         by w.0 w.1 w.2 (below (content b.0) p) refl b.2
       where
-        by : (x : Fragment) → slice_get xs i ≡ Some x → IsFragmentOf slots object x b.0 → (o : Option Path) → below (content b.0) p ≡ o → is_some (below (content b.0) p) ≡ true → (x : Fragment) × (slice_get xs i ≡ Some x) × IsIn k (walk slots x.content)
+        by : (x : ObjectFragment) → slice_get xs i ≡ Some x → IsFragmentOf slots object x b.0 → (o : Option Path) → below (content b.0) p ≡ o → is_some (below (content b.0) p) ≡ true → (x : ObjectFragment) × (slice_get xs i ≡ Some x) × IsIn k (walk slots x.content)
         by x there own None z some = absurd (true≢false (sym some ∙ ap is_some z))
         by x there own (Some r) z some =
             let path : p ≡ content b.0 ++ r = append-below (content b.0) p r z in
@@ -159,7 +159,7 @@ module _ (slots : List Slot) (rooted : IsRooted slots) (led : AreLed slots) (obj
             sym (node_from-append slots (content b.0) r 0 ∙ ap (λ (o : Option ℕ). option_and_then (λ j. node_from slots j r) o) own.content) ∙ ap (node_from slots 0) (sym path) ∙ e in
             (x, there, led_walk slots r x.content k leads)
 
-    brought_of : (p : Path) (k i : ℕ) (x : Fragment) → node_from slots 0 p ≡ Some k → slice_get xs i ≡ Some x → IsIn k (walk slots x.content) → IsBroughtAt fs i p
+    brought_of : (p : Path) (k i : ℕ) (x : ObjectFragment) → node_from slots 0 p ≡ Some k → slice_get xs i ≡ Some x → IsIn k (walk slots x.content) → IsBroughtAt fs i p
     brought_of p k i x e there h =
         let w = fragment_at slots object xs fs i x listed there in
         let q = path_below slots x.content k led h in
@@ -179,7 +179,7 @@ module _ (slots : List Slot) (rooted : IsRooted slots) (led : AreLed slots) (obj
         there : k < length acc
         there = let n : length acc ≡ length slots = ap length bare ∙ length-replicate (length slots) None in omega (arith, n, lt)
 
-        kept : (m : ℕ) (x : Fragment) → slice_get xs m ≡ Some x → IsIn k (walk slots x.content) → slice_get (with_fragments slots 0 xs acc) k ≡ Some (Some m)
+        kept : (m : ℕ) (x : ObjectFragment) → slice_get xs m ≡ Some x → IsIn k (walk slots x.content) → slice_get (with_fragments slots 0 xs acc) k ≡ Some (Some m)
         kept m x at h = let same : 0 + m ≡ m = omega arith in fragments_kept slots xs 0 acc k m x differ there at h ∙ ap (λ (n : ℕ). Some (Some n)) same
 
         from : IsBroughtAt fs i p → slice_get (with_fragments slots 0 xs acc) k ≡ Some (Some i)
@@ -199,14 +199,14 @@ module _ (slots : List Slot) (rooted : IsRooted slots) (led : AreLed slots) (obj
     -- each of the nodes is one
     pub contents_within : (k : ℕ) → IsIn k (contents slots xs) → k < length slots
     contents_within k i =
-        let w = from_flat (λ (y : Fragment). walk slots y.content) xs k i in
+        let w = from_flat (λ (y : ObjectFragment). walk slots y.content) xs k i in
         let g = fragment_of slots object xs fs w.0 listed w.1 in
         let q = path_below slots w.0.content k led w.2 in
         path-within slots q.0 w.0.content k (content_within w.0 g.0 g.2) q.1
 
 -- ---- all of it
 
-pub all_brought : (a : Arena) (xs : List Fragment) (first last : Brought) → IsValid (reading a) → IsRooted a.slots → AreLed a.slots
+pub all_brought : (a : Arena) (xs : List ObjectFragment) (first last : Brought) → IsValid (reading a) → IsRooted a.slots → AreLed a.slots
     → AreFragmentsOf a.slots (reading a) xs (fragment_names (reading a).children) → IsUnbrought (length a.slots) first
     → last.fragments.items ≡ with_fragments a.slots 0 xs first.fragments.items → last.numbers.items ≡ first.numbers.items
     → AreBrought a.slots (fragment_names (reading a).children) [] last
@@ -224,6 +224,6 @@ all_brought a xs first last valid rooted led listed start fragments same = recor
     differ : AreDistinct (contents a.slots xs)
     differ = contents_distinct a.slots rooted led (reading a) xs names listed (fragments_distinct (reading a).children valid.siblings)
 
-    length-with_fragments : (i : ℕ) (xs : List Fragment) (acc : List (Option ℕ)) → length (with_fragments a.slots i xs acc) ≡ length acc
+    length-with_fragments : (i : ℕ) (xs : List ObjectFragment) (acc : List (Option ℕ)) → length (with_fragments a.slots i xs acc) ≡ length acc
     length-with_fragments i [] acc = refl
     length-with_fragments i (x ∷ xs) acc = length-with_fragments (i + 1) xs (with_fragment i (walk a.slots x.content) acc) ∙ length-with_fragment i (walk a.slots x.content) acc

@@ -5,7 +5,7 @@ use Rattle.std.specs.List.{flat_map}
 use Rattle.std.proofs.lemmas.List.{length-set}
 use Rattle.std.proofs.lemmas.Option.{slice_get-get_or}
 use Rattle.dt_flat.specs.Arena.{Slot, children}
-use Rattle.dt_overlay_object.specs.declared.kept.Fragment.{Fragment}
+use Rattle.dt_overlay_object.specs.declared.kept.ObjectFragment.{ObjectFragment}
 use Rattle.dt_overlay_object.specs.NumbersGiven.{walk, with_fragment, with_fragments}
 use Rattle.dt_overlay_object.proofs.NumbersWalk.{walk_is}
 
@@ -34,9 +34,9 @@ fragment-end slots i node left first start now e h so_far =
 -- ---- fragment by fragment
 
 -- the fragment of an index is the first of those that are left
-pub at_index : (xs : List Fragment) (i : ℕ) (x : Fragment) → i < length xs → x ≡ get_or xs i x → slice_get xs i ≡ Some x
-at_index xs i x lt e = slice_get-get_or xs i x lt ∙ ap (λ (y : Fragment). Some y) (sym e)
+pub at_index : (xs : List ObjectFragment) (i : ℕ) (x : ObjectFragment) → i < length xs → x ≡ get_or xs i x → slice_get xs i ≡ Some x
+at_index xs i x lt e = slice_get-get_or xs i x lt ∙ ap (λ (y : ObjectFragment). Some y) (sym e)
 
-pub fragments-turn : (slots : List Slot) (i : ℕ) (left rest : List Fragment) (x : Fragment) (now next : List (Option ℕ)) → left ≡ x ∷ rest → next ≡ with_fragment i (walk slots x.content) now
+pub fragments-turn : (slots : List Slot) (i : ℕ) (left rest : List ObjectFragment) (x : ObjectFragment) (now next : List (Option ℕ)) → left ≡ x ∷ rest → next ≡ with_fragment i (walk slots x.content) now
     → with_fragments slots (i + 1) rest next ≡ with_fragments slots i left now
-fragments-turn slots i left rest x now next e h = ap (with_fragments slots (i + 1) rest) h ∙ ap (λ (xs : List Fragment). with_fragments slots i xs now) (sym e)
+fragments-turn slots i left rest x now next e h = ap (with_fragments slots (i + 1) rest) h ∙ ap (λ (xs : List ObjectFragment). with_fragments slots i xs now) (sym e)

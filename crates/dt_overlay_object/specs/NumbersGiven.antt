@@ -1,7 +1,7 @@
 -- Nodes of a tree in preorder, by their numbers in the tree, and what is kept of the fragments that bring them.
 use Rattle.std.specs.Prelude.{ℕ, suc, ◌+◌, ◌==◌, List, [], ◌∷◌, ◌++◌, drop, slice_set, Option, Some, if◌then◌else◌}
 use Rattle.dt_flat.specs.Arena.{Slot}
-use Rattle.dt_overlay_object.specs.declared.kept.Fragment.{Fragment}
+use Rattle.dt_overlay_object.specs.declared.kept.ObjectFragment.{ObjectFragment}
 
 -- ---- preorder
 
@@ -22,6 +22,6 @@ with_fragment i [] xs = xs
 with_fragment i (k ∷ ks) xs = with_fragment i ks (slice_set xs k (Some i))
 
 -- each fragment is for the nodes that it brings, from number i on
-abbrev pub with_fragments : List Slot → ℕ → List Fragment → List (Option ℕ) → List (Option ℕ)
+abbrev pub with_fragments : List Slot → ℕ → List ObjectFragment → List (Option ℕ) → List (Option ℕ)
 with_fragments slots i [] xs = xs
 with_fragments slots i (x ∷ fragments) xs = with_fragments slots (i + 1) fragments (with_fragment i (walk slots x.content) xs)

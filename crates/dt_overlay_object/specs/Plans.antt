@@ -7,35 +7,35 @@ use Rattle.dt_model.specs.Tree.{Property, Reading, stands_in, value_in, nodes_of
 use Rattle.dt_model.specs.Overlay.{content}
 use Rattle.dt_model.specs.Valid.{IsValid}
 use Rattle.dt_overlay_laws.specs.Writing.{with_cells}
-use Rattle.dt_model.specs.Object.{Cell, HasFixups, fragment_names, local_cells}
+use Rattle.dt_model.specs.Object.{Cell, HasFixups, fragment_names, local_cells, HasCell}
 use Rattle.dt_model.specs.Numbers.{number_in, is_brought}
 use Rattle.dt_model.specs.Applied.{Write, label_write, local_write, node_named, node_numbered, number_at}
 use Rattle.dt_flat.specs.Arena.{Arena, Slot, reading, node_from}
-use Rattle.dt_overlay_object.specs.declared.kept.Fragment.{Fragment}
-use Rattle.dt_overlay_object.specs.declared.kept.FragmentTarget.{FragmentTarget}
-use Rattle.dt_overlay_object.specs.declared.kept.FragmentTarget.TheVariants.{Number, Path as TargetPath}
+use Rattle.dt_overlay_object.specs.declared.kept.ObjectFragment.{ObjectFragment}
+use Rattle.dt_overlay_object.specs.declared.kept.ObjectTarget.{ObjectTarget}
+use Rattle.dt_overlay_object.specs.declared.kept.ObjectTarget.TheVariants.{Number, Path as TargetPath}
 use Rattle.dt_overlay_object.specs.declared.kept.Write.{Write as KeptWrite}
 use Rattle.dt_overlay_object.specs.declared.brought.Brought.{Brought}
 use Rattle.dt_overlay_object.specs.declared.kept.Symbol.{Symbol}
 use Rattle.dt_overlay_texts.specs.Texts.{IsPathValue}
-use Rattle.dt_overlay_laws.specs.Objects.{HoldsNumber, HasCell, IsLocalCell, IsFixup, IsMirror, IsSymbol, fixups_in, symbols_in}
+use Rattle.dt_overlay_laws.specs.Objects.{HoldsNumber, IsLocalCell, IsFixup, IsMirror, IsSymbol, fixups_in, symbols_in}
 
 -- ---- fragments
 
 -- what is kept of a fragment's target
-abbrev pub IsTargetOf : Reading → Name → FragmentTarget → Type 0
+abbrev pub IsTargetOf : Reading → Name → ObjectTarget → Type 0
 IsTargetOf object f Number = HoldsNumber object f
 IsTargetOf object f (TargetPath value) =
     (value_in object (f ∷ []) (codes "target") ≡ None) × (value_in object (f ∷ []) (codes "target-path") ≡ Some value.items)
     × ((p : Path) × IsPathValue value.items p)
 
 -- a fragment is kept by the numbers of its nodes among these, and by what the object tells of its target
-pub record IsFragmentOf (slots : List Slot) (object : Reading) (x : Fragment) (f : Name) : Type 0 where
+pub record IsFragmentOf (slots : List Slot) (object : Reading) (x : ObjectFragment) (f : Name) : Type 0 where
   pub node : node_from slots 0 (f ∷ []) ≡ Some x.node
   pub content : node_from slots 0 (content f) ≡ Some x.content
   pub target : IsTargetOf object f x.target
 
-abbrev pub AreFragmentsOf : List Slot → Reading → List Fragment → List Name → Type 0
+abbrev pub AreFragmentsOf : List Slot → Reading → List ObjectFragment → List Name → Type 0
 AreFragmentsOf slots object [] [] = Unit {0}
 AreFragmentsOf slots object [] (f ∷ fs) = ⊥
 AreFragmentsOf slots object (x ∷ xs) [] = ⊥
@@ -143,7 +143,7 @@ pub record ListsSymbols (object : Arena) (old new : List Symbol) : Type 0 where
 
 -- ---- an object that is read, and has its cells written
 
-pub record IsReady (object : Reading) (ws : List Write) (numbers : List (Path × ℕ)) (tree : Arena) (fragments : List Fragment) (b : Brought) : Type 0 where
+pub record IsReady (object : Reading) (ws : List Write) (numbers : List (Path × ℕ)) (tree : Arena) (fragments : List ObjectFragment) (b : Brought) : Type 0 where
   pub valid : IsValid object
   pub written : reading tree ≡ with_cells ws object
   pub listed : AreFragmentsOf tree.slots object fragments (fragment_names object.children)

@@ -6,7 +6,7 @@ ghost use Rattle.dt_flat.specs.Arena.{reading};
 ghost use Rattle.dt_overlay_object.specs.NumbersGiven.{walk, with_fragment};
 ghost use Rattle.dt_overlay_object.specs.Plans.{AreFragmentsOf, AreBrought, IsUnbrought};
 
-use crate::kept::Fragment;
+use crate::kept::ObjectFragment;
 use dt_flat::FlatTree;
 use dt_names::NodeId;
 use std::alloc::{AllocError, Global};
@@ -36,7 +36,7 @@ impl Brought {
     }
 }
 
-// A fragment brings a node and those below it.
+/// A fragment brings a node and those below it.
 fn bring_nodes(object: &FlatTree, node: NodeId, fragment: usize, brought: &mut Brought)
     requires node { node < length object.now.slots }
     requires all { length brought.old.fragments.items ≡ length object.now.slots }
@@ -51,7 +51,7 @@ fn bring_nodes(object: &FlatTree, node: NodeId, fragment: usize, brought: &mut B
 }
 
 /// The nodes that the fragments bring (dtc's notes on overlay objects). None has a number so far. Takes no memory.
-pub fn bring_all(object: &FlatTree, fragments: &[Fragment], brought: &mut Brought)
+pub fn bring_all(object: &FlatTree, fragments: &[ObjectFragment], brought: &mut Brought)
     requires fragments { AreFragmentsOf object.now.slots (reading object.now) fragments.now (fragment_names (reading object.now).children) }
     requires unbrought { IsUnbrought (length object.now.slots) brought.old }
     ensures brought { AreBrought object.now.slots (fragment_names (reading object.now).children) [] brought.new }

@@ -4,7 +4,7 @@ use dt_names::NodeId;
 
 /// What a fragment tells of its target.
 #[derive(Drop)]
-pub enum FragmentTarget {
+pub enum ObjectTarget {
     /// Its number, in the property `target`.
     Number,
     /// The value of the property `target-path`: the text of its path with a NUL.
@@ -13,10 +13,10 @@ pub enum FragmentTarget {
 
 /// A fragment: the root's child that tells its target, and the node whose properties and children it brings.
 #[derive(Drop)]
-pub struct Fragment {
+pub struct ObjectFragment {
     pub node: NodeId,
     pub content: NodeId,
-    pub target: FragmentTarget,
+    pub target: ObjectTarget,
 }
 
 /// A number to be written at an offset of a property's value, the highest byte first.

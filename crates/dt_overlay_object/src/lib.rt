@@ -14,4 +14,4 @@ mod brought;
 mod kept;
 
 pub use brought::{Brought, bring_all};
-pub use kept::{Fragment, FragmentTarget, Symbol, Write};
+pub use kept::{ObjectFragment, ObjectTarget, Symbol, Write};

@@ -6,7 +6,7 @@ use Rattle.std.proofs.lemmas.List.{append-nil}
 use Rattle.std.proofs.lemmas.Nat.{from_be_bytes-to_be_bytes_4}
 use Rattle.dt_model.specs.Meaning.{cell}
 use Rattle.dt_model.specs.Names.{Name}
-use Rattle.dt_model.specs.Object.{Cell, properties_of}
+use Rattle.dt_model.specs.Object.{Cell, properties_of, HasCell}
 use Rattle.dt_model.specs.Path.{Path}
 use Rattle.dt_model.specs.Tree.{Property, Reading, node_at, value_in}
 use Rattle.dt_model.specs.Applied.{Write, symbol, number_at, label_write}
@@ -15,7 +15,7 @@ use Rattle.dt_names.specs.declared.fault.FaultKind.TheVariants.{NoMemory, NoSymb
 use Rattle.dt_flat.specs.Arena.{Arena, reading, node_from, child_of, named_children, properties}
 use Rattle.dt_flat.proofs.ByPath.{has, reading_at}
 use Rattle.dt_model.proofs.Tests.{each_append}
-use Rattle.dt_overlay_laws.specs.Objects.{HasCell, AreCellsOf, SymbolHasNumber, IsFixup, fixups_in}
+use Rattle.dt_overlay_laws.specs.Objects.{AreCellsOf, SymbolHasNumber, IsFixup, fixups_in}
 use Rattle.dt_overlay_laws.specs.Refusals.{WhyNoFixup, HasNoFixup}
 use Rattle.dt_overlay_object.specs.declared.kept.Write.{Write as KeptWrite}
 use Rattle.dt_overlay_object.specs.Plans.{AreWritesOf, ListsFixups}

@@ -18,7 +18,7 @@ use Rattle.dt_model.proofs.Preorder.{listed_named}
 use Rattle.dt_model.proofs.Finding.{node_of_text}
 use Rattle.dt_overlay_texts.specs.Texts.{IsPathValue}
 use Rattle.dt_overlay_laws.specs.Objects.{SymbolHasNumber}
-use Rattle.dt_overlay_laws.proofs.Depths.{within_depth}
+use Rattle.dt_model.proofs.Depths.{within_depth}
 
 -- the node that is found by a text is among those that are looked at, and has the text
 named_from : (nodes : List Placed) (value : List ℕ) (p : Path) → node_named nodes value ≡ Some p → (x : Placed) × IsIn x nodes × (x.path ≡ p) × (path_value x.path ≡ value)

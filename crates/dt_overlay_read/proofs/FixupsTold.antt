@@ -2,12 +2,12 @@
 use Rattle.std.proofs.Common.{◌≡◌, ◌≢◌, ◌↔◌, ℕ, List, [], ◌∷◌, ◌++◌, map, refl, sym, ap, subst, ◌∙◌, append_assoc}
 use Rattle.std.specs.List.{AllByRecursion}
 use Rattle.std.proofs.lemmas.List.{append-nil}
-use Rattle.dt_model.specs.Object.{Cell}
+use Rattle.dt_model.specs.Object.{Cell, HasCell}
 use Rattle.dt_model.specs.Tree.{Reading}
 use Rattle.dt_model.specs.Applied.{Write}
 use Rattle.dt_flat.specs.Arena.{Arena, Slot, reading}
 use Rattle.dt_overlay_texts.specs.Texts.{AreTexts, TellCells, TextsAreOne, CellTextsAreTexts}
-use Rattle.dt_overlay_laws.specs.Objects.{HasCell, AreCellsOf}
+use Rattle.dt_overlay_laws.specs.Objects.{AreCellsOf}
 use Rattle.dt_overlay_object.specs.declared.kept.Write.{Write as KeptWrite}
 use Rattle.dt_overlay_object.specs.Plans.{AreWritesOf}
 use Rattle.dt_overlay_read.specs.Fixups.{HasTold, numbered, ListsTold, ListsCells}

@@ -18,7 +18,7 @@ use Rattle.dt_names.specs.declared.fault.FaultKind.{FaultKind}
 use Rattle.dt_names.specs.declared.fault.FaultKind.TheVariants.{NoMemory, NoFragmentTarget}
 use Rattle.dt_overlay_laws.specs.Objects.{HasTarget}
 use Rattle.dt_overlay_object.specs.Plans.{IsTargetOf, IsFragmentOf, AreFragmentsOf}
-use Rattle.dt_overlay_object.specs.declared.kept.Fragment.{Fragment}
+use Rattle.dt_overlay_object.specs.declared.kept.ObjectFragment.{ObjectFragment}
 
 -- a child of the root with a child `__overlay__` is a fragment, unless it is a bookkeeping node
 pub content_there : (slots : List Slot) (node : ℕ) (name : Name) (o : Option ℕ) → is_bookkeeping_name name ≡ false → o ≡ child_of (named_children slots node) (codes "__overlay__")
@@ -123,7 +123,7 @@ children_found slots d =
     subst (λ (cs : List Child). AllByRecursion (λ k. child_of cs (name_of slots k) ≡ Some k) all) same found
 
 -- a fragment that is kept by its node, the child `__overlay__` of that and its target
-fragment_kept : (a : Arena) (k : ℕ) (f : Name) (x : Fragment) → child_of (named_children a.slots 0) f ≡ Some k → x.node ≡ k → child_of (named_children a.slots k) (codes "__overlay__") ≡ Some x.content
+fragment_kept : (a : Arena) (k : ℕ) (f : Name) (x : ObjectFragment) → child_of (named_children a.slots 0) f ≡ Some k → x.node ≡ k → child_of (named_children a.slots k) (codes "__overlay__") ≡ Some x.content
     → IsTargetOf (reading a) f x.target → IsFragmentOf a.slots (reading a) x f
 fragment_kept a k f x found is under target = record {
   node = ap (λ (o : Option ℕ). option_and_then (λ c. Some c) o) found ∙ ap (λ (n : ℕ). Some n) (sym is);
@@ -136,7 +136,7 @@ fragment_kept a k f x found is under target = record {
 -- ---- while they are listed
 
 -- the fragments so far are kept, those of the nodes that are left aren't yet, and these nodes are those of their names
-pub record Listing (a : Arena) (kept : List Fragment) (left : List ℕ) : Type 0 where
+pub record Listing (a : Arena) (kept : List ObjectFragment) (left : List ℕ) : Type 0 where
   pub done : List Name
   pub all : fragment_names (below a.slots 0) ≡ done ++ fragments_at a.slots left
   pub listed : AreFragmentsOf a.slots (reading a) kept done
@@ -144,17 +144,17 @@ pub record Listing (a : Arena) (kept : List Fragment) (left : List ℕ) : Type 0
   pub found : AllByRecursion (λ k. child_of (named_children a.slots 0) (name_of a.slots k) ≡ Some k) left
 
 -- at first all children of the root are left
-pub listing_begins : (a : Arena) (kept : List Fragment) (left : List ℕ) → IsValid (reading a) → kept ≡ [] → left ≡ children a.slots 0 → All (λ k. (0 < k) × (k < length a.slots)) (children a.slots 0) → Listing a kept left
+pub listing_begins : (a : Arena) (kept : List ObjectFragment) (left : List ℕ) → IsValid (reading a) → kept ≡ [] → left ≡ children a.slots 0 → All (λ k. (0 < k) × (k < length a.slots)) (children a.slots 0) → Listing a kept left
 listing_begins a kept left valid none is within = record {
   done = [];
   all = fragments_below a.slots 0 ∙ ap (fragments_at a.slots) (sym is);
-  listed = subst (λ (xs : List Fragment). AreFragmentsOf a.slots (reading a) xs []) (sym none) tt;
+  listed = subst (λ (xs : List ObjectFragment). AreFragmentsOf a.slots (reading a) xs []) (sym none) tt;
   within = subst (AllByRecursion (λ k. (0 < k) × (k < length a.slots))) (sym is) (recursion_from_All (λ k. (0 < k) × (k < length a.slots)) (children a.slots 0) within);
   found = subst (AllByRecursion (λ k. child_of (named_children a.slots 0) (name_of a.slots k) ≡ Some k)) (sym is) (children_found a.slots valid.siblings);
 }
 
 -- the next node is no fragment
-pub listing_passes : (a : Arena) (kept : List Fragment) (left rest : List ℕ) (k : ℕ) → left ≡ k ∷ rest → is_fragment (name_of a.slots k) (below a.slots k) ≡ false → Listing a kept left → Listing a kept rest
+pub listing_passes : (a : Arena) (kept : List ObjectFragment) (left rest : List ℕ) (k : ℕ) → left ≡ k ∷ rest → is_fragment (name_of a.slots k) (below a.slots k) ≡ false → Listing a kept left → Listing a kept rest
 listing_passes a kept left rest k e plain l =
     let m = subst (Listing a kept) e l in
     record {
@@ -165,14 +165,14 @@ listing_passes a kept left rest k e plain l =
       found = m.found.1;
     }
 
-kept_more : (slots : List Slot) (object : Reading) (xs : List Fragment) (fs : List Name) (x : Fragment) (f : Name) → AreFragmentsOf slots object xs fs → IsFragmentOf slots object x f → AreFragmentsOf slots object (xs ++ x ∷ []) (fs ++ f ∷ [])
+kept_more : (slots : List Slot) (object : Reading) (xs : List ObjectFragment) (fs : List Name) (x : ObjectFragment) (f : Name) → AreFragmentsOf slots object xs fs → IsFragmentOf slots object x f → AreFragmentsOf slots object (xs ++ x ∷ []) (fs ++ f ∷ [])
 kept_more slots object [] [] x f h k = (k, tt)
 kept_more slots object [] (g ∷ fs) x f h k = absurd h
 kept_more slots object (y ∷ xs) [] x f h k = absurd h
 kept_more slots object (y ∷ xs) (g ∷ fs) x f h k = (h.0, kept_more slots object xs fs x f h.1 k)
 
 -- the next node is a fragment, which is kept
-pub listing_keeps : (a : Arena) (kept more : List Fragment) (left rest : List ℕ) (k : ℕ) (x : Fragment) → left ≡ k ∷ rest → is_fragment (name_of a.slots k) (below a.slots k) ≡ true → more ≡ kept ++ x ∷ []
+pub listing_keeps : (a : Arena) (kept more : List ObjectFragment) (left rest : List ℕ) (k : ℕ) (x : ObjectFragment) → left ≡ k ∷ rest → is_fragment (name_of a.slots k) (below a.slots k) ≡ true → more ≡ kept ++ x ∷ []
     → x.node ≡ k → child_of (named_children a.slots k) (codes "__overlay__") ≡ Some x.content → IsTargetOf (reading a) (name_of a.slots k) x.target → Listing a kept left → Listing a more rest
 listing_keeps a kept more left rest k x e brings put is under target l =
     let m = subst (Listing a kept) e l in
@@ -180,13 +180,13 @@ listing_keeps a kept more left rest k x e brings put is under target l =
     record {
       done = m.done ++ name ∷ [];
       all = m.all ∙ ap (λ (b : Bool). m.done ++ cond b (name ∷ fragments_at a.slots rest) (fragments_at a.slots rest)) brings ∙ sym (append_assoc m.done (name ∷ []) (fragments_at a.slots rest));
-      listed = subst (λ (xs : List Fragment). AreFragmentsOf a.slots (reading a) xs (m.done ++ name ∷ [])) (sym put) (kept_more a.slots (reading a) kept m.done x name m.listed (fragment_kept a k name x m.found.0 is under target));
+      listed = subst (λ (xs : List ObjectFragment). AreFragmentsOf a.slots (reading a) xs (m.done ++ name ∷ [])) (sym put) (kept_more a.slots (reading a) kept m.done x name m.listed (fragment_kept a k name x m.found.0 is under target));
       within = m.within.1;
       found = m.found.1;
     }
 
 -- a fragment among those that are left is one of all
-listing_has : (a : Arena) (kept : List Fragment) (left rest : List ℕ) (k : ℕ) → left ≡ k ∷ rest → is_fragment (name_of a.slots k) (below a.slots k) ≡ true → Listing a kept left
+listing_has : (a : Arena) (kept : List ObjectFragment) (left rest : List ℕ) (k : ℕ) → left ≡ k ∷ rest → is_fragment (name_of a.slots k) (below a.slots k) ≡ true → Listing a kept left
     → IsIn (name_of a.slots k) (fragment_names (below a.slots 0))
 listing_has a kept left rest k e brings l =
     let m = subst (Listing a kept) e l in
@@ -199,25 +199,25 @@ listing_has a kept left rest k e brings l =
     behind_done (g ∷ done) f fs = inr (behind_done done f fs)
 
 -- the next node is within the tree
-pub listing_within : (a : Arena) (kept : List Fragment) (left rest : List ℕ) (k : ℕ) → left ≡ k ∷ rest → Listing a kept left → k < length a.slots
+pub listing_within : (a : Arena) (kept : List ObjectFragment) (left rest : List ℕ) (k : ℕ) → left ≡ k ∷ rest → Listing a kept left → k < length a.slots
 listing_within a kept left rest k e l =
     let m = subst (Listing a kept) e l in
     m.within.0.1
 
 -- its name leads to it
-pub listing_leads : (a : Arena) (kept : List Fragment) (left rest : List ℕ) (k : ℕ) → left ≡ k ∷ rest → Listing a kept left → node_from a.slots 0 (name_of a.slots k ∷ []) ≡ Some k
+pub listing_leads : (a : Arena) (kept : List ObjectFragment) (left rest : List ℕ) (k : ℕ) → left ≡ k ∷ rest → Listing a kept left → node_from a.slots 0 (name_of a.slots k ∷ []) ≡ Some k
 listing_leads a kept left rest k e l =
     let m = subst (Listing a kept) e l in
     ap (λ (o : Option ℕ). option_and_then (λ c. Some c) o) m.found.0
 
 -- where none is left, all are kept
-pub listing_ends : (a : Arena) (kept : List Fragment) (left : List ℕ) → left ≡ [] → Listing a kept left → AreFragmentsOf a.slots (reading a) kept (fragment_names (below a.slots 0))
+pub listing_ends : (a : Arena) (kept : List ObjectFragment) (left : List ℕ) → left ≡ [] → Listing a kept left → AreFragmentsOf a.slots (reading a) kept (fragment_names (below a.slots 0))
 listing_ends a kept left e l =
     let m = subst (Listing a kept) e l in
     subst (AreFragmentsOf a.slots (reading a) kept) (sym (m.all ∙ append-nil m.done)) m.listed
 
 -- a fragment that isn't kept is the one that has no target, unless memory is refused
-pub not_listed : (a : Arena) (kept : List Fragment) (left rest : List ℕ) (k : ℕ) (kind : FaultKind) → left ≡ k ∷ rest → is_fragment (name_of a.slots k) (below a.slots k) ≡ true
+pub not_listed : (a : Arena) (kept : List ObjectFragment) (left rest : List ℕ) (k : ℕ) (kind : FaultKind) → left ≡ k ∷ rest → is_fragment (name_of a.slots k) (below a.slots k) ≡ true
     → (kind ≡ NoMemory) ⊎ ((kind ≡ NoFragmentTarget) × ¬ HasTarget (reading a) (name_of a.slots k)) → Listing a kept left
     → (kind ≡ NoMemory) ⊎ ((kind ≡ NoFragmentTarget) × ((f : Name) × IsIn f (fragment_names (below a.slots 0)) × ¬ HasTarget (reading a) f))
 not_listed a kept left rest k kind e brings (inl refused) l = inl refused

@@ -6,13 +6,13 @@ use Rattle.std.proofs.lemmas.List.{append-nil, map-append}
 use Rattle.dt_model.specs.Names.{Name}
 use Rattle.dt_model.specs.Path.{Path}
 use Rattle.dt_model.specs.Tree.{Property, value_of, nodes_of}
-use Rattle.dt_model.specs.Object.{Cell, words_of}
+use Rattle.dt_model.specs.Object.{Cell, words_of, HasCell}
 use Rattle.dt_model.specs.Numbers.{number_in}
 use Rattle.dt_model.specs.Applied.{Write, local_write, node_numbered, number_at}
 use Rattle.dt_model.proofs.Tests.{each_append}
 use Rattle.dt_flat.specs.Arena.{Arena, Slot, reading, properties, node_from}
 use Rattle.dt_names.specs.declared.fault.Fault.{Fault}
-use Rattle.dt_overlay_laws.specs.Objects.{HasCell, IsLocalCell, IsLocalFixup}
+use Rattle.dt_overlay_laws.specs.Objects.{IsLocalCell, IsLocalFixup}
 use Rattle.dt_overlay_object.specs.declared.kept.Write.{Write as KeptWrite}
 use Rattle.dt_overlay_object.specs.Plans.{AreWritesOf, IsLocalNumber}
 use Rattle.dt_overlay_read.specs.LocalFixups.{IsLocalFault, ListsCells, ListsOffsets, ListsProperties, Left, offset_cell, property_cells}

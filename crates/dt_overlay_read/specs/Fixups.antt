@@ -3,14 +3,14 @@ use Rattle.std.specs.Prelude.{◌≡◌, ◌≢◌, ℕ, List, [], ◌∷◌, �
 use Rattle.std.specs.List.{AllByRecursion}
 use Rattle.dt_model.specs.Names.{Name}
 use Rattle.dt_model.specs.Tree.{Property, Reading, value_in}
-use Rattle.dt_model.specs.Object.{Cell, AreFixups, IsCellText}
+use Rattle.dt_model.specs.Object.{Cell, AreFixups, IsCellText, HasCell}
 use Rattle.dt_model.specs.Applied.{Write, label_write}
 use Rattle.dt_flat.specs.Arena.{Arena, reading}
 use Rattle.dt_names.specs.declared.fault.FaultKind.{FaultKind}
 use Rattle.dt_names.specs.declared.fault.FaultKind.TheVariants.{NoMemory, NoSymbol, BadSymbol}
 use Rattle.dt_overlay_texts.specs.Texts.{TellCells}
 use Rattle.dt_overlay_texts.specs.declared.reading.CellText.{CellText}
-use Rattle.dt_overlay_laws.specs.Objects.{HasCell, AreCellsOf, SymbolHasNumber, IsFixup}
+use Rattle.dt_overlay_laws.specs.Objects.{AreCellsOf, SymbolHasNumber, IsFixup}
 use Rattle.dt_overlay_object.specs.declared.kept.Write.{Write as KeptWrite}
 use Rattle.dt_overlay_object.specs.Plans.{AreWritesOf}
 

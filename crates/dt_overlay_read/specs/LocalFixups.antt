@@ -4,12 +4,12 @@ use Rattle.std.specs.List.{AllByRecursion, flat_map}
 use Rattle.dt_model.specs.Names.{Name}
 use Rattle.dt_model.specs.Path.{Path}
 use Rattle.dt_model.specs.Tree.{Property, Reading, stands_in, preorder}
-use Rattle.dt_model.specs.Object.{Cell, cells_of, words_of}
+use Rattle.dt_model.specs.Object.{Cell, cells_of, words_of, HasCell}
 use Rattle.dt_model.specs.Applied.{local_write}
 use Rattle.dt_flat.specs.Arena.{Arena, Slot, reading, properties, named_children, child_of, name_of, below, node_from}
 use Rattle.dt_names.specs.declared.fault.Fault.{Fault}
 use Rattle.dt_names.specs.declared.fault.FaultKind.TheVariants.{NoMemory, BadLocalFixup}
-use Rattle.dt_overlay_laws.specs.Objects.{HasCell, IsLocalCell, IsLocalFixup, IsMirror}
+use Rattle.dt_overlay_laws.specs.Objects.{IsLocalCell, IsLocalFixup, IsMirror}
 use Rattle.dt_overlay_object.specs.declared.kept.Write.{Write as KeptWrite}
 use Rattle.dt_overlay_object.specs.Plans.{AreWritesOf}
 

@@ -25,7 +25,7 @@ use dt_overlay_texts::{
 };
 use std::alloc::Global;
 
-// The value of the property of whose cell a text tells, wherever in it the cell is.
+/// The value of the property of whose cell a text tells, wherever in it the cell is.
 fn value_of<'a>(object: &'a FlatTree, text: &[u8]) -> Option<&'a [u8]>
     ensures { (c : Cell) → IsCellText text.now c → option_copied result ≡ value_in (reading object.now) c.path c.property }
 {
@@ -37,7 +37,7 @@ fn value_of<'a>(object: &'a FlatTree, text: &[u8]) -> Option<&'a [u8]>
     object.value(node, property)
 }
 
-// The node of the cell of which a text tells, and the cell.
+/// The node of the cell of which a text tells, and the cell.
 fn cell_at<'a>(object: &FlatTree, text: &'a [u8]) -> Option<(NodeId, CellText<'a>)>
     ensures { MatchOption result ((c : Cell) → ¬ HasTold (reading object.now) text.now c)
         (λ found. HasTold (reading object.now) text.now (cell_told found.1)
@@ -58,7 +58,7 @@ fn cell_at<'a>(object: &FlatTree, text: &'a [u8]) -> Option<(NodeId, CellText<'a
     Some((node, cell))
 }
 
-// Is the value texts of cells that the object has?
+/// Is the value texts of cells that the object has?
 fn are_cells(object: &FlatTree, value: &[u8]) -> bool
     ensures { IsTrue result ↔ ((cells : List Cell) × AreCellsOf (reading object.now) value.now cells) }
 {
@@ -75,7 +75,7 @@ fn are_cells(object: &FlatTree, value: &[u8]) -> bool
     true
 }
 
-// A cell of the object gets a number.
+/// A cell of the object gets a number.
 fn list_cell(
     alloc: Global,
     object: &FlatTree,
@@ -100,7 +100,7 @@ fn list_cell(
     Ok(())
 }
 
-// The cells of a value's texts get a number.
+/// The cells of a value's texts get a number.
 fn list_cells(
     alloc: Global,
     object: &FlatTree,
@@ -123,7 +123,7 @@ fn list_cells(
     Ok(())
 }
 
-// The path of a symbol of the base.
+/// The path of a symbol of the base.
 fn path_of_symbol(alloc: Global, value: &[u8]) -> Result<Path, Fault>
     ensures value { IfOk result (IsPathValue value.now) }
     ensures refused { IfErr result (λ fault. (fault.at ≡ None) × ((fault.kind ≡ NoMemory)
@@ -135,14 +135,14 @@ fn path_of_symbol(alloc: Global, value: &[u8]) -> Result<Path, Fault>
     }
 }
 
-// The number of which a value is the cell, where a node may have it.
+/// The number of which a value is the cell, where a node may have it.
 fn cell_number(value: &[u8]) -> Option<u32>
     ensures { MatchOption result (¬ IsPhandle value.now) (λ number. value.now ≡ cell number) }
 {
     phandle_of(value)
 }
 
-// The number of the node that the base has for a label.
+/// The number of the node that the base has for a label.
 fn number_of<T: Target>(
     alloc: Global,
     target: &T,
@@ -164,7 +164,7 @@ fn number_of<T: Target>(
     }
 }
 
-// The cells that wait for a label.
+/// The cells that wait for a label.
 fn list_fixup<T: Target>(
     alloc: Global,
     target: &T,

@@ -11,12 +11,12 @@ ghost use Rattle.dt_overlay_object.specs.Plans.{IsTargetOf, AreFragmentsOf};
 
 use dt_flat::FlatTree;
 use dt_names::{Fault, FaultKind, NodeId, is_bookkeeping_name};
-use dt_overlay_object::{Fragment, FragmentTarget};
+use dt_overlay_object::{ObjectFragment, ObjectTarget};
 use dt_overlay_texts::is_path_value;
 use std::alloc::Global;
 
 /// The node that a child of the root brings, if it is a fragment: no bookkeeping node, and with a child `__overlay__`.
-pub fn content_of(object: &FlatTree, node: NodeId) -> Option<NodeId>
+pub(crate) fn content_of(object: &FlatTree, node: NodeId) -> Option<NodeId>
     requires { node < length object.now.slots }
     ensures value { MatchOption result (is_fragment (name_of object.now.slots node) (below object.now.slots node) ≡ false)
         (λ content. (is_fragment (name_of object.now.slots node) (below object.now.slots node) ≡ true)
@@ -28,8 +28,8 @@ pub fn content_of(object: &FlatTree, node: NodeId) -> Option<NodeId>
     object.child(node, b"__overlay__".as_slice())
 }
 
-// What a fragment's node tells of its target: four bytes as `target`, or else a path's text with its NUL as `target-path`.
-fn target_of(alloc: Global, object: &FlatTree, node: NodeId) -> Result<FragmentTarget, Fault>
+/// What a fragment's node tells of its target: four bytes as `target`, or else a path's text with its NUL as `target-path`.
+fn target_of(alloc: Global, object: &FlatTree, node: NodeId) -> Result<ObjectTarget, Fault>
     requires { node < length object.now.slots }
     ensures value { (f : Name) → node_from object.now.slots 0 (f ∷ []) ≡ Some node → IfOk result (IsTargetOf (reading object.now) f) }
     ensures refused { (f : Name) → node_from object.now.slots 0 (f ∷ []) ≡ Some node → IfErr result (λ fault. (fault.at ≡ None)
@@ -37,7 +37,7 @@ fn target_of(alloc: Global, object: &FlatTree, node: NodeId) -> Result<FragmentT
 {
     if let Some(value) = object.value(node, b"target".as_slice()) {
         return if value.len() == 4 {
-            Ok(FragmentTarget::Number)
+            Ok(ObjectTarget::Number)
         } else {
             Err(Fault::of(FaultKind::NoFragmentTarget))
         };
@@ -45,7 +45,7 @@ fn target_of(alloc: Global, object: &FlatTree, node: NodeId) -> Result<FragmentT
     match object.value(node, b"target-path".as_slice()) {
         Some(value) if is_path_value(value) => {
             let value = Vec::from_slice(alloc, value)?;
-            Ok(FragmentTarget::Path(value))
+            Ok(ObjectTarget::Path(value))
         }
         _ => Err(Fault::of(FaultKind::NoFragmentTarget)),
     }
@@ -61,7 +61,7 @@ fn target_of(alloc: Global, object: &FlatTree, node: NodeId) -> Result<FragmentT
 pub fn list_fragments(
     alloc: Global,
     object: &FlatTree,
-    out: &mut Vec<Fragment>,
+    out: &mut Vec<ObjectFragment>,
 ) -> Result<(), Fault>
     requires { out.old.items ≡ [] }
     ensures listed { OnOk result (AreFragmentsOf object.now.slots (reading object.now) out.new.items (fragment_names (reading object.now).children)) }
@@ -75,7 +75,7 @@ pub fn list_fragments(
             continue;
         };
         let target = target_of(alloc, object, node)?;
-        out.push(Fragment {
+        out.push(ObjectFragment {
             node,
             content,
             target,

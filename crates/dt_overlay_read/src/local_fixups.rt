@@ -18,7 +18,7 @@ use dt_overlay_object::{Brought, Write};
 use dt_overlay_texts::has_cell;
 use std::alloc::Global;
 
-// The number in a cell.
+/// The number in a cell.
 fn cell_number(bytes: &[u8]) -> u32
     requires { length bytes.now ≡ 4 }
     ensures { result ≡ from_be_bytes w32 bytes.now }
@@ -26,7 +26,7 @@ fn cell_number(bytes: &[u8]) -> u32
     u32::from_be_bytes([bytes[0], bytes[1], bytes[2], bytes[3]])
 }
 
-// May a cell of a node name another? What a fragment brings names nothing else.
+/// May a cell of a node name another? What a fragment brings names nothing else.
 fn may_name(brought: &Brought, node: NodeId, named: NodeId) -> bool
     requires node { node < length brought.now.fragments.items }
     requires named { named < length brought.now.fragments.items }
@@ -35,8 +35,8 @@ fn may_name(brought: &Brought, node: NodeId, named: NodeId) -> bool
     brought.fragments[node].is_none() || brought.fragments[named].is_some()
 }
 
-// The number that a cell of a value, of a node, gets: its node's new one, or its own where that gets none. None where there is
-// no such cell, or no node that it may name.
+/// The number that a cell of a value, of a node, gets: its node's new one, or its own where that gets none. None where there is
+/// no such cell, or no node that it may name.
 fn local_number(
     object: &FlatTree,
     brought: &Brought,
@@ -62,7 +62,7 @@ fn local_number(
     Some(brought.numbers[named].unwrap_or(number))
 }
 
-// The cells of a property of a node, by their offsets.
+/// The cells of a property of a node, by their offsets.
 fn list_offsets(
     alloc: Global,
     object: &FlatTree,
@@ -102,7 +102,7 @@ fn list_offsets(
     Ok(())
 }
 
-// The cells of a node, which the properties of its mirror list.
+/// The cells of a node, which the properties of its mirror list.
 fn list_properties(
     alloc: Global,
     object: &FlatTree,
@@ -125,7 +125,7 @@ fn list_properties(
     Ok(())
 }
 
-// The cells of a node and of those below it, which a node of the mirror lists.
+/// The cells of a node and of those below it, which a node of the mirror lists.
 fn list_mirrored(
     alloc: Global,
     object: &FlatTree,

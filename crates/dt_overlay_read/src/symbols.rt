@@ -19,7 +19,7 @@ use dt_overlay_texts::cut;
 use memchr::memchr;
 use std::alloc::Global;
 
-// What the text of a symbol names.
+/// What the text of a symbol names.
 enum SymbolNames {
     // No node that a fragment brings.
     Nothing,
@@ -28,7 +28,7 @@ enum SymbolNames {
     Node(NodeId),
 }
 
-// The text of a value that has a NUL at its end and none before.
+/// The text of a value that has a NUL at its end and none before.
 fn whole_text(value: &[u8]) -> Option<&[u8]>
     ensures { MatchOption result ((text : List ℕ) → ¬ IsCut 0 value.now text []) (λ text. IsCut 0 value.now text.now []) }
 {
@@ -38,7 +38,7 @@ fn whole_text(value: &[u8]) -> Option<&[u8]>
     }
 }
 
-// The bytes before the first `/`; all where there is none.
+/// The bytes before the first `/`; all where there is none.
 fn first_name(bytes: &[u8]) -> &[u8]
     ensures { IsFirstName bytes.now result.now }
 {
@@ -48,7 +48,7 @@ fn first_name(bytes: &[u8]) -> &[u8]
     }
 }
 
-// Does a text begin with the path of what a fragment brings?
+/// Does a text begin with the path of what a fragment brings?
 fn is_within_fragment(object: &FlatTree, text: &[u8]) -> bool
     ensures { IsTrue result ↔ IsOfFragment (reading object.now) text.now }
 {
@@ -68,7 +68,7 @@ fn is_within_fragment(object: &FlatTree, text: &[u8]) -> bool
     }
 }
 
-// The node that a text names, if a fragment brings it.
+/// The node that a text names, if a fragment brings it.
 fn symbol_names(object: &FlatTree, text: &[u8]) -> SymbolNames
     ensures { IsWhatTextNames object.now text.now result }
 {
@@ -85,7 +85,7 @@ fn symbol_names(object: &FlatTree, text: &[u8]) -> SymbolNames
     }
 }
 
-// A symbol of the object, if its node lands.
+/// A symbol of the object, if its node lands.
 fn list_symbol(
     alloc: Global,
     object: &FlatTree,

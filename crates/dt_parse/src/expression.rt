@@ -11,7 +11,7 @@ use std::alloc::{AllocError, Global};
 
 /// What waits for an operand or for a mark.
 #[derive(Clone, Copy)]
-pub enum Pending {
+pub(crate) enum Pending {
     Unary(Unary),
     Binary(Binary),
     /// `(`, which waits for `)`.
@@ -24,7 +24,7 @@ pub enum Pending {
 
 /// What stands in front of a token.
 #[derive(Clone, Copy)]
-pub enum Stage {
+pub(crate) enum Stage {
     /// An operand is wanted.
     Wanted,
     /// An operand is complete.
@@ -35,7 +35,7 @@ pub enum Stage {
 
 /// What is done at a token.
 #[derive(Clone, Copy)]
-pub enum Turn {
+pub(crate) enum Turn {
     Number(u64),
     Push(Pending),
     /// The last thing that is pending has its operands.

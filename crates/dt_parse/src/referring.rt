@@ -19,7 +19,7 @@ fn between_braces(bytes: &[u8]) -> Option<&[u8]>
 }
 
 /// The path that a reference's bytes are by; none where they aren't `&{`, a path's text and `}`. Takes no memory.
-pub fn referred_path(bytes: &[u8]) -> Option<PathRef<'_>>
+pub(crate) fn referred_path(bytes: &[u8]) -> Option<PathRef<'_>>
     ensures { MatchOption result (¬ IsReferenceText a_path bytes.now)
         (λ path. IsReferenceText a_path bytes.now × (path ≡ path_of_names (ended_names (drop 3 bytes.now)))) }
 {

@@ -8,7 +8,7 @@ use std::hash::{DefaultHasher, Hasher};
 const SPARSE: usize = 1024;
 
 /// The seed of a text: that of all its bytes, or of the tokens of a sparse one alone, which is read so fast that hashing all of it would show.
-pub fn seed_of(text: &[u8], tokens: &[Token]) -> Seed {
+pub(crate) fn seed_of(text: &[u8], tokens: &[Token]) -> Seed {
     if text.len() / SPARSE <= tokens.len() {
         Seed::of(text)
     } else {

@@ -32,7 +32,7 @@ const CELL: u32 = 32;
 
 /// What a token begins in a value.
 #[derive(Clone, Copy)]
-pub enum Opening {
+pub(crate) enum Opening {
     Cells,
     /// `/bits/`
     SizedCells,
@@ -44,7 +44,7 @@ pub enum Opening {
 
 /// What a token begins between `<` and `>`.
 #[derive(Clone, Copy)]
-pub enum CellOpening {
+pub(crate) enum CellOpening {
     Label,
     Reference,
     Number,
@@ -53,7 +53,7 @@ pub enum CellOpening {
 
 /// What a token is between `[` and `]`.
 #[derive(Clone, Copy)]
-pub enum ByteOpening {
+pub(crate) enum ByteOpening {
     Label,
     Byte(u8),
     Nothing,
@@ -98,7 +98,7 @@ fn byte_opening(next: Option<TokenKind>) -> ByteOpening
 }
 
 /// No bytes. Takes no memory.
-pub fn empty<'a>(alloc: Global) -> Value<'a>
+pub(crate) fn empty<'a>(alloc: Global) -> Value<'a>
     ensures { value_said result ≡ [] }
 {
     Value {

@@ -15,14 +15,14 @@ use std::alloc::{AllocError, Global};
 
 /// What a node asks for.
 #[derive(Clone, Copy)]
-pub struct Asked {
+pub(crate) struct Asked {
     /// The number that is written in it.
     pub written: Option<u32>,
     /// Whether it has a label, a written number or a reference to it.
     pub keyed: bool,
 }
 
-// The number that a value writes.
+/// The number that a value writes.
 fn number_of(value: &NamedValue<'_>) -> Option<u32>
     ensures { result ≡ written_number (value_said value.now) }
 {
@@ -33,7 +33,9 @@ fn number_of(value: &NamedValue<'_>) -> Option<u32>
 }
 
 /// The value of the property `phandle`.
-pub fn phandle_value<'a, 'b>(properties: &'a [NamedProperty<'b>]) -> Option<&'a NamedValue<'b>>
+pub(crate) fn phandle_value<'a, 'b>(
+    properties: &'a [NamedProperty<'b>],
+) -> Option<&'a NamedValue<'b>>
     ensures { option_map (λ value. value_said value.now) result ≡ value_of (map property_said properties.now) (codes "phandle") }
 {
     for property in properties {
@@ -44,7 +46,7 @@ pub fn phandle_value<'a, 'b>(properties: &'a [NamedProperty<'b>]) -> Option<&'a 
     None
 }
 
-// What a node asks for, references to it aside.
+/// What a node asks for, references to it aside.
 fn asked_by(node: &NamedNode<'_>) -> Asked
     ensures { asked_said result ≡ own (node_said node.now).content }
 {
@@ -58,7 +60,7 @@ fn asked_by(node: &NamedNode<'_>) -> Asked
     }
 }
 
-// The node of a reference is keyed.
+/// The node of a reference is keyed.
 fn key(asked: &mut [Asked], reference: &NamedReference<'_>)
     requires { IsBelow (length asked.old) (reference_said reference.now) }
     ensures { map asked_said asked.new ≡ keyed_too (is_to (reference_said reference.now)) 0 (map asked_said asked.old) }
@@ -68,7 +70,7 @@ fn key(asked: &mut [Asked], reference: &NamedReference<'_>)
     }
 }
 
-// The nodes to which a value refers are keyed.
+/// The nodes to which a value refers are keyed.
 fn key_value(asked: &mut [Asked], value: &NamedValue<'_>)
     requires { EachReference (IsBelow (length asked.old)) (value_said value.now) }
     ensures { map asked_said asked.new ≡ keyed_too (is_in_value (value_said value.now)) 0 (map asked_said asked.old) }
@@ -78,7 +80,7 @@ fn key_value(asked: &mut [Asked], value: &NamedValue<'_>)
     }
 }
 
-// The nodes to which properties refer are keyed.
+/// The nodes to which properties refer are keyed.
 fn key_properties(asked: &mut [Asked], properties: &[NamedProperty<'_>])
     requires { AllByRecursion (λ p. EachReference (IsBelow (length asked.old)) p.value) (map property_said properties.now) }
     ensures { map asked_said asked.new ≡ keyed_too (is_in_properties (map property_said properties.now)) 0 (map asked_said asked.old) }
@@ -88,7 +90,7 @@ fn key_properties(asked: &mut [Asked], properties: &[NamedProperty<'_>])
     }
 }
 
-// The nodes to which nodes refer are keyed.
+/// The nodes to which nodes refer are keyed.
 fn key_nodes(asked: &mut [Asked], nodes: &[NamedNode<'_>])
     requires { AllByRecursion (RefersBelow (length asked.old)) (map content_said nodes.now) }
     ensures { map asked_said asked.new ≡ keyed_too (is_in_nodes (map content_said nodes.now)) 0 (map asked_said asked.old) }
@@ -99,7 +101,7 @@ fn key_nodes(asked: &mut [Asked], nodes: &[NamedNode<'_>])
 }
 
 /// What each of these nodes asks for.
-pub fn asked_among(alloc: Global, nodes: &[NamedNode<'_>]) -> Result<Vec<Asked>, AllocError>
+pub(crate) fn asked_among(alloc: Global, nodes: &[NamedNode<'_>]) -> Result<Vec<Asked>, AllocError>
     requires { AllByRecursion (RefersBelow (length nodes.now)) (map content_said nodes.now) }
     ensures { IfOk result (λ asked. map asked_said asked.items ≡
         asked_from (map content_said nodes.now) 0 (map content_said nodes.now)) }

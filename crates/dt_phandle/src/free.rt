@@ -16,13 +16,13 @@ use std::collections::HashSet;
 
 /// The numbers that may still be given: those from `next` on that aren't written.
 #[derive(Drop)]
-pub struct FreeNumbers {
+pub(crate) struct FreeNumbers {
     pub written: HashSet<u32, Seed>,
     pub next: u32,
 }
 
 impl FreeNumbers {
-    // The least of them, which isn't one of them any more.
+    /// The least of them, which isn't one of them any more.
     fn take(&mut self) -> u32
         requires { self.old.next + hash_set_len self.old.written + 1 < 2 ^ 32 }
         ensures least { (taken : List ℕ) → AreLeft taken self.old.written self.old.next → IsLeastFree taken result }
@@ -38,7 +38,7 @@ impl FreeNumbers {
         number
     }
 
-    // The number of a node, where it gets one.
+    /// The number of a node, where it gets one.
     fn number_for(&mut self, asked: &Asked) -> Option<u32>
         requires { self.old.next + hash_set_len self.old.written + 1 < 2 ^ 32 }
         ensures number { (taken : List ℕ) → AreLeft taken self.old.written self.old.next →
@@ -54,7 +54,7 @@ impl FreeNumbers {
     }
 }
 
-// The numbers that are written.
+/// The numbers that are written.
 fn add_written(written: &mut HashSet<u32, Seed>, asked: &[Asked]) -> Result<(), AllocError>
     requires { IsEmpty written.old }
     ensures numbers { OnOk result (IsSetOf (written_numbers (map asked_said asked.now)) written.new) }
@@ -68,7 +68,7 @@ fn add_written(written: &mut HashSet<u32, Seed>, asked: &[Asked]) -> Result<(), 
     Ok(())
 }
 
-// The numbers of nodes, one after another.
+/// The numbers of nodes, one after another.
 fn give(
     numbers: &mut Vec<Option<u32>>,
     free: &mut FreeNumbers,
@@ -86,7 +86,7 @@ fn give(
 }
 
 /// The numbers of nodes that ask for these. Those that are written are hashed behind the seed.
-pub fn numbers_for(
+pub(crate) fn numbers_for(
     alloc: Global,
     seed: Seed,
     asked: &[Asked],

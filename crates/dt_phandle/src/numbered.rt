@@ -1,6 +1,6 @@
 //! A named tree as one whose nodes have their numbers.
 
-ghost use Rattle.std.specs.Prelude.{◌≡◌, ◌++◌, length, map, None, OnOk, IfOk, IfErr};
+ghost use Rattle.std.specs.Prelude.{◌≡◌, ◌++◌, length, map, OnOk, IfOk, IfErr};
 ghost use Rattle.std.specs.List.{AllByRecursion};
 ghost use Rattle.dt_model.specs.Instance.{number_at, number_for, numbered, numbered_properties, phandle_of, instance_of};
 ghost use Rattle.dt_model.specs.Meaning.{value_bytes};
@@ -14,6 +14,7 @@ ghost use Rattle.dt_flat.specs.Arena.{reading, root_alone};
 ghost use Rattle.dt_flat.specs.Planted.{with_properties};
 ghost use Rattle.dt_phandle.specs.Asking.{content_said};
 ghost use Rattle.dt_phandle.specs.Growth.{MayHave, with_node, MayCome, grown, MayGrow, grown_all, MayGrowAll};
+ghost use Rattle.dt_names.specs.Fault.{IsNoMemory};
 
 use crate::asked::phandle_value;
 use crate::numbering::Numbering;
@@ -23,7 +24,7 @@ use dt_names::{Fault, NodeId, NodeName, PropName};
 use dt_source_named_tree::{NamedNode, NamedProperty, NamedReference, NamedTree, NamedValue};
 use std::alloc::{AllocError, Global};
 
-// The number that stands for a reference: its node's, or all ones where the node is of some other tree.
+/// The number that stands for a reference: its node's, or all ones where the node is of some other tree.
 fn number_for(reference: &NamedReference<'_>, numbering: &Numbering) -> u32
     ensures { result ≡ number_for numbering.now (reference_said reference.now) }
 {
@@ -33,7 +34,7 @@ fn number_for(reference: &NamedReference<'_>, numbering: &Numbering) -> u32
     }
 }
 
-// The bytes of a value, in which a reference is its node's number as a cell.
+/// The bytes of a value, in which a reference is its node's number as a cell.
 fn write_value(
     bytes: &mut Vec<u8>,
     value: &NamedValue<'_>,
@@ -51,7 +52,7 @@ fn write_value(
     Ok(())
 }
 
-// A node's properties, but for a number that isn't written. The bytes are for its values, one after another.
+/// A node's properties, but for a number that isn't written. The bytes are for its values, one after another.
 fn set_properties(
     tree: &mut FlatTree,
     bytes: &mut Vec<u8>,
@@ -62,7 +63,7 @@ fn set_properties(
     requires { MayHave tree.old.slots id (map (numbered numbering.now) (map property_said properties.now)) }
     ensures tree { OnOk result (tree.new ≡ record tree.old
         { slots = with_properties tree.old.slots id (map (numbered numbering.now) (map property_said properties.now)) }) }
-    ensures refused { IfErr result (λ fault. (fault.kind ≡ NoMemory) × (fault.at ≡ None)) }
+    ensures refused { IfErr result IsNoMemory }
 {
     for property in properties {
         write_value(bytes, &property.value, numbering)?;
@@ -72,7 +73,7 @@ fn set_properties(
     Ok(())
 }
 
-// The number of a node, where it has one that isn't written in it.
+/// The number of a node, where it has one that isn't written in it.
 fn set_number(
     tree: &mut FlatTree,
     id: NodeId,
@@ -82,7 +83,7 @@ fn set_number(
     requires { MayHave tree.old.slots id (phandle_of (content_said node.now) (number_at numbering.now id)) }
     ensures tree { OnOk result (tree.new ≡ record tree.old
         { slots = with_properties tree.old.slots id (phandle_of (content_said node.now) (number_at numbering.now id)) }) }
-    ensures refused { IfErr result (λ fault. (fault.kind ≡ NoMemory) × (fault.at ≡ None)) }
+    ensures refused { IfErr result IsNoMemory }
 {
     let Some(number) = numbering.of(id) else {
         return Ok(());
@@ -94,7 +95,7 @@ fn set_number(
     tree.set_prop(id, &name, &number.to_be_bytes())
 }
 
-// What a node has.
+/// What a node has.
 fn fill_node(
     tree: &mut FlatTree,
     bytes: &mut Vec<u8>,
@@ -105,13 +106,13 @@ fn fill_node(
     requires { MayHave tree.old.slots id (numbered_properties numbering.now id (content_said node.now)) }
     ensures tree { OnOk result (tree.new ≡ record tree.old
         { slots = with_properties tree.old.slots id (numbered_properties numbering.now id (content_said node.now)) }) }
-    ensures refused { IfErr result (λ fault. (fault.kind ≡ NoMemory) × (fault.at ≡ None)) }
+    ensures refused { IfErr result IsNoMemory }
 {
     set_properties(tree, bytes, id, &node.properties, numbering)?;
     set_number(tree, id, node, numbering)
 }
 
-// The node that comes next.
+/// The node that comes next.
 fn add(
     tree: &mut FlatTree,
     bytes: &mut Vec<u8>,
@@ -120,14 +121,14 @@ fn add(
 ) -> Result<(), Fault>
     requires { MayCome numbering.now tree.old.slots (node_said node.now) }
     ensures tree { OnOk result (tree.new ≡ record tree.old { slots = with_node numbering.now tree.old.slots (node_said node.now) }) }
-    ensures refused { IfErr result (λ fault. (fault.kind ≡ NoMemory) × (fault.at ≡ None)) }
+    ensures refused { IfErr result IsNoMemory }
 {
     let name = NodeName::new(node.name.as_slice())?;
     let id = tree.add_node(node.parent, &name)?;
     fill_node(tree, bytes, id, node, numbering)
 }
 
-// The nodes behind the root, one after another.
+/// The nodes behind the root, one after another.
 fn add_all(
     tree: &mut FlatTree,
     bytes: &mut Vec<u8>,
@@ -136,7 +137,7 @@ fn add_all(
 ) -> Result<(), Fault>
     requires { MayGrow numbering.now tree.old.slots (map node_said nodes.now) }
     ensures tree { OnOk result (tree.new ≡ record tree.old { slots = grown numbering.now tree.old.slots (map node_said nodes.now) }) }
-    ensures refused { IfErr result (λ fault. (fault.kind ≡ NoMemory) × (fault.at ≡ None)) }
+    ensures refused { IfErr result IsNoMemory }
 {
     for node in nodes {
         add(tree, bytes, node, numbering)?;
@@ -144,7 +145,7 @@ fn add_all(
     Ok(())
 }
 
-// All nodes, in a tree that is a root alone.
+/// All nodes, in a tree that is a root alone.
 fn grow(
     tree: &mut FlatTree,
     bytes: &mut Vec<u8>,
@@ -153,7 +154,7 @@ fn grow(
 ) -> Result<(), Fault>
     requires { MayGrowAll numbering.now tree.old.slots (map node_said nodes.now) }
     ensures tree { OnOk result (tree.new ≡ record tree.old { slots = grown_all numbering.now tree.old.slots (map node_said nodes.now) }) }
-    ensures refused { IfErr result (λ fault. (fault.kind ≡ NoMemory) × (fault.at ≡ None)) }
+    ensures refused { IfErr result IsNoMemory }
 {
     let Some((root, others)) = nodes.split_first() else {
         return Ok(());
@@ -162,11 +163,11 @@ fn grow(
     add_all(tree, bytes, others, numbering)
 }
 
-// The reservations.
+/// The reservations.
 fn reserve(tree: &mut FlatTree, reservations: &[(u64, u64)]) -> Result<(), Fault>
     requires { AllByRecursion IsReservation reservations.now }
     ensures tree { OnOk result (tree.new ≡ record tree.old { reservations = tree.old.reservations ++ reservations.now }) }
-    ensures refused { IfErr result (λ fault. (fault.kind ≡ NoMemory) × (fault.at ≡ None)) }
+    ensures refused { IfErr result IsNoMemory }
 {
     for (address, size) in reservations {
         tree.reserve(*address, *size)?;
@@ -174,7 +175,7 @@ fn reserve(tree: &mut FlatTree, reservations: &[(u64, u64)]) -> Result<(), Fault
     Ok(())
 }
 
-// Fills a tree that is a root alone.
+/// Fills a tree that is a root alone.
 fn fill(
     tree: &mut FlatTree,
     bytes: &mut Vec<u8>,
@@ -185,7 +186,7 @@ fn fill(
     requires numbers { IsNumbering (asked_in (tree_of named.now)) numbering.now }
     ensures reads { OnOk result (reading tree.new ≡ instance_of numbering.now (tree_of named.now)) }
     ensures count { OnOk result (length tree.new.slots ≡ length named.now.nodes) }
-    ensures refused { IfErr result (λ fault. (fault.kind ≡ NoMemory) × (fault.at ≡ None)) }
+    ensures refused { IfErr result IsNoMemory }
 {
     named.validity();
     instance_is_valid();
@@ -207,7 +208,7 @@ pub fn instance(
     requires { IsNumbering (asked_in (tree_of tree.now)) numbering.now }
     ensures tree { IfOk result (λ made. reading made ≡ instance_of numbering.now (tree_of tree.now)) }
     ensures count { IfOk result (λ made. length made.slots ≡ length tree.now.nodes) }
-    ensures refused { IfErr result (λ fault. (fault.kind ≡ NoMemory) × (fault.at ≡ None)) }
+    ensures refused { IfErr result IsNoMemory }
 {
     let mut made = FlatTree::seeded(alloc, tree.seed(), 0);
     let mut bytes = Vec::new(alloc);

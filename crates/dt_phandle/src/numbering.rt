@@ -6,6 +6,7 @@ ghost use Rattle.dt_model.specs.Named.{tree_of};
 ghost use Rattle.dt_model.specs.NamedOf.{asked_in};
 ghost use Rattle.dt_model.specs.Numbering.{IsNumbering};
 ghost use Rattle.dt_names.specs.declared.fault.FaultKind.TheVariants.{NoMemory};
+ghost use Rattle.dt_names.specs.Fault.{IsNoMemory};
 
 use crate::asked::asked_among;
 use crate::free::numbers_for;
@@ -37,7 +38,7 @@ impl Model for Numbering {
 /// `NoMemory`, without a place.
 pub fn number(alloc: Global, tree: &NamedTree<'_>) -> Result<Numbering, Fault>
     ensures numbers { IfOk result (λ n. IsNumbering (asked_in (tree_of tree.now)) n) }
-    ensures refused { IfErr result (λ fault. (fault.kind ≡ NoMemory) × (fault.at ≡ None)) }
+    ensures refused { IfErr result IsNoMemory }
 {
     tree.validity();
     let asked = asked_among(alloc, tree.nodes())?;

@@ -2,13 +2,14 @@
 use Rattle.std.specs.Prelude.{◌≡◌, ◌+◌, ◌*◌, ◌≤◌, ℕ, List, length, codes}
 use Rattle.dt_model.specs.Path.{Path}
 use Rattle.dt_names.specs.declared.fault.FaultKind.TheVariants.{NoReg}
-use Rattle.dt_read.specs.Placed.{PlacedTree, path_at, reading_of, IsNode}
+use Rattle.dt_read.specs.Placed.{PlacedTree, path_at, IsNode}
 use Rattle.dt_resolve_model.specs.declared.regions.BusCells.{BusCells}
 use Rattle.dt_resolve_model.specs.declared.regions.Region.{Region}
 use Rattle.dt_resolve_model.specs.Answers.{Answer, ◌>>=◌}
-use Rattle.dt_resolve_model.specs.World.{Quad, World, tree_world, quads_of}
+use Rattle.dt_resolve_model.specs.World.{Quad, World, quads_of}
 use Rattle.dt_resolve_model.specs.Regions.{joined, cells_at, entries, entry_at, region_at, region}
 use Rattle.dt_ranges.specs.declared.listing.Regions.{Regions}
+use Rattle.dt_view.specs.Views.{world_of}
 
 -- the region of an entry, on a bus with these cells
 abbrev pub region_of : World → Path → BusCells → List Quad → Answer Region
@@ -20,8 +21,8 @@ pub record AreLeft (t : PlacedTree) (p : Path) (i : ℕ) (r : Regions) : Type 0 
   pub address : r.own.address ≤ 4
   pub size : r.own.size ≤ 4
   pub long : length r.rest.now ≡ r.count * (4 * (r.own.address + r.own.size))
-  pub left : (k : ℕ) → region (tree_world (reading_of t)) p (i + k)
-      ≡ (entry_at NoReg k (entries r.count (r.own.address + r.own.size) (quads_of r.rest.now)) >>= region_of (tree_world (reading_of t)) (path_at t r.bus) r.own)
+  pub left : (k : ℕ) → region (world_of t) p (i + k)
+      ≡ (entry_at NoReg k (entries r.count (r.own.address + r.own.size) (quads_of r.rest.now)) >>= region_of (world_of t) (path_at t r.bus) r.own)
 
 -- they are some node's
 abbrev pub IsLeft : PlacedTree → Regions → Type 0

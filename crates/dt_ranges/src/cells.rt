@@ -8,7 +8,7 @@ ghost use Rattle.dt_resolve_model.specs.Regions.{cells_at, joined};
 use dt_view::cell_at;
 
 /// Cells as one number, the highest first.
-pub fn number(bytes: &[u8], cells: usize) -> u128
+pub(crate) fn number(bytes: &[u8], cells: usize) -> u128
     requires few { cells ≤ 4 }
     requires whole { length bytes.now ≡ 4 * cells }
     ensures { joined (quads_of bytes.now) ≡ answer result }
@@ -21,7 +21,7 @@ pub fn number(bytes: &[u8], cells: usize) -> u128
 }
 
 /// Some cells after some others as one number.
-pub fn part_at(bytes: &[u8], from: u32, cells: u32) -> u128
+pub(crate) fn part_at(bytes: &[u8], from: u32, cells: u32) -> u128
     requires few { cells ≤ 4 }
     requires there { 4 * (from + cells) ≤ length bytes.now }
     ensures { joined (cells_at from cells (quads_of bytes.now)) ≡ answer result }

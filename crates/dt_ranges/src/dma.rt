@@ -1,10 +1,10 @@
 //! Regions that devices reach by DMA (Devicetree Specification v0.4, 2.3.9).
 
 ghost use Rattle.std.specs.Prelude.{◌≡◌};
-ghost use Rattle.dt_read.specs.Placed.{path_at, reading_of, IsNode};
+ghost use Rattle.dt_read.specs.Placed.{path_at, IsNode};
 ghost use Rattle.dt_resolve_model.specs.Answers.{told};
-ghost use Rattle.dt_resolve_model.specs.World.{tree_world};
 ghost use Rattle.dt_resolve_model.specs.Regions.{dma_region};
+ghost use Rattle.dt_view.specs.Views.{world_of};
 
 use crate::translating::{fits, region_at};
 use dt_names::{Fault, FaultKind, NodeId};
@@ -27,7 +27,7 @@ pub fn dma_region<V: TreeView>(
     size: u128,
 ) -> Result<Region, Fault>
     requires { IsNode (V.tree view.now) node }
-    ensures { told result ≡ dma_region (tree_world (reading_of (V.tree view.now))) (path_at (V.tree view.now) node) address size }
+    ensures { told result ≡ dma_region (world_of (V.tree view.now)) (path_at (V.tree view.now) node) address size }
 {
     let Some(bus) = view.parent(node) else {
         return Err(Fault::of(FaultKind::NoReg));

@@ -3,11 +3,11 @@
 ghost use Rattle.std.specs.Prelude.{◌≡◌, ℕ, ◌+◌, ◌<◌, ◌⊎◌, IfOk, IfErr, IfSome, MatchOption};
 ghost use Rattle.dt_model.specs.Path.{Path};
 ghost use Rattle.dt_names.specs.declared.fault.FaultKind.TheVariants.{BadCells, NoReg};
-ghost use Rattle.dt_read.specs.Placed.{path_at, reading_of, IsNode};
+ghost use Rattle.dt_read.specs.Placed.{path_at, IsNode};
 ghost use Rattle.dt_resolve_model.specs.Answers.{refuse, refused, told};
-ghost use Rattle.dt_resolve_model.specs.World.{tree_world};
 ghost use Rattle.dt_resolve_model.specs.Regions.{region};
 ghost use Rattle.dt_ranges.specs.Left.{AreLeft, IsLeft, entries_left};
+ghost use Rattle.dt_view.specs.Views.{world_of};
 
 use crate::cells::part_at;
 use crate::translating::region_at;
@@ -34,7 +34,7 @@ impl<'v> Regions<'v> {
     pub fn of<V: TreeView>(view: &'v V, node: NodeId) -> Result<Regions<'v>, Fault>
         requires { IsNode (V.tree view.now) node }
         ensures left { IfOk result (AreLeft (V.tree view.now) (path_at (V.tree view.now) node) 0) }
-        ensures refused { IfErr result (λ fault. (i : ℕ) → region (tree_world (reading_of (V.tree view.now))) (path_at (V.tree view.now) node) i ≡ refused fault) }
+        ensures refused { IfErr result (λ fault. (i : ℕ) → region (world_of (V.tree view.now)) (path_at (V.tree view.now) node) i ≡ refused fault) }
         ensures kind { IfErr result (λ fault. (fault.kind ≡ NoReg) ⊎ (fault.kind ≡ BadCells)) }
     {
         let Some(bus) = view.parent(node) else {
@@ -56,12 +56,12 @@ impl<'v> Regions<'v> {
         })
     }
 
-    // The region that has so many before it; None where it isn't there.
+    /// The region that has so many before it; None where it isn't there.
     fn nth<V: TreeView>(&self, view: &V, index: u64) -> Option<Result<Region, Fault>>
         requires { IsLeft (V.tree view.now) self.now }
         ensures is { (p : Path) (i : ℕ) → AreLeft (V.tree view.now) p i self.now
-            → MatchOption result (region (tree_world (reading_of (V.tree view.now))) p (i + index) ≡ refuse NoReg)
-            (λ r. region (tree_world (reading_of (V.tree view.now))) p (i + index) ≡ told r) }
+            → MatchOption result (region (world_of (V.tree view.now)) p (i + index) ≡ refuse NoReg)
+            (λ r. region (world_of (V.tree view.now)) p (i + index) ≡ told r) }
         ensures there { IfSome result (λ _. index < self.now.count) }
     {
         if index >= self.count as u64 {
@@ -78,8 +78,8 @@ impl<'v> Regions<'v> {
     pub fn next<V: TreeView>(&mut self, view: &V) -> Option<Result<Region, Fault>>
         requires { IsLeft (V.tree view.now) self.old }
         ensures is { (p : Path) (i : ℕ) → AreLeft (V.tree view.now) p i self.old
-            → MatchOption result ((region (tree_world (reading_of (V.tree view.now))) p i ≡ refuse NoReg) × AreLeft (V.tree view.now) p i self.new)
-            (λ r. (region (tree_world (reading_of (V.tree view.now))) p i ≡ told r) × AreLeft (V.tree view.now) p (i + 1) self.new) }
+            → MatchOption result ((region (world_of (V.tree view.now)) p i ≡ refuse NoReg) × AreLeft (V.tree view.now) p i self.new)
+            (λ r. (region (world_of (V.tree view.now)) p i ≡ told r) × AreLeft (V.tree view.now) p (i + 1) self.new) }
         ensures fewer { IfSome result (λ _. entries_left self.new < entries_left self.old) }
     {
         let Some(region) = self.nth(view, 0) else {
@@ -103,7 +103,7 @@ impl<'v> Regions<'v> {
 /// The first of these on the way; none has a place.
 pub fn region<V: TreeView>(view: &V, node: NodeId, index: u64) -> Result<Region, Fault>
     requires { IsNode (V.tree view.now) node }
-    ensures { told result ≡ region (tree_world (reading_of (V.tree view.now))) (path_at (V.tree view.now) node) index }
+    ensures { told result ≡ region (world_of (V.tree view.now)) (path_at (V.tree view.now) node) index }
 {
     match Regions::of(view, node)?.nth(view, index) {
         Some(region) => region,

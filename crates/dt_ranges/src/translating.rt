@@ -1,10 +1,11 @@
 //! Addresses through the buses above a node (Devicetree Specification v0.4, 2.3).
 
 ghost use Rattle.std.specs.Prelude.{◌≡◌, ℕ, ◌+◌, ◌*◌, ◌^◌, ◌≤◌, ◌&&◌, nat_le, nat_lt, true, length};
-ghost use Rattle.dt_read.specs.Placed.{path_at, reading_of, IsNode};
+ghost use Rattle.dt_read.specs.Placed.{path_at, IsNode};
 ghost use Rattle.dt_resolve_model.specs.Answers.{Answer, told};
-ghost use Rattle.dt_resolve_model.specs.World.{tree_world, value_of_bytes, quads_of};
+ghost use Rattle.dt_resolve_model.specs.World.{value_of_bytes, quads_of};
 ghost use Rattle.dt_resolve_model.specs.Regions.{entries, fitting, fitted, mapped_by, mapped, risen, finished, translated, region_at};
+ghost use Rattle.dt_view.specs.Views.{world_of};
 
 use crate::cells::part_at;
 use dt_names::{Fault, FaultKind, NodeId};
@@ -12,7 +13,7 @@ use dt_resolve_model::{BusAddress, RangeCells, Region};
 use dt_view::{TreeView, cells, cells_after, is_pci};
 
 /// Whether an address is one of that many cells.
-pub fn fits(address: u128, cells: u32) -> bool
+pub(crate) fn fits(address: u128, cells: u32) -> bool
     requires { cells ≤ 4 }
     ensures { result ≡ nat_lt address (2 ^ (32 * cells)) }
 {
@@ -112,7 +113,7 @@ fn risen<V: TreeView>(
 ) -> Result<BusAddress, Fault>
     requires upper { IsNode (V.tree view.now) above }
     requires lower { IsNode (V.tree view.now) bus }
-    ensures { told result ≡ risen (tree_world (reading_of (V.tree view.now))) name.now (path_at (V.tree view.now) above) (path_at (V.tree view.now) bus) size at }
+    ensures { told result ≡ risen (world_of (V.tree view.now)) name.now (path_at (V.tree view.now) above) (path_at (V.tree view.now) bus) size at }
 {
     if is_pci(view, bus) {
         return Err(Fault::of(FaultKind::PciBus));
@@ -131,7 +132,7 @@ fn risen<V: TreeView>(
 }
 
 /// The region of an address and a size on a bus.
-pub fn region_at<V: TreeView>(
+pub(crate) fn region_at<V: TreeView>(
     view: &V,
     name: &[u8],
     bus: NodeId,
@@ -139,7 +140,7 @@ pub fn region_at<V: TreeView>(
     size: u128,
 ) -> Result<Region, Fault>
     requires { IsNode (V.tree view.now) bus }
-    ensures { told result ≡ region_at (tree_world (reading_of (V.tree view.now))) name.now (path_at (V.tree view.now) bus) address size }
+    ensures { told result ≡ region_at (world_of (V.tree view.now)) name.now (path_at (V.tree view.now) bus) address size }
 {
     let mut at = BusAddress {
         address,

@@ -60,6 +60,10 @@ path_at t k = path_among t (nodes_of (reading_of t)) k
 abbrev pub IsNode : PlacedTree → ℕ → Type 0
 IsNode t k = IsAt t (path_at t k) k
 
+-- each place is that of one path
+abbrev pub HasPlacesApart : PlacedTree → Type 0
+HasPlacesApart t = (p q : Path) (node : ℕ) → IsAt t p node → IsAt t q node → p ≡ q
+
 -- ---- what a node has, by its path
 
 -- the last name of a path, and none for the root's

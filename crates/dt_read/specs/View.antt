@@ -2,7 +2,7 @@
 use Rattle.std.specs.Prelude.{ℕ}
 use Rattle.dt_read.specs.declared.token.Token.{Token}
 use Rattle.dt_read.specs.declared.token.Token.TheVariants as code
-use Rattle.dt_read.specs.declared.scan.Place.{Place}
+use Rattle.dt_read.specs.declared.scan.ScanState.{ScanState}
 use Rattle.dt_model.specs.Format as model
 use Rattle.dt_read.specs.Marks.{Mark, mark_at}
 use Rattle.dt_model.specs.Checks as checks
@@ -16,7 +16,7 @@ view code.Nop = model.nop
 view code.End = model.end_tree
 
 -- where a token stands
-abbrev pub position_of : Place → checks.Position
+abbrev pub position_of : ScanState → checks.Position
 position_of p = record { depth = p.depth; late = p.late; nodes = p.nodes }
 
 -- a token at a place

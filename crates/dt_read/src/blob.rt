@@ -8,17 +8,18 @@ ghost use Rattle.dt_model.specs.Valid.{IsValid, IsWithinLimits};
 ghost use Rattle.dt_names.specs.declared.fault.FaultKind.TheVariants.{Limit, NoMemory};
 ghost use Rattle.dt_flat.specs.Arena.{reading};
 ghost use Rattle.dt_read.specs.Kinds.{kind_of};
-ghost use Rattle.dt_read.specs.Placed.{reading_of, IsAt};
+ghost use Rattle.dt_read.specs.Placed.{reading_of, IsAt, HasPlacesApart};
 ghost use Rattle.dt_read.specs.Walked.{steps_of, WalkIn};
+ghost use Rattle.dt_names.specs.Fault.{IsNoMemory};
 
 use crate::NodeId;
 use crate::blocks::blocks_of;
 use crate::counts::{Counts, count_pairs, count_tokens};
 use crate::distinct::has_distinct_names;
 use crate::flatten::flat_of;
-use crate::pairs::Reservations;
 use crate::phandle::are_phandles;
-use crate::scan::BadToken;
+use crate::reservations::Reservations;
+use crate::scan::BadTagAt;
 use crate::steps::Steps;
 use crate::structure::Structure;
 use crate::walk::{Children, Props};
@@ -51,8 +52,8 @@ impl<'a> Model for Blob<'a> {
     ghost invariant = { λ b. IsWellPlaced (record { boot_cpu = b.boot_cpu; reservations = pairs_of b.reservations.now; place = b.structure.place; properties = b.structure.properties; children = b.structure.children }) };
 }
 
-// The fault of the token at so many bytes behind the front of the structure block. A limit has no place.
-fn placed(bad: BadToken, at: usize) -> Fault
+/// The fault of the token at so many bytes behind the front of the structure block. A limit has no place.
+fn placed(bad: BadTagAt, at: usize) -> Fault
     requires { at + bad.offset < 2 ^ 64 }
     ensures kind { result.kind ≡ bad.kind }
     ensures limit { bad.kind ≡ Limit → result.at ≡ None }
@@ -80,7 +81,7 @@ impl<'a> Blob<'a> {
     pub fn check(bytes: &'a [u8]) -> Result<Blob<'a>, Fault>
         ensures reads { IfOk result (λ b. Reads bytes.now (reading_of b)) }
         ensures within { IfOk result (λ b. IsWithin bytes.now (reading_of b)) }
-        ensures places { IfOk result (λ b. (p q : Path) (node : ℕ) → IsAt b p node → IsAt b q node → p ≡ q) }
+        ensures places { IfOk result (λ b. HasPlacesApart b) }
         ensures fault { IfErr result (λ e. (f : BlobFault) × (e.kind ≡ kind_of f) × IsFirstFault bytes.now f e.at) }
     {
         let blocks = blocks_of(bytes)?;
@@ -108,7 +109,7 @@ impl<'a> Blob<'a> {
     pub fn validity(&self)
         ensures valid { IsValid (reading_of self.now) }
         ensures within { IsWithinLimits (reading_of self.now) }
-        ensures places { (p q : Path) (node : ℕ) → IsAt self.now p node → IsAt self.now q node → p ≡ q }
+        ensures places { HasPlacesApart self.now }
     {
         // The invariant says it, and it is known where a field is named.
         let _ = &self.structure;
@@ -230,7 +231,7 @@ impl<'a> Blob<'a> {
     /// `NoMemory`, without a place.
     pub fn to_flat(&self, alloc: Global) -> Result<FlatTree, Fault>
         ensures reads { IfOk result (λ tree. reading tree ≡ reading_of self.now) }
-        ensures refused { IfErr result (λ fault. (fault.kind ≡ NoMemory) × (fault.at ≡ None)) }
+        ensures refused { IfErr result IsNoMemory }
     {
         self.to_seeded_flat(alloc, self.seed)
     }
@@ -242,7 +243,7 @@ impl<'a> Blob<'a> {
     /// `NoMemory`, without a place.
     pub fn to_seeded_flat(&self, alloc: Global, seed: Seed) -> Result<FlatTree, Fault>
         ensures reads { IfOk result (λ tree. reading tree ≡ reading_of self.now) }
-        ensures refused { IfErr result (λ fault. (fault.kind ≡ NoMemory) × (fault.at ≡ None)) }
+        ensures refused { IfErr result IsNoMemory }
     {
         flat_of(
             alloc,

@@ -6,14 +6,14 @@ ghost use Rattle.dt_read.specs.Kinds.{kind_of};
 ghost use Rattle.dt_read.specs.Blocks.{AreBlocks};
 
 use crate::header::{fault_in, number};
-use crate::pairs::have_end;
 use crate::parts;
+use crate::reservations::have_end;
 use dt_names::{Fault, FaultKind};
 
 /// The blocks of a blob: the bytes from the reservations on, the strings, and the structure block with its place in the
 /// blob; and the number of the processor that boots.
 #[derive(Clone, Copy)]
-pub struct Blocks<'a> {
+pub(crate) struct Blocks<'a> {
     pub reservations: &'a [u8],
     pub strings: &'a [u8],
     pub at: usize,
@@ -22,7 +22,7 @@ pub struct Blocks<'a> {
 }
 
 /// The blocks that a header tells of, where the header is right and the reservations end.
-pub fn blocks_of(bytes: &[u8]) -> Result<Blocks<'_>, Fault>
+pub(crate) fn blocks_of(bytes: &[u8]) -> Result<Blocks<'_>, Fault>
     ensures blocks { IfOk result (AreBlocks bytes.now) }
     ensures fault { IfErr result (λ e. (f : BlobFault) × (e.kind ≡ kind_of f) × IsFirstFault bytes.now f e.at) }
 {

@@ -5,7 +5,7 @@ ghost use Rattle.dt_read.specs.Counting.{nodes_in, properties_in};
 ghost use Rattle.dt_read.specs.Pairs.{pairs_of};
 
 use crate::cursor::Cursor;
-use crate::pairs::first_pair;
+use crate::reservations::first_pair;
 use crate::token::Token;
 
 /// How many nodes there are, the root among them, how many properties they have, and how many memory reservations there
@@ -18,7 +18,7 @@ pub struct Counts {
 }
 
 /// How many nodes begin from a place on, and how many properties stand there.
-pub fn count_tokens(mut cursor: Cursor) -> (usize, usize)
+pub(crate) fn count_tokens(mut cursor: Cursor) -> (usize, usize)
     ensures nodes { result.0 ≡ nodes_in cursor.entry }
     ensures properties { result.1 ≡ properties_in cursor.entry }
 {
@@ -35,7 +35,7 @@ pub fn count_tokens(mut cursor: Cursor) -> (usize, usize)
 }
 
 /// How many pairs stand before a pair of zeros.
-pub fn count_pairs(bytes: &[u8]) -> usize
+pub(crate) fn count_pairs(bytes: &[u8]) -> usize
     ensures { result ≡ length (pairs_of bytes.now) }
 {
     let mut count = 0usize;

@@ -8,7 +8,7 @@ ghost use Rattle.dt_read.specs.TreeTokens.{AreTokens, marks_in, past, past_prope
 use crate::token::{Token, token_at};
 use std::marker::Model;
 
-// A token, its place, and what stands behind it.
+/// A token, its place, and what stands behind it.
 #[derive(Drop)]
 struct Found<'a> {
     at: usize,
@@ -17,7 +17,7 @@ struct Found<'a> {
     rest: &'a [u8],
 }
 
-// The first token that isn't a NOP.
+/// The first token that isn't a NOP.
 fn next_token<'a>(strings: &'a [u8], at: usize, bytes: &'a [u8]) -> Option<Found<'a>>
     requires { AreTokens strings.now at bytes.now }
     ensures next { MatchOption result (marks_in strings.now at bytes.now ≡ []) (λ found.
@@ -49,7 +49,7 @@ fn next_token<'a>(strings: &'a [u8], at: usize, bytes: &'a [u8]) -> Option<Found
 
 /// A place in a structure block. It is seen as the tokens from there on, without NOPs.
 #[derive(Drop)]
-pub struct Cursor<'a> {
+pub(crate) struct Cursor<'a> {
     strings: &'a [u8],
     at: usize,
     rest: &'a [u8],
@@ -104,7 +104,7 @@ impl<'a> Cursor<'a> {
 }
 
 /// Goes behind the node whose BEGIN_NODE was read last.
-pub fn skip_node(cursor: &mut Cursor)
+pub(crate) fn skip_node(cursor: &mut Cursor)
     ensures { cursor.new ≡ past cursor.old 1 }
 {
     let mut open_nodes = 1usize;
@@ -121,7 +121,7 @@ pub fn skip_node(cursor: &mut Cursor)
 }
 
 /// Goes behind the properties at the front.
-pub fn skip_properties(cursor: &mut Cursor)
+pub(crate) fn skip_properties(cursor: &mut Cursor)
     ensures { cursor.new ≡ past_properties cursor.old }
 {
     let mut ahead = cursor.copy();

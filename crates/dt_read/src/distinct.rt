@@ -22,15 +22,15 @@ use crate::token::Token;
 use dt_names::NodeId;
 use std::hash::{DefaultHasher, Hash, Hasher};
 
-// The table's words: 2^20 bits, 128 KiB.
+/// The table's words: 2^20 bits, 128 KiB.
 const WORDS: usize = 16_384;
 
-// As many keys as the table tells apart with few errors.
+/// As many keys as the table tells apart with few errors.
 const KEYS_OF_A_CLASS: usize = 32_768;
 
 /// A table of bits, and how many keys it may hold by now.
 #[derive(Drop)]
-pub struct Table {
+pub(crate) struct Table {
     words: [u64; WORDS],
     count: usize,
 }
@@ -65,14 +65,14 @@ fn hashed(key: &Key, seed: u64) -> u64
     hasher.finish()
 }
 
-// Whether two keys are one, wherever they lie in memory.
+/// Whether two keys are one, wherever they lie in memory.
 fn same(a: &Key, b: &Key) -> bool
     ensures { IsTrue result ↔ said a.now ≡ said b.now }
 {
     a == b
 }
 
-// Whether a key is among so many first keys.
+/// Whether a key is among so many first keys.
 fn is_among(mut keys: Keys, count: usize, key: &Key) -> bool
     ensures { IsTrue result ↔ IsIn (said key.now) (take count keys.entry) }
 {
@@ -86,7 +86,7 @@ fn is_among(mut keys: Keys, count: usize, key: &Key) -> bool
     false
 }
 
-// Whether no key of a class, by the remainder of its hash, is equal to an earlier one.
+/// Whether no key of a class, by the remainder of its hash, is equal to an earlier one.
 fn is_distinct_class(
     first: &Keys<'_>,
     seed: u64,
@@ -118,7 +118,7 @@ fn is_distinct_class(
 }
 
 /// Whether keys differ. The seed, how many keys there seem to be, and what the table holds, decide only how long it takes.
-pub fn are_distinct(first: &Keys<'_>, seed: u64, count: usize, table: &mut Table) -> bool
+pub(crate) fn are_distinct(first: &Keys<'_>, seed: u64, count: usize, table: &mut Table) -> bool
     ensures { IsTrue result ↔ AreDistinct first.now }
 {
     let classes = (count / KEYS_OF_A_CLASS + 1) as u64;
@@ -131,7 +131,7 @@ pub fn are_distinct(first: &Keys<'_>, seed: u64, count: usize, table: &mut Table
     true
 }
 
-// Whether the names of the properties differ of the node of a place, behind whose BEGIN_NODE the cursor stands.
+/// Whether the names of the properties differ of the node of a place, behind whose BEGIN_NODE the cursor stands.
 fn has_distinct_properties(cursor: &Cursor<'_>, place: NodeId, seed: u64, table: &mut Table) -> bool
     ensures { IsTrue result ↔ AreDistinct (property_names (left_by cursor.now).properties) }
 {
@@ -140,7 +140,7 @@ fn has_distinct_properties(cursor: &Cursor<'_>, place: NodeId, seed: u64, table:
     are_distinct(&own, seed, count, table)
 }
 
-// Whether they do so in each node.
+/// Whether they do so in each node.
 fn have_distinct_properties(structure: &Structure, seed: u64, table: &mut Table) -> bool
     ensures { IsTrue result ↔ AreDistinctInEach (marks_of structure.now ++ last_mark ∷ []) }
 {
@@ -155,7 +155,7 @@ fn have_distinct_properties(structure: &Structure, seed: u64, table: &mut Table)
 }
 
 /// Whether the names differ in each node.
-pub fn has_distinct_names(structure: &Structure, seed: u64) -> bool
+pub(crate) fn has_distinct_names(structure: &Structure, seed: u64) -> bool
     requires { HasRisingPlaces structure.now }
     ensures { IsTrue result ↔ HasDistinctNames structure.now }
 {

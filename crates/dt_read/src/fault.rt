@@ -9,13 +9,13 @@ ghost use Rattle.dt_read.specs.Kinds.{kind_of};
 ghost use Rattle.dt_read.specs.View.{position_of};
 
 use crate::name::may_name_a_property;
-use crate::scan::Place;
+use crate::scan::ScanState;
 use crate::token::padded_len;
 use dt_bytes::{be32, text_at};
 use dt_names::FaultKind;
 
-// What is wrong with the beginning of a node.
-fn fault_of_begin(place: Place, rest: &[u8]) -> Option<FaultKind>
+/// What is wrong with the beginning of a node.
+fn fault_of_begin(place: ScanState, rest: &[u8]) -> Option<FaultKind>
     requires { length rest.now < 2 ^ 32 }
     ensures { result ≡ option_map kind_of (begin_fault (position_of place) rest.now (text_in (drop 4 rest.now))) }
 {
@@ -37,7 +37,7 @@ fn fault_of_begin(place: Place, rest: &[u8]) -> Option<FaultKind>
     None
 }
 
-// What is wrong with the name at an offset of the strings block.
+/// What is wrong with the name at an offset of the strings block.
 fn fault_of_name(strings: &[u8], offset: usize) -> Option<FaultKind>
     ensures { result ≡ option_map kind_of (name_fault (text_in (drop offset strings.now))) }
 {
@@ -51,8 +51,8 @@ fn fault_of_name(strings: &[u8], offset: usize) -> Option<FaultKind>
     }
 }
 
-// What is wrong with a property.
-fn fault_of_property(strings: &[u8], place: Place, rest: &[u8]) -> Option<FaultKind>
+/// What is wrong with a property.
+fn fault_of_property(strings: &[u8], place: ScanState, rest: &[u8]) -> Option<FaultKind>
     ensures { result ≡ option_map kind_of
         (property_fault strings.now (position_of place) rest.now (word_at rest.now 4) (word_at rest.now 8)) }
 {
@@ -74,8 +74,8 @@ fn fault_of_property(strings: &[u8], place: Place, rest: &[u8]) -> Option<FaultK
     fault_of_name(strings, offset as usize)
 }
 
-// What is wrong with END.
-fn fault_of_end(place: Place, rest: &[u8]) -> Option<FaultKind>
+/// What is wrong with END.
+fn fault_of_end(place: ScanState, rest: &[u8]) -> Option<FaultKind>
     ensures { result ≡ option_map kind_of (end_fault (position_of place) rest.now) }
 {
     if !place.is_behind() {
@@ -88,7 +88,7 @@ fn fault_of_end(place: Place, rest: &[u8]) -> Option<FaultKind>
 }
 
 /// What is wrong with the token at the front of some bytes, which stands at that place.
-pub fn fault_at(strings: &[u8], place: Place, rest: &[u8]) -> Option<FaultKind>
+pub(crate) fn fault_at(strings: &[u8], place: ScanState, rest: &[u8]) -> Option<FaultKind>
     requires { length rest.now < 2 ^ 32 }
     ensures { result ≡ option_map kind_of (token_fault strings.now (position_of place) rest.now) }
 {

@@ -4,7 +4,7 @@
 ghost use Rattle.std.specs.Prelude.{◌≡◌, ◌<◌, ◌^◌, ℕ, true, length};
 ghost use Rattle.dt_read.specs.Filter.{is_set, holds};
 
-// Whether the bit of that number is set, where the numbers go round behind the last bit.
+/// Whether the bit of that number is set, where the numbers go round behind the last bit.
 fn has_bit(words: &[u64], number: u64) -> bool
     requires some { 0 < length words.now }
     requires few { length words.now < 2 ^ 32 }
@@ -26,7 +26,7 @@ fn set_bit(words: &mut [u64], number: u64)
 }
 
 /// Whether the table seems to hold a hash.
-pub fn seems_to_hold(words: &[u64], hash: u64) -> bool
+pub(crate) fn seems_to_hold(words: &[u64], hash: u64) -> bool
     requires some { 0 < length words.now }
     requires few { length words.now < 2 ^ 32 }
     ensures { result ≡ holds words.now hash }
@@ -39,7 +39,7 @@ pub fn seems_to_hold(words: &[u64], hash: u64) -> bool
 }
 
 /// Puts a hash into the table.
-pub fn put(words: &mut [u64], hash: u64)
+pub(crate) fn put(words: &mut [u64], hash: u64)
     requires some { 0 < length words.old }
     requires few { length words.old < 2 ^ 32 }
     ensures size { length words.new ≡ length words.old }

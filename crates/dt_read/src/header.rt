@@ -19,7 +19,7 @@ const VERSION: usize = 17;
 const HEADER_BYTES: usize = 40;
 
 /// The number at a place of the header, 0 where the bytes end before.
-pub fn number(bytes: &[u8], at: usize) -> usize
+pub(crate) fn number(bytes: &[u8], at: usize) -> usize
     ensures value { result ≡ number bytes.now at }
     ensures word { result < 2 ^ 32 }
 {
@@ -29,7 +29,7 @@ pub fn number(bytes: &[u8], at: usize) -> usize
     }
 }
 
-// Whether the total size holds a header, and the bytes reach to it.
+/// Whether the total size holds a header, and the bytes reach to it.
 fn has_total(bytes: &[u8]) -> bool
     ensures { result ≡ (nat_le 40 (number bytes.now 4) && nat_le (number bytes.now 4) (length bytes.now)) }
 {
@@ -37,21 +37,21 @@ fn has_total(bytes: &[u8]) -> bool
     HEADER_BYTES <= total && total <= bytes.len()
 }
 
-// Whether a reader of version 17 can read it.
+/// Whether a reader of version 17 can read it.
 fn has_version(bytes: &[u8]) -> bool
     ensures { result ≡ (nat_le 17 (number bytes.now 20) && nat_le (number bytes.now 24) 17) }
 {
     VERSION <= number(bytes, 20) && number(bytes, 24) <= VERSION
 }
 
-// Whether the reservations stand at a multiple of eight, and the structure block at one of four.
+/// Whether the reservations stand at a multiple of eight, and the structure block at one of four.
 fn is_aligned(bytes: &[u8]) -> bool
     ensures { result ≡ ((number bytes.now 16 % 8 == 0) && (number bytes.now 8 % 4 == 0)) }
 {
     number(bytes, 16) % 8 == 0 && number(bytes, 8) % 4 == 0
 }
 
-// Whether the blocks stand inside the total size.
+/// Whether the blocks stand inside the total size.
 fn holds_blocks(bytes: &[u8]) -> bool
     ensures { result ≡ (nat_le (number bytes.now 16) (number bytes.now 4)
         && nat_le (number bytes.now 8 + number bytes.now 36) (number bytes.now 4)
@@ -64,7 +64,7 @@ fn holds_blocks(bytes: &[u8]) -> bool
 }
 
 /// The first condition of a header that fails.
-pub fn fault_in(bytes: &[u8]) -> Option<FaultKind>
+pub(crate) fn fault_in(bytes: &[u8]) -> Option<FaultKind>
     ensures { result ≡ option_map kind_of (header_fault bytes.now) }
 {
     if bytes.len() < HEADER_BYTES {

@@ -15,7 +15,7 @@ use std::marker::Model;
 
 /// What a key is of.
 #[derive(Clone, Copy, PartialEq, Eq, Hash)]
-pub enum Sort {
+pub(crate) enum Sort {
     /// The name of a child.
     Child,
     /// The name of a property.
@@ -26,7 +26,7 @@ pub enum Sort {
 
 /// Bytes that have to differ from all others of their sort and of their owner.
 #[derive(Clone, Copy, PartialEq, Eq)]
-pub struct Key<'a> {
+pub(crate) struct Key<'a> {
     pub sort: Sort,
     /// The node in which a name stands. Phandles have one owner, 0.
     pub owner: NodeId,
@@ -35,7 +35,7 @@ pub struct Key<'a> {
 
 /// Which keys are read.
 #[derive(Clone, Copy)]
-pub enum Wanted {
+pub(crate) enum Wanted {
     /// Those of all children and of all properties.
     Names,
     /// Those of all children.
@@ -46,7 +46,7 @@ pub enum Wanted {
     Phandles,
 }
 
-// The key that a token gives, where these nodes are open.
+/// The key that a token gives, where these nodes are open.
 fn key_at<'a>(wanted: Wanted, open_nodes: &OpenNodes, token: Token<'a>) -> Option<Key<'a>>
     ensures { (place : ℕ) → option_map said result ≡ key_of wanted open_nodes.now (view_at place token.entry) }
 {
@@ -66,7 +66,7 @@ fn key_at<'a>(wanted: Wanted, open_nodes: &OpenNodes, token: Token<'a>) -> Optio
     Some(Key { sort, owner, bytes })
 }
 
-// Whether a node's own keys end at a token.
+/// Whether a node's own keys end at a token.
 fn ends(wanted: Wanted, token: Token<'_>) -> bool
     ensures { (place : ℕ) → result ≡ ends_at wanted (view_at place token.entry) }
 {
@@ -77,7 +77,7 @@ fn ends(wanted: Wanted, token: Token<'_>) -> bool
     }
 }
 
-// Reads a token, where the keys don't end there.
+/// Reads a token, where the keys don't end there.
 fn next_token<'a>(wanted: Wanted, cursor: &mut Cursor<'a>) -> Option<(usize, Token<'a>)>
     ensures next { MatchOption result (IsAtEnd wanted cursor.old × (cursor.new ≡ cursor.old))
         (λ found. (cursor.old ≡ view_at found.0 found.1 ∷ cursor.new) × (ends_at wanted (view_at found.0 found.1) ≡ false)) }
@@ -93,7 +93,7 @@ fn next_token<'a>(wanted: Wanted, cursor: &mut Cursor<'a>) -> Option<(usize, Tok
 
 /// The keys from a place on, in the order of the tokens. It is seen as the keys that are left.
 #[derive(Drop)]
-pub struct Keys<'a> {
+pub(crate) struct Keys<'a> {
     wanted: Wanted,
     cursor: Cursor<'a>,
     open_nodes: OpenNodes,

@@ -4,7 +4,7 @@ ghost use Rattle.std.specs.Prelude.{◌≡◌, ◌+◌, ◌≤◌, length, drop}
 ghost use Rattle.dt_model.specs.Format.{part};
 
 /// So many bytes at an offset.
-pub fn part(bytes: &[u8], at: usize, len: usize) -> &[u8]
+pub(crate) fn part(bytes: &[u8], at: usize, len: usize) -> &[u8]
     requires { at + len ≤ length bytes.now }
     ensures { result.now ≡ part at len bytes.now }
 {
@@ -14,7 +14,7 @@ pub fn part(bytes: &[u8], at: usize, len: usize) -> &[u8]
 }
 
 /// The bytes from an offset on.
-pub fn from(bytes: &[u8], at: usize) -> &[u8]
+pub(crate) fn from(bytes: &[u8], at: usize) -> &[u8]
     requires { at ≤ length bytes.now }
     ensures { result.now ≡ drop at bytes.now }
 {

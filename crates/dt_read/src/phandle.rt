@@ -10,7 +10,7 @@ use crate::structure::Structure;
 use dt_names::phandle_of;
 
 /// Whether the phandles of a tree are right.
-pub fn are_phandles(structure: &Structure, seed: u64) -> bool
+pub(crate) fn are_phandles(structure: &Structure, seed: u64) -> bool
     ensures { IsTrue result ↔ ArePhandles (phandles_in (marks_of structure.now ++ last_mark ∷ [])) }
 {
     let mut count = 0usize;

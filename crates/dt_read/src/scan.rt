@@ -18,7 +18,7 @@ use dt_names::limits::{MOST_NAMES, MOST_NODES};
 
 /// Where a scan stands between two tokens.
 #[derive(Clone, Copy)]
-pub struct Place {
+pub(crate) struct ScanState {
     /// How many nodes are open.
     pub depth: usize,
     /// The innermost open node has a child already; or with none open, the root has ended.
@@ -27,7 +27,7 @@ pub struct Place {
     pub nodes: usize,
 }
 
-impl Place {
+impl ScanState {
     /// Whether the root has ended.
     pub fn is_behind(self) -> bool
         ensures { result ≡ is_behind (position_of self) }
@@ -53,8 +53,8 @@ impl Place {
         self.depth <= MOST_NAMES && self.nodes < MOST_NODES
     }
 
-    // Where the next token stands, if this one may stand here.
-    fn after(self, token: &Token) -> Option<Place>
+    /// Where the next token stands, if this one may stand here.
+    fn after(self, token: &Token) -> Option<ScanState>
         ensures { option_map position_of result ≡ lead (view token.now) (position_of self) }
     {
         match *token {
@@ -62,7 +62,7 @@ impl Place {
                 if self.is_behind() || !self.may_be_called(name) || !self.has_room() {
                     return None;
                 }
-                Some(Place {
+                Some(ScanState {
                     depth: self.depth + 1,
                     late: false,
                     nodes: self.nodes + 1,
@@ -72,7 +72,7 @@ impl Place {
                 if self.depth == 0 {
                     return None;
                 }
-                Some(Place {
+                Some(ScanState {
                     depth: self.depth - 1,
                     late: true,
                     nodes: self.nodes,
@@ -90,9 +90,9 @@ impl Place {
     }
 }
 
-// Reads the token at the front of some bytes: where the next one stands, and how many bytes it takes. None where no token
-// that may stand there does.
-fn step(strings: &[u8], place: Place, rest: &[u8]) -> Option<(Place, usize)>
+/// Reads the token at the front of some bytes: where the next one stands, and how many bytes it takes. None where no token
+/// that may stand there does.
+fn step(strings: &[u8], place: ScanState, rest: &[u8]) -> Option<(ScanState, usize)>
     requires { length rest.now < 2 ^ 32 }
     ensures { MatchOption result (IsStuck strings.now (position_of place) rest.now)
         (λ r. MovesTo strings.now (position_of place) rest.now (position_of r.0) r.1) }
@@ -109,18 +109,18 @@ fn step(strings: &[u8], place: Place, rest: &[u8]) -> Option<(Place, usize)>
 
 /// The first token that is wrong: so many bytes behind the front of the structure block, and what is wrong with it.
 #[derive(Clone, Copy)]
-pub struct BadToken {
+pub(crate) struct BadTagAt {
     pub offset: usize,
     pub kind: FaultKind,
 }
 
 /// The first token of a structure block that is wrong; None where the block spells a tree.
-pub fn first_bad_token(strings: &[u8], block: &[u8]) -> Option<BadToken>
+pub(crate) fn first_bad_tag(strings: &[u8], block: &[u8]) -> Option<BadTagAt>
     requires { length block.now < 2 ^ 32 }
     ensures tree { IsNone result → (at : ℕ) → (tree : Root) × HasTree strings.now at block.now tree }
     ensures first { IfSome result (λ bad. (f : BlobFault) × (bad.kind ≡ kind_of f) × StopsAt strings.now block.now bad.offset f) }
 {
-    let mut place = Place {
+    let mut place = ScanState {
         depth: 0,
         late: false,
         nodes: 0,
@@ -133,7 +133,7 @@ pub fn first_bad_token(strings: &[u8], block: &[u8]) -> Option<BadToken>
         rest = &rest[len..];
     }
     match fault_at(strings, place, rest) {
-        Some(kind) => Some(BadToken { offset, kind }),
+        Some(kind) => Some(BadTagAt { offset, kind }),
         None => None,
     }
 }

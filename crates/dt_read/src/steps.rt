@@ -21,7 +21,7 @@ pub enum Step<'a> {
     Close,
 }
 
-// Reads the step at the front.
+/// Reads the step at the front.
 fn next_step<'a>(cursor: &mut Cursor<'a>) -> Option<Step<'a>>
     ensures { MatchOption result ((steps_left cursor.old ≡ []) × (steps_left cursor.new ≡ []))
         (λ step. steps_left cursor.old ≡ step_view step ∷ steps_left cursor.new) }

@@ -4,7 +4,7 @@ ghost use Rattle.std.specs.Prelude.{◌≡◌, ◌+◌, ◌<◌, ◌^◌, ◌∷
 
 use crate::NodeId;
 use crate::cursor::{Cursor, skip_node, skip_properties};
-use crate::scan::{BadToken, first_bad_token};
+use crate::scan::{BadTagAt, first_bad_tag};
 use crate::steps::Steps;
 use crate::token::Token;
 use crate::walk::{Props, Siblings, sibling_in, value_in};
@@ -13,7 +13,7 @@ use std::marker::Model;
 
 /// A structure block that spells a tree. It is seen as that tree.
 #[derive(Drop)]
-pub struct Structure<'a> {
+pub(crate) struct Structure<'a> {
     strings: &'a [u8],
     at: usize,
     block: &'a [u8],
@@ -46,14 +46,14 @@ impl<'a> Structure<'a> {
     ghost use Rattle.dt_read.specs.TreeTokens.{HasTree, node_of, heads_of, head_named, first_place, BeginsNode};
 
     /// The tree that a structure block spells, or its first wrong token. The block stands at that place of the blob.
-    pub fn check(strings: &'a [u8], at: usize, block: &'a [u8]) -> Result<Structure<'a>, BadToken>
+    pub fn check(strings: &'a [u8], at: usize, block: &'a [u8]) -> Result<Structure<'a>, BadTagAt>
         requires { at + length block.now < 2 ^ 32 }
         ensures tree { IfOk result (λ tree. HasTree strings.now at block.now tree) }
         ensures places { IfOk result HasRisingPlaces }
         ensures first { IfErr result (λ bad. (f : BlobFault) × (bad.kind ≡ kind_of f)
             × StopsAt strings.now block.now bad.offset f) }
     {
-        match first_bad_token(strings, block) {
+        match first_bad_tag(strings, block) {
             None => Ok(Structure { strings, at, block }),
             Some(bad) => Err(bad),
         }

@@ -20,7 +20,7 @@ const END: u32 = 9;
 
 /// A token, with slices of the blob.
 #[derive(Clone, Copy)]
-pub enum Token<'a> {
+pub(crate) enum Token<'a> {
     BeginNode(&'a [u8]),
     EndNode,
     Property(&'a [u8], &'a [u8]),
@@ -29,7 +29,7 @@ pub enum Token<'a> {
 }
 
 /// The least multiple of four that isn't below a length.
-pub fn padded_len(len: usize) -> usize
+pub(crate) fn padded_len(len: usize) -> usize
     requires { len < 2 ^ 33 }
     ensures { result ≡ padded len }
 {
@@ -79,7 +79,7 @@ fn token_of<'a>(strings: &'a [u8], bytes: &'a [u8]) -> Option<(Token<'a>, usize)
 }
 
 /// The token at the front of the bytes, and how many bytes it takes.
-pub fn token_at<'a>(strings: &'a [u8], bytes: &'a [u8]) -> Option<(Token<'a>, usize)>
+pub(crate) fn token_at<'a>(strings: &'a [u8], bytes: &'a [u8]) -> Option<(Token<'a>, usize)>
     requires { length bytes.now < 2 ^ 32 }
     ensures takes { IfSome result (λ r. Takes strings.now bytes.now (view r.0) r.1) }
     ensures token { option_map (λ r. (view r.0, r.1)) result ≡ token_in strings.now bytes.now }

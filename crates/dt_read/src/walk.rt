@@ -12,7 +12,7 @@ use crate::cursor::{Cursor, skip_node};
 use crate::token::Token;
 use std::marker::Model;
 
-// Reads the property at the front.
+/// Reads the property at the front.
 fn next_property<'a>(cursor: &mut Cursor<'a>) -> Option<(&'a [u8], &'a [u8])>
     ensures { MatchOption result (((left_by cursor.old).properties ≡ []) × ((left_by cursor.new).properties ≡ []))
         (λ p. (left_by cursor.old).properties ≡ record { name = p.0.now; value = p.1.now } ∷ (left_by cursor.new).properties) }
@@ -28,7 +28,7 @@ fn next_property<'a>(cursor: &mut Cursor<'a>) -> Option<(&'a [u8], &'a [u8])>
     Some((name, value))
 }
 
-// Goes behind the node at the front, where there is one.
+/// Goes behind the node at the front, where there is one.
 fn next_sibling<'a>(cursor: &mut Cursor<'a>) -> Option<(usize, &'a [u8])>
     requires { AreSiblings cursor.old }
     ensures siblings { AreSiblings cursor.new }
@@ -90,7 +90,7 @@ impl<'a> Iterator for Props<'a> {
 }
 
 /// The value at a name, where a property has it.
-pub fn value_in<'a>(mut props: Props<'a>, name: &[u8]) -> Option<&'a [u8]>
+pub(crate) fn value_in<'a>(mut props: Props<'a>, name: &[u8]) -> Option<&'a [u8]>
     ensures { option_copied result ≡ value_of props.entry name.now }
 {
     while let Some((key, value)) = props.next() {
@@ -103,7 +103,7 @@ pub fn value_in<'a>(mut props: Props<'a>, name: &[u8]) -> Option<&'a [u8]>
 
 /// Sibling nodes from a place on. It is seen as their places and names.
 #[derive(Drop)]
-pub struct Siblings<'a> {
+pub(crate) struct Siblings<'a> {
     cursor: Cursor<'a>,
 }
 
@@ -142,7 +142,7 @@ impl<'a> Iterator for Siblings<'a> {
 }
 
 /// The sibling of a name, where there is one.
-pub fn sibling_in(mut siblings: Siblings<'_>, name: &[u8]) -> Option<NodeId>
+pub(crate) fn sibling_in(mut siblings: Siblings<'_>, name: &[u8]) -> Option<NodeId>
     ensures { result ≡ head_named siblings.entry name.now }
 {
     while let Some((node, key)) = siblings.next() {

@@ -2,12 +2,12 @@
 
 ghost use Rattle.std.specs.Prelude.{◌≡◌, ℕ, List, OnOk, IfErr};
 ghost use Rattle.dt_names.specs.Sink.{Takes, IsRefused};
-ghost use Rattle.dt_read.specs.Placed.{path_at, reading_of, IsNode};
+ghost use Rattle.dt_read.specs.Placed.{path_at, IsNode};
 ghost use Rattle.dt_resolve_model.specs.Answers.{answer};
-ghost use Rattle.dt_resolve_model.specs.World.{tree_world};
 ghost use Rattle.dt_irq.specs.Seen.{route_in, HasArrived};
 ghost use Rattle.dt_resolve_lines.specs.Asked.{answer_words, dma_words, specifier_words, IsAnswer, WhyNotAsked, WhyUntold};
 ghost use Rattle.dt_resolve_lines.specs.Lines.{region_words, route_words};
+ghost use Rattle.dt_view.specs.Views.{world_of};
 
 use crate::words::{put_region, put_route};
 use dt_decompile::Buffer;
@@ -35,7 +35,7 @@ pub enum Question<'a> {
     },
 }
 
-// Writes a region.
+/// Writes a region.
 fn tell_region<S: Sink>(out: &mut S, region: Region) -> Result<(), Fault>
     ensures written { OnOk result (Takes (region_words region) (S.taken out.old) (S.taken out.new)) }
     ensures refused { IfErr result (λ fault. IsRefused fault (region_words region) (S.taken out.old) (S.taken out.new)) }
@@ -45,7 +45,7 @@ fn tell_region<S: Sink>(out: &mut S, region: Region) -> Result<(), Fault>
     buffer.flush(out)
 }
 
-// Writes a route.
+/// Writes a route.
 fn tell_route<V: TreeView, S: Sink>(view: &V, out: &mut S, route: &Route) -> Result<(), Fault>
     requires { HasArrived (V.tree view.now) route.now }
     ensures written { OnOk result (Takes (route_words (route_in (V.tree view.now) route.now)) (S.taken out.old) (S.taken out.new)) }
@@ -56,7 +56,7 @@ fn tell_route<V: TreeView, S: Sink>(view: &V, out: &mut S, route: &Route) -> Res
     buffer.flush(out)
 }
 
-// Writes what a node reaches by DMA.
+/// Writes what a node reaches by DMA.
 fn tell_dma<V: TreeView, S: Sink>(
     view: &V,
     node: NodeId,
@@ -65,14 +65,14 @@ fn tell_dma<V: TreeView, S: Sink>(
     out: &mut S,
 ) -> Result<(), Fault>
     requires { IsNode (V.tree view.now) node }
-    ensures written { OnOk result ((line : List ℕ) × (dma_words (tree_world (reading_of (V.tree view.now))) (path_at (V.tree view.now) node) address size ≡ answer line) × Takes line (S.taken out.old) (S.taken out.new)) }
-    ensures refused { IfErr result (WhyUntold (dma_words (tree_world (reading_of (V.tree view.now))) (path_at (V.tree view.now) node) address size) (S.taken out.old) (S.taken out.new)) }
+    ensures written { OnOk result ((line : List ℕ) × (dma_words (world_of (V.tree view.now)) (path_at (V.tree view.now) node) address size ≡ answer line) × Takes line (S.taken out.old) (S.taken out.new)) }
+    ensures refused { IfErr result (WhyUntold (dma_words (world_of (V.tree view.now)) (path_at (V.tree view.now) node) address size) (S.taken out.old) (S.taken out.new)) }
 {
     let region = dma_region(view, node, address, size)?;
     tell_region(out, region)
 }
 
-// Writes where a specifier of a node comes to.
+/// Writes where a specifier of a node comes to.
 fn tell_specifier<V: TreeView, S: Sink>(
     view: &V,
     node: NodeId,
@@ -82,14 +82,14 @@ fn tell_specifier<V: TreeView, S: Sink>(
     out: &mut S,
 ) -> Result<(), Fault>
     requires { IsNode (V.tree view.now) node }
-    ensures written { OnOk result ((line : List ℕ) × (specifier_words (tree_world (reading_of (V.tree view.now))) (path_at (V.tree view.now) node) property.now kind.now index ≡ answer line) × Takes line (S.taken out.old) (S.taken out.new)) }
-    ensures refused { IfErr result (WhyUntold (specifier_words (tree_world (reading_of (V.tree view.now))) (path_at (V.tree view.now) node) property.now kind.now index) (S.taken out.old) (S.taken out.new)) }
+    ensures written { OnOk result ((line : List ℕ) × (specifier_words (world_of (V.tree view.now)) (path_at (V.tree view.now) node) property.now kind.now index ≡ answer line) × Takes line (S.taken out.old) (S.taken out.new)) }
+    ensures refused { IfErr result (WhyUntold (specifier_words (world_of (V.tree view.now)) (path_at (V.tree view.now) node) property.now kind.now index) (S.taken out.old) (S.taken out.new)) }
 {
     let route = specifier_route(view, node, property, kind, index)?;
     tell_route(view, out, &route)
 }
 
-// Writes the answer of a node. Apart, so that the buffer isn't on the stack while the blob is checked.
+/// Writes the answer of a node. Apart, so that the buffer isn't on the stack while the blob is checked.
 #[inline(never)]
 fn tell<V: TreeView, S: Sink>(
     view: &V,
@@ -98,8 +98,8 @@ fn tell<V: TreeView, S: Sink>(
     out: &mut S,
 ) -> Result<(), Fault>
     requires { IsNode (V.tree view.now) node }
-    ensures written { OnOk result ((line : List ℕ) × (answer_words question.entry (tree_world (reading_of (V.tree view.now))) (path_at (V.tree view.now) node) ≡ answer line) × Takes line (S.taken out.old) (S.taken out.new)) }
-    ensures refused { IfErr result (WhyUntold (answer_words question.entry (tree_world (reading_of (V.tree view.now))) (path_at (V.tree view.now) node)) (S.taken out.old) (S.taken out.new)) }
+    ensures written { OnOk result ((line : List ℕ) × (answer_words question.entry (world_of (V.tree view.now)) (path_at (V.tree view.now) node) ≡ answer line) × Takes line (S.taken out.old) (S.taken out.new)) }
+    ensures refused { IfErr result (WhyUntold (answer_words question.entry (world_of (V.tree view.now)) (path_at (V.tree view.now) node)) (S.taken out.old) (S.taken out.new)) }
 {
     match question {
         Question::Dma { address, size } => tell_dma(view, node, address, size, out),

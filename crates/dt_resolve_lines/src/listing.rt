@@ -25,7 +25,7 @@ pub enum Listing {
     Routes,
 }
 
-// Writes the lines of a node.
+/// Writes the lines of a node.
 fn put_node<V: TreeView, S: Sink>(
     view: &V,
     buffer: &mut Buffer,
@@ -43,7 +43,7 @@ fn put_node<V: TreeView, S: Sink>(
     }
 }
 
-// Writes the lines of all nodes.
+/// Writes the lines of all nodes.
 fn put_nodes<S: Sink>(
     index: &Index<'_>,
     buffer: &mut Buffer,
@@ -64,7 +64,7 @@ fn put_nodes<S: Sink>(
     Ok(())
 }
 
-// Writes all lines. Apart, so that the buffer isn't on the stack while the blob is checked.
+/// Writes all lines. Apart, so that the buffer isn't on the stack while the blob is checked.
 #[inline(never)]
 fn put_lines<S: Sink>(index: &Index<'_>, out: &mut S, listing: Listing) -> Result<(), Fault>
     ensures written { OnOk result ((lines : List (List ℕ)) × AreAll listing (reading_of index.now) lines × Takes (concat lines) (S.taken out.old) (S.taken out.new)) }
@@ -75,7 +75,7 @@ fn put_lines<S: Sink>(index: &Index<'_>, out: &mut S, listing: Listing) -> Resul
     buffer.flush(out)
 }
 
-// Writes the lines of a blob.
+/// Writes the lines of a blob.
 fn put_listing<S: Sink>(
     alloc: Global,
     bytes: &[u8],

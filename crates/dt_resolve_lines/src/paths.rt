@@ -7,13 +7,13 @@ ghost use Rattle.dt_read.specs.Placed.{path_at, IsNode};
 ghost use Rattle.dt_decompile.specs.Passed.{IsPassed};
 ghost use Rattle.dt_resolve_lines.specs.Paths.{names_text, way_text, AreNodes};
 
-use crate::pieces::put_pieces;
+use crate::pieces::buffer_pieces;
 use dt_decompile::Buffer;
 use dt_names::{Fault, NodeId, Sink};
 use dt_read::OpenNodes;
 use dt_view::TreeView;
 
-// The nodes on the way down to a node, the first one below the root in front.
+/// The nodes on the way down to a node, the first one below the root in front.
 fn way_to<V: TreeView>(view: &V, node: NodeId) -> OpenNodes
     requires { IsNode (V.tree view.now) node }
     ensures text { way_text (V.tree view.now) result ≡ names_text (path_at (V.tree view.now) node) }
@@ -29,7 +29,7 @@ fn way_to<V: TreeView>(view: &V, node: NodeId) -> OpenNodes
     way
 }
 
-// Writes the names of the nodes on a way, each behind a slash.
+/// Writes the names of the nodes on a way, each behind a slash.
 fn put_way<V: TreeView, S: Sink>(
     view: &V,
     buffer: &mut Buffer,
@@ -41,14 +41,14 @@ fn put_way<V: TreeView, S: Sink>(
     ensures refused { IfErr result (λ fault. IsRefused fault (buffer.old ++ way_text (V.tree view.now) way.old) (S.taken out.old) (S.taken out.new)) }
 {
     while let Some(node) = way.innermost() {
-        put_pieces(buffer, out, &[b"/", view.name(node)])?;
+        buffer_pieces(buffer, out, &[b"/", view.name(node)])?;
         way.pop();
     }
     Ok(())
 }
 
 /// Writes the path of a node.
-pub fn put_path<V: TreeView, S: Sink>(
+pub(crate) fn buffer_path<V: TreeView, S: Sink>(
     view: &V,
     buffer: &mut Buffer,
     out: &mut S,

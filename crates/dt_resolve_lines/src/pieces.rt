@@ -8,7 +8,11 @@ use dt_decompile::Buffer;
 use dt_names::{Fault, Sink};
 
 /// Writes some pieces, one behind the other.
-pub fn put_pieces<S: Sink>(buffer: &mut Buffer, out: &mut S, pieces: &[&[u8]]) -> Result<(), Fault>
+pub(crate) fn buffer_pieces<S: Sink>(
+    buffer: &mut Buffer,
+    out: &mut S,
+    pieces: &[&[u8]],
+) -> Result<(), Fault>
     ensures passed { OnOk result (IsPassed (S.taken out.old) (S.taken out.new) buffer.old (joined pieces.now) buffer.new) }
     ensures refused { IfErr result (λ fault. IsRefused fault (buffer.old ++ joined pieces.now) (S.taken out.old) (S.taken out.new)) }
 {

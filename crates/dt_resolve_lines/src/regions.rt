@@ -17,7 +17,7 @@ use dt_ranges::Regions;
 use dt_resolve_model::Region;
 use dt_view::TreeView;
 
-// Writes the line of a node's entry.
+/// Writes the line of a node's entry.
 fn put_line<V: TreeView, S: Sink>(
     view: &V,
     buffer: &mut Buffer,
@@ -37,7 +37,7 @@ fn put_line<V: TreeView, S: Sink>(
     }
 }
 
-// Whether an entry's answer ends a node's lines, and has none itself.
+/// Whether an entry's answer ends a node's lines, and has none itself.
 fn is_silent(region: &Result<Region, Fault>) -> bool
     ensures { result ≡ is_fault is_no_reg (told region.now) }
 {
@@ -47,7 +47,7 @@ fn is_silent(region: &Result<Region, Fault>) -> bool
     }
 }
 
-// Whether an entry's answer ends a node's lines behind its own.
+/// Whether an entry's answer ends a node's lines behind its own.
 fn is_last(region: &Result<Region, Fault>) -> bool
     ensures { result ≡ is_fault is_bad_cells (told region.now) }
 {
@@ -57,7 +57,7 @@ fn is_last(region: &Result<Region, Fault>) -> bool
     }
 }
 
-// Writes the lines of a node's entries.
+/// Writes the lines of a node's entries.
 fn put_entries<V: TreeView, S: Sink>(
     view: &V,
     buffer: &mut Buffer,
@@ -86,7 +86,7 @@ fn put_entries<V: TreeView, S: Sink>(
 }
 
 /// Writes the lines of a node's regions.
-pub fn put_regions<V: TreeView, S: Sink>(
+pub(crate) fn put_regions<V: TreeView, S: Sink>(
     view: &V,
     buffer: &mut Buffer,
     out: &mut S,

@@ -17,7 +17,7 @@ use dt_irq::{Route, Routes};
 use dt_names::{Fault, FaultKind, NodeId, Sink};
 use dt_view::TreeView;
 
-// Writes the line of an interrupt that has a route.
+/// Writes the line of an interrupt that has a route.
 fn put_line<V: TreeView, S: Sink>(
     view: &V,
     buffer: &mut Buffer,
@@ -35,14 +35,14 @@ fn put_line<V: TreeView, S: Sink>(
     put_route(view, buffer, out, route)
 }
 
-// Whether the fault is that of an interrupt that isn't there.
+/// Whether the fault is that of an interrupt that isn't there.
 fn is_behind(fault: &Fault) -> bool
     ensures { result ≡ is_no_interrupts fault.now.kind }
 {
     matches!(fault.kind, FaultKind::NoInterrupts)
 }
 
-// Writes the line of an interrupt that has none. Behind a node's interrupts there is no line.
+/// Writes the line of an interrupt that has none. Behind a node's interrupts there is no line.
 fn put_last<V: TreeView, S: Sink>(
     view: &V,
     buffer: &mut Buffer,
@@ -62,7 +62,7 @@ fn put_last<V: TreeView, S: Sink>(
     put_fault(buffer, out, fault)
 }
 
-// Writes the lines of a node's interrupts.
+/// Writes the lines of a node's interrupts.
 fn put_entries<V: TreeView, S: Sink>(
     view: &V,
     buffer: &mut Buffer,
@@ -88,7 +88,7 @@ fn put_entries<V: TreeView, S: Sink>(
 }
 
 /// Writes the lines of a node's routes.
-pub fn put_routes<V: TreeView, S: Sink>(
+pub(crate) fn put_routes<V: TreeView, S: Sink>(
     view: &V,
     buffer: &mut Buffer,
     out: &mut S,

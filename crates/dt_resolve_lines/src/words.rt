@@ -9,15 +9,15 @@ ghost use Rattle.dt_decompile.specs.Passed.{IsPassed};
 ghost use Rattle.dt_irq.specs.Seen.{route_in, HasArrived};
 ghost use Rattle.dt_resolve_lines.specs.Lines.{cells_words, fault_words, place_words, region_words, route_words};
 
-use crate::paths::put_path;
-use crate::pieces::put_pieces;
+use crate::paths::buffer_path;
+use crate::pieces::buffer_pieces;
 use dt_decompile::{Buffer, without_zeros, write_digits};
 use dt_irq::Route;
 use dt_names::{Fault, NodeId, Sink};
 use dt_resolve_model::Region;
 use dt_view::TreeView;
 
-// The pieces of a number between other words.
+/// The pieces of a number between other words.
 fn pieces_around<'a>(before: &'a [u8], digits: &'a str, behind: &'a [u8]) -> [&'a [u8]; 3]
     ensures { joined result ≡ before.entry.now ++ (digits.entry.now ++ behind.entry.now) }
 {
@@ -25,7 +25,7 @@ fn pieces_around<'a>(before: &'a [u8], digits: &'a str, behind: &'a [u8]) -> [&'
 }
 
 /// Writes what a node's line for an index begins with.
-pub fn put_place<V: TreeView, S: Sink>(
+pub(crate) fn put_place<V: TreeView, S: Sink>(
     view: &V,
     buffer: &mut Buffer,
     out: &mut S,
@@ -38,11 +38,11 @@ pub fn put_place<V: TreeView, S: Sink>(
 {
     let mut digits = itoa::Buffer::new();
     let index = digits.format(index);
-    put_path(view, buffer, out, node)?;
-    put_pieces(buffer, out, &pieces_around(b" ", index, b" "))
+    buffer_path(view, buffer, out, node)?;
+    buffer_pieces(buffer, out, &pieces_around(b" ", index, b" "))
 }
 
-// The pieces of a fault.
+/// The pieces of a fault.
 fn fault_pieces<'a>(number: &'a str, name: &'a str, at: &'a str, place: &'a str) -> [&'a [u8]; 7]
     ensures { joined result ≡ ((codes "fault " ++ (number.entry.now ++ (codes " " ++ name.entry.now))) ++ (at.entry.now ++ place.entry.now)) ++ 10 ∷ [] }
 {
@@ -58,7 +58,11 @@ fn fault_pieces<'a>(number: &'a str, name: &'a str, at: &'a str, place: &'a str)
 }
 
 /// Writes a fault.
-pub fn put_fault<S: Sink>(buffer: &mut Buffer, out: &mut S, fault: Fault) -> Result<(), Fault>
+pub(crate) fn put_fault<S: Sink>(
+    buffer: &mut Buffer,
+    out: &mut S,
+    fault: Fault,
+) -> Result<(), Fault>
     ensures passed { OnOk result (IsPassed (S.taken out.old) (S.taken out.new) buffer.old (fault_words fault) buffer.new) }
     ensures refused { IfErr result (λ failure. IsRefused failure (buffer.old ++ fault_words fault) (S.taken out.old) (S.taken out.new)) }
 {
@@ -66,8 +70,8 @@ pub fn put_fault<S: Sink>(buffer: &mut Buffer, out: &mut S, fault: Fault) -> Res
     let mut place_digits = itoa::Buffer::new();
     let number = number_digits.format(fault.number());
     match fault.at {
-        None => put_pieces(buffer, out, &fault_pieces(number, fault.name(), "", "")),
-        Some(place) => put_pieces(
+        None => buffer_pieces(buffer, out, &fault_pieces(number, fault.name(), "", "")),
+        Some(place) => buffer_pieces(
             buffer,
             out,
             &fault_pieces(number, fault.name(), " at ", place_digits.format(place)),
@@ -75,7 +79,7 @@ pub fn put_fault<S: Sink>(buffer: &mut Buffer, out: &mut S, fault: Fault) -> Res
     }
 }
 
-// The pieces of a region.
+/// The pieces of a region.
 fn region_pieces<'a>(address: &'a [u8], size: &'a [u8], whole: bool) -> [&'a [u8]; 5]
     ensures { joined result ≡ (codes "0x" ++ address.entry.now)
         ++ ((codes " 0x" ++ size.entry.now) ++ (if whole then codes " whole\n" else codes " cut\n")) }
@@ -84,7 +88,7 @@ fn region_pieces<'a>(address: &'a [u8], size: &'a [u8], whole: bool) -> [&'a [u8
     [b"0x", address, b" 0x", size, extent]
 }
 
-// The digits of a number, zeros in front among them.
+/// The digits of a number, zeros in front among them.
 fn digits_of(number: u128) -> [u8; 32]
     ensures { result ≡ hexadecimal (to_be_bytes w128 number) }
 {
@@ -94,20 +98,24 @@ fn digits_of(number: u128) -> [u8; 32]
 }
 
 /// Writes a region.
-pub fn put_region<S: Sink>(buffer: &mut Buffer, out: &mut S, region: Region) -> Result<(), Fault>
+pub(crate) fn put_region<S: Sink>(
+    buffer: &mut Buffer,
+    out: &mut S,
+    region: Region,
+) -> Result<(), Fault>
     ensures passed { OnOk result (IsPassed (S.taken out.old) (S.taken out.new) buffer.old (region_words region) buffer.new) }
     ensures refused { IfErr result (λ failure. IsRefused failure (buffer.old ++ region_words region) (S.taken out.old) (S.taken out.new)) }
 {
     let address = digits_of(region.address);
     let size = digits_of(region.size);
-    put_pieces(
+    buffer_pieces(
         buffer,
         out,
         &region_pieces(without_zeros(&address), without_zeros(&size), region.whole),
     )
 }
 
-// The digits of a cell, zeros in front among them.
+/// The digits of a cell, zeros in front among them.
 fn digits_of_cell(cell: u32) -> [u8; 8]
     ensures { result ≡ hexadecimal (to_be_bytes w32 cell) }
 {
@@ -116,20 +124,20 @@ fn digits_of_cell(cell: u32) -> [u8; 8]
     digits
 }
 
-// Writes cells.
+/// Writes cells.
 fn put_cells<S: Sink>(buffer: &mut Buffer, out: &mut S, cells: &[u32]) -> Result<(), Fault>
     ensures passed { OnOk result (IsPassed (S.taken out.old) (S.taken out.new) buffer.old (cells_words cells.now) buffer.new) }
     ensures refused { IfErr result (λ failure. IsRefused failure (buffer.old ++ cells_words cells.now) (S.taken out.old) (S.taken out.new)) }
 {
     for cell in cells {
         let digits = digits_of_cell(*cell);
-        put_pieces(buffer, out, &[b" 0x", without_zeros(&digits)])?;
+        buffer_pieces(buffer, out, &[b" 0x", without_zeros(&digits)])?;
     }
     Ok(())
 }
 
 /// Writes a route.
-pub fn put_route<V: TreeView, S: Sink>(
+pub(crate) fn put_route<V: TreeView, S: Sink>(
     view: &V,
     buffer: &mut Buffer,
     out: &mut S,
@@ -141,7 +149,7 @@ pub fn put_route<V: TreeView, S: Sink>(
 {
     let mut digits = itoa::Buffer::new();
     let hops = digits.format(route.hops);
-    put_path(view, buffer, out, route.controller)?;
+    buffer_path(view, buffer, out, route.controller)?;
     put_cells(buffer, out, &route.cells[..route.len])?;
-    put_pieces(buffer, out, &pieces_around(b" hops ", hops, b"\n"))
+    buffer_pieces(buffer, out, &pieces_around(b" hops ", hops, b"\n"))
 }

@@ -8,5 +8,6 @@ pub mod Ending
 pub mod Circles
 pub mod Told
 pub mod Named
+pub mod NamedRoutes
 pub mod QuadsOfBytes
 pub mod Entries

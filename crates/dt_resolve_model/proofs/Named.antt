@@ -2,7 +2,7 @@
 use Rattle.std.proofs.Common.{ℕ, suc, zero, ◌+◌, ◌-◌, ◌*◌, ◌%◌, ◌^◌, Bool, true, false, not, ◌&&◌, ◌||◌, ◌==◌, List, [], ◌∷◌, ◌++◌, take, drop, length, refl, Option, Some, None}
 use Rattle.std.specs.Prelude.{if◌then◌else◌, codes, nat_le, nat_lt, option_map}
 use Rattle.dt_names.specs.declared.fault.FaultKind.{FaultKind}
-use Rattle.dt_names.specs.declared.fault.FaultKind.TheVariants.{NoReg, BadCells, Loop}
+use Rattle.dt_names.specs.declared.fault.FaultKind.TheVariants.{NoReg, BadCells, NoInterrupts, UnknownPhandle, BadMap, NoMapEntry, Loop}
 use Rattle.dt_model.specs.Names.{Name}
 use Rattle.dt_model.specs.Path.{Path}
 use Rattle.dt_model.specs.Tree.{Reading, nodes_of, value_in}
@@ -13,17 +13,17 @@ use Rattle.dt_resolve_model.specs.Above.{front}
 use Rattle.dt_resolve_model.specs.Answers.{Answer, undetermined, refused, answer, refuse, ◌>>=◌}
 use Rattle.dt_resolve_model.specs.World.{Quad, figure, pointer, torn, Value, World, tree_world, value_of_bytes, node_found}
 use Rattle.dt_resolve_model.specs.Regions.{figure_of, joined_to, joined, cells_at, first_cell, only_cell, only_number, count_of, address_count, size_count, bus_cells, is_pci_text, is_pci, entries_of, mapped_by, mapped, fitting, by_ranges, unless_pci, risen, translated, region_at, entry_at, listed, region, dma_region}
-use Rattle.dt_resolve_model.specs.Interrupts.{size_told, Sent, first_entry, entry_sent, is_ragged, map_row_at_parent, map_row, as_numbers, matches, first_match, mask_of, Route, most_hops}
+use Rattle.dt_resolve_model.specs.Interrupts.{RowCells, size_told, Sent, first_entry, entry_sent, is_ragged, map_row_at_parent, map_row, as_numbers, matches, first_match, mask_of, Route, most_hops}
 use Rattle.dt_resolve_model.specs.Specifiers.{cells_name, map_name, mask_name, pass_name, provider_count, provider_of, provider_row_cells, passed_cell, merged, provider_hop, provided_at, provision, provided, specifier_route}
-use Rattle.dt_resolve_model.specs.Faults.{IsRegionFault, IsSpecifierFault, IsRefusedFor, AreNamed}
+use Rattle.dt_resolve_model.specs.Faults.{IsRegionFault, IsSpecifierFault, IsRefusedFor}
 
 module _ (is : FaultKind → Type 0) where
-  bound : {A B : Type 0} (x : Answer A) (f : A → Answer B) → IsRefusedFor is x → ((a : A) → IsRefusedFor is (f a)) → IsRefusedFor is (x >>= f)
+  pub bound : {A B : Type 0} (x : Answer A) (f : A → Answer B) → IsRefusedFor is x → ((a : A) → IsRefusedFor is (f a)) → IsRefusedFor is (x >>= f)
   bound undetermined f h k = tt
   bound (refused fault) f h k = h
   bound (answer a) f h k = k a
 
-  chosen : {A : Type 0} (b : Bool) (x y : Answer A) → IsRefusedFor is x → IsRefusedFor is y → IsRefusedFor is (if b then x else y)
+  pub chosen : {A : Type 0} (b : Bool) (x y : Answer A) → IsRefusedFor is x → IsRefusedFor is y → IsRefusedFor is (if b then x else y)
   chosen true x y h k = h
   chosen false x y h k = k
 
@@ -36,13 +36,18 @@ module _ (is : FaultKind → Type 0) where
   of_joined n [] = tt
   of_joined n (cell ∷ cells) = bound (figure_of cell) _ (of_figure cell) (λ k. of_joined (n * 2 ^ 32 + k) cells)
 
-  of_numbers : (cells : List Quad) → IsRefusedFor is (as_numbers cells)
+  pub of_numbers : (cells : List Quad) → IsRefusedFor is (as_numbers cells)
   of_numbers [] = tt
   of_numbers (cell ∷ cells) = bound (figure_of cell) _ (of_figure cell) (λ n. bound (as_numbers cells) _ (of_numbers cells) (λ ns. tt))
 
+  pub of_entry : (kind : FaultKind) → is kind → (i : ℕ) (es : List (List Quad)) → IsRefusedFor is (entry_at kind i es)
+  of_entry kind may i [] = (may, refl)
+  of_entry kind may zero (e ∷ es) = tt
+  of_entry kind may (suc i) (e ∷ es) = of_entry kind may i es
+
   -- ---- where cells may be wrong
   module _ (bad : is BadCells) where
-    of_cell : (v : Value) → IsRefusedFor is (only_cell v)
+    pub of_cell : (v : Value) → IsRefusedFor is (only_cell v)
     of_cell v = chosen (v.size == 4) _ _ (first v.cells) (bad, refl)
       where
         first : (cells : List Quad) → IsRefusedFor is (first_cell cells)
@@ -52,15 +57,15 @@ module _ (is : FaultKind → Type 0) where
     of_number : (v : Value) → IsRefusedFor is (only_number v)
     of_number v = bound (only_cell v) _ (of_cell v) of_figure
 
-    of_count : (default : ℕ) (o : Option Value) → IsRefusedFor is (count_of default o)
+    pub of_count : (default : ℕ) (o : Option Value) → IsRefusedFor is (count_of default o)
     of_count default None = tt
     of_count default (Some v) = bound (only_number v) _ (of_number v) (λ n. chosen (nat_le n 4) _ _ tt (bad, refl))
 
-    of_size : (least : ℕ) (o : Option Value) → IsRefusedFor is (size_told least o)
+    pub of_size : (least : ℕ) (o : Option Value) → IsRefusedFor is (size_told least o)
     of_size least None = (bad, refl)
     of_size least (Some v) = bound (only_number v) _ (of_number v) (λ n. chosen (nat_le least n && nat_le n 8) _ _ tt (bad, refl))
 
-    of_entries : (width : ℕ) (v : Value) → IsRefusedFor is (entries_of width v)
+    pub of_entries : (width : ℕ) (v : Value) → IsRefusedFor is (entries_of width v)
     of_entries width v = chosen ((width == 0) || not (v.size % (4 * width) == 0)) _ _ (bad, refl) tt
 
 -- ---- regions
@@ -131,12 +136,7 @@ module _ (t : Reading) where
       bound IsRegionFault (translated w ranges [] bus size (record { address = address; whole = true })) _ (of_translated ranges [] bus size (record { address = address; whole = true }))
       (λ place. unless [] (answer (record { address = place.address; size = size; whole = place.whole })) tt)
 
-  of_entry : (i : ℕ) (es : List (List Quad)) → Fine (entry_at NoReg i es)
-  of_entry i [] = (tt, refl)
-  of_entry zero (e ∷ es) = tt
-  of_entry (suc i) (e ∷ es) = of_entry i es
-
-  region_named : (p : Path) (index : ℕ) → Fine (region w p index)
+  pub region_named : (p : Path) (index : ℕ) → Fine (region w p index)
   region_named [] index = (tt, refl)
   region_named (n ∷ names) index = by (option_map value_of_bytes (value_in t (n ∷ names) (codes "reg")))
     where
@@ -148,19 +148,82 @@ module _ (t : Reading) where
       by (Some v) =
           bound IsRegionFault (bus_cells w bus) _ (of_bus bus)
           (λ own. bound IsRegionFault (entries_of (own.address + own.size) v >>= entry_at NoReg index) _
-          (bound IsRegionFault (entries_of (own.address + own.size) v) _ (of_entries IsRegionFault tt (own.address + own.size) v) (of_entry index))
+          (bound IsRegionFault (entries_of (own.address + own.size) v) _ (of_entries IsRegionFault tt (own.address + own.size) v) (of_entry IsRegionFault NoReg tt index))
           (λ e. bound IsRegionFault (joined (cells_at 0 own.address e)) _ (of_joined IsRegionFault 0 (cells_at 0 own.address e))
           (λ address. bound IsRegionFault (joined (cells_at own.address own.size e)) _ (of_joined IsRegionFault 0 (cells_at own.address own.size e))
           (λ size. of_region_at (codes "ranges") bus address size))))
 
-  dma_region_named : (p : Path) (address size : ℕ) → Fine (dma_region w p address size)
+  pub dma_region_named : (p : Path) (address size : ℕ) → Fine (dma_region w p address size)
   dma_region_named [] address size = (tt, refl)
   dma_region_named (n ∷ names) address size =
       bound IsRegionFault (bus_cells w (front (n ∷ names))) _ (of_bus (front (n ∷ names)))
       (λ own. bound IsRegionFault (fitting own.address (record { address = address; whole = true })) _ (of_fitting own.address (record { address = address; whole = true }))
       (λ at. of_region_at (codes "dma-ranges") (front (n ∷ names)) at.address size))
 
+-- ---- lists of phandles, and maps
+
+-- what a list of phandles or a map may be refused for
+pub record AreListFaults (is : FaultKind → Type 0) : Type 0 where
+  pub cells : is BadCells
+  pub absent : is NoInterrupts
+  pub unknown : is UnknownPhandle
+  pub broken : is BadMap
+  pub unmatched : is NoMapEntry
+
+module _ (is : FaultKind → Type 0) (may : AreListFaults is) (t : Reading) where
+  pub of_node : (c : Quad) → IsRefusedFor is ((tree_world t).node c)
+  of_node (figure n) = found (node_numbered (nodes_of t) n)
+    where
+      found : (o : Option Path) → IsRefusedFor is (node_found o)
+      found None = (may.unknown, refl)
+      found (Some p) = tt
+  of_node (pointer p) = tt
+  of_node torn = tt
+
+  module _ (count : Path → Answer ℕ) (counts : (q : Path) → IsRefusedFor is (count q)) where
+    of_first : (ragged : Bool) (cells : List Quad) → IsRefusedFor is (first_entry (tree_world t) count ragged cells)
+    of_first true [] = (may.cells, refl)
+    of_first false [] = (may.absent, refl)
+    of_first ragged (cell ∷ cells) =
+        bound is ((tree_world t).node cell) _ (of_node cell)
+        (λ q. bound is (count q) _ (counts q)
+        (λ n. chosen is (nat_lt (length cells) n) _ _ (may.cells, refl) tt))
+
+    pub of_sent : (ragged : Bool) (index : ℕ) (cells : List Quad) → IsRefusedFor is (entry_sent (tree_world t) count ragged index cells)
+    of_sent ragged zero cells = bound is (first_entry (tree_world t) count ragged cells) _ (of_first ragged cells) (λ x. tt)
+    of_sent ragged (suc index) cells = bound is (first_entry (tree_world t) count ragged cells) _ (of_first ragged cells) (λ x. of_sent ragged index x.rest)
+
+  pub of_mask : (width : ℕ) (o : Option Value) → IsRefusedFor is (mask_of width o)
+  of_mask width None = tt
+  of_mask width (Some m) = chosen is (m.size == 4 * width) _ _ tt (may.broken, refl)
+
+  of_matches : (compared key mask : List Quad) → IsRefusedFor is (matches compared key mask)
+  of_matches compared key mask =
+      bound is (as_numbers compared) _ (of_numbers is compared)
+      (λ xs. bound is (as_numbers key) _ (of_numbers is key)
+      (λ ys. bound is (as_numbers mask) _ (of_numbers is mask) (λ ms. tt)))
+
+  module _ (widths : Path → Answer RowCells) (wide : (q : Path) → IsRefusedFor is (widths q)) where
+    of_row : (compared cells : List Quad) → IsRefusedFor is (map_row_at_parent (tree_world t) widths compared cells)
+    of_row compared [] = (may.broken, refl)
+    of_row compared (cell ∷ cells) =
+        bound is ((tree_world t).node cell) _ (of_node cell)
+        (λ q. bound is (widths q) _ (wide q)
+        (λ own. chosen is (nat_lt (length cells) (own.address + own.specifier)) _ _ (may.broken, refl) tt))
+
+    pub of_match : (ragged : Bool) (width : ℕ) (key mask : List Quad) (skipped : ℕ) (cells : List Quad) → IsRefusedFor is (first_match (tree_world t) widths ragged width key mask skipped cells)
+    of_match true width key mask skipped [] = (may.broken, refl)
+    of_match false width key mask skipped [] = (may.unmatched, refl)
+    of_match ragged width key mask zero (cell ∷ cells) =
+        bound is (map_row (tree_world t) widths width (cell ∷ cells)) _ (of_row (take width (cell ∷ cells)) (drop width (cell ∷ cells)))
+        (λ r. bound is (matches r.compared key mask) _ (of_matches r.compared key mask)
+        (λ same. chosen is same _ _ tt (of_match ragged width key mask (r.size - 1) cells)))
+    of_match ragged width key mask (suc n) (cell ∷ cells) = of_match ragged width key mask n cells
+
 -- ---- specifiers
+
+abbrev specifier_faults : AreListFaults IsSpecifierFault
+specifier_faults = record { cells = tt; absent = tt; unknown = tt; broken = tt; unmatched = tt }
 
 module _ (t : Reading) where
   abbrev v : World
@@ -169,59 +232,12 @@ module _ (t : Reading) where
   abbrev Named : {A : Type 0} → Answer A → Type 0
   Named = IsRefusedFor IsSpecifierFault
 
-  of_node : (c : Quad) → Named (v.node c)
-  of_node (figure n) = found (node_numbered (nodes_of t) n)
-    where
-      found : (o : Option Path) → Named (node_found o)
-      found None = (tt, refl)
-      found (Some p) = tt
-  of_node (pointer p) = tt
-  of_node torn = tt
-
   module _ (kind : Name) where
     of_provider : (p : Path) → Named (provider_count v kind p)
     of_provider p = of_size IsSpecifierFault tt 0 (option_map value_of_bytes (value_in t p (cells_name kind)))
 
-    of_first : (ragged : Bool) (cells : List Quad) → Named (first_entry v (provider_count v kind) ragged cells)
-    of_first true [] = (tt, refl)
-    of_first false [] = (tt, refl)
-    of_first ragged (cell ∷ cells) =
-        bound IsSpecifierFault (v.node cell) _ (of_node cell)
-        (λ q. bound IsSpecifierFault (provider_count v kind q) _ (of_provider q)
-        (λ n. chosen IsSpecifierFault (nat_lt (length cells) n) _ _ (tt, refl) tt))
-
-    of_sent : (ragged : Bool) (index : ℕ) (cells : List Quad) → Named (entry_sent v (provider_count v kind) ragged index cells)
-    of_sent ragged zero cells = bound IsSpecifierFault (first_entry v (provider_count v kind) ragged cells) _ (of_first ragged cells) (λ x. tt)
-    of_sent ragged (suc index) cells = bound IsSpecifierFault (first_entry v (provider_count v kind) ragged cells) _ (of_first ragged cells) (λ x. of_sent ragged index x.rest)
-
-    of_mask : (width : ℕ) (o : Option Value) → Named (mask_of width o)
-    of_mask width None = tt
-    of_mask width (Some m) = chosen IsSpecifierFault (m.size == 4 * width) _ _ tt (tt, refl)
-
     of_widths : (q : Path) → Named (provider_row_cells v kind q)
     of_widths q = bound IsSpecifierFault (provider_count v kind q) _ (of_provider q) (λ n. tt)
-
-    of_row : (compared cells : List Quad) → Named (map_row_at_parent v (provider_row_cells v kind) compared cells)
-    of_row compared [] = (tt, refl)
-    of_row compared (cell ∷ cells) =
-        bound IsSpecifierFault (v.node cell) _ (of_node cell)
-        (λ q. bound IsSpecifierFault (provider_row_cells v kind q) _ (of_widths q)
-        (λ own. chosen IsSpecifierFault (nat_lt (length cells) (own.address + own.specifier)) _ _ (tt, refl) tt))
-
-    of_matches : (compared key mask : List Quad) → Named (matches compared key mask)
-    of_matches compared key mask =
-        bound IsSpecifierFault (as_numbers compared) _ (of_numbers IsSpecifierFault compared)
-        (λ xs. bound IsSpecifierFault (as_numbers key) _ (of_numbers IsSpecifierFault key)
-        (λ ys. bound IsSpecifierFault (as_numbers mask) _ (of_numbers IsSpecifierFault mask) (λ ms. tt)))
-
-    of_match : (ragged : Bool) (width : ℕ) (key mask : List Quad) (skipped : ℕ) (cells : List Quad) → Named (first_match v (provider_row_cells v kind) ragged width key mask skipped cells)
-    of_match true width key mask skipped [] = (tt, refl)
-    of_match false width key mask skipped [] = (tt, refl)
-    of_match ragged width key mask zero (cell ∷ cells) =
-        bound IsSpecifierFault (map_row v (provider_row_cells v kind) width (cell ∷ cells)) _ (of_row (take width (cell ∷ cells)) (drop width (cell ∷ cells)))
-        (λ r. bound IsSpecifierFault (matches r.compared key mask) _ (of_matches r.compared key mask)
-        (λ same. chosen IsSpecifierFault same _ _ tt (of_match ragged width key mask (r.size - 1) cells)))
-    of_match ragged width key mask (suc n) (cell ∷ cells) = of_match ragged width key mask n cells
 
     of_passed : (row child : Quad) (mask : ℕ) → Named (passed_cell row child mask)
     of_passed row child mask =
@@ -239,9 +255,9 @@ module _ (t : Reading) where
 
     of_hop : (at : Sent) (m : Value) → Named (provider_hop v kind at m)
     of_hop at m =
-        bound IsSpecifierFault (v.value at.node (mask_name kind) >>= mask_of (length at.specifier)) _ (of_mask (length at.specifier) (option_map value_of_bytes (value_in t at.node (mask_name kind))))
-        (λ mask. bound IsSpecifierFault (v.value at.node (pass_name kind) >>= mask_of (length at.specifier)) _ (of_mask (length at.specifier) (option_map value_of_bytes (value_in t at.node (pass_name kind))))
-        (λ pass. bound IsSpecifierFault (first_match v (provider_row_cells v kind) (is_ragged m) (length at.specifier) at.specifier mask 0 m.cells) _ (of_match (is_ragged m) (length at.specifier) at.specifier mask 0 m.cells)
+        bound IsSpecifierFault (v.value at.node (mask_name kind) >>= mask_of (length at.specifier)) _ (of_mask IsSpecifierFault specifier_faults t (length at.specifier) (option_map value_of_bytes (value_in t at.node (mask_name kind))))
+        (λ mask. bound IsSpecifierFault (v.value at.node (pass_name kind) >>= mask_of (length at.specifier)) _ (of_mask IsSpecifierFault specifier_faults t (length at.specifier) (option_map value_of_bytes (value_in t at.node (pass_name kind))))
+        (λ pass. bound IsSpecifierFault (first_match v (provider_row_cells v kind) (is_ragged m) (length at.specifier) at.specifier mask 0 m.cells) _ (of_match IsSpecifierFault specifier_faults t (provider_row_cells v kind) of_widths (is_ragged m) (length at.specifier) at.specifier mask 0 m.cells)
         (λ r. bound IsSpecifierFault (merged r.specifier at.specifier pass) _ (of_merged r.specifier at.specifier pass) (λ s. tt))))
 
     of_map : (through : Value → Answer Route) → ((m : Value) → Named (through m)) → (hops : ℕ) (at : Sent) → Named (provision v kind through hops at)
@@ -258,17 +274,10 @@ module _ (t : Reading) where
         of_map (λ m. provider_hop v kind at m >>= provided v kind left (hops + 1))
         (λ m. bound IsSpecifierFault (provider_hop v kind at m) _ (of_hop at m) (of_provided left (hops + 1))) hops at
 
-    specifier_named : (p : Path) (property : Name) (index : ℕ) → Named (specifier_route v p property kind index)
+    pub specifier_named : (p : Path) (property : Name) (index : ℕ) → Named (specifier_route v p property kind index)
     specifier_named p property index =
         bound IsSpecifierFault (v.value p property >>= provider_of v kind index) _ (by (option_map value_of_bytes (value_in t p property))) (of_provided most_hops 0)
       where
         by : (o : Option Value) → Named (provider_of v kind index o)
         by None = (tt, refl)
-        by (Some list) = of_sent (is_ragged list) index list.cells
-
-pub are_named : (t : Reading) → AreNamed t
-are_named t = record {
-  regions = region_named t;
-  dma_regions = dma_region_named t;
-  specifiers = λ p property kind index. specifier_named t kind p property index;
-}
+        by (Some list) = of_sent IsSpecifierFault specifier_faults t (provider_count v kind) of_provider (is_ragged list) index list.cells

@@ -18,8 +18,8 @@ use Rattle.dt_model.proofs.Finding.{node_of_number, number_of_node}
 use Rattle.dt_model.proofs.Listed.{stands_listed, value_listed}
 use Rattle.dt_model.proofs.Preorder.{phandle_list, all_phandles, value_in_list}
 use Rattle.dt_model.proofs.Tests.{and_left, and_right, not_true, each_in, in_map}
-use Rattle.dt_model_laws.specs.Applying.{IsOf}
-use Rattle.dt_model_laws.proofs.Inside.{each_more}
+use Rattle.dt_model.specs.Represents.{IsOf}
+use Rattle.dt_model.proofs.Inside.{each_more}
 use Rattle.dt_resolve_model.specs.Answers.{undetermined, answer, refuse, Agrees}
 use Rattle.dt_resolve_model.specs.World.{Quad, figure, pointer, torn, quads_of, value_of_bytes, node_found, node_of_figure, tree_world, Octet, own_octet, lead_octet, later_octet, octets_of, quad_of_octets, quads_of_octets, value_of_items, written_node, node_of_cell, is_written, node_written, meaning_world}
 use Rattle.dt_resolve_model.proofs.Agreeing.{Same, IsSeen, AreSeen, IsMaybeSeen, Refines}

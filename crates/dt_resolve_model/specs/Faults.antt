@@ -4,10 +4,11 @@ use Rattle.dt_model.specs.Names.{Name}
 use Rattle.dt_model.specs.Path.{Path}
 use Rattle.dt_model.specs.Tree.{Reading}
 use Rattle.dt_names.specs.declared.fault.FaultKind.{FaultKind}
-use Rattle.dt_names.specs.declared.fault.FaultKind.TheVariants.{NoReg, BadCells, NotMapped, NoRanges, PciBus, Overflow, NoInterrupts, Loop, BadMap, NoMapEntry, UnknownPhandle}
+use Rattle.dt_names.specs.declared.fault.FaultKind.TheVariants.{NoReg, BadCells, NotMapped, NoRanges, PciBus, Overflow, NoInterrupts, NoParent, Loop, BadMap, NoMapEntry, NoUnitAddress, UnknownPhandle}
 use Rattle.dt_resolve_model.specs.Answers.{Answer, undetermined, refused, answer}
 use Rattle.dt_resolve_model.specs.World.{tree_world}
 use Rattle.dt_resolve_model.specs.Regions.{region, dma_region}
+use Rattle.dt_resolve_model.specs.Interrupts.{Route, IsRoute}
 use Rattle.dt_resolve_model.specs.Specifiers.{specifier_route}
 
 -- those of regions
@@ -19,6 +20,18 @@ IsRegionFault NoRanges = Unit {0}
 IsRegionFault PciBus = Unit {0}
 IsRegionFault Overflow = Unit {0}
 IsRegionFault _ = ⊥
+
+-- those of interrupts' routes
+abbrev pub IsRouteFault : FaultKind → Type 0
+IsRouteFault BadCells = Unit {0}
+IsRouteFault NoInterrupts = Unit {0}
+IsRouteFault NoParent = Unit {0}
+IsRouteFault Loop = Unit {0}
+IsRouteFault BadMap = Unit {0}
+IsRouteFault NoMapEntry = Unit {0}
+IsRouteFault NoUnitAddress = Unit {0}
+IsRouteFault UnknownPhandle = Unit {0}
+IsRouteFault _ = ⊥
 
 -- those of specifiers' routes
 abbrev pub IsSpecifierFault : FaultKind → Type 0
@@ -40,4 +53,5 @@ IsRefusedFor is (answer a) = Unit {0}
 pub record AreNamed (t : Reading) : Type 0 where
   pub regions : (p : Path) (index : ℕ) → IsRefusedFor IsRegionFault (region (tree_world t) p index)
   pub dma_regions : (p : Path) (address size : ℕ) → IsRefusedFor IsRegionFault (dma_region (tree_world t) p address size)
+  pub routes : (p : Path) (index : ℕ) (r : Answer Route) → IsRoute (tree_world t) p index r → IsRefusedFor IsRouteFault r
   pub specifiers : (p : Path) (property kind : Name) (index : ℕ) → IsRefusedFor IsSpecifierFault (specifier_route (tree_world t) p property kind index)

@@ -4,7 +4,7 @@ use Rattle.dt_model.specs.Names.{Name}
 use Rattle.dt_model.specs.Path.{Path}
 use Rattle.dt_model.specs.Meaning.{Meaning}
 use Rattle.dt_model.specs.Tree.{Reading, nodes_of}
-use Rattle.dt_model_laws.specs.Applying.{IsOf}
+use Rattle.dt_model.specs.Represents.{IsOf}
 use Rattle.dt_resolve_model.specs.declared.regions.Region.{Region}
 use Rattle.dt_resolve_model.specs.Answers.{Answer, Agrees}
 use Rattle.dt_resolve_model.specs.World.{World, tree_world, node_written, meaning_world}
@@ -12,8 +12,9 @@ use Rattle.dt_resolve_model.specs.Regions.{region, dma_region}
 use Rattle.dt_resolve_model.specs.Interrupts.{Route, IsInterruptParent, IsRoute}
 use Rattle.dt_resolve_model.specs.Specifiers.{specifier_route}
 
--- Whatever of a region, also of one for DMA, or of a route of an interrupt or of any other specifier the meaning determines, an answer or a fault, the tree's is the same. In the list there may be any of
--- the meaning's nodes: the more there are, the more written numbers find theirs.
+-- Whatever the meaning determines of a region, also of one for DMA, or of a route of an interrupt or of any other specifier, an answer or a
+-- fault, the tree's is the same. In the list there may be any of the meaning's nodes: the more there are, the more written numbers find
+-- theirs. With those of the tree each written number finds its node.
 pub record IsResolvedIn (t : Reading) (m : Meaning) : Type 0 where
   pub regions : (nodes : List Path) (p : Path) (index : ℕ) → Agrees (λ (a b : Region). a ≡ b) (region (meaning_world m nodes) p index) (region (tree_world t) p index)
   pub dma_regions : (nodes : List Path) (p : Path) (address size : ℕ) → Agrees (λ (a b : Region). a ≡ b) (dma_region (meaning_world m nodes) p address size) (dma_region (tree_world t) p address size)
@@ -21,6 +22,7 @@ pub record IsResolvedIn (t : Reading) (m : Meaning) : Type 0 where
       → Agrees (λ (a b : Route). a ≡ b) meant told
   pub specifiers : (nodes : List Path) (p : Path) (property kind : Name) (index : ℕ)
       → Agrees (λ (a b : Route). a ≡ b) (specifier_route (meaning_world m nodes) p property kind index) (specifier_route (tree_world t) p property kind index)
+  pub written : (p : Path) (n : ℕ) → m.number p ≡ Some n → node_written m (map (λ x. x.path) (nodes_of t)) n ≡ Some p
 
 -- a tree of a meaning, by whatever numbers, resolves what the meaning determines
 abbrev pub MeaningIsResolved : Type 0

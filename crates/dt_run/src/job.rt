@@ -65,7 +65,7 @@ pub fn perform<S: Sink>(
     }
 }
 
-// The question of an address that is put on a bus.
+/// The question of an address that is put on a bus.
 fn by_dma(address: u64, size: u64) -> Question<'static>
     ensures { result ≡ Dma address size }
 {
@@ -75,7 +75,7 @@ fn by_dma(address: u64, size: u64) -> Question<'static>
     }
 }
 
-// The question of a specifier.
+/// The question of a specifier.
 fn by_specifier<'a>(property: &'a str, kind: &'a str, index: u64) -> Question<'a>
     ensures { IsOfSpecifier property.entry.now kind.entry.now index result }
 {

@@ -9,7 +9,7 @@ use dt_names::{Fault, Sink, put_all};
 use std::alloc::Global;
 
 /// A fault is of the first input.
-pub fn of_first<T: Drop>(done: Result<T, Fault>) -> Result<T, (usize, Fault)>
+pub(crate) fn of_first<T: Drop>(done: Result<T, Fault>) -> Result<T, (usize, Fault)>
     ensures { MatchResult done (λ done. result ≡ Ok done) (λ fault. result ≡ Err (0, fault)) }
 {
     match done {
@@ -37,7 +37,7 @@ fn put_blob<S: Sink>(alloc: Global, hex: bool, blob: &[u8], out: &mut S) -> Resu
 ///
 /// Why the blob wasn't made, where nothing is written; want of memory for the hexadecimal, where nothing is written; and `WriteFault`,
 /// where the sink took a front of what was to be written. The last two are of input 0, and have no place.
-pub fn show<S: Sink>(
+pub(crate) fn show<S: Sink>(
     alloc: Global,
     hex: bool,
     made: Result<Vec<u8>, (usize, Fault)>,

@@ -10,7 +10,7 @@ use dt_names::{Fault, Sink, put_all};
 /// # Errors
 ///
 /// `WriteFault` where the sink fails: it took a front of the texts.
-pub fn put_pieces<S: Sink>(sink: &mut S, pieces: &[&str]) -> Result<(), Fault>
+pub(crate) fn put_pieces<S: Sink>(sink: &mut S, pieces: &[&str]) -> Result<(), Fault>
     ensures written { OnOk result (Takes (joined pieces.now) (S.taken sink.old) (S.taken sink.new)) }
     ensures refused { IfErr result (λ fault. IsRefused fault (joined pieces.now) (S.taken sink.old) (S.taken sink.new)) }
 {

@@ -271,7 +271,7 @@ fn with_commands<'a>(
 /// # Errors
 ///
 /// Where memory is refused.
-pub fn tool<'a>(alloc: Global) -> Result<Command<'a>, AllocError>
+pub(crate) fn tool<'a>(alloc: Global) -> Result<Command<'a>, AllocError>
     ensures { IfOk result (λ command. app_of command ≡ dtool) }
 {
     let tool = Command::new(alloc, "dtool")

@@ -21,7 +21,7 @@ use dt_source_named_tree::{NamedNode, NamedTree};
 use dt_source_nodes::named_nodes;
 use std::alloc::{AllocError, Global};
 
-// The nodes of a source's items.
+/// The nodes of a source's items.
 fn nodes_of<'a>(
     alloc: Global,
     seed: Seed,
@@ -38,7 +38,7 @@ fn nodes_of<'a>(
     named_nodes(alloc, seed, &growing)
 }
 
-// The reservations as pairs.
+/// The reservations as pairs.
 fn pairs(alloc: Global, reservations: &[Reservation]) -> Result<Vec<(u64, u64)>, AllocError>
     ensures { IfOk result (λ pairs. pairs.items ≡ map reservation_said reservations.now) }
 {
@@ -49,7 +49,7 @@ fn pairs(alloc: Global, reservations: &[Reservation]) -> Result<Vec<(u64, u64)>,
     Ok(pairs)
 }
 
-// The tree of the nodes, where they aren't too many.
+/// The tree of the nodes, where they aren't too many.
 pub(crate) fn whole<'a>(
     seed: Seed,
     reservations: Vec<(u64, u64)>,

@@ -16,6 +16,6 @@ mod overlays;
 
 pub use building::build_base;
 pub use dt_source_bodies::Mode;
-pub use dt_source_fragments::{Fragment, Target};
+pub use dt_source_fragments::{Fragment, SourceTarget};
 pub use laws::{one_outcome, one_overlay_outcome};
 pub use overlays::{NamedOverlay, build_overlay};

@@ -62,7 +62,7 @@ impl<'a> NamedOverlay<'a> {
     }
 }
 
-// The nodes of an overlay's items.
+/// The nodes of an overlay's items.
 fn nodes_of<'a>(alloc: Global, seed: Seed, items: &[Item<'a>]) -> Result<Vec<NamedNode<'a>>, Fault>
     requires { AllByRecursion IsPlace (map place_said items.now) }
     ensures { MatchResult result
@@ -76,7 +76,7 @@ fn nodes_of<'a>(alloc: Global, seed: Seed, items: &[Item<'a>]) -> Result<Vec<Nam
     overlay_nodes(alloc, &growing)
 }
 
-// The overlay of nodes, where they aren't too many, and fragments.
+/// The overlay of nodes, where they aren't too many, and fragments.
 fn whole_overlay<'a>(
     alloc: Global,
     seed: Seed,

@@ -21,7 +21,7 @@ pub struct Arena<'a> {
 
 /// How many blocks were read, and how many of them opened new fragments.
 #[derive(Clone, Copy)]
-pub struct Used {
+pub(crate) struct Used {
     pub blocks: usize,
     pub fragments: usize,
 }

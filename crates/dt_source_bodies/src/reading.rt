@@ -29,7 +29,7 @@ pub enum Mode {
 
 /// A body that is open: its node, how many names the node's path has, and the item that opened the body.
 #[derive(Clone, Copy)]
-pub struct OpenBody {
+pub(crate) struct OpenBody {
     pub node: usize,
     pub depth: usize,
     pub item: usize,

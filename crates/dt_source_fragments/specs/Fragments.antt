@@ -7,11 +7,11 @@ use Rattle.dt_names.specs.declared.fault.Fault.{Fault}
 use Rattle.dt_names.specs.declared.fault.FaultKind.{FaultKind}
 use Rattle.dt_names.specs.declared.fault.FaultKind.TheVariants.{NoMemory, BadFragment, OutsideContent}
 use Rattle.dt_source_named_tree.specs.Said.{reference_said}
-use Rattle.dt_source_fragments.specs.declared.fragments.Target.{Target}
-use Rattle.dt_source_fragments.specs.declared.fragments.Target.TheVariants.{Reference, Path}
+use Rattle.dt_source_fragments.specs.declared.fragments.SourceTarget.{SourceTarget}
+use Rattle.dt_source_fragments.specs.declared.fragments.SourceTarget.TheVariants.{Reference, Path}
 use Rattle.dt_source_fragments.specs.declared.fragments.Fragment.{Fragment}
 
-abbrev pub target_said : Target → NamedTarget
+abbrev pub target_said : SourceTarget → NamedTarget
 target_said (Reference r) = to_reference (reference_said r)
 target_said (Path text) = to_text text.items
 

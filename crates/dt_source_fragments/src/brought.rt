@@ -9,7 +9,7 @@ ghost use Rattle.dt_model_laws.specs.OverlayChecks.{AreBehind, AreBrought, AreCo
 ghost use Rattle.dt_source_fragments.specs.Fragments.{fragment_said, target_said, IsUnchecked};
 ghost use Rattle.dt_source_named_tree.specs.Said.{reference_said, value_said, property_said, node_said};
 
-use crate::fragments::{Fragment, Target, fragments, is_first};
+use crate::fragments::{Fragment, SourceTarget, fragments, is_first};
 use dt_names::{Fault, FaultKind, NodeId};
 use dt_source_named_tree::{NamedNode, NamedProperty, NamedReference, NamedValue};
 use std::alloc::{AllocError, Global};
@@ -103,12 +103,12 @@ fn are_contained(nodes: &[NamedNode<'_>], marks: &[bool]) -> bool
     true
 }
 
-fn is_target_within(marks: &[bool], target: &Target<'_>) -> bool
+fn is_target_within(marks: &[bool], target: &SourceTarget<'_>) -> bool
     ensures { result ≡ checks.is_target_within marks.now (target_said target.now) }
 {
     match target {
-        Target::Reference(reference) => is_within(marks, reference),
-        Target::Path(_) => true,
+        SourceTarget::Reference(reference) => is_within(marks, reference),
+        SourceTarget::Path(_) => true,
     }
 }
 

@@ -17,7 +17,7 @@ use std::alloc::Global;
 
 /// What a fragment names as its target.
 #[derive(Drop)]
-pub enum Target<'a> {
+pub enum SourceTarget<'a> {
     /// By a reference: a node of some other tree, or of the overlay itself.
     Reference(NamedReference<'a>),
     /// By the text of a path: a node of some other tree.
@@ -28,7 +28,7 @@ pub enum Target<'a> {
 #[derive(Drop)]
 pub struct Fragment<'a> {
     pub node: NodeId,
-    pub target: Target<'a>,
+    pub target: SourceTarget<'a>,
 }
 
 /// The value of the property of a name.
@@ -91,25 +91,25 @@ fn target_path<'t>(properties: &'t [NamedProperty<'_>]) -> Option<&'t [u8]>
 
 /// The target that a node with these properties holds: the one reference of `target`, or else the path of `target-path`.
 /// `BadFragment` where it holds none.
-fn target_of<'a>(alloc: Global, properties: &[NamedProperty<'a>]) -> Result<Target<'a>, Fault>
+fn target_of<'a>(alloc: Global, properties: &[NamedProperty<'a>]) -> Result<SourceTarget<'a>, Fault>
     ensures { MatchResult result
         (λ target. HoldTarget (map property_said properties.now) (target_said target))
         (λ fault. (fault.at ≡ None) × WhyNoTarget (map property_said properties.now) fault.kind) }
 {
     if let Some(value) = value_of(properties, b"target") {
         return match one_reference(value) {
-            Some(reference) => Ok(Target::Reference(reference)),
+            Some(reference) => Ok(SourceTarget::Reference(reference)),
             None => Err(Fault::of(FaultKind::BadFragment)),
         };
     }
     match target_path(properties) {
-        Some(text) => Ok(Target::Path(text.to_vec(alloc)?)),
+        Some(text) => Ok(SourceTarget::Path(text.to_vec(alloc)?)),
         None => Err(Fault::of(FaultKind::BadFragment)),
     }
 }
 
 /// Is the node of a number the root, or one of its children?
-pub fn is_first(nodes: &[NamedNode<'_>], number: NodeId) -> bool
+pub(crate) fn is_first(nodes: &[NamedNode<'_>], number: NodeId) -> bool
     ensures { result ≡ checks.is_first (map node_said nodes.now) number }
 {
     match nodes.get(number) {
@@ -149,7 +149,10 @@ fn push_fragment<'a>(
 }
 
 /// The fragments of an overlay's nodes, with the targets that they hold. `BadFragment` where one holds none.
-pub fn fragments<'a>(alloc: Global, nodes: &[NamedNode<'a>]) -> Result<Vec<Fragment<'a>>, Fault>
+pub(crate) fn fragments<'a>(
+    alloc: Global,
+    nodes: &[NamedNode<'a>],
+) -> Result<Vec<Fragment<'a>>, Fault>
     ensures { MatchResult result
         (λ fragments. AreFragmentsAmong (map node_said nodes.now) (map fragment_said fragments.items))
         (λ fault. IsUnchecked (map node_said nodes.now) fault) }

@@ -14,5 +14,5 @@ mod fragments;
 mod new_names;
 
 pub use brought::checked_fragments;
-pub use fragments::{Fragment, Target};
+pub use fragments::{Fragment, SourceTarget};
 pub use new_names::fragment_names;

@@ -4,7 +4,7 @@ use Rattle.dt_model.specs.Names.{Name}
 use Rattle.dt_model.specs.Path.{Path}
 use Rattle.dt_model.specs.Event.{Stack, stands, names}
 use Rattle.dt_model.specs.Source.{Events, labelled, referent, by_path}
-use Rattle.dt_model_laws.proofs.Labels.{labelled_names, labelled_none}
+use Rattle.dt_model.proofs.Labels.{labelled_names, labelled_none}
 use Rattle.dt_source_growing.specs.Shape.{given_at}
 use Rattle.dt_source_growing.specs.Grown.{StandsUnder, HasLabel, IsGrown}
 use Rattle.dt_source_growing.specs.Growing.{shape, IsSoundGrowing}

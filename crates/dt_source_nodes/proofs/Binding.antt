@@ -10,7 +10,7 @@ use Rattle.dt_model.specs.Event.{Stack, stands}
 use Rattle.dt_model.specs.Overlay.{ReferenceBy, inside, outside, OverlayReference, reference_renamed}
 use Rattle.dt_model.specs.Source.{Part, one, number_of, text_of, Reference, by_label, by_path, Events, referent, bound, all_bound}
 use Rattle.dt_model.specs.Named.{NodeReference}
-use Rattle.dt_model_laws.proofs.Labels.{labelled_names}
+use Rattle.dt_model.proofs.Labels.{labelled_names}
 use Rattle.dt_model.proofs.Cases.{map_some, then_some}
 use Rattle.dt_source_growing.specs.declared.growing.Node.{Node}
 use Rattle.dt_source_growing.specs.declared.growing.Property.{Property}

@@ -12,7 +12,7 @@ use Rattle.dt_read.specs.Placed.{PlacedTree, reading_of, path_at, place_of, IsAt
 use Rattle.dt_read.proofs.NodePlaces.{path_is, at_node, stands_place}
 use Rattle.dt_view.specs.Tables.{at_number, HasNumber, AreParents, ArePhandles}
 use Rattle.dt_view.specs.Views.{IsAbove}
-use Rattle.dt_view.proofs.Numbered.{AreApart}
+use Rattle.dt_read.specs.Placed.{HasPlacesApart}
 
 pub above_of : (t : PlacedTree) (entries : List (ℕ × Option ℕ)) (k : ℕ) → AreParents t (nodes_of (reading_of t)) entries → IsNode t k → (a : Option ℕ) × (at_number entries k ≡ Some a) × IsAbove t k a
 above_of t entries k parents is =
@@ -40,7 +40,7 @@ pub record IsLookedUp (t : PlacedTree) (n : ℕ) (r : Option ℕ) : Type 0 where
   pub has : (k : ℕ) → r ≡ Some k → IsNode t k × HasNumber t k n
   pub found : (k : ℕ) → IsNode t k → HasNumber t k n → is_some r ≡ true
 
-none_numbered : (t : PlacedTree) (n : ℕ) → IsValid (reading_of t) → AreApart t → IsLookedUp t n None → (o : Option Path) → node_numbered (nodes_of (reading_of t)) n ≡ o → None ≡ o
+none_numbered : (t : PlacedTree) (n : ℕ) → IsValid (reading_of t) → HasPlacesApart t → IsLookedUp t n None → (o : Option Path) → node_numbered (nodes_of (reading_of t)) n ≡ o → None ≡ o
 none_numbered t n valid places looked None e = refl
 none_numbered t n valid places looked (Some p) e =
     let has : value_in (reading_of t) p (codes "phandle") ≡ Some (cell n) = number_of_node (reading_of t) p n valid e in
@@ -49,7 +49,7 @@ none_numbered t n valid places looked (Some p) e =
     absurd (true≢false (sym (looked.found k.0 (at_node t places p k.0 k.1) own)))
 
 -- so the first node with the number is found
-pub looked_up : (t : PlacedTree) (n : ℕ) (r : Option ℕ) → IsValid (reading_of t) → AreApart t → IsLookedUp t n r → option_map (path_at t) r ≡ node_numbered (nodes_of (reading_of t)) n
+pub looked_up : (t : PlacedTree) (n : ℕ) (r : Option ℕ) → IsValid (reading_of t) → HasPlacesApart t → IsLookedUp t n r → option_map (path_at t) r ≡ node_numbered (nodes_of (reading_of t)) n
 looked_up t n (Some k) valid places looked = sym (node_of_number (reading_of t) (path_at t k) n valid (looked.has k refl).1)
 looked_up t n None valid places looked = none_numbered t n valid places looked (node_numbered (nodes_of (reading_of t)) n) refl
 

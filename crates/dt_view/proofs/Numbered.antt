@@ -7,15 +7,11 @@ use Rattle.dt_model.specs.Path.{Path}
 use Rattle.dt_model.specs.Tree.{Placed, value_of, value_in, nodes_of}
 use Rattle.dt_model.specs.Valid.{IsValid}
 use Rattle.dt_model.proofs.Listed.{listed_value}
-use Rattle.dt_read.specs.Placed.{PlacedTree, reading_of, path_at, IsAt, IsNode}
+use Rattle.dt_read.specs.Placed.{PlacedTree, reading_of, path_at, IsAt, IsNode, HasPlacesApart}
 use Rattle.dt_read.specs.Walked.{Step, opens}
 use Rattle.dt_read.proofs.NodePlaces.{path_is, at_node}
 use Rattle.dt_view.proofs.Walks.{AreOpened}
 use Rattle.dt_view.proofs.Openings.{next_opened}
-
--- each place is one path's
-abbrev pub AreApart : PlacedTree → Type 0
-AreApart t = (p q : Path) (k : ℕ) → IsAt t p k → IsAt t q k → p ≡ q
 
 -- what is left finds what the whole walk finds
 pub record Finds (t : PlacedTree) (n : ℕ) (steps : List Step) : Type 0 where
@@ -25,7 +21,7 @@ pub record Finds (t : PlacedTree) (n : ℕ) (steps : List Step) : Type 0 where
   pub same : node_numbered nodes n ≡ node_numbered (nodes_of (reading_of t)) n
 
 -- a node that is opened is a node
-pub opens_node : (t : PlacedTree) (n k : ℕ) (name : Name) (steps rest : List Step) → AreApart t → Finds t n steps → steps ≡ opens k name ∷ rest → IsNode t k
+pub opens_node : (t : PlacedTree) (n k : ℕ) (name : Name) (steps rest : List Step) → HasPlacesApart t → Finds t n steps → steps ≡ opens k name ∷ rest → IsNode t k
 opens_node t n k name steps rest apart left e =
     let next = next_opened t left.before left.nodes k name rest (subst (AreOpened t left.before left.nodes) e left.opened) in
     at_node t apart next.first.path k next.at
@@ -41,7 +37,7 @@ asked t n k first later is value =
     ∙ ap (λ p. if is_cell n (value_in (reading_of t) p (codes "phandle")) then Some p else node_numbered later n) (sym is)
 
 -- the node has the number
-pub found : (t : PlacedTree) (n k : ℕ) (name : Name) (steps rest : List Step) → IsValid (reading_of t) → AreApart t → Finds t n steps → steps ≡ opens k name ∷ rest → has_number t n k ≡ true
+pub found : (t : PlacedTree) (n k : ℕ) (name : Name) (steps rest : List Step) → IsValid (reading_of t) → HasPlacesApart t → Finds t n steps → steps ≡ opens k name ∷ rest → has_number t n k ≡ true
     → Some (path_at t k) ≡ node_numbered (nodes_of (reading_of t)) n
 found t n k name steps rest valid apart left e has =
     let next = next_opened t left.before left.nodes k name rest (subst (AreOpened t left.before left.nodes) e left.opened) in
@@ -51,7 +47,7 @@ found t n k name steps rest valid apart left e has =
     ∙ left.same
 
 -- it hasn't
-pub passed : (t : PlacedTree) (n k : ℕ) (name : Name) (steps rest : List Step) → IsValid (reading_of t) → AreApart t → Finds t n steps → steps ≡ opens k name ∷ rest → has_number t n k ≡ false → Finds t n rest
+pub passed : (t : PlacedTree) (n k : ℕ) (name : Name) (steps rest : List Step) → IsValid (reading_of t) → HasPlacesApart t → Finds t n steps → steps ≡ opens k name ∷ rest → has_number t n k ≡ false → Finds t n rest
 passed t n k name steps rest valid apart left e has =
     let next = next_opened t left.before left.nodes k name rest (subst (AreOpened t left.before left.nodes) e left.opened) in
     record {

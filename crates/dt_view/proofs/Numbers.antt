@@ -26,7 +26,7 @@ use Rattle.dt_view.specs.Trees.{nodes_among, nodes_below, numbered_tree}
 use Rattle.dt_view.specs.Tables.{HasNumber}
 use Rattle.dt_view.specs.Views.{first_child_of, next_sibling_of, IsAbove}
 use Rattle.dt_view.proofs.Indexed.{IsLookedUp}
-use Rattle.dt_view.proofs.Numbered.{AreApart}
+use Rattle.dt_read.specs.Placed.{HasPlacesApart}
 use Rattle.dt_view.proofs.Steps.{first}
 
 -- ---- the same tree
@@ -74,7 +74,7 @@ down slots (x ∷ q) i = among slots x q (down slots q) (suc i) (drop (suc i) sl
 pub place_same : (a : Arena) (p : Path) → place_of (numbered_tree a) p ≡ node_from a.slots 0 p
 place_same a p = down a.slots p 0
 
-pub apart : (a : Arena) → IsRooted a.slots → AreApart (numbered_tree a)
+pub apart : (a : Arena) → IsRooted a.slots → HasPlacesApart (numbered_tree a)
 apart a rooted p q k e f = path-same a.slots p q 0 k rooted (sym (place_same a p) ∙ e) (sym (place_same a q) ∙ f)
 
 -- ---- nodes and their numbers

@@ -9,7 +9,7 @@ use Rattle.dt_read.specs.Placed.{Nodes, no_nodes, node, PlacedTree, place_below,
 use Rattle.dt_read.proofs.NodePlaces.{path_is, at_node}
 use Rattle.dt_resolve_model.specs.Above.{front}
 use Rattle.dt_view.specs.Views.{next_sibling_of}
-use Rattle.dt_view.proofs.Numbered.{AreApart}
+use Rattle.dt_read.specs.Placed.{HasPlacesApart}
 
 abbrev pub first : List ℕ → Option ℕ
 first [] = None
@@ -39,15 +39,15 @@ sibling_is t [] k r at root below = root at
 sibling_is t (x ∷ p) k r at root below = below (front (x ∷ p)) (last_name (x ∷ p)) (ap (place_of t) (ends_so x p) ∙ at)
 
 -- what stands at a path is a node
-pub place_is_node : (t : PlacedTree) → AreApart t → (p : Path) (r : Option ℕ) → r ≡ place_of t p → IfSome r (IsNode t)
+pub place_is_node : (t : PlacedTree) → HasPlacesApart t → (p : Path) (r : Option ℕ) → r ≡ place_of t p → IfSome r (IsNode t)
 place_is_node t places p None e = tt
 place_is_node t places p (Some k) e = at_node t places p k (sym e)
 
-pub first_is_node : (t : PlacedTree) → AreApart t → (p : Path) (names : List Name) (r : Option ℕ) → r ≡ first_place_of t p names → IfSome r (IsNode t)
+pub first_is_node : (t : PlacedTree) → HasPlacesApart t → (p : Path) (names : List Name) (r : Option ℕ) → r ≡ first_place_of t p names → IfSome r (IsNode t)
 first_is_node t places p [] r e = subst (λ (o : Option ℕ). IfSome o (IsNode t)) (sym e) tt
 first_is_node t places p (x ∷ names) r e = place_is_node t places (p ++ x ∷ []) r e
 
-pub sibling_is_node : (t : PlacedTree) → AreApart t → (p : Path) (r : Option ℕ) → r ≡ next_sibling_of t p → IfSome r (IsNode t)
+pub sibling_is_node : (t : PlacedTree) → HasPlacesApart t → (p : Path) (r : Option ℕ) → r ≡ next_sibling_of t p → IfSome r (IsNode t)
 sibling_is_node t places [] r e = subst (λ (o : Option ℕ). IfSome o (IsNode t)) (sym e) tt
 sibling_is_node t places (x ∷ p) r e = first_is_node t places (front (x ∷ p)) (names_behind (last_name (x ∷ p)) (child_names t (front (x ∷ p)))) r e
 
@@ -71,23 +71,23 @@ none_below (node place name properties children siblings) at (x ∷ p) q e =
     by_name false e within after = after e
 
 -- the child of the node that is called as the next name
-child_here : (t : PlacedTree) (path : Path) (k : ℕ) (x : Name) (left : Path) (r : Option ℕ) → AreApart t → (w : IsOnTheWay t path k (x ∷ left)) → r ≡ place_of t (path_at t k ++ x ∷ []) → r ≡ place_of t (w.done ++ x ∷ [])
+child_here : (t : PlacedTree) (path : Path) (k : ℕ) (x : Name) (left : Path) (r : Option ℕ) → HasPlacesApart t → (w : IsOnTheWay t path k (x ∷ left)) → r ≡ place_of t (path_at t k ++ x ∷ []) → r ≡ place_of t (w.done ++ x ∷ [])
 child_here t path k x left r places w e = e ∙ ap (λ (p : Path). place_of t (p ++ x ∷ [])) (path_is t places w.done k w.here)
 
 one_name : (t : PlacedTree) (path : Path) (k : ℕ) (x : Name) (left : Path) (w : IsOnTheWay t path k (x ∷ left)) → path ≡ (w.done ++ x ∷ []) ++ left
 one_name t path k x left w = w.whole ∙ sym (append_assoc w.done (x ∷ []) left)
 
-pub on_the_way : (t : PlacedTree) (path : Path) (k : ℕ) (left : Path) → AreApart t → IsOnTheWay t path k left → IsNode t k
+pub on_the_way : (t : PlacedTree) (path : Path) (k : ℕ) (left : Path) → HasPlacesApart t → IsOnTheWay t path k left → IsNode t k
 on_the_way t path k left places w = at_node t places w.done k w.here
 
-pub one_step : (t : PlacedTree) (path : Path) (k : ℕ) (x : Name) (left : Path) (child : ℕ) → AreApart t → IsOnTheWay t path k (x ∷ left) → Some child ≡ place_of t (path_at t k ++ x ∷ []) → IsOnTheWay t path child left
+pub one_step : (t : PlacedTree) (path : Path) (k : ℕ) (x : Name) (left : Path) (child : ℕ) → HasPlacesApart t → IsOnTheWay t path k (x ∷ left) → Some child ≡ place_of t (path_at t k ++ x ∷ []) → IsOnTheWay t path child left
 one_step t path k x left child places w e = record {
   done = w.done ++ x ∷ [];
   here = sym (child_here t path k x left (Some child) places w e);
   whole = one_name t path k x left w;
 }
 
-pub no_step : (t : PlacedTree) (path : Path) (k : ℕ) (x : Name) (left : Path) → AreApart t → IsOnTheWay t path k (x ∷ left) → None ≡ place_of t (path_at t k ++ x ∷ []) → None ≡ place_of t path
+pub no_step : (t : PlacedTree) (path : Path) (k : ℕ) (x : Name) (left : Path) → HasPlacesApart t → IsOnTheWay t path k (x ∷ left) → None ≡ place_of t (path_at t k ++ x ∷ []) → None ≡ place_of t path
 no_step t path k x left places w e =
     sym (ap (place_of t) (one_name t path k x left w) ∙ none_below t.children t.place (w.done ++ x ∷ []) left (sym (child_here t path k x left None places w e)))
 

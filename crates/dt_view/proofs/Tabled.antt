@@ -22,7 +22,7 @@ use Rattle.dt_read.proofs.NodePlaces.{at_node}
 use Rattle.dt_view.specs.Tables.{at_number, HasNumber, AreParents, ArePhandles, IsNoted}
 use Rattle.dt_view.specs.Views.{IsAbove}
 use Rattle.dt_view.proofs.Walks.{innermost, parent_told, AreFew, opened, AreOpened}
-use Rattle.dt_view.proofs.Numbered.{AreApart}
+use Rattle.dt_read.specs.Placed.{HasPlacesApart}
 use Rattle.dt_view.proofs.Openings.{OpensNext, all_opened, all_apart, next_opened, none_opened}
 use Rattle.dt_view.proofs.Parents.{parent_is_above}
 use Rattle.dt_view.proofs.Shallow.{few_open}
@@ -77,7 +77,7 @@ pub record IsFilled (t : PlacedTree) (parents : List (ℕ × Option ℕ)) (phand
   pub counted : count ≡ length before
 
 -- nothing was opened
-pub unfilled : (t : PlacedTree) → IsValid (reading_of t) → IsWithinLimits (reading_of t) → AreApart t → IsFilled t [] [] [] 0 (steps_of t)
+pub unfilled : (t : PlacedTree) → IsValid (reading_of t) → IsWithinLimits (reading_of t) → HasPlacesApart t → IsFilled t [] [] [] 0 (steps_of t)
 unfilled t valid within places = record {
   before = [];
   nodes = nodes_of (reading_of t);
@@ -90,7 +90,7 @@ unfilled t valid within places = record {
   counted = refl;
 }
 
-pub opens_one : (t : PlacedTree) (parents : List (ℕ × Option ℕ)) (phandles : List (ℕ × ℕ)) (open_nodes : List ℕ) (count k : ℕ) (name : Name) (steps rest : List Step) → AreApart t → IsFilled t parents phandles open_nodes count steps → steps ≡ opens k name ∷ rest → IsNode t k
+pub opens_one : (t : PlacedTree) (parents : List (ℕ × Option ℕ)) (phandles : List (ℕ × ℕ)) (open_nodes : List ℕ) (count k : ℕ) (name : Name) (steps rest : List Step) → HasPlacesApart t → IsFilled t parents phandles open_nodes count steps → steps ≡ opens k name ∷ rest → IsNode t k
 opens_one t parents phandles open_nodes count k name steps rest places f e =
     let next = next_opened t f.before f.nodes k name rest (subst (AreOpened t f.before f.nodes) e f.are) in
     at_node t places next.first.path k next.at
@@ -106,7 +106,7 @@ room_for_one t parents phandles open_nodes count k name steps rest within f e =
     let is = f.counted in
     ((subst (AreFew (length open_nodes)) e f.few).0, omega arith)
 
-pub past_one : (t : PlacedTree) (parents parents' : List (ℕ × Option ℕ)) (phandles phandles' : List (ℕ × ℕ)) (open_nodes : List ℕ) (count k : ℕ) (name : Name) (steps rest : List Step) → IsValid (reading_of t) → AreApart t → IsFilled t parents phandles open_nodes count steps → steps ≡ opens k name ∷ rest
+pub past_one : (t : PlacedTree) (parents parents' : List (ℕ × Option ℕ)) (phandles phandles' : List (ℕ × ℕ)) (open_nodes : List ℕ) (count k : ℕ) (name : Name) (steps rest : List Step) → IsValid (reading_of t) → HasPlacesApart t → IsFilled t parents phandles open_nodes count steps → steps ≡ opens k name ∷ rest
     → ((j : ℕ) → at_number parents' j ≡ cond (nat_eq k j) (Some (innermost open_nodes)) (at_number parents j)) → IsNoted t k phandles phandles' → IsFilled t parents' phandles' (k ∷ open_nodes) (count + 1) rest
 past_one t parents parents' phandles phandles' open_nodes count k name steps rest valid places f e put note = record {
   before = f.before ++ next.first ∷ [];

@@ -4,8 +4,13 @@ use Rattle.dt_model.specs.Path.{Path}
 use Rattle.dt_names.specs.Paths.{IsPathOf}
 use Rattle.dt_names.specs.declared.fault.FaultKind.{FaultKind}
 use Rattle.dt_names.specs.declared.fault.FaultKind.TheVariants.{BadName, NoNode}
-use Rattle.dt_read.specs.Placed.{PlacedTree, path_at, place_of, last_name, child_names, first_place_of, names_behind, IsAt, IsNode}
+use Rattle.dt_read.specs.Placed.{PlacedTree, path_at, place_of, last_name, reading_of, child_names, first_place_of, names_behind, IsAt, IsNode}
 use Rattle.dt_resolve_model.specs.Above.{front}
+use Rattle.dt_resolve_model.specs.World.{World, tree_world}
+
+-- what the rules of addresses and interrupts ask the tree for
+abbrev pub world_of : PlacedTree → World
+world_of t = tree_world (reading_of t)
 
 -- the node above one, none above the root
 abbrev pub IsAbove : PlacedTree → ℕ → Option ℕ → Type 0

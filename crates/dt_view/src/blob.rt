@@ -5,14 +5,23 @@ ghost use Rattle.std.specs.Prelude.{◌≡◌, ◌∷◌, ◌++◌, ℕ, [], IfS
 ghost use Rattle.std.specs.Option.{option_copied};
 ghost use Rattle.dt_model.specs.Applied.{is_cell, node_numbered};
 ghost use Rattle.dt_model.specs.Tree.{nodes_of, value_in};
-ghost use Rattle.dt_read.specs.Placed.{PlacedTree, last_name, path_at, place_of, reading_of, IsNode};
+ghost use Rattle.dt_read.specs.Placed.{PlacedTree, last_name, path_at, place_of, reading_of, IsAt, IsNode};
 ghost use Rattle.dt_view.specs.Views.{first_child_of, next_sibling_of, IsAbove};
 
 use crate::view::TreeView;
 use dt_names::NodeId;
 use dt_read::{Blob, OpenNodes, Step};
 
-// The node above a node, by a walk up to it.
+/// The root.
+pub(crate) fn root_of(blob: &Blob<'_>) -> NodeId
+    ensures at { IsAt blob.now [] result }
+    ensures node { IsNode blob.now result }
+{
+    blob.validity();
+    blob.root()
+}
+
+/// The node above a node, by a walk up to it.
 fn parent_of(blob: &Blob<'_>, node: NodeId) -> Option<NodeId>
     requires { IsNode blob.now node }
     ensures { IsAbove blob.now node result }
@@ -35,7 +44,7 @@ fn parent_of(blob: &Blob<'_>, node: NodeId) -> Option<NodeId>
 }
 
 /// The value of a node's property.
-pub fn value_of<'b>(blob: &'b Blob<'_>, node: NodeId, name: &[u8]) -> Option<&'b [u8]>
+pub(crate) fn value_of<'b>(blob: &'b Blob<'_>, node: NodeId, name: &[u8]) -> Option<&'b [u8]>
     requires { IsNode blob.now node }
     ensures { option_copied result ≡ value_in (reading_of blob.now) (path_at blob.now node) name.now }
 {
@@ -43,7 +52,7 @@ pub fn value_of<'b>(blob: &'b Blob<'_>, node: NodeId, name: &[u8]) -> Option<&'b
 }
 
 /// The name of a node.
-pub fn name_of<'b>(blob: &'b Blob<'_>, node: NodeId) -> &'b [u8]
+pub(crate) fn name_of<'b>(blob: &'b Blob<'_>, node: NodeId) -> &'b [u8]
     requires { IsNode blob.now node }
     ensures { result.now ≡ last_name (path_at blob.now node) }
 {
@@ -51,7 +60,7 @@ pub fn name_of<'b>(blob: &'b Blob<'_>, node: NodeId) -> &'b [u8]
 }
 
 /// The child of a node that has a name.
-pub fn child_of(blob: &Blob<'_>, node: NodeId, name: &[u8]) -> Option<NodeId>
+pub(crate) fn child_of(blob: &Blob<'_>, node: NodeId, name: &[u8]) -> Option<NodeId>
     requires { IsNode blob.now node }
     ensures is { result ≡ place_of blob.now (path_at blob.now node ++ name.now ∷ []) }
     ensures node { IfSome result (IsNode blob.now) }
@@ -61,7 +70,7 @@ pub fn child_of(blob: &Blob<'_>, node: NodeId, name: &[u8]) -> Option<NodeId>
 }
 
 /// The first child of a node.
-pub fn first_child_of(blob: &Blob<'_>, node: NodeId) -> Option<NodeId>
+pub(crate) fn first_child_of(blob: &Blob<'_>, node: NodeId) -> Option<NodeId>
     requires { IsNode blob.now node }
     ensures is { result ≡ first_child_of blob.now (path_at blob.now node) }
     ensures node { IfSome result (IsNode blob.now) }
@@ -71,7 +80,7 @@ pub fn first_child_of(blob: &Blob<'_>, node: NodeId) -> Option<NodeId>
 }
 
 /// The sibling behind a node.
-pub fn sibling_behind(blob: &Blob<'_>, node: NodeId) -> Option<NodeId>
+pub(crate) fn sibling_behind(blob: &Blob<'_>, node: NodeId) -> Option<NodeId>
     requires { IsNode blob.now node }
     ensures is { result ≡ next_sibling_of blob.now (path_at blob.now node) }
     ensures node { IfSome result (IsNode blob.now) }
@@ -80,7 +89,7 @@ pub fn sibling_behind(blob: &Blob<'_>, node: NodeId) -> Option<NodeId>
     blob.next_sibling(node)
 }
 
-// Whether the value of a `phandle` is this number.
+/// Whether the value of a `phandle` is this number.
 fn is_number(value: Option<&[u8]>, number: u32) -> bool
     ensures { result ≡ is_cell number (option_copied value.entry) }
 {
@@ -90,7 +99,7 @@ fn is_number(value: Option<&[u8]>, number: u32) -> bool
     }
 }
 
-// The node that has a number, by a walk up to it.
+/// The node that has a number, by a walk up to it.
 fn numbered(blob: &Blob<'_>, number: u32) -> Option<NodeId>
     ensures finds { option_map (path_at blob.now) result ≡ node_numbered (nodes_of (reading_of blob.now)) number }
     ensures node { IfSome result (IsNode blob.now) }
@@ -114,7 +123,7 @@ impl<'a> TreeView for Blob<'a> {
     }
 
     fn root(&self) -> NodeId {
-        Blob::root(self)
+        root_of(self)
     }
 
     fn name(&self, node: NodeId) -> &[u8] {

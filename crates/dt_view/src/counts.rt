@@ -5,8 +5,9 @@ ghost use Rattle.dt_names.specs.declared.fault.FaultKind.TheVariants.{BadCells};
 ghost use Rattle.dt_model.specs.Tree.{value_in};
 ghost use Rattle.dt_read.specs.Placed.{path_at, reading_of, IsNode};
 ghost use Rattle.dt_resolve_model.specs.Answers.{answer, told};
-ghost use Rattle.dt_resolve_model.specs.World.{tree_world, value_of_bytes};
+ghost use Rattle.dt_resolve_model.specs.World.{value_of_bytes};
 ghost use Rattle.dt_resolve_model.specs.Regions.{address_count, bus_cells, count_of, is_pci, only_number};
+ghost use Rattle.dt_view.specs.Views.{world_of};
 
 use crate::view::TreeView;
 use dt_bytes::be32;
@@ -60,7 +61,7 @@ fn count<V: TreeView>(view: &V, node: NodeId, name: &[u8], absent: u32) -> Resul
 pub fn address_cells<V: TreeView>(view: &V, node: NodeId, absent: u32) -> Result<u32, Fault>
     requires node { IsNode (V.tree view.now) node }
     requires absent { absent ≤ 4 }
-    ensures is { told result ≡ address_count (tree_world (reading_of (V.tree view.now))) (path_at (V.tree view.now) node) absent }
+    ensures is { told result ≡ address_count (world_of (V.tree view.now)) (path_at (V.tree view.now) node) absent }
     ensures few { IfOk result (λ n. n ≤ 4) }
     ensures kind { IfErr result (λ fault. fault.kind ≡ BadCells) }
 {
@@ -74,7 +75,7 @@ pub fn address_cells<V: TreeView>(view: &V, node: NodeId, absent: u32) -> Result
 /// `BadCells` where one is written that isn't four bytes of at most 4.
 pub fn cells<V: TreeView>(view: &V, bus: NodeId) -> Result<BusCells, Fault>
     requires { IsNode (V.tree view.now) bus }
-    ensures is { told result ≡ bus_cells (tree_world (reading_of (V.tree view.now))) (path_at (V.tree view.now) bus) }
+    ensures is { told result ≡ bus_cells (world_of (V.tree view.now)) (path_at (V.tree view.now) bus) }
     ensures few { IfOk result (λ c. (c.address ≤ 4) × (c.size ≤ 4)) }
     ensures kind { IfErr result (λ fault. fault.kind ≡ BadCells) }
 {
@@ -86,7 +87,7 @@ pub fn cells<V: TreeView>(view: &V, bus: NodeId) -> Result<BusCells, Fault>
 /// Whether a bus says that it is one of PCI: its `device_type` is the text `pci`.
 pub fn is_pci<V: TreeView>(view: &V, bus: NodeId) -> bool
     requires { IsNode (V.tree view.now) bus }
-    ensures { is_pci (tree_world (reading_of (V.tree view.now))) (path_at (V.tree view.now) bus) ≡ answer result }
+    ensures { is_pci (world_of (V.tree view.now)) (path_at (V.tree view.now) bus) ≡ answer result }
 {
     match view.value(bus, b"device_type") {
         Some(kind) => match one_cell(kind) {

@@ -7,7 +7,7 @@ ghost use Rattle.dt_view.specs.Views.{IsFoundBy, WhyNotFound};
 use crate::view::TreeView;
 use dt_names::{Fault, FaultKind, NodeId, PathRef};
 
-// The node of a path.
+/// The node of a path.
 fn node_of<V: TreeView>(view: &V, path: &PathRef<'_>) -> Option<NodeId>
     ensures is { result ≡ place_of (V.tree view.now) path.now }
     ensures node { IfSome result (IsNode (V.tree view.now)) }

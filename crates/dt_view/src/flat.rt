@@ -6,7 +6,7 @@ ghost use Rattle.dt_model.specs.Applied.{node_numbered};
 ghost use Rattle.dt_model.specs.Path.{Path};
 ghost use Rattle.dt_model.specs.Tree.{nodes_of, value_in};
 ghost use Rattle.dt_model.specs.Valid.{IsValid, IsWithinLimits};
-ghost use Rattle.dt_read.specs.Placed.{PlacedTree, last_name, path_at, place_of, reading_of, IsAt, IsNode};
+ghost use Rattle.dt_read.specs.Placed.{PlacedTree, last_name, path_at, place_of, reading_of, IsAt, IsNode, HasPlacesApart};
 ghost use Rattle.dt_view.specs.Trees.{numbered_tree};
 ghost use Rattle.dt_view.specs.Views.{first_child_of, next_sibling_of, IsAbove};
 
@@ -17,9 +17,17 @@ use dt_names::NodeId;
 fn tree_validity(tree: &FlatTree)
     ensures valid { IsValid (reading_of (numbered_tree tree.now)) }
     ensures within { IsWithinLimits (reading_of (numbered_tree tree.now)) }
-    ensures places { (p q : Path) (node : ℕ) → IsAt (numbered_tree tree.now) p node → IsAt (numbered_tree tree.now) q node → p ≡ q }
+    ensures places { HasPlacesApart (numbered_tree tree.now) }
 {
     tree.validity();
+}
+
+fn root_of(tree: &FlatTree) -> NodeId
+    ensures at { IsAt (numbered_tree tree.now) [] result }
+    ensures node { IsNode (numbered_tree tree.now) result }
+{
+    tree.validity();
+    tree.root()
 }
 
 fn name_of(tree: &FlatTree, node: NodeId) -> &[u8]
@@ -96,7 +104,7 @@ impl TreeView for FlatTree {
     }
 
     fn root(&self) -> NodeId {
-        FlatTree::root(self)
+        root_of(self)
     }
 
     fn name(&self, node: NodeId) -> &[u8] {

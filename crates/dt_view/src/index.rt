@@ -2,8 +2,10 @@
 
 ghost use Rattle.std.specs.Prelude.{◌≡◌, IfOk, IfErr, None};
 ghost use Rattle.dt_names.specs.declared.fault.FaultKind.TheVariants.{NoMemory};
+ghost use Rattle.dt_names.specs.Fault.{IsNoMemory};
+ghost use Rattle.dt_read.specs.Placed.{HasPlacesApart};
 
-use crate::blob::{child_of, first_child_of, name_of, sibling_behind};
+use crate::blob::{child_of, first_child_of, name_of, root_of, sibling_behind};
 use crate::tables::{Parents, Phandles, Values, fill};
 use crate::view::TreeView;
 use dt_names::{Fault, NodeId};
@@ -55,7 +57,7 @@ impl<'a> Index<'a> {
     /// `NoMemory`, without a place.
     pub fn new(alloc: Global, blob: &'a Blob<'a>) -> Result<Index<'a>, Fault>
         ensures is { IfOk result (λ index. index ≡ blob.now) }
-        ensures refused { IfErr result (λ fault. (fault.kind ≡ NoMemory) × (fault.at ≡ None)) }
+        ensures refused { IfErr result IsNoMemory }
     {
         let mut parents = HashMap::with_hasher(alloc, blob.seed());
         let mut phandles = HashMap::with_hasher(alloc, blob.seed());
@@ -70,7 +72,7 @@ impl<'a> Index<'a> {
         })
     }
 
-    // The node above a node.
+    /// The node above a node.
     fn above(&self, node: NodeId) -> Option<NodeId>
         requires { IsNode self.now node }
         ensures { IsAbove self.now node result }
@@ -81,7 +83,7 @@ impl<'a> Index<'a> {
         }
     }
 
-    // The node of a phandle.
+    /// The node of a phandle.
     fn numbered(&self, number: u32) -> Option<NodeId>
         ensures finds { option_map (path_at self.now) result ≡ node_numbered (nodes_of (reading_of self.now)) number }
         ensures node { IfSome result (IsNode self.now) }
@@ -90,18 +92,18 @@ impl<'a> Index<'a> {
         self.phandles.get(&number).copied()
     }
 
-    // How many nodes there are.
+    /// How many nodes there are.
     fn nodes(&self) -> usize
         ensures { result ≡ length (nodes_of (reading_of self.now)) }
     {
         self.count
     }
 
-    // What holds of the blob.
+    /// What holds of the blob.
     fn blob_validity(&self)
         ensures valid { IsValid (reading_of self.now) }
         ensures within { IsWithinLimits (reading_of self.now) }
-        ensures places { (p q : Path) (node : ℕ) → IsAt self.now p node → IsAt self.now q node → p ≡ q }
+        ensures places { HasPlacesApart self.now }
     {
         self.blob.validity();
     }
@@ -113,14 +115,15 @@ impl<'a> Index<'a> {
         self.blob
     }
 
-    // The root.
+    /// The root.
     fn blob_root(&self) -> NodeId
-        ensures { IsAt self.now [] result }
+        ensures at { IsAt self.now [] result }
+        ensures node { IsNode self.now result }
     {
-        self.blob.root()
+        root_of(self.blob)
     }
 
-    // The name of a node.
+    /// The name of a node.
     fn name_in_blob(&self, node: NodeId) -> &[u8]
         requires { IsNode self.now node }
         ensures { result.now ≡ last_name (path_at self.now node) }
@@ -128,7 +131,7 @@ impl<'a> Index<'a> {
         name_of(self.blob, node)
     }
 
-    // The child of a node that has a name.
+    /// The child of a node that has a name.
     fn child_in_blob(&self, node: NodeId, name: &[u8]) -> Option<NodeId>
         requires { IsNode self.now node }
         ensures is { result ≡ place_of self.now (path_at self.now node ++ name.now ∷ []) }
@@ -137,7 +140,7 @@ impl<'a> Index<'a> {
         child_of(self.blob, node, name)
     }
 
-    // The first child of a node.
+    /// The first child of a node.
     fn first_child_in_blob(&self, node: NodeId) -> Option<NodeId>
         requires { IsNode self.now node }
         ensures is { result ≡ first_child_of self.now (path_at self.now node) }
@@ -146,7 +149,7 @@ impl<'a> Index<'a> {
         first_child_of(self.blob, node)
     }
 
-    // The sibling behind a node.
+    /// The sibling behind a node.
     fn sibling_in_blob(&self, node: NodeId) -> Option<NodeId>
         requires { IsNode self.now node }
         ensures is { result ≡ next_sibling_of self.now (path_at self.now node) }
@@ -155,7 +158,7 @@ impl<'a> Index<'a> {
         sibling_behind(self.blob, node)
     }
 
-    // The value of a node's property.
+    /// The value of a node's property.
     fn value_in_table(&self, node: NodeId, name: &[u8]) -> Option<&[u8]>
         requires { IsNode self.now node }
         ensures { option_copied result ≡ value_in (reading_of self.now) (path_at self.now node) name.now }

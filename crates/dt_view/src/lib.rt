@@ -23,6 +23,6 @@ mod view;
 pub use counts::{address_cells, cells, is_pci, one_cell};
 pub use finding::node_at;
 pub use index::Index;
-pub use laws::one_finding;
+pub use laws::{one_finding, tree_is_seen};
 pub use values::{cell_at, cells_after, first_cells};
 pub use view::TreeView;

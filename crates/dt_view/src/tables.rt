@@ -15,13 +15,13 @@ use std::alloc::AllocError;
 use std::collections::HashMap;
 
 /// The node above each node, None above the root.
-pub type Parents = HashMap<NodeId, Option<NodeId>, Seed>;
+pub(crate) type Parents = HashMap<NodeId, Option<NodeId>, Seed>;
 
 /// The node of each phandle.
-pub type Phandles = HashMap<u32, NodeId, Seed>;
+pub(crate) type Phandles = HashMap<u32, NodeId, Seed>;
 
 /// The value of each property, by its node and its name.
-pub type Values<'a> = HashMap<(NodeId, &'a [u8]), &'a [u8], Seed>;
+pub(crate) type Values<'a> = HashMap<(NodeId, &'a [u8]), &'a [u8], Seed>;
 
 fn put_parent(parents: &mut Parents, node: NodeId, above: Option<NodeId>) -> Result<(), AllocError>
     ensures { OnOk result ((k : ℕ) → at_number parents.new.entries k ≡ cond (nat_eq node k) (Some above) (at_number parents.old.entries k)) }
@@ -37,7 +37,7 @@ fn put_phandle(phandles: &mut Phandles, number: u32, node: NodeId) -> Result<(),
     Ok(())
 }
 
-// The number that a value of `phandle` is.
+/// The number that a value of `phandle` is.
 fn number_of(value: &[u8]) -> Option<u32>
     ensures valid { IsSome result ↔ IsPhandle value.now }
     ensures number { IfSome result (λ number. number ≡ from_be_bytes w32 value.now) }
@@ -46,7 +46,7 @@ fn number_of(value: &[u8]) -> Option<u32>
     phandle_of(value)
 }
 
-// Puts the number of a node into the table, where it has one.
+/// Puts the number of a node into the table, where it has one.
 fn note_phandle(blob: &Blob<'_>, phandles: &mut Phandles, node: NodeId) -> Result<(), AllocError>
     requires { IsNode blob.now node }
     ensures { OnOk result (IsNoted blob.now node phandles.old.entries phandles.new.entries) }
@@ -73,7 +73,7 @@ fn put_value<'a>(
     Ok(())
 }
 
-// Puts the values of a node into the table.
+/// Puts the values of a node into the table.
 fn note_values<'a>(blob: &Blob<'a>, values: &mut Values<'a>, node: NodeId) -> Result<(), AllocError>
     requires { IsNode blob.now node }
     ensures { OnOk result (AreKept node (properties_at blob.now (path_at blob.now node)) (properties_at blob.now (path_at blob.now node)) values.old.entries values.new.entries) }
@@ -86,7 +86,7 @@ fn note_values<'a>(blob: &Blob<'a>, values: &mut Values<'a>, node: NodeId) -> Re
 }
 
 /// Fills the tables of a blob's tree, and counts its nodes.
-pub fn fill<'a>(
+pub(crate) fn fill<'a>(
     blob: &Blob<'a>,
     parents: &mut Parents,
     phandles: &mut Phandles,

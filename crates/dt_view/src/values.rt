@@ -4,7 +4,7 @@ ghost use Rattle.std.specs.Prelude.{◌≡◌, ◌+◌, ◌*◌, ◌≤◌, ◌�
 ghost use Rattle.std.specs.Int.{w32, from_be_bytes};
 ghost use Rattle.dt_resolve_model.specs.World.{figure, quads_of};
 
-// The number at an offset.
+/// The number at an offset.
 fn number_at(bytes: &[u8], at: usize) -> u32
     requires { at + 4 ≤ length bytes.now }
     ensures { result ≡ from_be_bytes w32 (take 4 (drop at bytes.now)) }

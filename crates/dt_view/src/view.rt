@@ -6,7 +6,7 @@ ghost use Rattle.dt_model.specs.Applied.{node_numbered};
 ghost use Rattle.dt_model.specs.Path.{Path};
 ghost use Rattle.dt_model.specs.Tree.{nodes_of, value_in};
 ghost use Rattle.dt_model.specs.Valid.{IsValid, IsWithinLimits};
-ghost use Rattle.dt_read.specs.Placed.{PlacedTree, last_name, path_at, place_of, reading_of, IsAt, IsNode};
+ghost use Rattle.dt_read.specs.Placed.{PlacedTree, last_name, path_at, place_of, reading_of, IsAt, IsNode, HasPlacesApart};
 ghost use Rattle.dt_view.specs.Views.{first_child_of, next_sibling_of, IsAbove};
 
 use dt_names::NodeId;
@@ -21,11 +21,12 @@ pub trait TreeView {
     fn validity(&self)
         ensures valid { IsValid (reading_of (tree self.now)) }
         ensures within { IsWithinLimits (reading_of (tree self.now)) }
-        ensures places { (p q : Path) (node : ℕ) → IsAt (tree self.now) p node → IsAt (tree self.now) q node → p ≡ q };
+        ensures places { HasPlacesApart (tree self.now) };
 
     /// The root, which has no name.
     fn root(&self) -> NodeId
-        ensures { IsAt (tree self.now) [] result };
+        ensures at { IsAt (tree self.now) [] result }
+        ensures node { IsNode (tree self.now) result };
 
     /// The name of a node; the root's is empty.
     fn name(&self, node: NodeId) -> &[u8]

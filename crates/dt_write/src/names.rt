@@ -13,7 +13,7 @@ use std::marker::Model;
 
 /// The names of a strings block, with the places where they begin in it. It is seen as the names, in the order of first use.
 #[derive(Drop)]
-pub struct Names {
+pub(crate) struct Names {
     alloc: Global,
     offsets: IndexMap<Vec<u8>, usize, Seed>,
     size: usize,

@@ -27,7 +27,7 @@ fn put_begin(out: &mut Vec<u8>, name: &[u8]) -> Result<(), AllocError>
     put_zeros(out, name.len() + 1)
 }
 
-// Puts a property whose name stands at an offset of the strings block.
+/// Puts a property whose name stands at an offset of the strings block.
 fn put_value(out: &mut Vec<u8>, offset: u32, value: &[u8]) -> Result<(), AllocError>
     requires { length value.now < 2 ^ 32 }
     ensures { OnOk result (out.new.items ≡ out.old.items
@@ -73,7 +73,7 @@ fn put_properties(props: Props<'_>, names: &mut Names, out: &mut Vec<u8>) -> Res
 
 /// Puts a node with all that stands below it at the end of the structure block, and the names of its properties into the
 /// strings block.
-pub fn put_node(
+pub(crate) fn put_node(
     tree: &FlatTree,
     node: NodeId,
     names: &mut Names,

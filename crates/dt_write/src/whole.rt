@@ -28,7 +28,7 @@ const PAIR_SIZE: usize = 16;
 
 const END: u32 = 9;
 
-// Sets the words of the header, when the sizes of the blocks are known.
+/// Sets the words of the header, when the sizes of the blocks are known.
 fn set_header(
     bytes: &mut [u8],
     boot_cpu: u32,
@@ -66,7 +66,7 @@ fn put_reservations(out: &mut Vec<u8>, reservations: &[(u64, u64)]) -> Result<()
     put_pair(out, 0, 0)
 }
 
-// Puts room for the header, and the block of reservations.
+/// Puts room for the header, and the block of reservations.
 fn put_front(tree: &FlatTree, out: &mut Vec<u8>) -> Result<(), AllocError>
     requires { out.old.items ≡ [] }
     ensures { OnOk result (IsFront tree.now.reservations out.new.items) }
@@ -75,7 +75,7 @@ fn put_front(tree: &FlatTree, out: &mut Vec<u8>) -> Result<(), AllocError>
     put_reservations(out, tree.reservations())
 }
 
-// Puts the structure block, and its names into the table.
+/// Puts the structure block, and its names into the table.
 fn put_structure(tree: &FlatTree, names: &mut Names, out: &mut Vec<u8>) -> Result<(), Fault>
     requires unnamed { names.old ≡ [] }
     requires front { IsFront tree.now.reservations out.old.items }
@@ -87,7 +87,7 @@ fn put_structure(tree: &FlatTree, names: &mut Names, out: &mut Vec<u8>) -> Resul
     Ok(())
 }
 
-// Puts the strings block, where the blob is not too long with it.
+/// Puts the strings block, where the blob is not too long with it.
 fn put_strings(names: &Names, out: &mut Vec<u8>) -> Result<(), Fault>
     ensures put { OnOk result (out.new.items ≡ out.old.items ++ strings_block names.now) }
     ensures size { OnOk result (length out.new.items ≤ most_bytes) }
@@ -101,7 +101,7 @@ fn put_strings(names: &Names, out: &mut Vec<u8>) -> Result<(), Fault>
     Ok(())
 }
 
-// Puts the blocks of a blob one after the other, and then sets its header.
+/// Puts the blocks of a blob one after the other, and then sets its header.
 fn put_blocks(tree: &FlatTree, names: &mut Names, out: &mut Vec<u8>) -> Result<(), Fault>
     requires unnamed { names.old ≡ [] }
     requires empty { out.old.items ≡ [] }
@@ -124,7 +124,7 @@ fn put_blocks(tree: &FlatTree, names: &mut Names, out: &mut Vec<u8>) -> Result<(
 }
 
 /// Puts the blob of a tree into an empty buffer, which doesn't grow far beyond the limit where the blob would be too long.
-pub fn put_blob(alloc: Global, tree: &FlatTree, out: &mut Vec<u8>) -> Result<(), Fault>
+pub(crate) fn put_blob(alloc: Global, tree: &FlatTree, out: &mut Vec<u8>) -> Result<(), Fault>
     requires { out.old.items ≡ [] }
     ensures blob { OnOk result (IsBlob (reading tree.now) out.new.items) }
     ensures refused { IfErr result (λ fault. WhyNotWritten (reading tree.now) fault.kind × (fault.at ≡ None)) }

@@ -14,7 +14,7 @@ use dt_names::limits::MOST_BYTES;
 use std::alloc::AllocError;
 
 /// Whether a blob may have so many bytes and more behind them.
-pub fn fits(used: usize, more: usize) -> bool
+pub(crate) fn fits(used: usize, more: usize) -> bool
     ensures within { OnTrue result (used + more ≤ most_bytes) }
     ensures beyond { OnFalse result (most_bytes < used + more) }
 {
@@ -22,7 +22,7 @@ pub fn fits(used: usize, more: usize) -> bool
 }
 
 /// Puts a 32-bit word at the end.
-pub fn put_word(out: &mut Vec<u8>, number: u32) -> Result<(), AllocError>
+pub(crate) fn put_word(out: &mut Vec<u8>, number: u32) -> Result<(), AllocError>
     ensures { OnOk result (out.new.items ≡ out.old.items ++ word number) }
 {
     let mut bytes = [0; 4];
@@ -30,7 +30,7 @@ pub fn put_word(out: &mut Vec<u8>, number: u32) -> Result<(), AllocError>
     out.extend_from_slice(&bytes)
 }
 
-// Puts a 64-bit number at the end.
+/// Puts a 64-bit number at the end.
 fn put_long(out: &mut Vec<u8>, number: u64) -> Result<(), AllocError>
     ensures { OnOk result (out.new.items ≡ out.old.items ++ to_be_bytes w64 number) }
 {
@@ -40,7 +40,7 @@ fn put_long(out: &mut Vec<u8>, number: u64) -> Result<(), AllocError>
 }
 
 /// Puts a pair of 64-bit numbers at the end.
-pub fn put_pair(out: &mut Vec<u8>, address: u64, size: u64) -> Result<(), AllocError>
+pub(crate) fn put_pair(out: &mut Vec<u8>, address: u64, size: u64) -> Result<(), AllocError>
     ensures { OnOk result (out.new.items ≡ out.old.items ++ pair (address, size)) }
 {
     put_long(out, address)?;
@@ -48,7 +48,7 @@ pub fn put_pair(out: &mut Vec<u8>, address: u64, size: u64) -> Result<(), AllocE
 }
 
 /// Puts zeros after so many bytes, up to a multiple of four.
-pub fn put_zeros(out: &mut Vec<u8>, size: usize) -> Result<(), AllocError>
+pub(crate) fn put_zeros(out: &mut Vec<u8>, size: usize) -> Result<(), AllocError>
     ensures { OnOk result (out.new.items ≡ out.old.items ++ zeros_after size) }
 {
     for _ in 0..(4 - size % 4) % 4 {
@@ -58,7 +58,7 @@ pub fn put_zeros(out: &mut Vec<u8>, size: usize) -> Result<(), AllocError>
 }
 
 /// Sets 32-bit words, one after the other from the front of some bytes.
-pub fn set_words(bytes: &mut [u8], numbers: &[u32])
+pub(crate) fn set_words(bytes: &mut [u8], numbers: &[u32])
     requires { 4 * length numbers.now ≤ length bytes.old }
     ensures { bytes.new ≡ flat_map word numbers.now ++ drop (4 * length numbers.now) bytes.old }
 {

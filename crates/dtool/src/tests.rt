@@ -45,14 +45,14 @@ const PROVIDED: Job<'static> = Job::Spec {
     index: 0,
 };
 
-// What a writer does once that has no more room.
+/// What a writer does once that has no more room.
 #[derive(Clone, Copy)]
 enum End {
     Fails,
     TakesNothing,
 }
 
-// Is interrupted at each other call, takes at most `step` bytes at the others, and comes to its end once, when it holds `room`.
+/// Is interrupted at each other call, takes at most `step` bytes at the others, and comes to its end once, when it holds `room`.
 #[derive(Drop)]
 struct Narrow {
     held: Vec<u8>,
@@ -96,7 +96,7 @@ impl Write for Narrow {
     }
 }
 
-// Whether a call that had room for so many bytes of a text wrote these, and was refused for the sink where they aren't all.
+/// Whether a call that had room for so many bytes of a text wrote these, and was refused for the sink where they aren't all.
 fn is_cut(refused: Option<Fault>, room: usize, held: &[u8], whole: &[u8]) -> bool {
     let is_told = if room < whole.len() {
         refused == Some(Fault::of(FaultKind::WriteFault))
@@ -106,7 +106,7 @@ fn is_cut(refused: Option<Fault>, room: usize, held: &[u8], whole: &[u8]) -> boo
     is_told && held == whole.get(..room).unwrap_or(whole)
 }
 
-// How many bytes a writer takes at a call, and how it ends.
+/// How many bytes a writer takes at a call, and how it ends.
 const WRITERS: [(usize, End); 4] = [
     (1, End::Fails),
     (3, End::TakesNothing),
@@ -114,7 +114,7 @@ const WRITERS: [(usize, End); 4] = [
     (100, End::TakesNothing),
 ];
 
-// Whether a job is cut where the writer comes to its end, at each byte, and is whole where it doesn't.
+/// Whether a job is cut where the writer comes to its end, at each byte, and is whole where it doesn't.
 fn is_cut_anywhere(alloc: Global, job: Job<'_>, hex: bool, input: &[u8], whole: &[u8]) -> bool {
     WRITERS.into_iter().all(|(step, end)| {
         (0..=whole.len()).all(|room| {
@@ -159,7 +159,7 @@ fn jobs_into_a_sink_that_fails(rt: HostRuntime) -> Result<(), Fail> {
     Ok(())
 }
 
-// Whether a job refuses its inputs with this fault of this one, and writes nothing.
+/// Whether a job refuses its inputs with this fault of this one, and writes nothing.
 fn is_refused(alloc: Global, job: Job<'_>, inputs: &[&[u8]], input: usize, fault: Fault) -> bool
     requires { IsAsked job (length inputs.now) }
 {
@@ -259,7 +259,7 @@ fn texts_into_a_sink_that_fails(rt: HostRuntime) -> Result<(), Fail> {
     Ok(())
 }
 
-// Whether a sink tells how much it took, and fails for good.
+/// Whether a sink tells how much it took, and fails for good.
 fn fails_for_good(alloc: Global) -> bool {
     let mut out = Out::new(make_narrow(alloc, 1, 7, End::Fails));
     let is_taken = put_all(&mut out, b"").is_ok()
@@ -280,7 +280,7 @@ fn sinks(rt: HostRuntime) {
     assert!(rt; fails_for_good(rt.alloc()) && takes_nothing(rt.alloc()));
 }
 
-// Is interrupted at each other call, gives at most `step` bytes at the others, and fails once, `until` bytes on.
+/// Is interrupted at each other call, gives at most `step` bytes at the others, and fails once, `until` bytes on.
 #[derive(Drop)]
 struct Dripping {
     rest: &'static [u8],
@@ -332,7 +332,7 @@ fn stops_for_good() -> bool {
     first && is_over && feed.into_inner().rest == b"ef".as_slice()
 }
 
-// Whether an input of three bytes that fails behind so many is ReadFault, and else is whole.
+/// Whether an input of three bytes that fails behind so many is ReadFault, and else is whole.
 fn is_read_or_told(alloc: Global, until: usize) -> bool {
     match read_all(alloc, &mut In::new(make_dripping(b"abc", 1, until))) {
         Ok(all) => until > 3 && all.as_slice() == b"abc".as_slice(),
@@ -346,7 +346,7 @@ fn feeds(rt: HostRuntime) {
     assert!(rt; (0..6).all(|until| is_read_or_told(rt.alloc(), until)));
 }
 
-// Gives so many bytes, at most `step` at a call.
+/// Gives so many bytes, at most `step` at a call.
 #[derive(Drop)]
 struct Zeros {
     left: usize,
@@ -366,7 +366,7 @@ const ENDLESS: Zeros = Zeros {
     step: usize::MAX,
 };
 
-// How many bytes are read of an input of so many, or why none.
+/// How many bytes are read of an input of so many, or why none.
 fn size_read(alloc: Global, left: usize, step: usize) -> Result<usize, Fault> {
     Ok(read_all(alloc, &mut In::new(Zeros { left, step }))?.len())
 }
@@ -380,7 +380,7 @@ fn the_longest_input(rt: HostRuntime) {
     assert!(rt; size_read(rt.alloc(), usize::MAX, usize::MAX) == limit);
 }
 
-// Whether the words, parted by blanks, ask for this.
+/// Whether the words, parted by blanks, ask for this.
 fn asks_for(alloc: Global, text: &str, job: Job<'_>, hex: bool, files: &[&str]) -> bool {
     let Ok(words) = text.split(' ').collect::<Vec<&str>>(alloc) else {
         return false;
@@ -506,7 +506,7 @@ fn words_that_are_none(rt: HostRuntime) {
     }
 }
 
-// Whether a file of the system is read, and one that isn't there is told.
+/// Whether a file of the system is read, and one that isn't there is told.
 fn is_read_until_removed(rt: &HostRuntime) -> Result<bool, Fail> {
     fs::write(rt, "input-of-a-test.dts", SOURCE)?;
     let mut files = SystemFiles::new(rt);
@@ -528,8 +528,8 @@ fn files(rt: HostRuntime) -> Result<(), Fail> {
     Ok(())
 }
 
-// Files in a test: each but one holds the source, and standard input holds it too; they give a byte at a time, and fail once, `until` bytes on. Or
-// they have no end.
+/// Files in a test: each but one holds the source, and standard input holds it too; they give a byte at a time, and fail once, `until` bytes on. Or
+/// they have no end.
 #[derive(Drop)]
 struct Shelf {
     alloc: Global,
@@ -552,7 +552,7 @@ impl Files for Shelf {
     }
 }
 
-// The status of a run on these words. Its callers own what it borrows, so that its ways out are proved with nothing to let go of.
+/// The status of a run on these words. Its callers own what it borrows, so that its ways out are proved with nothing to let go of.
 fn run_words(
     alloc: Global,
     words: &[&str],
@@ -563,7 +563,7 @@ fn run_words(
     run(alloc, line(alloc, words), files, made, told)
 }
 
-// What a run ends with: its status, how many files it asked for, and what it wrote.
+/// What a run ends with: its status, how many files it asked for, and what it wrote.
 #[derive(Drop)]
 struct Ending<'a> {
     status: u8,
@@ -572,7 +572,7 @@ struct Ending<'a> {
     err: &'a [u8],
 }
 
-// Whether a run on these words, parted by blanks, and on files that fail so many bytes on or have no end, ends so.
+/// Whether a run on these words, parted by blanks, and on files that fail so many bytes on or have no end, ends so.
 fn ends(alloc: Global, text: &str, until: Option<usize>, ending: &Ending<'_>) -> bool {
     let Ok(words) = text.split(' ').collect::<Vec<&str>>(alloc) else {
         return false;
@@ -590,7 +590,7 @@ fn ends(alloc: Global, text: &str, until: Option<usize>, ending: &Ending<'_>) ->
         && told.into_inner().held.as_slice() == ending.err
 }
 
-// Whether a run on whole files is done.
+/// Whether a run on whole files is done.
 fn is_done(alloc: Global, text: &str, out: &[u8]) -> bool {
     let ending = Ending {
         status: 0,
@@ -601,7 +601,7 @@ fn is_done(alloc: Global, text: &str, out: &[u8]) -> bool {
     ends(alloc, text, Some(usize::MAX), &ending)
 }
 
-// Whether a run on files that fail so many bytes on or have no end tells this fault, asks for so many files, and writes nothing.
+/// Whether a run on files that fail so many bytes on or have no end tells this fault, asks for so many files, and writes nothing.
 fn is_faulty(alloc: Global, text: &str, until: Option<usize>, asked: usize, err: &[u8]) -> bool {
     let ending = Ending {
         status: 1,
@@ -645,7 +645,7 @@ const RUNS: [&str; 9] = [
     "dtool spec a.dts / p k 0",
 ];
 
-// Whether each command tells a file that fails, whichever byte it fails at, and one that has no end.
+/// Whether each command tells a file that fails, whichever byte it fails at, and one that has no end.
 fn are_bad_files_told(alloc: Global) -> bool {
     RUNS.into_iter().all(|words| {
         is_faulty(alloc, words, None, 1, TOO_LONG)
@@ -667,7 +667,7 @@ fn runs_that_are_refused(rt: HostRuntime) {
     assert!(rt; is_faulty(alloc, "dtool check a.dts", whole, 1, NO_BLOB));
 }
 
-// The status of a run on these words, where standard error takes so many bytes.
+/// The status of a run on these words, where standard error takes so many bytes.
 fn status_of(alloc: Global, text: &str, room: usize) -> Option<u8> {
     let words = text.split(' ').collect::<Vec<&str>>(alloc).ok()?;
     let mut files = Shelf {
@@ -691,7 +691,7 @@ fn statuses(rt: HostRuntime) {
     }
 }
 
-// Takes all bytes, and tells only where it is flushed that they didn't arrive.
+/// Takes all bytes, and tells only where it is flushed that they didn't arrive.
 #[derive(Drop)]
 struct Full;
 

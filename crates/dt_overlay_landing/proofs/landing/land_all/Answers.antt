@@ -9,7 +9,7 @@ use Rattle.dt_overlay_laws.specs.Steps.{FullAtNode}
 use Rattle.dt_overlay_landing.specs.Values.{with_values}
 use Rattle.dt_overlay_landing.specs.Landed.{landed_at, land_each, FullAtEach}
 use Rattle.dt_overlay_base.specs.Targets.{HasNoRoom}
-use Rattle.dt_overlay_object.specs.declared.kept.Fragment.{Fragment}
+use Rattle.dt_overlay_object.specs.declared.kept.ObjectFragment.{ObjectFragment}
 use Rattle.dt_overlay_landing.proofs.ValuesKept.{length_with}
 use Rattle.dt_overlay_landing.proofs.LandingNodes.{want_whole}
 use Rattle.dt_overlay_landing.proofs.LandingEach.{contents, contents_there, contents_over, EachLeft, next_landing, each_over}
@@ -31,7 +31,7 @@ loop-fragment-init g c =
     record {
       next = (tt, tt);
       ends = tt;
-      left = subst (λ (xs : List Fragment). EachLeft (HasNoRoom g.T.Target.reading g.T.Target.has_room) numbers slots (contents xs) (iter_rest (zip_second s)) r whole crowded) (sym first)
+      left = subst (λ (xs : List ObjectFragment). EachLeft (HasNoRoom g.T.Target.reading g.T.Target.has_room) numbers slots (contents xs) (iter_rest (zip_second s)) r whole crowded) (sym first)
           (subst (λ (ys : List Path). EachLeft (HasNoRoom g.T.Target.reading g.T.Target.has_room) numbers slots (contents fragments) ys r whole crowded) (sym second) all);
     }
 

@@ -20,8 +20,8 @@ returns-then-is_bookkeeping-clause-refused g c fixups w done later f t =
     subst (IsStuck ReservedPlace) (sym (content_is a f q c.args.fragment.now.content t.fragment.content)) (inl (sym c.is_bookkeeping.ensures ∙ c.if-is_bookkeeping.true)) in
     (c.of-then-is_bookkeeping.ensures.at, inr (inr (q, named, subst (λ (k : FaultKind). IsStuck k (landings (reading a) (site f q))) (sym c.of-then-is_bookkeeping.ensures.kind) stuck)))
 
-pub land_content-requires-clause-room : goal.land_content-requires-clause-room
-land_content-requires-clause-room g c =
+pub note_content-requires-clause-room : goal.note_content-requires-clause-room
+note_content-requires-clause-room g c =
     let base = g.T.Target.reading c.args.target.now in
     let a = c.args.object.now in
     let q = c.in-Some.path in
@@ -36,19 +36,19 @@ land_content-requires-clause-room g c =
     subst (λ (ns : List Placed). HasRoom base ns c.args.places.now) (content_is a f q c.args.fragment.now.content t.fragment.content)
     (room_for base fixups (reading a) c.validity-2.ensures.valid c.validity-2.ensures.within c.args.places.now w done later f q walked (sym t.turn.names) (sym c.is_bookkeeping.ensures ∙ c.if-is_bookkeeping.false) t.turn.known)
 
-pub returns-in_err-land_content-clause-refused : goal.returns-in_err-land_content-clause-refused
-returns-in_err-land_content-clause-refused g c fixups w done later f t =
+pub returns-in_err-note_content-clause-refused : goal.returns-in_err-note_content-clause-refused
+returns-in_err-note_content-clause-refused g c fixups w done later f t =
     let base = g.T.Target.reading c.args.target.now in
     let a = c.args.object.now in
     let q = c.in-Some.path in
-    let e = err_from_is_err_and c.from_residual-in_err-land_content.result c.from_residual-in_err-land_content.ensures.1 in
-    let why = c.in_err-land_content.ensures.refused in
+    let e = err_from_is_err_and c.from_residual-in_err-note_content.result c.from_residual-in_err-note_content.ensures.1 in
+    let why = c.in_err-note_content.ensures.refused in
     let named : target_in base (reading a) fixups w f ≡ Some q = sym (c.in_ok-path.ensures.value fixups w done later f t) ∙ c.in-Some.is in
     rw (e.1, e.2) (
       why.0,
       elim why.1 [
         | inl memory ↦ inl memory
-        | inr stuck ↦ inr (inr (q, named, subst (IsStuck c.in_err-land_content.field-0.0.kind) (sym (content_is a f q c.args.fragment.now.content t.fragment.content)) stuck))
+        | inr stuck ↦ inr (inr (q, named, subst (IsStuck c.in_err-note_content.field-0.0.kind) (sym (content_is a f q c.args.fragment.now.content t.fragment.content)) stuck))
       ],
     )
 
@@ -60,8 +60,8 @@ returns-clause-found g c fixups w done later f t =
     let same = content_is a f q c.args.fragment.now.content t.fragment.content in
     record {
       named = sym (c.in_ok-path.ensures.value fixups w done later f t) ∙ c.in-Some.is;
-      may = subst MayAllLand (sym same) c.in_ok-land_content.ensures.may;
-      known = known_behind base (reading a) w f q c.land_content.new.places
-          (subst (λ (ns : List Placed). IsKnown base (with_places base ns w.given) (landed_paths (reading a) w.sites ++ map (λ (n : Placed). n.path) ns) c.land_content.new.places) (sym same)
-          (c.in_ok-land_content.ensures.known w.given (landed_paths (reading a) w.sites) t.turn.known));
+      may = subst MayAllLand (sym same) c.in_ok-note_content.ensures.may;
+      known = known_behind base (reading a) w f q c.note_content.new.places
+          (subst (λ (ns : List Placed). IsKnown base (with_places base ns w.given) (landed_paths (reading a) w.sites ++ map (λ (n : Placed). n.path) ns) c.note_content.new.places) (sym same)
+          (c.in_ok-note_content.ensures.known w.given (landed_paths (reading a) w.sites) t.turn.known));
     }

@@ -10,6 +10,7 @@ use Rattle.dt_model.specs.Applied.{node_numbered, symbol}
 use Rattle.dt_model.specs.Object.{local_cells}
 use Rattle.dt_model.specs.Merged.{landing}
 use Rattle.dt_model.proofs.Finding.{node_of_number}
+use Rattle.dt_names.specs.Fault.{IsNoMemory}
 use Rattle.dt_names.specs.declared.fault.Fault.{Fault}
 use Rattle.dt_names.specs.declared.fault.FaultKind.TheVariants.{NoMemory}
 use Rattle.dt_flat.specs.Arena.{reading}
@@ -52,12 +53,12 @@ pub returns-in-Own-clause-refused : goal.returns-in-Own-clause-refused
 returns-in-Own-clause-refused g c fixups marks w done later t =
     let base : Reading = g.T.Target.reading c.args.target.now in
     let object = reading c.args.object.now in
-    IfErr-weaker c.own_place.result (λ (fault : Fault). (fault.at ≡ None) × ((fault.kind ≡ NoMemory) ⊎ LandsTooDeep object w.sites)) (λ (fault : Fault). (fault.at ≡ None) × (fault.kind ≡ NoMemory))
+    IfErr-weaker c.own_place.result (λ (fault : Fault). (fault.at ≡ None) × ((fault.kind ≡ NoMemory) ⊎ LandsTooDeep object w.sites)) IsNoMemory
     (λ fault why. (
-      why.0,
       elim why.1 [
         | inl memory ↦ memory
         | inr deep ↦ absurd (not_too_deep base fixups c.args.object.now c.validity-2.ensures.valid c.args.brought.now marks c.args.sites.now c.args.places.now w done later t deep)
       ],
+      why.0,
     ))
     (c.own_place.ensures.refused w.sites t.brought (turn_front base fixups c.args.object.now c.validity-2.ensures.valid c.args.brought.now marks c.args.sites.now c.args.places.now w done later t) t.sites)

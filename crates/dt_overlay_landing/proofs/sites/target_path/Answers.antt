@@ -14,7 +14,7 @@ use Rattle.dt_overlay_laws.specs.Landings.{target_in}
 use Rattle.dt_overlay_laws.specs.Objects.{HoldsNumber}
 use Rattle.dt_overlay_landing.specs.Marks.{IsMark}
 use Rattle.dt_overlay_object.specs.Plans.{IsTargetOf}
-use Rattle.dt_overlay_object.specs.declared.kept.FragmentTarget.TheVariants.{Path as TargetPath}
+use Rattle.dt_overlay_object.specs.declared.kept.ObjectTarget.TheVariants.{Path as TargetPath}
 use Rattle.dt_overlay_landing.specs.declared.marks.TargetMark.TheVariants.{Bare}
 use Rattle.dt_overlay_base.proofs.Reached.{value-led}
 use Rattle.dt_overlay_landing.proofs.SitesTurns.{turn_landings}

@@ -3,7 +3,7 @@ use Rattle.std.proofs.lemmas.List.{drop_all, length-replicate}
 use Rattle.dt_model.specs.Object.{fragment_names}
 use Rattle.dt_flat.specs.Arena.{reading}
 use Rattle.dt_flat.proofs.Linking.{drop_item}
-use Rattle.dt_overlay_object.specs.declared.kept.Fragment.{Fragment}
+use Rattle.dt_overlay_object.specs.declared.kept.ObjectFragment.{ObjectFragment}
 use Rattle.dt_overlay_object.specs.NumbersGiven.{walk, with_fragments}
 use Rattle.dt_overlay_object.proofs.NumbersTurns.{length-with_fragment, at_index, fragments-turn}
 use Rattle.dt_overlay_object.proofs.NumbersBrought.{fragment_at, content_within, all_brought}
@@ -51,5 +51,5 @@ returns c =
     let i = c.loop-i.i in
     let now = c.loop-i.brought in
     let none : drop i xs ≡ [] = drop_all i xs (omega arith) in
-    let fragments = ap (λ (ys : List Fragment). with_fragments a.slots i ys now.fragments.items) (sym none) ∙ c.loop-i.invariant.fragments in
+    let fragments = ap (λ (ys : List ObjectFragment). with_fragments a.slots i ys now.fragments.items) (sym none) ∙ c.loop-i.invariant.fragments in
     record { brought = all_brought a xs c.args.brought.now now c.validity.ensures.valid c.validity.ensures.rooted c.validity.ensures.paths c.requires.fragments c.requires.unbrought fragments c.loop-i.invariant.numbers }

@@ -1,7 +1,7 @@
 use Rattle.std.proofs.Common.{◌≡◌, ◌∙◌, ◌≤◌, ◌+◌, ℕ, List, length, Some, None, true, false, refl, sym, subst}
 use Rattle.dt_flat.specs.Arena.{reading}
 use Rattle.dt_flat.proofs.Descent.{path-within}
-use Rattle.dt_overlay_laws.specs.Objects.{HasCell}
+use Rattle.dt_model.specs.Object.{HasCell}
 use Rattle.dt_overlay_read.specs.Fixups.{cell_told}
 use Rattle.dt_overlay_base.proofs.Reached.{value-led, no-value-led}
 use Rattle.dt_overlay_read.proofs.fixups.cell_at.Goals as goal

@@ -8,17 +8,17 @@ use Rattle.dt_resolve_lines.proofs.WordTexts.{around_text}
 use Rattle.std.proofs.Common.{refl}
 use Rattle.dt_resolve_lines.proofs.words.put_place.Goals as goal
 
-pub returns-in_err-put_path-clause-refused : goal.returns-in_err-put_path-clause-refused
-returns-in_err-put_path-clause-refused g c = exits_first _ _ _ _ _ (index_words c.args.index) c.from_residual.ensures.1 refl c.in_err-put_path.ensures.refused
+pub returns-in_err-buffer_path-clause-refused : goal.returns-in_err-buffer_path-clause-refused
+returns-in_err-buffer_path-clause-refused g c = exits_first _ _ _ _ _ (index_words c.args.index) c.from_residual.ensures.1 refl c.in_err-buffer_path.ensures.refused
 
 pub returns-clause-passed : goal.returns-clause-passed
 returns-clause-passed g c =
     let p = path_text (path_at (g.V.TreeView.tree c.args.view.now) c.args.node) in
     let whole = ap (λ l. p ++ l) (around_text c.args.index c.format-index.result.now (codes " ") (codes " ") (joined c.pieces_around.result) c.format-index.ensures.text c.pieces_around.ensures) in
-    passed_last _ _ _ _ _ whole c.in_ok-put_path.ensures.passed c.put_pieces.ensures.passed
+    passed_last _ _ _ _ _ whole c.in_ok-buffer_path.ensures.passed c.buffer_pieces.ensures.passed
 
 pub returns-clause-refused : goal.returns-clause-refused
 returns-clause-refused g c =
     let p = path_text (path_at (g.V.TreeView.tree c.args.view.now) c.args.node) in
     let whole = ap (λ l. p ++ l) (around_text c.args.index c.format-index.result.now (codes " ") (codes " ") (joined c.pieces_around.result) c.format-index.ensures.text c.pieces_around.ensures) in
-    refused_last _ _ _ _ whole c.in_ok-put_path.ensures.passed c.put_pieces.ensures.refused
+    refused_last _ _ _ _ whole c.in_ok-buffer_path.ensures.passed c.buffer_pieces.ensures.refused

@@ -2,7 +2,7 @@ use Rattle.dt_resolve_model.specs.World.{tree_world, meaning_world}
 use Rattle.dt_resolve_model.proofs.RegionsAgree.{region_agrees, dma_region_agrees}
 use Rattle.dt_resolve_model.proofs.InterruptsAgree.{route_agrees}
 use Rattle.dt_resolve_model.proofs.SpecifiersAgree.{specifier_route_agrees}
-use Rattle.dt_resolve_model.proofs.Worlds.{tree_refines}
+use Rattle.dt_resolve_model.proofs.Worlds.{tree_refines, written_found}
 use Rattle.dt_resolve_model.proofs.laws.meaning_is_resolved.Goals as goal
 
 pub returns : goal.returns
@@ -11,4 +11,5 @@ returns c = λ t m number of. record {
   dma_regions = λ nodes p address size. dma_region_agrees (meaning_world m nodes) (tree_world t) (tree_refines t m number nodes of) p address size;
   routes = λ nodes p index meant told h k. route_agrees (meaning_world m nodes) (tree_world t) (tree_refines t m number nodes of) p index meant told h k;
   specifiers = λ nodes p property kind index. specifier_route_agrees (meaning_world m nodes) (tree_world t) (tree_refines t m number nodes of) p property kind index;
+  written = λ p n e. written_found t m number p n of e;
 }

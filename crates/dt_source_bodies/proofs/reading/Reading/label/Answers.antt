@@ -1,6 +1,6 @@
 use Rattle.std.proofs.Common.{◌+◌, Some, refl, ◌∙◌, ap, arith}
 use Rattle.dt_model.specs.Source.{read, label, duplicate_label}
-use Rattle.dt_model_laws.proofs.Labels.{labelled_names}
+use Rattle.dt_model.proofs.Labels.{labelled_names}
 use Rattle.dt_source_growing.specs.Growing.{shape}
 use Rattle.dt_source_bodies.specs.declared.reading.Reading.{Reading}
 use Rattle.dt_source_bodies.proofs.Items.{inner_of, label-goes-new, label-goes-again, label-refused}

@@ -3,7 +3,7 @@ use Rattle.dt_model.specs.Tree.{nodes_of}
 use Rattle.dt_model.specs.Valid.{IsValid}
 use Rattle.dt_read.specs.Placed.{reading_of}
 use Rattle.dt_view.specs.Tables.{ArePhandles}
-use Rattle.dt_view.proofs.Numbered.{AreApart}
+use Rattle.dt_read.specs.Placed.{HasPlacesApart}
 use Rattle.dt_view.proofs.Indexed.{in_tables, looked_up, looked_up_node}
 use Rattle.dt_view.proofs.index.Index.numbered.Goals as goal
 
@@ -12,7 +12,7 @@ returns-clause-finds c =
     let entries = c.self.inside.phandles.entries in
     let are = subst (λ t. ArePhandles t (nodes_of (reading_of t)) entries) c.self.view_is c.self.invariant.numbered in
     let valid = subst (λ t. IsValid (reading_of t)) c.self.view_is c.validity.ensures.valid in
-    let places = subst AreApart c.self.view_is c.validity.ensures.places in
+    let places = subst HasPlacesApart c.self.view_is c.validity.ensures.places in
     looked_up c.args.self.now c.args.number c.copied.result valid places (in_tables c.args.self.now entries c.args.number c.copied.result (omega arith) are (c.copied.ensures ∙ c.get.ensures.value))
 
 pub returns-clause-node : goal.returns-clause-node

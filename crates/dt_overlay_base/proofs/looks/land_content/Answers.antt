@@ -1,8 +1,0 @@
-use Rattle.std.proofs.Common.{[]}
-use Rattle.dt_overlay_base.specs.Known.{content_at}
-use Rattle.dt_overlay_base.proofs.LooksLanded.{room_first}
-use Rattle.dt_overlay_base.proofs.looks.land_content.Goals as goal
-
-pub land_node-requires-clause-room : goal.land_node-requires-clause-room
-land_node-requires-clause-room g c =
-    room_first (g.T.Target.reading c.args.target.now) [] (content_at c.args.object.now.slots c.args.content c.args.path.now) c.args.places.now c.requires.room
