@@ -1,5 +1,5 @@
 -- The number and the name of each kind of fault, and the text of a fault; and what is true of the refusals of a call.
-use Rattle.std.specs.Prelude.{◌≡◌, ◌≢◌, ℕ, List, [], ◌++◌, Option, None, Some, codes, decimal}
+use Rattle.std.specs.Prelude.{◌≡◌, ◌≢◌, ◌⊎◌, ℕ, List, [], ◌++◌, Option, None, Some, codes, decimal}
 use Rattle.dt_names.specs.declared.fault.Fault.{Fault}
 use Rattle.dt_names.specs.declared.fault.FaultKind.{FaultKind}
 use Rattle.dt_names.specs.declared.fault.FaultKind.TheVariants.{NoMemory, Limit, BadVersionTag, BadToken, Syntax, BadInteger, DivideByZero, OutOfRange, BadReferenceWidth, PropertyAfterNode, DuplicateProperty, DuplicateNode, DuplicateLabel, NoSuchTarget, UnresolvedReference, BadPhandle, DuplicatePhandle, ReservedName, OverlayDelete, OverlayPhandle, OverlayPathReference, OverlayReserve, OutsideContent, BadFragment, ShortHeader, BadMagic, BadTotal, BadVersion, Misaligned, BlockOutside, NoReservationEnd, BadTag, StructureCut, BadName, BadNameOffset, BadNesting, LateProperty, Duplicate, BadEnd, BlobPhandle, NoSymbol, BadSymbol, NoTarget, BadFixup, BadLocalFixup, NoFragmentTarget, ReservedPlace, NoNode, NoReg, BadCells, NotMapped, NoRanges, PciBus, Overflow, NoInterrupts, NoParent, Loop, BadMap, NoMapEntry, NoUnitAddress, UnknownPhandle, WriteFault, ReadFault}
@@ -156,6 +156,10 @@ placeless kind = record { kind = kind; at = None }
 -- memory was refused, which has no place
 abbrev pub IsNoMemory : Fault → Type 0
 IsNoMemory fault = (fault.kind ≡ NoMemory) × (fault.at ≡ None)
+
+-- memory was refused, or the kind has its reason; neither has a place
+abbrev pub IsMemoryOr : (FaultKind → Type 0) → Fault → Type 0
+IsMemoryOr why fault = (fault.at ≡ None) × ((fault.kind ≡ NoMemory) ⊎ why fault.kind)
 
 -- what is answered isn't refused, unless memory is wanted
 abbrev pub IsExclusive : (answered : Type 0) (refused : FaultKind → Type 0) → Type 0

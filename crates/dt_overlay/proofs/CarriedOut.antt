@@ -14,9 +14,9 @@ use Rattle.dt_overlay_laws.specs.Objects.{HasCells, symbols_in}
 use Rattle.dt_overlay_laws.specs.Outcomes.{MayBeApplied, SitedIsApplied}
 use Rattle.dt_overlay_laws.specs.Refusals.{IsCrowded}
 use Rattle.dt_overlay_laws.specs.Steps.{FullAtLanding, FullAtFragments, FullAtSymbols, MayLandFragments, land_fragments}
-use Rattle.dt_overlay.specs.Applying.{IsReadFor, IsSitedFor, IsNumberedFor, seen_with}
-use Rattle.dt_overlay.specs.Objects.{Seen, IsSeenAs, IsToLandOn, writes_of}
-use Rattle.dt_overlay.specs.declared.object.Object.{Object}
+use Rattle.dt_overlay_object.specs.Stages.{IsReadFor, IsSitedFor, IsNumberedFor, seen_with}
+use Rattle.dt_overlay_object.specs.Objects.{Seen, IsSeenAs, IsToLandOn, writes_of}
+use Rattle.dt_overlay_object.specs.declared.object.Object.{Object}
 use Rattle.dt_overlay_landing.proofs.LandingNodes.{want_whole}
 use Rattle.dt_overlay_base.specs.Targets.{IsWant}
 

@@ -1,4 +1,2 @@
--- what callers read, in this order
+-- what callers read
 pub mod Applying
--- inside
-pub mod Objects

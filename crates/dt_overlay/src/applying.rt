@@ -1,65 +1,33 @@
 //! Applying an object.
 
-ghost use Rattle.std.specs.Prelude.{◌≡◌, ◌∷◌, [], None, codes, OnOk, IfOk, IfErr};
+ghost use Rattle.std.specs.Prelude.{◌≡◌, None, OnOk, IfErr};
 ghost use Rattle.dt_overlay_model.specs.InTurn.{IsApplied};
 ghost use Rattle.dt_flat.specs.Arena.{reading};
 ghost use Rattle.dt_read.specs.Placed.{reading_of};
 ghost use Rattle.dt_overlay_laws.specs.Objects.{IsWellFormed};
 ghost use Rattle.dt_overlay_laws.specs.Refusals.{IsCrowded, WhyNotApplied};
 ghost use Rattle.dt_model.specs.Tree.{Reading};
-ghost use Rattle.dt_names.specs.declared.fault.FaultKind.TheVariants.{NoMemory};
-ghost use Rattle.dt_overlay.specs.Applying.{IsEmptyLanding, IsNumberedFor, IsLeftBy};
-ghost use Rattle.dt_overlay.specs.Objects.{IsUnread, tree_in};
+ghost use Rattle.dt_overlay.specs.Applying.{IsLeftBy};
+ghost use Rattle.dt_overlay_object.specs.Objects.{IsUnread};
+ghost use Rattle.dt_overlay_object.specs.Stages.{IsEmptyLanding, IsNumberedFor};
 ghost use Rattle.dt_overlay_base.specs.Targets.{HasNoRoom, IsWant};
-ghost use Rattle.dt_names.specs.Fault.{IsNoMemory};
 
-use crate::object::Object;
-use dt_names::{Fault, NodeName, Path, Seed};
-use dt_overlay_base::{Places, Target};
+use dt_names::Fault;
+use dt_overlay_base::Target;
+use dt_overlay_landing::{find_sites, land_all, number_all, renumber, set_symbols};
 use dt_overlay_laws::{fragments_are_merged, sited_is_applied};
+use dt_overlay_object::{Landing, Object};
+use dt_overlay_read::read;
 use dt_read::Blob;
 use std::alloc::Global;
-
-/// Where an object lands: its fragments' sites, what has landed so far, and room for the text of a path.
-#[derive(Drop)]
-struct Landing {
-    sites: Vec<Path>,
-    places: Places,
-    value: Vec<u8>,
-}
-
-impl Landing {
-    fn new(alloc: Global, seed: Seed) -> Landing
-        ensures { IsEmptyLanding result }
-    {
-        Landing {
-            sites: Vec::new(alloc),
-            places: Places::new(alloc, seed),
-            value: Vec::new(alloc),
-        }
-    }
-}
-
-/// The path of the node that holds the labels.
-fn symbols_path(alloc: Global) -> Result<Path, Fault>
-    ensures value { IfOk result (λ path. path ≡ codes "__symbols__" ∷ []) }
-    ensures refused { IfErr result IsNoMemory }
-{
-    let name = NodeName::new(b"__symbols__".as_slice())?;
-    let mut path = Path::root(alloc);
-    path.push(&name)?;
-    Ok(path)
-}
 
 /// Lands what the fragments bring on their sites, and then the labels.
 fn land<T: Target>(
     alloc: Global,
     target: &mut T,
-    symbols: &Path,
     object: &Object,
     landing: &mut Landing,
 ) -> Result<(), Fault>
-    requires symbols { symbols.now ≡ codes "__symbols__" ∷ [] }
     requires numbered { (read : Reading) × IsNumberedFor (T.reading target.old) read object.now landing.old.sites.items }
     ensures applied { (read : Reading) → IsNumberedFor (T.reading target.old) read object.now landing.old.sites.items →
         OnOk result (IsApplied (T.reading target.old) read (T.reading target.new)) }
@@ -69,50 +37,43 @@ fn land<T: Target>(
     sited_is_applied();
     fragments_are_merged();
     target.validity();
-    object.land(alloc, target, &landing.sites)?;
-    object.set_symbols(alloc, target, symbols, &landing.sites, &mut landing.value)
+    land_all(alloc, target, object, landing)?;
+    set_symbols(target, object, landing)
 }
 
 /// Applies an object of which nothing is read, and nothing has landed.
 fn carry_out<T: Target>(
     alloc: Global,
     target: &mut T,
-    symbols: &Path,
     object: &mut Object,
     landing: &mut Landing,
 ) -> Result<(), Fault>
-    requires symbols { symbols.now ≡ codes "__symbols__" ∷ [] }
-    requires unread { IsUnread (tree_in object.old) object.old }
+    requires unread { IsUnread object.old.tree object.old }
     requires empty { IsEmptyLanding landing.old }
-    ensures applied { OnOk result (IsApplied (T.reading target.old) (reading (tree_in object.old)) (T.reading target.new)) }
-    ensures well { OnOk result (IsWellFormed (T.reading target.old) (reading (tree_in object.old))) }
+    ensures applied { OnOk result (IsApplied (T.reading target.old) (reading object.old.tree) (T.reading target.new)) }
+    ensures well { OnOk result (IsWellFormed (T.reading target.old) (reading object.old.tree)) }
     ensures refused { IfErr result (λ fault. (fault.at ≡ None)
-        × WhyNotApplied (HasNoRoom T.reading T.has_room) fault.kind (T.reading target.old) (reading (tree_in object.old))) }
-    ensures left { IfErr result (λ fault. IsLeftBy (HasNoRoom T.reading T.has_room) fault.kind (T.reading target.old) (reading (tree_in object.old)) (T.reading target.new)) }
+        × WhyNotApplied (HasNoRoom T.reading T.has_room) fault.kind (T.reading target.old) (reading object.old.tree)) }
+    ensures left { IfErr result (λ fault. IsLeftBy (HasNoRoom T.reading T.has_room) fault.kind (T.reading target.old) (reading object.old.tree) (T.reading target.new)) }
 {
-    object.read(alloc, target, symbols)?;
-    object.find_sites(alloc, target, &mut landing.places, &mut landing.sites)?;
-    object.renumber();
-    land(alloc, target, symbols, object, landing)
+    read(alloc, target, landing, object)?;
+    find_sites(alloc, target, object, landing)?;
+    number_all(target, landing, object)?;
+    renumber(object);
+    land(alloc, target, object, landing)
 }
 
 /// Applies an object of which nothing is read.
-fn apply_object<T: Target>(
-    alloc: Global,
-    target: &mut T,
-    symbols: &Path,
-    object: &mut Object,
-) -> Result<(), Fault>
-    requires symbols { symbols.now ≡ codes "__symbols__" ∷ [] }
-    requires unread { IsUnread (tree_in object.old) object.old }
-    ensures applied { OnOk result (IsApplied (T.reading target.old) (reading (tree_in object.old)) (T.reading target.new)) }
-    ensures well { OnOk result (IsWellFormed (T.reading target.old) (reading (tree_in object.old))) }
+fn apply_object<T: Target>(alloc: Global, target: &mut T, object: &mut Object) -> Result<(), Fault>
+    requires unread { IsUnread object.old.tree object.old }
+    ensures applied { OnOk result (IsApplied (T.reading target.old) (reading object.old.tree) (T.reading target.new)) }
+    ensures well { OnOk result (IsWellFormed (T.reading target.old) (reading object.old.tree)) }
     ensures refused { IfErr result (λ fault. (fault.at ≡ None)
-        × WhyNotApplied (HasNoRoom T.reading T.has_room) fault.kind (T.reading target.old) (reading (tree_in object.old))) }
-    ensures left { IfErr result (λ fault. IsLeftBy (HasNoRoom T.reading T.has_room) fault.kind (T.reading target.old) (reading (tree_in object.old)) (T.reading target.new)) }
+        × WhyNotApplied (HasNoRoom T.reading T.has_room) fault.kind (T.reading target.old) (reading object.old.tree)) }
+    ensures left { IfErr result (λ fault. IsLeftBy (HasNoRoom T.reading T.has_room) fault.kind (T.reading target.old) (reading object.old.tree) (T.reading target.new)) }
 {
-    let mut landing = Landing::new(alloc, object.seed().with(target.seed()));
-    let done = carry_out(alloc, target, symbols, object, &mut landing);
+    let mut landing = Landing::new(alloc, object.seed().with(target.seed()))?;
+    let done = carry_out(alloc, target, object, &mut landing);
     // Let go of by hand: what goes at an exit by itself is proved there field by field.
     drop(landing);
     done
@@ -142,10 +103,9 @@ pub fn apply<T: Target>(alloc: Global, target: &mut T, object: &Blob<'_>) -> Res
         × WhyNotApplied (HasNoRoom T.reading T.has_room) fault.kind (T.reading target.old) (reading_of object.now)) }
     ensures left { IfErr result (λ fault. IsLeftBy (HasNoRoom T.reading T.has_room) fault.kind (T.reading target.old) (reading_of object.now) (T.reading target.new)) }
 {
-    let symbols = symbols_path(alloc)?;
     let tree = object.to_flat(alloc)?;
-    let mut read = Object::new(alloc, tree)?;
-    let done = apply_object(alloc, target, &symbols, &mut read);
-    drop(read);
+    let mut unread = Object::new(alloc, tree)?;
+    let done = apply_object(alloc, target, &mut unread);
+    drop(unread);
     done
 }

@@ -10,7 +10,6 @@
 #![tactic(auto)]
 
 mod applying;
-mod object;
 
 pub use applying::apply;
 pub use dt_overlay_base::{Target, tree_room_is_counted};

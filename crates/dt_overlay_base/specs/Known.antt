@@ -59,6 +59,17 @@ pub record IsKnown (base : Reading) (given : List (Path × ℕ)) (landed : List 
   pub low : (n : ℕ) → 1 ≤ n → n ≤ a.last → list_any (nat_eq n) (map (λ (x : Path × ℕ). x.1) given ++ numbers_of base) ≡ true
   pub high : (n : ℕ) → IsIn n (map (λ (x : Path × ℕ). x.1) given) → n ≤ a.last
 
+-- what holds wherever it is known so
+abbrev pub WhereKnown : Known → (Reading → List (Path × ℕ) → List Path → Type 0) → Type 0
+WhereKnown a P = (base : Reading) (given : List (Path × ℕ)) (landed : List Path) → IsKnown base given landed a → P base given landed
+
+abbrev pub WhereKnownOf : Reading → Known → (List (Path × ℕ) → List Path → Type 0) → Type 0
+WhereKnownOf base a P = (given : List (Path × ℕ)) (landed : List Path) → IsKnown base given landed a → P given landed
+
+-- the same, where these nodes have landed besides
+abbrev pub IsKnownBehind : Reading → List Placed → List (Path × ℕ) → List Path → Known → Type 0
+IsKnownBehind base nodes given landed a = IsKnown base (with_places base nodes given) (landed ++ map (λ (n : Placed). n.path) nodes) a
+
 -- where these nodes land, at most 65,536 places have a number then
 pub record HasRoom (base : Reading) (nodes : List Placed) (a : Known) : Type 0 where
   pub given : List (Path × ℕ)

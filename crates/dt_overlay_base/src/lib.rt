@@ -4,7 +4,7 @@
 //!
 //! ```text
 //! target.find(&path);                                         // whether a node of the path stands
-//! note_content(alloc, &tree, &object, node, &path, &mut places)?; // what a fragment brings lands: each place once, and gets its number
+//! note_content(&tree, &object, node, &path, &mut places)?;       // what a fragment brings lands: each place once, and gets its number
 //! ```
 //!
 //! Objects that land are cases of applied.cases (docs/CASES.md).

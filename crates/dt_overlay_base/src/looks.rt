@@ -1,6 +1,6 @@
 //! A look at where things land.
 
-ghost use Rattle.std.specs.Prelude.{◌≡◌, ◌<◌, ◌≤◌, ◌*◌, ◌++◌, ◌∷◌, ◌⊎◌, [], true, false, ℕ, List, None, length, map, OnOk, IfOk, IfErr};
+ghost use Rattle.std.specs.Prelude.{◌≡◌, ◌<◌, ◌≤◌, ◌*◌, ◌++◌, ◌∷◌, [], true, false, ℕ, List, None, length, map, OnOk, IfOk, IfErr};
 ghost use Rattle.std.specs.List.{AllByRecursion};
 ghost use Rattle.dt_model.specs.Limits.{most_names, most_nodes};
 ghost use Rattle.dt_model.specs.Lists.{IsIn};
@@ -12,10 +12,9 @@ ghost use Rattle.dt_model.specs.Tree.{Placed, preorder};
 ghost use Rattle.dt_flat.specs.Arena.{properties, below};
 ghost use Rattle.dt_overlay_model.specs.Walk.{number_there as number_known, with_place, with_places};
 ghost use Rattle.dt_overlay_laws.specs.Landings.{MayLand, WhyNotLands, MayAllLand, IsStuck};
-ghost use Rattle.dt_names.specs.declared.fault.FaultKind.TheVariants.{NoMemory};
-ghost use Rattle.dt_overlay_base.specs.Known.{IsKnown, HasRoom, placed, trees_of, content_at};
+ghost use Rattle.dt_overlay_base.specs.Known.{IsKnown, IsKnownBehind, WhereKnownOf, HasRoom, placed, trees_of, content_at};
 ghost use Rattle.dt_overlay_base.specs.Known.{IsNext};
-ghost use Rattle.dt_names.specs.Fault.{IsNoMemory};
+ghost use Rattle.dt_names.specs.Fault.{IsNoMemory, IsMemoryOr};
 
 use crate::Target;
 use crate::places::Places;
@@ -50,51 +49,42 @@ fn free_number<T: Target>(alloc: Global, target: &T, last: u32) -> Result<u32, F
 
 /// The number of the node at a place: the base's, or the one that the place got.
 pub fn number_there<T: Target>(
-    alloc: Global,
     target: &T,
     places: &Places,
     path: &Path,
 ) -> Result<Option<u32>, Fault>
     requires named { AllByRecursion IsNodeName path.now }
-    ensures number { (given : List (Names × ℕ)) (landed : List Names) → IsKnown (T.reading target.now) given landed places.now →
-        IfOk result (λ number. number ≡ number_known (T.reading target.now) given path.now) }
+    ensures number { WhereKnownOf (T.reading target.now) places.now (λ given _. IfOk result (λ number. number ≡ number_known (T.reading target.now) given path.now)) }
     ensures refused { IfErr result IsNoMemory }
 {
     target.validity();
     match target.prop(path, b"phandle".as_slice()) {
         Some(value) => Ok(phandle_of(value)),
         None => {
-            let number = places.number(alloc, path)?;
+            let number = places.number(path)?;
             Ok(number)
         }
     }
 }
 
 /// A node with a phandle lands on a place, which gets a number where it has none.
-fn number_place<T: Target>(
-    alloc: Global,
-    target: &T,
-    path: &Path,
-    places: &mut Places,
-) -> Result<(), Fault>
+fn number_place<T: Target>(target: &T, path: &Path, places: &mut Places) -> Result<(), Fault>
     requires named { AllByRecursion IsNodeName path.now }
     requires room { HasRoom (T.reading target.now) [] places.old }
-    ensures known { (given : List (Names × ℕ)) (landed : List Names) → IsKnown (T.reading target.now) given landed places.old → IsIn path.now landed →
-        OnOk result (IsKnown (T.reading target.now) (with_place (T.reading target.now) path.now given) landed places.new) }
+    ensures known { WhereKnownOf (T.reading target.now) places.old (λ given landed. IsIn path.now landed → OnOk result (IsKnown (T.reading target.now) (with_place (T.reading target.now) path.now given) landed places.new)) }
     ensures refused { IfErr result IsNoMemory }
 {
     target.validity();
-    if number_there(alloc, target, places, path)?.is_some() {
+    if number_there(target, places, path)?.is_some() {
         return Ok(());
     }
-    let number = free_number(alloc, target, places.last())?;
-    places.give(alloc, path, number)?;
+    let number = free_number(places.alloc(), target, places.last())?;
+    places.give(path, number)?;
     Ok(())
 }
 
 /// A node lands on a path.
 fn note_node<T: Target>(
-    alloc: Global,
     target: &T,
     object: &FlatTree,
     node: NodeId,
@@ -105,18 +95,16 @@ fn note_node<T: Target>(
     requires named { AllByRecursion IsNodeName path.now }
     requires short { length path.now ≤ most_names }
     requires room { HasRoom (T.reading target.now) [] places.old }
-    ensures known { (given : List (Names × ℕ)) (landed : List Names) → IsKnown (T.reading target.now) given landed places.old →
-        OnOk result (IsKnown (T.reading target.now) (with_places (T.reading target.now) (placed object.now.slots node path.now ∷ []) given) (landed ++ path.now ∷ []) places.new) }
+    ensures known { WhereKnownOf (T.reading target.now) places.old (λ given landed. OnOk result (IsKnownBehind (T.reading target.now) (placed object.now.slots node path.now ∷ []) given landed places.new)) }
     ensures may { OnOk result (MayLand (placed object.now.slots node path.now)) }
-    ensures refused { IfErr result (λ fault. (fault.at ≡ None) × ((fault.kind ≡ NoMemory)
-        ⊎ WhyNotLands fault.kind (placed object.now.slots node path.now))) }
+    ensures refused { IfErr result (IsMemoryOr (λ kind. WhyNotLands kind (placed object.now.slots node path.now))) }
 {
     if is_bookkeeping(path) {
         return Err(Fault::of(FaultKind::ReservedPlace));
     }
-    places.enter(alloc, path)?;
+    places.enter(path)?;
     if object.value(node, b"phandle".as_slice()).is_some() {
-        number_place(alloc, target, path, places)?;
+        number_place(target, path, places)?;
     }
     Ok(())
 }
@@ -124,7 +112,6 @@ fn note_node<T: Target>(
 /// A child of a node lands with what is below it.
 #[cycle(notes)]
 fn note_child<T: Target>(
-    alloc: Global,
     target: &T,
     object: &FlatTree,
     node: NodeId,
@@ -136,23 +123,19 @@ fn note_child<T: Target>(
     requires named { AllByRecursion IsNodeName parent.now }
     requires plain { is_bookkeeping_path parent.now ≡ false }
     requires room { HasRoom (T.reading target.now) (preorder parent.now (trees_of object.now.slots (node ∷ []))) places.old }
-    ensures known { (given : List (Names × ℕ)) (landed : List Names) → IsKnown (T.reading target.now) given landed places.old →
-        OnOk result (IsKnown (T.reading target.now) (with_places (T.reading target.now) (preorder parent.now (trees_of object.now.slots (node ∷ []))) given)
-        (landed ++ map (λ (n : Placed). n.path) (preorder parent.now (trees_of object.now.slots (node ∷ [])))) places.new) }
+    ensures known { WhereKnownOf (T.reading target.now) places.old (λ given landed. OnOk result (IsKnownBehind (T.reading target.now) (preorder parent.now (trees_of object.now.slots (node ∷ []))) given landed places.new)) }
     ensures may { OnOk result (MayAllLand (preorder parent.now (trees_of object.now.slots (node ∷ [])))) }
-    ensures refused { IfErr result (λ fault. (fault.at ≡ None) × ((fault.kind ≡ NoMemory)
-        ⊎ IsStuck fault.kind (preorder parent.now (trees_of object.now.slots (node ∷ []))))) }
+    ensures refused { IfErr result (IsMemoryOr (λ kind. IsStuck kind (preorder parent.now (trees_of object.now.slots (node ∷ []))))) }
 {
     object.validity();
-    let path = child_path(alloc, parent, object.name(node))?;
-    note_node(alloc, target, object, node, &path, places)?;
-    note_children(alloc, target, object, node, &path, places)
+    let path = child_path(places.alloc(), parent, object.name(node))?;
+    note_node(target, object, node, &path, places)?;
+    note_children(target, object, node, &path, places)
 }
 
 /// The children of a node land, each with what is below it.
 #[cycle(notes)]
 fn note_children<T: Target>(
-    alloc: Global,
     target: &T,
     object: &FlatTree,
     node: NodeId,
@@ -163,22 +146,18 @@ fn note_children<T: Target>(
     requires named { AllByRecursion IsNodeName path.now }
     requires plain { is_bookkeeping_path path.now ≡ false }
     requires room { HasRoom (T.reading target.now) (preorder path.now (below object.now.slots node)) places.old }
-    ensures known { (given : List (Names × ℕ)) (landed : List Names) → IsKnown (T.reading target.now) given landed places.old →
-        OnOk result (IsKnown (T.reading target.now) (with_places (T.reading target.now) (preorder path.now (below object.now.slots node)) given)
-        (landed ++ map (λ (n : Placed). n.path) (preorder path.now (below object.now.slots node))) places.new) }
+    ensures known { WhereKnownOf (T.reading target.now) places.old (λ given landed. OnOk result (IsKnownBehind (T.reading target.now) (preorder path.now (below object.now.slots node)) given landed places.new)) }
     ensures may { OnOk result (MayAllLand (preorder path.now (below object.now.slots node))) }
-    ensures refused { IfErr result (λ fault. (fault.at ≡ None) × ((fault.kind ≡ NoMemory)
-        ⊎ IsStuck fault.kind (preorder path.now (below object.now.slots node)))) }
+    ensures refused { IfErr result (IsMemoryOr (λ kind. IsStuck kind (preorder path.now (below object.now.slots node)))) }
 {
     for child in object.children(node) {
-        note_child(alloc, target, object, child, path, places)?;
+        note_child(target, object, child, path, places)?;
     }
     Ok(())
 }
 
 /// What a fragment brings lands on a path.
 pub fn note_content<T: Target>(
-    alloc: Global,
     target: &T,
     object: &FlatTree,
     content: NodeId,
@@ -189,13 +168,10 @@ pub fn note_content<T: Target>(
     requires named { AllByRecursion IsNodeName path.now }
     requires short { length path.now ≤ most_names }
     requires room { HasRoom (T.reading target.now) (content_at object.now.slots content path.now) places.old }
-    ensures known { (given : List (Names × ℕ)) (landed : List Names) → IsKnown (T.reading target.now) given landed places.old →
-        OnOk result (IsKnown (T.reading target.now) (with_places (T.reading target.now) (content_at object.now.slots content path.now) given)
-        (landed ++ map (λ (n : Placed). n.path) (content_at object.now.slots content path.now)) places.new) }
+    ensures known { WhereKnownOf (T.reading target.now) places.old (λ given landed. OnOk result (IsKnownBehind (T.reading target.now) (content_at object.now.slots content path.now) given landed places.new)) }
     ensures may { OnOk result (MayAllLand (content_at object.now.slots content path.now)) }
-    ensures refused { IfErr result (λ fault. (fault.at ≡ None) × ((fault.kind ≡ NoMemory)
-        ⊎ IsStuck fault.kind (content_at object.now.slots content path.now))) }
+    ensures refused { IfErr result (IsMemoryOr (λ kind. IsStuck kind (content_at object.now.slots content path.now))) }
 {
-    note_node(alloc, target, object, content, path, places)?;
-    note_children(alloc, target, object, content, path, places)
+    note_node(target, object, content, path, places)?;
+    note_children(target, object, content, path, places)
 }

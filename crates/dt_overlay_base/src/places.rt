@@ -1,16 +1,14 @@
 //! What is known of the places on which an object's nodes land.
 
-ghost use Rattle.std.specs.Prelude.{◌≡◌, ◌++◌, ◌∷◌, [], ℕ, List, None, is_some, OnOk, IfOk};
+ghost use Rattle.std.specs.Prelude.{◌≡◌, ◌++◌, ◌∷◌, [], None, is_some, OnOk, IfOk};
 ghost use Rattle.std.specs.Option.{option_copied};
 ghost use Rattle.std.specs.List.{AllByRecursion};
 ghost use Rattle.dt_model.specs.Lists.{IsIn};
 ghost use Rattle.dt_model.specs.Names.{IsNodeName};
 ghost use Rattle.dt_model.specs.Numbers.{numbers_of, number_in};
 ghost use Rattle.dt_model.specs.Path.{path_value};
-ghost use Rattle.dt_model.specs.Path.{Path as Names};
 ghost use Rattle.dt_model.specs.Tree.{Reading};
-ghost use Rattle.dt_overlay_base.specs.Known.{IsKnown, kept_at, number_at_place, place_of_number};
-ghost use Rattle.dt_overlay_base.specs.Known.{IsNext};
+ghost use Rattle.dt_overlay_base.specs.Known.{IsKnown, IsNext, WhereKnown, kept_at, number_at_place, place_of_number};
 
 use crate::texts::put_path;
 use dt_names::{Path, Seed};
@@ -22,7 +20,8 @@ use std::marker::Model;
 /// path, and of each number.
 #[derive(Drop)]
 pub struct Places {
-    // by the text of the place's path
+    alloc: Global,
+    /// By the text of the place's path.
     numbers: IndexMap<Vec<u8>, Option<u32>, Seed>,
     paths: IndexMap<u32, Path, Seed>,
     last: u32,
@@ -50,25 +49,31 @@ impl Places {
         ensures { (base : Reading) → IsKnown base [] [] result }
     {
         Places {
+            alloc,
             numbers: IndexMap::with_hasher(alloc, seed),
             paths: IndexMap::with_hasher(alloc, seed),
             last: 0,
         }
     }
 
+    /// The allocator behind the places.
+    pub fn alloc(&self) -> Global {
+        self.alloc
+    }
+
     /// Has something landed on the path?
-    pub fn has_landed(&self, alloc: Global, path: &Path) -> Result<bool, AllocError>
+    pub fn has_landed(&self, path: &Path) -> Result<bool, AllocError>
         ensures { IfOk result (λ landed. landed ≡ is_some (kept_at self.now.landed path.now)) }
     {
-        let text = text_of(alloc, path)?;
+        let text = text_of(self.alloc, path)?;
         Ok(self.numbers.get(text.as_slice()).is_some())
     }
 
     /// The number that the path's place got.
-    pub fn number(&self, alloc: Global, path: &Path) -> Result<Option<u32>, AllocError>
+    pub fn number(&self, path: &Path) -> Result<Option<u32>, AllocError>
         ensures { IfOk result (λ number. number ≡ number_at_place self.now path.now) }
     {
-        let text = text_of(alloc, path)?;
+        let text = text_of(self.alloc, path)?;
         match self.numbers.get(text.as_slice()) {
             Some(number) => Ok(*number),
             None => Ok(None),
@@ -90,12 +95,11 @@ impl Places {
     }
 
     /// A node lands on the path.
-    pub fn enter(&mut self, alloc: Global, path: &Path) -> Result<(), AllocError>
+    pub fn enter(&mut self, path: &Path) -> Result<(), AllocError>
         requires { AllByRecursion IsNodeName path.now }
-        ensures { (base : Reading) (given : List (Names × ℕ)) (landed : List Names) → IsKnown base given landed self.old →
-            OnOk result (IsKnown base given (landed ++ path.now ∷ []) self.new) }
+        ensures { WhereKnown self.old (λ base given landed. OnOk result (IsKnown base given (landed ++ path.now ∷ []) self.new)) }
     {
-        let text = text_of(alloc, path)?;
+        let text = text_of(self.alloc, path)?;
         if self.numbers.get(text.as_slice()).is_none() {
             self.numbers.insert(text, None)?;
         }
@@ -103,14 +107,13 @@ impl Places {
     }
 
     /// The path's place gets the next number that is free.
-    pub fn give(&mut self, alloc: Global, path: &Path, number: u32) -> Result<(), AllocError>
+    pub fn give(&mut self, path: &Path, number: u32) -> Result<(), AllocError>
         requires { AllByRecursion IsNodeName path.now }
-        ensures { (base : Reading) (given : List (Names × ℕ)) (landed : List Names) → IsKnown base given landed self.old →
-            IsIn path.now landed → number_in given path.now ≡ None → IsNext (numbers_of base) self.old.last number →
-            OnOk result (IsKnown base (given ++ (path.now, number) ∷ []) landed self.new) }
+        ensures { WhereKnown self.old (λ base given landed. IsIn path.now landed → number_in given path.now ≡ None → IsNext (numbers_of base) self.old.last number →
+            OnOk result (IsKnown base (given ++ (path.now, number) ∷ []) landed self.new)) }
     {
-        let text = text_of(alloc, path)?;
-        let place = path.copy(alloc)?;
+        let text = text_of(self.alloc, path)?;
+        let place = path.copy(self.alloc)?;
         self.numbers.insert(text, Some(number))?;
         self.paths.insert(number, place)?;
         self.last = number;

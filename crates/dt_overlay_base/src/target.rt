@@ -99,7 +99,7 @@ pub trait Target {
         ensures allowed { (value : List ℕ) → value_in (reading self.old) path.now name.now ≡ Some value →
             IsOk result → HasRoomAt (has_room self.old) (reading self.old) path.now name.now (with_cell value offset number) }
         ensures err { OnErr result (reading self.new ≡ reading self.old) }
-        ensures refused { (value : List ℕ) → value_in (reading self.old) path.now name.now ≡ Some value →
+        ensures refused { (v : List ℕ) → value_in (reading self.old) path.now name.now ≡ Some v →
             IfErr result (λ fault.
-            WhyNotSetAt (has_room self.old) fault.kind (reading self.old) path.now name.now (with_cell value offset number) × (fault.at ≡ None)) };
+            WhyNotSetAt (has_room self.old) fault.kind (reading self.old) path.now name.now (with_cell v offset number) × (fault.at ≡ None)) };
 }

@@ -1,6 +1,6 @@
 //! Texts of paths.
 
-ghost use Rattle.std.specs.Prelude.{◌≡◌, ◌<◌, ◌≤◌, ◌++◌, ◌∷◌, ◌⊎◌, [], ℕ, None, Some, length, drop, OnOk, IfOk, IfErr};
+ghost use Rattle.std.specs.Prelude.{◌≡◌, ◌<◌, ◌≤◌, ◌++◌, ◌∷◌, [], ℕ, Some, length, drop, OnOk, IfOk, IfErr};
 ghost use Rattle.std.specs.List.{AllByRecursion};
 ghost use Rattle.dt_model.specs.Limits.{most_names};
 ghost use Rattle.dt_model.specs.Names.{IsNodeName};
@@ -8,6 +8,7 @@ ghost use Rattle.dt_model.specs.Path.{path_value};
 ghost use Rattle.dt_model.specs.Path.{Path as Names};
 ghost use Rattle.dt_flat.specs.Arena.{node_from};
 ghost use Rattle.dt_names.specs.declared.fault.FaultKind.TheVariants.{NoMemory, Limit};
+ghost use Rattle.dt_names.specs.Fault.{IsMemoryOr};
 
 use dt_flat::FlatTree;
 use dt_names::{Fault, NodeId, NodeName, Path, PathRef};
@@ -45,8 +46,7 @@ pub fn child_path(alloc: Global, path: &Path, name: &[u8]) -> Result<Path, Fault
     requires { IsNodeName name.now }
     ensures value { IfOk result (λ child. child ≡ path.now ++ name.now ∷ []) }
     ensures room { IfOk result (λ child. length path.now < most_names) }
-    ensures refused { IfErr result (λ fault. (fault.at ≡ None)
-        × ((fault.kind ≡ NoMemory) ⊎ ((fault.kind ≡ Limit) × (most_names ≤ length path.now)))) }
+    ensures refused { IfErr result (IsMemoryOr (λ kind. (kind ≡ Limit) × (most_names ≤ length path.now))) }
 {
     let name = NodeName::new(name)?;
     let mut child = path.copy(alloc)?;
@@ -59,8 +59,7 @@ pub fn child_path(alloc: Global, path: &Path, name: &[u8]) -> Result<Path, Fault
 pub fn join(alloc: Global, site: &Path, own: &Path) -> Result<Path, Fault>
     requires { AllByRecursion IsNodeName own.now }
     ensures value { IfOk result (λ path. path ≡ site.now ++ drop 2 own.now) }
-    ensures refused { IfErr result (λ fault. (fault.at ≡ None)
-        × ((fault.kind ≡ NoMemory) ⊎ ((fault.kind ≡ Limit) × (most_names < length (site.now ++ drop 2 own.now))))) }
+    ensures refused { IfErr result (IsMemoryOr (λ kind. (kind ≡ Limit) × (most_names < length (site.now ++ drop 2 own.now)))) }
 {
     let mut path = site.copy(alloc)?;
     for name in own.names().skip(2) {

@@ -16,3 +16,7 @@ pub mod WritesLanded
 pub mod WritesPaths
 pub mod WritesPlans
 pub mod WritesRead
+pub mod CarriedLandings
+pub mod SeenObjects
+pub mod SeenWays
+pub mod ValuesSaid

@@ -24,8 +24,8 @@ use Rattle.dt_overlay_model.proofs.Walks.{IsWalked}
 use Rattle.dt_overlay_laws.specs.Laws.{AreShallow}
 use Rattle.dt_overlay_laws.proofs.PassedOutcomes.{shallow_landings}
 use Rattle.dt_overlay_laws.proofs.Sited.{sited_walks}
-use Rattle.dt_overlay_base.specs.Known.{Known}
-use Rattle.dt_overlay_landing.specs.Turns.{IsLooked}
+use Rattle.dt_overlay_object.specs.declared.landing.Landing.{Landing}
+use Rattle.dt_overlay_landing.specs.Turns.{HasAllSites}
 use Rattle.dt_overlay_object.proofs.Elements.{get-set_same, get-set_other, get_within}
 use Rattle.dt_overlay_base.proofs.Reached.{value-led}
 use Rattle.dt_overlay_landing.proofs.SitesTurns.{front_walked, in_front}
@@ -64,8 +64,11 @@ length_set {X} f xs ys i e = ap (λ zs. length zs) e ∙ step xs i
 
 -- ---- the numbers of an object's nodes, where all its fragments have sites
 
-module _ (base : Reading) (a : Arena) (valid : IsValid (reading a)) (few_base : IsWithinLimits base) (few : IsWithinLimits (reading a)) (fixups : List (Name × Cell)) (end : Walked) (paths : List Path) (places : Known)
-    (looked : IsLooked base fixups (reading a) end paths places) where
+module _ (base : Reading) (a : Arena) (valid : IsValid (reading a)) (few_base : IsWithinLimits base) (few : IsWithinLimits (reading a)) (fixups : List (Name × Cell)) (at : Landing)
+    (sited : HasAllSites base fixups (reading a) at) where
+  abbrev end : Walked
+  end = sited.end
+
   abbrev names : List Name
   names = fragment_names (reading a).children
 
@@ -73,13 +76,13 @@ module _ (base : Reading) (a : Arena) (valid : IsValid (reading a)) (few_base : 
   numbers = new_numbers base (reading a) end
 
   pub all_walked : IsWalked base (reading a) names end
-  all_walked = front_walked base (reading a) fixups valid names [] end (append-nil names) looked.sited
+  all_walked = front_walked base (reading a) fixups valid names [] end (append-nil names) sited.sited
 
   pub all_front : map (λ (x : Site). x.fragment) end.sites ≡ take (length end.sites) names
   all_front = in_front (reading a) valid end.sites names [] all_walked.named (append-nil names)
 
   pub all_shallow : AreShallow (reading a) end.sites
-  all_shallow = shallow_landings (reading a) valid end.sites (sited_walks base (reading a) fixups valid names nothing_walked end (λ f i. i) looked.sited (λ x i. absurd i)).1
+  all_shallow = shallow_landings (reading a) valid end.sites (sited_walks base (reading a) fixups valid names nothing_walked end (λ f i. i) sited.sited (λ x i. absurd i)).1
 
   -- a node with a phandle that lands
   pub number_landed : (p q : Path) (k : ℕ) → node_from a.slots 0 p ≡ Some k → is_some (value_of (properties a.slots k) (codes "phandle")) ≡ true → landing end.sites p ≡ Some q

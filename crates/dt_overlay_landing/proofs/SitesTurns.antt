@@ -29,9 +29,10 @@ use Rattle.dt_overlay_laws.specs.Landings.{target_in, MayLand, MayAllLand, AreSi
 use Rattle.dt_overlay_laws.proofs.Landed.{lands_listed, landing_stands, plain_site}
 use Rattle.dt_overlay_laws.proofs.Sited.{sited_walks}
 use Rattle.dt_overlay_landing.specs.declared.marks.TargetMark.{TargetMark}
-use Rattle.dt_overlay_object.specs.declared.brought.Brought.{Brought}
+use Rattle.dt_overlay_object.specs.declared.landing.Landing.{Landing}
+use Rattle.dt_overlay_object.specs.declared.object.Object.{Object}
 use Rattle.dt_overlay_base.specs.Known.{Known, IsKnown, HasRoom, placed, content_at, landed_paths}
-use Rattle.dt_overlay_landing.specs.Turns.{IsTurn, AreLandings, LandsTooDeep}
+use Rattle.dt_overlay_landing.specs.Turns.{Turn, IsTurn, AreLandings, LandsTooDeep}
 use Rattle.dt_overlay_base.proofs.LooksNames.{stands_named}
 
 -- ---- one list of fragments behind another
@@ -124,27 +125,26 @@ each_good sites paths e h x i =
 
 -- ---- at a turn
 
-module _ (base : Reading) (fixups : List (Name × Cell)) (tree : Arena) (valid : IsValid (reading tree)) (b : Brought) (marks : List TargetMark) (paths : List Path) (a : Known) (w : Walked) (done later : List Name)
-    (t : IsTurn base fixups tree b marks paths a w done later) where
-  pub turn_walked : IsWalked base (reading tree) done w
-  turn_walked = front_walked base (reading tree) fixups valid done later w (sym t.names) t.sited
+module _ (base : Reading) (object : Object) (valid : IsValid (reading object.tree)) (marks : List TargetMark) (landing : Landing) (turn : Turn) (t : IsTurn base object marks landing turn) where
+  pub turn_walked : IsWalked base (reading object.tree) turn.done turn.walked
+  turn_walked = front_walked base (reading object.tree) turn.fixups valid turn.done turn.later turn.walked (sym t.names) t.sited
 
-  pub turn_front : map (λ (x : Site). x.fragment) w.sites ≡ take (length w.sites) (fragment_names (reading tree).children)
-  turn_front = in_front (reading tree) valid w.sites done later turn_walked.named (sym t.names)
+  pub turn_front : map (λ (x : Site). x.fragment) turn.walked.sites ≡ take (length turn.walked.sites) (fragment_names (reading object.tree).children)
+  turn_front = in_front (reading object.tree) valid turn.walked.sites turn.done turn.later turn_walked.named (sym t.names)
 
-  may : (x : Site) → IsIn x w.sites → MayAllLand (landings (reading tree) x)
-  may = (sited_walks base (reading tree) fixups valid done nothing_walked w (λ f i. subst (IsIn f) (sym t.names) (in_left' f done later i)) t.sited (λ x i. absurd i)).1
+  may : (x : Site) → IsIn x turn.walked.sites → MayAllLand (landings (reading object.tree) x)
+  may = (sited_walks base (reading object.tree) turn.fixups valid turn.done nothing_walked turn.walked (λ f i. subst (IsIn f) (sym t.names) (in_left' f turn.done turn.later i)) t.sited (λ x i. absurd i)).1
     where
       in_left' : (f : Name) (xs ys : List Name) → IsIn f xs → IsIn f (xs ++ ys)
       in_left' f [] ys i = absurd i
       in_left' f (x ∷ xs) ys (inl same) = inl same
       in_left' f (x ∷ xs) ys (inr i) = inr (in_left' f xs ys i)
 
-  pub turn_landings : AreLandings (reading tree) w.sites
-  turn_landings = are_landings (reading tree) valid w.sites done later turn_walked.named (sym t.names) may (each_good w.sites paths t.sites t.good)
+  pub turn_landings : AreLandings (reading object.tree) turn.walked.sites
+  turn_landings = are_landings (reading object.tree) valid turn.walked.sites turn.done turn.later turn_walked.named (sym t.names) may (each_good turn.walked.sites landing.sites.items t.sites t.good)
 
   -- nothing that landed so far is too deep
-  pub not_too_deep : LandsTooDeep (reading tree) w.sites → ⊥
+  pub not_too_deep : LandsTooDeep (reading object.tree) turn.walked.sites → ⊥
   not_too_deep h =
       let few = (turn_landings.good h.1 (turn_landings.complete h.0 h.1 h.2 h.3)).1 in
       let deep : most_names < length h.1 = h.4 in

@@ -1,9 +1,12 @@
 -- Nodes that land with the values that are kept of their properties.
-use Rattle.std.proofs.Common.{◌≡◌, ℕ, ◌+◌, ◌<◌, List, [], ◌∷◌, map, sym, ap, subst, ◌∙◌, arith}
+use Rattle.std.proofs.Common.{◌≡◌, ℕ, ◌<◌, get_or, List, [], ◌∷◌, length, Option, None, map, sym, ap, subst, ◌∙◌, arith}
+use Rattle.std.specs.Prelude.{unwrap_or}
 use Rattle.std.specs.List.{AllByRecursion}
+use Rattle.std.proofs.lemmas.Option.{slice_get-get_or}
 use Rattle.dt_model.specs.Names.{IsNodeName, IsPropertyName}
 use Rattle.dt_model.specs.Tree.{Property}
 use Rattle.dt_flat.specs.Arena.{Slot, properties}
+use Rattle.dt_overlay_landing.specs.Landed.{number_of}
 use Rattle.dt_overlay_landing.specs.Values.{Kept, with_kept, with_values}
 use Rattle.dt_overlay_landing.proofs.LandingNodes.{IsChildOf}
 use Rattle.dt_overlay_landing.proofs.ValuesKept.{properties_with, name_with, length_with}
@@ -28,3 +31,7 @@ still_children vs slots node (k ∷ ks) h = (
   },
   still_children vs slots node ks h.1,
 )
+
+-- the number that a node gets, as it is read off the list
+pub number_read : (numbers : List (Option ℕ)) (k : ℕ) (x : Option ℕ) → k < length numbers → x ≡ get_or numbers k x → x ≡ number_of numbers k
+number_read numbers k x lt at = at ∙ sym (ap (λ (o : Option (Option ℕ)). unwrap_or o None) (slice_get-get_or numbers k x lt))

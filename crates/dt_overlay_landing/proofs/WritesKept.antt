@@ -11,7 +11,7 @@ use Rattle.dt_model.specs.Tree.{value_of}
 use Rattle.dt_model.proofs.Tests.{bytes_eq_true}
 use Rattle.dt_flat.specs.Arena.{Slot, named_children, properties, name_of, with_property}
 use Rattle.dt_flat.proofs.AfterProperty.{length-with_property, children-with_property, value-with_property}
-use Rattle.dt_overlay_landing.specs.Writing.{IsWritable, AreWritable, with_write, with_writes}
+use Rattle.dt_overlay_object.specs.Writing.{IsWritable, AreWritable, with_write, with_writes}
 use Rattle.dt_overlay_object.specs.declared.kept.Write.{Write}
 
 -- ---- values

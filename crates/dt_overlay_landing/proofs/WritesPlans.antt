@@ -17,7 +17,7 @@ use Rattle.dt_flat.proofs.Descent.{path-within}
 use Rattle.dt_flat.proofs.Rooting.{IsRooted-property}
 use Rattle.dt_model.specs.Object.{HasCell}
 use Rattle.dt_overlay_object.specs.Plans.{IsFragmentOf, AreFragmentsOf, IsWriteOf, AreWritesOf, AreBrought, IsSymbolOf, AreSymbolsOf}
-use Rattle.dt_overlay_landing.specs.Writing.{IsWritable, AreWritable, with_write, with_writes}
+use Rattle.dt_overlay_object.specs.Writing.{IsWritable, AreWritable, with_write, with_writes}
 use Rattle.dt_overlay_object.specs.declared.kept.ObjectFragment.{ObjectFragment}
 use Rattle.dt_overlay_object.specs.declared.brought.Brought.{Brought}
 use Rattle.dt_overlay_object.specs.declared.kept.Symbol.{Symbol}

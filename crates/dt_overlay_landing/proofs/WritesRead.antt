@@ -20,7 +20,7 @@ use Rattle.dt_flat.proofs.Descent.{path-same}
 use Rattle.dt_flat.proofs.Rooting.{first_of_rest}
 use Rattle.dt_overlay_laws.specs.Writing.{with_cells_of, cells_written, with_cells}
 use Rattle.dt_overlay_object.specs.Plans.{IsWriteOf, AreWritesOf}
-use Rattle.dt_overlay_landing.specs.Writing.{IsWritable, AreWritable, with_write, with_writes}
+use Rattle.dt_overlay_object.specs.Writing.{IsWritable, AreWritable, with_write, with_writes}
 use Rattle.dt_overlay_object.specs.declared.kept.Write.{Write as KeptWrite}
 use Rattle.dt_overlay_landing.proofs.WritesKept.{patched, patched-is, still_writable}
 use Rattle.dt_overlay_landing.proofs.WritesPaths.{EachHasPath, first_path}

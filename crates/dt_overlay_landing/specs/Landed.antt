@@ -1,10 +1,15 @@
 -- The nodes of a tree as they land, by their numbers in the tree.
 use Rattle.std.specs.Prelude.{◌≡◌, ◌⊎◌, ℕ, true, suc, ◌==◌, List, [], ◌∷◌, map, drop, slice_get, Option, None, unwrap_or, if◌then◌else◌}
 use Rattle.dt_model.specs.Path.{Path}
-use Rattle.dt_model.specs.Tree.{Forest, no_nodes, branch, Reading, Node, stands_in}
+use Rattle.dt_model.specs.Tree.{Forest, no_nodes, branch, Property, Reading, Node, stands_in}
 use Rattle.dt_flat.specs.Arena.{Slot, properties}
-use Rattle.dt_overlay_laws.specs.Steps.{land_node, MayLandNode, FullAtNode}
+use Rattle.dt_model.specs.Merged.{Site}
+use Rattle.dt_overlay_laws.specs.Steps.{land_fragments, land_node, MayLandFragments, MayLandNode, FullAtFragments, FullAtNode}
 use Rattle.dt_overlay_laws.specs.Writing.{landed_property}
+use Rattle.dt_overlay_object.specs.Objects.{Seen, writes_of}
+use Rattle.dt_overlay_object.specs.declared.object.Object.{Object}
+use Rattle.dt_overlay_landing.specs.declared.landing.LandingNode.{LandingNode}
+use Rattle.dt_overlay_landing.specs.Values.{Kept, with_kept, with_values}
 
 -- the new number of a node, if it gets one
 abbrev pub number_of : List (Option ℕ) → ℕ → Option ℕ
@@ -46,3 +51,37 @@ FullAtEach full numbers slots [] sites t = ⊥
 FullAtEach full numbers slots (k ∷ ks) [] t = ⊥
 FullAtEach full numbers slots (k ∷ ks) (q ∷ sites) t =
     FullAtNode full q (landed_at numbers slots k) t ⊎ FullAtEach full numbers slots ks sites (land_node q (landed_at numbers slots k) t)
+
+-- ---- the same of an object, with the values that are kept of its properties
+
+-- a property of a node that lands
+abbrev pub landed_as : LandingNode → Property → Property
+landed_as l p = landed_property l.number (with_kept l.values.now l.node p)
+
+abbrev pub landed_properties : LandingNode → List Property → List Property
+landed_properties l ps = map (landed_property l.number) (map (with_kept l.values.now l.node) ps)
+
+-- a node with those below it
+abbrev pub landed_with : Object → List Kept → ℕ → Node
+landed_with o vs k = landed_at o.brought.numbers.items (with_values vs 0 o.tree.slots) k
+
+-- what its fragments bring, each landed on its site
+abbrev pub landed_each : Object → List Kept → List Path → Reading → Reading
+landed_each o vs = land_each o.brought.numbers.items (with_values vs 0 o.tree.slots) (map (λ x. x.content) o.fragments.items)
+
+abbrev pub MayLandEachOf : Object → List Kept → List Path → Reading → Type 0
+MayLandEachOf o vs = MayLandEach o.brought.numbers.items (with_values vs 0 o.tree.slots) (map (λ x. x.content) o.fragments.items)
+
+abbrev pub FullAtEachOf : (Reading → Reading → Type 0) → Object → List Kept → List Path → Reading → Type 0
+FullAtEachOf full o vs = FullAtEach full o.brought.numbers.items (with_values vs 0 o.tree.slots) (map (λ x. x.content) o.fragments.items)
+
+-- ---- the same of what an object is seen as
+
+abbrev pub MayLandSeen : Reading → Seen → List Site → Type 0
+MayLandSeen t seen found = MayLandFragments t seen.reading (writes_of seen) seen.numbers found
+
+abbrev pub seen_landed : Reading → Seen → List Site → Reading
+seen_landed t seen found = land_fragments t seen.reading (writes_of seen) seen.numbers found
+
+abbrev pub FullAtSeen : (Reading → Reading → Type 0) → Reading → Seen → List Site → Type 0
+FullAtSeen full t seen found = FullAtFragments full t seen.reading (writes_of seen) seen.numbers found

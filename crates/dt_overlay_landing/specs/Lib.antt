@@ -1,7 +1,6 @@
 -- what callers read, in this order
 pub mod Marks
 pub mod Turns
-pub mod Writing
 pub mod Values
 pub mod Landed
 pub mod SymbolLanding

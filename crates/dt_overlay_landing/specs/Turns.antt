@@ -1,47 +1,63 @@
 -- What is known when a fragment's turn comes.
-use Rattle.std.specs.Prelude.{◌≡◌, ◌<◌, ◌≤◌, true, List, [], ◌∷◌, ◌++◌, length, map, Some}
+use Rattle.std.specs.Prelude.{◌≡◌, ◌<◌, ◌≤◌, ℕ, true, List, [], ◌∷◌, ◌++◌, length, take, map, Option, Some}
 use Rattle.dt_model.specs.Limits.{most_names}
 use Rattle.dt_model.specs.Lists.{IsIn}
-use Rattle.std.specs.List.{AllByRecursion}
+use Rattle.std.specs.List.{AllByRecursion, list_any}
 use Rattle.dt_model.specs.Names.{Name, IsNodeName}
 use Rattle.dt_model.specs.Path.{Path}
 use Rattle.dt_model.specs.Tree.{Reading, stands_in}
-use Rattle.dt_model.specs.Merged.{Site, landing}
-use Rattle.dt_model.specs.Object.{Cell, fragment_names}
-use Rattle.dt_flat.specs.Arena.{Arena, reading}
-use Rattle.dt_overlay_model.specs.Walk.{Walked, nothing_walked, site, landings, landed_on}
-use Rattle.dt_overlay_laws.specs.Landings.{target_in, MayAllLand, AreSited}
+use Rattle.dt_model.specs.Merged.{Site}
+use Rattle.dt_model.specs.Merged as merged
+use Rattle.dt_model.specs.Object.{Cell, fragment_names, local_cells}
+use Rattle.dt_model.specs.Valid.{AreDistinct, IsValid}
+use Rattle.dt_names.specs.declared.fault.FaultKind.{FaultKind}
+use Rattle.dt_names.specs.declared.fault.FaultKind.TheVariants.{Limit}
+use Rattle.dt_flat.specs.Arena.{Arena, Slot, node_from, reading}
+use Rattle.dt_overlay_model.specs.Walk.{Walked, nothing_walked, site, landings, landed_on, named_node, target_label, is_target}
+use Rattle.dt_overlay_laws.specs.Landings.{target_in, MayAllLand, AreSited, HasNoSite}
 use Rattle.dt_overlay_object.specs.declared.kept.ObjectFragment.{ObjectFragment}
 use Rattle.dt_overlay_landing.specs.declared.marks.TargetMark.{TargetMark}
 use Rattle.dt_overlay_object.specs.declared.brought.Brought.{Brought}
+use Rattle.dt_overlay_object.specs.declared.landing.Landing.{Landing}
+use Rattle.dt_overlay_object.specs.declared.object.Object.{Object}
 use Rattle.dt_overlay_base.specs.Known.{Known, IsKnown, landed_paths}
-use Rattle.dt_overlay_landing.specs.Marks.{AreMarked}
-use Rattle.dt_overlay_object.specs.Plans.{AreBrought, IsFragmentOf}
+use Rattle.dt_overlay_landing.specs.Marks.{AreMarked, IsMark}
+use Rattle.dt_overlay_object.specs.Plans.{AreBrought, AreBroughtBy, IsFragmentOf, IsKeptFor}
+
+-- a turn: the cells that wait for labels, the names of the fragments that have sites and of those behind them, and what they have brought
+pub record Turn : Type 0 where
+  pub fixups : List (Name × Cell)
+  pub walked : Walked
+  pub done : List Name
+  pub later : List Name
 
 -- these fragments of the object have sites, and what is known is what they bring
-pub record IsTurn (base : Reading) (fixups : List (Name × Cell)) (tree : Arena) (b : Brought) (marks : List TargetMark) (paths : List Path) (a : Known) (w : Walked) (done later : List Name) : Type 0 where
-  pub brought : AreBrought tree.slots (fragment_names (reading tree).children) [] b
-  pub marked : AreMarked base fixups tree marks
-  pub names : fragment_names (reading tree).children ≡ done ++ later
-  pub sited : AreSited base (reading tree) fixups nothing_walked done w
-  pub sites : paths ≡ map (λ (x : Site). x.at) w.sites
-  pub good : AllByRecursion (λ q. AllByRecursion IsNodeName q) paths
-  pub known : IsKnown base w.given (landed_paths (reading tree) w.sites) a
+pub record IsTurn (base : Reading) (object : Object) (marks : List TargetMark) (landing : Landing) (t : Turn) : Type 0 where
+  pub brought : AreBroughtBy object.tree [] object.brought
+  pub marked : AreMarked base t.fixups object.tree marks
+  pub names : fragment_names (reading object.tree).children ≡ t.done ++ t.later
+  pub sited : AreSited base (reading object.tree) t.fixups nothing_walked t.done t.walked
+  pub sites : landing.sites.items ≡ map (λ (x : Site). x.at) t.walked.sites
+  pub good : AllByRecursion (λ q. AllByRecursion IsNodeName q) landing.sites.items
+  pub known : IsKnown base t.walked.given (landed_paths (reading object.tree) t.walked.sites) landing.places
 
--- the fragment x is the next one, and has the name f
-pub record IsTurnOf (base : Reading) (fixups : List (Name × Cell)) (tree : Arena) (b : Brought) (marks : List TargetMark) (paths : List Path) (a : Known) (w : Walked) (done : List Name) (x : ObjectFragment) (f : Name) (later : List Name) : Type 0 where
-  pub turn : IsTurn base fixups tree b marks paths a w done (f ∷ later)
-  pub fragment : IsFragmentOf tree.slots (reading tree) x f
+-- the fragment x is the next one
+pub record IsTurnOf (base : Reading) (object : Object) (marks : List TargetMark) (landing : Landing) (x : ObjectFragment) (t : Turn) : Type 0 where
+  pub turn : IsTurn base object marks landing t
+  pub name : Name
+  pub behind : List Name
+  pub next : t.later ≡ name ∷ behind
+  pub fragment : IsFragmentOf object.tree.slots (reading object.tree) x name
 
 -- one of the nodes that land at these sites lands too deep
 abbrev pub LandsTooDeep : Reading → List Site → Type 0
-LandsTooDeep object sites = (p q : Path) × (stands_in object p ≡ true) × (landing sites p ≡ Some q) × (most_names < length q)
+LandsTooDeep object sites = (p q : Path) × (stands_in object p ≡ true) × (merged.landing sites p ≡ Some q) × (most_names < length q)
 
 -- each node of the object that lands at these sites is one that they bring, and the other way round
 pub record AreLandings (object : Reading) (sites : List Site) : Type 0 where
   pub good : (q : Path) → IsIn q (landed_paths object sites) → AllByRecursion IsNodeName q × (length q ≤ most_names)
-  pub sound : (q : Path) → IsIn q (landed_paths object sites) → (p : Path) × (stands_in object p ≡ true) × (landing sites p ≡ Some q)
-  pub complete : (p q : Path) → stands_in object p ≡ true → landing sites p ≡ Some q → IsIn q (landed_paths object sites)
+  pub sound : (q : Path) → IsIn q (landed_paths object sites) → (p : Path) × (stands_in object p ≡ true) × (merged.landing sites p ≡ Some q)
+  pub complete : (p q : Path) → stands_in object p ≡ true → merged.landing sites p ≡ Some q → IsIn q (landed_paths object sites)
 
 -- the fragment lands on this path, and what is known then is what it brings besides
 pub record IsSitedOn (base : Reading) (fixups : List (Name × Cell)) (object : Reading) (w : Walked) (f : Name) (q : Path) (a : Known) : Type 0 where
@@ -50,7 +66,49 @@ pub record IsSitedOn (base : Reading) (fixups : List (Name × Cell)) (object : R
   pub known : IsKnown base (landed_on base object w f q).given (landed_paths object (landed_on base object w f q).sites) a
 
 -- all fragments have sites, and what is known is what they bring
-pub record IsLooked (base : Reading) (fixups : List (Name × Cell)) (object : Reading) (end : Walked) (paths : List Path) (a : Known) : Type 0 where
+pub record HasAllSites (base : Reading) (fixups : List (Name × Cell)) (object : Reading) (landing : Landing) : Type 0 where
+  pub end : Walked
   pub sited : AreSited base object fixups nothing_walked (fragment_names object.children) end
-  pub sites : paths ≡ map (λ (x : Site). x.at) end.sites
-  pub known : IsKnown base end.given (landed_paths object end.sites) a
+  pub sites : landing.sites.items ≡ map (λ (x : Site). x.at) end.sites
+  pub known : IsKnown base end.given (landed_paths object end.sites) landing.places
+
+-- ---- premises that clauses share
+
+-- what holds at a turn
+abbrev pub WhereTurn : Reading → Object → Landing → (Turn → Type 0) → Type 0
+WhereTurn base object landing P = (marks : List TargetMark) (turn : Turn) → IsTurn base object marks landing turn → P turn
+
+-- what holds at a turn of the name of a fragment whose target is marked so
+abbrev pub WhereMarked : Reading → Object → Landing → TargetMark → (Turn → Name → Type 0) → Type 0
+WhereMarked base object landing mark P = (marks : List TargetMark) (turn : Turn) → IsTurn base object marks landing turn
+    → (f : Name) → IsMark base (reading object.tree) turn.fixups f mark → P turn f
+
+-- what holds at the turn of a fragment, which has this name
+abbrev pub WhereTurnOf : Reading → Object → List TargetMark → Landing → ObjectFragment → (Turn → Name → Type 0) → Type 0
+WhereTurnOf base object marks landing x P = (turn : Turn) (is : IsTurnOf base object marks landing x turn) → P turn is.name
+
+-- one of the object's fragments has no site
+abbrev pub LacksSite : Reading → Reading → List (Name × Cell) → FaultKind → Type 0
+LacksSite base object fixups kind = HasNoSite kind base object fixups nothing_walked (fragment_names object.children)
+
+-- what holds where a node's fragment is known, and these fragments have these sites
+abbrev pub WhereBrought : List Slot → ℕ → List (Option ℕ) → List Path → (List Site → Path → Type 0) → Type 0
+WhereBrought slots node kept paths P = (names : List Name) (found : List Site) (path : Path) → IsKeptFor slots names kept → AreDistinct names
+    → map (λ (x : Site). x.fragment) found ≡ take (length found) names → paths ≡ map (λ (x : Site). x.at) found → node_from slots 0 path ≡ Some node → P found path
+
+-- what holds where these fragments of the object have these sites
+abbrev pub WhereLanded : Arena → Brought → List Path → (List Site → Type 0) → Type 0
+WhereLanded object b paths P = (found : List Site) → AreBrought object.slots (fragment_names (reading object).children) [] b
+    → map (λ (x : Site). x.fragment) found ≡ take (length found) (fragment_names (reading object).children) → paths ≡ map (λ (x : Site). x.at) found → P found
+
+-- what holds where it is known what has landed of an object on some sites
+abbrev pub WhereNoted : Reading → Known → (Reading → List Site → Type 0) → Type 0
+WhereNoted base a P = (object : Reading) (sites : List Site) (given : List (Path × ℕ)) → IsValid object → IsKnown base given (landed_paths object sites) a → AreLandings object sites → P object sites
+
+-- a node lands too deep
+abbrev pub IsTooDeep : FaultKind → List Site → Path → Type 0
+IsTooDeep kind found path = (kind ≡ Limit) × ((q : Path) × (merged.landing found path ≡ Some q) × (most_names < length q))
+
+-- the node that the number in a fragment's target names, by what the object's lists tell of it
+abbrev pub node_marked : Reading → Reading → Turn → Name → ℕ → Option Path
+node_marked base object t f number = named_node base object t.walked (target_label f t.fixups) (list_any (is_target f) (local_cells object)) number

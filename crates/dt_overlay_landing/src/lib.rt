@@ -2,8 +2,11 @@
 //! of the tree, one for each fragment; all sites are found before anything is changed.
 //!
 //! ```text
-//! find_sites(alloc, &tree, &object, &brought, &marks, &fragments, &mut places, &mut sites)?; // of `/plugin/; &{/} { d { }; };`: the root
-//! land_all(alloc, &mut tree, &object, &brought.numbers, &Values::new(alloc, seed), &fragments, &sites)?; // /d stands
+//! find_sites(alloc, &tree, &object, &mut landing)?; // of `/plugin/; &{/} { d { }; };`: the root
+//! number_all(&tree, &landing, &mut object)?;
+//! renumber(&mut object);
+//! land_all(alloc, &mut tree, &object, &landing)?;   // /d stands
+//! set_symbols(&mut tree, &object, &mut landing)?;
 //! ```
 //!
 //! That object lands in a case of applied.cases (docs/CASES.md).
@@ -17,8 +20,6 @@ mod symbol_landing;
 mod values;
 
 pub use landing::land_all;
-pub use marks::{TargetMark, target_marks};
 pub use numbers::{number_all, renumber};
 pub use sites::find_sites;
 pub use symbol_landing::set_symbols;
-pub use values::Values;

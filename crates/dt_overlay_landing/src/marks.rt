@@ -10,7 +10,7 @@ use std::alloc::{AllocError, Global};
 
 /// How the number in a fragment's property `target` is to be read.
 #[derive(Clone, Copy)]
-pub enum TargetMark {
+pub(crate) enum TargetMark {
     /// As that of a node of the tree so far.
     Bare,
     /// As that of a node of the object, which is listed among its own.
@@ -48,7 +48,7 @@ fn mark_labels(writes: &[Write], marks: &mut Vec<TargetMark>)
 /// # Errors
 ///
 /// Where memory is refused.
-pub fn target_marks(
+pub(crate) fn target_marks(
     alloc: Global,
     nodes: usize,
     own: &[Write],

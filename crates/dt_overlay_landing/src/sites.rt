@@ -1,6 +1,6 @@
 //! Where the fragments land: looked at as a whole, before anything is changed.
 
-ghost use Rattle.std.specs.Prelude.{◌≡◌, ◌<◌, ◌≤◌, ◌⊎◌, ◌||◌, [], ℕ, List, Some, None, is_some, take, map, length, option_and_then, codes, OnOk, IfOk, IfErr};
+ghost use Rattle.std.specs.Prelude.{◌≡◌, ◌<◌, ◌≤◌, ◌||◌, [], ℕ, List, Some, None, is_some, take, map, length, option_and_then, codes, OnOk, IfOk, IfErr};
 ghost use Rattle.std.specs.Option.{option_or};
 ghost use Rattle.std.specs.List.{AllByRecursion, list_any};
 ghost use Rattle.dt_model.specs.Limits.{most_names};
@@ -13,20 +13,22 @@ ghost use Rattle.dt_model.specs.Object.{Cell, fragment_names, local_cells};
 ghost use Rattle.dt_model.specs.Applied.{node_numbered, node_named, landed_named, number_at};
 ghost use Rattle.dt_names.specs.declared.fault.FaultKind.TheVariants.{NoMemory, Limit};
 ghost use Rattle.dt_flat.specs.Arena.{node_from, properties, reading};
-ghost use Rattle.dt_overlay_model.specs.Walk.{Walked, nothing_walked, is_target, target_label, named_node, place_given as place_known};
-ghost use Rattle.dt_overlay_laws.specs.Landings.{target_in, AreSited, WhyNoSite, HasNoSite};
+ghost use Rattle.dt_overlay_model.specs.Walk.{nothing_walked, is_target, target_label, named_node, place_given as place_known};
+ghost use Rattle.dt_overlay_laws.specs.Landings.{target_in, WhyNoSite};
 ghost use Rattle.dt_overlay_base.specs.Known.{kept_at, IsKnown, landed_paths};
-ghost use Rattle.dt_overlay_landing.specs.Marks.{IsMark, AreMarked};
-ghost use Rattle.dt_overlay_object.specs.Plans.{IsKeptFor, AreBrought, AreFragmentsOf};
-ghost use Rattle.dt_overlay_landing.specs.Turns.{IsTurn, IsTurnOf, IsSitedOn, AreLandings, LandsTooDeep};
+ghost use Rattle.dt_overlay_landing.specs.Marks.{AreMarked};
+ghost use Rattle.dt_overlay_object.specs.Plans.{IsKeptFor, AreBrought, AreBroughtBy, AreFragmentsOf};
+ghost use Rattle.dt_overlay_object.specs.Stages.{IsEmptyLanding, IsReadFor};
+ghost use Rattle.dt_overlay_landing.specs.Turns.{Turn, IsTurnOf, IsSitedOn, HasAllSites, LandsTooDeep, IsTooDeep, LacksSite};
+ghost use Rattle.dt_overlay_landing.specs.Turns.{WhereBrought, WhereLanded, WhereMarked, WhereNoted, WhereTurn, WhereTurnOf, node_marked};
 ghost use Rattle.dt_overlay_landing.specs.declared.marks.TargetMark.{TargetMark};
-ghost use Rattle.dt_names.specs.Fault.{IsNoMemory};
+ghost use Rattle.dt_names.specs.Fault.{IsNoMemory, IsMemoryOr};
 
-use crate::marks::TargetMark;
+use crate::marks::{TargetMark, target_marks};
 use dt_flat::FlatTree;
 use dt_names::{Fault, FaultKind, NodeId, Path};
 use dt_overlay_base::{Places, Target, is_bookkeeping, join, note_content};
-use dt_overlay_object::{Brought, ObjectFragment, ObjectTarget};
+use dt_overlay_object::{Brought, Landing, Object, ObjectFragment, ObjectTarget};
 use dt_overlay_texts::symbol_path;
 use std::alloc::Global;
 
@@ -35,7 +37,7 @@ use std::alloc::Global;
 /// # Errors
 ///
 /// `Limit` where the path has more than 64 names, and `NoMemory`. Neither has a place.
-pub(crate) fn landing(
+pub(crate) fn landing_path(
     alloc: Global,
     object: &FlatTree,
     brought: &Brought,
@@ -44,15 +46,8 @@ pub(crate) fn landing(
 ) -> Result<Option<Path>, Fault>
     requires node { node < length object.now.slots }
     requires brought { length brought.now.fragments.items ≡ length object.now.slots }
-    ensures value { (names : List Name) (found : List Site) (path : Names) →
-        IsKeptFor object.now.slots names brought.now.fragments.items → AreDistinct names →
-        map (λ (x : Site). x.fragment) found ≡ take (length found) names → sites.now ≡ map (λ (x : Site). x.at) found →
-        node_from object.now.slots 0 path ≡ Some node → IfOk result (λ landed. landed ≡ landing_by found path) }
-    ensures refused { (names : List Name) (found : List Site) (path : Names) →
-        IsKeptFor object.now.slots names brought.now.fragments.items → AreDistinct names →
-        map (λ (x : Site). x.fragment) found ≡ take (length found) names → sites.now ≡ map (λ (x : Site). x.at) found →
-        node_from object.now.slots 0 path ≡ Some node → IfErr result (λ fault. (fault.at ≡ None) × ((fault.kind ≡ NoMemory)
-        ⊎ ((fault.kind ≡ Limit) × ((q : Names) × (landing_by found path ≡ Some q) × (most_names < length q))))) }
+    ensures value { WhereBrought object.now.slots node brought.now.fragments.items sites.now (λ found path. IfOk result (λ landed. landed ≡ landing_by found path)) }
+    ensures refused { WhereBrought object.now.slots node brought.now.fragments.items sites.now (λ found path. IfErr result (IsMemoryOr (λ kind. IsTooDeep kind found path))) }
 {
     object.validity();
     match brought.fragments[node] {
@@ -74,18 +69,13 @@ fn own_place(
     number: u32,
 ) -> Result<Option<Path>, Fault>
     requires brought { length brought.now.fragments.items ≡ length object.now.slots }
-    ensures value { (found : List Site) →
-        AreBrought object.now.slots (fragment_names (reading object.now).children) [] brought.now →
-        map (λ (x : Site). x.fragment) found ≡ take (length found) (fragment_names (reading object.now).children) → sites.now ≡ map (λ (x : Site). x.at) found →
-        IfOk result (λ place. place ≡ option_and_then (landing_by found) (node_numbered (nodes_of (reading object.now)) number)) }
-    ensures refused { (found : List Site) →
-        AreBrought object.now.slots (fragment_names (reading object.now).children) [] brought.now →
-        map (λ (x : Site). x.fragment) found ≡ take (length found) (fragment_names (reading object.now).children) → sites.now ≡ map (λ (x : Site). x.at) found →
-        IfErr result (λ fault. (fault.at ≡ None) × ((fault.kind ≡ NoMemory) ⊎ LandsTooDeep (reading object.now) found)) }
+    ensures value { WhereLanded object.now brought.now sites.now
+        (λ found. IfOk result (λ place. place ≡ option_and_then (landing_by found) (node_numbered (nodes_of (reading object.now)) number))) }
+    ensures refused { WhereLanded object.now brought.now sites.now (λ found. IfErr result (IsMemoryOr (λ _. LandsTooDeep (reading object.now) found))) }
 {
     object.validity();
     match object.by_phandle(number) {
-        Some(node) => landing(alloc, object, brought, sites, node),
+        Some(node) => landing_path(alloc, object, brought, sites, node),
         None => Ok(None),
     }
 }
@@ -115,14 +105,14 @@ fn numbered<T: Target>(
 }
 
 /// Does the path stand in the tree so far?
-fn stands<T: Target>(alloc: Global, target: &T, places: &Places, path: &Path) -> Result<bool, Fault>
+fn stands<T: Target>(target: &T, places: &Places, path: &Path) -> Result<bool, Fault>
     ensures value { IfOk result (λ stands. stands ≡ (stands_in (T.reading target.now) path.now || is_some (kept_at places.now.landed path.now))) }
     ensures refused { IfErr result IsNoMemory }
 {
     if target.find(path) {
         return Ok(true);
     }
-    let landed = places.has_landed(alloc, path)?;
+    let landed = places.has_landed(path)?;
     Ok(landed)
 }
 
@@ -133,9 +123,8 @@ fn named<T: Target>(
     places: &Places,
     value: &[u8],
 ) -> Result<Option<Path>, Fault>
-    ensures value { (object : Reading) (sites : List Site) (given : List (Names × ℕ)) → IsValid object →
-        IsKnown (T.reading target.now) given (landed_paths object sites) places.now → AreLandings object sites →
-        IfOk result (λ found. found ≡ option_or (node_named (nodes_of (T.reading target.now)) value.now) (landed_named (nodes_of object) sites value.now)) }
+    ensures value { WhereNoted (T.reading target.now) places.now (λ object sites.
+        IfOk result (λ found. found ≡ option_or (node_named (nodes_of (T.reading target.now)) value.now) (landed_named (nodes_of object) sites value.now))) }
     ensures refused { IfErr result IsNoMemory }
 {
     target.validity();
@@ -144,7 +133,7 @@ fn named<T: Target>(
         Err(fault) if fault.kind == FaultKind::NoMemory => return Err(fault),
         Err(_) => return Ok(None),
     };
-    if stands(alloc, target, places, &path)? {
+    if stands(target, places, &path)? {
         Ok(Some(path))
     } else {
         Ok(None)
@@ -166,63 +155,47 @@ fn target_number(object: &FlatTree, node: NodeId) -> Option<u32>
 
 /// The node of the tree so far that a number in `target` names, by what the object's lists tell of it.
 fn marked<T: Target>(
-    alloc: Global,
     target: &T,
-    object: &FlatTree,
-    brought: &Brought,
-    sites: &[Path],
-    places: &Places,
+    object: &Object,
+    landing: &Landing,
     mark: TargetMark,
     number: u32,
 ) -> Result<Option<Path>, Fault>
-    requires brought { length brought.now.fragments.items ≡ length object.now.slots }
-    ensures value { (fixups : List (Name × Cell)) (marks : List TargetMark) (w : Walked) (done later : List Name) (f : Name) →
-        IsTurn (T.reading target.now) fixups object.now brought.now marks sites.now places.now w done later →
-        IsMark (T.reading target.now) (reading object.now) fixups f mark →
-        IfOk result (λ found. found ≡ named_node (T.reading target.now) (reading object.now) w (target_label f fixups)
-        (list_any (is_target f) (local_cells (reading object.now))) number) }
-    ensures refused { (fixups : List (Name × Cell)) (marks : List TargetMark) (w : Walked) (done later : List Name) →
-        IsTurn (T.reading target.now) fixups object.now brought.now marks sites.now places.now w done later →
-        IfErr result IsNoMemory }
+    requires brought { length object.now.brought.fragments.items ≡ length object.now.tree.slots }
+    ensures value { WhereMarked (T.reading target.now) object.now landing.now mark (λ turn f.
+        IfOk result (λ found. found ≡ node_marked (T.reading target.now) (reading object.now.tree) turn f number)) }
+    ensures refused { WhereTurn (T.reading target.now) object.now landing.now (λ _. IfErr result IsNoMemory) }
 {
     target.validity();
-    object.validity();
+    object.tree.validity();
+    let alloc = landing.places.alloc();
     match mark {
         TargetMark::Label(number) => target.by_phandle(alloc, number),
-        TargetMark::Own => own_place(alloc, object, brought, sites, number),
-        TargetMark::Bare => numbered(alloc, target, places, number),
+        TargetMark::Own => own_place(alloc, &object.tree, &object.brought, &landing.sites, number),
+        TargetMark::Bare => numbered(alloc, target, &landing.places, number),
     }
 }
 
 /// The node of the tree so far that a fragment names.
 fn target_path<T: Target>(
-    alloc: Global,
     target: &T,
-    object: &FlatTree,
-    brought: &Brought,
-    sites: &[Path],
-    places: &Places,
+    object: &Object,
     marks: &[TargetMark],
+    landing: &Landing,
     fragment: &ObjectFragment,
 ) -> Result<Option<Path>, Fault>
-    requires brought { length brought.now.fragments.items ≡ length object.now.slots }
-    requires marks { length marks.now ≡ length object.now.slots }
-    requires node { fragment.now.node < length object.now.slots }
-    ensures value { (fixups : List (Name × Cell)) (w : Walked) (done later : List Name) (f : Name) →
-        IsTurnOf (T.reading target.now) fixups object.now brought.now marks.now sites.now places.now w done fragment.now f later →
-        IfOk result (λ found. found ≡ target_in (T.reading target.now) (reading object.now) fixups w f) }
-    ensures refused { (fixups : List (Name × Cell)) (w : Walked) (done later : List Name) (f : Name) →
-        IsTurnOf (T.reading target.now) fixups object.now brought.now marks.now sites.now places.now w done fragment.now f later →
-        IfErr result IsNoMemory }
+    requires brought { length object.now.brought.fragments.items ≡ length object.now.tree.slots }
+    requires marks { length marks.now ≡ length object.now.tree.slots }
+    requires node { fragment.now.node < length object.now.tree.slots }
+    ensures value { WhereTurnOf (T.reading target.now) object.now marks.now landing.now fragment.now (λ turn name.
+        IfOk result (λ found. found ≡ target_in (T.reading target.now) (reading object.now.tree) turn.fixups turn.walked name)) }
+    ensures refused { WhereTurnOf (T.reading target.now) object.now marks.now landing.now fragment.now (λ _ _. IfErr result IsNoMemory) }
 {
-    object.validity();
+    object.tree.validity();
     match &fragment.target {
-        ObjectTarget::Path(value) => named(alloc, target, places, value),
-        ObjectTarget::Number => match target_number(object, fragment.node) {
-            Some(number) => {
-                let mark = marks[fragment.node];
-                marked(alloc, target, object, brought, sites, places, mark, number)
-            }
+        ObjectTarget::Path(value) => named(landing.places.alloc(), target, &landing.places, value),
+        ObjectTarget::Number => match target_number(&object.tree, fragment.node) {
+            Some(number) => marked(target, object, landing, marks[fragment.node], number),
             None => Ok(None),
         },
     }
@@ -230,47 +203,69 @@ fn target_path<T: Target>(
 
 /// The site of a fragment, on which all that it brings may land.
 fn find_site<T: Target>(
-    alloc: Global,
     target: &T,
-    object: &FlatTree,
-    brought: &Brought,
-    sites: &[Path],
-    places: &mut Places,
+    object: &Object,
     marks: &[TargetMark],
+    landing: &mut Landing,
     fragment: &ObjectFragment,
 ) -> Result<Path, Fault>
-    requires brought { length brought.now.fragments.items ≡ length object.now.slots }
-    requires marks { length marks.now ≡ length object.now.slots }
-    requires node { fragment.now.node < length object.now.slots }
-    requires content { fragment.now.content < length object.now.slots }
-    requires turn { (fixups : List (Name × Cell)) × (w : Walked) × (done later : List Name) × (f : Name)
-        × IsTurnOf (T.reading target.now) fixups object.now brought.now marks.now sites.now places.old w done fragment.now f later }
-    ensures found { (fixups : List (Name × Cell)) (w : Walked) (done later : List Name) (f : Name) →
-        IsTurnOf (T.reading target.now) fixups object.now brought.now marks.now sites.now places.old w done fragment.now f later →
-        IfOk result (λ path. IsSitedOn (T.reading target.now) fixups (reading object.now) w f path places.new) }
+    requires brought { length object.now.brought.fragments.items ≡ length object.now.tree.slots }
+    requires marks { length marks.now ≡ length object.now.tree.slots }
+    requires node { fragment.now.node < length object.now.tree.slots }
+    requires content { fragment.now.content < length object.now.tree.slots }
+    requires turn { (turn : Turn) × IsTurnOf (T.reading target.now) object.now marks.now landing.old fragment.now turn }
+    ensures found { WhereTurnOf (T.reading target.now) object.now marks.now landing.old fragment.now (λ turn name.
+        IfOk result (λ path. IsSitedOn (T.reading target.now) turn.fixups (reading object.now.tree) turn.walked name path landing.new.places)) }
+    ensures kept { OnOk result (landing.new.sites ≡ landing.old.sites) }
     ensures named { IfOk result (λ path. AllByRecursion IsNodeName path) }
-    ensures refused { (fixups : List (Name × Cell)) (w : Walked) (done later : List Name) (f : Name) →
-        IsTurnOf (T.reading target.now) fixups object.now brought.now marks.now sites.now places.old w done fragment.now f later →
-        IfErr result (λ fault. (fault.at ≡ None) × ((fault.kind ≡ NoMemory)
-        ⊎ WhyNoSite fault.kind (T.reading target.now) (reading object.now) fixups w f)) }
+    ensures refused { WhereTurnOf (T.reading target.now) object.now marks.now landing.old fragment.now (λ turn name.
+        IfErr result (IsMemoryOr (λ kind. WhyNoSite kind (T.reading target.now) (reading object.now.tree) turn.fixups turn.walked name))) }
 {
     target.validity();
-    object.validity();
-    let Some(path) = target_path(
-        alloc, target, object, brought, sites, places, marks, fragment,
-    )?
-    else {
+    object.tree.validity();
+    let Some(path) = target_path(target, object, marks, landing, fragment)? else {
         return Err(Fault::of(FaultKind::NoTarget));
     };
     if is_bookkeeping(&path) {
         return Err(Fault::of(FaultKind::ReservedPlace));
     }
-    note_content(alloc, target, object, fragment.content, &path, places)?;
+    note_content(
+        target,
+        &object.tree,
+        fragment.content,
+        &path,
+        &mut landing.places,
+    )?;
     Ok(path)
 }
 
-/// Finds the sites of the fragments, in order, and the places of the nodes that they bring (dtc's notes on overlay objects). Nothing is
-/// changed but `places` and `sites`.
+/// Finds the sites of the fragments, in order, by how their targets are to be read.
+fn find_each_site<T: Target>(
+    target: &T,
+    object: &Object,
+    marks: &[TargetMark],
+    landing: &mut Landing,
+) -> Result<(), Fault>
+    requires brought { AreBroughtBy object.now.tree [] object.now.brought }
+    requires marks { length marks.now ≡ length object.now.tree.slots }
+    requires marked { (fixups : List (Name × Cell)) × AreMarked (T.reading target.now) fixups object.now.tree marks.now }
+    requires fragments { AreFragmentsOf object.now.tree.slots (reading object.now.tree) object.now.fragments.items (fragment_names (reading object.now.tree).children) }
+    requires empty { IsEmptyLanding landing.old }
+    ensures found { (fixups : List (Name × Cell)) → AreMarked (T.reading target.now) fixups object.now.tree marks.now →
+        OnOk result (HasAllSites (T.reading target.now) fixups (reading object.now.tree) landing.new) }
+    ensures refused { (fixups : List (Name × Cell)) → AreMarked (T.reading target.now) fixups object.now.tree marks.now →
+        IfErr result (IsMemoryOr (LacksSite (T.reading target.now) (reading object.now.tree) fixups)) }
+{
+    target.validity();
+    object.tree.validity();
+    for fragment in &object.fragments {
+        let path = find_site(target, object, marks, landing, fragment)?;
+        landing.sites.push(path)?;
+    }
+    Ok(())
+}
+
+/// Finds the sites of an object's fragments, in order, and the places of the nodes that they bring (dtc's notes on overlay objects). The tree stays.
 ///
 /// # Errors
 ///
@@ -280,34 +275,23 @@ fn find_site<T: Target>(
 pub fn find_sites<T: Target>(
     alloc: Global,
     target: &T,
-    object: &FlatTree,
-    brought: &Brought,
-    marks: &[TargetMark],
-    fragments: &[ObjectFragment],
-    places: &mut Places,
-    sites: &mut Vec<Path>,
+    object: &Object,
+    landing: &mut Landing,
 ) -> Result<(), Fault>
-    requires brought { AreBrought object.now.slots (fragment_names (reading object.now).children) [] brought.now }
-    requires marks { length marks.now ≡ length object.now.slots }
-    requires marked { (fixups : List (Name × Cell)) × AreMarked (T.reading target.now) fixups object.now marks.now }
-    requires fragments { AreFragmentsOf object.now.slots (reading object.now) fragments.now (fragment_names (reading object.now).children) }
-    requires none { sites.old.items ≡ [] }
-    requires nothing { IsKnown (T.reading target.now) [] [] places.old }
-    ensures found { (fixups : List (Name × Cell)) → AreMarked (T.reading target.now) fixups object.now marks.now → OnOk result ((end : Walked)
-        × AreSited (T.reading target.now) (reading object.now) fixups nothing_walked (fragment_names (reading object.now).children) end
-        × (sites.new.items ≡ map (λ (x : Site). x.at) end.sites)
-        × IsKnown (T.reading target.now) end.given (landed_paths (reading object.now) end.sites) places.new) }
-    ensures refused { (fixups : List (Name × Cell)) → AreMarked (T.reading target.now) fixups object.now marks.now →
-        IfErr result (λ fault. (fault.at ≡ None) × ((fault.kind ≡ NoMemory)
-        ⊎ HasNoSite fault.kind (T.reading target.now) (reading object.now) fixups nothing_walked (fragment_names (reading object.now).children))) }
+    requires read { (read : Reading) × IsReadFor (T.reading target.now) read object.now }
+    requires empty { IsEmptyLanding landing.old }
+    ensures found { (read : Reading) (is : IsReadFor (T.reading target.now) read object.now) →
+        OnOk result (HasAllSites (T.reading target.now) is.fixups read landing.new) }
+    ensures refused { (read : Reading) (is : IsReadFor (T.reading target.now) read object.now) →
+        IfErr result (IsMemoryOr (LacksSite (T.reading target.now) read is.fixups)) }
 {
     target.validity();
-    object.validity();
-    for fragment in fragments {
-        let path = find_site(
-            alloc, target, object, brought, sites, places, marks, fragment,
-        )?;
-        sites.push(path)?;
-    }
-    Ok(())
+    object.tree.validity();
+    let marks = target_marks(
+        alloc,
+        object.tree.node_count(),
+        &object.own_writes,
+        &object.label_writes,
+    )?;
+    find_each_site(target, object, &marks, landing)
 }

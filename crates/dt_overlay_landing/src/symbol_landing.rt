@@ -8,15 +8,16 @@ ghost use Rattle.dt_model.specs.Path.{path_value, Path as Names};
 ghost use Rattle.dt_model.specs.Tree.{Reading, stands_in};
 ghost use Rattle.dt_names.specs.declared.fault.FaultKind.TheVariants.{NoMemory, Limit};
 ghost use Rattle.dt_overlay_laws.specs.Objects.{symbols_in};
+ghost use Rattle.dt_overlay_laws.specs.Laws.{AreShallow};
 ghost use Rattle.dt_overlay_laws.specs.Steps.{FullAtSymbols};
-ghost use Rattle.dt_overlay_landing.specs.SymbolLanding.{AreToLand, LandsAt};
+ghost use Rattle.dt_overlay_object.specs.Objects.{Seen, IsToLandOn};
+ghost use Rattle.dt_overlay_landing.specs.SymbolLanding.{HasLabels, HasLanded, WhereShallow, with_label, with_labels_of};
 ghost use Rattle.dt_overlay_base.specs.Targets.{HasNoRoom, IsWant};
 
-use crate::sites::landing;
-use dt_flat::FlatTree;
+use crate::sites::landing_path;
 use dt_names::{Fault, NodeName, Path, PropName};
 use dt_overlay_base::{Target, put_path};
-use dt_overlay_object::{Brought, Symbol};
+use dt_overlay_object::{Landing, Object, Symbol};
 use std::alloc::Global;
 
 /// Adds `__symbols__` where it isn't there.
@@ -35,60 +36,79 @@ fn add_symbols<T: Target>(alloc: Global, target: &mut T, symbols: &Path) -> Resu
 
 /// Sets the label of a node that landed.
 fn set_symbol<T: Target>(
-    alloc: Global,
     target: &mut T,
-    symbols: &Path,
-    object: &FlatTree,
-    brought: &Brought,
-    sites: &[Path],
+    object: &Object,
+    landing: &mut Landing,
     symbol: &Symbol,
-    value: &mut Vec<u8>,
 ) -> Result<(), Fault>
-    requires stands { stands_in (T.reading target.old) symbols.now ≡ true }
-    requires lands { (path : Names) × LandsAt object.now brought.now sites.now symbol.now path }
-    ensures set { (path : Names) → LandsAt object.now brought.now sites.now symbol.now path →
-        OnOk result (T.reading target.new ≡ with_property_at symbols.now symbol.now.label.items (path_value path) (T.reading target.old)) }
-    ensures refused { (path : Names) → LandsAt object.now brought.now sites.now symbol.now path →
+    requires stands { stands_in (T.reading target.old) (codes "__symbols__" ∷ []) ≡ true }
+    requires lands { (path : Names) × HasLanded object.now landing.old symbol.now path }
+    ensures set { (path : Names) → HasLanded object.now landing.old symbol.now path →
+        OnOk result (T.reading target.new ≡ with_label symbol.now path (T.reading target.old)) }
+    ensures kept { OnOk result (landing.new.sites ≡ landing.old.sites) }
+    ensures refused { (path : Names) → HasLanded object.now landing.old symbol.now path →
         IfErr result (IsWant (HasNoRoom T.reading T.has_room (T.reading target.old)
-        (with_property_at symbols.now symbol.now.label.items (path_value path) (T.reading target.old)))) }
+        (with_label symbol.now path (T.reading target.old)))) }
 {
-    object.validity();
-    let Some(path) = landing(alloc, object, brought, sites, symbol.node)? else {
+    object.tree.validity();
+    let Some(path) = landing_path(
+        landing.places.alloc(),
+        &object.tree,
+        &object.brought,
+        &landing.sites,
+        symbol.node,
+    )?
+    else {
         return Ok(());
     };
-    put_path(value, &path)?;
-    target.set_prop(symbols, &PropName::new(&symbol.label)?, value)
+    put_path(&mut landing.text, &path)?;
+    target.set_prop(
+        landing.symbols.path(),
+        &PropName::new(&symbol.label)?,
+        &landing.text,
+    )
 }
 
-/// Sets the labels of the nodes that landed in `__symbols__`, each to its node's path (dtc's notes on overlay objects). `__symbols__` is
+/// Sets the labels of the nodes that landed in `__symbols__`, by the nodes of the object's tree.
+fn set_each_symbol<T: Target>(
+    target: &mut T,
+    object: &Object,
+    landing: &mut Landing,
+) -> Result<(), Fault>
+    requires land { (read : Reading) × (found : List Site)
+        × HasLabels read found object.now landing.old }
+    ensures set { (read : Reading) (found : List Site) → HasLabels read found object.now landing.old →
+        OnOk result (T.reading target.new ≡ with_labels_of read found (T.reading target.old)) }
+    ensures refused { (read : Reading) (found : List Site) → HasLabels read found object.now landing.old →
+        IfErr result (IsWant (FullAtSymbols (HasNoRoom T.reading T.has_room) (landed_symbols read found (symbols_in read)) (T.reading target.old))) }
+{
+    let symbols = object.symbols.as_slice();
+    if symbols.is_empty() {
+        return Ok(());
+    }
+    add_symbols(landing.places.alloc(), target, landing.symbols.path())?;
+    for symbol in symbols {
+        set_symbol(target, object, landing, symbol)?;
+    }
+    Ok(())
+}
+
+/// Sets the labels of an object's nodes that landed in `__symbols__`, each to its node's path (dtc's notes on overlay objects). `__symbols__` is
 /// added where it isn't there and there is a label.
 ///
 /// # Errors
 ///
 /// `Limit` where the tree has no room for a change on the way, and `NoMemory`. Neither has a place.
 pub fn set_symbols<T: Target>(
-    alloc: Global,
     target: &mut T,
-    symbols: &Path,
-    object: &FlatTree,
-    brought: &Brought,
-    sites: &[Path],
-    labels: &[Symbol],
-    value: &mut Vec<u8>,
+    object: &Object,
+    landing: &mut Landing,
 ) -> Result<(), Fault>
-    requires symbols { symbols.now ≡ codes "__symbols__" ∷ [] }
-    requires land { (read : Reading) × (found : List Site) × AreToLand read found object.now brought.now sites.now labels.now }
-    ensures set { (read : Reading) (found : List Site) → AreToLand read found object.now brought.now sites.now labels.now →
-        OnOk result (T.reading target.new ≡ with_symbols_merged (landed_symbols read found (symbols_in read)) (T.reading target.old)) }
-    ensures refused { (read : Reading) (found : List Site) → AreToLand read found object.now brought.now sites.now labels.now →
-        IfErr result (IsWant (FullAtSymbols (HasNoRoom T.reading T.has_room) (landed_symbols read found (symbols_in read)) (T.reading target.old))) }
+    requires sited { (seen : Seen) × (found : List Site) × IsToLandOn object.now seen found landing.old.sites.items × AreShallow seen.reading found }
+    ensures set { WhereShallow object.now landing.old (λ read found. OnOk result (T.reading target.new ≡ with_labels_of read found (T.reading target.old))) }
+    ensures refused { WhereShallow object.now landing.old (λ read found.
+        IfErr result (IsWant (FullAtSymbols (HasNoRoom T.reading T.has_room) (landed_symbols read found (symbols_in read)) (T.reading target.old)))) }
 {
-    if labels.is_empty() {
-        return Ok(());
-    }
-    add_symbols(alloc, target, symbols)?;
-    for label in labels {
-        set_symbol(alloc, target, symbols, object, brought, sites, label, value)?;
-    }
-    Ok(())
+    object.tree.validity();
+    set_each_symbol(target, object, landing)
 }

@@ -4,7 +4,7 @@ ghost use Rattle.std.specs.Prelude.{◌≡◌, ◌<◌, [], Some, None, length, 
 ghost use Rattle.dt_model.specs.Tree.{value_of};
 ghost use Rattle.dt_flat.specs.Arena.{properties};
 ghost use Rattle.dt_overlay_landing.specs.Values.{Keeps, value_kept, with_values};
-ghost use Rattle.dt_overlay_landing.specs.Writing.{IsWritable, AreWritable, with_write, with_writes};
+ghost use Rattle.dt_overlay_object.specs.Writing.{IsWritable, AreWritable, with_write, with_writes};
 
 use dt_bytes::put32;
 use dt_flat::FlatTree;
@@ -16,7 +16,8 @@ use std::marker::Model;
 
 /// The values of an object's properties into which numbers were written, by their nodes and names.
 #[derive(Drop)]
-pub struct Values<'w> {
+pub(crate) struct Values<'w> {
+    alloc: Global,
     map: HashMap<(NodeId, &'w [u8]), Vec<u8>, Seed>,
 }
 
@@ -35,8 +36,14 @@ impl<'w> Values<'w> {
         ensures { result ≡ [] }
     {
         Values {
+            alloc,
             map: HashMap::with_hasher(alloc, seed),
         }
+    }
+
+    /// The allocator behind the values.
+    pub fn alloc(&self) -> Global {
+        self.alloc
     }
 
     /// The value of a node's property, where a number was written into it.
@@ -64,12 +71,7 @@ impl<'w> Values<'w> {
     }
 
     /// The value that a node's property has so far, which is kept no more.
-    fn take_value(
-        &mut self,
-        alloc: Global,
-        object: &FlatTree,
-        write: &'w Write,
-    ) -> Result<Vec<u8>, AllocError>
+    fn take_value(&mut self, object: &FlatTree, write: &'w Write) -> Result<Vec<u8>, AllocError>
         requires { write.now.node < length object.now.slots }
         ensures value { IfOk result (λ value. value.items ≡ unwrap_or (value_kept self.old write.now.node write.now.property.items)
             (unwrap_or (value_of (properties object.now.slots write.now.node) write.now.property.items) [])) }
@@ -79,16 +81,11 @@ impl<'w> Values<'w> {
             return Ok(value);
         }
         let value = object.value(write.node, &write.property);
-        Vec::from_slice(alloc, value.unwrap_or(b"".as_slice()))
+        Vec::from_slice(self.alloc, value.unwrap_or(b"".as_slice()))
     }
 
     /// A number is written. A `phandle` keeps its value here: it gets its node's new number where it lands.
-    fn write(
-        &mut self,
-        alloc: Global,
-        object: &FlatTree,
-        write: &'w Write,
-    ) -> Result<(), AllocError>
+    fn write(&mut self, object: &FlatTree, write: &'w Write) -> Result<(), AllocError>
         requires { IsWritable (with_values self.old 0 object.now.slots) write.now }
         ensures { OnOk result (with_values self.new 0 object.now.slots ≡ with_write write.now (with_values self.old 0 object.now.slots)) }
     {
@@ -96,7 +93,7 @@ impl<'w> Values<'w> {
         if write.property.as_slice() == b"phandle".as_slice() {
             return Ok(());
         }
-        let mut value = self.take_value(alloc, object, write)?;
+        let mut value = self.take_value(object, write)?;
         put32(&mut value, write.offset, write.number);
         self.put(write.node, &write.property, value)
     }
@@ -106,17 +103,12 @@ impl<'w> Values<'w> {
     /// # Errors
     ///
     /// Where memory is refused.
-    pub fn write_all(
-        &mut self,
-        alloc: Global,
-        object: &FlatTree,
-        writes: &'w [Write],
-    ) -> Result<(), AllocError>
+    pub fn write_all(&mut self, object: &FlatTree, writes: &'w [Write]) -> Result<(), AllocError>
         requires { AreWritable (with_values self.old 0 object.now.slots) writes.now }
         ensures { OnOk result (with_values self.new 0 object.now.slots ≡ with_writes writes.now (with_values self.old 0 object.now.slots)) }
     {
         for write in writes {
-            self.write(alloc, object, write)?;
+            self.write(object, write)?;
         }
         Ok(())
     }

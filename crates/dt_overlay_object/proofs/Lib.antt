@@ -3,3 +3,4 @@ pub mod OwnNumbers
 pub mod NumbersBrought
 pub mod NumbersTurns
 pub mod NumbersWalk
+pub mod Results

@@ -1,5 +1,6 @@
-//! What is kept of an overlay's object while it is applied (dtc's notes on overlay objects): its fragments, the cells that get numbers, its labels, and which
-//! fragment brings a node. A node is named by its number in the object's tree. dt_overlay_read fills these, and dt_overlay_landing lands what they say.
+//! What is kept of an overlay's object while it is applied (dtc's notes on overlay objects). An [`Object`] has its tree, its fragments, the cells that get
+//! numbers, its labels, and which fragment brings a node; a node is named by its number in the tree. A [`Landing`] has its sites, and the places on which
+//! its nodes land. dt_overlay_read fills the one, dt_overlay_landing the other, and lands what they say.
 //!
 //! ```text
 //! let mut brought = Brought::new(alloc, object.node_count())?;
@@ -12,6 +13,10 @@
 
 mod brought;
 mod kept;
+mod landing;
+mod object;
 
 pub use brought::{Brought, bring_all};
 pub use kept::{ObjectFragment, ObjectTarget, Symbol, Write};
+pub use landing::{Landing, SymbolsPath};
+pub use object::Object;

@@ -9,3 +9,5 @@ pub mod LocalFixupsWords
 pub mod SymbolsFragments
 pub mod SymbolsListed
 pub mod SymbolsNodes
+pub mod ReadObjects
+pub mod Told

@@ -1,6 +1,6 @@
 //! The cells that wait for a label of the base.
 
-ghost use Rattle.std.specs.Prelude.{◌≡◌, ◌⊎◌, ◌↔◌, ◌∷◌, ◌<◌, [], List, None, length, IsTrue, MatchOption, OnOk, IfOk, IfErr, codes};
+ghost use Rattle.std.specs.Prelude.{◌≡◌, ◌↔◌, ◌∷◌, ◌<◌, [], List, None, length, IsTrue, MatchOption, OnOk, IfOk, IfErr, codes};
 ghost use Rattle.std.specs.Option.{option_copied};
 ghost use Rattle.dt_model.specs.Limits.{most_names};
 ghost use Rattle.dt_model.specs.Meaning.{cell};
@@ -15,6 +15,7 @@ ghost use Rattle.dt_overlay_laws.specs.Objects.{AreCellsOf, SymbolHasNumber};
 ghost use Rattle.dt_overlay_laws.specs.Refusals.{WhyNoFixup, HasNoFixup};
 ghost use Rattle.dt_overlay_object.specs.Plans.{ListsFixups};
 ghost use Rattle.dt_overlay_read.specs.Fixups.{cell_told, HasTold, ListsTold, ListsCells, ListsLabels, WhyNoNumber};
+ghost use Rattle.dt_names.specs.Fault.{IsMemoryOr};
 
 use dt_flat::FlatTree;
 use dt_names::{Fault, FaultKind, NodeId, Path, PathRef, phandle_of};
@@ -84,8 +85,7 @@ fn list_cell(
     out: &mut Vec<Write>,
 ) -> Result<(), Fault>
     ensures listed { OnOk result (ListsTold object.now (text.now ∷ []) number out.old.items out.new.items) }
-    ensures refused { IfErr result (λ fault. (fault.at ≡ None) × ((fault.kind ≡ NoMemory)
-        ⊎ ((fault.kind ≡ BadFixup) × ((c : Cell) → ¬ HasTold (reading object.now) text.now c)))) }
+    ensures refused { IfErr result (IsMemoryOr (λ kind. (kind ≡ BadFixup) × ((c : Cell) → ¬ HasTold (reading object.now) text.now c))) }
 {
     let Some((node, cell)) = cell_at(object, text) else {
         return Err(Fault::of(FaultKind::BadFixup));
@@ -109,8 +109,7 @@ fn list_cells(
     out: &mut Vec<Write>,
 ) -> Result<(), Fault>
     ensures listed { OnOk result (ListsCells object.now value.now number out.old.items out.new.items) }
-    ensures refused { IfErr result (λ fault. (fault.at ≡ None) × ((fault.kind ≡ NoMemory)
-        ⊎ ((fault.kind ≡ BadFixup) × ((cells : List Cell) → ¬ AreCellsOf (reading object.now) value.now cells)))) }
+    ensures refused { IfErr result (IsMemoryOr (λ kind. (kind ≡ BadFixup) × ((cells : List Cell) → ¬ AreCellsOf (reading object.now) value.now cells))) }
 {
     texts_are_one();
     cell_texts_are_texts();
@@ -126,8 +125,7 @@ fn list_cells(
 /// The path of a symbol of the base.
 fn path_of_symbol(alloc: Global, value: &[u8]) -> Result<Path, Fault>
     ensures value { IfOk result (IsPathValue value.now) }
-    ensures refused { IfErr result (λ fault. (fault.at ≡ None) × ((fault.kind ≡ NoMemory)
-        ⊎ ((fault.kind ≡ BadSymbol) × ((path : Names) → IsPathValue value.now path → most_names < length path)))) }
+    ensures refused { IfErr result (IsMemoryOr (λ kind. (kind ≡ BadSymbol) × ((path : Names) → IsPathValue value.now path → most_names < length path))) }
 {
     match symbol_path(alloc, value) {
         Err(fault) if fault.kind == FaultKind::Limit => Err(Fault::of(FaultKind::BadSymbol)),
@@ -177,8 +175,7 @@ fn list_fixup<T: Target>(
     requires { symbols.now ≡ codes "__symbols__" ∷ [] }
     ensures listed { OnOk result (ListsLabels (T.reading target.now) object.now
         (record { name = label.now; value = value.now } ∷ []) out.old.items out.new.items) }
-    ensures refused { IfErr result (λ fault. (fault.at ≡ None) × ((fault.kind ≡ NoMemory)
-        ⊎ WhyNoFixup fault.kind (T.reading target.now) (reading object.now) (record { name = label.now; value = value.now }))) }
+    ensures refused { IfErr result (IsMemoryOr (λ kind. WhyNoFixup kind (T.reading target.now) (reading object.now) (record { name = label.now; value = value.now }))) }
 {
     if !are_cells(object, value) {
         return Err(Fault::of(FaultKind::BadFixup));
@@ -194,7 +191,7 @@ fn list_fixup<T: Target>(
 ///
 /// Of the first label that has one: `BadFixup` where its value isn't texts of cells that the object has; `NoSymbol` where the tree's
 /// `__symbols__` hasn't the label; `BadSymbol` where it has, but for no node with a number; and `NoMemory`. None has a place.
-pub fn list_fixups<T: Target>(
+pub(crate) fn list_fixups<T: Target>(
     alloc: Global,
     target: &T,
     symbols: &Path,
@@ -203,8 +200,7 @@ pub fn list_fixups<T: Target>(
 ) -> Result<(), Fault>
     requires { symbols.now ≡ codes "__symbols__" ∷ [] }
     ensures listed { OnOk result (ListsFixups (T.reading target.now) object.now out.old.items out.new.items) }
-    ensures refused { IfErr result (λ fault. (fault.at ≡ None) × ((fault.kind ≡ NoMemory)
-        ⊎ HasNoFixup fault.kind (T.reading target.now) (reading object.now))) }
+    ensures refused { IfErr result (IsMemoryOr (λ kind. HasNoFixup kind (T.reading target.now) (reading object.now))) }
 {
     let Some(node) = object.child(object.root(), b"__fixups__".as_slice()) else {
         return Ok(());

@@ -1,6 +1,6 @@
 //! The fragments of an object.
 
-ghost use Rattle.std.specs.Prelude.{◌≡◌, ◌<◌, ◌++◌, ◌∷◌, ◌⊎◌, [], ℕ, List, None, Some, true, false, length, codes, OnOk, IfOk, IfErr, MatchOption};
+ghost use Rattle.std.specs.Prelude.{◌≡◌, ◌<◌, ◌++◌, ◌∷◌, [], ℕ, List, None, Some, true, false, length, codes, OnOk, IfOk, IfErr, MatchOption};
 ghost use Rattle.dt_model.specs.Names.{Name};
 ghost use Rattle.dt_model.specs.Lists.{IsIn};
 ghost use Rattle.dt_model.specs.Object.{is_fragment, fragment_names};
@@ -8,6 +8,7 @@ ghost use Rattle.dt_flat.specs.Arena.{reading, named_children, child_of, name_of
 ghost use Rattle.dt_names.specs.declared.fault.FaultKind.TheVariants.{NoMemory, NoFragmentTarget};
 ghost use Rattle.dt_overlay_laws.specs.Objects.{HasTarget};
 ghost use Rattle.dt_overlay_object.specs.Plans.{IsTargetOf, AreFragmentsOf};
+ghost use Rattle.dt_names.specs.Fault.{IsMemoryOr};
 
 use dt_flat::FlatTree;
 use dt_names::{Fault, FaultKind, NodeId, is_bookkeeping_name};
@@ -32,8 +33,7 @@ pub(crate) fn content_of(object: &FlatTree, node: NodeId) -> Option<NodeId>
 fn target_of(alloc: Global, object: &FlatTree, node: NodeId) -> Result<ObjectTarget, Fault>
     requires { node < length object.now.slots }
     ensures value { (f : Name) → node_from object.now.slots 0 (f ∷ []) ≡ Some node → IfOk result (IsTargetOf (reading object.now) f) }
-    ensures refused { (f : Name) → node_from object.now.slots 0 (f ∷ []) ≡ Some node → IfErr result (λ fault. (fault.at ≡ None)
-        × ((fault.kind ≡ NoMemory) ⊎ ((fault.kind ≡ NoFragmentTarget) × ¬ HasTarget (reading object.now) f))) }
+    ensures refused { (f : Name) → node_from object.now.slots 0 (f ∷ []) ≡ Some node → IfErr result (IsMemoryOr (λ kind. (kind ≡ NoFragmentTarget) × ¬ HasTarget (reading object.now) f)) }
 {
     if let Some(value) = object.value(node, b"target".as_slice()) {
         return if value.len() == 4 {
@@ -58,16 +58,15 @@ fn target_of(alloc: Global, object: &FlatTree, node: NodeId) -> Result<ObjectTar
 ///
 /// `NoFragmentTarget` where one of them has no target: neither four bytes as `target` nor, without a `target`, a path's text with its NUL
 /// as `target-path`; and `NoMemory`. None has a place.
-pub fn list_fragments(
+pub(crate) fn list_fragments(
     alloc: Global,
     object: &FlatTree,
     out: &mut Vec<ObjectFragment>,
 ) -> Result<(), Fault>
     requires { out.old.items ≡ [] }
     ensures listed { OnOk result (AreFragmentsOf object.now.slots (reading object.now) out.new.items (fragment_names (reading object.now).children)) }
-    ensures refused { IfErr result (λ fault. (fault.at ≡ None) × ((fault.kind ≡ NoMemory)
-        ⊎ ((fault.kind ≡ NoFragmentTarget)
-        × ((f : Name) × IsIn f (fragment_names (reading object.now).children) × ¬ HasTarget (reading object.now) f)))) }
+    ensures refused { IfErr result (IsMemoryOr (λ kind. (kind ≡ NoFragmentTarget)
+        × ((f : Name) × IsIn f (fragment_names (reading object.now).children) × ¬ HasTarget (reading object.now) f))) }
 {
     object.validity();
     for node in object.children(object.root()) {

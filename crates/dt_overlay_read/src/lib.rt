@@ -2,8 +2,8 @@
 //! the base, those that hold numbers of its own nodes, and its labels; or the first thing that is wrong with it.
 //!
 //! ```text
-//! let mut fragments = Vec::new(alloc);
-//! list_fragments(alloc, &object, &mut fragments)?; // of `/plugin/; &{/} { d { }; }; &gic { };`: two
+//! read(alloc, &tree, &landing, &mut object)?; // of `/plugin/; &{/} { d { }; }; &gic { };`
+//! object.fragments;                           // two
 //! ```
 //!
 //! That object is a case of overlays.cases (docs/CASES.md).
@@ -12,9 +12,7 @@
 mod fixups;
 mod fragments;
 mod local_fixups;
+mod reading;
 mod symbols;
 
-pub use fixups::list_fixups;
-pub use fragments::list_fragments;
-pub use local_fixups::list_local_fixups;
-pub use symbols::list_symbols;
+pub use reading::read;

@@ -1,6 +1,6 @@
 //! The cells that hold numbers of the object's own nodes.
 
-ghost use Rattle.std.specs.Prelude.{◌≡◌, ◌<◌, ◌⊎◌, ◌↔◌, IsTrue, ◌∷◌, [], ℕ, List, true, Some, None, length, OnOk, IfErr, MatchOption, codes};
+ghost use Rattle.std.specs.Prelude.{◌≡◌, ◌<◌, ◌↔◌, IsTrue, ◌∷◌, [], ℕ, List, true, Some, None, length, OnOk, IfErr, MatchOption, codes};
 ghost use Rattle.std.specs.Int.{w32, from_be_bytes};
 ghost use Rattle.dt_model.specs.Path.{Path};
 ghost use Rattle.dt_model.specs.Lists.{IsIn};
@@ -11,6 +11,7 @@ ghost use Rattle.dt_flat.specs.Arena.{reading, node_from};
 ghost use Rattle.dt_overlay_laws.specs.Objects.{IsLocalCell, IsLocalFixup, IsMirror};
 ghost use Rattle.dt_overlay_read.specs.LocalFixups.{AreCounterparts, IsLocalFault, ListsProperties, ListsMirror, HasBadMirror};
 ghost use Rattle.dt_overlay_object.specs.Plans.{AreBroughtBy, brings, IsLocalNumber, AreBrought, ListsLocalFixups};
+ghost use Rattle.dt_names.specs.Fault.{IsMemoryOr};
 
 use dt_flat::{FlatTree, Props};
 use dt_names::{Fault, FaultKind, NodeId};
@@ -159,7 +160,7 @@ fn list_mirrored(
 ///
 /// `BadLocalFixup` where a node below `__local_fixups__` has no counterpart in the object, a property none in that one, offsets aren't
 /// cells, the value has no such cell, or the number in the cell is that of no node that it may name; and `NoMemory`. None has a place.
-pub fn list_local_fixups(
+pub(crate) fn list_local_fixups(
     alloc: Global,
     object: &FlatTree,
     brought: &Brought,
@@ -171,8 +172,8 @@ pub fn list_local_fixups(
         OnOk result (ListsLocalFixups object.now numbers out.old.items out.new.items) }
     ensures refused { (numbers : List (Path × ℕ)) →
         AreBrought object.now.slots (fragment_names (reading object.now).children) numbers brought.now →
-        IfErr result (λ fault. (fault.at ≡ None) × ((fault.kind ≡ NoMemory) ⊎ ((fault.kind ≡ BadLocalFixup)
-        × ((p : Path) × (stands_in (reading object.now) (codes "__local_fixups__" ∷ p) ≡ true) × ¬ IsMirror (reading object.now) p)))) }
+        IfErr result (IsMemoryOr (λ kind. (kind ≡ BadLocalFixup)
+        × ((p : Path) × (stands_in (reading object.now) (codes "__local_fixups__" ∷ p) ≡ true) × ¬ IsMirror (reading object.now) p))) }
 {
     let root = object.root();
     match object.child(root, b"__local_fixups__".as_slice()) {

@@ -1,6 +1,6 @@
 //! The labels of an object.
 
-ghost use Rattle.std.specs.Prelude.{◌≡◌, ◌⊎◌, ◌↔◌, ◌∷◌, [], ℕ, List, None, IsTrue, MatchOption, OnOk, IfErr};
+ghost use Rattle.std.specs.Prelude.{◌≡◌, ◌↔◌, ◌∷◌, [], ℕ, List, None, IsTrue, MatchOption, OnOk, IfErr};
 ghost use Rattle.dt_model.specs.Lists.{IsIn};
 ghost use Rattle.dt_model.specs.Tree.{Property};
 ghost use Rattle.dt_names.specs.declared.fault.FaultKind.TheVariants.{NoMemory, BadSymbol};
@@ -9,6 +9,7 @@ ghost use Rattle.dt_overlay_texts.specs.Cuts.{IsCut};
 ghost use Rattle.dt_overlay_laws.specs.Objects.{IsOfFragment, IsSymbol, symbols_in};
 ghost use Rattle.dt_overlay_object.specs.Plans.{ListsSymbols};
 ghost use Rattle.dt_overlay_read.specs.Symbols.{IsFirstName, IsWhatTextNames, ListsNamed};
+ghost use Rattle.dt_names.specs.Fault.{IsMemoryOr};
 
 use crate::fragments::content_of;
 use dt_flat::FlatTree;
@@ -94,8 +95,7 @@ fn list_symbol(
     out: &mut Vec<Symbol>,
 ) -> Result<(), Fault>
     ensures listed { OnOk result (ListsNamed object.now (record { name = label.now; value = value.now } ∷ []) out.old.items out.new.items) }
-    ensures refused { IfErr result (λ fault. (fault.at ≡ None)
-        × ((fault.kind ≡ NoMemory) ⊎ ((fault.kind ≡ BadSymbol) × ¬ IsSymbol (reading object.now) value.now))) }
+    ensures refused { IfErr result (IsMemoryOr (λ kind. (kind ≡ BadSymbol) × ¬ IsSymbol (reading object.now) value.now)) }
 {
     object.validity();
     let Some(text) = whole_text(value) else {
@@ -118,10 +118,14 @@ fn list_symbol(
 ///
 /// `BadSymbol` where a value isn't a text with its NUL, or names a node that a fragment would bring if it were there; and `NoMemory`.
 /// None has a place.
-pub fn list_symbols(alloc: Global, object: &FlatTree, out: &mut Vec<Symbol>) -> Result<(), Fault>
+pub(crate) fn list_symbols(
+    alloc: Global,
+    object: &FlatTree,
+    out: &mut Vec<Symbol>,
+) -> Result<(), Fault>
     ensures listed { OnOk result (ListsSymbols object.now out.old.items out.new.items) }
-    ensures refused { IfErr result (λ fault. (fault.at ≡ None) × ((fault.kind ≡ NoMemory) ⊎ ((fault.kind ≡ BadSymbol)
-        × ((x : Property) × IsIn x (symbols_in (reading object.now)) × ¬ IsSymbol (reading object.now) x.value)))) }
+    ensures refused { IfErr result (IsMemoryOr (λ kind. (kind ≡ BadSymbol)
+        × ((x : Property) × IsIn x (symbols_in (reading object.now)) × ¬ IsSymbol (reading object.now) x.value))) }
 {
     let Some(node) = object.child(object.root(), b"__symbols__".as_slice()) else {
         return Ok(());

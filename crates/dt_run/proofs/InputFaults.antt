@@ -15,7 +15,7 @@ use Rattle.dt_resolve_model.specs.World.{tree_world}
 use Rattle.dt_resolve_model.specs.Regions.{dma_region}
 use Rattle.dt_resolve_model.specs.Specifiers.{specifier_route}
 use Rattle.dt_resolve_model.specs.Faults.{IsRegionFault, IsSpecifierFault, IsRefusedFor}
-use Rattle.dt_resolve_model.proofs.Named.{are_named}
+use Rattle.dt_resolve_model.proofs.NamedRoutes.{are_named}
 use Rattle.dt_resolve_lines.specs.Asked as asked
 use Rattle.dt_resolve_lines.specs.Asked.{answer_words, WhyNoNode, WhyUnanswered}
 use Rattle.dt_resolve_lines.specs.Lines.{region_words, route_words}

@@ -1,42 +1,34 @@
 use Rattle.std.proofs.Common.{◌≡◌, ◌∙◌, sym, ap, subst}
 use Rattle.std.specs.Prelude.{None, OnOk, IfErr}
-use Rattle.std.proofs.lemmas.Result.{err_from_is_err_and}
 use Rattle.dt_model.specs.Tree.{Reading}
 use Rattle.dt_flat.specs.Arena.{Arena, reading}
 use Rattle.dt_overlay_model.specs.InTurn.{IsApplied}
 use Rattle.dt_overlay_laws.specs.Objects.{IsWellFormed}
 use Rattle.dt_overlay_laws.specs.Refusals.{WhyNotApplied}
-use Rattle.dt_read.specs.Placed.{reading_of}
 use Rattle.dt_overlay.specs.Applying.{IsLeftBy}
-use Rattle.dt_overlay.specs.Objects.{IsUnread}
-use Rattle.dt_overlay.proofs.Told.{memory_told}
+use Rattle.dt_overlay_object.specs.Objects.{IsUnread}
 use Rattle.dt_overlay_base.specs.Targets.{HasNoRoom}
 use Rattle.dt_overlay.proofs.applying.apply.Goals as goal
 
-pub returns-in_err-symbols-clause-refused : goal.returns-in_err-symbols-clause-refused
-returns-in_err-symbols-clause-refused g c =
-    let e = err_from_is_err_and c.from_residual.result c.from_residual.ensures.1 in
-    rw (e.1, e.2) (memory_told (HasNoRoom g.T.Target.reading g.T.Target.has_room) (g.T.Target.reading c.args.target.now) (reading_of c.args.object.now) c.in_err-symbols.field-0.0 c.in_err-symbols.ensures.refused)
-
-pub apply_object-done-requires-clause-unread : goal.apply_object-done-requires-clause-unread
-apply_object-done-requires-clause-unread g c =
-    subst (λ (a : Arena). IsUnread a c.in_ok-read.read) (sym c.in_ok-read.ensures.is) c.in_ok-read.ensures
+pub apply_object-done-requires : goal.apply_object-done-requires
+apply_object-done-requires g c =
+    record { unread = subst (λ (a : Arena). IsUnread a c.in_ok-unread.unread) (sym c.in_ok-unread.ensures.is) c.in_ok-unread.ensures }
 
 pub returns-clause-applied : goal.returns-clause-applied
 returns-clause-applied g c =
-    subst (λ (o : Reading). OnOk c.apply_object-done.result (IsApplied (g.T.Target.reading c.args.target.now) o (g.T.Target.reading c.apply_object-done.new.target))) (ap reading c.in_ok-read.ensures.is ∙ c.in_ok-tree.ensures.reads)
+    subst (λ (o : Reading). OnOk c.apply_object-done.result (IsApplied (g.T.Target.reading c.args.target.now) o (g.T.Target.reading c.apply_object-done.new.target))) (ap reading c.in_ok-unread.ensures.is ∙ c.in_ok-tree.ensures.reads)
     c.apply_object-done.ensures.applied
 
 pub returns-clause-well : goal.returns-clause-well
 returns-clause-well g c =
-    subst (λ (o : Reading). OnOk c.apply_object-done.result (IsWellFormed (g.T.Target.reading c.args.target.now) o)) (ap reading c.in_ok-read.ensures.is ∙ c.in_ok-tree.ensures.reads) c.apply_object-done.ensures.well
+    subst (λ (o : Reading). OnOk c.apply_object-done.result (IsWellFormed (g.T.Target.reading c.args.target.now) o)) (ap reading c.in_ok-unread.ensures.is ∙ c.in_ok-tree.ensures.reads) c.apply_object-done.ensures.well
 
 pub returns-clause-refused : goal.returns-clause-refused
 returns-clause-refused g c =
-    subst (λ (o : Reading). IfErr c.apply_object-done.result (λ fault. (fault.at ≡ None) × WhyNotApplied (HasNoRoom g.T.Target.reading g.T.Target.has_room) fault.kind (g.T.Target.reading c.args.target.now) o)) (ap reading c.in_ok-read.ensures.is ∙ c.in_ok-tree.ensures.reads)
+    subst (λ (o : Reading). IfErr c.apply_object-done.result (λ fault. (fault.at ≡ None) × WhyNotApplied (HasNoRoom g.T.Target.reading g.T.Target.has_room) fault.kind (g.T.Target.reading c.args.target.now) o)) (ap reading c.in_ok-unread.ensures.is ∙ c.in_ok-tree.ensures.reads)
     c.apply_object-done.ensures.refused
 
 pub returns-clause-left : goal.returns-clause-left
 returns-clause-left g c =
-    subst (λ (o : Reading). IfErr c.apply_object-done.result (λ fault. IsLeftBy (HasNoRoom g.T.Target.reading g.T.Target.has_room) fault.kind (g.T.Target.reading c.args.target.now) o (g.T.Target.reading c.apply_object-done.new.target))) (ap reading c.in_ok-read.ensures.is ∙ c.in_ok-tree.ensures.reads)
+    subst (λ (o : Reading). IfErr c.apply_object-done.result (λ fault. IsLeftBy (HasNoRoom g.T.Target.reading g.T.Target.has_room) fault.kind (g.T.Target.reading c.args.target.now) o (g.T.Target.reading c.apply_object-done.new.target))) (ap reading c.in_ok-unread.ensures.is ∙ c.in_ok-tree.ensures.reads)
     c.apply_object-done.ensures.left

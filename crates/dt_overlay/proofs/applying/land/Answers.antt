@@ -1,11 +1,12 @@
+use Rattle.std.proofs.Common.{refl}
 use Rattle.std.proofs.lemmas.Result.{err_from_is_err_and}
 use Rattle.dt_overlay.proofs.CarriedOut.{seen_of, sited_on, may_land, shallow, carried, told_landing, told_symbols}
-use Rattle.dt_overlay.proofs.Told.{on_ok, if_err}
+use Rattle.dt_overlay_object.proofs.Results.{on_ok, if_err}
 use Rattle.dt_overlay_base.specs.Targets.{HasNoRoom}
 use Rattle.dt_overlay.proofs.applying.land.Goals as goal
 
-pub land-requires : goal.land-requires
-land-requires g c =
+pub land_all-requires : goal.land_all-requires
+land_all-requires g c =
     let base = g.T.Target.reading c.args.target.now in
     let o = c.args.object.now in
     let qs = c.args.landing.now.sites.items in
@@ -14,35 +15,38 @@ land-requires g c =
     let v = c.validity.ensures in (
       seen_of base object o qs n,
       n.end.sites,
-      sited_on c.sited_is_applied.ensures c.fragments_are_merged.ensures base object o qs n v.valid v.within v.cells c.deref.result.now c.deref.ensures.value,
+      sited_on c.sited_is_applied.ensures c.fragments_are_merged.ensures base object o qs n v.valid v.within v.cells qs refl,
       may_land c.sited_is_applied.ensures c.fragments_are_merged.ensures base object o qs n v.valid v.within v.cells,
     )
 
-pub returns-in_err-land-clause-refused : goal.returns-in_err-land-clause-refused
-returns-in_err-land-clause-refused g c object n =
+pub returns-in_err-land_all-clause-refused : goal.returns-in_err-land_all-clause-refused
+returns-in_err-land_all-clause-refused g c object n =
     let base = g.T.Target.reading c.args.target.now in
     let o = c.args.object.now in
     let qs = c.args.landing.now.sites.items in
     let v = c.validity.ensures in
     let e = err_from_is_err_and c.from_residual.result c.from_residual.ensures.1 in
     rw (e.1, e.2)
-    (told_landing c.sited_is_applied.ensures c.fragments_are_merged.ensures base object o qs n v.valid v.within v.cells (HasNoRoom g.T.Target.reading g.T.Target.has_room) c.in_err-land.field-0.0
-    (c.in_err-land.ensures.refused (seen_of base object o qs n) n.end.sites
-    (sited_on c.sited_is_applied.ensures c.fragments_are_merged.ensures base object o qs n v.valid v.within v.cells c.deref.result.now c.deref.ensures.value)))
+    (told_landing c.sited_is_applied.ensures c.fragments_are_merged.ensures base object o qs n v.valid v.within v.cells (HasNoRoom g.T.Target.reading g.T.Target.has_room) c.in_err-land_all.field-0.0
+    (c.in_err-land_all.ensures.refused (seen_of base object o qs n) n.end.sites
+    (sited_on c.sited_is_applied.ensures c.fragments_are_merged.ensures base object o qs n v.valid v.within v.cells qs refl)))
 
-pub set_symbols-requires-clause-sited : goal.set_symbols-requires-clause-sited
-set_symbols-requires-clause-sited g c =
+pub set_symbols-requires : goal.set_symbols-requires
+set_symbols-requires g c =
     let base = g.T.Target.reading c.args.target.now in
     let o = c.args.object.now in
     let qs = c.args.landing.now.sites.items in
     let object = c.requires.numbered.0 in
     let n = c.requires.numbered.1 in
-    let v = c.validity.ensures in (
-      seen_of base object o qs n,
-      n.end.sites,
-      sited_on c.sited_is_applied.ensures c.fragments_are_merged.ensures base object o qs n v.valid v.within v.cells c.deref-2.result.now c.deref-2.ensures.value,
-      shallow c.sited_is_applied.ensures c.fragments_are_merged.ensures base object o qs n v.valid v.within v.cells,
-    )
+    let v = c.validity.ensures in
+    record {
+      sited = (
+        seen_of base object o qs n,
+        n.end.sites,
+        sited_on c.sited_is_applied.ensures c.fragments_are_merged.ensures base object o qs n v.valid v.within v.cells qs refl,
+        shallow c.sited_is_applied.ensures c.fragments_are_merged.ensures base object o qs n v.valid v.within v.cells,
+      );
+    }
 
 pub returns-clause-applied : goal.returns-clause-applied
 returns-clause-applied g c object n =
@@ -54,9 +58,9 @@ returns-clause-applied g c object n =
     let merge = c.fragments_are_merged.ensures in
     let seen = seen_of base object o qs n in
     on_ok c.set_symbols.result
-    (carried law merge base object o qs n v.valid v.within v.cells (g.T.Target.reading c.land.new.target) (g.T.Target.reading c.set_symbols.new.target)
-    (c.in_ok-land.ensures.landed seen n.end.sites (sited_on law merge base object o qs n v.valid v.within v.cells c.deref.result.now c.deref.ensures.value)))
-    (c.set_symbols.ensures.set seen n.end.sites (sited_on law merge base object o qs n v.valid v.within v.cells c.deref-2.result.now c.deref-2.ensures.value)
+    (carried law merge base object o qs n v.valid v.within v.cells (g.T.Target.reading c.land_all.new.target) (g.T.Target.reading c.set_symbols.new.target)
+    (c.in_ok-land_all.ensures.landed seen n.end.sites (sited_on law merge base object o qs n v.valid v.within v.cells qs refl)))
+    (c.set_symbols.ensures.set seen n.end.sites (sited_on law merge base object o qs n v.valid v.within v.cells qs refl)
     (shallow law merge base object o qs n v.valid v.within v.cells))
 
 pub returns-clause-refused : goal.returns-clause-refused
@@ -69,7 +73,7 @@ returns-clause-refused g c object n =
     let merge = c.fragments_are_merged.ensures in
     let seen = seen_of base object o qs n in
     if_err c.set_symbols.result
-    (told_symbols law merge base object o qs n v.valid v.within v.cells (HasNoRoom g.T.Target.reading g.T.Target.has_room) (g.T.Target.reading c.land.new.target)
-    (c.in_ok-land.ensures.landed seen n.end.sites (sited_on law merge base object o qs n v.valid v.within v.cells c.deref.result.now c.deref.ensures.value)))
-    (c.set_symbols.ensures.refused seen n.end.sites (sited_on law merge base object o qs n v.valid v.within v.cells c.deref-2.result.now c.deref-2.ensures.value)
+    (told_symbols law merge base object o qs n v.valid v.within v.cells (HasNoRoom g.T.Target.reading g.T.Target.has_room) (g.T.Target.reading c.land_all.new.target)
+    (c.in_ok-land_all.ensures.landed seen n.end.sites (sited_on law merge base object o qs n v.valid v.within v.cells qs refl)))
+    (c.set_symbols.ensures.refused seen n.end.sites (sited_on law merge base object o qs n v.valid v.within v.cells qs refl)
     (shallow law merge base object o qs n v.valid v.within v.cells))

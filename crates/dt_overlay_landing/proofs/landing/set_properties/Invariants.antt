@@ -8,6 +8,6 @@ use Rattle.dt_overlay_landing.proofs.landing.set_properties.Given as goal
 
 abbrev pub invariant-loop-name : goal.invariant-loop-name
 invariant-loop-name g l =
-    PropertiesLeft (HasNoRoom g.T.Target.reading g.T.Target.has_room) l.path l.number (map (with_kept l.values l.node) l.name-iterator) (g.T.Target.reading l.target)
-    (land_properties l.path (map (landed_property l.number) (map (with_kept l.values l.node) l.fn.props)) (g.T.Target.reading l.fn.target))
-    (FullAtProperties (HasNoRoom g.T.Target.reading g.T.Target.has_room) l.path (map (landed_property l.number) (map (with_kept l.values l.node) l.fn.props)) (g.T.Target.reading l.fn.target))
+    PropertiesLeft (HasNoRoom g.T.Target.reading g.T.Target.has_room) l.path l.landing.number (map (with_kept l.landing.values.now l.landing.node) l.name-iterator) (g.T.Target.reading l.target)
+    (land_properties l.path (map (landed_property l.landing.number) (map (with_kept l.landing.values.now l.landing.node) l.fn.props)) (g.T.Target.reading l.fn.target))
+    (FullAtProperties (HasNoRoom g.T.Target.reading g.T.Target.has_room) l.path (map (landed_property l.landing.number) (map (with_kept l.landing.values.now l.landing.node) l.fn.props)) (g.T.Target.reading l.fn.target))

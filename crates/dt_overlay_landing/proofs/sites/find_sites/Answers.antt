@@ -1,74 +1,68 @@
-use Rattle.std.proofs.Common.{◌++◌, ◌∷◌, [], ◌∙◌, sym, ap, subst, inl, inr}
-use Rattle.std.proofs.lemmas.Result.{err_from_is_err_and}
+use Rattle.std.proofs.Common.{◌≡◌, ◌⊎◌, ◌<◌, ◌∙◌, ℕ, length, replicate, sym, ap, subst}
+use Rattle.std.specs.Prelude.{None, OnOk, IfErr}
+use Rattle.std.specs.List.{AllByRecursion}
+use Rattle.std.proofs.lemmas.List.{length-replicate}
 use Rattle.dt_model.specs.Object.{fragment_names}
-use Rattle.dt_flat.specs.Arena.{reading}
-use Rattle.dt_flat.proofs.Descent.{path-within}
-use Rattle.dt_overlay_object.proofs.NumbersBrought.{fragment_at, content_within}
-use Rattle.dt_overlay_object.proofs.NumbersTurns.{at_index}
-use Rattle.dt_overlay_landing.proofs.SitesFound.{AreFound, found_begun, next, turn, found_on, found_refused, found_ended}
+use Rattle.dt_model.specs.Tree.{Reading}
+use Rattle.dt_overlay_model.specs.Walk.{nothing_walked}
+use Rattle.dt_overlay_laws.specs.Landings.{HasNoSite}
+use Rattle.dt_names.specs.declared.fault.FaultKind.TheVariants.{NoMemory}
+use Rattle.dt_overlay_landing.proofs.SeenWays.{marks_are, writes_within}
+use Rattle.dt_overlay_landing.proofs.SeenObjects.{seen_here}
+use Rattle.dt_overlay_object.specs.declared.kept.Write.{Write}
+use Rattle.dt_overlay_landing.specs.Marks.{with_own}
+use Rattle.dt_overlay_landing.specs.Turns.{HasAllSites}
+use Rattle.dt_overlay_landing.specs.declared.marks.TargetMark.TheVariants.{Bare}
+use Rattle.dt_overlay_landing.proofs.MarksMade.{length-with_own, length-with_labels}
 use Rattle.dt_overlay_landing.proofs.sites.find_sites.Goals as goal
 
-pub loop-fragment-init : goal.loop-fragment-init
-loop-fragment-init g c fixups marked =
-    found_begun (g.T.Target.reading c.args.target.now) fixups c.args.object.now c.args.brought.now c.args.marks.now c.args.fragments.now c.args.sites.now.items c.args.places.now
-    c.requires.brought marked c.requires.fragments c.requires.none c.requires.nothing
+pub target_marks-requires-clause-own : goal.target_marks-requires-clause-own
+target_marks-requires-clause-own g c =
+    let o = c.args.object.now in
+    let read = c.requires.read.1 in
+    subst (λ (n : ℕ). AllByRecursion (λ (w : Write). w.node < n) c.deref.result.now) (sym c.node_count.ensures)
+    (subst (AllByRecursion (λ (w : Write). w.node < length o.tree.slots)) (sym c.deref.ensures.value)
+    (writes_within o.tree.slots o.own_writes.items _ c.validity-2.ensures.rooted read.seen.own))
 
-pub find_site-requires-clause-node : goal.find_site-requires-clause-node
-find_site-requires-clause-node g c =
-    let a = c.args.object.now in
-    let xs = c.args.fragments.now in
-    let x = c.fragment-item.result in
-    let w = fragment_at a.slots (reading a) xs (fragment_names (reading a).children) c.loop-fragment.fragment-index x c.requires.fragments (at_index xs c.loop-fragment.fragment-index x c.loop-fragment-test.true c.fragment-item.is) in
-    path-within a.slots (w.0 ∷ []) 0 x.node c.validity-2.ensures.rooted.some w.2.node
+pub target_marks-requires-clause-labels : goal.target_marks-requires-clause-labels
+target_marks-requires-clause-labels g c =
+    let o = c.args.object.now in
+    let read = c.requires.read.1 in
+    subst (λ (n : ℕ). AllByRecursion (λ (w : Write). w.node < n) c.deref-2.result.now) (sym c.node_count.ensures)
+    (subst (AllByRecursion (λ (w : Write). w.node < length o.tree.slots)) (sym c.deref-2.ensures.value)
+    (writes_within o.tree.slots o.label_writes.items _ c.validity-2.ensures.rooted read.seen.labels))
 
-pub find_site-requires-clause-content : goal.find_site-requires-clause-content
-find_site-requires-clause-content g c =
-    let a = c.args.object.now in
-    let xs = c.args.fragments.now in
-    let x = c.fragment-item.result in
-    let w = fragment_at a.slots (reading a) xs (fragment_names (reading a).children) c.loop-fragment.fragment-index x c.requires.fragments (at_index xs c.loop-fragment.fragment-index x c.loop-fragment-test.true c.fragment-item.is) in
-    content_within a.slots c.validity-2.ensures.rooted c.validity-2.ensures.paths (reading a) x w.0 w.2
+pub find_each_site-requires-clause-brought : goal.find_each_site-requires-clause-brought
+find_each_site-requires-clause-brought g c = (seen_here c.args.object.now _ c.requires.read.1.seen).brought
 
-pub find_site-requires-clause-turn : goal.find_site-requires-clause-turn
-find_site-requires-clause-turn g c =
+pub find_each_site-requires-clause-marks : goal.find_each_site-requires-clause-marks
+find_each_site-requires-clause-marks g c =
+    let own = c.deref.result.now in
+    let labels = c.deref-2.result.now in
+    ap length (c.deref-3.ensures.value ∙ c.in_ok-marks.ensures) ∙ length-with_labels labels (with_own own (replicate c.node_count.result Bare)) ∙ length-with_own own (replicate c.node_count.result Bare)
+    ∙ length-replicate c.node_count.result Bare ∙ c.node_count.ensures
+
+pub find_each_site-requires-clause-marked : goal.find_each_site-requires-clause-marked
+find_each_site-requires-clause-marked g c =
+    let read = c.requires.read.1 in
+    let marked = marks_are (g.T.Target.reading c.args.target.now) c.requires.read.0 c.args.object.now read c.validity-2.ensures.rooted c.validity.ensures.cells c.deref.result.now c.deref-2.result.now c.node_count.result c.deref-3.result.now
+    c.deref.ensures.value c.deref-2.ensures.value c.node_count.ensures (c.deref-3.ensures.value ∙ c.in_ok-marks.ensures) in
+    (read.fixups, marked)
+
+pub find_each_site-requires-clause-fragments : goal.find_each_site-requires-clause-fragments
+find_each_site-requires-clause-fragments g c = (seen_here c.args.object.now _ c.requires.read.1.seen).fragments
+
+pub returns-clause-refused : goal.returns-clause-refused
+returns-clause-refused g c object read =
     let base = g.T.Target.reading c.args.target.now in
-    let fixups = c.requires.marked.0 in
-    let so_far : AreFound base fixups c.args.object.now c.args.brought.now c.args.marks.now c.args.fragments.now c.loop-fragment.fragment-index c.deref.result.now c.loop-fragment.places =
-    subst (λ ps. AreFound base fixups c.args.object.now c.args.brought.now c.args.marks.now c.args.fragments.now c.loop-fragment.fragment-index ps c.loop-fragment.places) (sym c.deref.ensures.value) (c.loop-fragment.invariant fixups c.requires.marked.1) in
-    let n = next base fixups c.args.object.now c.args.brought.now c.args.marks.now c.args.fragments.now c.loop-fragment.fragment-index c.deref.result.now c.loop-fragment.places so_far c.fragment-item.result c.loop-fragment-test.true c.fragment-item.is in
-    let t = turn base fixups c.args.object.now c.args.brought.now c.args.marks.now c.args.fragments.now c.loop-fragment.fragment-index c.deref.result.now c.loop-fragment.places so_far c.fragment-item.result c.loop-fragment-test.true c.fragment-item.is in
-    (fixups, so_far.walked, so_far.done, n.later, n.name, t)
-
-pub returns-in_err-path-clause-refused : goal.returns-in_err-path-clause-refused
-returns-in_err-path-clause-refused g c fixups marked =
-    let base = g.T.Target.reading c.args.target.now in
-    let so_far : AreFound base fixups c.args.object.now c.args.brought.now c.args.marks.now c.args.fragments.now c.loop-fragment.fragment-index c.deref.result.now c.loop-fragment.places =
-    subst (λ ps. AreFound base fixups c.args.object.now c.args.brought.now c.args.marks.now c.args.fragments.now c.loop-fragment.fragment-index ps c.loop-fragment.places) (sym c.deref.ensures.value) (c.loop-fragment.invariant fixups marked) in
-    let n = next base fixups c.args.object.now c.args.brought.now c.args.marks.now c.args.fragments.now c.loop-fragment.fragment-index c.deref.result.now c.loop-fragment.places so_far c.fragment-item.result c.loop-fragment-test.true c.fragment-item.is in
-    let t = turn base fixups c.args.object.now c.args.brought.now c.args.marks.now c.args.fragments.now c.loop-fragment.fragment-index c.deref.result.now c.loop-fragment.places so_far c.fragment-item.result c.loop-fragment-test.true c.fragment-item.is in
-    let e = err_from_is_err_and c.from_residual.result c.from_residual.ensures.1 in
-    let why = c.in_err-path.ensures.refused fixups so_far.walked so_far.done n.later n.name t in
-    rw (e.1, e.2) (
-      why.0,
-      elim why.1 [
-        | inl memory ↦ inl memory
-        | inr none ↦ inr (found_refused base fixups c.args.object.now c.args.brought.now c.args.marks.now c.args.fragments.now c.loop-fragment.fragment-index c.deref.result.now c.loop-fragment.places so_far c.fragment-item.result
-            c.loop-fragment-test.true c.fragment-item.is c.in_err-path.field-0.0.kind none)
-      ],
-    )
-
-pub loop-fragment-preserved : goal.loop-fragment-preserved
-loop-fragment-preserved g c fixups marked =
-    let base = g.T.Target.reading c.args.target.now in
-    let so_far : AreFound base fixups c.args.object.now c.args.brought.now c.args.marks.now c.args.fragments.now c.loop-fragment.fragment-index c.deref.result.now c.loop-fragment.places =
-    subst (λ ps. AreFound base fixups c.args.object.now c.args.brought.now c.args.marks.now c.args.fragments.now c.loop-fragment.fragment-index ps c.loop-fragment.places) (sym c.deref.ensures.value) (c.loop-fragment.invariant fixups marked) in
-    let n = next base fixups c.args.object.now c.args.brought.now c.args.marks.now c.args.fragments.now c.loop-fragment.fragment-index c.deref.result.now c.loop-fragment.places so_far c.fragment-item.result c.loop-fragment-test.true c.fragment-item.is in
-    let t = turn base fixups c.args.object.now c.args.brought.now c.args.marks.now c.args.fragments.now c.loop-fragment.fragment-index c.deref.result.now c.loop-fragment.places so_far c.fragment-item.result c.loop-fragment-test.true c.fragment-item.is in
-    let ok = c.in_ok-path.ensures.found fixups so_far.walked so_far.done n.later n.name t in
-    found_on base fixups c.args.object.now c.args.brought.now c.args.marks.now c.args.fragments.now c.loop-fragment.fragment-index c.deref.result.now c.loop-fragment.places so_far c.fragment-item.result c.loop-fragment-test.true c.fragment-item.is
-    c.in_ok-path.path c.in_ok-path.ensures.named c.find_site.new.places ok c.push.new.self.items (c.in_ok-push.ensures.items ∙ ap (λ ps. ps ++ c.in_ok-path.path ∷ []) (sym c.deref.ensures.value))
+    let marked = marks_are base object c.args.object.now read c.validity-2.ensures.rooted c.validity.ensures.cells c.deref.result.now c.deref-2.result.now c.node_count.result c.deref-3.result.now
+    c.deref.ensures.value c.deref-2.ensures.value c.node_count.ensures (c.deref-3.ensures.value ∙ c.in_ok-marks.ensures) in
+    subst (λ (r : Reading). IfErr c.find_each_site.result (λ fault. (fault.at ≡ None) × ((fault.kind ≡ NoMemory) ⊎ HasNoSite fault.kind base r read.fixups nothing_walked (fragment_names r.children)))) read.seen.reads
+    (c.find_each_site.ensures.refused read.fixups marked)
 
 pub returns-clause-found : goal.returns-clause-found
-returns-clause-found g c fixups marked =
-    found_ended (g.T.Target.reading c.args.target.now) fixups c.args.object.now c.args.brought.now c.args.marks.now c.args.fragments.now c.loop-fragment.fragment-index c.loop-fragment.sites.items c.loop-fragment.places
-    (c.loop-fragment.invariant fixups marked) c.loop-fragment-test.false
+returns-clause-found g c object read =
+    let base = g.T.Target.reading c.args.target.now in
+    let marked = marks_are base object c.args.object.now read c.validity-2.ensures.rooted c.validity.ensures.cells c.deref.result.now c.deref-2.result.now c.node_count.result c.deref-3.result.now
+    c.deref.ensures.value c.deref-2.ensures.value c.node_count.ensures (c.deref-3.ensures.value ∙ c.in_ok-marks.ensures) in
+    subst (λ (r : Reading). OnOk c.find_each_site.result (HasAllSites base read.fixups r c.find_each_site.new.landing)) read.seen.reads (c.find_each_site.ensures.found read.fixups marked)

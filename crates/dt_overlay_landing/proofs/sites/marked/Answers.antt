@@ -28,37 +28,37 @@ found_label base l n None valid has none = absurd (none has.0 has.2)
 found_label base l n (Some p) valid has found = sym (node_of_number base p n valid found) ∙ node_of_number base has.0 n valid has.2 ∙ sym has.1
 
 pub returns-in-Label-clause-value : goal.returns-in-Label-clause-value
-returns-in-Label-clause-value g c fixups marks w done later f t mark =
+returns-in-Label-clause-value g c marks turn t f mark =
     let base : Reading = g.T.Target.reading c.args.target.now in
-    let object = reading c.args.object.now in
+    let object = reading c.args.object.now.tree in
     let own = list_any (is_target f) (local_cells object) in
-    let m : IsMark base object fixups f (Label c.in-Label.number) = subst (IsMark base object fixups f) c.in-Label.is mark in
+    let m : IsMark base object turn.fixups f (Label c.in-Label.number) = subst (IsMark base object turn.fixups f) c.in-Label.is mark in
     IfOk-weaker c.by_phandle.result (λ (o : Option Path). MatchOption o ((p : Path) → HasNumber base p c.in-Label.number → ⊥) (λ p. HasNumber base p c.in-Label.number))
-    (λ (o : Option Path). o ≡ named_node base object w (target_label f fixups) own c.args.number)
-    (λ o found. found_label base m.0 c.in-Label.number o c.validity.ensures.valid m.2 found ∙ sym (ap (λ (l : Option Name). named_node base object w l own c.args.number) m.1))
+    (λ (o : Option Path). o ≡ named_node base object turn.walked (target_label f turn.fixups) own c.args.number)
+    (λ o found. found_label base m.0 c.in-Label.number o c.validity.ensures.valid m.2 found ∙ sym (ap (λ (l : Option Name). named_node base object turn.walked l own c.args.number) m.1))
     c.by_phandle.ensures.found
 
 pub returns-in-Own-clause-value : goal.returns-in-Own-clause-value
-returns-in-Own-clause-value g c fixups marks w done later f t mark =
+returns-in-Own-clause-value g c marks turn t f mark =
     let base : Reading = g.T.Target.reading c.args.target.now in
-    let object = reading c.args.object.now in
+    let object = reading c.args.object.now.tree in
     let own = list_any (is_target f) (local_cells object) in
-    let m : IsMark base object fixups f Own = subst (IsMark base object fixups f) c.in-Own.is mark in
-    IfOk-weaker c.own_place.result (λ (o : Option Path). o ≡ option_and_then (landing w.sites) (node_numbered (nodes_of object) c.args.number))
-    (λ (o : Option Path). o ≡ named_node base object w (target_label f fixups) own c.args.number)
-    (λ o e. e ∙ sym (ap (λ (l : Option Name). named_node base object w l own c.args.number) m.0 ∙ ap (λ (b : Bool). named_node base object w None b c.args.number) m.1))
-    (c.own_place.ensures.value w.sites t.brought (turn_front base fixups c.args.object.now c.validity-2.ensures.valid c.args.brought.now marks c.args.sites.now c.args.places.now w done later t) t.sites)
+    let m : IsMark base object turn.fixups f Own = subst (IsMark base object turn.fixups f) c.in-Own.is mark in
+    IfOk-weaker c.own_place.result (λ (o : Option Path). o ≡ option_and_then (landing turn.walked.sites) (node_numbered (nodes_of object) c.args.number))
+    (λ (o : Option Path). o ≡ named_node base object turn.walked (target_label f turn.fixups) own c.args.number)
+    (λ o e. e ∙ sym (ap (λ (l : Option Name). named_node base object turn.walked l own c.args.number) m.0 ∙ ap (λ (b : Bool). named_node base object turn.walked None b c.args.number) m.1))
+    (c.own_place.ensures.value turn.walked.sites t.brought (turn_front base c.args.object.now c.validity-2.ensures.valid marks c.args.landing.now turn t) (c.deref.ensures.value ∙ t.sites))
 
 pub returns-in-Own-clause-refused : goal.returns-in-Own-clause-refused
-returns-in-Own-clause-refused g c fixups marks w done later t =
+returns-in-Own-clause-refused g c marks turn t =
     let base : Reading = g.T.Target.reading c.args.target.now in
-    let object = reading c.args.object.now in
-    IfErr-weaker c.own_place.result (λ (fault : Fault). (fault.at ≡ None) × ((fault.kind ≡ NoMemory) ⊎ LandsTooDeep object w.sites)) IsNoMemory
+    let object = reading c.args.object.now.tree in
+    IfErr-weaker c.own_place.result (λ (fault : Fault). (fault.at ≡ None) × ((fault.kind ≡ NoMemory) ⊎ LandsTooDeep object turn.walked.sites)) IsNoMemory
     (λ fault why. (
       elim why.1 [
         | inl memory ↦ memory
-        | inr deep ↦ absurd (not_too_deep base fixups c.args.object.now c.validity-2.ensures.valid c.args.brought.now marks c.args.sites.now c.args.places.now w done later t deep)
+        | inr deep ↦ absurd (not_too_deep base c.args.object.now c.validity-2.ensures.valid marks c.args.landing.now turn t deep)
       ],
       why.0,
     ))
-    (c.own_place.ensures.refused w.sites t.brought (turn_front base fixups c.args.object.now c.validity-2.ensures.valid c.args.brought.now marks c.args.sites.now c.args.places.now w done later t) t.sites)
+    (c.own_place.ensures.refused turn.walked.sites t.brought (turn_front base c.args.object.now c.validity-2.ensures.valid marks c.args.landing.now turn t) (c.deref.ensures.value ∙ t.sites))

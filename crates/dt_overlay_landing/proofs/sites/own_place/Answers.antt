@@ -22,19 +22,19 @@ returns-in-Some-clause-value c found brought front sites =
     let k = c.in-Some.node in
     let at = c.validity.ensures.paths k c.in-Some.ensures.there in
     let numbered = numbered-path a at.0 k c.args.number c.validity.ensures.valid c.validity.ensures.cells at.1 ((c.in-Some.ensures.value k).0 refl) in
-    IfOk-weaker c.landing.result (λ (place : Option Path). place ≡ landing found at.0) (λ (place : Option Path). place ≡ option_and_then (landing found) (node_numbered (nodes_of (reading a)) c.args.number))
+    IfOk-weaker c.landing_path.result (λ (place : Option Path). place ≡ landing found at.0) (λ (place : Option Path). place ≡ option_and_then (landing found) (node_numbered (nodes_of (reading a)) c.args.number))
     (λ place e. e ∙ sym (ap (option_and_then (landing found)) numbered))
-    (c.landing.ensures.value (fragment_names (reading a).children) found at.0 brought.fragments (fragments_distinct (reading a).children c.validity.ensures.valid.siblings) front sites at.1)
+    (c.landing_path.ensures.value (fragment_names (reading a).children) found at.0 brought.fragments (fragments_distinct (reading a).children c.validity.ensures.valid.siblings) front sites at.1)
 
 pub returns-in-Some-clause-refused : goal.returns-in-Some-clause-refused
 returns-in-Some-clause-refused c found brought front sites =
     let a = c.args.object.now in
     let k = c.in-Some.node in
     let at = c.validity.ensures.paths k c.in-Some.ensures.there in
-    IfErr-weaker c.landing.result (λ (fault : Fault). (fault.at ≡ None) × ((fault.kind ≡ NoMemory) ⊎ ((fault.kind ≡ Limit) × ((q : Path) × (landing found at.0 ≡ Some q) × (most_names < length q)))))
+    IfErr-weaker c.landing_path.result (λ (fault : Fault). (fault.at ≡ None) × ((fault.kind ≡ NoMemory) ⊎ ((fault.kind ≡ Limit) × ((q : Path) × (landing found at.0 ≡ Some q) × (most_names < length q)))))
     (λ (fault : Fault). (fault.at ≡ None) × ((fault.kind ≡ NoMemory) ⊎ LandsTooDeep (reading a) found))
     (λ fault why. (why.0, too_deep a found at.0 k fault.kind at.1 why.1))
-    (c.landing.ensures.refused (fragment_names (reading a).children) found at.0 brought.fragments (fragments_distinct (reading a).children c.validity.ensures.valid.siblings) front sites at.1)
+    (c.landing_path.ensures.refused (fragment_names (reading a).children) found at.0 brought.fragments (fragments_distinct (reading a).children c.validity.ensures.valid.siblings) front sites at.1)
 
 pub returns-in-None-clause-value : goal.returns-in-None-clause-value
 returns-in-None-clause-value c found brought front sites =

@@ -21,11 +21,14 @@ use Rattle.dt_overlay_landing.proofs.SitesTurns.{turn_landings}
 use Rattle.dt_overlay_landing.proofs.sites.target_path.Goals as goal
 
 pub returns-in-Path-clause-value : goal.returns-in-Path-clause-value
-returns-in-Path-clause-value g c fixups w done later f t =
+returns-in-Path-clause-value g c turn t =
     let base : Reading = g.T.Target.reading c.args.target.now in
-    let a = c.args.object.now in
+    let a = c.args.object.now.tree in
+    let f = t.name in
+    let fixups = turn.fixups in
+    let w = turn.walked in
     let is : IsTargetOf (reading a) f (TargetPath c.in-Path.value) = subst (IsTargetOf (reading a) f) c.in-Path.is t.fragment.target in
-    let landings = turn_landings base fixups a c.validity.ensures.valid c.args.brought.now c.args.marks.now c.args.sites.now c.args.places.now w done (f ∷ later) t.turn in
+    let landings = turn_landings base c.args.object.now c.validity.ensures.valid c.args.marks.now c.args.landing.now turn t.turn in
     let value = c.deref.result.now in
     let target : target_in base (reading a) fixups w f ≡ option_or (node_named (nodes_of base) value) (landed_named (nodes_of (reading a)) w.sites value) =
     ap (target_of base (reading a) fixups w f) is.0 ∙ ap (λ (o : Option (List ℕ)). option_and_then (λ text. option_or (node_named (nodes_of base) text) (landed_named (nodes_of (reading a)) w.sites text)) o) is.1
@@ -35,9 +38,12 @@ returns-in-Path-clause-value g c fixups w done later f t =
     (c.named.ensures.value (reading a) w.sites w.given c.validity.ensures.valid t.turn.known landings)
 
 pub returns-in-Some-clause-value : goal.returns-in-Some-clause-value
-returns-in-Some-clause-value g c fixups w done later f t =
+returns-in-Some-clause-value g c turn t =
     let base : Reading = g.T.Target.reading c.args.target.now in
-    let a = c.args.object.now in
+    let a = c.args.object.now.tree in
+    let f = t.name in
+    let fixups = turn.fixups in
+    let w = turn.walked in
     let k = c.args.fragment.now.node in
     let is : HoldsNumber (reading a) f = subst (IsTargetOf (reading a) f) c.in-Number.is t.fragment.target in
     let there : value_of (properties a.slots k) (codes "target") ≡ Some is.0 = sym (value-led a (f ∷ []) k (codes "target") t.fragment.node) ∙ is.1 in
@@ -47,14 +53,17 @@ returns-in-Some-clause-value g c fixups w done later f t =
     let own = list_any (is_target f) (local_cells (reading a)) in
     IfOk-weaker c.marked.result (λ (found : Option Path). found ≡ named_node base (reading a) w (target_label f fixups) own c.in-Some.number) (λ (found : Option Path). found ≡ target_in base (reading a) fixups w f)
     (λ found e. e ∙ ap (named_node base (reading a) w (target_label f fixups) own) number ∙ sym (ap (target_of base (reading a) fixups w f) is.1))
-    (c.marked.ensures.value fixups c.args.marks.now w done (f ∷ later) f t.turn (subst (IsMark base (reading a) fixups f) (sym (get_or_from_slice_get c.args.marks.now k m.0 Bare m.1)) m.2))
+    (c.marked.ensures.value c.args.marks.now turn t.turn f (subst (IsMark base (reading a) fixups f) (sym (get_or_from_slice_get c.args.marks.now k m.0 Bare m.1)) m.2))
 
 pub returns-in-Some-clause-refused : goal.returns-in-Some-clause-refused
-returns-in-Some-clause-refused g c fixups w done later f t = c.marked.ensures.refused fixups c.args.marks.now w done (f ∷ later) t.turn
+returns-in-Some-clause-refused g c turn t = c.marked.ensures.refused c.args.marks.now turn t.turn
 
 pub returns-in-None-clause-value : goal.returns-in-None-clause-value
-returns-in-None-clause-value g c fixups w done later f t =
-    let a = c.args.object.now in
+returns-in-None-clause-value g c turn t =
+    let a = c.args.object.now.tree in
+    let f = t.name in
+    let fixups = turn.fixups in
+    let w = turn.walked in
     let k = c.args.fragment.now.node in
     let is : HoldsNumber (reading a) f = subst (IsTargetOf (reading a) f) c.in-Number.is t.fragment.target in
     let there : value_of (properties a.slots k) (codes "target") ≡ Some is.0 = sym (value-led a (f ∷ []) k (codes "target") t.fragment.node) ∙ is.1 in

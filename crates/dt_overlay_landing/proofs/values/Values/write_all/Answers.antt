@@ -1,8 +1,8 @@
-use Rattle.std.proofs.Common.{◌≡◌, ◌+◌, ◌∙◌, List, drop, sym, ap, subst}
+use Rattle.std.proofs.Common.{◌+◌, ◌∙◌, List, drop, sym, ap, subst}
 use Rattle.dt_flat.specs.Arena.{Slot}
 use Rattle.dt_overlay_object.specs.declared.kept.Write.{Write}
 use Rattle.dt_overlay_landing.specs.Values.{with_values}
-use Rattle.dt_overlay_landing.specs.Writing.{AreWritable, with_writes}
+use Rattle.dt_overlay_object.specs.Writing.{AreWritable, with_writes}
 use Rattle.dt_overlay_landing.proofs.WritesKept.{next_write, still_writable}
 use Rattle.dt_overlay_landing.proofs.values.Values.write_all.Goals as goal
 

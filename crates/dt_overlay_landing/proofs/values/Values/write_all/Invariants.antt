@@ -1,7 +1,7 @@
 -- The writes that are left give all.
 use Rattle.std.proofs.Common.{◌≡◌, drop}
 use Rattle.dt_overlay_landing.specs.Values.{with_values}
-use Rattle.dt_overlay_landing.specs.Writing.{AreWritable, with_writes}
+use Rattle.dt_overlay_object.specs.Writing.{AreWritable, with_writes}
 use Rattle.dt_overlay_landing.proofs.values.Values.write_all.Given as goal
 
 abbrev pub invariant-loop-write : goal.invariant-loop-write
