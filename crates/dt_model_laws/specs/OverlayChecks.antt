@@ -1,4 +1,5 @@
--- What is looked at in the list of an overlay's nodes: its fragments, what they hold as targets, and which nodes they bring.
+-- What is looked at in the list of an overlay's nodes: its fragments, what they hold as targets, and which nodes they bring. The code of
+-- dt_source_fragments sees a list so; the definition is here, below it, for the laws of this crate that cite it.
 use Rattle.std.specs.Prelude.{◌≡◌, ◌≢◌, ◌⊎◌, ◌<◌, ℕ, Bool, true, false, not, ◌&&◌, cond, List, [], ◌∷◌, ◌++◌, map, length, Some, None, nat_eq, slice_get, unwrap_or, codes, Ok}
 use Rattle.std.specs.List.{AllByRecursion, list_all}
 use Rattle.std.specs.Option.{option_map_or}

@@ -28,6 +28,6 @@ pub use phandle::phandle_of;
 pub use seed::Seed;
 pub use stream::{Feed, In, Out, Sink, put_all};
 
-/// A node by its number: in a tree that is built, nodes are numbered in the order in which they were made; in a blob,
-/// a node's number is the place of its BEGIN_NODE, in bytes from the front of the blob.
+/// A node by its number: in a tree that is built, nodes are numbered in the order in which they were made; in a `NamedTree`, a node's
+/// number is its place in preorder; in a blob, it is the place of its BEGIN_NODE, in bytes from the front of the blob.
 pub type NodeId = usize;

@@ -6,8 +6,8 @@ pub mod Walked
 pub mod StepsLeft
 pub mod Kinds
 pub mod Pairs
--- inside
 pub mod TreeCode
+-- inside
 pub mod TreeTokens
 pub mod Order
 pub mod View

@@ -14,7 +14,7 @@ use Rattle.dt_read.specs.Kinds.{kind_of}
 use Rattle.dt_resolve_model.specs.Answers.{Answer, refused, answer}
 use Rattle.dt_resolve_model.specs.World.{tree_world}
 use Rattle.dt_resolve_lines.specs.Asked.{answer_words, IsAnswer, WhyNoNode, WhyUnanswered, no_blob, no_node, no_answer}
-use Rattle.dt_resolve_lines.specs.declared.asking.Question.{Question}
+use Rattle.dt_resolve_model.specs.declared.questions.Question.{Question}
 
 module _ (read : (bytes : List ℕ) (t u : Reading) → Reads bytes t → Reads bytes u → t ≡ u) (path : (p q : List (List ℕ)) → AllByRecursion IsNodeName p → AllByRecursion IsNodeName q → path_text p ≡ path_text q → p ≡ q) where
   same_path : (text : List ℕ) (p q : Path) → IsPathOf text p → IsPathOf text q → p ≡ q

@@ -16,7 +16,7 @@ use Rattle.dt_decompile.specs.Passed.{IsPassed}
 use Rattle.dt_decompile.proofs.Passing.{passed_then}
 use Rattle.dt_view.specs.Views.{IsFoundBy, WhyNotFound}
 use Rattle.dt_resolve_lines.specs.Asked.{answer_words, IsAnswer, WhyNoNode, WhyNotAsked, WhyUntold, no_answer, unanswered, cut, refusal, failure}
-use Rattle.dt_resolve_lines.specs.declared.asking.Question.{Question}
+use Rattle.dt_resolve_model.specs.declared.questions.Question.{Question}
 
 -- some bytes passed an empty buffer, which was emptied again
 pub taken_whole : (a b c : Taken) (w xs v u : List ℕ) (r : Result (Unit {0}) Fault) → w ≡ [] → IsPassed a b w xs v → OnOk r (IsPassed b c v [] u) → OnOk r (u ≡ []) → OnOk r (Takes xs a c)

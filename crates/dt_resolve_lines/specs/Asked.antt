@@ -17,8 +17,8 @@ use Rattle.dt_resolve_model.specs.World.{World, tree_world}
 use Rattle.dt_resolve_model.specs.Regions.{dma_region}
 use Rattle.dt_resolve_model.specs.Specifiers.{specifier_route}
 use Rattle.dt_resolve_lines.specs.Lines.{region_words, route_words}
-use Rattle.dt_resolve_lines.specs.declared.asking.Question.{Question}
-use Rattle.dt_resolve_lines.specs.declared.asking.Question.TheVariants.{Dma, Specifier}
+use Rattle.dt_resolve_model.specs.declared.questions.Question.{Question}
+use Rattle.dt_resolve_model.specs.declared.questions.Question.TheVariants.{Dma, Specifier}
 
 -- what a node reaches by DMA, as a line
 abbrev pub dma_words : World → Path → ℕ → ℕ → Answer (List ℕ)

@@ -6,7 +6,7 @@ ghost use Rattle.dt_names.specs.declared.fault.Fault.{Fault};
 ghost use Rattle.dt_resolve_model.specs.Answers.{Answer, answer};
 ghost use Rattle.dt_resolve_lines.specs.Asked.{IsAnswer, WhyUnanswered};
 ghost use Rattle.dt_resolve_lines.specs.Listed.{AreFirstOf, AreLinesOf};
-ghost use Rattle.dt_resolve_lines.specs.declared.asking.Question.{Question};
+ghost use Rattle.dt_resolve_model.specs.declared.questions.Question.{Question};
 ghost use Rattle.dt_resolve_lines.specs.declared.listing.Listing.{Listing};
 
 use dt_names::one_path;

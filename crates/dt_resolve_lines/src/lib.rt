@@ -17,6 +17,7 @@ mod regions;
 mod routes;
 mod words;
 
-pub use asking::{Question, ask};
+pub use asking::ask;
+pub use dt_resolve_model::Question;
 pub use laws::{one_answering, one_listing};
 pub use listing::{Listing, irqs, regs};

@@ -3,12 +3,14 @@
 #![tactic(auto)]
 
 mod laws;
+mod questions;
 mod regions;
 mod rows;
 
 pub use laws::{
     faults_are_named, meaning_is_resolved, parent_is_one, route_is_one, written_numbers_are_found,
 };
+pub use questions::Question;
 pub use regions::{BusAddress, BusCells, RangeCells, Region};
 pub use rows::{
     addresses_at_the_end, addresses_of_a_board, addresses_sent_by_a_device,

@@ -7,7 +7,7 @@ use Rattle.dt_model.specs.Source.{Mode, base}
 use Rattle.dt_model.specs.Tree.{Reading}
 use Rattle.dt_names.specs.declared.fault.Fault.{Fault}
 use Rattle.dt_names.specs.declared.fault.FaultKind.{FaultKind}
-use Rattle.dt_names.specs.declared.fault.FaultKind.TheVariants.{NoMemory, WriteFault}
+use Rattle.dt_names.specs.declared.fault.FaultKind.TheVariants.{WriteFault}
 use Rattle.dt_model.specs.Path.{Path}
 use Rattle.dt_read.specs.Kinds.{kind_of}
 use Rattle.dt_resolve_model.specs.Answers.{Answer, undetermined, refused, answer, ◌>>=◌}
@@ -19,23 +19,16 @@ use Rattle.dt_resolve_model.proofs.NamedRoutes.{are_named}
 use Rattle.dt_resolve_lines.specs.Asked as asked
 use Rattle.dt_resolve_lines.specs.Asked.{answer_words, WhyNoNode, WhyUnanswered}
 use Rattle.dt_resolve_lines.specs.Lines.{region_words, route_words}
-use Rattle.dt_resolve_lines.specs.declared.asking.Question.{Question}
-use Rattle.dt_resolve_lines.specs.declared.asking.Question.TheVariants as ask
+use Rattle.dt_resolve_model.specs.declared.questions.Question.{Question}
+use Rattle.dt_resolve_model.specs.declared.questions.Question.TheVariants as ask
 use Rattle.dt_chain_promises.specs.Apply.{IsNoBlob, WhyNoBlobApplied, WhyNoStep, WhyNoneOfAll}
 use Rattle.dt_chain_promises.specs.Build.{WhyNoObject, WhyNoBlobBuilt}
 use Rattle.dt_chain_promises.specs.Compile as compile
 use Rattle.dt_chain_promises.specs.Compile.{IsCompilerFault, WhyNoTree, WhyNotCompiled}
 use Rattle.dt_chain_promises.specs.Apply as inputs
+use Rattle.dt_run.specs.Showing.{IsOfInput, IsUnwritten}
 use Rattle.dt_chain_promises.proofs.ToldKinds.{base_kind, overlay_kind}
 use Rattle.dt_chain_promises.proofs.Places.{memory_unplaced, overlay_unplaced}
-
--- a fault that no sink has
-abbrev pub IsUnwritten : FaultKind → Type 0
-IsUnwritten WriteFault = ⊥
-IsUnwritten _ = Unit {0}
-
-abbrev pub IsOfInput : Fault → Type 0
-IsOfInput e = IsUnwritten e.kind × (e.kind ≡ NoMemory → e.at ≡ None)
 
 pub compiler_only : (kind : FaultKind) → IsCompilerFault kind → IsUnwritten kind
 compiler_only WriteFault own = absurd own

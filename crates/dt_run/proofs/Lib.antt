@@ -1,3 +1,4 @@
 pub mod InputFaults
+pub mod Outcomes
 pub mod Performing
 pub mod Runs

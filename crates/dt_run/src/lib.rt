@@ -10,9 +10,13 @@
 #![tactic(auto)]
 
 mod job;
+mod laws;
 mod running;
 mod showing;
+mod task;
 
 pub use dt_run_streams::{Files, Prompt, SystemFiles, load_all, report};
 pub use job::perform;
+pub use laws::one_outcome;
 pub use running::run;
+pub use task::{Making, Report, Task, task_of};

@@ -2,7 +2,7 @@
 
 ghost use Rattle.std.specs.Prelude.{◌≡◌, Ok, Err, OnOk, IfOk, IfErr, MatchResult};
 ghost use Rattle.dt_names.specs.Sink.{Takes, IsUntouched};
-ghost use Rattle.dt_run.specs.Job.{encoded};
+ghost use Rattle.dt_run.specs.Task.{encoded};
 ghost use Rattle.dt_run.specs.Showing.{WhyNotShown};
 
 use dt_names::{Fault, Sink, put_all};

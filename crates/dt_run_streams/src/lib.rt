@@ -13,6 +13,7 @@
 mod checking;
 mod files;
 mod input;
+mod laws;
 mod printing;
 mod prompt;
 mod reporting;
@@ -21,6 +22,7 @@ mod text;
 pub use checking::check;
 pub use files::{Files, SystemFiles, load_all};
 pub use input::read_all;
+pub use laws::one_report;
 pub use printing::print;
 pub use prompt::Prompt;
 pub use reporting::report;

@@ -11,6 +11,7 @@
 
 mod command_line;
 mod commands;
+mod laws;
 mod words;
 
 pub use command_line::{Job, Line};

@@ -2,5 +2,4 @@
 pub mod Shape
 pub mod Grown
 pub mod Growing
--- inside
 pub mod Table
