@@ -11,11 +11,13 @@
 
 mod cells;
 mod fixup_texts;
+mod laws;
 mod mirror;
 mod overlays;
 mod paths;
 mod symbols;
 mod waiting;
 
+pub use laws::one_outcome;
 pub use overlays::add_fixups;
 pub use symbols::add_symbols;
