@@ -8,8 +8,7 @@ use Rattle.dt_resolve_model.specs.Answers.{Answer, answer, refused, refuse, ◌>
 use Rattle.dt_resolve_model.specs.World.{Quad, World, tree_world, quads_of, value_of_bytes}
 use Rattle.dt_resolve_model.specs.Interrupts.{Sent, Entry, first_entry, entry_sent, is_ragged, specifier_count, IsSent}
 use Rattle.dt_resolve_model.proofs.Entries.{entry_there, entry_past}
-use Rattle.dt_irq.specs.Left.{entry_listed, AreListed, AreExtended}
-use Rattle.dt_irq.specs.declared.lists.Listed.{Listed}
+use Rattle.dt_irq.specs.Left.{ListLeft, entry_listed, AreListed, AreExtended}
 use Rattle.dt_irq.proofs.Listing.{sent_first}
 
 pub at_once : (w : World) (p : Path) (i : ℕ) (r r' : Answer Sent) → r ≡ r' → IsSent w p (i + 0) r → IsSent w p i r'
@@ -60,26 +59,26 @@ extended_stays t p i rest e first left k =
 abbrev as_sent : Path → Answer (List Quad) → Answer Sent
 as_sent q x = x >>= λ e. answer (record { node = q; specifier = e })
 
-pub listed_none : (t : PlacedTree) (p : Path) (i k : ℕ) (r : Listed) → AreListed t p i r → r.count ≤ k → IsSent (tree_world (reading_of t)) p (i + k) (refuse NoInterrupts)
+pub listed_none : (t : PlacedTree) (p : Path) (i k : ℕ) (r : ListLeft) → AreListed t p i r → r.count ≤ k → IsSent (tree_world (reading_of t)) p (i + k) (refuse NoInterrupts)
 listed_none t p i k r left past =
-    subst (IsSent (tree_world (reading_of t)) p (i + k)) (ap (as_sent (path_at t r.parent)) (entry_past NoInterrupts k r.count r.cells (quads_of r.rest.now) past)) (left.left k)
+    subst (IsSent (tree_world (reading_of t)) p (i + k)) (ap (as_sent (path_at t r.parent)) (entry_past NoInterrupts k r.count r.cells (quads_of r.bytes) past)) (left.left k)
 
-pub listed_one : (t : PlacedTree) (p : Path) (i k : ℕ) (r : Listed) (specifier : List Quad) → AreListed t p i r → k < r.count → specifier ≡ take r.cells (drop (k * r.cells) (quads_of r.rest.now))
+pub listed_one : (t : PlacedTree) (p : Path) (i k : ℕ) (r : ListLeft) (specifier : List Quad) → AreListed t p i r → k < r.count → specifier ≡ take r.cells (drop (k * r.cells) (quads_of r.bytes))
     → IsSent (tree_world (reading_of t)) p (i + k) (answer (record { node = path_at t r.parent; specifier = specifier }))
 listed_one t p i k r specifier left lt is =
-    subst (IsSent (tree_world (reading_of t)) p (i + k)) (ap (as_sent (path_at t r.parent)) (entry_there NoInterrupts k r.count r.cells (quads_of r.rest.now) lt) ∙ ap (λ e. answer (record { node = path_at t r.parent; specifier = e })) (sym is)) (left.left k)
+    subst (IsSent (tree_world (reading_of t)) p (i + k)) (ap (as_sent (path_at t r.parent)) (entry_there NoInterrupts k r.count r.cells (quads_of r.bytes) lt) ∙ ap (λ e. answer (record { node = path_at t r.parent; specifier = e })) (sym is)) (left.left k)
 
-pub listed_later : (t : PlacedTree) (p : Path) (i n : ℕ) (r new : Listed) → AreListed t p i r → r.count ≡ suc n → new.parent ≡ r.parent → new.cells ≡ r.cells → new.count ≡ n → length new.rest.now ≡ length r.rest.now - 4 * r.cells
-    → quads_of new.rest.now ≡ drop r.cells (quads_of r.rest.now) → AreListed t p (i + 1) new
+pub listed_later : (t : PlacedTree) (p : Path) (i n : ℕ) (r new : ListLeft) → AreListed t p i r → r.count ≡ suc n → new.parent ≡ r.parent → new.cells ≡ r.cells → new.count ≡ n → length new.bytes ≡ length r.bytes - 4 * r.cells
+    → quads_of new.bytes ≡ drop r.cells (quads_of r.bytes) → AreListed t p (i + 1) new
 listed_later t p i n r new left count parent cells fewer shorter rest = record {
   parent = subst (IsNode t) (sym parent) left.parent;
   some = subst (λ c. 1 ≤ c) (sym cells) left.some;
   few = subst (λ c. c ≤ 8) (sym cells) left.few;
-  long = subst (λ c. length new.rest.now ≡ new.count * (4 * c)) (sym cells) long;
+  long = subst (λ c. length new.bytes ≡ new.count * (4 * c)) (sym cells) long;
   left = λ k. one_later (tree_world (reading_of t)) p i k _ _
-      (ap (λ m. entry_listed (path_at t r.parent) (suc k) m r.cells (quads_of r.rest.now)) count
+      (ap (λ m. entry_listed (path_at t r.parent) (suc k) m r.cells (quads_of r.bytes)) count
       ∙ ap (λ c. entry_listed (path_at t r.parent) k n r.cells c) (sym rest)
-      ∙ (λ j. entry_listed (path_at t (parent' j)) k (fewer' j) (cells' j) (quads_of new.rest.now)))
+      ∙ (λ j. entry_listed (path_at t (parent' j)) k (fewer' j) (cells' j) (quads_of new.bytes)))
       (left.left (suc k));
 }
   where
@@ -92,9 +91,9 @@ listed_later t p i n r new left count parent cells fewer shorter rest = record {
     cells' : r.cells ≡ new.cells
     cells' = sym cells
 
-    long : length new.rest.now ≡ new.count * (4 * r.cells)
+    long : length new.bytes ≡ new.count * (4 * r.cells)
     long =
         let product : suc n * (4 * r.cells) ≡ n * (4 * r.cells) + 4 * r.cells = grind arith in
-        let all : length r.rest.now ≡ n * (4 * r.cells) + 4 * r.cells = left.long ∙ ap (λ m. m * (4 * r.cells)) count ∙ product in
+        let all : length r.bytes ≡ n * (4 * r.cells) + 4 * r.cells = left.long ∙ ap (λ m. m * (4 * r.cells)) count ∙ product in
         let same : n * (4 * r.cells) ≡ new.count * (4 * r.cells) = ap (λ m. m * (4 * r.cells)) fewer' in
         omega arith

@@ -7,7 +7,7 @@ ghost use Rattle.dt_read.specs.Placed.{path_at, IsNode};
 ghost use Rattle.dt_resolve_model.specs.Answers.{answer, refuse, refused, told_as};
 ghost use Rattle.dt_resolve_model.specs.World.{value_of_bytes};
 ghost use Rattle.dt_resolve_model.specs.Interrupts.{listed_at, IsSent};
-ghost use Rattle.dt_irq.specs.Left.{bytes_left, AreEntriesOf, AreListed, AreSentFrom, IsSentFrom};
+ghost use Rattle.dt_irq.specs.Left.{bytes_left, entries_left, list_left, AreEntriesOf, AreListed, AreSentFrom, IsSentFrom};
 ghost use Rattle.dt_irq.specs.Seen.{sent_in, IsSpecified};
 ghost use Rattle.dt_view.specs.Views.{world_of};
 
@@ -38,7 +38,7 @@ impl<'v> Listed<'v> {
     fn of<V: TreeView>(view: &V, parent: NodeId, list: &'v [u8]) -> Result<Listed<'v>, Fault>
         requires { IsNode (V.tree view.now) parent }
         ensures parent { IfOk result (λ listed. listed.parent ≡ parent) }
-        ensures left { IfOk result (AreEntriesOf (V.tree view.now) list.now) }
+        ensures left { IfOk result (λ listed. AreEntriesOf (V.tree view.now) list.now (list_left listed)) }
         ensures refused { IfErr result (λ fault. (i : ℕ) → listed_at (world_of (V.tree view.now)) i (value_of_bytes list.now) (path_at (V.tree view.now) parent) ≡ refused fault) }
     {
         let cells = interrupt_cells(view, parent)?;
@@ -55,8 +55,8 @@ impl<'v> Listed<'v> {
 
     /// The entry that has so many before it; None where it isn't there.
     fn nth<V: TreeView>(&self, view: &V, index: u64) -> Option<Sent<'v>>
-        requires { (p : Path) × (i : ℕ) × AreListed (V.tree view.now) p i self.now }
-        ensures is { (p : Path) (i : ℕ) → AreListed (V.tree view.now) p i self.now
+        requires { (p : Path) × (i : ℕ) × AreListed (V.tree view.now) p i (list_left self.now) }
+        ensures is { (p : Path) (i : ℕ) → AreListed (V.tree view.now) p i (list_left self.now)
             → MatchOption result (IsSent (world_of (V.tree view.now)) p (i + index) (refuse NoInterrupts))
             (λ sent. IsSent (world_of (V.tree view.now)) p (i + index) (answer (sent_in (V.tree view.now) sent))) }
         ensures specified { IfSome result (λ sent. IsSpecified (V.tree view.now) sent.node sent.specifier.now) }
@@ -77,10 +77,10 @@ impl<'v> Listed<'v> {
 
     /// The next entry; None behind the last one.
     fn next<V: TreeView>(&mut self, view: &V) -> Option<Sent<'v>>
-        requires { (p : Path) × (i : ℕ) × AreListed (V.tree view.now) p i self.old }
-        ensures is { (p : Path) (i : ℕ) → AreListed (V.tree view.now) p i self.old
-            → MatchOption result (IsSent (world_of (V.tree view.now)) p i (refuse NoInterrupts) × AreListed (V.tree view.now) p i self.new)
-            (λ sent. IsSent (world_of (V.tree view.now)) p i (answer (sent_in (V.tree view.now) sent)) × AreListed (V.tree view.now) p (i + 1) self.new) }
+        requires { (p : Path) × (i : ℕ) × AreListed (V.tree view.now) p i (list_left self.old) }
+        ensures is { (p : Path) (i : ℕ) → AreListed (V.tree view.now) p i (list_left self.old)
+            → MatchOption result (IsSent (world_of (V.tree view.now)) p i (refuse NoInterrupts) × AreListed (V.tree view.now) p i (list_left self.new))
+            (λ sent. IsSent (world_of (V.tree view.now)) p i (answer (sent_in (V.tree view.now) sent)) × AreListed (V.tree view.now) p (i + 1) (list_left self.new)) }
         ensures specified { IfSome result (λ sent. IsSpecified (V.tree view.now) sent.node sent.specifier.now) }
         ensures shorter { IfSome result (λ _. length self.new.rest.now < length self.old.rest.now) }
     {
@@ -98,7 +98,7 @@ impl<'v> Entries<'v> {
     /// interrupt parent, or `BadCells` of a list that isn't whole entries.
     pub fn of<V: TreeView>(view: &'v V, node: NodeId) -> Result<Entries<'v>, Fault>
         requires { IsNode (V.tree view.now) node }
-        ensures left { IfOk result (AreSentFrom (V.tree view.now) (path_at (V.tree view.now) node) 0) }
+        ensures left { IfOk result (λ entries. AreSentFrom (V.tree view.now) (path_at (V.tree view.now) node) 0 (entries_left entries)) }
         ensures refused { IfErr result (λ fault. (i : ℕ) → IsSent (world_of (V.tree view.now)) (path_at (V.tree view.now) node) i (refused fault)) }
     {
         if let Some(list) = view.value(node, b"interrupts-extended") {
@@ -114,8 +114,8 @@ impl<'v> Entries<'v> {
 
     /// Where the entry is sent that has so many before it among those left.
     pub fn nth<V: TreeView>(&self, view: &V, index: u64) -> Result<Sent<'v>, Fault>
-        requires { IsSentFrom (V.tree view.now) self.now }
-        ensures is { (p : Path) (i : ℕ) → AreSentFrom (V.tree view.now) p i self.now → IsSent (world_of (V.tree view.now)) p (i + index) (told_as (sent_in (V.tree view.now)) result) }
+        requires { IsSentFrom (V.tree view.now) (entries_left self.now) }
+        ensures is { (p : Path) (i : ℕ) → AreSentFrom (V.tree view.now) p i (entries_left self.now) → IsSent (world_of (V.tree view.now)) p (i + index) (told_as (sent_in (V.tree view.now)) result) }
         ensures specified { IfOk result (λ sent. IsSpecified (V.tree view.now) sent.node sent.specifier.now) }
     {
         match *self {
@@ -129,12 +129,12 @@ impl<'v> Entries<'v> {
 
     /// Where the next entry is sent, or why it isn't; None behind the last one.
     pub fn next<V: TreeView>(&mut self, view: &V) -> Option<Result<Sent<'v>, Fault>>
-        requires { IsSentFrom (V.tree view.now) self.old }
-        ensures is { (p : Path) (i : ℕ) → AreSentFrom (V.tree view.now) p i self.old
-            → MatchOption result (IsSent (world_of (V.tree view.now)) p i (refuse NoInterrupts) × AreSentFrom (V.tree view.now) p i self.new)
-            (λ r. IsSent (world_of (V.tree view.now)) p i (told_as (sent_in (V.tree view.now)) r) × AreSentFrom (V.tree view.now) p (i + 1) self.new) }
+        requires { IsSentFrom (V.tree view.now) (entries_left self.old) }
+        ensures is { (p : Path) (i : ℕ) → AreSentFrom (V.tree view.now) p i (entries_left self.old)
+            → MatchOption result (IsSent (world_of (V.tree view.now)) p i (refuse NoInterrupts) × AreSentFrom (V.tree view.now) p i (entries_left self.new))
+            (λ r. IsSent (world_of (V.tree view.now)) p i (told_as (sent_in (V.tree view.now)) r) × AreSentFrom (V.tree view.now) p (i + 1) (entries_left self.new)) }
         ensures specified { IfSome result (λ r. IfOk r (λ sent. IsSpecified (V.tree view.now) sent.node sent.specifier.now)) }
-        ensures shorter { IfSome result (λ r. OnOk r (bytes_left self.new < bytes_left self.old)) }
+        ensures shorter { IfSome result (λ r. OnOk r (bytes_left (entries_left self.new) < bytes_left (entries_left self.old))) }
     {
         match *self {
             Entries::Extended(rest) => {

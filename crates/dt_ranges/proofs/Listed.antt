@@ -12,8 +12,7 @@ use Rattle.dt_resolve_model.specs.World.{Quad, World, quads_of, value_of_bytes, 
 use Rattle.dt_resolve_model.specs.Regions.{joined, cells_at, bus_cells, entries, entries_of, entry_at, region_at, listed, region}
 use Rattle.dt_resolve_model.proofs.Entries.{entries_whole, entry_there, entry_past}
 use Rattle.dt_read.specs.Placed.{PlacedTree, path_at, reading_of, IsNode}
-use Rattle.dt_ranges.specs.Left.{region_of, AreLeft}
-use Rattle.dt_ranges.specs.declared.listing.Regions.{Regions}
+use Rattle.dt_ranges.specs.Left.{region_of, AreFrom, RegionsLeft}
 use Rattle.dt_ranges.proofs.RangesMap.{part_of}
 
 -- what a node's `reg` gives, where its bus has bus_cells and its length is right
@@ -45,13 +44,13 @@ listed_left t p q reg own i some is there has width even =
     ap (region (tree_world t) p) (let e : 0 + i ≡ i = omega arith in e) ∙ region_listed t p q i reg own some is there has width even
 
 -- behind the last entry
-pub left_past : (t : PlacedTree) (p : Path) (i k : ℕ) (r : Regions) → AreLeft t p i r → r.count ≤ k → region (tree_world (reading_of t)) p (i + k) ≡ refuse NoReg
+pub left_past : (t : PlacedTree) (p : Path) (i k : ℕ) (r : RegionsLeft) → AreFrom t p i r → r.count ≤ k → region (tree_world (reading_of t)) p (i + k) ≡ refuse NoReg
 left_past t p i k r left past =
     left.left k
-    ∙ ap (λ (x : Answer (List Quad)). x >>= region_of (tree_world (reading_of t)) (path_at t r.bus) r.own) (entry_past NoReg k r.count (r.own.address + r.own.size) (quads_of r.rest.now) past)
+    ∙ ap (λ (x : Answer (List Quad)). x >>= region_of (tree_world (reading_of t)) (path_at t r.bus) r.own) (entry_past NoReg k r.count (r.own.address + r.own.size) (quads_of r.bytes) past)
 
 -- at an entry
-pub left_there : (t : PlacedTree) (p : Path) (i k : ℕ) (r : Regions) (rest : List ℕ) (address size : ℕ) → AreLeft t p i r → k < r.count → quads_of rest ≡ drop (k * (r.own.address + r.own.size)) (quads_of r.rest.now)
+pub left_there : (t : PlacedTree) (p : Path) (i k : ℕ) (r : RegionsLeft) (rest : List ℕ) (address size : ℕ) → AreFrom t p i r → k < r.count → quads_of rest ≡ drop (k * (r.own.address + r.own.size)) (quads_of r.bytes)
     → joined (cells_at 0 r.own.address (quads_of rest)) ≡ answer address → joined (cells_at r.own.address r.own.size (quads_of rest)) ≡ answer size
     → region (tree_world (reading_of t)) p (i + k) ≡ region_at (tree_world (reading_of t)) (codes "ranges") (path_at t r.bus) address size
 left_there t p i k r rest address size left lt cells at long =
@@ -59,7 +58,7 @@ left_there t p i k r rest address size left lt cells at long =
     let q = path_at t r.bus in
     let own = r.own in
     let w = own.address + own.size in
-    let all = quads_of r.rest.now in
+    let all = quads_of r.bytes in
     let at' : joined (cells_at 0 own.address (take w (drop (k * w) all))) ≡ answer address = ap joined (part_of w 0 own.address (drop (k * w) all) (omega arith) ∙ ap (cells_at 0 own.address) (sym cells)) ∙ at in
     let long' : joined (cells_at own.address own.size (take w (drop (k * w) all))) ≡ answer size = ap joined (part_of w own.address own.size (drop (k * w) all) (omega arith) ∙ ap (cells_at own.address own.size) (sym cells)) ∙ long in
     left.left k
@@ -68,16 +67,16 @@ left_there t p i k r rest address size left lt cells at long =
     ∙ ap (λ (x : Answer ℕ). x >>= λ (s : ℕ). region_at world (codes "ranges") q address s) long'
 
 -- past an entry
-pub left_behind : (t : PlacedTree) (p : Path) (i n : ℕ) (r new : Regions) → AreLeft t p i r → r.count ≡ suc n → new.bus ≡ r.bus → new.own ≡ r.own → new.count ≡ n → length new.rest.now ≡ length r.rest.now - 4 * (r.own.address + r.own.size)
-    → quads_of new.rest.now ≡ drop (r.own.address + r.own.size) (quads_of r.rest.now) → AreLeft t p (i + 1) new
+pub left_behind : (t : PlacedTree) (p : Path) (i n : ℕ) (r new : RegionsLeft) → AreFrom t p i r → r.count ≡ suc n → new.bus ≡ r.bus → new.own ≡ r.own → new.count ≡ n → length new.bytes ≡ length r.bytes - 4 * (r.own.address + r.own.size)
+    → quads_of new.bytes ≡ drop (r.own.address + r.own.size) (quads_of r.bytes) → AreFrom t p (i + 1) new
 left_behind t p i n r new left count bus own fewer shorter cells = record {
   bus = subst (IsNode t) (sym bus) left.bus;
   address = subst (λ (c : BusCells). c.address ≤ 4) (sym own) left.address;
   size = subst (λ (c : BusCells). c.size ≤ 4) (sym own) left.size;
-  long = subst (λ (c : BusCells). length new.rest.now ≡ new.count * (4 * (c.address + c.size))) (sym own) long;
-  left = λ k. ap (region world p) (let e : i + 1 + k ≡ i + suc k = omega arith in e) ∙ left.left (suc k) ∙ ap (λ m. entry_at NoReg (suc k) (entries m w (quads_of r.rest.now)) >>= region_of world (path_at t r.bus) r.own) count
+  long = subst (λ (c : BusCells). length new.bytes ≡ new.count * (4 * (c.address + c.size))) (sym own) long;
+  left = λ k. ap (region world p) (let e : i + 1 + k ≡ i + suc k = omega arith in e) ∙ left.left (suc k) ∙ ap (λ m. entry_at NoReg (suc k) (entries m w (quads_of r.bytes)) >>= region_of world (path_at t r.bus) r.own) count
       ∙ ap (λ c. entry_at NoReg k (entries n w c) >>= region_of world (path_at t r.bus) r.own) (sym cells)
-      ∙ (λ j. entry_at NoReg k (entries (fewer' j) (width j) (quads_of new.rest.now)) >>= region_of world (path_at t (bus' j)) (own' j));
+      ∙ (λ j. entry_at NoReg k (entries (fewer' j) (width j) (quads_of new.bytes)) >>= region_of world (path_at t (bus' j)) (own' j));
 }
   where
     world : World
@@ -98,9 +97,9 @@ left_behind t p i n r new left count bus own fewer shorter cells = record {
     width : w ≡ new.own.address + new.own.size
     width = ap (λ (c : BusCells). c.address + c.size) own'
 
-    long : length new.rest.now ≡ new.count * (4 * w)
+    long : length new.bytes ≡ new.count * (4 * w)
     long =
         let product : suc n * (4 * w) ≡ n * (4 * w) + 4 * w = grind arith in
-        let all : length r.rest.now ≡ n * (4 * w) + 4 * w = left.long ∙ ap (λ m. m * (4 * w)) count ∙ product in
+        let all : length r.bytes ≡ n * (4 * w) + 4 * w = left.long ∙ ap (λ m. m * (4 * w)) count ∙ product in
         let same : n * (4 * w) ≡ new.count * (4 * w) = ap (λ m. m * (4 * w)) fewer' in
         omega arith

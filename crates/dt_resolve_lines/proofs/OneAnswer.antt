@@ -1,5 +1,5 @@
 -- The node of a path answers one thing to a question, or there is one reason why it doesn't.
-use Rattle.std.proofs.Common.{◌≡◌, ℕ, true, true≢false, List, Option, refl, sym, ap, subst, ◌∙◌}
+use Rattle.std.proofs.Common.{◌≡◌, ℕ, true≢false, List, Option, refl, sym, ap, subst, ◌∙◌}
 use Rattle.std.specs.List.{AllByRecursion}
 use Rattle.dt_model.specs.Names.{IsNodeName}
 use Rattle.dt_model.specs.Path.{Path, path_text}

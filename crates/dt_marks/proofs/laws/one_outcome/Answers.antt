@@ -1,4 +1,4 @@
-use Rattle.std.proofs.Common.{◌≡◌, ◌≢◌, ℕ, List, ◌∷◌, [], length, arith, refl}
+use Rattle.std.proofs.Common.{◌≡◌, ◌≢◌, List, ◌∷◌, [], arith, refl}
 use Rattle.dt_flat.specs.Arena.{Arena, IsRooted, reading}
 use Rattle.dt_flat.proofs.Counting.{nodes-counted}
 use Rattle.dt_marks.proofs.Counting.{count_followed}

@@ -1,4 +1,4 @@
-use Rattle.std.proofs.Common.{◌≡◌, ◌++◌, codes, decimal, take, refl, ap}
+use Rattle.std.proofs.Common.{◌++◌, codes, decimal, take, refl, ap}
 use Rattle.dt_model.specs.Path.{path_text}
 use Rattle.dt_read.specs.Placed.{path_at}
 use Rattle.dt_decompile.proofs.Passing.{passed_then, exits_first, exits_at, passed_last, refused_last, turned}

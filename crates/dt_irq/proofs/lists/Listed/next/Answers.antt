@@ -27,7 +27,7 @@ returns-clause-is g c = λ p i left.
     let some = c.in-Some.ensures.there in
     let t = g.V.TreeView.tree c.args.view.now in (
       at_once (tree_world (reading_of t)) p i (answer (sent_in t c.in-Some.sent)) (answer (sent_in t c.in-Some.sent)) refl (c.in-Some.ensures.is p i left),
-      listed_later (g.V.TreeView.tree c.args.view.now) p i (c.args.self.now.count - 1) c.args.self.now _ left (omega arith) refl refl refl (ap length c.cells_after-self.ensures.bytes ∙ length-drop (4 * c.args.self.now.cells) c.args.self.now.rest.now) c.cells_after-self.ensures.cells,
+      listed_later (g.V.TreeView.tree c.args.view.now) p i (c.args.self.now.count - 1) _ _ left (omega arith) refl refl refl (ap length c.cells_after-self.ensures.bytes ∙ length-drop (4 * c.args.self.now.cells) c.args.self.now.rest.now) c.cells_after-self.ensures.cells,
     )
 
 pub returns-clause-shorter : goal.returns-clause-shorter
