@@ -15,4 +15,5 @@ mod laws;
 mod words;
 
 pub use command_line::{Job, Line};
+pub use laws::one_line;
 pub use words::{LineFault, line};
