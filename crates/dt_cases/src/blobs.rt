@@ -14,7 +14,8 @@ use dt_read::Blob;
 use dt_write::write_blob;
 use std::alloc::{AllocError, Global};
 
-/// `compile` gives a source's blob, `compile-raw` that of a raw source; `check` tells what a blob holds, in a line, `read` its tree and `root` its root; `rewrite`
+/// `compile` gives a source's blob, `compile-raw` that of a raw source; `check` tells what a blob holds, in a line, `read` its
+/// tree and `root` its root; `rewrite`
 /// gives the blob of its tree. Of any bytes, `size` tells how many they are, `first N` gives the first ones, and
 /// `change AT HEX` gives them with others at a place. `structure HEX` gives a blob with the bytes as its structure block, and with
 /// these ones as its strings block.

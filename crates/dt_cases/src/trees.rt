@@ -12,7 +12,8 @@ use std::alloc::Global;
 /// `tree [CPU]` tells what the steps on a new tree tell: each that is refused its fault, one that speaks of a node that isn't there `no node`, `read`
 /// the tree's lines, `count` how many nodes there are, and `value NODE NAME` a value. `tree-blob [CPU]` gives the blob of the tree behind the last
 /// step, if memory was refused to none. Steps end with `;`. They are `reserve ADDRESS SIZE`,
-/// `node PARENT NAME`, `set NODE NAME [HEX]`, `set-number NODE NAME NUMBER` and `set-size NODE NAME SIZE`, of a value of so many bytes. A node is its number: 0 is
+/// `node PARENT NAME`, `set NODE NAME [HEX]`, `set-number NODE NAME NUMBER` and `set-size NODE NAME SIZE`, of a value of so many
+/// bytes. A node is its number: 0 is
 /// the root's, and each new node has the next one.
 pub fn call(
     alloc: Global,

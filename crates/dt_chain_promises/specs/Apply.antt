@@ -54,7 +54,8 @@ pub data WhyNoStep (has_object : List ℕ → Reading → Type 0) (lacks_object 
       WhyNoStep has_object lacks_object t input (placeless kind)
 
 -- of the inputs, counted from 1, it is this one that isn't applied, where all before it are
-pub record IsStopped (has_object : List ℕ → Reading → Type 0) (lacks_object : List ℕ → Fault → Type 0) (t : Reading) (inputs : List (List ℕ)) (k : ℕ) (e : Fault) : Type 0 where
+pub record IsStopped (has_object : List ℕ → Reading → Type 0) (lacks_object : List ℕ → Fault → Type 0) (t : Reading)
+    (inputs : List (List ℕ)) (k : ℕ) (e : Fault) : Type 0 where
   pub front : List (List ℕ)
   pub input : List ℕ
   pub back : List (List ℕ)
@@ -65,7 +66,8 @@ pub record IsStopped (has_object : List ℕ → Reading → Type 0) (lacks_objec
   pub why : WhyNoStep has_object lacks_object before input e
 
 -- Why there is none: the number of the input at which it shows, where the base has number 0, and its fault.
-pub data WhyNoneOfAll (has_base has_object : List ℕ → Reading → Type 0) (lacks_base lacks_object : List ℕ → Fault → Type 0) (base : List ℕ) (inputs : List (List ℕ)) : ℕ → Fault → Type 0 where
+pub data WhyNoneOfAll (has_base has_object : List ℕ → Reading → Type 0) (lacks_base lacks_object : List ℕ → Fault → Type 0) (base : List ℕ)
+    (inputs : List (List ℕ)) : ℕ → Fault → Type 0 where
   -- memory may be refused at any input
   no_memory : (k : ℕ) → k ≤ length inputs → WhyNoneOfAll has_base has_object lacks_base lacks_object base inputs k (placeless NoMemory)
   -- the base has no tree

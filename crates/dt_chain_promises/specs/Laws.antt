@@ -56,7 +56,8 @@ OneRawRefusal = (text : List ℕ) (e f : Fault) → WhyNotCompiled raw text e �
 
 -- applying answers one blob
 abbrev pub OneBlobApplied : Type 0
-OneBlobApplied = (bytes : List ℕ) (objects : List (List ℕ)) (blob other : List ℕ) → IsBlobApplied bytes objects blob → IsBlobApplied bytes objects other → blob ≡ other
+OneBlobApplied = (bytes : List ℕ) (objects : List (List ℕ)) (blob other : List ℕ) → IsBlobApplied bytes objects blob
+    → IsBlobApplied bytes objects other → blob ≡ other
 
 -- or refuses, and not both, unless memory is wanted
 abbrev pub AppliedIsNotRefused : Type 0
@@ -70,7 +71,8 @@ OneRefusalToApply = (bytes : List ℕ) (objects : List (List ℕ)) (k j : ℕ) (
 
 -- the same of building
 abbrev pub OneBlobBuilt : Type 0
-OneBlobBuilt = (text : List ℕ) (overlays : List (List ℕ)) (blob other : List ℕ) → IsBlobBuilt text overlays blob → IsBlobBuilt text overlays other → blob ≡ other
+OneBlobBuilt = (text : List ℕ) (overlays : List (List ℕ)) (blob other : List ℕ) → IsBlobBuilt text overlays blob
+    → IsBlobBuilt text overlays other → blob ≡ other
 
 abbrev pub BuiltIsNotRefused : Type 0
 BuiltIsNotRefused = (text : List ℕ) (overlays : List (List ℕ)) (blob : List ℕ) (k : ℕ) (e : Fault)
@@ -232,17 +234,20 @@ NotBuiltIsNoMeaning = (text : List ℕ) (texts : List (List ℕ)) (k : ℕ) (e :
 -- determines, an answer or a fault, is the one of the blob's tree.
 abbrev pub BuildingIsResolved : Type 0
 BuildingIsResolved = (text : List ℕ) (texts : List (List ℕ)) (blob : List ℕ)
-    → IsOfBytes text → AllByRecursion IsOfBytes texts → IsBlobBuilt text texts blob → (h : BlobIsOfTexts text texts blob) × IsResolvedIn h.of_meaning.tree h.result
+    → IsOfBytes text → AllByRecursion IsOfBytes texts → IsBlobBuilt text texts blob → (h : BlobIsOfTexts text texts blob)
+    × IsResolvedIn h.of_meaning.tree h.result
 
 -- and so is what applying answers, whoever wrote the base and the objects (see `ApplyingIsMerging`)
 abbrev pub ApplyingIsResolved : Type 0
 ApplyingIsResolved = (bytes : List ℕ) (objects : List (List ℕ)) (blob : List ℕ) (m : Meaning) (overlays : List Overlay) (number : Path → ℕ)
     → IsBlobOfMeaning bytes m number → AreBlobsOfOverlays objects overlays → IsBlobApplied bytes objects blob
-    → (result : Meaning) × (number' : Path → ℕ) × IsFold m overlays result × (h : IsBlobOfMeaning blob result number') × Extends m number number' × IsResolvedIn h.tree result
+    → (result : Meaning) × (number' : Path → ℕ) × IsFold m overlays result × (h : IsBlobOfMeaning blob result number')
+    × Extends m number number' × IsResolvedIn h.tree result
 
 -- and what a base's text is compiled to (see `BaseRepresents`)
 abbrev pub CompilingIsResolved : Type 0
-CompilingIsResolved = (text blob : List ℕ) → IsOfBytes text → IsCompiled base text blob → (h : BlobRepresents text blob) × IsResolvedIn h.of_meaning.tree h.meaning
+CompilingIsResolved = (text blob : List ℕ) → IsOfBytes text → IsCompiled base text blob → (h : BlobRepresents text blob)
+    × IsResolvedIn h.of_meaning.tree h.meaning
 
 -- ---- what is printed is compiled again
 

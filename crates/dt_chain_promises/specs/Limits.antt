@@ -54,7 +54,8 @@ RawIsLimited = (text : List ℕ) → ((e : Fault) × WhyNotCompiled raw text e �
 -- ---- lists of inputs
 
 -- Of a base and a list of inputs, all before this one are applied, and it is the first that is beyond a limit, or what comes of it.
-pub data IsLimited (has_base has_object : List ℕ → Reading → Type 0) (base_beyond object_beyond : List ℕ → Type 0) (base : List ℕ) (inputs : List (List ℕ)) : ℕ → Type 0 where
+pub data IsLimited (has_base has_object : List ℕ → Reading → Type 0) (base_beyond object_beyond : List ℕ → Type 0) (base : List ℕ)
+    (inputs : List (List ℕ)) : ℕ → Type 0 where
   -- the base itself
   of_base : base_beyond base → IsLimited has_base has_object base_beyond object_beyond base inputs 0
   -- the input itself

@@ -1,5 +1,3 @@
 mod CellTexts
-mod HexDigits
 mod LineTexts
-pub mod Passing
 mod Quoting

@@ -1,5 +1,3 @@
--- what callers read, in this order
-pub mod Passed
 -- inside
 pub mod Lines
 pub mod Pieces

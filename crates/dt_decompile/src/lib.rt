@@ -1,4 +1,4 @@
-//! The text of a blob, of DTS version 1 (Devicetree Specification v0.4, chapter 6), and the buffer through which texts go to a sink.
+//! The text of a blob, of DTS version 1 (Devicetree Specification v0.4, chapter 6).
 //!
 //! ```text
 //! let blob = Blob::check(bytes)?;             // of `/dts-v1/; / { n { reg = <0 0x10>; }; };`
@@ -8,9 +8,7 @@
 //! Such texts are cases of printed.cases (docs/CASES.md).
 #![tactic(auto)]
 
-mod buffer;
 mod cells;
-mod digits;
 mod lines;
 mod reservations;
 mod steps;
@@ -18,6 +16,4 @@ mod text;
 mod texts;
 mod value;
 
-pub use buffer::Buffer;
-pub use digits::{without_zeros, write_digits};
 pub use text::text_of;

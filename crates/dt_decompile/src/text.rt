@@ -4,26 +4,24 @@ ghost use Rattle.std.specs.Prelude.{◌++◌, OnOk, IfErr};
 ghost use Rattle.dt_model.specs.Printed.{printed};
 ghost use Rattle.dt_names.specs.Sink.{Takes, IsRefused};
 ghost use Rattle.dt_read.specs.Placed.{reading_of};
-ghost use Rattle.dt_decompile.specs.Passed.{IsPassed};
+ghost use Rattle.dt_text_writer.specs.Written.{Puts, FailsAt};
 
-use crate::buffer::Buffer;
 use crate::reservations::put_reservations;
 use crate::steps::put_steps;
 use dt_names::{Fault, Sink};
 use dt_read::Blob;
+use dt_text_writer::Writer;
 
 /// Writes a tree.
-fn put_text<S: Sink>(buffer: &mut Buffer, out: &mut S, blob: &Blob) -> Result<(), Fault>
-    ensures passed { OnOk result (IsPassed (S.taken out.old) (S.taken out.new)
-        buffer.old (printed (reading_of blob.now)) buffer.new) }
-    ensures refused { IfErr result (λ fault. IsRefused fault (buffer.old ++ printed (reading_of blob.now))
-        (S.taken out.old) (S.taken out.new)) }
+fn put_text<S: Sink>(writer: &mut Writer<'_, S>, blob: &Blob) -> Result<(), Fault>
+    ensures written { OnOk result (Puts S.taken (printed (reading_of blob.now)) writer.old writer.new) }
+    ensures refused { IfErr result (λ fault. FailsAt S.taken fault (printed (reading_of blob.now)) writer.old writer.new) }
 {
     // A blob has few enough nodes that their depth fits.
     blob.validity();
-    buffer.put(out, b"/dts-v1/;\n")?;
-    put_reservations(buffer, out, blob.reservations())?;
-    put_steps(buffer, out, blob.steps())
+    writer.put(b"/dts-v1/;\n")?;
+    put_reservations(writer, blob.reservations())?;
+    put_steps(writer, blob.steps())
 }
 
 /// Writes a blob's tree as a source of DTS version 1 (Devicetree Specification v0.4, chapter 6): the reservations, and each
@@ -39,7 +37,7 @@ pub fn text_of<S: Sink>(blob: &Blob, out: &mut S) -> Result<(), Fault>
     ensures written { OnOk result (Takes (printed (reading_of blob.now)) (S.taken out.old) (S.taken out.new)) }
     ensures refused { IfErr result (λ fault. IsRefused fault (printed (reading_of blob.now)) (S.taken out.old) (S.taken out.new)) }
 {
-    let mut buffer = Buffer::new();
-    put_text(&mut buffer, out, blob)?;
-    buffer.flush(out)
+    let mut writer = Writer::new(out);
+    put_text(&mut writer, blob)?;
+    writer.flush()
 }

@@ -3,11 +3,10 @@
 ghost use Rattle.std.specs.Prelude.{◌≡◌, ◌<◌, ◌∷◌, ◌++◌, length, codes, true, MatchOption, OnOk, IfErr};
 ghost use Rattle.memchr.specs.Find.{is_byte3};
 ghost use Rattle.dt_model.specs.Printed.{are_texts as are_texts_of, texts_from};
-ghost use Rattle.dt_names.specs.Sink.{IsRefused};
-ghost use Rattle.dt_decompile.specs.Passed.{IsPassed};
+ghost use Rattle.dt_text_writer.specs.Written.{Puts, FailsAt};
 
-use crate::buffer::Buffer;
 use dt_names::{Fault, Sink};
+use dt_text_writer::Writer;
 use memchr::memchr3;
 
 /// Whether a value is texts, none of them empty, each with a NUL.
@@ -53,32 +52,24 @@ fn next_mark(texts: &[u8]) -> Option<(&[u8], &'static [u8], &[u8])>
 }
 
 /// Writes texts from the inside of the first on.
-fn put_texts_from<S: Sink>(buffer: &mut Buffer, out: &mut S, texts: &[u8]) -> Result<(), Fault>
-    ensures passed { OnOk result (IsPassed (S.taken out.old) (S.taken out.new)
-        buffer.old (texts_from texts.now) buffer.new) }
-    ensures refused { IfErr result (λ fault. IsRefused fault (buffer.old ++ texts_from texts.now)
-        (S.taken out.old) (S.taken out.new)) }
+fn put_texts_from<S: Sink>(writer: &mut Writer<'_, S>, texts: &[u8]) -> Result<(), Fault>
+    ensures written { OnOk result (Puts S.taken (texts_from texts.now) writer.old writer.new) }
+    ensures refused { IfErr result (λ fault. FailsAt S.taken fault (texts_from texts.now) writer.old writer.new) }
 {
     let mut rest = texts;
     while let Some((plain, mark, behind)) = next_mark(rest) {
-        buffer.put(out, plain)?;
-        buffer.put(out, mark)?;
+        writer.put(plain)?;
+        writer.put(mark)?;
         rest = behind;
     }
-    buffer.put(out, rest)
+    writer.put(rest)
 }
 
 /// Writes texts between quotes.
-pub(crate) fn put_texts<S: Sink>(
-    buffer: &mut Buffer,
-    out: &mut S,
-    texts: &[u8],
-) -> Result<(), Fault>
-    ensures passed { OnOk result (IsPassed (S.taken out.old) (S.taken out.new)
-        buffer.old (codes " = \"" ++ texts_from texts.now) buffer.new) }
-    ensures refused { IfErr result (λ fault. IsRefused fault (buffer.old ++ (codes " = \"" ++ texts_from texts.now))
-        (S.taken out.old) (S.taken out.new)) }
+pub(crate) fn put_texts<S: Sink>(writer: &mut Writer<'_, S>, texts: &[u8]) -> Result<(), Fault>
+    ensures written { OnOk result (Puts S.taken (codes " = \"" ++ texts_from texts.now) writer.old writer.new) }
+    ensures refused { IfErr result (λ fault. FailsAt S.taken fault (codes " = \"" ++ texts_from texts.now) writer.old writer.new) }
 {
-    buffer.put(out, b" = \"")?;
-    put_texts_from(buffer, out, texts)
+    writer.put(b" = \"")?;
+    put_texts_from(writer, texts)
 }

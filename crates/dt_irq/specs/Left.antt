@@ -48,7 +48,8 @@ pub record AreEntriesOf (t : PlacedTree) (list : List ℕ) (r : ListLeft) : Type
   pub some : 1 ≤ r.cells
   pub few : r.cells ≤ 8
   pub long : length r.bytes ≡ r.count * (4 * r.cells)
-  pub is : (k : ℕ) → listed_at (world_of t) k (value_of_bytes list) (path_at t r.parent) ≡ entry_listed (path_at t r.parent) k r.count r.cells (quads_of r.bytes)
+  pub is : (k : ℕ) → listed_at (world_of t) k (value_of_bytes list) (path_at t r.parent) ≡ entry_listed
+      (path_at t r.parent) k r.count r.cells (quads_of r.bytes)
 
 -- the bytes are those of its `interrupts-extended`
 abbrev pub AreExtended : PlacedTree → Path → ℕ → List ℕ → Type 0

@@ -49,7 +49,8 @@ fn led<'v, V: TreeView>(
     requires address { address ≤ 4 }
     requires specifier { specifier ≤ 8 }
     ensures is { told_as (interrupt_in (V.tree view.now)) result
-        ≡ led (world_of (V.tree view.now)) (path_at (V.tree view.now) at.now.node) (quads_of at.now.unit.now) (quads_of at.now.specifier.now) (value_of_bytes map.now) address specifier }
+        ≡ led (world_of (V.tree view.now)) (path_at (V.tree view.now) at.now.node) (quads_of at.now.unit.now)
+        (quads_of at.now.specifier.now) (value_of_bytes map.now) address specifier }
     ensures there { IfOk result (λ i. IsSpecified (V.tree view.now) i.node i.specifier.now) }
 {
     let width = address + specifier;
@@ -72,7 +73,8 @@ pub(crate) fn hop<'v, V: TreeView>(
     map: &'v [u8],
 ) -> Result<Interrupt<'v>, Fault>
     requires { IsSpecified (V.tree view.now) at.now.node at.now.specifier.now }
-    ensures is { told_as (interrupt_in (V.tree view.now)) result ≡ hop (world_of (V.tree view.now)) (interrupt_in (V.tree view.now) at.now) (value_of_bytes map.now) }
+    ensures is { told_as (interrupt_in (V.tree view.now)) result ≡ hop (world_of (V.tree view.now)) (interrupt_in (V.tree view.now) at.now)
+        (value_of_bytes map.now) }
     ensures there { IfOk result (λ i. IsSpecified (V.tree view.now) i.node i.specifier.now) }
 {
     let address = address_cells(view, at.node, 2)? as usize;

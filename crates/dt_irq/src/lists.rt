@@ -39,7 +39,8 @@ impl<'v> Listed<'v> {
         requires { IsNode (V.tree view.now) parent }
         ensures parent { IfOk result (λ listed. listed.parent ≡ parent) }
         ensures left { IfOk result (λ listed. AreEntriesOf (V.tree view.now) list.now (list_left listed)) }
-        ensures refused { IfErr result (λ fault. (i : ℕ) → listed_at (world_of (V.tree view.now)) i (value_of_bytes list.now) (path_at (V.tree view.now) parent) ≡ refused fault) }
+        ensures refused { IfErr result (λ fault. (i : ℕ)
+            → listed_at (world_of (V.tree view.now)) i (value_of_bytes list.now) (path_at (V.tree view.now) parent) ≡ refused fault) }
     {
         let cells = interrupt_cells(view, parent)?;
         if list.len() % (4 * cells) != 0 {
@@ -80,7 +81,8 @@ impl<'v> Listed<'v> {
         requires { (p : Path) × (i : ℕ) × AreListed (V.tree view.now) p i (list_left self.old) }
         ensures is { (p : Path) (i : ℕ) → AreListed (V.tree view.now) p i (list_left self.old)
             → MatchOption result (IsSent (world_of (V.tree view.now)) p i (refuse NoInterrupts) × AreListed (V.tree view.now) p i (list_left self.new))
-            (λ sent. IsSent (world_of (V.tree view.now)) p i (answer (sent_in (V.tree view.now) sent)) × AreListed (V.tree view.now) p (i + 1) (list_left self.new)) }
+            (λ sent. IsSent (world_of (V.tree view.now)) p i (answer (sent_in (V.tree view.now) sent))
+            × AreListed (V.tree view.now) p (i + 1) (list_left self.new)) }
         ensures specified { IfSome result (λ sent. IsSpecified (V.tree view.now) sent.node sent.specifier.now) }
         ensures shorter { IfSome result (λ _. length self.new.rest.now < length self.old.rest.now) }
     {
@@ -115,7 +117,8 @@ impl<'v> Entries<'v> {
     /// Where the entry is sent that has so many before it among those left.
     pub fn nth<V: TreeView>(&self, view: &V, index: u64) -> Result<Sent<'v>, Fault>
         requires { IsSentFrom (V.tree view.now) (entries_left self.now) }
-        ensures is { (p : Path) (i : ℕ) → AreSentFrom (V.tree view.now) p i (entries_left self.now) → IsSent (world_of (V.tree view.now)) p (i + index) (told_as (sent_in (V.tree view.now)) result) }
+        ensures is { (p : Path) (i : ℕ) → AreSentFrom (V.tree view.now) p i (entries_left self.now)
+            → IsSent (world_of (V.tree view.now)) p (i + index) (told_as (sent_in (V.tree view.now)) result) }
         ensures specified { IfOk result (λ sent. IsSpecified (V.tree view.now) sent.node sent.specifier.now) }
     {
         match *self {
@@ -132,7 +135,8 @@ impl<'v> Entries<'v> {
         requires { IsSentFrom (V.tree view.now) (entries_left self.old) }
         ensures is { (p : Path) (i : ℕ) → AreSentFrom (V.tree view.now) p i (entries_left self.old)
             → MatchOption result (IsSent (world_of (V.tree view.now)) p i (refuse NoInterrupts) × AreSentFrom (V.tree view.now) p i (entries_left self.new))
-            (λ r. IsSent (world_of (V.tree view.now)) p i (told_as (sent_in (V.tree view.now)) r) × AreSentFrom (V.tree view.now) p (i + 1) (entries_left self.new)) }
+            (λ r. IsSent (world_of (V.tree view.now)) p i (told_as (sent_in (V.tree view.now)) r)
+            × AreSentFrom (V.tree view.now) p (i + 1) (entries_left self.new)) }
         ensures specified { IfSome result (λ r. IfOk r (λ sent. IsSpecified (V.tree view.now) sent.node sent.specifier.now)) }
         ensures shorter { IfSome result (λ r. OnOk r (bytes_left (entries_left self.new) < bytes_left (entries_left self.old))) }
     {

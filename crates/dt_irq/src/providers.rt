@@ -60,7 +60,8 @@ fn merged(row: &[u8], at_hand: &[u32], mask: &[u8]) -> [u32; MOST_CELLS]
 fn onward<V: TreeView>(view: &V, kind: &[u8], so_far: &Route, map: &[u8]) -> Result<Route, Fault>
     requires arrived { HasArrived (V.tree view.now) so_far.now }
     requires few { so_far.now.hops < 64 }
-    ensures is { told_as (end_of (V.tree view.now)) result ≡ provider_hop (world_of (V.tree view.now)) kind.now (end_of (V.tree view.now) so_far.now) (value_of_bytes map.now) }
+    ensures is { told_as (end_of (V.tree view.now)) result ≡ provider_hop (world_of (V.tree view.now)) kind.now
+        (end_of (V.tree view.now) so_far.now) (value_of_bytes map.now) }
     ensures arrived { IfOk result (HasArrived (V.tree view.now)) }
     ensures hops { IfOk result (λ route. route.hops ≡ so_far.now.hops + 1) }
 {
@@ -84,7 +85,8 @@ fn onward<V: TreeView>(view: &V, kind: &[u8], so_far: &Route, map: &[u8]) -> Res
 /// The route of a specifier that was sent to a node.
 fn provided<V: TreeView>(view: &V, kind: &[u8], sent: Sent<'_>) -> Result<Route, Fault>
     requires { IsSpecified (V.tree view.now) sent.node sent.specifier.now }
-    ensures is { told_as (route_in (V.tree view.now)) result ≡ provided (world_of (V.tree view.now)) kind.now most_hops 0 (sent_in (V.tree view.now) sent.entry) }
+    ensures is { told_as (route_in (V.tree view.now)) result ≡ provided (world_of (V.tree view.now)) kind.now most_hops 0
+        (sent_in (V.tree view.now) sent.entry) }
     ensures arrived { IfOk result (HasArrived (V.tree view.now)) }
 {
     let mut route = Route {
@@ -120,7 +122,8 @@ pub fn specifier_route<V: TreeView>(
     index: u64,
 ) -> Result<Route, Fault>
     requires { IsNode (V.tree view.now) node }
-    ensures is { told_as (route_in (V.tree view.now)) result ≡ specifier_route (world_of (V.tree view.now)) (path_at (V.tree view.now) node) property.now kind.now index }
+    ensures is { told_as (route_in (V.tree view.now)) result ≡ specifier_route (world_of (V.tree view.now))
+        (path_at (V.tree view.now) node) property.now kind.now index }
     ensures arrived { IfOk result (HasArrived (V.tree view.now)) }
 {
     let Some(list) = view.value(node, property) else {

@@ -34,7 +34,8 @@ fn map_row<'v, V: TreeView>(
     cells: &'v [u8],
 ) -> Result<MapRow<'v>, Fault>
     requires { width ≤ 12 }
-    ensures is { told_as (row_in (V.tree view.now)) result ≡ map_row (world_of (V.tree view.now)) (widths_in space.entry (world_of (V.tree view.now))) width (quads_of cells.now) }
+    ensures is { told_as (row_in (V.tree view.now)) result ≡ map_row (world_of (V.tree view.now))
+        (widths_in space.entry (world_of (V.tree view.now))) width (quads_of cells.now) }
     ensures there { IfOk result (λ r. IsSpecified (V.tree view.now) r.parent r.specifier.now) }
     ensures compared { IfOk result (λ r. length r.compared.now ≡ 4 * width) }
     ensures size { IfOk result (λ r. 4 * r.size ≤ length cells.now) }
@@ -99,7 +100,8 @@ pub(crate) fn first_match<'v, V: TreeView>(
     requires width { width ≤ 12 }
     requires mask { (length mask.now ≡ 0) ⊎ (length mask.now ≡ 4 * width) }
     ensures is { told_as (row_in (V.tree view.now)) result
-        ≡ first_match (world_of (V.tree view.now)) (widths_in space.entry (world_of (V.tree view.now))) (is_ragged (value_of_bytes map.now)) width (quads key.now) (quads_of mask.now) 0 (quads_of map.now) }
+        ≡ first_match (world_of (V.tree view.now)) (widths_in space.entry (world_of (V.tree view.now)))
+        (is_ragged (value_of_bytes map.now)) width (quads key.now) (quads_of mask.now) 0 (quads_of map.now) }
     ensures there { IfOk result (λ r. IsSpecified (V.tree view.now) r.parent r.specifier.now) }
 {
     let mut rest = map;

@@ -48,7 +48,8 @@ pub(crate) fn first_entry<'v, V: TreeView>(
     list: &'v [u8],
 ) -> Result<Entry<'v>, Fault>
     ensures is { told_as (entry_in (V.tree view.now)) result
-        ≡ first_entry (world_of (V.tree view.now)) (count_in space.entry (world_of (V.tree view.now))) (is_ragged (value_of_bytes list.now)) (quads_of list.now) }
+        ≡ first_entry (world_of (V.tree view.now)) (count_in space.entry (world_of (V.tree view.now))) (is_ragged (value_of_bytes list.now))
+        (quads_of list.now) }
     ensures there { IfOk result (λ e. IsSpecified (V.tree view.now) e.sent.node e.sent.specifier.now) }
     ensures ragged { IfOk result (λ e. is_ragged (value_of_bytes e.rest.now) ≡ is_ragged (value_of_bytes list.now)) }
     ensures shorter { IfOk result (λ e. length e.rest.now < length list.now) }
@@ -77,7 +78,8 @@ pub(crate) fn entry_sent<'v, V: TreeView>(
     index: u64,
 ) -> Result<Sent<'v>, Fault>
     ensures is { told_as (sent_in (V.tree view.now)) result
-        ≡ entry_sent (world_of (V.tree view.now)) (count_in space.entry (world_of (V.tree view.now))) (is_ragged (value_of_bytes list.now)) index (quads_of list.now) }
+        ≡ entry_sent (world_of (V.tree view.now)) (count_in space.entry (world_of (V.tree view.now)))
+        (is_ragged (value_of_bytes list.now)) index (quads_of list.now) }
     ensures there { IfOk result (λ s. IsSpecified (V.tree view.now) s.node s.specifier.now) }
 {
     let mut rest = list;

@@ -58,7 +58,8 @@ header_fault bytes =
     else if not (nat_le (number bytes 4) most_bytes) then Some over_limit
     else if not (nat_le 17 (number bytes 20) && nat_le (number bytes 24) 17) then Some bad_version
     else if not ((number bytes 16 % 8 == 0) && (number bytes 8 % 4 == 0)) then Some misaligned
-    else if not (nat_le (number bytes 16) (number bytes 4) && nat_le (number bytes 8 + number bytes 36) (number bytes 4) && nat_le (number bytes 12 + number bytes 32) (number bytes 4)) then Some block_outside
+    else if not (nat_le (number bytes 16) (number bytes 4) && nat_le (number bytes 8 + number bytes 36) (number bytes 4)
+    && nat_le (number bytes 12 + number bytes 32) (number bytes 4)) then Some block_outside
     else None
 
 -- the bytes of the blob, and its blocks
@@ -74,7 +75,8 @@ strings_of bytes = part (number bytes 12) (number bytes 32) bytes
 -- pairs of numbers, none of them two zeros, and a pair of zeros stand where the reservations do
 abbrev pub HasReservations : List ℕ → Type 0
 HasReservations bytes =
-    (reservations : List (ℕ × ℕ)) × (behind : List ℕ) × AllByRecursion IsReservation reservations × (drop (number bytes 16) (counted bytes) ≡ reservation_block reservations ++ behind)
+    (reservations : List (ℕ × ℕ)) × (behind : List ℕ) × AllByRecursion IsReservation reservations
+    × (drop (number bytes 16) (counted bytes) ≡ reservation_block reservations ++ behind)
 
 -- ---- the tokens
 

@@ -156,7 +156,8 @@ pub record Reads (bytes : List ℕ) (t : Reading) : Type 0 where
   -- the pairs and the pair of zeros lie before the blob's end, whatever follows them
   pub behind : List ℕ
   pub reservations : drop header.reservations_offset (take header.total_size bytes) ≡ reservation_block t.reservations ++ behind
-  pub structure : SpellsTree (part header.strings_offset header.strings_size bytes) t.properties t.children (part header.structure_offset header.structure_size bytes)
+  pub structure : SpellsTree (part header.strings_offset header.strings_size bytes) t.properties t.children
+      (part header.structure_offset header.structure_size bytes)
   pub valid : IsValid t
 
 -- the blob is at most 16 MiB long, and its tree within the limits

@@ -91,5 +91,6 @@ pub record IsOverlay (o : Overlay) : Type 0 where
   pub distinct : AreDistinct (map (λ f. f.name) o.fragments)
   pub targeted : (f : Fragment) → IsIn f o.fragments → HoldsTarget o f.name f.target
   -- a reference in what a fragment brings, or that is a fragment's target, doesn't name a node that no fragment brings
-  pub contained : (p : Path) (name : Name) (items : List (Item OverlayReference)) → IsBrought o p → o.value p name ≡ Some items → EachReference (IsContained o) items
+  pub contained : (p : Path) (name : Name) (items : List (Item OverlayReference)) → IsBrought o p → o.value p name ≡ Some items
+      → EachReference (IsContained o) items
   pub targets_contained : (f : Fragment) (r : OverlayReference) → IsIn f o.fragments → f.target ≡ at_reference r → IsContained o r

@@ -148,7 +148,8 @@ pub record OverlayMeans (places : List Place) (o : Overlay) : Type 0 where
   -- the fragments stand in the order in which they were opened first
   pub ordered : AreInOrder (λ f. age so_far.source.events (f ∷ [])) (λ f. o.stands (content f)) (map (λ (f : Fragment). f.name) o.fragments)
   pub targeted : (f : Fragment) → IsIn f o.fragments → HoldsTarget o f.name f.target
-  pub contained : (p : Path) (name : Name) (items : List (Item OverlayReference)) → IsBrought o p → o.value p name ≡ Some items → EachReference (IsContained o) items
+  pub contained : (p : Path) (name : Name) (items : List (Item OverlayReference)) → IsBrought o p → o.value p name ≡ Some items
+      → EachReference (IsContained o) items
   pub targets_contained : (f : Fragment) (r : OverlayReference) → IsIn f o.fragments → f.target ≡ at_reference r → IsContained o r
 
 -- ---- why places that are all read mean no overlay
@@ -166,13 +167,15 @@ HasBadFragment o = (f : Name) × (o.stands (content f) ≡ true) × ((target : T
 -- the reference, of a property that a fragment brings or of a fragment's target, names a node that no fragment brings
 abbrev pub HasOutsideContent : Overlay → Type 0
 HasOutsideContent o =
-    ((p : Path) × (name : Name) × (items : List (Item OverlayReference)) × IsBrought o p × (o.value p name ≡ Some items) × ¬ EachReference (IsContained o) items)
+    ((p : Path) × (name : Name) × (items : List (Item OverlayReference)) × IsBrought o p × (o.value p name ≡ Some items)
+    × ¬ EachReference (IsContained o) items)
     ⊎ ((f : Fragment) × (r : OverlayReference) × IsIn f o.fragments × (f.target ≡ at_reference r) × ¬ IsContained o r)
 
 -- The first of these that holds of the events; a fragment's target counts as held only where all of them are.
 abbrev pub IsLateOverlayRefusal : Events → LateOverlayRefusal → Type 0
 IsLateOverlayRefusal es bad_fragment = HasBadFragment (overlay_of es [])
 IsLateOverlayRefusal es outside_content =
-    (fragments : List Fragment) × ((f : Name) → (stands es (reverse (content f)) ≡ true) ↔ ((target : Target) × IsIn (record { name = f; target = target }) fragments))
+    (fragments : List Fragment) × ((f : Name) → (stands es (reverse (content f)) ≡ true) ↔ ((target : Target)
+    × IsIn (record { name = f; target = target }) fragments))
     × ((f : Fragment) → IsIn f fragments → HoldsTarget (overlay_of es fragments) f.name f.target)
     × HasOutsideContent (overlay_of es fragments)

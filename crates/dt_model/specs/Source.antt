@@ -180,7 +180,11 @@ open_child mode s n b bs =
 abbrev pub define : SoFar → Name → List Part → Body → List Body → Result SoFar Refusal
 define s n v b bs =
     if is_among n b.properties then Err duplicate_property
-    else Ok (record { events = s.events ++ definition s.node n v ∷ []; node = s.node; bodies = (record { properties = n ∷ b.properties; children = b.children }) ∷ bs })
+    else Ok (record {
+      events = s.events ++ definition s.node n v ∷ [];
+      node = s.node;
+      bodies = (record { properties = n ∷ b.properties; children = b.children }) ∷ bs;
+    })
 
 -- what a place does to what was read so far
 abbrev pub read : Mode → SoFar → Place → Result SoFar Refusal

@@ -24,7 +24,8 @@ pub record AreOf (base object : Reading) (m : Meaning) (o : Overlay) (number loc
 -- the bookkeeping nodes stay as they were, `/__symbols__` itself aside
 pub record KeepsBookkeeping (base t : Reading) : Type 0 where
   pub nodes : (x : Name) (p : Path) → is_bookkeeping (x ∷ p) ≡ true → x ∷ p ≢ codes "__symbols__" ∷ [] → stands_in t (x ∷ p) ≡ stands_in base (x ∷ p)
-  pub values : (x : Name) (p : Path) (name : Name) → is_bookkeeping (x ∷ p) ≡ true → x ∷ p ≢ codes "__symbols__" ∷ [] → value_in t (x ∷ p) name ≡ value_in base (x ∷ p) name
+  pub values : (x : Name) (p : Path) (name : Name) → is_bookkeeping (x ∷ p) ≡ true → x ∷ p ≢ codes "__symbols__" ∷ []
+      → value_in t (x ∷ p) name ≡ value_in base (x ∷ p) name
 
 -- an object is an overlay's, by numbers of its own
 pub record IsObject (object : Reading) (o : Overlay) : Type 0 where

@@ -9,4 +9,5 @@ NumbersAreThere = (taken : List ℕ) (paths : List Path) → (numbers : List (Pa
 
 -- and they are the only ones
 abbrev pub NumbersAreOne : Type 0
-NumbersAreOne = (taken : List ℕ) (paths : List Path) (numbers others : List (Path × ℕ)) → AreNumbers taken paths numbers → AreNumbers taken paths others → numbers ≡ others
+NumbersAreOne = (taken : List ℕ) (paths : List Path) (numbers others : List (Path × ℕ)) → AreNumbers taken paths numbers
+    → AreNumbers taken paths others → numbers ≡ others

@@ -136,7 +136,8 @@ pub record IsTreeAfter (places : List Place) (t : Named NodeReference) : Type 0 
 
 -- each value that stands is of bytes and of references by labels in cell lists
 abbrev pub OverlayValuesArePlain : Type 0
-OverlayValuesArePlain = (places : List Place) (s : OverlaySoFar) → AllByRecursion IsPlace places → read_overlays (root_children None places) overlay_start places ≡ Ok s
+OverlayValuesArePlain = (places : List Place) (s : OverlaySoFar) → AllByRecursion IsPlace places
+    → read_overlays (root_children None places) overlay_start places ≡ Ok s
     → (p : Stack) (x : Name) (v : List Part) → value_at s.source.events p x ≡ Some v → AllByRecursion (λ (y : Part). IsPart y × (is_overlay_part y ≡ true)) v
 
 -- a node of a list whose parent isn't the root stands behind its parent

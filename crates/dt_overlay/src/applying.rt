@@ -54,7 +54,8 @@ fn carry_out<T: Target>(
     ensures well { OnOk result (IsWellFormed (T.reading target.old) (reading object.old.tree)) }
     ensures refused { IfErr result (λ fault. (fault.at ≡ None)
         × WhyNotApplied (HasNoRoom T.reading T.has_room) fault.kind (T.reading target.old) (reading object.old.tree)) }
-    ensures left { IfErr result (λ fault. IsLeftBy (HasNoRoom T.reading T.has_room) fault.kind (T.reading target.old) (reading object.old.tree) (T.reading target.new)) }
+    ensures left { IfErr result (λ fault. IsLeftBy (HasNoRoom T.reading T.has_room) fault.kind (T.reading target.old)
+        (reading object.old.tree) (T.reading target.new)) }
 {
     read(alloc, target, landing, object)?;
     find_sites(alloc, target, object, landing)?;
@@ -70,7 +71,8 @@ fn apply_object<T: Target>(alloc: Global, target: &mut T, object: &mut Object) -
     ensures well { OnOk result (IsWellFormed (T.reading target.old) (reading object.old.tree)) }
     ensures refused { IfErr result (λ fault. (fault.at ≡ None)
         × WhyNotApplied (HasNoRoom T.reading T.has_room) fault.kind (T.reading target.old) (reading object.old.tree)) }
-    ensures left { IfErr result (λ fault. IsLeftBy (HasNoRoom T.reading T.has_room) fault.kind (T.reading target.old) (reading object.old.tree) (T.reading target.new)) }
+    ensures left { IfErr result (λ fault. IsLeftBy (HasNoRoom T.reading T.has_room) fault.kind (T.reading target.old)
+        (reading object.old.tree) (T.reading target.new)) }
 {
     let mut landing = Landing::new(alloc, object.seed().with(target.seed()))?;
     let done = carry_out(alloc, target, object, &mut landing);
@@ -93,15 +95,16 @@ fn apply_object<T: Target>(alloc: Global, target: &mut T, object: &mut Object) -
 /// the same of a cell of the object's own nodes, or the number in it is that of no node that it may name; `BadSymbol`, a label of
 /// the object isn't a text, or names a node that isn't there; then fragment by fragment `NoTarget`, its target is no node of the
 /// tree, and none that an earlier fragment brings, `ReservedPlace`, something lands in a bookkeeping node, `Limit`, on a path of
-/// more than 64 names. After these the tree is unchanged. `Limit`, an object has none of these faults, and on the way a tree of this
-/// kind that reads as this one then did has no room for a change (of a `FlatTree` that is so exactly where more than 65,536 nodes would come of the
-/// object), and `NoMemory` may leave a part of the object in it.
+/// more than 64 names. After these the tree is unchanged. Last, where an object has none of these faults, `Limit`: the tree has no
+/// room for one of the changes. A `FlatTree` has no room exactly where it would get more than 65,536 nodes. This `Limit` and
+/// `NoMemory` may leave a part of the object in the tree.
 pub fn apply<T: Target>(alloc: Global, target: &mut T, object: &Blob<'_>) -> Result<(), Fault>
     ensures applied { OnOk result (IsApplied (T.reading target.old) (reading_of object.now) (T.reading target.new)) }
     ensures well { OnOk result (IsWellFormed (T.reading target.old) (reading_of object.now)) }
     ensures refused { IfErr result (λ fault. (fault.at ≡ None)
         × WhyNotApplied (HasNoRoom T.reading T.has_room) fault.kind (T.reading target.old) (reading_of object.now)) }
-    ensures left { IfErr result (λ fault. IsLeftBy (HasNoRoom T.reading T.has_room) fault.kind (T.reading target.old) (reading_of object.now) (T.reading target.new)) }
+    ensures left { IfErr result (λ fault. IsLeftBy (HasNoRoom T.reading T.has_room) fault.kind (T.reading target.old)
+        (reading_of object.now) (T.reading target.new)) }
 {
     let tree = object.to_flat(alloc)?;
     let mut unread = Object::new(alloc, tree)?;

@@ -24,4 +24,5 @@ HasRoom tree next = 1 + node_count next.children ≤ most_nodes
 
 -- an object isn't applied to one for want of room only where too many nodes would come of it
 abbrev pub TreeRoomIsCounted : Type 0
-TreeRoomIsCounted = (kind : FaultKind) (base object : Reading) → WhyNotApplied (HasNoRoom reading HasRoom) kind base object → WhyNotApplied has_many kind base object
+TreeRoomIsCounted = (kind : FaultKind) (base object : Reading) → WhyNotApplied (HasNoRoom reading HasRoom) kind base object
+    → WhyNotApplied has_many kind base object

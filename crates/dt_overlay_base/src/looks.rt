@@ -54,7 +54,8 @@ pub fn number_there<T: Target>(
     path: &Path,
 ) -> Result<Option<u32>, Fault>
     requires named { AllByRecursion IsNodeName path.now }
-    ensures number { WhereKnownOf (T.reading target.now) places.now (λ given _. IfOk result (λ number. number ≡ number_known (T.reading target.now) given path.now)) }
+    ensures number { WhereKnownOf (T.reading target.now) places.now
+        (λ given _. IfOk result (λ number. number ≡ number_known (T.reading target.now) given path.now)) }
     ensures refused { IfErr result IsNoMemory }
 {
     target.validity();
@@ -71,7 +72,8 @@ pub fn number_there<T: Target>(
 fn number_place<T: Target>(target: &T, path: &Path, places: &mut Places) -> Result<(), Fault>
     requires named { AllByRecursion IsNodeName path.now }
     requires room { HasRoom (T.reading target.now) [] places.old }
-    ensures known { WhereKnownOf (T.reading target.now) places.old (λ given landed. IsIn path.now landed → OnOk result (IsKnown (T.reading target.now) (with_place (T.reading target.now) path.now given) landed places.new)) }
+    ensures known { WhereKnownOf (T.reading target.now) places.old (λ given landed. IsIn path.now landed
+        → OnOk result (IsKnown (T.reading target.now) (with_place (T.reading target.now) path.now given) landed places.new)) }
     ensures refused { IfErr result IsNoMemory }
 {
     target.validity();
@@ -95,7 +97,8 @@ fn note_node<T: Target>(
     requires named { AllByRecursion IsNodeName path.now }
     requires short { length path.now ≤ most_names }
     requires room { HasRoom (T.reading target.now) [] places.old }
-    ensures known { WhereKnownOf (T.reading target.now) places.old (λ given landed. OnOk result (IsKnownBehind (T.reading target.now) (placed object.now.slots node path.now ∷ []) given landed places.new)) }
+    ensures known { WhereKnownOf (T.reading target.now) places.old
+        (λ given landed. OnOk result (IsKnownBehind (T.reading target.now) (placed object.now.slots node path.now ∷ []) given landed places.new)) }
     ensures may { OnOk result (MayLand (placed object.now.slots node path.now)) }
     ensures refused { IfErr result (IsMemoryOr (λ kind. WhyNotLands kind (placed object.now.slots node path.now))) }
 {
@@ -123,7 +126,9 @@ fn note_child<T: Target>(
     requires named { AllByRecursion IsNodeName parent.now }
     requires plain { is_bookkeeping_path parent.now ≡ false }
     requires room { HasRoom (T.reading target.now) (preorder parent.now (trees_of object.now.slots (node ∷ []))) places.old }
-    ensures known { WhereKnownOf (T.reading target.now) places.old (λ given landed. OnOk result (IsKnownBehind (T.reading target.now) (preorder parent.now (trees_of object.now.slots (node ∷ []))) given landed places.new)) }
+    ensures known { WhereKnownOf (T.reading target.now) places.old
+        (λ given landed. OnOk result (IsKnownBehind (T.reading target.now)
+        (preorder parent.now (trees_of object.now.slots (node ∷ []))) given landed places.new)) }
     ensures may { OnOk result (MayAllLand (preorder parent.now (trees_of object.now.slots (node ∷ [])))) }
     ensures refused { IfErr result (IsMemoryOr (λ kind. IsStuck kind (preorder parent.now (trees_of object.now.slots (node ∷ []))))) }
 {
@@ -146,7 +151,8 @@ fn note_children<T: Target>(
     requires named { AllByRecursion IsNodeName path.now }
     requires plain { is_bookkeeping_path path.now ≡ false }
     requires room { HasRoom (T.reading target.now) (preorder path.now (below object.now.slots node)) places.old }
-    ensures known { WhereKnownOf (T.reading target.now) places.old (λ given landed. OnOk result (IsKnownBehind (T.reading target.now) (preorder path.now (below object.now.slots node)) given landed places.new)) }
+    ensures known { WhereKnownOf (T.reading target.now) places.old
+        (λ given landed. OnOk result (IsKnownBehind (T.reading target.now) (preorder path.now (below object.now.slots node)) given landed places.new)) }
     ensures may { OnOk result (MayAllLand (preorder path.now (below object.now.slots node))) }
     ensures refused { IfErr result (IsMemoryOr (λ kind. IsStuck kind (preorder path.now (below object.now.slots node)))) }
 {
@@ -168,7 +174,8 @@ pub fn note_content<T: Target>(
     requires named { AllByRecursion IsNodeName path.now }
     requires short { length path.now ≤ most_names }
     requires room { HasRoom (T.reading target.now) (content_at object.now.slots content path.now) places.old }
-    ensures known { WhereKnownOf (T.reading target.now) places.old (λ given landed. OnOk result (IsKnownBehind (T.reading target.now) (content_at object.now.slots content path.now) given landed places.new)) }
+    ensures known { WhereKnownOf (T.reading target.now) places.old
+        (λ given landed. OnOk result (IsKnownBehind (T.reading target.now) (content_at object.now.slots content path.now) given landed places.new)) }
     ensures may { OnOk result (MayAllLand (content_at object.now.slots content path.now)) }
     ensures refused { IfErr result (IsMemoryOr (λ kind. IsStuck kind (content_at object.now.slots content path.now))) }
 {

@@ -109,7 +109,8 @@ impl Places {
     /// The path's place gets the next number that is free.
     pub fn give(&mut self, path: &Path, number: u32) -> Result<(), AllocError>
         requires { AllByRecursion IsNodeName path.now }
-        ensures { WhereKnown self.old (λ base given landed. IsIn path.now landed → number_in given path.now ≡ None → IsNext (numbers_of base) self.old.last number →
+        ensures { WhereKnown self.old (λ base given landed. IsIn path.now landed → number_in given path.now ≡ None
+            → IsNext (numbers_of base) self.old.last number →
             OnOk result (IsKnown base (given ++ (path.now, number) ∷ []) landed self.new)) }
     {
         let text = text_of(self.alloc, path)?;

@@ -94,7 +94,8 @@ LacksSite base object fixups kind = HasNoSite kind base object fixups nothing_wa
 -- what holds where a node's fragment is known, and these fragments have these sites
 abbrev pub WhereBrought : List Slot → ℕ → List (Option ℕ) → List Path → (List Site → Path → Type 0) → Type 0
 WhereBrought slots node kept paths P = (names : List Name) (found : List Site) (path : Path) → IsKeptFor slots names kept → AreDistinct names
-    → map (λ (x : Site). x.fragment) found ≡ take (length found) names → paths ≡ map (λ (x : Site). x.at) found → node_from slots 0 path ≡ Some node → P found path
+    → map (λ (x : Site). x.fragment) found ≡ take (length found) names → paths ≡ map (λ (x : Site). x.at) found
+    → node_from slots 0 path ≡ Some node → P found path
 
 -- what holds where these fragments of the object have these sites
 abbrev pub WhereLanded : Arena → Brought → List Path → (List Site → Type 0) → Type 0
@@ -103,7 +104,8 @@ WhereLanded object b paths P = (found : List Site) → AreBrought object.slots (
 
 -- what holds where it is known what has landed of an object on some sites
 abbrev pub WhereNoted : Reading → Known → (Reading → List Site → Type 0) → Type 0
-WhereNoted base a P = (object : Reading) (sites : List Site) (given : List (Path × ℕ)) → IsValid object → IsKnown base given (landed_paths object sites) a → AreLandings object sites → P object sites
+WhereNoted base a P = (object : Reading) (sites : List Site) (given : List (Path × ℕ)) → IsValid object
+    → IsKnown base given (landed_paths object sites) a → AreLandings object sites → P object sites
 
 -- a node lands too deep
 abbrev pub IsTooDeep : FaultKind → List Site → Path → Type 0

@@ -66,7 +66,8 @@ fn set_properties<T: Target>(
     requires named { AllByRecursion (λ p. IsPropertyName p.name) props }
     requires may { MayLandProperties path.now (landed_properties landing.now props) (T.reading target.old) }
     ensures landed { OnOk result (T.reading target.new ≡ land_properties path.now (landed_properties landing.now props.entry) (T.reading target.old)) }
-    ensures refused { IfErr result (IsWant (FullAtProperties (HasNoRoom T.reading T.has_room) path.now (landed_properties landing.now props.entry) (T.reading target.old))) }
+    ensures refused { IfErr result (IsWant (FullAtProperties (HasNoRoom T.reading T.has_room) path.now
+        (landed_properties landing.now props.entry) (T.reading target.old))) }
 {
     for (name, value) in props {
         land_property(target, path, name, value, landing)?;
@@ -109,7 +110,8 @@ fn land<T: Target>(
     requires stands { stands_in (T.reading target.old) path.now ≡ true }
     requires may { MayLandNode path.now (landed_with object.now values.now node) (T.reading target.old) }
     ensures landed { OnOk result (T.reading target.new ≡ land_node path.now (landed_with object.now values.now node) (T.reading target.old)) }
-    ensures refused { IfErr result (IsWant (FullAtNode (HasNoRoom T.reading T.has_room) path.now (landed_with object.now values.now node) (T.reading target.old))) }
+    ensures refused { IfErr result (IsWant (FullAtNode (HasNoRoom T.reading T.has_room) path.now (landed_with object.now values.now node)
+        (T.reading target.old))) }
 {
     object.tree.validity();
     let landing = LandingNode {

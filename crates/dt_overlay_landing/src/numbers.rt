@@ -62,7 +62,8 @@ pub fn number_all<T: Target>(
     landing: &Landing,
     object: &mut Object,
 ) -> Result<(), Fault>
-    requires sited { (read : Reading) × (is : IsReadFor (T.reading target.now) read object.old) × HasAllSites (T.reading target.now) is.fixups read landing.now }
+    requires sited { (read : Reading) × (is : IsReadFor (T.reading target.now) read object.old)
+        × HasAllSites (T.reading target.now) is.fixups read landing.now }
     ensures numbered { (r : Reading) (is : IsReadFor (T.reading target.now) r object.old) → HasAllSites (T.reading target.now) is.fixups r landing.now →
         OnOk result (IsSitedFor (T.reading target.now) r is.fixups object.new landing.now.sites.items) }
     ensures refused { IfErr result IsNoMemory }

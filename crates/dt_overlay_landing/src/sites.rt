@@ -46,8 +46,10 @@ pub(crate) fn landing_path(
 ) -> Result<Option<Path>, Fault>
     requires node { node < length object.now.slots }
     requires brought { length brought.now.fragments.items ≡ length object.now.slots }
-    ensures value { WhereBrought object.now.slots node brought.now.fragments.items sites.now (λ found path. IfOk result (λ landed. landed ≡ landing_by found path)) }
-    ensures refused { WhereBrought object.now.slots node brought.now.fragments.items sites.now (λ found path. IfErr result (IsMemoryOr (λ kind. IsTooDeep kind found path))) }
+    ensures value { WhereBrought object.now.slots node brought.now.fragments.items sites.now
+        (λ found path. IfOk result (λ landed. landed ≡ landing_by found path)) }
+    ensures refused { WhereBrought object.now.slots node brought.now.fragments.items sites.now
+        (λ found path. IfErr result (IsMemoryOr (λ kind. IsTooDeep kind found path))) }
 {
     object.validity();
     match brought.fragments[node] {
@@ -249,7 +251,8 @@ fn find_each_site<T: Target>(
     requires brought { AreBroughtBy object.now.tree [] object.now.brought }
     requires marks { length marks.now ≡ length object.now.tree.slots }
     requires marked { (fixups : List (Name × Cell)) × AreMarked (T.reading target.now) fixups object.now.tree marks.now }
-    requires fragments { AreFragmentsOf object.now.tree.slots (reading object.now.tree) object.now.fragments.items (fragment_names (reading object.now.tree).children) }
+    requires fragments { AreFragmentsOf object.now.tree.slots (reading object.now.tree) object.now.fragments.items
+        (fragment_names (reading object.now.tree).children) }
     requires empty { IsEmptyLanding landing.old }
     ensures found { (fixups : List (Name × Cell)) → AreMarked (T.reading target.now) fixups object.now.tree marks.now →
         OnOk result (HasAllSites (T.reading target.now) fixups (reading object.now.tree) landing.new) }

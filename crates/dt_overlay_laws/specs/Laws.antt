@@ -52,7 +52,8 @@ ChildStands = (q : Path) (name : Name) (t : Reading) → stands_in t q ≡ true 
 -- what stands goes on standing, whatever lands
 pub record PlacesAreKept : Type 0 where
   pub child : (q : Path) (name : Name) (t : Reading) (p : Path) → stands_in t p ≡ true → stands_in (with_child_at q name t) p ≡ true
-  pub property : (q : Path) (name : Name) (value : List ℕ) (t : Reading) (p : Path) → stands_in t p ≡ true → stands_in (with_property_at q name value t) p ≡ true
+  pub property : (q : Path) (name : Name) (value : List ℕ) (t : Reading) (p : Path) → stands_in t p ≡ true
+      → stands_in (with_property_at q name value t) p ≡ true
   pub properties : (q : Path) (ps : List Property) (t : Reading) (p : Path) → stands_in t p ≡ true → stands_in (land_properties q ps t) p ≡ true
   pub nodes : (q : Path) (f : Forest) (t : Reading) (p : Path) → stands_in t p ≡ true → stands_in (land_nodes q f t) p ≡ true
 

@@ -47,7 +47,8 @@ SitedIsApplied = (base object : Reading) (fixups : List (Name × Cell)) (w : Wal
 
 -- a limit is told only where what would come of it exceeds it, if the number of nodes tells what there is room for
 abbrev pub LimitIsExceeded : Type 0
-LimitIsExceeded = (base object t : Reading) → IsValid base → IsValid object → IsApplied base object t → WhyNotApplied has_many Limit base object → IsWithinLimits t → ⊥
+LimitIsExceeded = (base object t : Reading) → IsValid base → IsValid object → IsApplied base object t
+    → WhyNotApplied has_many Limit base object → IsWithinLimits t → ⊥
 
 -- ---- where the number of nodes tells what there is room for
 
@@ -60,5 +61,6 @@ pub record RoomIsCounted : Type 0 where
 
 -- memory aside an object is refused for one reason, if the number of nodes tells what there is room for
 abbrev pub OneRefusal : Type 0
-OneRefusal = (base object : Reading) (kind other : FaultKind) → IsValid object → WhyNotApplied has_many kind base object → WhyNotApplied has_many other base object
+OneRefusal = (base object : Reading) (kind other : FaultKind) → IsValid object → WhyNotApplied has_many kind base object
+    → WhyNotApplied has_many other base object
     → kind ≢ NoMemory → other ≢ NoMemory → kind ≡ other

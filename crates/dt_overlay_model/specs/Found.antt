@@ -28,12 +28,14 @@ symbols_path = codes "__symbols__" ∷ []
 
 pub record IsFound (base object : Reading) (fixups : List (Name × Cell)) (w : Walked) (t : Reading) : Type 0 where
   -- a node stands where one of the base does, or one of the object lands
-  pub stands : (q : Path) → q ≢ symbols_path → (stands_in t q ≡ true) ↔ ((stands_in base q ≡ true) ⊎ ((p : Path) × (stands_in object p ≡ true) × (landing w.sites p ≡ Some q)))
+  pub stands : (q : Path) → q ≢ symbols_path → (stands_in t q ≡ true) ↔ ((stands_in base q ≡ true)
+      ⊎ ((p : Path) × (stands_in object p ≡ true) × (landing w.sites p ≡ Some q)))
   -- and the node of the labels where the base has it, or a label lands
   pub labels : (stands_in t symbols_path ≡ true) ↔ ((stands_in base symbols_path ≡ true) ⊎ ((l : Name) × (q : Path) × (label_lands object w.sites l ≡ Some q)))
   -- a property is that of the last node that lands with one, or else the base's
   pub values : (q : Path) (name : Name) → q ≢ symbols_path →
-      value_in t q name ≡ option_or (last_of (λ p. option_map (landed_value (writes base object fixups (new_numbers base object w)) (new_numbers base object w) p name) (value_in object p name)) (sources w.sites q)) (value_in base q name)
+      value_in t q name ≡ option_or (last_of (λ p. option_map (landed_value (writes base object fixups (new_numbers base object w))
+      (new_numbers base object w) p name) (value_in object p name)) (sources w.sites q)) (value_in base q name)
   -- a label is the path's text of the node that lands with it, or else the base's
   pub symbols : (l : Name) → value_in t symbols_path l ≡ option_or (option_map path_value (label_lands object w.sites l)) (value_in base symbols_path l)
   pub reservations : t.reservations ≡ base.reservations

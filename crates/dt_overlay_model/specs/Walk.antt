@@ -135,7 +135,8 @@ abbrev pub applied_by : Reading → Reading → List (Name × Cell) → Walked �
 applied_by base object fixups w =
     if may_land base object fixups w.sites then Some (applied_at base object fixups (new_numbers base object w) w.sites) else None
 
--- the base with the object applied, which lists these cells that wait for labels; none where that is refused
+-- the base with the object applied, which lists these cells that wait for labels; none where a target isn't found, a label isn't
+-- the base's, or something lands among bookkeeping nodes. What else an object is refused for doesn't show here (WhyNotApplied).
 abbrev pub applied : Reading → Reading → List (Name × Cell) → Option Reading
 applied base object fixups =
     option_and_then (applied_by base object fixups) (walk base object fixups nothing_walked (fragment_names object.children))

@@ -143,7 +143,8 @@ pub record ListsSymbols (object : Arena) (old new : List Symbol) : Type 0 where
 
 -- ---- an object that is read, and has its cells written
 
-pub record IsReady (object : Reading) (ws : List Write) (numbers : List (Path × ℕ)) (tree : Arena) (fragments : List ObjectFragment) (b : Brought) : Type 0 where
+pub record IsReady (object : Reading) (ws : List Write) (numbers : List (Path × ℕ)) (tree : Arena) (fragments : List ObjectFragment)
+    (b : Brought) : Type 0 where
   pub valid : IsValid object
   pub written : reading tree ≡ with_cells ws object
   pub listed : AreFragmentsOf tree.slots object fragments (fragment_names object.children)

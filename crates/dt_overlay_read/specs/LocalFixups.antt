@@ -44,7 +44,8 @@ abbrev pub offset_cell : Path → Name → ℕ → Cell
 offset_cell p name offset = record { path = p; property = name; offset = offset }
 
 -- those of some offsets of a value
-pub record ListsOffsets (object : Arena) (numbers : List (Path × ℕ)) (p : Path) (name : Name) (value : List ℕ) (offsets : List ℕ) (old new : List KeptWrite) : Type 0 where
+pub record ListsOffsets (object : Arena) (numbers : List (Path × ℕ)) (p : Path) (name : Name) (value : List ℕ) (offsets : List ℕ)
+    (old new : List KeptWrite) : Type 0 where
   pub listed : ListsCells object numbers (map (offset_cell p name) offsets) old new
   pub well : AllByRecursion (IsLocalCell (reading object) p value) offsets
 

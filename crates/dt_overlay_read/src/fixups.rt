@@ -175,7 +175,8 @@ fn list_fixup<T: Target>(
     requires { symbols.now ≡ codes "__symbols__" ∷ [] }
     ensures listed { OnOk result (ListsLabels (T.reading target.now) object.now
         (record { name = label.now; value = value.now } ∷ []) out.old.items out.new.items) }
-    ensures refused { IfErr result (IsMemoryOr (λ kind. WhyNoFixup kind (T.reading target.now) (reading object.now) (record { name = label.now; value = value.now }))) }
+    ensures refused { IfErr result (IsMemoryOr
+        (λ kind. WhyNoFixup kind (T.reading target.now) (reading object.now) (record { name = label.now; value = value.now }))) }
 {
     if !are_cells(object, value) {
         return Err(Fault::of(FaultKind::BadFixup));

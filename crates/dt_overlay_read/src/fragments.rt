@@ -33,7 +33,8 @@ pub(crate) fn content_of(object: &FlatTree, node: NodeId) -> Option<NodeId>
 fn target_of(alloc: Global, object: &FlatTree, node: NodeId) -> Result<ObjectTarget, Fault>
     requires { node < length object.now.slots }
     ensures value { (f : Name) → node_from object.now.slots 0 (f ∷ []) ≡ Some node → IfOk result (IsTargetOf (reading object.now) f) }
-    ensures refused { (f : Name) → node_from object.now.slots 0 (f ∷ []) ≡ Some node → IfErr result (IsMemoryOr (λ kind. (kind ≡ NoFragmentTarget) × ¬ HasTarget (reading object.now) f)) }
+    ensures refused { (f : Name) → node_from object.now.slots 0 (f ∷ []) ≡ Some node
+        → IfErr result (IsMemoryOr (λ kind. (kind ≡ NoFragmentTarget) × ¬ HasTarget (reading object.now) f)) }
 {
     if let Some(value) = object.value(node, b"target".as_slice()) {
         return if value.len() == 4 {

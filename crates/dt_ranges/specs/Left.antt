@@ -23,7 +23,8 @@ regions_left r = record { bus = r.bus; own = r.own; count = r.count; bytes = r.r
 
 -- the region of an entry, on a bus with these cells
 abbrev pub region_of : World → Path → BusCells → List Quad → Answer Region
-region_of w q own e = joined (cells_at 0 own.address e) >>= λ address. joined (cells_at own.address own.size e) >>= λ size. region_at w (codes "ranges") q address size
+region_of w q own e = joined (cells_at 0 own.address e) >>= λ address. joined (cells_at own.address own.size e)
+    >>= λ size. region_at w (codes "ranges") q address size
 
 -- they are those of a node from an index on
 pub record AreFrom (t : PlacedTree) (p : Path) (i : ℕ) (r : RegionsLeft) : Type 0 where

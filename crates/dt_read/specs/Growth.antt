@@ -47,7 +47,8 @@ grown (mark ∷ marks) slots ps = grown marks (slots_behind (token_of mark) slot
 
 abbrev pub MayGrow : List Mark → List Slot → List ℕ → Type 0
 MayGrow [] slots ps = Unit {0}
-MayGrow (mark ∷ marks) slots ps = MayCome (token_of mark) slots ps × MayGrow marks (slots_behind (token_of mark) slots ps) (numbers_behind (token_of mark) slots ps)
+MayGrow (mark ∷ marks) slots ps = MayCome (token_of mark) slots ps
+    × MayGrow marks (slots_behind (token_of mark) slots ps) (numbers_behind (token_of mark) slots ps)
 
 -- what a tree says, with a boot CPU and reservations
 abbrev pub reading_with : ℕ → List (ℕ × ℕ) → Root → Reading

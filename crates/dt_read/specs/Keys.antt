@@ -72,7 +72,8 @@ AreShallow count (last_mark ∷ marks) = AreShallow count marks
 -- the same of the tokens from which keys come
 abbrev pub AreShallowFor : Wanted → ℕ → List Mark → Type 0
 AreShallowFor wanted count [] = Unit {0}
-AreShallowFor wanted count (begin_mark place name ∷ marks) = ends wanted (begin_mark place name) ≡ false → (count < most_bodies) × AreShallowFor wanted (suc count) marks
+AreShallowFor wanted count (begin_mark place name ∷ marks) = ends wanted (begin_mark place name) ≡ false → (count < most_bodies)
+    × AreShallowFor wanted (suc count) marks
 AreShallowFor wanted count (end_mark ∷ marks) = ends wanted end_mark ≡ false → AreShallowFor wanted (count - 1) marks
 AreShallowFor wanted count (prop_mark p ∷ marks) = AreShallowFor wanted count marks
 AreShallowFor wanted count (nop_mark ∷ marks) = AreShallowFor wanted count marks

@@ -7,7 +7,8 @@ use Rattle.dt_bytes.specs.Places.{long_at}
 -- the bytes begin with these pairs, none of them two zeros, and a pair of zeros
 abbrev pub SpellsPairs : List (ℕ × ℕ) → List ℕ → Type 0
 SpellsPairs [] bytes = (rest : List ℕ) × (bytes ≡ pair (0, 0) ++ rest)
-SpellsPairs (p ∷ ps) bytes = (rest : List ℕ) × (bytes ≡ pair p ++ rest) × ((p.0 == 0) && (p.1 == 0) ≡ false) × (p.0 < 2 ^ 64) × (p.1 < 2 ^ 64) × SpellsPairs ps rest
+SpellsPairs (p ∷ ps) bytes = (rest : List ℕ) × (bytes ≡ pair p ++ rest) × ((p.0 == 0) && (p.1 == 0) ≡ false) × (p.0 < 2 ^ 64)
+    × (p.1 < 2 ^ 64) × SpellsPairs ps rest
 
 unfoldable pub pair_in : List ℕ → Option (ℕ × ℕ)
 pair_in bytes = long_at bytes 0 >>= λ address. long_at bytes 8 >>= λ size. Some (address, size)

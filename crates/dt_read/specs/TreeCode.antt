@@ -10,33 +10,43 @@ use Rattle.dt_read.specs.Parsing.{Left, begun, left_by, root_left, tree_of_marks
 
 -- ---- tokens and trees
 
-pub left_by_properties : (properties : List Property) (rest : List Mark) → (left_by rest).properties ≡ [] → left_by (map prop_mark properties ++ rest) ≡ record { properties = properties; levels = (left_by rest).levels }
+pub left_by_properties : (properties : List Property) (rest : List Mark) → (left_by rest).properties ≡ []
+    → left_by (map prop_mark properties ++ rest) ≡ record { properties = properties; levels = (left_by rest).levels }
 left_by_properties [] rest none = ap (λ (p : List Property). record { properties = p; levels = (left_by rest).levels }) none
-left_by_properties (p ∷ properties) rest none = ap (λ (l : Left). record { properties = p ∷ l.properties; levels = l.levels }) (left_by_properties properties rest none)
+left_by_properties (p ∷ properties) rest none = ap (λ (l : Left). record { properties = p ∷ l.properties; levels = l.levels })
+    (left_by_properties properties rest none)
 
-pub left_by_nodes : (nodes : Nodes) (rest : List Mark) → left_by (marks_of_nodes nodes ++ end_mark ∷ rest) ≡ record { properties = []; levels = nodes ∷ (left_by rest).levels }
+pub left_by_nodes : (nodes : Nodes) (rest : List Mark)
+    → left_by (marks_of_nodes nodes ++ end_mark ∷ rest) ≡ record { properties = []; levels = nodes ∷ (left_by rest).levels }
 left_by_nodes no_nodes rest = refl
 left_by_nodes (node place name properties children siblings) rest =
     let after = left_by_nodes siblings rest in
-    let inside : left_by (marks_of_nodes children ++ end_mark ∷ (marks_of_nodes siblings ++ end_mark ∷ rest)) ≡ record { properties = []; levels = children ∷ siblings ∷ (left_by rest).levels } =
+    let inside : left_by (marks_of_nodes children ++ end_mark
+    ∷ (marks_of_nodes siblings ++ end_mark ∷ rest)) ≡ record { properties = []; levels = children ∷ siblings ∷ (left_by rest).levels } =
     left_by_nodes children (marks_of_nodes siblings ++ end_mark ∷ rest) ∙ ap (λ (l : Left). record { properties = []; levels = children ∷ l.levels }) after in
-    let whole : left_by (map prop_mark properties ++ (marks_of_nodes children ++ end_mark ∷ (marks_of_nodes siblings ++ end_mark ∷ rest))) ≡ record { properties = properties; levels = children ∷ siblings ∷ (left_by rest).levels } =
+    let whole : left_by (map prop_mark properties ++ (marks_of_nodes children ++ end_mark
+    ∷ (marks_of_nodes siblings ++ end_mark ∷ rest))) ≡ record { properties = properties; levels = children ∷ siblings ∷ (left_by rest).levels } =
     left_by_properties properties (marks_of_nodes children ++ end_mark ∷ (marks_of_nodes siblings ++ end_mark ∷ rest)) (ap (λ (l : Left). l.properties) inside)
     ∙ ap (λ (l : Left). record { properties = properties; levels = l.levels }) inside in
-    let regroup : (map prop_mark properties ++ (marks_of_nodes children ++ end_mark ∷ marks_of_nodes siblings)) ++ end_mark ∷ rest ≡ map prop_mark properties ++ (marks_of_nodes children ++ end_mark ∷ (marks_of_nodes siblings ++ end_mark ∷ rest)) = simp append_assoc in
+    let regroup : (map prop_mark properties ++ (marks_of_nodes children ++ end_mark ∷ marks_of_nodes siblings)) ++ end_mark
+    ∷ rest ≡ map prop_mark properties ++ (marks_of_nodes children ++ end_mark ∷ (marks_of_nodes siblings ++ end_mark ∷ rest)) = simp append_assoc in
     ap (λ (l : Left). record { properties = []; levels = begun place name l.properties l.levels }) (ap left_by regroup ∙ whole)
 
 -- the tokens of a tree, whatever follows them, give it back
 pub tree_again : (tree : Root) (rest : List Mark) → tree_of_marks (marks_of tree ++ rest) ≡ tree
 tree_again tree rest =
     let inside = left_by_nodes tree.children rest in
-    let whole : left_by (map prop_mark tree.properties ++ (marks_of_nodes tree.children ++ end_mark ∷ rest)) ≡ record { properties = tree.properties; levels = tree.children ∷ (left_by rest).levels } =
+    let whole : left_by (map prop_mark tree.properties ++ (marks_of_nodes tree.children ++ end_mark
+    ∷ rest)) ≡ record { properties = tree.properties; levels = tree.children ∷ (left_by rest).levels } =
     left_by_properties tree.properties (marks_of_nodes tree.children ++ end_mark ∷ rest) (ap (λ (l : Left). l.properties) inside)
     ∙ ap (λ (l : Left). record { properties = tree.properties; levels = l.levels }) inside in
-    let regroup : (map prop_mark tree.properties ++ (marks_of_nodes tree.children ++ end_mark ∷ [])) ++ rest ≡ map prop_mark tree.properties ++ (marks_of_nodes tree.children ++ end_mark ∷ rest) = simp append_assoc in
-    ap (λ (l : Left). root_left (begun tree.place [] l.properties l.levels)) (ap left_by regroup ∙ whole) ∙ at_root tree.place tree.properties tree.children (left_by rest).levels
+    let regroup : (map prop_mark tree.properties ++ (marks_of_nodes tree.children ++ end_mark ∷ [])) ++ rest ≡ map prop_mark tree.properties
+    ++ (marks_of_nodes tree.children ++ end_mark ∷ rest) = simp append_assoc in
+    ap (λ (l : Left). root_left (begun tree.place [] l.properties l.levels)) (ap left_by regroup ∙ whole)
+    ∙ at_root tree.place tree.properties tree.children (left_by rest).levels
   where
-    at_root : (place : ℕ) (properties : List Property) (children : Nodes) (levels : List Nodes) → root_left (begun place [] properties (children ∷ levels)) ≡ record { place = place; properties = properties; children = children }
+    at_root : (place : ℕ) (properties : List Property) (children : Nodes) (levels : List Nodes)
+        → root_left (begun place [] properties (children ∷ levels)) ≡ record { place = place; properties = properties; children = children }
     at_root place properties children [] = refl
     at_root place properties children (siblings ∷ levels) = refl
 
@@ -92,7 +102,8 @@ coded_placed =
     (λ _. refl)
 
 abbrev pub coded_property : Coded Property
-coded_property = code_by (List ℕ × List ℕ) (coded× (coded_list coded_ℕ) (coded_list coded_ℕ)) (λ p. (p.name, p.value)) (λ p. record { name = p.0; value = p.1 }) (λ _. refl)
+coded_property = code_by (List ℕ × List ℕ) (coded× (coded_list coded_ℕ) (coded_list coded_ℕ)) (λ p. (p.name, p.value))
+    (λ p. record { name = p.0; value = p.1 }) (λ _. refl)
 
 -- a step as the token that it is
 abbrev pub mark_of_step : Step → Mark

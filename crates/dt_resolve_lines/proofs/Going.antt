@@ -3,12 +3,11 @@ use Rattle.std.proofs.Common.{◌≡◌, ◌+◌, ◌++◌, ℕ, Bool, true, fal
 use Rattle.std.specs.List.{concat}
 use Rattle.std.specs.Prelude.{Result, Ok, Err, OnOk, IfErr}
 use Rattle.dt_names.specs.declared.fault.Fault.{Fault}
-use Rattle.dt_names.specs.Sink.{Taken, IsRefused}
 use Rattle.dt_resolve_model.specs.Answers.{Answer}
-use Rattle.dt_decompile.specs.Passed.{IsPassed}
-use Rattle.dt_decompile.proofs.Passing.{passed_none, passed_then, refused_at}
+use Rattle.dt_text_writer.specs.Written.{Written, IsWritten, IsCutOff}
+use Rattle.dt_text_writer.proofs.Writing.{puts_none, puts_then, cut_at}
 use Rattle.dt_resolve_lines.specs.AllLines.{Telling, EndsOr, AreUpTo, AreFrom, AreBegun}
-use Rattle.dt_resolve_lines.specs.Given.{ArePassed, AreRefused}
+use Rattle.dt_resolve_lines.specs.Given.{AreWritten, AreCutOff}
 
 -- lines from an index on, behind some bytes, are all lines
 abbrev Continues : {A : Type 0} → (ℕ → Type 0) → Telling A → ℕ → List ℕ → Type 0
@@ -20,12 +19,12 @@ ends_silent {A} told i = (a : Answer A) × told.rule i a × (told.is_silent a �
 abbrev anywhere : ℕ → Type 0
 anywhere i = Unit {0}
 
--- the lines of a node up to an index have passed
-pub record IsGoing {A : Type 0} (told : Telling A) (i : ℕ) (old new : Taken) (waited waits : List ℕ) : Type 0 where
+-- the lines of a node up to an index have been written
+pub record IsGoing {A : Type 0} (told : Telling A) (i : ℕ) (old new : Written) : Type 0 where
   pub front : List ℕ
   pub whole : Continues (ends_silent told) told i front
   pub begun : Continues anywhere told i front
-  pub passed : IsPassed old new waited front waits
+  pub written : IsWritten front old new
 
 one_line : (l : List ℕ) → concat (l ∷ []) ≡ l
 one_line l = append-nil l
@@ -43,8 +42,8 @@ either true more m = refl
 either false more m = m
 
 module _ {A : Type 0} (told : Telling A) where
-  pub going_starts : (a : Taken) (w : List ℕ) → IsGoing told 0 a a w w
-  going_starts a w = record { front = []; whole = λ lines are. (lines, are, refl); begun = λ lines are. (lines, are, refl); passed = passed_none a w }
+  pub going_starts : (a : Written) → IsGoing told 0 a a
+  going_starts a = record { front = []; whole = λ lines are. (lines, are, refl); begun = λ lines are. (lines, are, refl); written = puts_none a }
 
   module _ {i : ℕ} (x : Answer A) (rule : told.rule i x) where
     -- a line that isn't the last one
@@ -53,61 +52,61 @@ module _ {A : Type 0} (told : Telling A) where
         let (all, these, is) = continues (told.line i x ∷ lines) (x, rule, heard, refl, goes_on (told.is_last x) lines (AreUpTo ends told (i + 1) lines) more are) in
         (all, these, is ∙ sym (append_assoc front (told.line i x) (concat lines)))
 
-    module _ {a b : Taken} {w v : List ℕ} (going : IsGoing told i a b w v) where
-      pub going_on : {c : Taken} {u : List ℕ} → told.is_silent x ≡ false → told.is_last x ≡ false → IsPassed b c v (told.line i x) u → IsGoing told (i + 1) a c w u
-      going_on heard more passed = record {
+    module _ {a b : Written} (going : IsGoing told i a b) where
+      pub going_on : {c : Written} → told.is_silent x ≡ false → told.is_last x ≡ false → IsWritten (told.line i x) b c → IsGoing told (i + 1) a c
+      going_on heard more written = record {
         front = going.front ++ told.line i x;
         whole = one_more (ends_silent told) going.front heard more going.whole;
         begun = one_more anywhere going.front heard more going.begun;
-        passed = passed_then going.passed passed;
+        written = puts_then going.written written;
       }
 
       -- the lines end without another one
-      pub going_ends : told.is_silent x ≡ true → ArePassed (AreFrom told 0) a b w v
+      pub going_ends : told.is_silent x ≡ true → AreWritten (AreFrom told 0) a b
       going_ends silent =
           let (all, these, is) = going.whole [] (x, rule, silent) in
-          record { lines = all; are = these; passed = subst (λ l. IsPassed a b w l v) (sym (is ∙ append-nil going.front)) going.passed }
+          record { lines = all; are = these; written = subst (λ l. IsWritten l a b) (sym (is ∙ append-nil going.front)) going.written }
 
       -- the last line
-      pub going_ends_behind : {c : Taken} {u : List ℕ} → told.is_silent x ≡ false → told.is_last x ≡ true → IsPassed b c v (told.line i x) u → ArePassed (AreFrom told 0) a c w u
-      going_ends_behind {c} {u} heard last passed =
+      pub going_ends_behind : {c : Written} → told.is_silent x ≡ false → told.is_last x ≡ true → IsWritten (told.line i x) b c → AreWritten (AreFrom told 0) a c
+      going_ends_behind {c} heard last written =
           let l = told.line i x in
           let (all, these, is) = going.whole (l ∷ []) (x, rule, heard, refl, ended (told.is_last x) (AreFrom told (i + 1) []) last) in
-          record { lines = all; are = these; passed = subst (λ l. IsPassed a c w l u) (sym (is ∙ ap (λ l. going.front ++ l) (one_line l))) (passed_then going.passed passed) }
+          record { lines = all; are = these; written = subst (λ l. IsWritten l a c) (sym (is ∙ ap (λ l. going.front ++ l) (one_line l))) (puts_then going.written written) }
 
       -- the sink fails at a line
-      pub going_fails : {c : Taken} {fault : Fault} → told.is_silent x ≡ false → IsRefused fault (v ++ told.line i x) b c → AreRefused (AreBegun told 0) fault a c w
+      pub going_fails : {c : Written} {fault : Fault} → told.is_silent x ≡ false → IsCutOff fault (told.line i x) b c → AreCutOff (AreBegun told 0) fault a c
       going_fails {c} {fault} heard refused =
           let l = told.line i x in
           let (all, these, is) = going.begun (l ∷ []) (x, rule, heard, refl, either (told.is_last x) (Unit {0}) tt) in
-          record { lines = all; are = these; refused = refused_at (concat all) l [] is going.passed refused }
+          record { lines = all; are = these; cut = cut_at (concat all) l [] is going.written refused }
 
       -- the last line, as it ends a function
-      pub last_passes : (c : Taken) (u : List ℕ) (r : Result (Unit {0}) Fault) → told.is_silent x ≡ false → told.is_last x ≡ true → OnOk r (IsPassed b c v (told.line i x) u) → OnOk r (ArePassed (AreFrom told 0) a c w u)
-      last_passes c u (Ok o) heard last passed = going_ends_behind heard last passed
-      last_passes c u (Err e) heard last passed = tt
+      pub last_passes : (c : Written) (r : Result (Unit {0}) Fault) → told.is_silent x ≡ false → told.is_last x ≡ true → OnOk r (IsWritten (told.line i x) b c) → OnOk r (AreWritten (AreFrom told 0) a c)
+      last_passes c (Ok o) heard last written = going_ends_behind heard last written
+      last_passes c (Err e) heard last written = tt
 
-      pub last_fails : (c : Taken) (r : Result (Unit {0}) Fault) → told.is_silent x ≡ false → IfErr r (λ fault. IsRefused fault (v ++ told.line i x) b c) → IfErr r (λ fault. AreRefused (AreBegun told 0) fault a c w)
+      pub last_fails : (c : Written) (r : Result (Unit {0}) Fault) → told.is_silent x ≡ false → IfErr r (λ fault. IsCutOff fault (told.line i x) b c) → IfErr r (λ fault. AreCutOff (AreBegun told 0) fault a c)
       last_fails c (Ok o) heard refused = tt
       last_fails c (Err e) heard refused = going_fails heard refused
 
       -- the last line, or none
-      finished : {c : Taken} {u : List ℕ} (s : Bool) → told.is_silent x ≡ s → told.is_last x ≡ true → IsPassed b c v (cond s [] (told.line i x)) u → ArePassed (AreFrom told 0) a c w u
-      finished {c} {u} true silent last passed =
+      finished : {c : Written} (s : Bool) → told.is_silent x ≡ s → told.is_last x ≡ true → IsWritten (cond s [] (told.line i x)) b c → AreWritten (AreFrom told 0) a c
+      finished {c} true silent last written =
           let (all, these, is) = going.whole [] (x, rule, silent) in
-          record { lines = all; are = these; passed = subst (λ l. IsPassed a c w l u) (sym is) (passed_then going.passed passed) }
-      finished false heard last passed = going_ends_behind heard last passed
+          record { lines = all; are = these; written = subst (λ l. IsWritten l a c) (sym is) (puts_then going.written written) }
+      finished false heard last written = going_ends_behind heard last written
 
-      cut : {c : Taken} {fault : Fault} (s : Bool) → told.is_silent x ≡ s → IsRefused fault (v ++ cond s [] (told.line i x)) b c → AreRefused (AreBegun told 0) fault a c w
+      cut : {c : Written} {fault : Fault} (s : Bool) → told.is_silent x ≡ s → IsCutOff fault (cond s [] (told.line i x)) b c → AreCutOff (AreBegun told 0) fault a c
       cut true silent refused =
           let (all, these, is) = going.begun [] tt in
-          record { lines = all; are = these; refused = refused_at (concat all) [] [] is going.passed refused }
+          record { lines = all; are = these; cut = cut_at (concat all) [] [] is going.written refused }
       cut false heard refused = going_fails heard refused
 
-      pub finish_passes : (c : Taken) (u : List ℕ) (r : Result (Unit {0}) Fault) → told.is_last x ≡ true → OnOk r (IsPassed b c v (cond (told.is_silent x) [] (told.line i x)) u) → OnOk r (ArePassed (AreFrom told 0) a c w u)
-      finish_passes c u (Ok o) last passed = finished (told.is_silent x) refl last passed
-      finish_passes c u (Err e) last passed = tt
+      pub finish_passes : (c : Written) (r : Result (Unit {0}) Fault) → told.is_last x ≡ true → OnOk r (IsWritten (cond (told.is_silent x) [] (told.line i x)) b c) → OnOk r (AreWritten (AreFrom told 0) a c)
+      finish_passes c (Ok o) last written = finished (told.is_silent x) refl last written
+      finish_passes c (Err e) last written = tt
 
-      pub finish_fails : (c : Taken) (r : Result (Unit {0}) Fault) → IfErr r (λ fault. IsRefused fault (v ++ cond (told.is_silent x) [] (told.line i x)) b c) → IfErr r (λ fault. AreRefused (AreBegun told 0) fault a c w)
+      pub finish_fails : (c : Written) (r : Result (Unit {0}) Fault) → IfErr r (λ fault. IsCutOff fault (cond (told.is_silent x) [] (told.line i x)) b c) → IfErr r (λ fault. AreCutOff (AreBegun told 0) fault a c)
       finish_fails c (Ok o) refused = tt
       finish_fails c (Err e) refused = cut (told.is_silent x) refl refused

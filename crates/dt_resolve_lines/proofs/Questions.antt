@@ -12,19 +12,9 @@ use Rattle.dt_read.specs.Placed.{PlacedTree, path_at, reading_of, IsAt}
 use Rattle.dt_read.proofs.NodePlaces.{path_is, stands_place}
 use Rattle.dt_resolve_model.specs.Answers.{Answer, refused, answer}
 use Rattle.dt_resolve_model.specs.World.{tree_world}
-use Rattle.dt_decompile.specs.Passed.{IsPassed}
-use Rattle.dt_decompile.proofs.Passing.{passed_then}
 use Rattle.dt_view.specs.Views.{IsFoundBy, WhyNotFound}
 use Rattle.dt_resolve_lines.specs.Asked.{answer_words, IsAnswer, WhyNoNode, WhyNotAsked, WhyUntold, no_answer, unanswered, cut, refusal, failure}
 use Rattle.dt_resolve_model.specs.declared.questions.Question.{Question}
-
--- some bytes passed an empty buffer, which was emptied again
-pub taken_whole : (a b c : Taken) (w xs v u : List ℕ) (r : Result (Unit {0}) Fault) → w ≡ [] → IsPassed a b w xs v → OnOk r (IsPassed b c v [] u) → OnOk r (u ≡ []) → OnOk r (Takes xs a c)
-taken_whole a b c w xs v u (Ok x) empty p q none =
-    let both = passed_then p q in
-    let same : both.front ≡ xs = sym (append-nil both.front) ∙ ap (λ l. both.front ++ l) (sym none) ∙ sym both.split ∙ ap (λ l. l ++ (xs ++ [])) empty ∙ append-nil xs in
-    subst (λ l. Takes l a c) same both.taken
-taken_whole a b c w xs v u (Err x) empty p q none = tt
 
 -- the sink failed at a line that is told
 pub untold : (old new : Taken) (told : Answer (List ℕ)) (line : List ℕ) (r : Result (Unit {0}) Fault) → told ≡ answer line → IfErr r (λ fault. IsRefused fault line old new) → IfErr r (WhyUntold told old new)

@@ -26,7 +26,8 @@ EndsOr false lines more = more
 -- the lines of a node from an index on, up to one where they may end without another line
 abbrev pub AreUpTo : {A : Type 0} → (ℕ → Type 0) → Telling A → ℕ → List (List ℕ) → Type 0
 AreUpTo {A} ends told i [] = ends i
-AreUpTo {A} ends told i (l ∷ lines) = (a : Answer A) × told.rule i a × (told.is_silent a ≡ false) × (l ≡ told.line i a) × EndsOr (told.is_last a) lines (AreUpTo ends told (i + 1) lines)
+AreUpTo {A} ends told i (l ∷ lines) = (a : Answer A) × told.rule i a × (told.is_silent a ≡ false) × (l ≡ told.line i a)
+    × EndsOr (told.is_last a) lines (AreUpTo ends told (i + 1) lines)
 
 -- all of them
 abbrev pub AreFrom : {A : Type 0} → Telling A → ℕ → List (List ℕ) → Type 0
@@ -44,7 +45,8 @@ AreOfAll Own (n ∷ nodes) lines = (own rest : List (List ℕ)) × (lines ≡ ow
 -- some of them, the first ones
 abbrev pub AreBegunOfAll : (Path → List (List ℕ) → Type 0) → (Path → List (List ℕ) → Type 0) → List Placed → List (List ℕ) → Type 0
 AreBegunOfAll Own Begun [] lines = lines ≡ []
-AreBegunOfAll Own Begun (n ∷ nodes) lines = Begun n.path lines ⊎ ((own rest : List (List ℕ)) × (lines ≡ own ++ rest) × Own n.path own × AreBegunOfAll Own Begun nodes rest)
+AreBegunOfAll Own Begun (n ∷ nodes) lines = Begun n.path lines ⊎ ((own rest : List (List ℕ)) × (lines ≡ own ++ rest) × Own n.path own
+    × AreBegunOfAll Own Begun nodes rest)
 
 abbrev pub is_no_reg : FaultKind → Bool
 is_no_reg NoReg = true
@@ -66,8 +68,20 @@ is_fault test (answer a) = false
 
 -- the regions of a node: NoReg ends them without a line, BadCells behind its line
 abbrev pub regions_told : Reading → Path → Telling Region
-regions_told t p = record { rule = λ i a. region (tree_world t) p i ≡ a; line = line region_words p; is_silent = is_fault is_no_reg; is_last = is_fault is_bad_cells }
+regions_told t p = record {
+  rule = λ i a. region
+      (tree_world t) p i ≡ a;
+  line = line region_words p;
+  is_silent = is_fault is_no_reg;
+  is_last = is_fault is_bad_cells;
+}
 
 -- the routes of a node: NoInterrupts ends them without a line, each other fault behind its line
 abbrev pub routes_told : Reading → Path → Telling Route
-routes_told t p = record { rule = IsRoute (tree_world t) p; line = line route_words p; is_silent = is_fault is_no_interrupts; is_last = is_fault (λ kind. true) }
+routes_told t p = record {
+  rule = IsRoute
+      (tree_world t) p;
+  line = line route_words p;
+  is_silent = is_fault is_no_interrupts;
+  is_last = is_fault (λ kind. true);
+}

@@ -23,7 +23,8 @@ fault_words fault = fault_text fault ++ 10 ∷ []
 
 -- a region: its address, its size, and whether the whole of it is mapped
 abbrev pub region_words : Region → List ℕ
-region_words r = (codes "0x" ++ significant (hexadecimal (to_be_bytes w128 r.address))) ++ (number_words (to_be_bytes w128 r.size) ++ (if r.whole then codes " whole\n" else codes " cut\n"))
+region_words r = (codes "0x" ++ significant (hexadecimal (to_be_bytes w128 r.address))) ++ (number_words (to_be_bytes w128 r.size)
+    ++ (if r.whole then codes " whole\n" else codes " cut\n"))
 
 abbrev pub cells_words : List ℕ → List ℕ
 cells_words [] = []

@@ -10,12 +10,12 @@ ghost use Rattle.dt_resolve_lines.specs.Lines.{region_words, route_words};
 ghost use Rattle.dt_view.specs.Views.{world_of};
 
 use crate::words::{put_region, put_route};
-use dt_decompile::Buffer;
 use dt_irq::{Route, specifier_route};
 use dt_names::{Fault, NodeId, Sink};
 use dt_ranges::dma_region;
 use dt_read::Blob;
 use dt_resolve_model::{Question, Region};
+use dt_text_writer::Writer;
 use dt_view::{Index, TreeView, node_at};
 use std::alloc::Global;
 
@@ -24,9 +24,9 @@ fn tell_region<S: Sink>(out: &mut S, region: Region) -> Result<(), Fault>
     ensures written { OnOk result (Takes (region_words region) (S.taken out.old) (S.taken out.new)) }
     ensures refused { IfErr result (λ fault. IsRefused fault (region_words region) (S.taken out.old) (S.taken out.new)) }
 {
-    let mut buffer = Buffer::new();
-    put_region(&mut buffer, out, region)?;
-    buffer.flush(out)
+    let mut writer = Writer::new(out);
+    put_region(&mut writer, region)?;
+    writer.flush()
 }
 
 /// Writes a route.
@@ -35,9 +35,9 @@ fn tell_route<V: TreeView, S: Sink>(view: &V, out: &mut S, route: &Route) -> Res
     ensures written { OnOk result (Takes (route_words (route_in (V.tree view.now) route.now)) (S.taken out.old) (S.taken out.new)) }
     ensures refused { IfErr result (λ fault. IsRefused fault (route_words (route_in (V.tree view.now) route.now)) (S.taken out.old) (S.taken out.new)) }
 {
-    let mut buffer = Buffer::new();
-    put_route(view, &mut buffer, out, route)?;
-    buffer.flush(out)
+    let mut writer = Writer::new(out);
+    put_route(view, &mut writer, route)?;
+    writer.flush()
 }
 
 /// Writes what a node reaches by DMA.
@@ -49,8 +49,11 @@ fn tell_dma<V: TreeView, S: Sink>(
     out: &mut S,
 ) -> Result<(), Fault>
     requires { IsNode (V.tree view.now) node }
-    ensures written { OnOk result ((line : List ℕ) × (dma_words (world_of (V.tree view.now)) (path_at (V.tree view.now) node) address size ≡ answer line) × Takes line (S.taken out.old) (S.taken out.new)) }
-    ensures refused { IfErr result (WhyUntold (dma_words (world_of (V.tree view.now)) (path_at (V.tree view.now) node) address size) (S.taken out.old) (S.taken out.new)) }
+    ensures written { OnOk result ((line : List ℕ)
+        × (dma_words (world_of (V.tree view.now)) (path_at (V.tree view.now) node) address size ≡ answer line)
+        × Takes line (S.taken out.old) (S.taken out.new)) }
+    ensures refused { IfErr result (WhyUntold (dma_words (world_of (V.tree view.now)) (path_at (V.tree view.now) node) address size)
+        (S.taken out.old) (S.taken out.new)) }
 {
     let region = dma_region(view, node, address, size)?;
     tell_region(out, region)
@@ -66,8 +69,11 @@ fn tell_specifier<V: TreeView, S: Sink>(
     out: &mut S,
 ) -> Result<(), Fault>
     requires { IsNode (V.tree view.now) node }
-    ensures written { OnOk result ((line : List ℕ) × (specifier_words (world_of (V.tree view.now)) (path_at (V.tree view.now) node) property.now kind.now index ≡ answer line) × Takes line (S.taken out.old) (S.taken out.new)) }
-    ensures refused { IfErr result (WhyUntold (specifier_words (world_of (V.tree view.now)) (path_at (V.tree view.now) node) property.now kind.now index) (S.taken out.old) (S.taken out.new)) }
+    ensures written { OnOk result ((line : List ℕ)
+        × (specifier_words (world_of (V.tree view.now)) (path_at (V.tree view.now) node) property.now kind.now index ≡ answer line)
+        × Takes line (S.taken out.old) (S.taken out.new)) }
+    ensures refused { IfErr result (WhyUntold (specifier_words (world_of (V.tree view.now))
+        (path_at (V.tree view.now) node) property.now kind.now index) (S.taken out.old) (S.taken out.new)) }
 {
     let route = specifier_route(view, node, property, kind, index)?;
     tell_route(view, out, &route)
@@ -82,8 +88,11 @@ fn tell<V: TreeView, S: Sink>(
     out: &mut S,
 ) -> Result<(), Fault>
     requires { IsNode (V.tree view.now) node }
-    ensures written { OnOk result ((line : List ℕ) × (answer_words question.entry (world_of (V.tree view.now)) (path_at (V.tree view.now) node) ≡ answer line) × Takes line (S.taken out.old) (S.taken out.new)) }
-    ensures refused { IfErr result (WhyUntold (answer_words question.entry (world_of (V.tree view.now)) (path_at (V.tree view.now) node)) (S.taken out.old) (S.taken out.new)) }
+    ensures written { OnOk result ((line : List ℕ)
+        × (answer_words question.entry (world_of (V.tree view.now)) (path_at (V.tree view.now) node) ≡ answer line)
+        × Takes line (S.taken out.old) (S.taken out.new)) }
+    ensures refused { IfErr result (WhyUntold (answer_words question.entry (world_of (V.tree view.now)) (path_at (V.tree view.now) node))
+        (S.taken out.old) (S.taken out.new)) }
 {
     match question {
         Question::Dma { address, size } => tell_dma(view, node, address, size, out),
@@ -110,7 +119,8 @@ pub fn ask<S: Sink>(
     question: Question<'_>,
     out: &mut S,
 ) -> Result<(), Fault>
-    ensures written { OnOk result ((line : List ℕ) × IsAnswer question.entry bytes.now path.now (answer line) × Takes line (S.taken out.old) (S.taken out.new)) }
+    ensures written { OnOk result ((line : List ℕ) × IsAnswer question.entry bytes.now path.now (answer line)
+        × Takes line (S.taken out.old) (S.taken out.new)) }
     ensures refused { IfErr result (WhyNotAsked question.entry bytes.now path.now (S.taken out.old) (S.taken out.new)) }
 {
     let blob = Blob::check(bytes)?;

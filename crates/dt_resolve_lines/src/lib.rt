@@ -12,7 +12,6 @@ mod asking;
 mod laws;
 mod listing;
 mod paths;
-mod pieces;
 mod regions;
 mod routes;
 mod words;

@@ -4,15 +4,15 @@ ghost use Rattle.std.specs.Prelude.{List, ℕ, OnOk, IfErr};
 ghost use Rattle.std.specs.List.{concat};
 ghost use Rattle.dt_names.specs.Sink.{Takes, IsRefused};
 ghost use Rattle.dt_read.specs.Placed.{path_at, reading_of, IsNode};
-ghost use Rattle.dt_resolve_lines.specs.Given.{ArePassed, AreRefused};
+ghost use Rattle.dt_resolve_lines.specs.Given.{PutsLines, FailsAtLines};
 ghost use Rattle.dt_resolve_lines.specs.declared.listing.Listing.TheVariants.{Regions, Routes};
 ghost use Rattle.dt_resolve_lines.specs.Listed.{AreAll, AreAllBegun, AreOwn, AreOwnBegun, AreLinesOf, WhyNotListed};
 
 use crate::regions::put_regions;
 use crate::routes::put_routes;
-use dt_decompile::Buffer;
 use dt_names::{Fault, NodeId, Sink};
 use dt_read::{Blob, Step};
+use dt_text_writer::Writer;
 use dt_view::{Index, TreeView};
 use std::alloc::Global;
 
@@ -28,35 +28,34 @@ pub enum Listing {
 /// Writes the lines of a node.
 fn put_node<V: TreeView, S: Sink>(
     view: &V,
-    buffer: &mut Buffer,
-    out: &mut S,
+    writer: &mut Writer<'_, S>,
     node: NodeId,
     listing: Listing,
 ) -> Result<(), Fault>
     requires { IsNode (V.tree view.now) node }
-    ensures passed { OnOk result (ArePassed (AreOwn listing (reading_of (V.tree view.now)) (path_at (V.tree view.now) node)) (S.taken out.old) (S.taken out.new) buffer.old buffer.new) }
-    ensures refused { IfErr result (λ fault. AreRefused (AreOwnBegun listing (reading_of (V.tree view.now)) (path_at (V.tree view.now) node)) fault (S.taken out.old) (S.taken out.new) buffer.old) }
+    ensures written { OnOk result (PutsLines S.taken (AreOwn listing (reading_of (V.tree view.now)) (path_at (V.tree view.now) node)) writer.old writer.new) }
+    ensures refused { IfErr result (λ fault. FailsAtLines S.taken (AreOwnBegun listing (reading_of (V.tree view.now))
+        (path_at (V.tree view.now) node)) fault writer.old writer.new) }
 {
     match listing {
-        Listing::Regions => put_regions(view, buffer, out, node),
-        Listing::Routes => put_routes(view, buffer, out, node),
+        Listing::Regions => put_regions(view, writer, node),
+        Listing::Routes => put_routes(view, writer, node),
     }
 }
 
 /// Writes the lines of all nodes.
 fn put_nodes<S: Sink>(
     index: &Index<'_>,
-    buffer: &mut Buffer,
-    out: &mut S,
+    writer: &mut Writer<'_, S>,
     listing: Listing,
 ) -> Result<(), Fault>
-    ensures passed { OnOk result (ArePassed (AreAll listing (reading_of index.now)) (S.taken out.old) (S.taken out.new) buffer.old buffer.new) }
-    ensures refused { IfErr result (λ fault. AreRefused (AreAllBegun listing (reading_of index.now)) fault (S.taken out.old) (S.taken out.new) buffer.old) }
+    ensures written { OnOk result (PutsLines S.taken (AreAll listing (reading_of index.now)) writer.old writer.new) }
+    ensures refused { IfErr result (λ fault. FailsAtLines S.taken (AreAllBegun listing (reading_of index.now)) fault writer.old writer.new) }
 {
     index.validity();
     for step in index.blob().steps() {
         match step {
-            Step::Open { node, .. } => put_node(index, buffer, out, node, listing)?,
+            Step::Open { node, .. } => put_node(index, writer, node, listing)?,
             Step::Property { .. } => {}
             Step::Close => {}
         }
@@ -67,12 +66,14 @@ fn put_nodes<S: Sink>(
 /// Writes all lines. Apart, so that the buffer isn't on the stack while the blob is checked.
 #[inline(never)]
 fn put_lines<S: Sink>(index: &Index<'_>, out: &mut S, listing: Listing) -> Result<(), Fault>
-    ensures written { OnOk result ((lines : List (List ℕ)) × AreAll listing (reading_of index.now) lines × Takes (concat lines) (S.taken out.old) (S.taken out.new)) }
-    ensures refused { IfErr result (λ fault. (lines : List (List ℕ)) × AreAllBegun listing (reading_of index.now) lines × IsRefused fault (concat lines) (S.taken out.old) (S.taken out.new)) }
+    ensures written { OnOk result ((lines : List (List ℕ)) × AreAll listing (reading_of index.now) lines
+        × Takes (concat lines) (S.taken out.old) (S.taken out.new)) }
+    ensures refused { IfErr result (λ fault. (lines : List (List ℕ)) × AreAllBegun listing (reading_of index.now) lines
+        × IsRefused fault (concat lines) (S.taken out.old) (S.taken out.new)) }
 {
-    let mut buffer = Buffer::new();
-    put_nodes(index, &mut buffer, out, listing)?;
-    buffer.flush(out)
+    let mut writer = Writer::new(out);
+    put_nodes(index, &mut writer, listing)?;
+    writer.flush()
 }
 
 /// Writes the lines of a blob.

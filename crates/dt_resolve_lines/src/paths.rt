@@ -2,15 +2,13 @@
 
 ghost use Rattle.std.specs.Prelude.{◌≡◌, ◌≢◌, ◌++◌, [], OnOk, IfErr};
 ghost use Rattle.dt_model.specs.Path.{path_text};
-ghost use Rattle.dt_names.specs.Sink.{IsRefused};
 ghost use Rattle.dt_read.specs.Placed.{path_at, IsNode};
-ghost use Rattle.dt_decompile.specs.Passed.{IsPassed};
+ghost use Rattle.dt_text_writer.specs.Written.{Puts, FailsAt};
 ghost use Rattle.dt_resolve_lines.specs.Paths.{names_text, way_text, AreNodes};
 
-use crate::pieces::buffer_pieces;
-use dt_decompile::Buffer;
 use dt_names::{Fault, NodeId, Sink};
 use dt_read::OpenNodes;
+use dt_text_writer::Writer;
 use dt_view::TreeView;
 
 /// The nodes on the way down to a node, the first one below the root in front.
@@ -32,35 +30,33 @@ fn way_to<V: TreeView>(view: &V, node: NodeId) -> OpenNodes
 /// Writes the names of the nodes on a way, each behind a slash.
 fn put_way<V: TreeView, S: Sink>(
     view: &V,
-    buffer: &mut Buffer,
-    out: &mut S,
+    writer: &mut Writer<'_, S>,
     way: &mut OpenNodes,
 ) -> Result<(), Fault>
     requires { AreNodes (V.tree view.now) way.old }
-    ensures passed { OnOk result (IsPassed (S.taken out.old) (S.taken out.new) buffer.old (way_text (V.tree view.now) way.old) buffer.new) }
-    ensures refused { IfErr result (λ fault. IsRefused fault (buffer.old ++ way_text (V.tree view.now) way.old) (S.taken out.old) (S.taken out.new)) }
+    ensures written { OnOk result (Puts S.taken (way_text (V.tree view.now) way.old) writer.old writer.new) }
+    ensures refused { IfErr result (λ fault. FailsAt S.taken fault (way_text (V.tree view.now) way.old) writer.old writer.new) }
 {
     while let Some(node) = way.innermost() {
-        buffer_pieces(buffer, out, &[b"/", view.name(node)])?;
+        writer.put_pieces(&[b"/", view.name(node)])?;
         way.pop();
     }
     Ok(())
 }
 
 /// Writes the path of a node.
-pub(crate) fn buffer_path<V: TreeView, S: Sink>(
+pub(crate) fn put_node_path<V: TreeView, S: Sink>(
     view: &V,
-    buffer: &mut Buffer,
-    out: &mut S,
+    writer: &mut Writer<'_, S>,
     node: NodeId,
 ) -> Result<(), Fault>
     requires { IsNode (V.tree view.now) node }
-    ensures passed { OnOk result (IsPassed (S.taken out.old) (S.taken out.new) buffer.old (path_text (path_at (V.tree view.now) node)) buffer.new) }
-    ensures refused { IfErr result (λ fault. IsRefused fault (buffer.old ++ path_text (path_at (V.tree view.now) node)) (S.taken out.old) (S.taken out.new)) }
+    ensures written { OnOk result (Puts S.taken (path_text (path_at (V.tree view.now) node)) writer.old writer.new) }
+    ensures refused { IfErr result (λ fault. FailsAt S.taken fault (path_text (path_at (V.tree view.now) node)) writer.old writer.new) }
 {
     let Some(_) = view.parent(node) else {
-        return buffer.put(out, b"/");
+        return writer.put(b"/");
     };
     let mut way = way_to(view, node);
-    put_way(view, buffer, out, &mut way)
+    put_way(view, writer, &mut way)
 }

@@ -1,39 +1,38 @@
 //! The lines of a node's regions.
 
 ghost use Rattle.std.specs.Prelude.{◌≡◌, ◌++◌, OnOk, IfErr};
-ghost use Rattle.dt_names.specs.Sink.{IsRefused};
 ghost use Rattle.dt_read.specs.Placed.{path_at, reading_of, IsNode};
 ghost use Rattle.dt_resolve_model.specs.Answers.{told};
-ghost use Rattle.dt_decompile.specs.Passed.{IsPassed};
+ghost use Rattle.dt_text_writer.specs.Written.{Puts, FailsAt};
 ghost use Rattle.dt_resolve_lines.specs.Lines.{line, region_words};
 ghost use Rattle.dt_resolve_lines.specs.AllLines.{is_fault, is_bad_cells, is_no_reg, regions_told, AreFrom, AreBegun};
-ghost use Rattle.dt_resolve_lines.specs.Given.{ArePassed, AreRefused};
+ghost use Rattle.dt_resolve_lines.specs.Given.{PutsLines, FailsAtLines};
 ghost use Rattle.dt_ranges.specs.Left.{AreLeft};
 
 use crate::words::{put_fault, put_place, put_region};
-use dt_decompile::Buffer;
 use dt_names::{Fault, FaultKind, NodeId, Sink};
 use dt_ranges::Regions;
 use dt_resolve_model::Region;
+use dt_text_writer::Writer;
 use dt_view::TreeView;
 
 /// Writes the line of a node's entry.
 fn put_line<V: TreeView, S: Sink>(
     view: &V,
-    buffer: &mut Buffer,
-    out: &mut S,
+    writer: &mut Writer<'_, S>,
     node: NodeId,
     index: u64,
     region: &Result<Region, Fault>,
 ) -> Result<(), Fault>
     requires { IsNode (V.tree view.now) node }
-    ensures passed { OnOk result (IsPassed (S.taken out.old) (S.taken out.new) buffer.old (line region_words (path_at (V.tree view.now) node) index (told region.now)) buffer.new) }
-    ensures refused { IfErr result (λ fault. IsRefused fault (buffer.old ++ line region_words (path_at (V.tree view.now) node) index (told region.now)) (S.taken out.old) (S.taken out.new)) }
+    ensures written { OnOk result (Puts S.taken (line region_words (path_at (V.tree view.now) node) index (told region.now)) writer.old writer.new) }
+    ensures refused { IfErr result (λ fault. FailsAt S.taken fault (line region_words (path_at (V.tree view.now) node) index
+        (told region.now)) writer.old writer.new) }
 {
-    put_place(view, buffer, out, node, index)?;
+    put_place(view, writer, node, index)?;
     match *region {
-        Ok(region) => put_region(buffer, out, region),
-        Err(fault) => put_fault(buffer, out, fault),
+        Ok(region) => put_region(writer, region),
+        Err(fault) => put_fault(writer, fault),
     }
 }
 
@@ -60,15 +59,16 @@ fn is_last(region: &Result<Region, Fault>) -> bool
 /// Writes the lines of a node's entries.
 fn put_entries<V: TreeView, S: Sink>(
     view: &V,
-    buffer: &mut Buffer,
-    out: &mut S,
+    writer: &mut Writer<'_, S>,
     node: NodeId,
     regions: Regions<'_>,
 ) -> Result<(), Fault>
     requires node { IsNode (V.tree view.now) node }
     requires regions { AreLeft (V.tree view.now) (path_at (V.tree view.now) node) 0 regions }
-    ensures passed { OnOk result (ArePassed (AreFrom (regions_told (reading_of (V.tree view.now)) (path_at (V.tree view.now) node)) 0) (S.taken out.old) (S.taken out.new) buffer.old buffer.new) }
-    ensures refused { IfErr result (λ fault. AreRefused (AreBegun (regions_told (reading_of (V.tree view.now)) (path_at (V.tree view.now) node)) 0) fault (S.taken out.old) (S.taken out.new) buffer.old) }
+    ensures written { OnOk result (PutsLines S.taken
+        (AreFrom (regions_told (reading_of (V.tree view.now)) (path_at (V.tree view.now) node)) 0) writer.old writer.new) }
+    ensures refused { IfErr result (λ fault. FailsAtLines S.taken
+        (AreBegun (regions_told (reading_of (V.tree view.now)) (path_at (V.tree view.now) node)) 0) fault writer.old writer.new) }
 {
     let mut entries = regions;
     let mut index = 0;
@@ -76,7 +76,7 @@ fn put_entries<V: TreeView, S: Sink>(
         if is_silent(&region) {
             return Ok(());
         }
-        put_line(view, buffer, out, node, index, &region)?;
+        put_line(view, writer, node, index, &region)?;
         if is_last(&region) {
             return Ok(());
         }
@@ -88,19 +88,20 @@ fn put_entries<V: TreeView, S: Sink>(
 /// Writes the lines of a node's regions.
 pub(crate) fn put_regions<V: TreeView, S: Sink>(
     view: &V,
-    buffer: &mut Buffer,
-    out: &mut S,
+    writer: &mut Writer<'_, S>,
     node: NodeId,
 ) -> Result<(), Fault>
     requires { IsNode (V.tree view.now) node }
-    ensures passed { OnOk result (ArePassed (AreFrom (regions_told (reading_of (V.tree view.now)) (path_at (V.tree view.now) node)) 0) (S.taken out.old) (S.taken out.new) buffer.old buffer.new) }
-    ensures refused { IfErr result (λ fault. AreRefused (AreBegun (regions_told (reading_of (V.tree view.now)) (path_at (V.tree view.now) node)) 0) fault (S.taken out.old) (S.taken out.new) buffer.old) }
+    ensures written { OnOk result (PutsLines S.taken
+        (AreFrom (regions_told (reading_of (V.tree view.now)) (path_at (V.tree view.now) node)) 0) writer.old writer.new) }
+    ensures refused { IfErr result (λ fault. FailsAtLines S.taken
+        (AreBegun (regions_told (reading_of (V.tree view.now)) (path_at (V.tree view.now) node)) 0) fault writer.old writer.new) }
 {
     match Regions::of(view, node) {
-        Ok(regions) => put_entries(view, buffer, out, node, regions),
+        Ok(regions) => put_entries(view, writer, node, regions),
         Err(fault) => match fault.kind {
             FaultKind::NoReg => Ok(()),
-            _ => put_line(view, buffer, out, node, 0, &Err(fault)),
+            _ => put_line(view, writer, node, 0, &Err(fault)),
         },
     }
 }

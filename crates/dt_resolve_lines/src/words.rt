@@ -3,18 +3,17 @@
 ghost use Rattle.std.specs.Prelude.{◌≡◌, ◌++◌, ◌∷◌, [], OnOk, IfErr, codes, if◌then◌else◌};
 ghost use Rattle.std.specs.Int.{w128, w32, to_be_bytes};
 ghost use Rattle.dt_model.specs.Printed.{hexadecimal};
-ghost use Rattle.dt_names.specs.Sink.{IsRefused, joined};
+ghost use Rattle.dt_names.specs.Sink.{joined};
 ghost use Rattle.dt_read.specs.Placed.{path_at, IsNode};
-ghost use Rattle.dt_decompile.specs.Passed.{IsPassed};
+ghost use Rattle.dt_text_writer.specs.Written.{Puts, FailsAt};
 ghost use Rattle.dt_irq.specs.Seen.{route_in, HasArrived};
 ghost use Rattle.dt_resolve_lines.specs.Lines.{cells_words, fault_words, place_words, region_words, route_words};
 
-use crate::paths::buffer_path;
-use crate::pieces::buffer_pieces;
-use dt_decompile::{Buffer, without_zeros, write_digits};
+use crate::paths::put_node_path;
 use dt_irq::Route;
 use dt_names::{Fault, NodeId, Sink};
 use dt_resolve_model::Region;
+use dt_text_writer::{Writer, without_zeros, write_digits};
 use dt_view::TreeView;
 
 /// The pieces of a number between other words.
@@ -27,19 +26,18 @@ fn pieces_around<'a>(before: &'a [u8], digits: &'a str, behind: &'a [u8]) -> [&'
 /// Writes what a node's line for an index begins with.
 pub(crate) fn put_place<V: TreeView, S: Sink>(
     view: &V,
-    buffer: &mut Buffer,
-    out: &mut S,
+    writer: &mut Writer<'_, S>,
     node: NodeId,
     index: u64,
 ) -> Result<(), Fault>
     requires { IsNode (V.tree view.now) node }
-    ensures passed { OnOk result (IsPassed (S.taken out.old) (S.taken out.new) buffer.old (place_words (path_at (V.tree view.now) node) index) buffer.new) }
-    ensures refused { IfErr result (λ failure. IsRefused failure (buffer.old ++ place_words (path_at (V.tree view.now) node) index) (S.taken out.old) (S.taken out.new)) }
+    ensures written { OnOk result (Puts S.taken (place_words (path_at (V.tree view.now) node) index) writer.old writer.new) }
+    ensures refused { IfErr result (λ failure. FailsAt S.taken failure (place_words (path_at (V.tree view.now) node) index) writer.old writer.new) }
 {
     let mut digits = itoa::Buffer::new();
     let index = digits.format(index);
-    buffer_path(view, buffer, out, node)?;
-    buffer_pieces(buffer, out, &pieces_around(b" ", index, b" "))
+    put_node_path(view, writer, node)?;
+    writer.put_pieces(&pieces_around(b" ", index, b" "))
 }
 
 /// The pieces of a fault.
@@ -58,24 +56,21 @@ fn fault_pieces<'a>(number: &'a str, name: &'a str, at: &'a str, place: &'a str)
 }
 
 /// Writes a fault.
-pub(crate) fn put_fault<S: Sink>(
-    buffer: &mut Buffer,
-    out: &mut S,
-    fault: Fault,
-) -> Result<(), Fault>
-    ensures passed { OnOk result (IsPassed (S.taken out.old) (S.taken out.new) buffer.old (fault_words fault) buffer.new) }
-    ensures refused { IfErr result (λ failure. IsRefused failure (buffer.old ++ fault_words fault) (S.taken out.old) (S.taken out.new)) }
+pub(crate) fn put_fault<S: Sink>(writer: &mut Writer<'_, S>, fault: Fault) -> Result<(), Fault>
+    ensures written { OnOk result (Puts S.taken (fault_words fault) writer.old writer.new) }
+    ensures refused { IfErr result (λ failure. FailsAt S.taken failure (fault_words fault) writer.old writer.new) }
 {
     let mut number_digits = itoa::Buffer::new();
     let mut place_digits = itoa::Buffer::new();
     let number = number_digits.format(fault.number());
     match fault.at {
-        None => buffer_pieces(buffer, out, &fault_pieces(number, fault.name(), "", "")),
-        Some(place) => buffer_pieces(
-            buffer,
-            out,
-            &fault_pieces(number, fault.name(), " at ", place_digits.format(place)),
-        ),
+        None => writer.put_pieces(&fault_pieces(number, fault.name(), "", "")),
+        Some(place) => writer.put_pieces(&fault_pieces(
+            number,
+            fault.name(),
+            " at ",
+            place_digits.format(place),
+        )),
     }
 }
 
@@ -98,21 +93,13 @@ fn digits_of(number: u128) -> [u8; 32]
 }
 
 /// Writes a region.
-pub(crate) fn put_region<S: Sink>(
-    buffer: &mut Buffer,
-    out: &mut S,
-    region: Region,
-) -> Result<(), Fault>
-    ensures passed { OnOk result (IsPassed (S.taken out.old) (S.taken out.new) buffer.old (region_words region) buffer.new) }
-    ensures refused { IfErr result (λ failure. IsRefused failure (buffer.old ++ region_words region) (S.taken out.old) (S.taken out.new)) }
+pub(crate) fn put_region<S: Sink>(writer: &mut Writer<'_, S>, region: Region) -> Result<(), Fault>
+    ensures written { OnOk result (Puts S.taken (region_words region) writer.old writer.new) }
+    ensures refused { IfErr result (λ failure. FailsAt S.taken failure (region_words region) writer.old writer.new) }
 {
     let address = digits_of(region.address);
     let size = digits_of(region.size);
-    buffer_pieces(
-        buffer,
-        out,
-        &region_pieces(without_zeros(&address), without_zeros(&size), region.whole),
-    )
+    writer.put_pieces(&region_pieces(without_zeros(&address), without_zeros(&size), region.whole))
 }
 
 /// The digits of a cell, zeros in front among them.
@@ -125,13 +112,13 @@ fn digits_of_cell(cell: u32) -> [u8; 8]
 }
 
 /// Writes cells.
-fn put_cells<S: Sink>(buffer: &mut Buffer, out: &mut S, cells: &[u32]) -> Result<(), Fault>
-    ensures passed { OnOk result (IsPassed (S.taken out.old) (S.taken out.new) buffer.old (cells_words cells.now) buffer.new) }
-    ensures refused { IfErr result (λ failure. IsRefused failure (buffer.old ++ cells_words cells.now) (S.taken out.old) (S.taken out.new)) }
+fn put_cells<S: Sink>(writer: &mut Writer<'_, S>, cells: &[u32]) -> Result<(), Fault>
+    ensures written { OnOk result (Puts S.taken (cells_words cells.now) writer.old writer.new) }
+    ensures refused { IfErr result (λ failure. FailsAt S.taken failure (cells_words cells.now) writer.old writer.new) }
 {
     for cell in cells {
         let digits = digits_of_cell(*cell);
-        buffer_pieces(buffer, out, &[b" 0x", without_zeros(&digits)])?;
+        writer.put_pieces(&[b" 0x", without_zeros(&digits)])?;
     }
     Ok(())
 }
@@ -139,17 +126,16 @@ fn put_cells<S: Sink>(buffer: &mut Buffer, out: &mut S, cells: &[u32]) -> Result
 /// Writes a route.
 pub(crate) fn put_route<V: TreeView, S: Sink>(
     view: &V,
-    buffer: &mut Buffer,
-    out: &mut S,
+    writer: &mut Writer<'_, S>,
     route: &Route,
 ) -> Result<(), Fault>
     requires { HasArrived (V.tree view.now) route.now }
-    ensures passed { OnOk result (IsPassed (S.taken out.old) (S.taken out.new) buffer.old (route_words (route_in (V.tree view.now) route.now)) buffer.new) }
-    ensures refused { IfErr result (λ failure. IsRefused failure (buffer.old ++ route_words (route_in (V.tree view.now) route.now)) (S.taken out.old) (S.taken out.new)) }
+    ensures written { OnOk result (Puts S.taken (route_words (route_in (V.tree view.now) route.now)) writer.old writer.new) }
+    ensures refused { IfErr result (λ failure. FailsAt S.taken failure (route_words (route_in (V.tree view.now) route.now)) writer.old writer.new) }
 {
     let mut digits = itoa::Buffer::new();
     let hops = digits.format(route.hops);
-    buffer_path(view, buffer, out, route.controller)?;
-    put_cells(buffer, out, &route.cells[..route.len])?;
-    buffer_pieces(buffer, out, &pieces_around(b" hops ", hops, b"\n"))
+    put_node_path(view, writer, route.controller)?;
+    put_cells(writer, &route.cells[..route.len])?;
+    writer.put_pieces(&pieces_around(b" hops ", hops, b"\n"))
 }

@@ -78,7 +78,8 @@ pub record Entry : Type 0 where
 
 -- what an entry is, of which the phandle was read
 abbrev pub entry_of : List Quad → Path → ℕ → Answer Entry
-entry_of cells q n = if nat_lt (length cells) n then refuse BadCells else answer (record { sent = record { node = q; specifier = take n cells }; rest = drop n cells })
+entry_of cells q n = if nat_lt (length cells) n then refuse BadCells else answer
+    (record { sent = record { node = q; specifier = take n cells }; rest = drop n cells })
 
 -- The first entry: a phandle, and as many cells as its node asks for, as `interrupts-extended` has them (2.4.1.4). The Bool says that bytes
 -- are left behind the last whole cell.

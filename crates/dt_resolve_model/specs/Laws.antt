@@ -16,9 +16,12 @@ use Rattle.dt_resolve_model.specs.Specifiers.{specifier_route}
 -- fault, the tree's is the same. In the list there may be any of the meaning's nodes: the more there are, the more written numbers find
 -- theirs. With those of the tree each written number finds its node.
 pub record IsResolvedIn (t : Reading) (m : Meaning) : Type 0 where
-  pub regions : (nodes : List Path) (p : Path) (index : ℕ) → Agrees (λ (a b : Region). a ≡ b) (region (meaning_world m nodes) p index) (region (tree_world t) p index)
-  pub dma_regions : (nodes : List Path) (p : Path) (address size : ℕ) → Agrees (λ (a b : Region). a ≡ b) (dma_region (meaning_world m nodes) p address size) (dma_region (tree_world t) p address size)
-  pub routes : (nodes : List Path) (p : Path) (index : ℕ) (meant told : Answer Route) → IsRoute (meaning_world m nodes) p index meant → IsRoute (tree_world t) p index told
+  pub regions : (nodes : List Path) (p : Path) (index : ℕ) → Agrees (λ (a b : Region). a ≡ b) (region (meaning_world m nodes) p index)
+      (region (tree_world t) p index)
+  pub dma_regions : (nodes : List Path) (p : Path) (address size : ℕ) → Agrees
+      (λ (a b : Region). a ≡ b) (dma_region (meaning_world m nodes) p address size) (dma_region (tree_world t) p address size)
+  pub routes : (nodes : List Path) (p : Path) (index : ℕ) (meant told : Answer Route) → IsRoute (meaning_world m nodes) p index meant
+      → IsRoute (tree_world t) p index told
       → Agrees (λ (a b : Route). a ≡ b) meant told
   pub specifiers : (nodes : List Path) (p : Path) (property kind : Name) (index : ℕ)
       → Agrees (λ (a b : Route). a ≡ b) (specifier_route (meaning_world m nodes) p property kind index) (specifier_route (tree_world t) p property kind index)
@@ -30,7 +33,8 @@ MeaningIsResolved = (t : Reading) (m : Meaning) (number : Path → ℕ) → IsOf
 
 -- each number that a meaning writes finds its node among the nodes of a tree of it
 abbrev pub WrittenNumbersAreFound : Type 0
-WrittenNumbersAreFound = (t : Reading) (m : Meaning) (number : Path → ℕ) (p : Path) (n : ℕ) → IsOf t m number → m.number p ≡ Some n → node_written m (map (λ x. x.path) (nodes_of t)) n ≡ Some p
+WrittenNumbersAreFound = (t : Reading) (m : Meaning) (number : Path → ℕ) (p : Path) (n : ℕ) → IsOf t m number → m.number p ≡ Some n
+    → node_written m (map (λ x. x.path) (nodes_of t)) n ≡ Some p
 
 -- a node has one interrupt parent
 abbrev pub ParentIsOne : Type 0

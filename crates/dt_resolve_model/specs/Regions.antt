@@ -88,7 +88,8 @@ mapped_by widths size at (range ∷ ranges) =
     joined (cells_at 0 widths.child range) >>= λ child.
     joined (cells_at (widths.child + widths.above) widths.length range) >>= λ len.
     if nat_le child at.address && nat_lt (at.address - child) len
-    then (joined (cells_at widths.child widths.above range) >>= λ above. answer (record { address = above + (at.address - child); whole = at.whole && nat_le size (len - (at.address - child)) }))
+    then (joined (cells_at widths.child widths.above range)
+    >>= λ above. answer (record { address = above + (at.address - child); whole = at.whole && nat_le size (len - (at.address - child)) }))
     else mapped_by widths size at ranges
 
 -- an empty `ranges` maps each address to itself (2.3.8)

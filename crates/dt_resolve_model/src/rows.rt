@@ -80,25 +80,35 @@ pub fn addresses_at_the_end()
 /// What a device reaches by DMA: whole, cut, outside all ranges, with more cells than its bus has, on the root's own bus, and where a bus has no
 /// `dma-ranges`; the same in the source.
 pub fn addresses_sent_by_a_device()
-    ensures whole { dma_region (tree_world (sender_tree dma_ranges_in)) dma_device 0x80000010 16 ≡ answer (record { address = 0x100000010; size = 16; whole = true }) }
-    ensures cut { dma_region (tree_world (sender_tree dma_ranges_in)) dma_device 0x80000000 0x1001 ≡ answer (record { address = 0x100000000; size = 0x1001; whole = false }) }
+    ensures whole { dma_region (tree_world (sender_tree dma_ranges_in)) dma_device 0x80000010 16 ≡ answer
+        (record { address = 0x100000010; size = 16; whole = true }) }
+    ensures cut { dma_region (tree_world (sender_tree dma_ranges_in)) dma_device 0x80000000 0x1001 ≡ answer
+        (record { address = 0x100000000; size = 0x1001; whole = false }) }
     ensures outside { dma_region (tree_world (sender_tree dma_ranges_in)) dma_device 0 1 ≡ refuse NotMapped }
     ensures wide { dma_region (tree_world (sender_tree dma_ranges_in)) dma_device 0x100000000 1 ≡ refuse Overflow }
-    ensures root_bus { dma_region (tree_world (sender_tree dma_ranges_in)) (below_root (codes "soc")) 16 0 ≡ answer (record { address = 16; size = 0; whole = true }) }
+    ensures root_bus { dma_region (tree_world (sender_tree dma_ranges_in)) (below_root (codes "soc")) 16 0 ≡ answer
+        (record { address = 16; size = 0; whole = true }) }
     ensures root { dma_region (tree_world (sender_tree dma_ranges_in)) [] 0 0 ≡ refuse NoReg }
     ensures no_ranges { dma_region (tree_world (sender_tree [])) dma_device 0 1 ≡ refuse NoRanges }
-    ensures whole_meant { dma_region (world_of (sender (numbers dma_ranges)) (sender_tree dma_ranges_in)) dma_device 0x80000010 16 ≡ answer (record { address = 0x100000010; size = 16; whole = true }) }
+    ensures whole_meant { dma_region (world_of (sender (numbers dma_ranges)) (sender_tree dma_ranges_in)) dma_device 0x80000010 16 ≡ answer
+        (record { address = 0x100000010; size = 16; whole = true }) }
     ensures outside_meant { dma_region (world_of (sender (numbers dma_ranges)) (sender_tree dma_ranges_in)) dma_device 0 1 ≡ refuse NotMapped }
 {}
 
 /// Routes through a map with a mask, from a node without `interrupt-parent`, and by `interrupts-extended`, which wins; the same in the source.
 pub fn routes_through_a_nexus()
-    ensures mapped { IsRoute (tree_world nexus_tree) (below_root (codes "d@1234")) 0 (answer (record { controller = controller; cells = 0 ∷ 5 ∷ 4 ∷ []; hops = 1 })) }
-    ensures direct { IsRoute (tree_world nexus_tree) (below_root (codes "e")) 0 (answer (record { controller = controller; cells = 0 ∷ 1 ∷ 4 ∷ []; hops = 0 })) }
-    ensures extended { IsRoute (tree_world nexus_tree) (below_root (codes "f")) 0 (answer (record { controller = controller; cells = 1 ∷ 2 ∷ 3 ∷ []; hops = 0 })) }
-    ensures mapped_meant { IsRoute (world_of nexus nexus_tree) (below_root (codes "d@1234")) 0 (answer (record { controller = controller; cells = 0 ∷ 5 ∷ 4 ∷ []; hops = 1 })) }
-    ensures direct_meant { IsRoute (world_of nexus nexus_tree) (below_root (codes "e")) 0 (answer (record { controller = controller; cells = 0 ∷ 1 ∷ 4 ∷ []; hops = 0 })) }
-    ensures extended_meant { IsRoute (world_of nexus nexus_tree) (below_root (codes "f")) 0 (answer (record { controller = controller; cells = 1 ∷ 2 ∷ 3 ∷ []; hops = 0 })) }
+    ensures mapped { IsRoute (tree_world nexus_tree) (below_root (codes "d@1234")) 0
+        (answer (record { controller = controller; cells = 0 ∷ 5 ∷ 4 ∷ []; hops = 1 })) }
+    ensures direct { IsRoute (tree_world nexus_tree) (below_root (codes "e")) 0
+        (answer (record { controller = controller; cells = 0 ∷ 1 ∷ 4 ∷ []; hops = 0 })) }
+    ensures extended { IsRoute (tree_world nexus_tree) (below_root (codes "f")) 0
+        (answer (record { controller = controller; cells = 1 ∷ 2 ∷ 3 ∷ []; hops = 0 })) }
+    ensures mapped_meant { IsRoute (world_of nexus nexus_tree) (below_root (codes "d@1234")) 0
+        (answer (record { controller = controller; cells = 0 ∷ 5 ∷ 4 ∷ []; hops = 1 })) }
+    ensures direct_meant { IsRoute (world_of nexus nexus_tree) (below_root (codes "e")) 0
+        (answer (record { controller = controller; cells = 0 ∷ 1 ∷ 4 ∷ []; hops = 0 })) }
+    ensures extended_meant { IsRoute (world_of nexus nexus_tree) (below_root (codes "f")) 0
+        (answer (record { controller = controller; cells = 1 ∷ 2 ∷ 3 ∷ []; hops = 0 })) }
 {}
 
 /// Interrupt parents in a circle, of two nodes or of the root's own child.
@@ -126,15 +136,20 @@ pub fn specifiers_compared_late()
 
 /// Specifiers of a connector, through a map with a mask and pass-thru, and of a provider; what no row fits, and no entry; the same in the source.
 pub fn specifiers_through_a_connector()
-    ensures mapped { specifier_route (tree_world connector_tree) (below_root (codes "d")) leds (codes "gpio") 0 ≡ answer (record { controller = provider; cells = 7 ∷ 1 ∷ []; hops = 1 }) }
-    ensures direct { specifier_route (tree_world connector_tree) (below_root (codes "d")) leds (codes "gpio") 1 ≡ answer (record { controller = provider; cells = 3 ∷ 0 ∷ []; hops = 0 }) }
-    ensures masked { specifier_route (tree_world connector_tree) (below_root (codes "d")) leds (codes "gpio") 2 ≡ answer (record { controller = provider; cells = 5 ∷ 1 ∷ []; hops = 1 }) }
+    ensures mapped { specifier_route (tree_world connector_tree) (below_root (codes "d")) leds (codes "gpio") 0 ≡ answer
+        (record { controller = provider; cells = 7 ∷ 1 ∷ []; hops = 1 }) }
+    ensures direct { specifier_route (tree_world connector_tree) (below_root (codes "d")) leds (codes "gpio") 1 ≡ answer
+        (record { controller = provider; cells = 3 ∷ 0 ∷ []; hops = 0 }) }
+    ensures masked { specifier_route (tree_world connector_tree) (below_root (codes "d")) leds (codes "gpio") 2 ≡ answer
+        (record { controller = provider; cells = 5 ∷ 1 ∷ []; hops = 1 }) }
     ensures no_row { specifier_route (tree_world connector_tree) (below_root (codes "d")) leds (codes "gpio") 3 ≡ refuse NoMapEntry }
     ensures no_entry { specifier_route (tree_world connector_tree) (below_root (codes "d")) leds (codes "gpio") 4 ≡ refuse NoInterrupts }
     ensures absent { specifier_route (tree_world connector_tree) [] leds (codes "gpio") 0 ≡ refuse NoInterrupts }
     ensures other_kind { specifier_route (tree_world connector_tree) (below_root (codes "d")) leds (codes "clock") 0 ≡ refuse BadCells }
-    ensures mapped_meant { specifier_route (world_of connector connector_tree) (below_root (codes "d")) leds (codes "gpio") 0 ≡ answer (record { controller = provider; cells = 7 ∷ 1 ∷ []; hops = 1 }) }
-    ensures direct_meant { specifier_route (world_of connector connector_tree) (below_root (codes "d")) leds (codes "gpio") 1 ≡ answer (record { controller = provider; cells = 3 ∷ 0 ∷ []; hops = 0 }) }
+    ensures mapped_meant { specifier_route (world_of connector connector_tree) (below_root (codes "d")) leds (codes "gpio") 0 ≡ answer
+        (record { controller = provider; cells = 7 ∷ 1 ∷ []; hops = 1 }) }
+    ensures direct_meant { specifier_route (world_of connector connector_tree) (below_root (codes "d")) leds (codes "gpio") 1 ≡ answer
+        (record { controller = provider; cells = 3 ∷ 0 ∷ []; hops = 0 }) }
     ensures no_row_meant { specifier_route (world_of connector connector_tree) (below_root (codes "d")) leds (codes "gpio") 3 ≡ refuse NoMapEntry }
 {}
 

@@ -13,7 +13,8 @@ WhyRefused job inputs k e = (t : Task) × IsTaskOf job t × WhyRefusedBy t k e i
 
 -- a job writes one thing of its inputs
 abbrev pub OneOutput : Type 0
-OneOutput = (job : Job) (hex : Bool) (inputs : List (List ℕ)) (bytes other : List ℕ) → IsWritten job hex inputs bytes → IsWritten job hex inputs other → bytes ≡ other
+OneOutput = (job : Job) (hex : Bool) (inputs : List (List ℕ)) (bytes other : List ℕ) → IsWritten job hex inputs bytes
+    → IsWritten job hex inputs other → bytes ≡ other
 
 -- or refuses one, and not both, unless memory is wanted
 abbrev pub WrittenIsNotRefused : Type 0

@@ -32,9 +32,14 @@ pub record ReportsOne : Type 0 where
   pub line : (bytes line other : List ℕ) → IsCounted bytes line → IsCounted bytes other → line ≡ other
   pub printed : (bytes text : List ℕ) (kind : FaultKind) (at : Option ℕ) → IsPrinted bytes text → HasBlobFault kind at bytes → ⊥
   pub counted : (bytes line : List ℕ) (kind : FaultKind) (at : Option ℕ) → IsCounted bytes line → HasBlobFault kind at bytes → ⊥
-  pub fault : (bytes : List ℕ) (kind other : FaultKind) (at place : Option ℕ) → HasBlobFault kind at bytes → HasBlobFault other place bytes → (kind ≡ other) × (at ≡ place)
-  pub lines : (listing : Listing) (bytes : List ℕ) (lines others : List (List ℕ)) → AreLinesOf listing bytes lines → AreLinesOf listing bytes others → lines ≡ others
-  pub listed : (listing : Listing) (bytes : List ℕ) (lines : List (List ℕ)) (f : BlobFault) (at : Option ℕ) → AreLinesOf listing bytes lines → IsFirstFault bytes f at → ⊥
+  pub fault : (bytes : List ℕ) (kind other : FaultKind) (at place : Option ℕ) → HasBlobFault kind at bytes → HasBlobFault other place bytes
+      → (kind ≡ other) × (at ≡ place)
+  pub lines : (listing : Listing) (bytes : List ℕ) (lines others : List (List ℕ)) → AreLinesOf listing bytes lines
+      → AreLinesOf listing bytes others → lines ≡ others
+  pub listed : (listing : Listing) (bytes : List ℕ) (lines : List (List ℕ)) (f : BlobFault) (at : Option ℕ) → AreLinesOf listing bytes lines
+      → IsFirstFault bytes f at → ⊥
   pub told : (question : Question) (bytes text : List ℕ) (a b : Answer (List ℕ)) → IsAnswer question bytes text a → IsAnswer question bytes text b → a ≡ b
-  pub answered : (question : Question) (bytes text line : List ℕ) (fault : Fault) → IsAnswer question bytes text (answer line) → WhyUnanswered question bytes text fault → ⊥
-  pub unanswered : (question : Question) (bytes text : List ℕ) (fault other : Fault) → WhyUnanswered question bytes text fault → WhyUnanswered question bytes text other → fault ≡ other
+  pub answered : (question : Question) (bytes text line : List ℕ) (fault : Fault) → IsAnswer question bytes text (answer line)
+      → WhyUnanswered question bytes text fault → ⊥
+  pub unanswered : (question : Question) (bytes text : List ℕ) (fault other : Fault) → WhyUnanswered question bytes text fault
+      → WhyUnanswered question bytes text other → fault ≡ other

@@ -35,7 +35,8 @@ fn make(alloc: Global, making: Making, inputs: &[&[u8]]) -> Result<Vec<u8>, (usi
 /// Writes what is reported of a blob.
 fn put_report<S: Sink>(alloc: Global, report: Report, blob: &[u8], out: &mut S) -> Result<(), Fault>
     ensures written { OnOk result ((bytes : List ℕ) × IsReport report blob.now bytes × Takes bytes (S.taken out.old) (S.taken out.new)) }
-    ensures refused { (hex : Bool) → IfErr result (λ e. WhyNotDoneBy (ReportTask report) 0 e.kind e.at hex (blob.now ∷ []) (S.taken out.old) (S.taken out.new)) }
+    ensures refused { (hex : Bool) → IfErr result
+        (λ e. WhyNotDoneBy (ReportTask report) 0 e.kind e.at hex (blob.now ∷ []) (S.taken out.old) (S.taken out.new)) }
 {
     match report {
         Report::Print => print(blob, out),

@@ -31,7 +31,8 @@ pub record IsLoaded {F : Type 0} (loads : Loads F) (names : List (List ℕ)) (k 
 -- the texts are what is loaded for the names from this number on, one after another
 abbrev pub AreLoadedFrom : {F : Type 0} → Loads F → (names : List (List ℕ)) → ℕ → (before : F) → (texts : List (List ℕ)) → (behind : F) → Type 0
 AreLoadedFrom loads names k before [] behind = behind ≡ before
-AreLoadedFrom {F} loads names k before (text ∷ texts) behind = (next : F) × IsLoaded loads names k before text next × AreLoadedFrom loads names (suc k) next texts behind
+AreLoadedFrom {F} loads names k before (text ∷ texts) behind = (next : F) × IsLoaded loads names k before text next
+    × AreLoadedFrom loads names (suc k) next texts behind
 
 -- for the first so many names
 pub record AreLoadedTo {F : Type 0} (loads : Loads F) (names : List (List ℕ)) (k : ℕ) (before : F) (texts : List (List ℕ)) (behind : F) : Type 0 where

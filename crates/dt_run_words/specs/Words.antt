@@ -56,12 +56,14 @@ blob_command name = with_rule (new_app name) (text_word (codes "FILE"))
 
 -- `dma FILE PATH ADDRESS SIZE`
 abbrev pub dma_command : App
-dma_command = with_rule (with_rule (with_rule (blob_command (codes "dma")) (text_word (codes "PATH"))) (number_word (codes "ADDRESS"))) (number_word (codes "SIZE"))
+dma_command = with_rule (with_rule (with_rule (blob_command (codes "dma")) (text_word (codes "PATH"))) (number_word (codes "ADDRESS")))
+    (number_word (codes "SIZE"))
 
 -- `spec FILE PATH PROP KIND INDEX`
 abbrev pub spec_command : App
 spec_command =
-    with_rule (with_rule (with_rule (with_rule (blob_command (codes "spec")) (text_word (codes "PATH"))) (text_word (codes "PROP"))) (text_word (codes "KIND"))) (number_word (codes "INDEX"))
+    with_rule (with_rule (with_rule (with_rule (blob_command (codes "spec")) (text_word (codes "PATH"))) (text_word (codes "PROP")))
+    (text_word (codes "KIND"))) (number_word (codes "INDEX"))
 
 -- `dtool [--version]` without its commands; it needs one
 abbrev pub bare : App
@@ -74,7 +76,8 @@ with_makers = with_subcommand (with_subcommand (with_subcommand bare compile_com
 -- and with those that tell of a whole blob
 abbrev pub with_tellers : App
 with_tellers =
-    with_subcommand (with_subcommand (with_subcommand (with_subcommand with_makers (blob_command (codes "print")).top) (blob_command (codes "check")).top) (blob_command (codes "regs")).top)
+    with_subcommand (with_subcommand (with_subcommand (with_subcommand with_makers (blob_command (codes "print")).top)
+    (blob_command (codes "check")).top) (blob_command (codes "regs")).top)
     (blob_command (codes "irqs")).top
 
 -- `dtool`, with one of its commands
@@ -123,9 +126,11 @@ pub record IsNumber (id : Text) (rows : List Row) (n : ℕ) : Type 0 where
 
 -- the words behind the file are those of the job
 abbrev pub HasWords : Job → List Row → Type 0
-HasWords (Dma path address size) rows = (first_of (codes "PATH") rows ≡ Some path.now) × IsNumber (codes "ADDRESS") rows address × IsNumber (codes "SIZE") rows size
+HasWords (Dma path address size) rows = (first_of (codes "PATH") rows ≡ Some path.now) × IsNumber (codes "ADDRESS") rows address
+    × IsNumber (codes "SIZE") rows size
 HasWords (Spec path property kind index) rows =
-    (first_of (codes "PATH") rows ≡ Some path.now) × (first_of (codes "PROP") rows ≡ Some property.now) × (first_of (codes "KIND") rows ≡ Some kind.now) × IsNumber (codes "INDEX") rows index
+    (first_of (codes "PATH") rows ≡ Some path.now) × (first_of (codes "PROP") rows ≡ Some property.now)
+    × (first_of (codes "KIND") rows ≡ Some kind.now) × IsNumber (codes "INDEX") rows index
 HasWords _ rows = Unit {0}
 
 -- the job takes overlays, beside a base

@@ -125,7 +125,8 @@ fn line_in<'a>(alloc: Global, matches: &ArgMatches<'a>) -> Result<Option<Line<'a
 /// The job of a command, and whether its blob is written as hexadecimal.
 fn job_of<'a>(command: &str, found: &ArgMatches<'a>) -> Option<(Job<'a>, bool)>
     ensures { MatchOption result ((job : Job) → command.now ≡ command_of job → HasWords job (rows_of (found_of found.now)) → ⊥)
-        (λ asked. (command.now ≡ command_of asked.0) × HasFlags asked.0 (rows_of (found_of found.now)) asked.1 × HasWords asked.0 (rows_of (found_of found.now))) }
+        (λ asked. (command.now ≡ command_of asked.0) × HasFlags asked.0 (rows_of (found_of found.now)) asked.1
+        × HasWords asked.0 (rows_of (found_of found.now))) }
 {
     match command {
         "dma" => without_hex(dma_of(found)),
@@ -137,7 +138,8 @@ fn job_of<'a>(command: &str, found: &ArgMatches<'a>) -> Option<(Job<'a>, bool)>
 /// The same of a command that has files alone.
 fn plain_job_of<'a>(command: &str, found: &ArgMatches<'a>) -> Option<(Job<'a>, bool)>
     ensures { MatchOption result ((job : Job) → command.now ≡ command_of job → AsksOneNode job)
-        (λ asked. (command.now ≡ command_of asked.0) × HasFlags asked.0 (rows_of (found_of found.now)) asked.1 × HasWords asked.0 (rows_of (found_of found.now))) }
+        (λ asked. (command.now ≡ command_of asked.0) × HasFlags asked.0 (rows_of (found_of found.now)) asked.1
+        × HasWords asked.0 (rows_of (found_of found.now))) }
 {
     match command {
         "compile" => Some((compiling(found.get_flag("raw")), found.get_flag("hex"))),
@@ -163,7 +165,8 @@ fn without_hex<'a>(job: Option<Job<'a>>) -> Option<(Job<'a>, bool)>
 
 /// What is asked by the words of `dma`, where all are there.
 fn dma_of<'a>(found: &ArgMatches<'a>) -> Option<Job<'a>>
-    ensures { MatchOption result (LacksDma (rows_of (found_of found.now))) (λ job. (command_of job ≡ codes "dma") × HasFlags job (rows_of (found_of found.now)) false × HasWords job (rows_of (found_of found.now))) }
+    ensures { MatchOption result (LacksDma (rows_of (found_of found.now))) (λ job. (command_of job ≡ codes "dma")
+        × HasFlags job (rows_of (found_of found.now)) false × HasWords job (rows_of (found_of found.now))) }
 {
     let Some(path) = found.get_str("PATH") else {
         return None;
@@ -183,7 +186,8 @@ fn dma_of<'a>(found: &ArgMatches<'a>) -> Option<Job<'a>>
 
 /// What is asked by the words of `spec`, where all are there.
 fn spec_of<'a>(found: &ArgMatches<'a>) -> Option<Job<'a>>
-    ensures { MatchOption result (LacksSpec (rows_of (found_of found.now))) (λ job. (command_of job ≡ codes "spec") × HasFlags job (rows_of (found_of found.now)) false × HasWords job (rows_of (found_of found.now))) }
+    ensures { MatchOption result (LacksSpec (rows_of (found_of found.now))) (λ job. (command_of job ≡ codes "spec")
+        × HasFlags job (rows_of (found_of found.now)) false × HasWords job (rows_of (found_of found.now))) }
 {
     let Some(path) = found.get_str("PATH") else {
         return None;

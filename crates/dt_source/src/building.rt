@@ -16,6 +16,7 @@ use dt_model_laws::{list_is_of_its_tree, many_stand, meant_is_named, root_stands
 use dt_names::limits::MOST_NODES;
 use dt_names::{Fault, FaultKind, Seed};
 use dt_source_bodies::{Mode, grow};
+use dt_source_growing::Unnamed;
 use dt_source_items::{Item, Reservation, Source};
 use dt_source_named_tree::{NamedNode, NamedTree};
 use dt_source_nodes::named_nodes;
@@ -35,7 +36,7 @@ fn nodes_of<'a>(
 {
     root_stands();
     let growing = grow(alloc, seed, mode, items)?;
-    named_nodes(alloc, seed, &growing)
+    named_nodes(alloc, seed, &growing, Unnamed::Refused)
 }
 
 /// The reservations as pairs.

@@ -25,7 +25,8 @@ pub fn one_outcome()
 
 /// So does an overlay's source: it has a tree with fragments, or is refused for one reason, and not both, unless memory is wanted.
 pub fn one_overlay_outcome()
-    ensures built { (s : Says) (t : Named NodeReference) (fragments : List NamedFragment) → IsExclusive (HasOverlay s t fragments) (λ kind. WhyNoOverlay kind s) }
+    ensures built { (s : Says) (t : Named NodeReference) (fragments : List NamedFragment) → IsExclusive (HasOverlay s t fragments)
+        (λ kind. WhyNoOverlay kind s) }
     ensures refused { (s : Says) → IsOneRefusal (λ kind. WhyNoOverlay kind s) }
 {
     named_overlay_is_not_refused();

@@ -6,7 +6,8 @@
 //! let tree = build_base(alloc, &source, Mode::Base)?;     // /: a, c; /n: p, q
 //! ```
 //!
-//! Such a source is a case of meanings.cases (docs/CASES.md). A source's items grow into a tree (dt_source_growing, dt_source_bodies), of which named nodes are made
+//! Such a source is a case of meanings.cases (docs/CASES.md). A source's items grow into a tree (dt_source_growing,
+//! dt_source_bodies), of which named nodes are made
 //! (dt_source_nodes); here they become a tree, or why not.
 #![tactic(auto)]
 

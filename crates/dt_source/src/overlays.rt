@@ -23,9 +23,10 @@ use dt_model_laws::{
 use dt_names::{Fault, FaultKind, Seed};
 use dt_source_bodies::{Arena, grow_overlay};
 use dt_source_fragments::{Fragment, checked_fragments};
+use dt_source_growing::Unnamed;
 use dt_source_items::{Item, Source};
 use dt_source_named_tree::{NamedNode, NamedTree};
-use dt_source_nodes::overlay_nodes;
+use dt_source_nodes::named_nodes;
 use std::alloc::Global;
 use std::marker::Model;
 
@@ -73,7 +74,7 @@ fn nodes_of<'a>(alloc: Global, seed: Seed, items: &[Item<'a>]) -> Result<Vec<Nam
     overlay_values_are_plain();
     let arena = Arena::new(alloc, seed, items)?;
     let growing = grow_overlay(alloc, seed, items, &arena)?;
-    overlay_nodes(alloc, &growing)
+    named_nodes(alloc, seed, &growing, Unnamed::Kept)
 }
 
 /// The overlay of nodes, where they aren't too many, and fragments.

@@ -16,7 +16,7 @@ use Rattle.dt_source_growing.proofs.Grows.{grown}
 use Rattle.dt_source_growing.proofs.Leading.{leads_to}
 
 pub grown_so_far : (r : Reading) (n : ℕ) (u : SoFar) → IsWhole r → Holds r n u → IsGrown r.growing.nodes.items r.growing.properties.items r.growing.givings.items u.events
-grown_so_far r n u w h = grown r.growing w.sound u.events h.shows h.shallow
+grown_so_far r n u w h = grown r.growing r.growing.sound u.events h.shows h.shallow
 
 -- in a body there is no place for a block
 pub misplaced_block : (r : Reading) (n : ℕ) (u : SoFar) → Holds r n u → 0 < length r.bodies.items → (m : Mode) (f : Reference) → read m u (block f) ≡ Err misplaced

@@ -10,7 +10,7 @@ use Rattle.dt_source_items.specs.declared.source.Item.{Item}
 use Rattle.std.proofs.lemmas.List.{take_more, map-append, take-append-drop}
 use Rattle.dt_names.specs.declared.fault.Fault.{Fault}
 use Rattle.dt_source_growing.specs.Shape.{AreAged, node_at, property_at, given_at, Shows}
-use Rattle.dt_source_growing.specs.Growing.{shape, IsSoundGrowing}
+use Rattle.dt_source_growing.specs.Growing.{shape}
 use Rattle.dt_source_bodies.specs.Reading.{Holds, GoesOn, IsWhole}
 use Rattle.dt_source_bodies.specs.Refusals.{refusal_kind, TellsRefusal, WhyNotGrown}
 use Rattle.dt_source_bodies.specs.declared.reading.OpenBody.{OpenBody}
@@ -49,17 +49,15 @@ AreInside size bodies = AllByRecursion (λ (b : OpenBody). b.node < size) bodies
 pub inside_more : (size more : ℕ) (bodies : List OpenBody) → size ≤ more → AreInside size bodies → AreInside more bodies
 inside_more size more bodies le h = all_weaker (λ (b : OpenBody). b.node < size) (λ (b : OpenBody). b.node < more) (λ b less. omega (arith, less, le)) bodies h
 
-pub whole_more : (old new : Reading) (e : OpenBody) → IsWhole old → IsSoundGrowing new.growing → length old.growing.nodes.items ≤ length new.growing.nodes.items → e.node < length new.growing.nodes.items
+pub whole_more : (old new : Reading) (e : OpenBody) → IsWhole old → length old.growing.nodes.items ≤ length new.growing.nodes.items → e.node < length new.growing.nodes.items
     → new.bodies.items ≡ old.bodies.items ++ e ∷ [] → IsWhole new
-whole_more old new e h sound le inside is = record {
-  sound = sound;
+whole_more old new e h le inside is = record {
   inside = subst (AreInside (length new.growing.nodes.items)) (sym is)
       (all_push (λ (b : OpenBody). b.node < length new.growing.nodes.items) old.bodies.items e (inside_more (length old.growing.nodes.items) (length new.growing.nodes.items) old.bodies.items le h.inside) inside);
 }
 
-pub whole_same : (old new : Reading) → IsWhole old → IsSoundGrowing new.growing → length old.growing.nodes.items ≤ length new.growing.nodes.items → new.bodies.items ≡ old.bodies.items → IsWhole new
-whole_same old new h sound le is = record {
-  sound = sound;
+pub whole_same : (old new : Reading) → IsWhole old → length old.growing.nodes.items ≤ length new.growing.nodes.items → new.bodies.items ≡ old.bodies.items → IsWhole new
+whole_same old new h le is = record {
   inside = subst (AreInside (length new.growing.nodes.items)) (sym is) (inside_more (length old.growing.nodes.items) (length new.growing.nodes.items) old.bodies.items le h.inside);
 }
 

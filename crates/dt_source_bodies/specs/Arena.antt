@@ -49,7 +49,8 @@ GoesOnWith written (Err refusal) r items arena used rest = ⊥
 abbrev pub ItemFollows : Reading → Reading → ℕ → Place → Arena → Used → Result Used Fault → Type 0
 ItemFollows old new item place arena used result =
     (written : List Name) (s : OverlaySoFar) (rest : List Place) → Holds old item s.source → IsLeft written arena used s.next (place ∷ rest) →
-    MatchResult result (λ more. GoesOnWith written (read_overlay written s place) new (item + 1) arena more rest) (TellsOverlayRefusal (read_overlay written s place))
+    MatchResult result (λ more. GoesOnWith written (read_overlay written s place) new (item + 1) arena more rest)
+    (TellsOverlayRefusal (read_overlay written s place))
 
 -- what is read of the places of an overlay's source
 abbrev pub all_overlay : List Place → Result OverlaySoFar OverlayRefusal

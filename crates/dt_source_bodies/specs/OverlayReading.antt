@@ -23,7 +23,8 @@ OverlayGoesOn (Err refusal) r items next = ⊥
 -- the reading does with an item that opens no fragment what the definition does with what it says
 abbrev pub OverlayFollows : Reading → Reading → ℕ → Place → Result (Unit {0}) Fault → Type 0
 OverlayFollows old new item place result =
-    (written : List Name) (s : OverlaySoFar) → Holds old item s.source → MatchResult result (λ _. OverlayGoesOn (read_overlay written s place) new (item + 1) s.next)
+    (written : List Name) (s : OverlaySoFar) → Holds old item s.source → MatchResult result
+    (λ _. OverlayGoesOn (read_overlay written s place) new (item + 1) s.next)
     (TellsOverlayRefusal (read_overlay written s place))
 
 -- what the property of a new fragment holds

@@ -8,7 +8,7 @@ use Rattle.dt_model.specs.Source.{Mode, Part, Reference, Place, block, delete_no
 use Rattle.dt_names.specs.declared.fault.Fault.{Fault}
 use Rattle.dt_source_growing.specs.Shape.{Shape, node_at, Shows}
 use Rattle.dt_source_growing.specs.Grown.{StandsUnder}
-use Rattle.dt_source_growing.specs.Growing.{shape, IsSoundGrowing}
+use Rattle.dt_source_growing.specs.Growing.{shape}
 use Rattle.dt_source_bodies.specs.Refusals.{TellsRefusal}
 use Rattle.dt_source_bodies.specs.declared.reading.OpenBody.{OpenBody}
 use Rattle.dt_source_bodies.specs.declared.reading.Reading.{Reading}
@@ -45,7 +45,6 @@ Holds r items so_far = StandsFor (shape r.growing) r.bodies.items items so_far
 
 -- what is true of each reading
 pub record IsWhole (r : Reading) : Type 0 where
-  pub sound : IsSoundGrowing r.growing
   pub inside : AllByRecursion (λ b. b.node < length r.growing.nodes.items) r.bodies.items
 
 -- the reading goes on as the definition of reading does

@@ -7,7 +7,6 @@ ghost use Rattle.dt_model.specs.Source.{block, property, by_label, nothing};
 ghost use Rattle.dt_source_items.specs.Said.{place_said, reference_of, referring, value_said};
 ghost use Rattle.dt_source_bodies.specs.Arena.{IsArena, IsSomeLeft, ItemFollows, all_overlay};
 ghost use Rattle.dt_source_growing.specs.Grown.{IsGrown};
-ghost use Rattle.dt_source_growing.specs.Growing.{IsSoundGrowing};
 ghost use Rattle.dt_source_bodies.specs.Reading.{Holds, IsWhole};
 ghost use Rattle.dt_source_bodies.specs.OverlayReading.{OverlayFollows, TellsOverlayRefusal, BlockFollows, IsNoBlock, target_value};
 
@@ -246,8 +245,8 @@ pub fn grow_overlay<'s, 'a>(
 ) -> Result<Growing<'s, 'a>, Fault>
     requires { IsArena (map place_said items.now) arena.now }
     ensures { MatchResult result
-        (λ g. ((s : OverlaySoFar) × (all_overlay (map place_said items.now) ≡ Ok s)
-        × IsGrown g.nodes.items g.properties.items g.givings.items s.source.events) × IsSoundGrowing g)
+        (λ g. (s : OverlaySoFar) × (all_overlay (map place_said items.now) ≡ Ok s)
+        × IsGrown g.nodes.items g.properties.items g.givings.items s.source.events)
         (TellsOverlayRefusal (all_overlay (map place_said items.now))) }
 {
     let mut reading = Reading::new(alloc, seed);

@@ -7,7 +7,6 @@ ghost use Rattle.dt_model.specs.Source as model;
 ghost use Rattle.dt_names.specs.declared.fault.FaultKind.TheVariants.{Syntax};
 ghost use Rattle.dt_source_items.specs.Said.{place_said, reference_of, value_said};
 ghost use Rattle.dt_source_growing.specs.Grown.{StandsUnder, IsGrown};
-ghost use Rattle.dt_source_growing.specs.Growing.{IsSoundGrowing};
 ghost use Rattle.dt_model.specs.OverlaySource.{open_fragment};
 ghost use Rattle.dt_source_bodies.specs.Reading.{is_behind, Does, ReadsItem, GoesOn, HasTarget, Holds, IsWhole, MayOpen};
 ghost use Rattle.dt_source_bodies.specs.Refusals.{mode_said, TellsRefusal, WhyNotGrown};
@@ -281,7 +280,8 @@ impl<'s, 'a> Reading<'s, 'a> {
     ) -> Result<(), Fault>
         requires whole { IsWhole self.old }
         requires rooted { 0 < length self.old.growing.nodes.items }
-        ensures meaning { Does (λ so_far. model.outside so_far.bodies (Ok (open_fragment name.now property.now (value_said value.now) so_far))) self.old self.new item result }
+        ensures meaning { Does (λ so_far. model.outside so_far.bodies
+            (Ok (open_fragment name.now property.now (value_said value.now) so_far))) self.old self.new item result }
         ensures whole { OnOk result (IsWhole self.new) }
         ensures rooted { OnOk result (0 < length self.new.growing.nodes.items) }
     {
@@ -353,8 +353,8 @@ pub fn grow<'s, 'a>(
     items: &'s [Item<'a>],
 ) -> Result<Growing<'s, 'a>, Fault>
     ensures { MatchResult result
-        (λ g. ((so_far : SoFar) × (read_all (mode_said mode) nothing (map place_said items.now) ≡ Ok so_far)
-        × IsGrown g.nodes.items g.properties.items g.givings.items so_far.events) × IsSoundGrowing g)
+        (λ g. (so_far : SoFar) × (read_all (mode_said mode) nothing (map place_said items.now) ≡ Ok so_far)
+        × IsGrown g.nodes.items g.properties.items g.givings.items so_far.events)
         (WhyNotGrown (mode_said mode) (map place_said items.now)) }
 {
     let mut reading = Reading::new(alloc, seed);

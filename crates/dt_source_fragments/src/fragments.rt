@@ -136,7 +136,8 @@ fn push_fragment<'a>(
 ) -> Result<(), Fault>
     requires { number < length nodes.now }
     ensures { MatchResult result
-        (λ _. (target : NamedTarget) × (map fragment_said fragments.new.items ≡ map fragment_said fragments.old.items ++ (record { node = number; target = target }) ∷ [])
+        (λ _. (target : NamedTarget) × (map fragment_said fragments.new.items ≡ map fragment_said fragments.old.items
+        ++ (record { node = number; target = target }) ∷ [])
         × HoldTarget (checks.properties_at (map node_said nodes.now) number) target)
         (λ fault. (fault.at ≡ None) × WhyNoTarget (checks.properties_at (map node_said nodes.now) number) fault.kind) }
 {

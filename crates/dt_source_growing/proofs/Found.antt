@@ -17,7 +17,7 @@ index_is o w h = ap (option_map (λ (e : Last). e.index)) h
 pub child_inside : (g : Growing) → IsSoundGrowing g → (i : ℕ) (x : Name) (w : Last) → entry g.children.map.entries i x ≡ Some w → w.index < vec_len g.nodes
 child_inside g h i x w e =
     let len : vec_len g.nodes ≡ length g.nodes.items = g.nodes.ok.0 in
-    omega (arith, (h.nodes.indexed.sound i x w.index (index_is (entry g.children.map.entries i x) w e)).1)
+    omega (arith, (h.has_nodes.indexed.sound i x w.index (index_is (entry g.children.map.entries i x) w e)).1)
 
 pub node_read : (g : Growing) (k : ℕ) (n : Node) → k < vec_len g.nodes → n ≡ get_or g.nodes.items k n → slice_get g.nodes.items k ≡ Some n
 node_read g k n inside read = slice_get_read g.nodes.items (vec_len g.nodes) k n g.nodes.ok.0 inside read
@@ -31,7 +31,7 @@ child_read g h i x w n e read =
 pub property_inside : (g : Growing) → IsSoundGrowing g → (i : ℕ) (x : Name) (w : Last) → entry g.indices.map.entries i x ≡ Some w → w.index < vec_len g.properties
 property_inside g h i x w e =
     let len : vec_len g.properties ≡ length g.properties.items = g.properties.ok.0 in
-    omega (arith, (h.properties.indexed.sound i x w.index (index_is (entry g.indices.map.entries i x) w e)).1)
+    omega (arith, (h.has_properties.indexed.sound i x w.index (index_is (entry g.indices.map.entries i x) w e)).1)
 
 pub property_read : (g : Growing) (k : ℕ) (q : Property) → k < vec_len g.properties → q ≡ get_or g.properties.items k q → slice_get g.properties.items k ≡ Some q
 property_read g k q inside read = slice_get_read g.properties.items (vec_len g.properties) k q g.properties.ok.0 inside read

@@ -29,7 +29,7 @@ module _ (g : Growing) (h : IsSoundGrowing g) where
       let owner : l.owner i ≡ e.property.node = ap (λ (o : Option Property). option_map_or (λ n. n.node) o 0) e.there in
       let named : l.name i ≡ x = ap (λ (o : Option Property). option_map_or (λ n. n.name.now) o []) e.there ∙ e.named in
       let stood : l.stands i ≡ true = ap (λ (o : Option Property). option_map_or (λ n. n.stands) o false) e.there ∙ e.stands in
-      let last : l.last (l.owner i) (l.name i) ≡ Some i = h.properties.indexed.complete i (omega arith) (slice_get_within g.properties.items i e.property e.there) stood in
+      let last : l.last (l.owner i) (l.name i) ≡ Some i = h.has_properties.indexed.complete i (omega arith) (slice_get_within g.properties.items i e.property e.there) stood in
       let here : l.last e.property.node x ≡ Some i = rw (owner, named) at last in
       let at : node_at (shape g) p ≡ Some e.property.node = leads_to g h p e.property.node e.node in (
         ap (option_and_then (λ k. (shape g).property k x)) at ∙ found_stands l e.property.node x i here stood,
@@ -40,7 +40,7 @@ module _ (g : Growing) (h : IsSoundGrowing g) where
   value_from p x v i e w =
       option_and_then_some (λ k. (shape g).property k x) (node_at (shape g) p) i e
       (λ k e1 e2.
-      let q = is_property (length g.nodes.items) g.properties.items g.indices.map.entries h.properties k x i e2 in
+      let q = is_property (length g.nodes.items) g.properties.items g.indices.map.entries h.has_properties k x i e2 in
       let same : Some (value_said q.property.value.now) ≡ Some v = sym (ap (option_map (λ (q : Property). value_said q.value.now)) q.there) ∙ w in
       record {
         property = q.property;
@@ -54,19 +54,19 @@ module _ (g : Growing) (h : IsSoundGrowing g) where
   pub label_to : (l : Name) (p : Stack) (i : ℕ) → HasLabel g.nodes.items g.givings.items l p i → (given_at (shape g) (p, l) ≡ Some i) × (name_entry g.labels.map.entries l ≡ Some i)
   label_to l p i e =
       let at : node_at (shape g) p ≡ Some e.giving.node = leads_to g h p e.giving.node e.node in
-      let last : name_entry g.labels.map.entries l ≡ Some i = ap (name_entry g.labels.map.entries) (sym e.label) ∙ h.labels.latest p i e.giving e.there at in
+      let last : name_entry g.labels.map.entries l ≡ Some i = ap (name_entry g.labels.map.entries) (sym e.label) ∙ h.has_labels.latest p i e.giving e.there at in
       (ap (option_and_then (λ k. (shape g).given k l)) at ∙ given_is g.givings.items g.labels.map.entries l i e.giving last e.there, last)
 
   pub label_from : (l : Name) (p : Stack) (i : ℕ) → given_at (shape g) (p, l) ≡ Some i → HasLabel g.nodes.items g.givings.items l p i
   label_from l p i e =
       option_and_then_some (λ k. (shape g).given k l) (node_at (shape g) p) i e
       (λ k e1 e2.
-      let q = is_given (shape g) g.givings.items g.labels.map.entries h.labels k l i e2 in
+      let q = is_given (shape g) g.givings.items g.labels.map.entries h.has_labels k l i e2 in
       record { giving = q.giving; there = q.there; label = q.label; node = leads_from g h p q.giving.node (e1 ∙ ap Some (sym q.node)) })
 
   pub grown : (es : Events) → Shows (shape g) es → ((p : Stack) → stands es p ≡ true → length p ≤ most_names) → IsGrown g.nodes.items g.properties.items g.givings.items es
   grown es s shallow = record {
-    above = λ k n from at. h.nodes.above k n from at;
+    above = λ k n from at. h.has_nodes.above k n from at;
     shallow = λ p k l. shallow p (sym (s.nodes p) ∙ ap is_some (leads_to g h p k l));
     nodes_are = λ p e. let k = some_is (node_at (shape g) p) (s.nodes p ∙ e) in (k.0, leads_from g h p k.0 k.1);
     nodes_stand = λ p k l. sym (s.nodes p) ∙ ap is_some (leads_to g h p k l);

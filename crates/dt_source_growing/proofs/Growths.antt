@@ -19,7 +19,7 @@ use Rattle.dt_model.proofs.Cases.{bool_cases}
 use Rattle.dt_source_growing.proofs.TableLemmas.{key_is, key-refl}
 use Rattle.dt_source_growing.proofs.Walks.{option_cases}
 use Rattle.dt_source_growing.proofs.Indices.{begun-keeps, begun-not}
-use Rattle.dt_source_growing.proofs.Listings.{found_none, found-added, found-dropped, found-kept, listed-push, listed-drop, listed-again, listed-written, slice_get-push_old, slice_get-push_new, slice_get-set_same, slice_get-set_other, length-set}
+use Rattle.dt_source_growing.proofs.Listings.{giving_of, found_none, found-added, found-dropped, found-kept, listed-push, listed-drop, listed-again, listed-written, slice_get-push_old, slice_get-push_new, slice_get-set_same, slice_get-set_other, length-set}
 
 -- what the table says of items after a put
 pub item_of_put : (old new : List (Key × Last)) (i : ℕ) (x : Name) (w : Last) → Puts old new i x w → (j : ℕ) (y : Name)
@@ -214,7 +214,7 @@ module _ (nodes : List Node) (children : List (Key × Last)) (properties : List 
     where
       old_giving : (i : ℕ) (l : Name) (o : Option ℕ) → name_entry labels l ≡ o → option_and_then (to_node (givings ++ g ∷ []) i) o ≡ option_and_then (to_node givings i) o
       old_giving i l None at = refl
-      old_giving i l (Some k) at = let x = h.sound l k at in to_node-old givings g i k (slice_get_within givings k x.0 x.1)
+      old_giving i l (Some k) at = let x = giving_of givings k l (h.sound l k at) in to_node-old givings g i k (slice_get_within givings k x.0 x.1)
 
       by : (i : ℕ) (l : Name) (b : Bool) → option_and_then (to_node (givings ++ g ∷ []) i) (cond b (Some w) (name_entry labels l))
           ≡ cond b (cond (nat_eq g.node i) (Some (length givings)) None) (option_and_then (to_node givings i) (name_entry labels l))

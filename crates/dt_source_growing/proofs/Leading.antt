@@ -20,7 +20,7 @@ found_there g h k n at from stands =
     let owner : l.owner k ≡ n.parent = ap (λ (o : Option Node). option_map_or (λ n. n.parent) o 0) at in
     let named : l.name k ≡ name_said n.name = ap (λ (o : Option Node). option_map_or (λ n. name_said n.name) o []) at in
     let stood : l.stands k ≡ true = ap (λ (o : Option Node). option_map_or (λ n. n.stands) o false) at ∙ stands in
-    let last : l.last (l.owner k) (l.name k) ≡ Some k = h.nodes.indexed.complete k (omega arith) (slice_get_within g.nodes.items k n at) stood in
+    let last : l.last (l.owner k) (l.name k) ≡ Some k = h.has_nodes.indexed.complete k (omega arith) (slice_get_within g.nodes.items k n at) stood in
     let here : l.last n.parent (name_said n.name) ≡ Some k = rw (owner, named) at last in
     found_stands l n.parent (name_said n.name) k here stood
 
@@ -36,7 +36,7 @@ leads_from g h [] k e = root_is (length g.nodes.items) k e
 leads_from g h (x ∷ p) k e =
     option_and_then_some (λ i. (shape g).child i x) (node_at (shape g) p) k e
     (λ j e1 e2.
-    let c : IsChild g.nodes.items j x k = is_child g.nodes.items g.children.map.entries h.nodes j x k e2 in
+    let c : IsChild g.nodes.items j x k = is_child g.nodes.items g.children.map.entries h.has_nodes j x k e2 in
     let up : StandsUnder g.nodes.items p c.node.parent = leads_from g h p c.node.parent (e1 ∙ ap Some (sym c.parent)) in
     (c.node, c.there, omega (arith, c.below), c.name, c.stands, up))
 

@@ -6,6 +6,7 @@ pub mod Soundness
 pub mod Found
 pub mod Changes
 pub mod Growths
+pub mod Again
 pub mod Leading
 pub mod Grows
 pub mod Descents

@@ -8,6 +8,7 @@ use Rattle.dt_model.specs.Names.{Name}
 use Rattle.dt_source_growing.specs.Table.{Key, entry, Puts}
 use Rattle.dt_source_growing.specs.Growing.{Listing, kept, found, IsIndexed, Adds, Drops, Keeps, listed}
 use Rattle.dt_source_growing.specs.declared.table.Last.{Last}
+use Rattle.dt_source_growing.specs.declared.growing.Giving.{Giving}
 use Rattle.dt_model.proofs.Cases.{bool_cases}
 use Rattle.dt_source_growing.proofs.TableLemmas.{key_is, key-refl}
 use Rattle.dt_source_growing.proofs.Walks.{option_cases}
@@ -255,3 +256,14 @@ module _ {X : Type 0} (owner : X → ℕ) (name : X → Name) (stands : X → Bo
     stands = read-set stands false xs k y z at same_stands;
     last = last_again xs old new i x w puts there;
   }
+
+-- a giving of a label, read from the list
+pub giving_of : (givings : List Giving) (k : ℕ) (l : Name) → option_map (λ g. g.label.now) (slice_get givings k) ≡ Some l → (g : Giving) × (slice_get givings k ≡ Some g) × (g.label.now ≡ l)
+giving_of givings k l = by (slice_get givings k) refl
+  where
+    by : (o : Option Giving) → slice_get givings k ≡ o → option_map (λ g. g.label.now) o ≡ Some l → (g : Giving) × (slice_get givings k ≡ Some g) × (g.label.now ≡ l)
+    by None at e = let z : None ≡ Some l = e in cc
+    by (Some g) at e = let z : Some g.label.now ≡ Some l = e in let same : g.label.now ≡ l = cc in (g, at, same)
+
+pub label_of : (givings : List Giving) (k : ℕ) (l : Name) (g : Giving) → slice_get givings k ≡ Some g → g.label.now ≡ l → option_map (λ g. g.label.now) (slice_get givings k) ≡ Some l
+label_of givings k l g at is = ap (option_map (λ (g : Giving). g.label.now)) at ∙ ap Some is

@@ -12,6 +12,7 @@ use Rattle.dt_source_growing.specs.Table.{name_entry}
 use Rattle.dt_source_growing.specs.declared.growing.Giving.{Giving}
 use Rattle.dt_source_growing.specs.declared.growing.Growing.{Growing}
 use Rattle.dt_model.proofs.Cases.{bool_cases}
+use Rattle.dt_source_growing.proofs.Listings.{giving_of}
 use Rattle.dt_source_growing.proofs.Walks.{option_cases, node_at_once}
 use Rattle.dt_source_growing.proofs.Soundness.{forest}
 use Rattle.dt_source_growing.proofs.Leading.{leads_to}
@@ -52,7 +53,7 @@ module _ (g : Growing) (h : IsSoundGrowing g) (es : Events) (w : IsGrown g.nodes
 
   pub label_there : (l : Name) (i : ℕ) (x : Giving) → name_entry g.labels.map.entries l ≡ Some i → slice_get g.givings.items i ≡ Some x → (p : Stack) → StandsUnder g.nodes.items p x.node → labelled es l ≡ Some p
   label_there l i x e at p leads =
-      let s = h.labels.sound l i e in
+      let s = giving_of g.givings.items i l (h.has_labels.sound l i e) in
       let same : Some s.0 ≡ Some x = sym s.1 ∙ at in
       let sx : s.0 ≡ x = cc in
       let has : HasLabel g.nodes.items g.givings.items l p i = record { giving = x; there = at; label = ap (λ (y : Giving). y.label.now) (sym sx) ∙ s.2; node = leads } in

@@ -18,7 +18,7 @@ use Rattle.dt_source_growing.specs.declared.growing.Property.{Property}
 use Rattle.dt_source_growing.specs.declared.growing.Giving.{Giving}
 use Rattle.dt_source_growing.specs.declared.growing.Growing.{Growing}
 use Rattle.dt_model.proofs.Cases.{bool_cases}
-use Rattle.dt_source_growing.proofs.Listings.{found_is, indexed-added, indexed-dropped, indexed-kept, listed-push, listed-drop, listed-again, listed-written, slice_get-push_old, slice_get-push_new, slice_get-set_same, slice_get-set_other, length-set}
+use Rattle.dt_source_growing.proofs.Listings.{giving_of, label_of, found_is, indexed-added, indexed-dropped, indexed-kept, listed-push, listed-drop, listed-again, listed-written, slice_get-push_old, slice_get-push_new, slice_get-set_same, slice_get-set_other, length-set}
 
 beyond : {X : Type 0} (xs : List X) (k : ℕ) → k < length xs → slice_get xs k ≡ None → ⊥
 beyond [] k less none = omega arith
@@ -227,7 +227,7 @@ is_given s givings entries h i l k e =
     option_and_then_some (to_node givings i) (name_entry entries l) k e
     (λ j e1 e2.
     let t = to_node_is givings i j k e2 in
-    let g = h.sound l j e1 in
+    let g = giving_of givings j l (h.sound l j e1) in
     let same : Some t.1.0 ≡ Some g.0 = sym t.1.1 ∙ g.1 in
     let tg : t.1.0 ≡ g.0 = cc in
     record {
@@ -260,7 +260,7 @@ pub label-given : (s t : Shape (List Part)) (givings : List Giving) (g : Giving)
     → HasLabels t (givings ++ g ∷ []) new
 label-given s t givings g old new w size same given h inside alone puts index = record {
   sound = λ l k e.
-      put_there l k (bytes_eq g.label.now l) refl (sym (puts l) ∙ e);
+      let x = put_there l k (bytes_eq g.label.now l) refl (sym (puts l) ∙ e) in label_of (givings ++ g ∷ []) k l x.0 x.1 x.2;
   owned = λ k x there. rw size (pushed_cases givings g k x _ there (λ b e. h.owned k x e) (λ e z. rw (← z) inside));
   latest = λ p k x there at.
       pushed_cases givings g k x _ there
@@ -272,7 +272,7 @@ label-given s t givings g old new w size same given h inside alone puts index = 
   where
     put_there : (l : Name) (k : ℕ) (b : Bool) → bytes_eq g.label.now l ≡ b → cond b (Some w) (name_entry old l) ≡ Some k → (x : Giving) × (slice_get (givings ++ g ∷ []) k ≡ Some x) × (x.label.now ≡ l)
     put_there l k true t e = let wk : w ≡ k = cc in (g, slice_get-push_new givings g k (sym wk ∙ index), bytes_eq-is g.label.now l t)
-    put_there l k false f e = let x = h.sound l k e in (x.0, slice_get-push_old givings g k (slice_get_within givings k x.0 x.1) ∙ x.1, x.2)
+    put_there l k false f e = let x = giving_of givings k l (h.sound l k e) in (x.0, slice_get-push_old givings g k (slice_get_within givings k x.0 x.1) ∙ x.1, x.2)
 
     stays : (p : Stack) (k : ℕ) (x : Giving) → slice_get givings k ≡ Some x → node_at s p ≡ Some x.node → name_entry new x.label.now ≡ Some k
     stays p k x there at = by (bytes_eq g.label.now x.label.now) refl
@@ -300,23 +300,23 @@ labels-given s t givings more g old new w size same given h inside alone puts in
 
 pub forest : (g : Growing) → IsSoundGrowing g → IsForest (shape g)
 forest g h = record {
-  edge = λ i x j e. let c = is_child g.nodes.items g.children.map.entries h.nodes i x j e in (c.below, c.inside);
+  edge = λ i x j e. let c = is_child g.nodes.items g.children.map.entries h.has_nodes i x j e in (c.below, c.inside);
   once = λ i x k y j e e'.
-      let c = is_child g.nodes.items g.children.map.entries h.nodes i x j e in
-      let d = is_child g.nodes.items g.children.map.entries h.nodes k y j e' in
+      let c = is_child g.nodes.items g.children.map.entries h.has_nodes i x j e in
+      let d = is_child g.nodes.items g.children.map.entries h.has_nodes k y j e' in
       let same : Some c.node ≡ Some d.node = sym c.there ∙ d.there in
       let cd : c.node ≡ d.node = cc in
       (sym c.parent ∙ ap (λ (n : Node). n.parent) cd ∙ d.parent, sym c.name ∙ ap (λ (n : Node). name_said n.name) cd ∙ d.name);
   placed = λ i n k e.
-      let c = is_property (length g.nodes.items) g.properties.items g.indices.map.entries h.properties i n k e in
-      (rw (← c.node) (h.properties.owned k c.property c.there), slice_get_within g.properties.items k c.property c.there);
+      let c = is_property (length g.nodes.items) g.properties.items g.indices.map.entries h.has_properties i n k e in
+      (rw (← c.node) (h.has_properties.owned k c.property c.there), slice_get_within g.properties.items k c.property c.there);
   placed_once = λ i n j m k e e'.
-      let c = is_property (length g.nodes.items) g.properties.items g.indices.map.entries h.properties i n k e in
-      let d = is_property (length g.nodes.items) g.properties.items g.indices.map.entries h.properties j m k e' in
+      let c = is_property (length g.nodes.items) g.properties.items g.indices.map.entries h.has_properties i n k e in
+      let d = is_property (length g.nodes.items) g.properties.items g.indices.map.entries h.has_properties j m k e' in
       let same : Some c.property ≡ Some d.property = sym c.there ∙ d.there in
       let cd : c.property ≡ d.property = cc in
       (sym c.node ∙ ap (λ (q : Property). q.node) cd ∙ d.node, sym c.name ∙ ap (λ (q : Property). q.name.now) cd ∙ d.name);
   labelled = λ i l k e.
-      let c = is_given (shape g) g.givings.items g.labels.map.entries h.labels i l k e in
-      (rw (← c.node) (h.labels.owned k c.giving c.there), slice_get_within g.givings.items k c.giving c.there);
+      let c = is_given (shape g) g.givings.items g.labels.map.entries h.has_labels i l k e in
+      (rw (← c.node) (h.has_labels.owned k c.giving c.there), slice_get_within g.givings.items k c.giving c.there);
 }

@@ -5,7 +5,7 @@ ghost use Rattle.dt_model.specs.Event.{Stack};
 ghost use Rattle.dt_model.specs.Source.{Events, labelled, referent};
 ghost use Rattle.dt_source_items.specs.Said.{reference_of};
 ghost use Rattle.dt_source_growing.specs.Grown.{StandsUnder, IsGrown};
-ghost use Rattle.dt_source_growing.specs.Growing.{shape, IsSoundGrowing};
+ghost use Rattle.dt_source_growing.specs.Growing.{shape};
 ghost use Rattle.dt_source_growing.specs.Shape.{given_at};
 
 use crate::growing::Growing;
@@ -24,7 +24,6 @@ pub enum Unnamed {
 impl<'s, 'a> Growing<'s, 'a> {
     /// How many names the path of a node has; none where the node is gone.
     pub fn depth(&self, node: usize) -> Option<usize>
-        requires sound { IsSoundGrowing self.now }
         requires inside { node < length self.now.nodes.items }
         ensures { MatchOption result ((p : Stack) → ¬ StandsUnder self.now.nodes.items p node)
             (λ depth. (p : Stack) × StandsUnder self.now.nodes.items p node × (depth ≡ length p)) }
@@ -44,7 +43,6 @@ impl<'s, 'a> Growing<'s, 'a> {
 
     /// The node that has a label.
     pub fn labelled(&self, label: &[u8]) -> Option<usize>
-        requires { IsSoundGrowing self.now }
         ensures named { (es : Events) → IsGrown self.now.nodes.items self.now.properties.items self.now.givings.items es →
             MatchOption result (labelled es label.now ≡ None)
             (λ node. (p : Stack) × (labelled es label.now ≡ Some p) × StandsUnder self.now.nodes.items p node) }
@@ -61,7 +59,6 @@ impl<'s, 'a> Growing<'s, 'a> {
 
     /// The node of a path.
     fn at_path(&self, path: &PathRef<'_>) -> Option<usize>
-        requires { IsSoundGrowing self.now }
         ensures { MatchOption result ((node : ℕ) → ¬ StandsUnder self.now.nodes.items (reverse path.now) node)
             (StandsUnder self.now.nodes.items (reverse path.now)) }
     {
@@ -77,7 +74,6 @@ impl<'s, 'a> Growing<'s, 'a> {
 
     /// The node to which a reference refers. Takes no memory.
     pub fn referent(&self, reference: &Reference<'_>) -> Option<usize>
-        requires { IsSoundGrowing self.now }
         ensures refers { (es : Events) → IsGrown self.now.nodes.items self.now.properties.items self.now.givings.items es →
             MatchOption result (referent es (reference_of reference.now) ≡ None)
             (λ node. (p : Stack) × (referent es (reference_of reference.now) ≡ Some p) × StandsUnder self.now.nodes.items p node) }

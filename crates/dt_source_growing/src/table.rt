@@ -1,6 +1,6 @@
 //! Hash tables that borrow the names that they are asked for.
 
-ghost use Rattle.std.specs.Prelude.{◌≡◌, [], OnOk};
+ghost use Rattle.std.specs.Prelude.{◌≡◌, [], OnOk, OnErr};
 ghost use Rattle.dt_source_growing.specs.Table.{entry, Puts, name_entry, PutsName};
 
 use dt_names::Seed;
@@ -42,7 +42,8 @@ impl<'a> Table<'a> {
     }
 
     pub fn put(&mut self, owner: usize, name: &'a [u8], last: Last) -> Result<(), AllocError>
-        ensures { OnOk result (Puts self.old.map.entries self.new.map.entries owner name.now last) }
+        ensures ok { OnOk result (Puts self.old.map.entries self.new.map.entries owner name.now last) }
+        ensures err { OnErr result (self.new.map.entries ≡ self.old.map.entries) }
     {
         self.map.insert((owner, name), last)?;
         Ok(())
@@ -65,7 +66,8 @@ impl<'a> NameTable<'a> {
     }
 
     pub fn put(&mut self, name: &'a [u8], value: usize) -> Result<(), AllocError>
-        ensures { OnOk result (PutsName self.old.map.entries self.new.map.entries name.now value) }
+        ensures ok { OnOk result (PutsName self.old.map.entries self.new.map.entries name.now value) }
+        ensures err { OnErr result (self.new.map.entries ≡ self.old.map.entries) }
     {
         self.map.insert(name, value)?;
         Ok(())

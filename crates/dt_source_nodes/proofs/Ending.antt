@@ -29,11 +29,11 @@ use Rattle.dt_source_growing.specs.Grown.{StandsUnder, HasValue}
 use Rattle.dt_source_nodes.specs.Owned.{group_of}
 use Rattle.dt_source_nodes.specs.Listing.{name_of, AreRows, ArePlaces, tree_with, listed_row}
 use Rattle.dt_source_growing.specs.declared.referring.Unnamed.{Unnamed}
-use Rattle.dt_source_growing.specs.declared.referring.Unnamed.TheVariants.{Refused}
+use Rattle.dt_source_growing.specs.declared.referring.Unnamed.TheVariants.{Refused, Kept}
 use Rattle.dt_source_nodes.specs.Contents.{property_owner, AreNamedBy, IsLabelledPart, AreLabelled, all_read, read_values, AreResolved}
 use Rattle.dt_source_nodes.specs.Resolving.{IsGrownBy, EachNaming, AreRead, AreRowsRead, content_by, WhyUnreadAmong, Belong}
 use Rattle.dt_source_nodes.specs.Phandles.{has_place, is_phandle, phandle_written, AreWritten, AreOwn, HasUnwritten, HasTwice, WhyUnnumbered}
-use Rattle.dt_source_nodes.specs.Nodes.{AreFilled, IsUnfilled, HasUnread, AreNodesBy, AreNodesAfter, WhyNotAfter}
+use Rattle.dt_source_nodes.specs.Nodes.{AreFilled, IsUnfilled, AreNodes, WhyNoNodes, HasUnread, AreNodesBy, AreNodesAfter, WhyNotAfter}
 use Rattle.dt_source_nodes.proofs.ChildrenLed.{AreChildren, are_children, leads_once, leads_root, leads_within}
 use Rattle.dt_source_nodes.proofs.Walking.{walk, rows-nodes}
 use Rattle.dt_source_nodes.proofs.Placing.{Pairwise, IsPlacedAt, forest-placed}
@@ -341,18 +341,28 @@ module _ (g : Growing) (b : Belongings) (rows : List Row) (are : AreRows g.nodes
       read : AreRowsRead unnamed es (place_by (name_of g.nodes.items) are.children b.places.items) g b rows ns
       read = each es place (length rows) grown named
 
-  pub listed_after : (ns : List (Listed NodeReference)) → AreFilled g b rows ns → AreNodesAfter es ns
+  listed_after : (ns : List (Listed NodeReference)) → AreFilled Refused g b rows ns → AreNodesAfter es ns
   listed_after ns filled =
       let read = filled.read es place (length rows) grown named in record {
-        resolved = is_resolved (resolved Refused read.1) filled.written filled.own;
+        resolved = is_resolved (resolved Refused read.1) (filled.written refl) (filled.own refl);
         nodes = nodes_same es (read_values Refused es) (bound_values es) ns (bound_read es) (listed_by Refused (λ p x v there. none_kept v) ns filled.read);
       }
 
-  pub unlisted_after : (e : Fault) → IsUnfilled g b rows e → WhyNotAfter es e.kind
+  unlisted_after : (e : Fault) → IsUnfilled Refused g b rows e → WhyNotAfter es e.kind
   unlisted_after e (inl h) = unread_refused h.0 h.1 e.kind (h.2.1 es grown)
-  unlisted_after e (inr h) = unnumbered_refused (resolved Refused (h.0 es place (length rows) grown named)) e.kind h.1.1
+  unlisted_after e (inr h) = unnumbered_refused (resolved Refused (h.1 es place (length rows) grown named)) e.kind h.2.1
+
+  -- a base's nodes and an overlay's
+  pub nodes_listed : (unnamed : Unnamed) (ns : List (Listed NodeReference)) → AreFilled unnamed g b rows ns → AreNodes unnamed es ns
+  nodes_listed Refused ns filled = listed_after ns filled
+  nodes_listed Kept ns filled = λ labelled. listed_by Kept labelled ns filled.read
+
+  pub nodes_unlisted : (unnamed : Unnamed) (e : Fault) → IsUnfilled unnamed g b rows e → WhyNoNodes unnamed es e.kind
+  nodes_unlisted Refused e h = unlisted_after e h
+  nodes_unlisted Kept e (inl h) = unread_there Kept h.0 h.1 e.kind (h.2.1 es grown)
+  nodes_unlisted Kept e (inr h) = absurd (let z : Kept ≡ Refused = h.0 in cc)
 
 -- no place is told
-pub unplaced : (g : Growing) (b : Belongings) (rows : List Row) (e : Fault) → IsUnfilled g b rows e → e.at ≡ None
-unplaced g b rows e (inl h) = h.2.0
-unplaced g b rows e (inr h) = h.1.0
+pub unplaced : (unnamed : Unnamed) (g : Growing) (b : Belongings) (rows : List Row) (e : Fault) → IsUnfilled unnamed g b rows e → e.at ≡ None
+unplaced unnamed g b rows e (inl h) = h.2.0
+unplaced unnamed g b rows e (inr h) = h.2.0

@@ -100,4 +100,5 @@ module _ (unnamed : Unnamed) (es : Events) (place : Stack → ℕ) where
 -- each reference of a value that stands is read
 abbrev pub AreResolved : Unnamed → List Node → List Property → Events → Type 0
 AreResolved unnamed nodes properties es =
-    (i : ℕ) (q : Property) (p : Stack) → slice_get properties i ≡ Some q → q.stands ≡ true → StandsUnder nodes p q.node → IsSome (all_read unnamed es (value_said q.value.now))
+    (i : ℕ) (q : Property) (p : Stack) → slice_get properties i ≡ Some q → q.stands ≡ true → StandsUnder nodes p q.node
+    → IsSome (all_read unnamed es (value_said q.value.now))

@@ -24,16 +24,17 @@ use Rattle.dt_source_nodes.specs.Phandles.{AreWritten, AreOwn, WhyNotNumbered}
 
 -- ---- with their rows
 
--- the nodes of the rows are these, and the phandles that are written in them are as they have to be
-pub record AreFilled (g : Growing) (b : Belongings) (rows : List Row) (ns : List (Listed NodeReference)) : Type 0 where
-  pub read : EachNaming g b.places.items (λ es place. AreRowsRead Refused es place g b rows ns)
-  pub written : AreWritten b.places.items g.properties.items
-  pub own : AreOwn b.places.items g.properties.items
+-- the nodes of the rows are these, and the phandles that are written in a base are as they have to be
+pub record AreFilled (unnamed : Unnamed) (g : Growing) (b : Belongings) (rows : List Row) (ns : List (Listed NodeReference)) : Type 0 where
+  pub read : EachNaming g b.places.items (λ es place. AreRowsRead unnamed es place g b rows ns)
+  pub written : unnamed ≡ Refused → AreWritten b.places.items g.properties.items
+  pub own : unnamed ≡ Refused → AreOwn b.places.items g.properties.items
 
--- a reference isn't read, or all are, and a phandle isn't as it has to be
-abbrev pub IsUnfilled : Growing → Belongings → List Row → Fault → Type 0
-IsUnfilled g b rows e = IsUnreadRow Refused g b rows e
-    ⊎ (EachNaming g b.places.items (λ es place. (r : Row) → IsIn r rows → AreRead Refused es g.properties.items (group_of b.properties r.node))
+-- a reference isn't read, or all are, and a phandle of a base isn't as it has to be
+abbrev pub IsUnfilled : Unnamed → Growing → Belongings → List Row → Fault → Type 0
+IsUnfilled unnamed g b rows e = IsUnreadRow unnamed g b rows e
+    ⊎ ((unnamed ≡ Refused)
+    × EachNaming g b.places.items (λ es place. (r : Row) → IsIn r rows → AreRead unnamed es g.properties.items (group_of b.properties r.node))
     × WhyNotNumbered b.places.items g.properties.items e)
 
 -- ---- by the events
@@ -58,22 +59,30 @@ WhyNotAfter es fault.BadPhandle = IsLateRefusal es bad_phandle
 WhyNotAfter es fault.DuplicatePhandle = IsLateRefusal es duplicate_phandle
 WhyNotAfter es kind = ⊥
 
--- the nodes are those of the tree, where it has a root
-abbrev pub AreListed : Growing → List (Listed NodeReference) → Type 0
-AreListed g ns = EachEvents g (λ es. stands es [] ≡ true → AreNodesAfter es ns)
-
-abbrev pub IsUnlisted : Growing → Fault → Type 0
-IsUnlisted g e = (e.at ≡ None) × EachEvents g (λ es. stands es [] ≡ true → WhyNotAfter es e.kind)
-
 -- ---- of an overlay
 
 -- a value that stands isn't read
 abbrev pub HasUnread : Unnamed → Events → Type 0
 HasUnread unnamed es = (p : Stack) × (x : Name) × (v : List Part) × (value_at es p x ≡ Some v) × (all_read unnamed es v ≡ None)
 
--- the nodes are those of the tree in which labels are kept, where it has a root
-abbrev pub AreKept : Growing → List (Listed NodeReference) → Type 0
-AreKept g ns = EachEvents g (λ es. stands es [] ≡ true → AreLabelled Kept es → AreNodesBy es (read_values Kept es) ns)
+-- the nodes are those of a tree in which labels are kept
+abbrev pub AreNodesWithLabels : Events → List (Listed NodeReference) → Type 0
+AreNodesWithLabels es ns = AreLabelled Kept es → AreNodesBy es (read_values Kept es) ns
 
-abbrev pub IsUnkept : Growing → Fault → Type 0
-IsUnkept g e = (e.at ≡ None) × EachEvents g (λ es. stands es [] ≡ true → (e.kind ≡ fault.NoMemory) ⊎ HasUnread Kept es)
+-- ---- of either
+
+-- a base's, or an overlay's, as a label that names no node is refused or kept
+abbrev pub AreNodes : Unnamed → Events → List (Listed NodeReference) → Type 0
+AreNodes Refused es ns = AreNodesAfter es ns
+AreNodes Kept es ns = AreNodesWithLabels es ns
+
+abbrev pub WhyNoNodes : Unnamed → Events → FaultKind → Type 0
+WhyNoNodes Refused es kind = WhyNotAfter es kind
+WhyNoNodes Kept es kind = (kind ≡ fault.NoMemory) ⊎ HasUnread Kept es
+
+-- the nodes are those of the tree, where it has a root
+abbrev pub AreListed : Unnamed → Growing → List (Listed NodeReference) → Type 0
+AreListed unnamed g ns = EachEvents g (λ es. stands es [] ≡ true → AreNodes unnamed es ns)
+
+abbrev pub IsUnlisted : Unnamed → Growing → Fault → Type 0
+IsUnlisted unnamed g e = (e.at ≡ None) × EachEvents g (λ es. stands es [] ≡ true → WhyNoNodes unnamed es e.kind)

@@ -14,6 +14,7 @@ use Rattle.dt_source_growing.specs.Grown.{IsGrown}
 use Rattle.dt_model.specs.Named.{NodeReference, NamedProperty, Content, Listed}
 use Rattle.dt_source_nodes.specs.declared.belongings.Belongings.{Belongings}
 use Rattle.dt_source_nodes.specs.declared.listing.Row.{Row}
+use Rattle.dt_source_nodes.specs.declared.values.Resolver.{Resolver}
 use Rattle.dt_source_nodes.specs.Owned.{group_of, AreOwned}
 use Rattle.dt_source_nodes.specs.Listing.{name_of, listed_row}
 use Rattle.dt_source_growing.specs.declared.referring.Unnamed.{Unnamed}
@@ -26,6 +27,10 @@ IsGrownBy g es = IsGrown g.nodes.items g.properties.items g.givings.items es
 -- P holds of all events that the tree is of, and of the places that its nodes have in the list
 abbrev pub EachNaming : Growing → List (Option ℕ) → (Events → (Stack → ℕ) → Type 0) → Type 0
 EachNaming g places P = (es : Events) (place : Stack → ℕ) (limit : ℕ) → IsGrownBy g es → AreNamedBy g.nodes.items places limit place → P es place
+
+-- P holds of all events that the tree of a resolver is of, and of the places that its nodes have in the list
+abbrev pub EachReading : Resolver → (Events → (Stack → ℕ) → Type 0) → Type 0
+EachReading r P = EachNaming r.growing.now r.belongings.now.places.items P
 
 -- something was added to a value
 abbrev pub IsAdded : List (Item NodeReference) → Option (List (Item NodeReference)) → List (Item NodeReference) → Type 0
@@ -47,7 +52,8 @@ EachEvents g P = (es : Events) → IsGrownBy g es → P es
 
 -- the references of the properties at some indices are read
 abbrev pub AreRead : Unnamed → Events → List Property → List ℕ → Type 0
-AreRead unnamed es properties indices = (i : ℕ) (q : Property) → IsIn i indices → slice_get properties i ≡ Some q → IsSome (all_read unnamed es (value_said q.value.now))
+AreRead unnamed es properties indices = (i : ℕ) (q : Property) → IsIn i indices → slice_get properties i ≡ Some q
+    → IsSome (all_read unnamed es (value_said q.value.now))
 
 -- why the properties at some indices aren't read
 abbrev pub WhyUnreadAmong : Unnamed → Events → List Property → List ℕ → FaultKind → Type 0

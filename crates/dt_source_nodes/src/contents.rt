@@ -5,11 +5,10 @@ ghost use Rattle.std.specs.Cow.{cow_slice_items};
 ghost use Rattle.dt_model.specs.Lists.{IsIn};
 ghost use Rattle.dt_source_growing.specs.Grown.{name_said};
 ghost use Rattle.dt_source_named_tree.specs.Said.{property_said, node_said};
-ghost use Rattle.dt_source_growing.specs.Growing.{IsSoundGrowing};
 ghost use Rattle.dt_source_nodes.specs.Owned.{group_of};
 ghost use Rattle.dt_source_nodes.specs.Listing.{name_of};
 ghost use Rattle.dt_source_nodes.specs.Contents.{label_at};
-ghost use Rattle.dt_source_nodes.specs.Resolving.{EachNaming, IsUnreadAmong, IsPropertyRead, ArePropertiesRead, IsRowRead, AreRowsRead, IsUnreadRow, Belong};
+ghost use Rattle.dt_source_nodes.specs.Resolving.{EachReading, IsUnreadAmong, IsPropertyRead, ArePropertiesRead, IsRowRead, AreRowsRead, IsUnreadRow, Belong};
 
 use crate::listing::Row;
 use crate::values::Resolver;
@@ -73,10 +72,9 @@ fn labels_at<'a>(
 impl<'a> Resolver<'_, '_, 'a> {
     /// The property at an index, with its references read.
     fn property_there(&self, alloc: Global, index: usize) -> Result<NamedProperty<'a>, Fault>
-        requires sound { IsSoundGrowing self.now.growing.now }
         requires inside { index < length self.now.growing.now.properties.items }
         ensures { MatchResult result
-            (λ property. EachNaming self.now.growing.now self.now.belongings.now.places.items (λ es place.
+            (λ property. EachReading self.now (λ es place.
             IsPropertyRead self.now.unnamed es place self.now.growing.now.properties.items index (property_said property)))
             (λ fault. IsUnreadAmong self.now.unnamed self.now.growing.now (index ∷ []) fault) }
     {
@@ -95,11 +93,10 @@ impl<'a> Resolver<'_, '_, 'a> {
         indices: &[usize],
         properties: &mut Vec<NamedProperty<'a>>,
     ) -> Result<(), Fault>
-        requires sound { IsSoundGrowing self.now.growing.now }
         requires inside { (i : ℕ) → IsIn i indices.now → i < length self.now.growing.now.properties.items }
         requires empty { properties.old.items ≡ [] }
         ensures { MatchResult result
-            (λ _. EachNaming self.now.growing.now self.now.belongings.now.places.items (λ es place.
+            (λ _. EachReading self.now (λ es place.
             ArePropertiesRead self.now.unnamed es place self.now.growing.now.properties.items indices.now (map property_said properties.new.items)))
             (λ fault. IsUnreadAmong self.now.unnamed self.now.growing.now indices.now fault) }
     {
@@ -116,10 +113,9 @@ impl<'a> Resolver<'_, '_, 'a> {
         alloc: Global,
         indices: &[usize],
     ) -> Result<Vec<NamedProperty<'a>>, Fault>
-        requires sound { IsSoundGrowing self.now.growing.now }
         requires inside { (i : ℕ) → IsIn i indices.now → i < length self.now.growing.now.properties.items }
         ensures { MatchResult result
-            (λ properties. EachNaming self.now.growing.now self.now.belongings.now.places.items (λ es place.
+            (λ properties. EachReading self.now (λ es place.
             ArePropertiesRead self.now.unnamed es place self.now.growing.now.properties.items indices.now (map property_said properties.items)))
             (λ fault. IsUnreadAmong self.now.unnamed self.now.growing.now indices.now fault) }
     {
@@ -130,10 +126,9 @@ impl<'a> Resolver<'_, '_, 'a> {
 
     /// The node of a row.
     fn named_node(&self, alloc: Global, row: Row) -> Result<NamedNode<'a>, Fault>
-        requires sound { IsSoundGrowing self.now.growing.now }
         requires belong { Belong self.now.growing.now self.now.belongings.now }
         ensures { MatchResult result
-            (λ node. EachNaming self.now.growing.now self.now.belongings.now.places.items (λ es place.
+            (λ node. EachReading self.now (λ es place.
             IsRowRead self.now.unnamed es place self.now.growing.now self.now.belongings.now row (node_said node)))
             (λ fault. IsUnreadAmong self.now.unnamed self.now.growing.now (group_of self.now.belongings.now.properties row.node) fault) }
     {
@@ -160,11 +155,10 @@ impl<'a> Resolver<'_, '_, 'a> {
         rows: &[Row],
         nodes: &mut Vec<NamedNode<'a>>,
     ) -> Result<(), Fault>
-        requires sound { IsSoundGrowing self.now.growing.now }
         requires belong { Belong self.now.growing.now self.now.belongings.now }
         requires empty { nodes.old.items ≡ [] }
         ensures { MatchResult result
-            (λ _. EachNaming self.now.growing.now self.now.belongings.now.places.items (λ es place.
+            (λ _. EachReading self.now (λ es place.
             AreRowsRead self.now.unnamed es place self.now.growing.now self.now.belongings.now rows.now (map node_said nodes.new.items)))
             (λ fault. IsUnreadRow self.now.unnamed self.now.growing.now self.now.belongings.now rows.now fault) }
     {

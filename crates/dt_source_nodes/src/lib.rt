@@ -2,7 +2,7 @@
 //! their values references are read, to places among these nodes, and the phandles that are written differ (Devicetree Specification v0.4, 2.3.3).
 //!
 //! ```text
-//! let nodes = named_nodes(alloc, seed, &growing)?; // of `/ { a { b { }; }; c { }; };`
+//! let nodes = named_nodes(alloc, seed, &growing, Unnamed::Refused)?; // of `/ { a { b { }; }; c { }; };`
 //! nodes[3].parent;                                 // 0: /c is below the root
 //! ```
 //!
@@ -17,4 +17,4 @@ mod nodes;
 mod phandles;
 mod values;
 
-pub use nodes::{named_nodes, overlay_nodes};
+pub use nodes::named_nodes;

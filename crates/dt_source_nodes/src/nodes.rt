@@ -2,10 +2,9 @@
 
 ghost use Rattle.std.specs.Prelude.{◌≡◌, [], length, map, MatchResult};
 ghost use Rattle.dt_source_named_tree.specs.Said.{node_said};
-ghost use Rattle.dt_source_growing.specs.Growing.{IsSoundGrowing};
 ghost use Rattle.dt_source_nodes.specs.Listing.{AreRows, ArePlaces};
 ghost use Rattle.dt_source_nodes.specs.Resolving.{Belong};
-ghost use Rattle.dt_source_nodes.specs.Nodes.{AreFilled, IsUnfilled, AreListed, IsUnlisted, AreKept, IsUnkept};
+ghost use Rattle.dt_source_nodes.specs.Nodes.{AreFilled, IsUnfilled, AreListed, IsUnlisted};
 
 use crate::belongings::Belongings;
 use crate::listing::{Row, rows};
@@ -16,49 +15,48 @@ use dt_source_growing::{Growing, Unnamed};
 use dt_source_named_tree::NamedNode;
 use std::alloc::{AllocError, Global};
 
-/// Adds the nodes of the rows to none, and looks at the phandles that are written in them.
+/// Adds the nodes of the rows to none, and looks at the phandles that are written in a base.
 fn fill<'a>(
     alloc: Global,
     seed: Seed,
-    growing: &Growing<'_, 'a>,
-    belongings: &Belongings,
+    resolver: &Resolver<'_, '_, 'a>,
     rows: &[Row],
     nodes: &mut Vec<NamedNode<'a>>,
 ) -> Result<(), Fault>
-    requires sound { IsSoundGrowing growing.now }
-    requires belong { Belong growing.now belongings.now }
+    requires belong { Belong resolver.now.growing.now resolver.now.belongings.now }
     requires empty { nodes.old.items ≡ [] }
     ensures { MatchResult result
-        (λ _. AreFilled growing.now belongings.now rows.now (map node_said nodes.new.items))
-        (λ fault. IsUnfilled growing.now belongings.now rows.now fault) }
+        (λ _. AreFilled resolver.now.unnamed resolver.now.growing.now resolver.now.belongings.now rows.now (map node_said nodes.new.items))
+        (λ fault. IsUnfilled resolver.now.unnamed resolver.now.growing.now resolver.now.belongings.now rows.now fault) }
 {
-    let resolver = Resolver {
-        growing,
-        belongings,
-        unnamed: Unnamed::Refused,
-    };
     resolver.add_nodes(alloc, rows, nodes)?;
-    check_phandles(alloc, seed, &growing.properties, &belongings.places)
+    match resolver.unnamed {
+        Unnamed::Refused => check_phandles(
+            alloc,
+            seed,
+            &resolver.growing.properties,
+            &resolver.belongings.places,
+        ),
+        Unnamed::Kept => Ok(()),
+    }
 }
 
 /// The nodes of the rows, each with what it has, where this is what belongs to them.
 fn filled_nodes<'a>(
     alloc: Global,
     seed: Seed,
-    growing: &Growing<'_, 'a>,
-    belongings: &Belongings,
+    resolver: &Resolver<'_, '_, 'a>,
     rows: &[Row],
 ) -> Result<Vec<NamedNode<'a>>, Fault>
-    requires sound { IsSoundGrowing growing.now }
-    requires rows { AreRows growing.now.nodes.items rows.now }
-    requires belong { Belong growing.now belongings.now }
-    requires places { ArePlaces rows.now (length growing.now.nodes.items) belongings.now.places.items }
+    requires rows { AreRows resolver.now.growing.now.nodes.items rows.now }
+    requires belong { Belong resolver.now.growing.now resolver.now.belongings.now }
+    requires places { ArePlaces rows.now (length resolver.now.growing.now.nodes.items) resolver.now.belongings.now.places.items }
     ensures { MatchResult result
-        (λ nodes. AreListed growing.now (map node_said nodes.items))
-        (λ fault. IsUnlisted growing.now fault) }
+        (λ nodes. AreListed resolver.now.unnamed resolver.now.growing.now (map node_said nodes.items))
+        (λ fault. IsUnlisted resolver.now.unnamed resolver.now.growing.now fault) }
 {
     let mut nodes = Vec::with_capacity(alloc, rows.len())?;
-    fill(alloc, seed, growing, belongings, rows, &mut nodes)?;
+    fill(alloc, seed, resolver, rows, &mut nodes)?;
     Ok(nodes)
 }
 
@@ -67,85 +65,37 @@ fn nodes_of_rows<'a>(
     alloc: Global,
     seed: Seed,
     growing: &Growing<'_, 'a>,
+    unnamed: Unnamed,
     rows: &[Row],
 ) -> Result<Vec<NamedNode<'a>>, Fault>
-    requires sound { IsSoundGrowing growing.now }
-    requires rows { AreRows growing.now.nodes.items rows.now }
+    requires { AreRows growing.now.nodes.items rows.now }
     ensures { MatchResult result
-        (λ nodes. AreListed growing.now (map node_said nodes.items))
-        (λ fault. IsUnlisted growing.now fault) }
+        (λ nodes. AreListed unnamed growing.now (map node_said nodes.items))
+        (λ fault. IsUnlisted unnamed growing.now fault) }
 {
     let belongings = Belongings::new(alloc, growing, rows)?;
-    filled_nodes(alloc, seed, growing, &belongings, rows)
+    let resolver = Resolver {
+        growing,
+        belongings: &belongings,
+        unnamed,
+    };
+    filled_nodes(alloc, seed, &resolver, rows)
 }
 
-/// The nodes that stand in preorder, each with what it has. `UnresolvedReference` where a reference names no node; else
-/// `BadPhandle` where a `phandle` writes no number; else `DuplicatePhandle` where two nodes write one number.
+/// The nodes that stand, in preorder, each with what it has. In a base, where a label that names no node is refused:
+/// `UnresolvedReference` where a reference names no node; else `BadPhandle` where a `phandle` writes no number; else
+/// `DuplicatePhandle` where two nodes write one number. In an overlay, where such a label is kept: `UnresolvedReference` where
+/// another reference names no node.
 pub fn named_nodes<'a>(
     alloc: Global,
     seed: Seed,
     growing: &Growing<'_, 'a>,
+    unnamed: Unnamed,
 ) -> Result<Vec<NamedNode<'a>>, Fault>
-    requires { IsSoundGrowing growing.now }
     ensures { MatchResult result
-        (λ nodes. AreListed growing.now (map node_said nodes.items))
-        (λ fault. IsUnlisted growing.now fault) }
+        (λ nodes. AreListed unnamed growing.now (map node_said nodes.items))
+        (λ fault. IsUnlisted unnamed growing.now fault) }
 {
     let rows = rows(alloc, &growing.nodes)?;
-    nodes_of_rows(alloc, seed, growing, &rows)
-}
-
-/// The nodes of the rows of an overlay's tree, each with what it has, where this is what belongs to them.
-fn kept_nodes<'a>(
-    alloc: Global,
-    growing: &Growing<'_, 'a>,
-    belongings: &Belongings,
-    rows: &[Row],
-) -> Result<Vec<NamedNode<'a>>, Fault>
-    requires sound { IsSoundGrowing growing.now }
-    requires rows { AreRows growing.now.nodes.items rows.now }
-    requires belong { Belong growing.now belongings.now }
-    requires places { ArePlaces rows.now (length growing.now.nodes.items) belongings.now.places.items }
-    ensures { MatchResult result
-        (λ nodes. AreKept growing.now (map node_said nodes.items))
-        (λ fault. IsUnkept growing.now fault) }
-{
-    let resolver = Resolver {
-        growing,
-        belongings,
-        unnamed: Unnamed::Kept,
-    };
-    let mut nodes = Vec::new(alloc);
-    resolver.add_nodes(alloc, rows, &mut nodes)?;
-    Ok(nodes)
-}
-
-/// The same, where nothing is known but the rows.
-fn overlay_nodes_of_rows<'a>(
-    alloc: Global,
-    growing: &Growing<'_, 'a>,
-    rows: &[Row],
-) -> Result<Vec<NamedNode<'a>>, Fault>
-    requires sound { IsSoundGrowing growing.now }
-    requires rows { AreRows growing.now.nodes.items rows.now }
-    ensures { MatchResult result
-        (λ nodes. AreKept growing.now (map node_said nodes.items))
-        (λ fault. IsUnkept growing.now fault) }
-{
-    let belongings = Belongings::new(alloc, growing, rows)?;
-    kept_nodes(alloc, growing, &belongings, rows)
-}
-
-/// The nodes that stand in an overlay's tree in preorder, each with what it has: a label that names none of them is kept.
-pub fn overlay_nodes<'a>(
-    alloc: Global,
-    growing: &Growing<'_, 'a>,
-) -> Result<Vec<NamedNode<'a>>, Fault>
-    requires { IsSoundGrowing growing.now }
-    ensures { MatchResult result
-        (λ nodes. AreKept growing.now (map node_said nodes.items))
-        (λ fault. IsUnkept growing.now fault) }
-{
-    let rows = rows(alloc, &growing.nodes)?;
-    overlay_nodes_of_rows(alloc, growing, &rows)
+    nodes_of_rows(alloc, seed, growing, unnamed, &rows)
 }

@@ -87,7 +87,8 @@ fn meet(
     places: &[Option<usize>],
 ) -> Result<bool, AllocError>
     ensures before { IfOk result (λ before. before ≡ option_map_or (has_seen seen.old) (phandle_written places.now property.now) false) }
-    ensures added { OnOk result ((n : ℕ) → has_seen seen.new n ≡ (option_map_or (nat_eq n) (phandle_written places.now property.now) false || has_seen seen.old n)) }
+    ensures added { OnOk result ((n : ℕ) → has_seen seen.new n ≡
+        (option_map_or (nat_eq n) (phandle_written places.now property.now) false || has_seen seen.old n)) }
 {
     match phandle_written(property, places) {
         Some(phandle) => Ok(!add_phandle(seen, phandle)?),

@@ -9,9 +9,8 @@ ghost use Rattle.dt_source_items.specs.Said.{reference_of, referring, piece_part
 ghost use Rattle.dt_source_items.specs.Said as source_said;
 ghost use Rattle.dt_source_named_tree.specs.Said.{reference_said, value_said};
 ghost use Rattle.dt_source_growing.specs.Grown.{AreAbove, StandsUnder};
-ghost use Rattle.dt_source_growing.specs.Growing.{IsSoundGrowing};
 ghost use Rattle.dt_source_nodes.specs.Contents.{names_text, kept_label, named_cell, named_part, named_parts};
-ghost use Rattle.dt_source_nodes.specs.Resolving.{IsGrownBy, EachNaming, IsAdded, IsUnread};
+ghost use Rattle.dt_source_nodes.specs.Resolving.{IsGrownBy, EachReading, IsAdded, IsUnread};
 
 use crate::belongings::Belongings;
 use dt_names::{Fault, FaultKind};
@@ -137,10 +136,9 @@ impl Resolver<'_, '_, '_> {
 
     /// What a cell's reference is.
     fn named_cell<'a>(&self, reference: &Reference<'a>) -> Option<NamedReference<'a>>
-        requires { IsSoundGrowing self.now.growing.now }
         ensures { MatchOption result
             ((es : Events) → IsGrownBy self.now.growing.now es → (named_parts self.now.unnamed es reverse (number_of (reference_of reference.now) ∷ []) ≡ None))
-            (λ named. EachNaming self.now.growing.now self.now.belongings.now.places.items (λ es place. named_cell self.now.unnamed es place (reference_of reference.now) ≡ Some (reference_said named))) }
+            (λ named. EachReading self.now (λ es place. named_cell self.now.unnamed es place (reference_of reference.now) ≡ Some (reference_said named))) }
     {
         match self.growing.referent(reference) {
             Some(node) => Some(NamedReference::Node(place_of(&self.belongings.places, node))),
@@ -155,9 +153,8 @@ impl Resolver<'_, '_, '_> {
         reference: &Reference<'a>,
         value: &mut NamedValue<'a>,
     ) -> Result<(), Fault>
-        requires { IsSoundGrowing self.now.growing.now }
         ensures { MatchResult result
-            (λ _. EachNaming self.now.growing.now self.now.belongings.now.places.items (λ es place.
+            (λ _. EachReading self.now (λ es place.
             IsAdded (value_said value.old) (named_part self.now.unnamed es place (number_of (reference_of reference.now))) (value_said value.new)))
             (λ fault. IsUnread self.now.unnamed self.now.growing.now (number_of (reference_of reference.now) ∷ []) fault) }
     {
@@ -170,7 +167,6 @@ impl Resolver<'_, '_, '_> {
 
     /// Adds a reference outside a cell list.
     fn add_text(&self, reference: &Reference<'_>, value: &mut NamedValue<'_>) -> Result<(), Fault>
-        requires sound { IsSoundGrowing self.now.growing.now }
         ensures { MatchResult result
             (λ _. (es : Events) (place : Stack → ℕ) → IsGrownBy self.now.growing.now es →
             IsAdded (value_said value.old) (named_part self.now.unnamed es place (text_of (reference_of reference.now))) (value_said value.new))
@@ -190,10 +186,10 @@ impl Resolver<'_, '_, '_> {
         piece: &Piece<'a>,
         value: &mut NamedValue<'a>,
     ) -> Result<(), Fault>
-        requires { IsSoundGrowing self.now.growing.now }
         ensures { MatchResult result
-            (λ _. EachNaming self.now.growing.now self.now.belongings.now.places.items (λ es place.
-            IsAdded (value_said value.old) (named_part self.now.unnamed es place (referring piece.now.form (reference_of piece.now.reference))) (value_said value.new)))
+            (λ _. EachReading self.now (λ es place.
+            IsAdded (value_said value.old) (named_part self.now.unnamed es place
+            (referring piece.now.form (reference_of piece.now.reference))) (value_said value.new)))
             (λ fault. IsUnread self.now.unnamed self.now.growing.now (referring piece.now.form (reference_of piece.now.reference) ∷ []) fault) }
     {
         match piece.form {
@@ -209,9 +205,8 @@ impl Resolver<'_, '_, '_> {
         piece: &Piece<'a>,
         value: &mut NamedValue<'a>,
     ) -> Result<(), Fault>
-        requires sound { IsSoundGrowing self.now.growing.now }
         ensures { MatchResult result
-            (λ _. EachNaming self.now.growing.now self.now.belongings.now.places.items (λ es place.
+            (λ _. EachReading self.now (λ es place.
             IsAdded (value_said value.old) (named_parts self.now.unnamed es place (piece_parts piece.now)) (value_said value.new)))
             (λ fault. IsUnread self.now.unnamed self.now.growing.now (piece_parts piece.now) fault) }
     {
@@ -226,10 +221,9 @@ impl Resolver<'_, '_, '_> {
         source: &Value<'a>,
         value: &mut NamedValue<'a>,
     ) -> Result<(), Fault>
-        requires sound { IsSoundGrowing self.now.growing.now }
         requires empty { value_said value.old ≡ [] }
         ensures { MatchResult result
-            (λ _. EachNaming self.now.growing.now self.now.belongings.now.places.items (λ es place.
+            (λ _. EachReading self.now (λ es place.
             named_parts self.now.unnamed es place (source_said.value_said source.now) ≡ Some (value_said value.new)))
             (λ fault. IsUnread self.now.unnamed self.now.growing.now (source_said.value_said source.now) fault) }
     {
@@ -248,9 +242,8 @@ impl Resolver<'_, '_, '_> {
         alloc: Global,
         source: &Value<'a>,
     ) -> Result<NamedValue<'a>, Fault>
-        requires sound { IsSoundGrowing self.now.growing.now }
         ensures { MatchResult result
-            (λ value. EachNaming self.now.growing.now self.now.belongings.now.places.items (λ es place.
+            (λ value. EachReading self.now (λ es place.
             named_parts self.now.unnamed es place (source_said.value_said source.now) ≡ Some (value_said value)))
             (λ fault. IsUnread self.now.unnamed self.now.growing.now (source_said.value_said source.now) fault) }
     {

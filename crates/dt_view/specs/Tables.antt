@@ -51,7 +51,8 @@ PutsValue old new node name value = (k : ℕ) (x : Name) → value_at new k x �
 -- each value is that of a node, and each of some nodes has its values there
 pub record AreValues (t : PlacedTree) (nodes : List Placed) (entries : List (Key × Bor (List ℕ))) : Type 0 where
   pub has : (k : ℕ) (x : Name) (v : List ℕ) → value_at entries k x ≡ Some v → value_in (reading_of t) (path_at t k) x ≡ Some v
-  pub found : (n : Placed) (k : ℕ) (x : Name) → IsIn n nodes → IsAt t n.path k → is_some (value_in (reading_of t) (path_at t k) x) ≡ true → is_some (value_at entries k x) ≡ true
+  pub found : (n : Placed) (k : ℕ) (x : Name) → IsIn n nodes → IsAt t n.path k → is_some (value_in (reading_of t) (path_at t k) x) ≡ true
+      → is_some (value_at entries k x) ≡ true
 
 -- of a node's properties some are put into a table
 pub record AreKept (node : ℕ) (properties some : List Property) (old new : List (Key × Bor (List ℕ))) : Type 0 where

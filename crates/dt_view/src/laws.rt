@@ -15,7 +15,8 @@ use dt_names::one_path;
 pub fn tree_is_seen()
     ensures reads { (tree : Arena) → reading_of (numbered_tree tree) ≡ reading tree }
     ensures numbers { (tree : Arena) (path : Path) → place_of (numbered_tree tree) path ≡ node_from tree.slots 0 path }
-    ensures nodes { (tree : Arena) (node : ℕ) → IsRooted tree.slots → (path : Path) × (node_from tree.slots 0 path ≡ Some node) → IsNode (numbered_tree tree) node }
+    ensures nodes { (tree : Arena) (node : ℕ) → IsRooted tree.slots → (path : Path) × (node_from tree.slots 0 path ≡ Some node)
+        → IsNode (numbered_tree tree) node }
     ensures places { (t : PlacedTree) (path : Path) (node : ℕ) → HasPlacesApart t → IsAt t path node → IsNode t node }
 {}
 

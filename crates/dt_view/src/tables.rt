@@ -76,7 +76,8 @@ fn put_value<'a>(
 /// Puts the values of a node into the table.
 fn note_values<'a>(blob: &Blob<'a>, values: &mut Values<'a>, node: NodeId) -> Result<(), AllocError>
     requires { IsNode blob.now node }
-    ensures { OnOk result (AreKept node (properties_at blob.now (path_at blob.now node)) (properties_at blob.now (path_at blob.now node)) values.old.entries values.new.entries) }
+    ensures { OnOk result (AreKept node (properties_at blob.now (path_at blob.now node))
+        (properties_at blob.now (path_at blob.now node)) values.old.entries values.new.entries) }
 {
     blob.validity();
     for (name, value) in blob.props(node) {

@@ -3,7 +3,7 @@ use Rattle.std.specs.Prelude.{codes}
 use Rattle.dt_model.specs.Printed.{hexadecimal, significant}
 use Rattle.dt_decompile.specs.Pieces.{cells_behind}
 use Rattle.dt_decompile.proofs.CellTexts.{cell_step}
-use Rattle.dt_decompile.proofs.Passing.{passed_then, exits_at, turned}
+use Rattle.dt_text_writer.proofs.Writing.{puts_then, exits_at, turned}
 use Rattle.dt_decompile.proofs.cells.put_cells_behind.Goals as goal
 
 pub returns-in_err-put_cell-clause-refused : goal.returns-in_err-put_cell-clause-refused
@@ -21,5 +21,5 @@ loop-cell-preserved g c =
     let piece = codes " 0x" ++ significant (hexadecimal s.cell.now) in (
       front ++ piece,
       turned front piece (cells_behind s.behind.now) (split ∙ ap (λ (l : List ℕ). front ++ l) step),
-      passed_then passed c.in_ok-put_cell.ensures.passed,
+      puts_then passed c.in_ok-put_cell.ensures.written,
     )

@@ -1,6 +1,6 @@
 use Rattle.std.proofs.Common.{◌++◌, ◌∙◌, List, ℕ, ap, rules}
 use Rattle.dt_model.specs.Printed.{reservation_line, reservation_lines}
-use Rattle.dt_decompile.proofs.Passing.{passed_then, exits_at, turned}
+use Rattle.dt_text_writer.proofs.Writing.{puts_then, exits_at, turned}
 use Rattle.dt_decompile.proofs.reservations.put_reservations.Goals as goal
 
 pub returns-in_err-put_reservation-clause-refused : goal.returns-in_err-put_reservation-clause-refused
@@ -17,5 +17,5 @@ loop-address-preserved g c =
       front ++ reservation_line (c.in-Some.address, c.in-Some.size),
       turned front (reservation_line (c.in-Some.address, c.in-Some.size)) (reservation_lines c.next.new.self)
           (split ∙ ap (λ (l : List (ℕ × ℕ)). front ++ reservation_lines l) c.in-Some.ensures.steps),
-      passed_then passed c.in_ok-put_reservation.ensures.passed,
+      puts_then passed c.in_ok-put_reservation.ensures.written,
     )

@@ -3,7 +3,7 @@ use Rattle.dt_read.specs.Walked.{Step}
 use Rattle.dt_read.specs.StepsLeft.{step_view}
 use Rattle.dt_decompile.specs.Lines.{lines_of, line_of, opened}
 use Rattle.dt_decompile.proofs.LineTexts.{depth_fits}
-use Rattle.dt_decompile.proofs.Passing.{passed_none, passed_then, exits_at, turned}
+use Rattle.dt_text_writer.proofs.Writing.{puts_none, puts_then, exits_at, turned}
 use Rattle.dt_decompile.proofs.steps.put_steps.Goals as goal
 
 pub returns-in_err-put_step-clause-refused : goal.returns-in_err-put_step-clause-refused
@@ -24,10 +24,10 @@ loop-step-preserved g c =
       turned front line (lines_of c.depth_behind-depth.result c.next.new.self)
           (split ∙ ap (λ (l : List Step). front ++ lines_of c.loop-step.depth l) c.in-Some.ensures.steps
           ∙ ap (λ (depth : ℕ). front ++ (line ++ lines_of depth c.next.new.self)) next),
-      passed_then passed c.in_ok-put_step.ensures.passed,
+      puts_then passed c.in_ok-put_step.ensures.written,
     )
 
 pub loop-step-init : goal.loop-step-init
 loop-step-init g c =
     let same = c.into_iter-step-iterator.ensures.into_iter_gives in
-    (tt, tt, omega (arith, ap opened same), [], ap (lines_of 0) (sym same), passed_none _ _)
+    (tt, tt, omega (arith, ap opened same), [], ap (lines_of 0) (sym same), puts_none _)

@@ -1,7 +1,7 @@
 -- A front of the lines passed, and there are at most as many open nodes as began.
 use Rattle.std.proofs.Common.{◌≡◌, List, ℕ, ◌++◌, ◌+◌, ◌≤◌}
 use Rattle.dt_decompile.specs.Lines.{lines_of, opened}
-use Rattle.dt_decompile.specs.Passed.{IsPassed}
+use Rattle.dt_text_writer.specs.Written.{Puts}
 use Rattle.dt_decompile.proofs.steps.put_steps.Given as goal
 
 abbrev pub invariant-loop-step : goal.invariant-loop-step
@@ -9,4 +9,4 @@ invariant-loop-step g l =
     (goal.iterator-loop-step g).can_next l.step-iterator × (goal.iterator-loop-step g).is_finite l.step-iterator
     × (l.depth + opened l.step-iterator ≤ opened l.fn.steps)
     × (front : List ℕ) × (lines_of 0 l.fn.steps ≡ front ++ lines_of l.depth l.step-iterator)
-    × IsPassed (g.S.Sink.taken l.initial.out) (g.S.Sink.taken l.out) l.initial.buffer front l.buffer
+    × Puts g.S.Sink.taken front l.initial.writer l.writer

@@ -13,7 +13,7 @@ loop-step-init g c =
     let t = c.args.index.now in
     let own = AreOwn c.args.listing (reading_of t) in
     let whole = c.into_iter-step-iterator.ensures.into_iter_gives ∙ c.steps-step-items.ensures ∙ ap steps_of c.blob.ensures in
-    (tt, tt, none_past own t _ _ _ c.validity.ensures.valid whole)
+    (tt, tt, none_past own t _ _ c.validity.ensures.valid whole)
 
 pub put_node-requires : goal.put_node-requires
 put_node-requires g c =
@@ -23,7 +23,7 @@ put_node-requires g c =
 pub loop-step-preserved-in-Continue-1 : goal.loop-step-preserved-in-Continue-1
 loop-step-preserved-in-Continue-1 g c =
     let e = c.in-Some.ensures.steps ∙ ap (λ s. step_view s ∷ c.next.new.self) c.in-Open.is in
-    (tt, tt, past_one (AreOwn c.args.listing (reading_of c.args.index.now)) c.args.index.now c.validity.ensures.places c.in-Open.node c.in-Open.name.now _ _ e c.loop-step.invariant.2 c.in_ok-put_node-in-Open.ensures.passed)
+    (tt, tt, past_one (AreOwn c.args.listing (reading_of c.args.index.now)) c.args.index.now c.validity.ensures.places c.in-Open.node c.in-Open.name.now _ _ e c.loop-step.invariant.2 c.in_ok-put_node-in-Open.ensures.written)
 
 pub loop-step-preserved-in-Property : goal.loop-step-preserved-in-Property
 loop-step-preserved-in-Property g c =
@@ -42,6 +42,6 @@ returns-in_err-put_node-in-Open-clause-refused g c =
     if_fault _ _ _ c.from_residual.ensures.1
     (cut_at_one (AreOwn c.args.listing (reading_of t)) t c.validity.ensures.places c.in-Open.node c.in-Open.name.now _ _ e (AreOwnBegun c.args.listing (reading_of t)) c.loop-step.invariant.2 c.in_err-put_node-in-Open.ensures.refused)
 
-pub returns-clause-passed : goal.returns-clause-passed
-returns-clause-passed g c =
+pub returns-clause-written : goal.returns-clause-written
+returns-clause-written g c =
     all_past (AreOwn c.args.listing (reading_of c.args.index.now)) c.args.index.now _ c.in-None.ensures.steps.0 c.loop-step.invariant.2

@@ -11,7 +11,7 @@ pub loop-region-init : goal.loop-region-init
 loop-region-init g c =
     let t = g.V.TreeView.tree c.args.view.now in (
       c.requires.regions,
-      going_starts (regions_told (reading_of t) (path_at t c.args.node)) _ _,
+      going_starts (regions_told (reading_of t) (path_at t c.args.node)) _,
       omega arith,
     )
 
@@ -20,8 +20,8 @@ next-requires g c =
     let t = g.V.TreeView.tree c.args.view.now in
     (path_at t c.args.node, c.loop-region.index, c.loop-region.invariant.0)
 
-pub returns-then-is_silent-clause-passed : goal.returns-then-is_silent-clause-passed
-returns-then-is_silent-clause-passed g c =
+pub returns-then-is_silent-clause-written : goal.returns-then-is_silent-clause-written
+returns-then-is_silent-clause-written g c =
     let t = g.V.TreeView.tree c.args.view.now in
     let p = path_at t c.args.node in
     let next = c.in-Some.ensures.is p c.loop-region.index c.loop-region.invariant.0 in
@@ -35,12 +35,12 @@ returns-in_err-put_line-clause-refused g c =
     if_fault _ _ _ c.from_residual.ensures.1
     (going_fails (regions_told (reading_of t) p) (told c.in-Some.region) next.0 c.loop-region.invariant.1 (sym c.is_silent.ensures ∙ c.if-is_silent.false) c.in_err-put_line.ensures.refused)
 
-pub returns-then-is_last-clause-passed : goal.returns-then-is_last-clause-passed
-returns-then-is_last-clause-passed g c =
+pub returns-then-is_last-clause-written : goal.returns-then-is_last-clause-written
+returns-then-is_last-clause-written g c =
     let t = g.V.TreeView.tree c.args.view.now in
     let p = path_at t c.args.node in
     let next = c.in-Some.ensures.is p c.loop-region.index c.loop-region.invariant.0 in
-    going_ends_behind (regions_told (reading_of t) p) (told c.in-Some.region) next.0 c.loop-region.invariant.1 (sym c.is_silent.ensures ∙ c.if-is_silent.false) (sym c.is_last.ensures ∙ c.if-is_last.true) c.in_ok-put_line.ensures.passed
+    going_ends_behind (regions_told (reading_of t) p) (told c.in-Some.region) next.0 c.loop-region.invariant.1 (sym c.is_silent.ensures ∙ c.if-is_silent.false) (sym c.is_last.ensures ∙ c.if-is_last.true) c.in_ok-put_line.ensures.written
 
 pub loop-region-smaller : goal.loop-region-smaller
 loop-region-smaller g c = c.in-Some.ensures.fewer
@@ -53,12 +53,12 @@ loop-region-preserved g c =
     let room = c.loop-region.invariant.2 in
     let less = c.in-Some.ensures.fewer in (
       next.1,
-      going_on (regions_told (reading_of t) p) (told c.in-Some.region) next.0 c.loop-region.invariant.1 (sym c.is_silent.ensures ∙ c.if-is_silent.false) (sym c.is_last.ensures ∙ c.if-is_last.false) c.in_ok-put_line.ensures.passed,
+      going_on (regions_told (reading_of t) p) (told c.in-Some.region) next.0 c.loop-region.invariant.1 (sym c.is_silent.ensures ∙ c.if-is_silent.false) (sym c.is_last.ensures ∙ c.if-is_last.false) c.in_ok-put_line.ensures.written,
       omega (arith, room, less),
     )
 
-pub returns-clause-passed : goal.returns-clause-passed
-returns-clause-passed g c =
+pub returns-clause-written : goal.returns-clause-written
+returns-clause-written g c =
     let t = g.V.TreeView.tree c.args.view.now in
     let p = path_at t c.args.node in
     going_ends (regions_told (reading_of t) p) (refuse NoReg) (c.in_default.ensures.is p c.loop-region.index c.loop-region.invariant.0).0 c.loop-region.invariant.1 refl

@@ -3,6 +3,7 @@ use Rattle.std.specs.Prelude.{◌≤◌, ◌+◌}
 use Rattle.dt_read.specs.Placed.{path_at, reading_of}
 use Rattle.dt_ranges.specs.Left.{AreLeft, entries_left}
 use Rattle.dt_resolve_lines.specs.AllLines.{regions_told}
+use Rattle.dt_text_writer.specs.Written.{state}
 use Rattle.dt_resolve_lines.proofs.Going.{IsGoing}
 use Rattle.dt_resolve_lines.proofs.regions.put_entries.Given as goal
 
@@ -10,7 +11,7 @@ abbrev pub invariant-loop-region : goal.invariant-loop-region
 invariant-loop-region g l =
     let t = g.V.TreeView.tree l.view in
     AreLeft t (path_at t l.node) l.index l.entries
-    × IsGoing (regions_told (reading_of t) (path_at t l.node)) l.index (g.S.Sink.taken l.initial.out) (g.S.Sink.taken l.out) l.initial.buffer l.buffer
+    × IsGoing (regions_told (reading_of t) (path_at t l.node)) l.index (state g.S.Sink.taken l.initial.writer) (state g.S.Sink.taken l.writer)
     × (l.index + entries_left l.entries ≤ entries_left l.initial.regions)
 
 abbrev pub decreases-loop-region : goal.decreases-loop-region

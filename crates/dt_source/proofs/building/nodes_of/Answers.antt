@@ -2,6 +2,7 @@ use Rattle.std.proofs.Common.{◌<◌, length, map, arith}
 use Rattle.std.proofs.lemmas.List.{length-map}
 use Rattle.std.proofs.lemmas.Result.{err_from_is_err_and}
 use Rattle.dt_source_items.specs.Said.{place_said}
+use Rattle.dt_source_growing.specs.declared.referring.Unnamed.TheVariants.{Refused}
 use Rattle.dt_source.specs.Building.{AreNodesOf}
 use Rattle.dt_source_nodes.specs.Nodes.{AreListed, IsUnlisted}
 use Rattle.dt_source_bodies.specs.Refusals.{mode_said}
@@ -20,10 +21,10 @@ returns c =
     let mode = mode_said c.args.mode in
     let places = map place_said c.args.items.now in
     let g = c.in_ok-growing.growing in
-    let grown = c.in_ok-growing.ensures.0 in
+    let grown = c.in_ok-growing.ensures in
     let some : 0 < length places = omega (arith, c.requires, length-map c.args.items.now place_said) in
     let root = c.root_stands.ensures mode places grown.0 some grown.1 in
-    either (λ nodes. AreListed g (map node_said nodes.items)) (IsUnlisted g) (λ nodes. AreNodesOf mode places (map node_said nodes.items)) (WhyNotRead mode places)
+    either (λ nodes. AreListed Refused g (map node_said nodes.items)) (IsUnlisted Refused g) (λ nodes. AreNodesOf mode places (map node_said nodes.items)) (WhyNotRead mode places)
     (λ nodes are. record { so_far = grown.0; all_read = grown.1; after = are grown.0.events grown.2 root })
     (λ fault why. late_refused mode places grown.0 fault grown.1 why.0 (why.1 grown.0.events grown.2 root))
     c.named_nodes.result c.named_nodes.ensures

@@ -13,4 +13,4 @@ returns c =
     let whole = c.in_ok-read_items.ensures.0 in
     let n = length c.args.items.now in
     let p = goes_on-is (read_all (mode_said c.args.mode) nothing (map place_said c.args.items.now)) r n c.in_ok-read_items.ensures.1 in
-    ((p.0, p.1, grown_so_far r n p.0 whole p.2), whole.sound)
+    (p.0, p.1, grown_so_far r n p.0 whole p.2)

@@ -10,14 +10,14 @@ pub returns-clause-meaning : goal.returns-clause-meaning
 returns-clause-meaning c =
     let old : Reading = c.args.self.now in
     let made = made_root (shape old.growing) (shape c.open_root.new.self) old.bodies.items _ c.requires.nothing c.in_ok-open_root.ensures.opened in
-    begins (shape old.growing) (shape c.open_root.new.self) old.bodies.items (forest old.growing c.requires.whole.sound) c.requires.nothing made
+    begins (shape old.growing) (shape c.open_root.new.self) old.bodies.items (forest old.growing c.args.self.now.growing.sound) c.requires.nothing made
 
 pub returns-clause-whole : goal.returns-clause-whole
 returns-clause-whole c =
     let old : Reading = c.args.self.now in
     let new : Reading = record { growing = c.open_root.new.self; bodies = old.bodies } in
     let made = made_root (shape old.growing) (shape c.open_root.new.self) old.bodies.items _ c.requires.nothing c.in_ok-open_root.ensures.opened in
-    whole_same old new c.requires.whole c.in_ok-open_root.ensures.sound (omega (arith, made.none, made.size)) refl
+    whole_same old new c.requires.whole (omega (arith, made.none, made.size)) refl
 
 pub returns-clause-rooted : goal.returns-clause-rooted
 returns-clause-rooted c =

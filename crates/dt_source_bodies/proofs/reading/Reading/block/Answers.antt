@@ -22,12 +22,12 @@ returns-clause-meaning c = λ m u h.
     let f = reference_of c.args.reference.now in
     let t = c.in_ok-node.ensures.target u c.args.item h in
     goes_on_more (read m u (block f)) new (c.args.item + 1) _ c.in_ok-enter.ensures
-    (block-goes m (shape old.growing) old.bodies.items c.args.item u (forest old.growing c.requires.sound) h t.0 f t.1.0 c.in_ok-node.node c.in_ok-node.depth t.1.1
-    (leads_to old.growing c.requires.sound t.1.0 c.in_ok-node.node t.1.2) t.1.3)
+    (block-goes m (shape old.growing) old.bodies.items c.args.item u (forest old.growing c.args.self.now.growing.sound) h t.0 f t.1.0 c.in_ok-node.node c.in_ok-node.depth t.1.1
+    (leads_to old.growing c.args.self.now.growing.sound t.1.0 c.in_ok-node.node t.1.2) t.1.3)
 
 pub returns-clause-whole : goal.returns-clause-whole
 returns-clause-whole c =
     let old : Reading = c.args.self.now in
     let new : Reading = record { growing = old.growing; bodies = c.enter.new.bodies } in
     let p = c.in_ok-node.ensures.stands in
-    whole_more old new _ c.requires c.requires.sound (omega arith) (leads_inside old.growing p.0 c.in_ok-node.node p.1) c.in_ok-enter.ensures
+    whole_more old new _ c.requires (omega arith) (leads_inside old.growing p.0 c.in_ok-node.node p.1) c.in_ok-enter.ensures

@@ -23,7 +23,7 @@ returns-clause-meaning c = λ u h.
     let may = c.in_ok-body.ensures.may in
     let i = inner_of (shape old.growing) old.bodies.items c.args.item u b h may.last in
     let free = c.in_ok-body.ensures.meaning u c.args.item h in
-    let f = forest old.growing c.requires.sound in
+    let f = forest old.growing c.args.self.now.growing.sound in
     goes_on_more (read m u (child c.args.name.now)) new (c.args.item + 1) _ c.in_ok-enter.ensures
     (elim c.in_ok-node.ensures.opened [
       | inl made ↦ rw made.2 (child-goes-new m (shape old.growing) (shape new.growing) old.bodies.items c.args.item u b c.args.name.now f h i free may.once may.few made.0 made.1)
@@ -34,10 +34,10 @@ pub returns-clause-whole : goal.returns-clause-whole
 returns-clause-whole c =
     let old : Reading = c.args.self.now in
     let new : Reading = record { growing = c.open_child.new.self; bodies = c.enter.new.bodies } in
-    let f = forest old.growing c.requires.sound in
+    let f = forest old.growing c.args.self.now.growing.sound in
     (elim c.in_ok-node.ensures.opened [
       | inl made ↦ (let z : length new.growing.nodes.items ≡ length old.growing.nodes.items + 1 = made.1.size in
-          whole_more old new _ c.requires c.in_ok-node.ensures.sound (omega arith) (omega (arith, made.2)) c.in_ok-enter.ensures)
+          whole_more old new _ c.requires (omega arith) (omega (arith, made.2)) c.in_ok-enter.ensures)
       | inr there ↦ (let z : length new.growing.nodes.items ≡ length old.growing.nodes.items = there.1.size in
-          whole_more old new _ c.requires c.in_ok-node.ensures.sound (omega arith) (let e = (f.edge _ _ _ there.0).1 in omega (arith, e)) c.in_ok-enter.ensures)
+          whole_more old new _ c.requires (omega arith) (let e = (f.edge _ _ _ there.0).1 in omega (arith, e)) c.in_ok-enter.ensures)
     ])

@@ -26,10 +26,10 @@ returns-clause-meaning c = λ m u h.
     let i = inner_of (shape old.growing) old.bodies.items c.args.item u b h c.in_ok-body.ensures.0 in
     let once : is_behind b.item ((shape old.growing).defined b.node c.args.name.now) ≡ false = ap (is_behind b.item) (sym c.defined.ensures) ∙ sym c.if-is_later.ensures in
     goes_on (read m u (property c.args.name.now (value_said c.args.value.now))) new (c.args.item + 1)
-    (define-goes m (shape old.growing) (shape new.growing) old.bodies.items c.args.item u b c.args.name.now (value_said c.args.value.now) (forest old.growing c.requires.sound) h i once c.in_ok-define.ensures.defined)
+    (define-goes m (shape old.growing) (shape new.growing) old.bodies.items c.args.item u b c.args.name.now (value_said c.args.value.now) (forest old.growing c.args.self.now.growing.sound) h i once c.in_ok-define.ensures.defined)
 
 pub returns-clause-whole : goal.returns-clause-whole
 returns-clause-whole c =
     let old : Reading = c.args.self.now in
     let new : Reading = record { growing = c.define.new.self; bodies = old.bodies } in
-    whole_same old new c.requires c.in_ok-define.ensures.sound (let z = c.in_ok-define.ensures.defined.nodes.size in omega (arith, z)) refl
+    whole_same old new c.requires (let z = c.in_ok-define.ensures.defined.nodes.size in omega (arith, z)) refl

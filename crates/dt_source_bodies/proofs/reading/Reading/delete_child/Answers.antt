@@ -14,10 +14,10 @@ returns-clause-meaning c = λ m n u h.
     let b = c.in_ok-body.body in
     let i = inner_of (shape old.growing) old.bodies.items n u b h c.in_ok-body.ensures.0 in
     goes_on (read m u (delete_child c.args.name.now)) new (n + 1)
-    (delete_child-goes m (shape old.growing) (shape new.growing) old.bodies.items n u b c.args.name.now (forest old.growing c.requires.sound) h i c.cut_child.ensures.cut)
+    (delete_child-goes m (shape old.growing) (shape new.growing) old.bodies.items n u b c.args.name.now (forest old.growing c.args.self.now.growing.sound) h i c.cut_child.ensures.cut)
 
 pub returns-clause-whole : goal.returns-clause-whole
 returns-clause-whole c =
     let old : Reading = c.args.self.now in
     let new : Reading = record { growing = c.cut_child.new.self; bodies = old.bodies } in
-    whole_same old new c.requires c.cut_child.ensures.sound (let z = c.cut_child.ensures.cut.size in omega (arith, z)) refl
+    whole_same old new c.requires (let z = c.cut_child.ensures.cut.size in omega (arith, z)) refl

@@ -29,7 +29,7 @@ pub cut-requires-clause-inside : goal.cut-requires-clause-inside
 cut-requires-clause-inside c = let p = c.in_ok-node.ensures.stands in leads_inside c.args.self.now.growing p.0 c.in_ok-node.node p.1
 
 pub cut-requires-clause-stands : goal.cut-requires-clause-stands
-cut-requires-clause-stands c = let p = c.in_ok-node.ensures.stands in (standing c.args.self.now.growing c.requires.sound p.0 c.in_ok-node.node p.1 c.if-node-eq0.false).stands
+cut-requires-clause-stands c = let p = c.in_ok-node.ensures.stands in (standing c.args.self.now.growing c.args.self.now.growing.sound p.0 c.in_ok-node.node p.1 c.if-node-eq0.false).stands
 
 pub returns-clause-meaning : goal.returns-clause-meaning
 returns-clause-meaning c = λ m u h.
@@ -38,13 +38,13 @@ returns-clause-meaning c = λ m u h.
     let l = nodes_listed old.growing.nodes.items old.growing.children.map.entries in
     let f = reference_of c.args.reference.now in
     let t = c.in_ok-node.ensures.target u c.args.item h in
-    let s = standing old.growing c.requires.sound t.1.0 c.in_ok-node.node t.1.2 c.if-node-eq0.false in
+    let s = standing old.growing c.args.self.now.growing.sound t.1.0 c.in_ok-node.node t.1.2 c.if-node-eq0.false in
     let cut : Cuts (shape old.growing) (shape new.growing) (l.owner c.in_ok-node.node) s.name = rw s.named at c.cut.ensures.cut in
     goes_on (read m u (delete_node f)) new (c.args.item + 1)
-    (delete-goes m (shape old.growing) (shape new.growing) old.bodies.items c.args.item u (forest old.growing c.requires.sound) h t.0 f s.name s.rest (l.owner c.in_ok-node.node) (t.1.1 ∙ ap Some s.is) s.parent cut)
+    (delete-goes m (shape old.growing) (shape new.growing) old.bodies.items c.args.item u (forest old.growing c.args.self.now.growing.sound) h t.0 f s.name s.rest (l.owner c.in_ok-node.node) (t.1.1 ∙ ap Some s.is) s.parent cut)
 
 pub returns-clause-whole : goal.returns-clause-whole
 returns-clause-whole c =
     let old : Reading = c.args.self.now in
     let new : Reading = record { growing = c.cut.new.self; bodies = old.bodies } in
-    whole_same old new c.requires c.cut.ensures.sound (let z = c.cut.ensures.cut.size in omega (arith, z)) refl
+    whole_same old new c.requires (let z = c.cut.ensures.cut.size in omega (arith, z)) refl

@@ -17,8 +17,8 @@ returns-then-node-body-clause-meaning c = λ m n u h.
     let i = inner_of (shape r.growing) r.bodies.items n u b h c.in_ok-body.ensures.0 in
     let p = c.in-Some.ensures.named u.events (grown_so_far r n u c.requires h) in
     goes_on (read m u (label c.args.label.now)) r (n + 1)
-    (label-goes-again m (shape r.growing) r.bodies.items n u b c.args.label.now (forest r.growing c.requires.sound) h i p.0 p.1
-    (leads_to r.growing c.requires.sound p.0 c.in-Some.node p.2 ∙ ap Some c.if-node-body.true) (labelled_names u.events c.args.label.now p.0 p.1))
+    (label-goes-again m (shape r.growing) r.bodies.items n u b c.args.label.now (forest r.growing c.args.self.now.growing.sound) h i p.0 p.1
+    (leads_to r.growing c.args.self.now.growing.sound p.0 c.in-Some.node p.2 ∙ ap Some c.if-node-body.true) (labelled_names u.events c.args.label.now p.0 p.1))
 
 pub returns-else-node-body-clause-meaning : goal.returns-else-node-body-clause-meaning
 returns-else-node-body-clause-meaning c = λ m n u h.
@@ -27,7 +27,7 @@ returns-else-node-body-clause-meaning c = λ m n u h.
     let i = inner_of (shape r.growing) r.bodies.items n u b h c.in_ok-body.ensures.0 in
     let p = c.in-Some.ensures.named u.events (grown_so_far r n u c.requires h) in
     tells (read m u (label c.args.label.now)) duplicate_label c.of.result
-    (label-refused m (shape r.growing) r.bodies.items n u b c.args.label.now (forest r.growing c.requires.sound) i p.0 c.in-Some.node p.1 (leads_to r.growing c.requires.sound p.0 c.in-Some.node p.2) c.if-node-body.false)
+    (label-refused m (shape r.growing) r.bodies.items n u b c.args.label.now (forest r.growing c.args.self.now.growing.sound) i p.0 c.in-Some.node p.1 (leads_to r.growing c.args.self.now.growing.sound p.0 c.in-Some.node p.2) c.if-node-body.false)
     c.of.ensures.kind c.of.ensures.at
 
 pub returns-in_ok-give-in-None-clause-meaning : goal.returns-in_ok-give-in-None-clause-meaning
@@ -38,10 +38,10 @@ returns-in_ok-give-in-None-clause-meaning c = λ m n u h.
     let i = inner_of (shape old.growing) old.bodies.items n u b h c.in_ok-body.ensures.0 in
     let none = c.in-None.ensures.named u.events (grown_so_far old n u c.requires h) in
     goes_on (read m u (label c.args.label.now)) new (n + 1)
-    (label-goes-new m (shape old.growing) (shape new.growing) old.bodies.items n u b c.args.label.now (forest old.growing c.requires.sound) h i none c.in-None.ensures.alone c.in_ok-give-in-None.ensures.given)
+    (label-goes-new m (shape old.growing) (shape new.growing) old.bodies.items n u b c.args.label.now (forest old.growing c.args.self.now.growing.sound) h i none c.in-None.ensures.alone c.in_ok-give-in-None.ensures.given)
 
 pub returns-in_ok-give-in-None-clause-whole : goal.returns-in_ok-give-in-None-clause-whole
 returns-in_ok-give-in-None-clause-whole c =
     let old : Reading = c.args.self.now in
     let new : Reading = record { growing = c.give.new.self; bodies = old.bodies } in
-    whole_same old new c.requires c.in_ok-give-in-None.ensures.sound (let z = c.in_ok-give-in-None.ensures.given.nodes.size in omega (arith, z)) refl
+    whole_same old new c.requires (let z = c.in_ok-give-in-None.ensures.given.nodes.size in omega (arith, z)) refl

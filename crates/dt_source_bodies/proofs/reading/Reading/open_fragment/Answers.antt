@@ -19,7 +19,7 @@ returns-clause-meaning c = λ u h.
     let v = value_said c.args.value.now in
     goes_on_more (outside u.bodies (Ok (open_fragment f m v u))) new (c.args.item + 1) _ c.in_ok-enter.ensures
     (fragment-goes (shape old.growing) (shape c.open_child.new.self) (shape c.define.new.self) (shape new.growing) old.bodies.items c.args.item u
-    (forest old.growing c.requires.whole.sound) (forest c.open_child.new.self c.in_ok-fragment.ensures.sound) (forest c.define.new.self c.in_ok-define.ensures.sound)
+    (forest old.growing c.args.self.now.growing.sound) (forest c.open_child.new.self c.open_child.new.self.sound) (forest c.define.new.self c.define.new.self.sound)
     h c.in_ok-outside.ensures c.requires.rooted f m v c.in_ok-fragment.fragment c.in_ok-content.content
     c.in_ok-fragment.ensures.opened c.in_ok-define.ensures.defined c.in_ok-content.ensures.opened)
 
@@ -29,10 +29,10 @@ returns-clause-whole c =
     let new : Reading = record { growing = c.open_child-2.new.self; bodies = c.enter.new.bodies } in
     let s : Growing = c.open_child.new.self in
     let t : Growing = c.define.new.self in
-    let first = opens_within (shape old.growing) (shape s) (forest old.growing c.requires.whole.sound) 0 c.args.name.now c.args.item c.in_ok-fragment.fragment c.in_ok-fragment.ensures.opened in
-    let second = opens_within (shape t) (shape new.growing) (forest t c.in_ok-define.ensures.sound) c.in_ok-fragment.fragment (codes "__overlay__") c.args.item c.in_ok-content.content
+    let first = opens_within (shape old.growing) (shape s) (forest old.growing c.args.self.now.growing.sound) 0 c.args.name.now c.args.item c.in_ok-fragment.fragment c.in_ok-fragment.ensures.opened in
+    let second = opens_within (shape t) (shape new.growing) (forest t c.define.new.self.sound) c.in_ok-fragment.fragment (codes "__overlay__") c.args.item c.in_ok-content.content
     c.in_ok-content.ensures.opened in
     let more : length old.growing.nodes.items ≤ length s.nodes.items = first.0 in
     let same : length t.nodes.items ≡ length s.nodes.items = c.in_ok-define.ensures.defined.nodes.size in
     let most : length t.nodes.items ≤ length new.growing.nodes.items = second.0 in
-    whole_more old new _ c.requires.whole c.in_ok-content.ensures.sound (omega arith) second.1 c.in_ok-enter.ensures
+    whole_more old new _ c.requires.whole (omega arith) second.1 c.in_ok-enter.ensures

@@ -13,6 +13,6 @@ returns-clause-meaning c = λ m u h.
     let new : Reading = record { growing = c.open_root.new.self; bodies = c.enter.new.bodies } in
     goes_on_more (read m u root) new (c.args.item + 1) _ c.in_ok-enter.ensures
     (elim c.in_ok-open_root.ensures.opened [
-      | inl made ↦ root-goes-new m (shape old.growing) (shape new.growing) old.bodies.items c.args.item u (forest old.growing c.requires.sound) h c.in_ok-outside.ensures made
-      | inr there ↦ rw there.1 (root-goes-again m (shape old.growing) old.bodies.items c.args.item u (forest old.growing c.requires.sound) h c.in_ok-outside.ensures there.0)
+      | inl made ↦ root-goes-new m (shape old.growing) (shape new.growing) old.bodies.items c.args.item u (forest old.growing c.args.self.now.growing.sound) h c.in_ok-outside.ensures made
+      | inr there ↦ rw there.1 (root-goes-again m (shape old.growing) old.bodies.items c.args.item u (forest old.growing c.args.self.now.growing.sound) h c.in_ok-outside.ensures there.0)
     ])

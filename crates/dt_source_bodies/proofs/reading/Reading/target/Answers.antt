@@ -31,8 +31,8 @@ returns-in_default-clause-target c = λ u n h m.
       tells (read m u (delete_node f)) no_such_target c.of.result (delete-refused m (shape r.growing) r.bodies.items n u h c.in_ok-outside.ensures f lost) c.of.ensures.kind c.of.ensures.at,
     )
 
-pub depth-requires-clause-inside : goal.depth-requires-clause-inside
-depth-requires-clause-inside c = let p = c.in-Some.ensures.stands in leads_inside c.args.self.now.growing p.0 c.in-Some.node p.1
+pub depth-requires : goal.depth-requires
+depth-requires c = let p = c.in-Some.ensures.stands in record { inside = leads_inside c.args.self.now.growing p.0 c.in-Some.node p.1 }
 
 pub returns-in-Some-depth-clause-target : goal.returns-in-Some-depth-clause-target
 returns-in-Some-depth-clause-target c = λ u n h.
@@ -40,5 +40,5 @@ returns-in-Some-depth-clause-target c = λ u n h.
     let w : IsGrown r.growing.nodes.items r.growing.properties.items r.growing.givings.items u.events = grown_so_far r n u c.requires h in
     let p = c.in-Some.ensures.refers u.events w in
     let q = c.in-Some-depth.ensures in
-    let same = leads_once r.growing c.requires.sound q.0 p.0 c.in-Some.node q.1 p.2 in
+    let same = leads_once r.growing c.args.self.now.growing.sound q.0 p.0 c.in-Some.node q.1 p.2 in
     (c.in_ok-outside.ensures, (p.0, p.1, p.2, q.2 ∙ ap length same))

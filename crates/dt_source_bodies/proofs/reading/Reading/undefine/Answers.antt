@@ -14,10 +14,10 @@ returns-clause-meaning c = λ m n u h.
     let b = c.in_ok-body.body in
     let i = inner_of (shape old.growing) old.bodies.items n u b h c.in_ok-body.ensures.0 in
     goes_on (read m u (delete_property c.args.name.now)) new (n + 1)
-    (undefine-goes m (shape old.growing) (shape new.growing) old.bodies.items n u b c.args.name.now (forest old.growing c.requires.sound) h i c.undefine.ensures.dropped)
+    (undefine-goes m (shape old.growing) (shape new.growing) old.bodies.items n u b c.args.name.now (forest old.growing c.args.self.now.growing.sound) h i c.undefine.ensures.dropped)
 
 pub returns-clause-whole : goal.returns-clause-whole
 returns-clause-whole c =
     let old : Reading = c.args.self.now in
     let new : Reading = record { growing = c.undefine.new.self; bodies = old.bodies } in
-    whole_same old new c.requires c.undefine.ensures.sound (let z = c.undefine.ensures.dropped.nodes.size in omega (arith, z)) refl
+    whole_same old new c.requires (let z = c.undefine.ensures.dropped.nodes.size in omega (arith, z)) refl

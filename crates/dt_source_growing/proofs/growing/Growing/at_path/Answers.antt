@@ -31,9 +31,9 @@ returns-in_err-at c =
     let lost : node_at (shape g) (reverse c.args.path.now) ≡ None =
     sym c.loop-name.invariant.left ∙ ap (descend (shape g).child c.loop-name.at) c.in-Some.ensures.steps
     ∙ ap (option_and_then (λ j. descend (shape g).child j c.next.new.self)) (sym c.in_err-at.ensures) in
-    rw c.from_residual.ensures (λ k l. let e : None ≡ Some k = sym lost ∙ leads_to g c.requires (reverse c.args.path.now) k l in cc)
+    rw c.from_residual.ensures (λ k l. let e : None ≡ Some k = sym lost ∙ leads_to g c.args.self.now.sound (reverse c.args.path.now) k l in cc)
 
 pub returns : goal.returns
 returns c =
     let g : Growing = c.args.self.now in
-    leads_from g c.requires (reverse c.args.path.now) c.loop-name.at (sym c.loop-name.invariant.left ∙ ap (descend (shape g).child c.loop-name.at) c.in-None.ensures.steps.0)
+    leads_from g c.args.self.now.sound (reverse c.args.path.now) c.loop-name.at (sym c.loop-name.invariant.left ∙ ap (descend (shape g).child c.loop-name.at) c.in-None.ensures.steps.0)

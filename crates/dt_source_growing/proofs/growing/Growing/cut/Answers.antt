@@ -2,7 +2,7 @@ use Rattle.std.proofs.Common.{◌≡◌, ◌<◌, true, false, Some, Option, len
 use Rattle.std.specs.Option.{option_map_or}
 use Rattle.std.specs.Vec.{with_item}
 use Rattle.dt_source_growing.specs.Shape.{Cuts}
-use Rattle.dt_source_growing.specs.Growing.{shape, nodes_listed}
+use Rattle.dt_source_growing.specs.Growing.{shape, shape_of, nodes_listed}
 use Rattle.dt_source_growing.specs.declared.growing.Node.{Node}
 use Rattle.dt_source_growing.specs.declared.growing.Growing.{Growing}
 use Rattle.dt_source_growing.proofs.Growths.{cuts}
@@ -11,28 +11,33 @@ use Rattle.dt_source_growing.proofs.Soundness.{forest, node-fallen, properties-k
 use Rattle.dt_source_growing.proofs.Changes.{stood-cut}
 use Rattle.dt_source_growing.proofs.growing.Growing.cut.Goals as goal
 
-pub returns-clause-cut : goal.returns-clause-cut
-returns-clause-cut c =
+pub returns : goal.returns
+returns c =
     let old : Growing = c.args.self.now in
     let n : Node = c.index_mut.result.now in
     let inside : c.args.node < vec_len old.nodes = omega (arith, old.nodes.ok.0, c.requires.inside) in
     let at : slice_get old.nodes.items c.args.node ≡ Some n = node_read old c.args.node n inside c.index_mut.ensures.value in
-    let stands : n.stands ≡ true = sym (ap (λ (o : Option Node). option_map_or (λ n. n.stands) o false) at) ∙ c.requires.stands in
-    cuts old.properties.items old.indices.map.entries old.givings.items old.labels.map.entries old.nodes.items old.children.map.entries c.args.node n
-    (record { parent = n.parent; name = n.name; stands = false }) c.requires.sound.nodes c.requires.not_root at stands refl refl refl
+    let stands : n.stands ≡ true = sym (ap (λ (o : Option Node). option_map_or (λ n. n.stands) o false) at) ∙ c.requires.stands in record {
+      cut =
+          cuts old.properties.items old.indices.map.entries old.givings.items old.labels.map.entries old.nodes.items old.children.map.entries c.args.node n
+          (record { parent = n.parent; name = n.name; stands = false }) c.args.self.now.sound.has_nodes c.requires.not_root at stands refl refl refl;
+    }
 
-pub returns-clause-sound : goal.returns-clause-sound
-returns-clause-sound c =
+pub invariant_of-self : goal.invariant_of-self
+invariant_of-self c =
     let old : Growing = c.args.self.now in
     let n : Node = c.index_mut.result.now in
     let m : Node = record { parent = n.parent; name = n.name; stands = false } in
-    let new : Growing = record { nodes = with_item old.nodes c.args.node m; properties = old.properties; givings = old.givings; children = old.children; indices = old.indices; labels = old.labels } in
     let inside : c.args.node < vec_len old.nodes = omega (arith, old.nodes.ok.0, c.requires.inside) in
     let at : slice_get old.nodes.items c.args.node ≡ Some n = node_read old c.args.node n inside c.index_mut.ensures.value in
-    let made : Cuts (shape old) (shape new) ((nodes_listed old.nodes.items old.children.map.entries).owner c.args.node) ((nodes_listed old.nodes.items old.children.map.entries).name c.args.node) = returns-clause-cut c in
+    let stands : n.stands ≡ true = sym (ap (λ (o : Option Node). option_map_or (λ n. n.stands) o false) at) ∙ c.requires.stands in
+    let made : Cuts (shape old) (shape_of (with_item old.nodes c.args.node m).items old.children.map.entries old.properties.items old.indices.map.entries old.givings.items old.labels.map.entries) ((nodes_listed old.nodes.items old.children.map.entries).owner c.args.node) ((nodes_listed old.nodes.items old.children.map.entries).name c.args.node) =
+    cuts old.properties.items old.indices.map.entries old.givings.items old.labels.map.entries old.nodes.items old.children.map.entries c.args.node n (record { parent = n.parent; name = n.name; stands = false }) c.args.self.now.sound.has_nodes c.requires.not_root at stands refl refl refl in
     record {
-      nodes = node-fallen old.nodes.items c.args.node n m old.children.map.entries c.requires.sound.nodes at refl refl refl;
-      properties = properties-kept (length old.nodes.items) (length new.nodes.items) old.properties.items old.indices.map.entries (omega (arith, made.size)) c.requires.sound.properties;
-      labels = labels-kept (shape old) (shape new) old.givings.items old.labels.map.entries (omega (arith, made.size))
-          (stood-cut (shape old) (shape new) (forest old c.requires.sound) _ _ made) c.requires.sound.labels;
+      sound = record {
+        has_nodes = node-fallen old.nodes.items c.args.node n m old.children.map.entries c.args.self.now.sound.has_nodes at refl refl refl;
+        has_properties = properties-kept (length old.nodes.items) (length (with_item old.nodes c.args.node m).items) old.properties.items old.indices.map.entries (omega (arith, made.size)) c.args.self.now.sound.has_properties;
+        has_labels = labels-kept (shape old) (shape_of (with_item old.nodes c.args.node m).items old.children.map.entries old.properties.items old.indices.map.entries old.givings.items old.labels.map.entries) old.givings.items old.labels.map.entries (omega (arith, made.size))
+            (stood-cut (shape old) (shape_of (with_item old.nodes c.args.node m).items old.children.map.entries old.properties.items old.indices.map.entries old.givings.items old.labels.map.entries) (forest old c.args.self.now.sound) _ _ made) c.args.self.now.sound.has_labels;
+      };
     }

@@ -17,24 +17,22 @@ record IsThere (g : Growing) (i : ℕ) (x : Name) (k : ℕ) : Type 0 where
 is_there : (g : Growing) (i : ℕ) (x : Name) (k : ℕ) → IsSoundGrowing g → Some k ≡ found (nodes_listed g.nodes.items g.children.map.entries) i x → IsThere g i x k
 is_there g i x k h e =
     let f = found_is (nodes_listed g.nodes.items g.children.map.entries) i x k (sym e) in
-    let s = h.nodes.indexed.sound i x k f.0 in
+    let s = h.has_nodes.indexed.sound i x k f.0 in
     record { from = omega (arith, s.0); inside = s.1; owner = s.2; name = s.3; stands = f.1 }
 
 pub cut-requires-clause-not_root : goal.cut-requires-clause-not_root
-cut-requires-clause-not_root c = (is_there c.args.self.now c.args.parent c.args.name.now c.in-Some.node c.requires c.in-Some.ensures).from
+cut-requires-clause-not_root c = (is_there c.args.self.now c.args.parent c.args.name.now c.in-Some.node c.args.self.now.sound c.in-Some.ensures).from
 
 pub cut-requires-clause-inside : goal.cut-requires-clause-inside
-cut-requires-clause-inside c = (is_there c.args.self.now c.args.parent c.args.name.now c.in-Some.node c.requires c.in-Some.ensures).inside
+cut-requires-clause-inside c = (is_there c.args.self.now c.args.parent c.args.name.now c.in-Some.node c.args.self.now.sound c.in-Some.ensures).inside
 
 pub cut-requires-clause-stands : goal.cut-requires-clause-stands
-cut-requires-clause-stands c = (is_there c.args.self.now c.args.parent c.args.name.now c.in-Some.node c.requires c.in-Some.ensures).stands
+cut-requires-clause-stands c = (is_there c.args.self.now c.args.parent c.args.name.now c.in-Some.node c.args.self.now.sound c.in-Some.ensures).stands
 
-pub returns-in-Some-clause-cut : goal.returns-in-Some-clause-cut
-returns-in-Some-clause-cut c =
-    let t = is_there c.args.self.now c.args.parent c.args.name.now c.in-Some.node c.requires c.in-Some.ensures in
-    rw (t.owner, t.name) at c.cut.ensures.cut
+pub returns-in-Some : goal.returns-in-Some
+returns-in-Some c =
+    let t = is_there c.args.self.now c.args.parent c.args.name.now c.in-Some.node c.args.self.now.sound c.in-Some.ensures in record { cut = rw (t.owner, t.name) at c.cut.ensures.cut }
 
-pub returns-in_default-clause-cut : goal.returns-in_default-clause-cut
-returns-in_default-clause-cut c =
-    let old : Growing = c.args.self.now in
-    cuts_nothing old.properties.items old.indices.map.entries old.givings.items old.labels.map.entries old.nodes.items old.children.map.entries c.args.parent c.args.name.now (sym c.in_default.ensures)
+pub returns-in_default : goal.returns-in_default
+returns-in_default c =
+    let old : Growing = c.args.self.now in record { cut = cuts_nothing old.properties.items old.indices.map.entries old.givings.items old.labels.map.entries old.nodes.items old.children.map.entries c.args.parent c.args.name.now (sym c.in_default.ensures) }

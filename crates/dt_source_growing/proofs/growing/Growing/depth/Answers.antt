@@ -24,7 +24,7 @@ loop-at-smaller c =
     let g : Growing = c.args.self.now in
     let n : Node = c.index-below.result.now in
     let at : slice_get g.nodes.items c.loop-at.at ≡ Some n = read_at g c.loop-at.at n c.loop-at.invariant.inside c.index-below.ensures in
-    c.requires.sound.nodes.above c.loop-at.at n (omega (arith, c.loop-at-test.true)) at
+    c.args.self.now.sound.has_nodes.above c.loop-at.at n (omega (arith, c.loop-at-test.true)) at
 
 pub loop-at-preserved : goal.loop-at-preserved
 loop-at-preserved c =
@@ -32,7 +32,7 @@ loop-at-preserved c =
     let n : Node = c.index-below.result.now in
     let at : slice_get g.nodes.items c.loop-at.at ≡ Some n = read_at g c.loop-at.at n c.loop-at.invariant.inside c.index-below.ensures in
     let from : 0 < c.loop-at.at = omega (arith, c.loop-at-test.true) in
-    let above : n.parent < c.loop-at.at = c.requires.sound.nodes.above c.loop-at.at n from at in
+    let above : n.parent < c.loop-at.at = c.args.self.now.sound.has_nodes.above c.loop-at.at n from at in
     let stands : n.stands ≡ true = c.if-not-below.false in
     record {
       inside = omega (arith, above, c.loop-at.invariant.inside);

@@ -1,24 +1,30 @@
-use Rattle.std.proofs.Common.{◌≡◌, length, refl, ◌∙◌}
-use Rattle.dt_source_growing.specs.Growing.{shape}
+use Rattle.std.proofs.Common.{◌≡◌, length, refl, ◌∙◌, arith}
+use Rattle.dt_source_growing.specs.Growing.{shape, shape_of}
 use Rattle.dt_source_growing.specs.declared.growing.Growing.{Growing}
 use Rattle.dt_source_growing.proofs.Growths.{gives}
 use Rattle.dt_source_growing.proofs.Soundness.{labels-given}
+use Rattle.dt_source_growing.proofs.Again.{room_pushed}
 use Rattle.dt_source_growing.proofs.growing.Growing.give.Goals as goal
 
-pub returns-clause-given : goal.returns-clause-given
-returns-clause-given c =
+pub returns : goal.returns
+returns c =
     let old : Growing = c.args.self.now in
     let index : c.len-index.result ≡ length old.givings.items = c.len-index.ensures ∙ old.givings.ok.0 in
-    gives old.nodes.items old.children.map.entries old.properties.items old.indices.map.entries old.givings.items c.push.new.self.items old.labels.map.entries c.put.new.self.map.entries
-    (shape old) _ c.requires.sound.labels c.in_ok-push.ensures.items _ index c.in_ok-put.ensures
+    let pushed = room_pushed c.push.result _ c.push.ensures.items (c.push.ensures.succeeds (omega (arith, c.in_ok-reserve.ensures.ok))) c.in_ok-reserve.ensures.items in record {
+      given =
+          gives old.nodes.items old.children.map.entries old.properties.items old.indices.map.entries old.givings.items c.push.new.self.items old.labels.map.entries c.put.new.self.map.entries
+          (shape old) _ c.args.self.now.sound.has_labels pushed _ index c.in_ok-put.ensures.ok;
+    }
 
-pub returns-clause-sound : goal.returns-clause-sound
-returns-clause-sound c =
+pub invariant_of-self-2 : goal.invariant_of-self-2
+invariant_of-self-2 c =
     let old : Growing = c.args.self.now in
-    let new : Growing = record { nodes = old.nodes; properties = old.properties; givings = c.push.new.self; children = old.children; indices = old.indices; labels = c.put.new.self } in
     let index : c.len-index.result ≡ length old.givings.items = c.len-index.ensures ∙ old.givings.ok.0 in
+    let pushed = room_pushed c.push.result _ c.push.ensures.items (c.push.ensures.succeeds (omega (arith, c.in_ok-reserve.ensures.ok))) c.in_ok-reserve.ensures.items in
     record {
-      nodes = c.requires.sound.nodes;
-      properties = c.requires.sound.properties;
-      labels = labels-given (shape old) (shape new) old.givings.items new.givings.items _ old.labels.map.entries new.labels.map.entries _ refl (λ p. refl) refl c.requires.sound.labels c.requires.inside c.requires.alone c.in_ok-put.ensures index c.in_ok-push.ensures.items;
+      sound = record {
+        has_nodes = c.args.self.now.sound.has_nodes;
+        has_properties = c.args.self.now.sound.has_properties;
+        has_labels = labels-given (shape old) (shape_of old.nodes.items old.children.map.entries old.properties.items old.indices.map.entries c.push.new.self.items c.put.new.self.map.entries) old.givings.items c.push.new.self.items _ old.labels.map.entries c.put.new.self.map.entries _ refl (λ p. refl) refl c.args.self.now.sound.has_labels c.requires.inside c.requires.alone c.in_ok-put.ensures.ok index pushed;
+      };
     }

@@ -6,11 +6,11 @@ use Rattle.dt_source_nodes.specs.Resolving.{EachNaming, ArePropertiesRead}
 use Rattle.dt_source_nodes.proofs.ContentSteps.{in_read, unread_among, properties_more}
 use Rattle.dt_source_nodes.proofs.values.Resolver.add_properties.Goals as goal
 
-pub property_there-requires-clause-inside : goal.property_there-requires-clause-inside
-property_there-requires-clause-inside c =
+pub property_there-requires : goal.property_there-requires
+property_there-requires c =
     let indices = c.args.indices.now in
     let i = c.loop-index.index-index in
-    c.requires.inside (get_or indices i 0) (in_read indices i 0 c.loop-index-test.true)
+    record { inside = c.requires.inside (get_or indices i 0) (in_read indices i 0 c.loop-index-test.true) }
 
 pub returns-in_err-property : goal.returns-in_err-property
 returns-in_err-property c =

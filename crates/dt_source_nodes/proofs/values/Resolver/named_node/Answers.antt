@@ -1,4 +1,4 @@
-use Rattle.std.proofs.Common.{◌≡◌, ◌<◌, ℕ, List, length, map, refl, sym, ap, subst, ◌∙◌}
+use Rattle.std.proofs.Common.{◌≡◌, ◌<◌, List, length, map, refl, sym, ap, subst, ◌∙◌}
 use Rattle.std.specs.Cow.{cow_slice_items}
 use Rattle.dt_model.specs.Lists.{IsIn}
 use Rattle.dt_source_growing.specs.declared.growing.Giving.{Giving}
@@ -16,9 +16,11 @@ labels_at-requires c = λ i among.
     subst (λ (gs : List Giving). i < length gs) (sym c.deref-2.ensures.value)
     (label_within c.args.self.now.growing.now c.args.self.now.belongings.now k i c.requires.belong (subst (IsIn i) c.of.ensures among))
 
-pub properties_at-requires-clause-inside : goal.properties_at-requires-clause-inside
-properties_at-requires-clause-inside c = λ i among.
-    property_within c.args.self.now.growing.now c.args.self.now.belongings.now c.args.row.node i c.requires.belong (subst (IsIn i) c.of-indices.ensures among)
+pub properties_at-requires : goal.properties_at-requires
+properties_at-requires c = record {
+  inside = λ i among.
+      property_within c.args.self.now.growing.now c.args.self.now.belongings.now c.args.row.node i c.requires.belong (subst (IsIn i) c.of-indices.ensures among);
+}
 
 pub returns : goal.returns
 returns c =

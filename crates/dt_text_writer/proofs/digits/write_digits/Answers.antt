@@ -1,6 +1,6 @@
 use Rattle.std.proofs.Common.{◌∙◌}
-use Rattle.dt_decompile.proofs.HexDigits.{encoded, on_ok}
-use Rattle.dt_decompile.proofs.digits.write_digits.Goals as goal
+use Rattle.dt_text_writer.proofs.HexDigits.{encoded, on_ok}
+use Rattle.dt_text_writer.proofs.digits.write_digits.Goals as goal
 
 pub returns : goal.returns
 returns c =

@@ -1,8 +1,8 @@
 use Rattle.std.proofs.Common.{◌++◌, ◌∙◌, ◌+◌, List, ℕ, drop, ap}
 use Rattle.std.proofs.lemmas.List.{at_drop_more}
-use Rattle.dt_decompile.proofs.Passing.{passed_then, exits_at, turned}
+use Rattle.dt_text_writer.proofs.Writing.{puts_then, exits_at, turned}
 use Rattle.dt_names.specs.Sink.{joined}
-use Rattle.dt_resolve_lines.proofs.pieces.buffer_pieces.Goals as goal
+use Rattle.dt_text_writer.proofs.writer.Writer.put_pieces.Goals as goal
 
 pub returns-in_err-put-clause-refused : goal.returns-in_err-put-clause-refused
 returns-in_err-put-clause-refused g c =
@@ -16,5 +16,5 @@ loop-piece-preserved g c =
       front ++ _,
       turned front _ (joined (drop (c.loop-piece.piece-index + 1) c.args.pieces.now))
           (split ∙ ap (λ (l : List ℕ). front ++ l) (at_drop_more joined c.args.pieces.now c.loop-piece.piece-index _ c.loop-piece-test.true)),
-      passed_then passed c.in_ok-put.ensures.passed,
+      puts_then passed c.in_ok-put.ensures.written,
     )

@@ -1,0 +1,2 @@
+mod HexDigits
+pub mod Writing

@@ -1,0 +1,2 @@
+-- what callers read, in this order
+pub mod Written
