@@ -1,5 +1,6 @@
 #!/usr/bin/env python3
-"""Times dtool's commands on names that were made to have hashes alike, beside as many random names, and `check` on many small names.
+"""Times dtool's commands on names that were made to have hashes alike, or to end alike, beside as many random names, and `check` on many
+small names.
 
     python3 bench/hostile.py crates/dtool/out/dtool
 
@@ -7,6 +8,7 @@ Tables of names hash behind a seed that comes of all inputs of a call. The names
 those of an object also for the seed of the base alone, which who makes an object may know: each of them begins its search in the
 same few places of a table, so that a table would be walked for each further name. A C compiler makes the search, which takes
 a minute or two; it is left out where an argument `--without-search` asks for the other kinds alone."""
+import base64
 import os
 import random
 import struct
@@ -247,6 +249,27 @@ def hashed(timer, folder):
     print(f"at most {worst:.2f} times the time of random names")
 
 
+# ---- names that end alike
+
+
+def ending_alike(timer):
+    """`compile` on names that are ends of each other, or differ in their first bytes alone, beside random names of the same lengths."""
+    worst = 0
+    chains = [f"{'a' * more}x{family:03x}" for family in range(500) for more in range(251)]
+    fronts = [f"{number:05x}{'a' * 250}" for number in range(65_000)]
+    made = random.Random(2)
+    for title, names in (("chains of ends", chains), ("one end of 250 bytes", fronts)):
+        while sum(len(name) + 2 for name in names) > (1 << 24) - 64:
+            names = names[:-1]
+        plain = [base64.b32encode(made.randbytes(160)).decode()[: len(name) - 5] + f"{number:05x}" for number, name in enumerate(names)]
+        for make in (properties, spread):
+            took = [timer.seconds("compile", timer.file(f"{kind}.dts", make(which))) for kind, which in (("random", plain), ("alike", names))]
+            ratio = float("inf") if took[1] is None else took[1] / took[0]
+            worst = max(worst, ratio)
+            print(f"{len(names)} names, {title}, {make.__name__}: {told(took[0])} random, {told(took[1])} made: {ratio:.2f}", flush=True)
+    print(f"names that end alike take at most {worst:.2f} times the time of random names")
+
+
 # ---- many small names
 
 
@@ -284,6 +307,7 @@ def main():
     with tempfile.TemporaryDirectory() as folder:
         timer = Timer(tool, folder)
         checks(timer)
+        ending_alike(timer)
         if "--without-search" not in sys.argv:
             hashed(timer, folder)
 

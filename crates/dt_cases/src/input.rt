@@ -108,6 +108,7 @@ fn push_piece(input: &mut Vec<u8>, alloc: Global, line: &str) -> Result<(), Stop
         "|" => Ok(input.extend_from_slice(text.as_bytes())?),
         "x" => push_bytes(input, alloc, 0, 1, text),
         "*" => push_texts(input, text),
+        "*a" => push_runs(input, alloc, text),
         "*x" => push_many_bytes(input, alloc, text),
         "=" | "#" => Ok(()),
         _ => Err(Stop::Malformed),
@@ -124,6 +125,27 @@ fn push_many_bytes(input: &mut Vec<u8>, alloc: Global, text: &str) -> Result<(),
 fn push_texts(input: &mut Vec<u8>, text: &str) -> Result<(), Stop> {
     let (first, end, piece) = repetition(text).ok_or(Stop::Malformed)?;
     Ok(push_numbered(input, first, end, piece)?)
+}
+
+/// Appends a text once for each number that is said before it, down to the end where the first is greater, with as many letters
+/// `a` in the place of each `{}`.
+fn push_runs(input: &mut Vec<u8>, alloc: Global, text: &str) -> Result<(), Stop> {
+    let (first, end, piece) = repetition(text).ok_or(Stop::Malformed)?;
+    for count in first..end {
+        push_run(input, alloc, count, piece)?;
+    }
+    for count in (end..first).rev() {
+        push_run(input, alloc, count, piece)?;
+    }
+    Ok(())
+}
+
+fn push_run(input: &mut Vec<u8>, alloc: Global, count: u64, piece: &str) -> Result<(), AllocError> {
+    let mut run = String::new(alloc);
+    for _ in 0..count {
+        run.push('a')?;
+    }
+    push_parts(input, run.as_str(), piece)
 }
 
 /// Appends the bytes that hexadecimal digits spell, once for each number.
@@ -172,10 +194,10 @@ fn push_numbered(input: &mut Vec<u8>, first: u64, end: u64, piece: &str) -> Resu
     Ok(())
 }
 
-fn push_parts(input: &mut Vec<u8>, digits: &str, piece: &str) -> Result<(), AllocError> {
+fn push_parts(input: &mut Vec<u8>, inserted: &str, piece: &str) -> Result<(), AllocError> {
     for (at, part) in piece.split("{}").enumerate() {
         if at > 0 {
-            input.extend_from_slice(digits.as_bytes())?;
+            input.extend_from_slice(inserted.as_bytes())?;
         }
         input.extend_from_slice(part.as_bytes())?;
     }

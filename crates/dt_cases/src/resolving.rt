@@ -95,7 +95,7 @@ pub fn views(alloc: Global, blob: &[u8], out: &mut Outcome) -> Result<(), Stop> 
     Ok(())
 }
 
-/// Tells a node of which the three views answer differently.
+/// Tells a node of which the three views answer differently, or which the index finds by another path.
 fn compare_at(
     alloc: Global,
     blob: &Blob<'_>,
@@ -108,7 +108,11 @@ fn compare_at(
 {
     let text = text_of(alloc, &tree.path(alloc, node)?)?;
     let of_blob = told_by(alloc, blob, &text)?;
-    if told_by(alloc, index, &text)? != of_blob || told_by(alloc, tree, &text)? != of_blob {
+    let is_found = index.node_at(&text)? == node_at(blob, &text)?;
+    if !is_found
+        || told_by(alloc, index, &text)? != of_blob
+        || told_by(alloc, tree, &text)? != of_blob
+    {
         out.lines().name(&text);
         out.lines().put("\n");
     }

@@ -9,3 +9,4 @@ pub mod Indexed
 pub mod Steps
 pub mod Numbers
 pub mod Valued
+pub mod Children

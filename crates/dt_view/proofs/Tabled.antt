@@ -106,6 +106,15 @@ room_for_one t parents phandles open_nodes count k name steps rest within f e =
     let is = f.counted in
     ((subst (AreFew (length open_nodes)) e f.few).0, omega arith)
 
+-- the innermost open node is the one above the node that is opened
+pub above_opened : (t : PlacedTree) (parents : List (ℕ × Option ℕ)) (phandles : List (ℕ × ℕ)) (open_nodes : List ℕ) (count k : ℕ) (name : Name) (steps rest : List Step) → IsValid (reading_of t) → HasPlacesApart t → IsFilled t parents phandles open_nodes count steps → steps ≡ opens k name ∷ rest
+    → IsAbove t k (innermost open_nodes)
+above_opened t parents phandles open_nodes count k name steps rest valid places f e =
+    let there : IsNode t k = opens_one t parents phandles open_nodes count k name steps rest places f e in
+    let told : parent_told k open_nodes (opens k name ∷ rest) ≡ parent_told k [] (steps_of t) = ap (parent_told k open_nodes) (sym e) ∙ f.told k (subst (λ s. IsIn k (opened s)) (sym e) (inl refl)) in
+    let is : innermost open_nodes ≡ parent_told k [] (steps_of t) = sym (ap (λ b. cond b (innermost open_nodes) (parent_told k (k ∷ open_nodes) rest)) (eq-eqb k k refl)) ∙ told in
+    subst (IsAbove t k) (sym is) (parent_is_above t k valid places there)
+
 pub past_one : (t : PlacedTree) (parents parents' : List (ℕ × Option ℕ)) (phandles phandles' : List (ℕ × ℕ)) (open_nodes : List ℕ) (count k : ℕ) (name : Name) (steps rest : List Step) → IsValid (reading_of t) → HasPlacesApart t → IsFilled t parents phandles open_nodes count steps → steps ≡ opens k name ∷ rest
     → ((j : ℕ) → at_number parents' j ≡ cond (nat_eq k j) (Some (innermost open_nodes)) (at_number parents j)) → IsNoted t k phandles phandles' → IsFilled t parents' phandles' (k ∷ open_nodes) (count + 1) rest
 past_one t parents parents' phandles phandles' open_nodes count k name steps rest valid places f e put note = record {
@@ -143,9 +152,7 @@ past_one t parents parents' phandles phandles' open_nodes count k name steps res
     told j i = sym (ap (λ b. cond b (innermost open_nodes) (parent_told j (k ∷ open_nodes) rest)) (unequal j k (other j i))) ∙ told' j (inr i)
 
     own : IsAbove t k (innermost open_nodes)
-    own =
-        let is : innermost open_nodes ≡ parent_told k [] (steps_of t) = sym (ap (λ b. cond b (innermost open_nodes) (parent_told k (k ∷ open_nodes) rest)) (eq-eqb k k refl)) ∙ told' k (inl refl) in
-        subst (IsAbove t k) (sym is) (parent_is_above t k valid places there)
+    own = above_opened t parents phandles open_nodes count k name steps rest valid places f e
 
     above : AreParents t (f.before ++ next.first ∷ []) parents'
     above n j i at = by (nat_eq k j) refl

@@ -31,7 +31,7 @@ both true false h = absurd (true≢false (sym h))
 both false b h = absurd (true≢false (sym h))
 
 -- the test of a node and a name is passed by their key alone
-key_is : (i j : ℕ) (x y : Name) → (nat_eq i j && bytes_eq x y) ≡ true → (i ≡ j) × (x ≡ y)
+pub key_is : (i j : ℕ) (x y : Name) → (nat_eq i j && bytes_eq x y) ≡ true → (i ≡ j) × (x ≡ y)
 key_is i j x y h = let p = both (nat_eq i j) (bytes_eq x y) h in (eqb-true i j p.0, (bytes_eq-Decides x y).0 p.1)
 
 pub puts_from_updates : {S : Type 0} (m n : HashMap Key (Bor (List ℕ)) S) (k : Key) (w : Bor (List ℕ))

@@ -1,5 +1,5 @@
 -- Tables of a tree's nodes.
-use Rattle.std.specs.Prelude.{◌≡◌, ◌⊎◌, ◌<◌, ◌^◌, ◌&&◌, ℕ, nat_eq, true, List, length, Option, Some, is_some, cond, codes}
+use Rattle.std.specs.Prelude.{◌≡◌, ◌⊎◌, ◌<◌, ◌^◌, ◌&&◌, ℕ, nat_eq, true, List, [], ◌∷◌, ◌++◌, length, Option, Some, None, is_some, cond, codes}
 use Rattle.std.specs.Borrow.{Bor}
 use Rattle.std.specs.Map.{lookup}
 use Rattle.std.specs.Option.{option_copied}
@@ -8,7 +8,7 @@ use Rattle.dt_model.specs.Lists.{IsIn}
 use Rattle.dt_model.specs.Meaning.{cell}
 use Rattle.dt_model.specs.Names.{Name}
 use Rattle.dt_model.specs.Tree.{Property, Placed, nodes_of, value_of, value_in}
-use Rattle.dt_read.specs.Placed.{PlacedTree, reading_of, path_at, IsAt, IsNode}
+use Rattle.dt_read.specs.Placed.{PlacedTree, reading_of, path_at, place_of, IsAt, IsNode}
 use Rattle.dt_view.specs.Views.{IsAbove}
 
 -- what a table has for a number
@@ -60,11 +60,29 @@ pub record AreKept (node : ℕ) (properties some : List Property) (old new : Lis
   pub kept : (k : ℕ) (x : Name) → is_some (value_at old k x) ≡ true → is_some (value_at new k x) ≡ true
   pub own : (x : Name) → is_some (value_of some x) ≡ true → is_some (value_at new node x) ≡ true
 
+-- ---- children
+
+-- the node that a table has for a node and a name
+abbrev pub child_at : List (Key × ℕ) → ℕ → Name → Option ℕ
+child_at entries k x = lookup (λ (key : Key). nat_eq k key.0 && bytes_eq x key.1.now) entries
+
+-- the new entries are the old ones, with a node at the node above it and its name
+abbrev pub PutsChild : List (Key × ℕ) → List (Key × ℕ) → Option ℕ → Name → ℕ → Type 0
+PutsChild old new None name node = new ≡ old
+PutsChild old new (Some above) name node = (k : ℕ) (x : Name) → child_at new k x ≡ cond (nat_eq above k && bytes_eq name x) (Some node) (child_at old k x)
+
+-- each node is the child that its name finds, and each of some nodes is found by its name
+pub record AreChildren (t : PlacedTree) (nodes : List Placed) (entries : List (Key × ℕ)) : Type 0 where
+  pub has : (k : ℕ) (x : Name) (j : ℕ) → child_at entries k x ≡ Some j → place_of t (path_at t k ++ x ∷ []) ≡ Some j
+  pub found : (n : Placed) (k : ℕ) (x : Name) → IsIn n nodes → IsNode t k → n.path ≡ path_at t k ++ x ∷ [] → is_some (child_at entries k x) ≡ true
+
 -- ---- all
 
 -- the tables have all nodes of the tree
-pub record AreIndexed (t : PlacedTree) (parents : List (ℕ × Option ℕ)) (phandles : List (ℕ × ℕ)) (values : List (Key × Bor (List ℕ))) (count : ℕ) : Type 0 where
+pub record AreIndexed (t : PlacedTree) (parents : List (ℕ × Option ℕ)) (phandles : List (ℕ × ℕ)) (values : List (Key × Bor (List ℕ)))
+    (children : List (Key × ℕ)) (count : ℕ) : Type 0 where
   pub above : AreParents t (nodes_of (reading_of t)) parents
   pub numbered : ArePhandles t (nodes_of (reading_of t)) phandles
   pub valued : AreValues t (nodes_of (reading_of t)) values
+  pub below : AreChildren t (nodes_of (reading_of t)) children
   pub counted : count ≡ length (nodes_of (reading_of t))

@@ -1,12 +1,13 @@
-//! A blob with tables of its nodes, in which the node above a node, the node of a phandle and the value of a property are found at once.
+//! A blob with tables of its nodes, in which the node above a node, a child, the node of a phandle and the value of a property are found at once.
 
 ghost use Rattle.std.specs.Prelude.{◌≡◌, IfOk, IfErr, None};
 ghost use Rattle.dt_names.specs.declared.fault.FaultKind.TheVariants.{NoMemory};
 ghost use Rattle.dt_names.specs.Fault.{IsNoMemory};
 ghost use Rattle.dt_read.specs.Placed.{HasPlacesApart};
 
-use crate::blob::{child_of, first_child_of, name_of, root_of, sibling_behind};
-use crate::tables::{Parents, Phandles, Values, fill};
+use crate::blob::{first_child_of, name_of, root_of, sibling_behind};
+use crate::finding::node_at;
+use crate::tables::{Children, Parents, Phandles, Values, fill};
 use crate::view::TreeView;
 use dt_names::{Fault, NodeId};
 use dt_read::Blob;
@@ -21,6 +22,7 @@ pub struct Index<'a> {
     parents: Parents,
     phandles: Phandles,
     values: Values<'a>,
+    children: Children<'a>,
     count: usize,
 }
 
@@ -37,7 +39,7 @@ impl<'a> Model for Index<'a> {
 
     ghost view = { λ i. i.blob.now };
 
-    ghost invariant = { λ i. AreIndexed i.blob.now i.parents.entries i.phandles.entries i.values.entries i.count };
+    ghost invariant = { λ i. AreIndexed i.blob.now i.parents.entries i.phandles.entries i.values.entries i.children.entries i.count };
 }
 
 impl<'a> Index<'a> {
@@ -48,7 +50,7 @@ impl<'a> Index<'a> {
     ghost use Rattle.dt_model.specs.Tree.{nodes_of, value_in};
     ghost use Rattle.dt_model.specs.Valid.{IsValid, IsWithinLimits};
     ghost use Rattle.dt_read.specs.Placed.{last_name, path_at, place_of, reading_of, IsAt, IsNode};
-    ghost use Rattle.dt_view.specs.Views.{first_child_of, next_sibling_of, IsAbove};
+    ghost use Rattle.dt_view.specs.Views.{first_child_of, next_sibling_of, IsAbove, IsFoundBy, WhyNotFound};
 
     /// Makes the index of a blob, in one walk through its tree.
     ///
@@ -62,12 +64,20 @@ impl<'a> Index<'a> {
         let mut parents = HashMap::with_hasher(alloc, blob.seed());
         let mut phandles = HashMap::with_hasher(alloc, blob.seed());
         let mut values = HashMap::with_hasher(alloc, blob.seed());
-        let count = fill(blob, &mut parents, &mut phandles, &mut values)?;
+        let mut children = HashMap::with_hasher(alloc, blob.seed());
+        let count = fill(
+            blob,
+            &mut parents,
+            &mut phandles,
+            &mut values,
+            &mut children,
+        )?;
         Ok(Index {
             blob,
             parents,
             phandles,
             values,
+            children,
             count,
         })
     }
@@ -108,6 +118,20 @@ impl<'a> Index<'a> {
         self.blob.validity();
     }
 
+    /// The node of a path, as it is written: `/` for the root, or each name with a `/` before it (Devicetree Specification
+    /// v0.4, 2.2.3). One look into a table for each name. Takes no memory.
+    ///
+    /// # Errors
+    ///
+    /// `BadName` where the text is no path's, and `NoNode` where its path is no node's; neither has a place.
+    pub fn node_at(&self, text: &[u8]) -> Result<NodeId, Fault>
+        ensures is { IfOk result (IsFoundBy self.now text.now) }
+        ensures node { IfOk result (IsNode self.now) }
+        ensures refused { IfErr result (λ fault. WhyNotFound fault.kind self.now text.now × (fault.at ≡ None)) }
+    {
+        node_at(self, text)
+    }
+
     /// The blob, whose nodes are the index's.
     pub fn blob(&self) -> &'a Blob<'a>
         ensures { result.now ≡ self.now }
@@ -132,12 +156,13 @@ impl<'a> Index<'a> {
     }
 
     /// The child of a node that has a name.
-    fn child_in_blob(&self, node: NodeId, name: &[u8]) -> Option<NodeId>
+    fn child_in_table(&self, node: NodeId, name: &[u8]) -> Option<NodeId>
         requires { IsNode self.now node }
         ensures is { result ≡ place_of self.now (path_at self.now node ++ name.now ∷ []) }
         ensures node { IfSome result (IsNode self.now) }
     {
-        child_of(self.blob, node, name)
+        self.blob.validity();
+        self.children.get(&(node, name)).copied()
     }
 
     /// The first child of a node.
@@ -187,7 +212,7 @@ impl<'a> TreeView for Index<'a> {
     }
 
     fn child(&self, node: NodeId, name: &[u8]) -> Option<NodeId> {
-        self.child_in_blob(node, name)
+        self.child_in_table(node, name)
     }
 
     fn first_child(&self, node: NodeId) -> Option<NodeId> {

@@ -1,4 +1,5 @@
-//! Tables from the nodes of a tree to the nodes above them, from phandles to nodes, and from nodes and names to the values of properties.
+//! Tables from the nodes of a tree to the nodes above them, from phandles to nodes, and from nodes and names to the values of properties and to
+//! children.
 
 ghost use Rattle.std.specs.Prelude.{◌≡◌, ◌↔◌, ℕ, [], Some, nat_eq, length, OnOk, IfOk, IfSome, IsSome, cond};
 ghost use Rattle.std.specs.Int.{w32, from_be_bytes};
@@ -6,7 +7,7 @@ ghost use Rattle.dt_model.specs.Meaning.{cell};
 ghost use Rattle.dt_model.specs.Tree.{nodes_of};
 ghost use Rattle.dt_model.specs.Valid.{IsPhandle};
 ghost use Rattle.dt_read.specs.Placed.{path_at, properties_at, reading_of, IsNode};
-ghost use Rattle.dt_view.specs.Tables.{at_number, AreParents, ArePhandles, IsNoted, PutsValue, AreKept, AreValues};
+ghost use Rattle.dt_view.specs.Tables.{at_number, AreParents, ArePhandles, IsNoted, PutsValue, AreKept, AreValues, PutsChild, AreChildren};
 
 use crate::blob::value_of;
 use dt_names::{NodeId, Seed, phandle_of};
@@ -19,6 +20,9 @@ pub(crate) type Parents = HashMap<NodeId, Option<NodeId>, Seed>;
 
 /// The node of each phandle.
 pub(crate) type Phandles = HashMap<u32, NodeId, Seed>;
+
+/// Each node but the root, by the node above it and its name.
+pub(crate) type Children<'a> = HashMap<(NodeId, &'a [u8]), NodeId, Seed>;
 
 /// The value of each property, by its node and its name.
 pub(crate) type Values<'a> = HashMap<(NodeId, &'a [u8]), &'a [u8], Seed>;
@@ -86,19 +90,37 @@ fn note_values<'a>(blob: &Blob<'a>, values: &mut Values<'a>, node: NodeId) -> Re
     Ok(())
 }
 
+/// Puts a node into the table, by its name and the node above it; not the root, which has none.
+fn put_child<'a>(
+    children: &mut Children<'a>,
+    above: Option<NodeId>,
+    name: &'a [u8],
+    node: NodeId,
+) -> Result<(), AllocError>
+    ensures { OnOk result (PutsChild children.old.entries children.new.entries above name.now node) }
+{
+    if let Some(above) = above {
+        children.insert((above, name), node)?;
+    }
+    Ok(())
+}
+
 /// Fills the tables of a blob's tree, and counts its nodes.
 pub(crate) fn fill<'a>(
     blob: &Blob<'a>,
     parents: &mut Parents,
     phandles: &mut Phandles,
     values: &mut Values<'a>,
+    children: &mut Children<'a>,
 ) -> Result<usize, AllocError>
     requires parents { parents.old.entries ≡ [] }
     requires phandles { phandles.old.entries ≡ [] }
     requires values { values.old.entries ≡ [] }
+    requires children { children.old.entries ≡ [] }
     ensures parents { OnOk result (AreParents blob.now (nodes_of (reading_of blob.now)) parents.new.entries) }
     ensures phandles { OnOk result (ArePhandles blob.now (nodes_of (reading_of blob.now)) phandles.new.entries) }
     ensures values { OnOk result (AreValues blob.now (nodes_of (reading_of blob.now)) values.new.entries) }
+    ensures children { OnOk result (AreChildren blob.now (nodes_of (reading_of blob.now)) children.new.entries) }
     ensures count { IfOk result (λ count. count ≡ length (nodes_of (reading_of blob.now))) }
 {
     blob.validity();
@@ -106,8 +128,10 @@ pub(crate) fn fill<'a>(
     let mut count = 0usize;
     for step in blob.steps() {
         match step {
-            Step::Open { node, .. } => {
-                put_parent(parents, node, open_nodes.innermost())?;
+            Step::Open { node, name } => {
+                let above = open_nodes.innermost();
+                put_parent(parents, node, above)?;
+                put_child(children, above, name, node)?;
                 note_phandle(blob, phandles, node)?;
                 note_values(blob, values, node)?;
                 open_nodes.push(node);

@@ -4,51 +4,11 @@ use Rattle.std.specs.List.{flat_map, AllByRecursion}
 use Rattle.std.proofs.lemmas.List.{length-append, length-replicate}
 use Rattle.dt_model.specs.Tree.{Property, Forest, no_nodes, branch, Reading}
 use Rattle.dt_model.specs.Format.{Token, begin_node, end_node, prop, nop, end_tree, word, IsText, SpellsBegin, SpellsProperty, SpellsAll, tokens_of_forest, tokens_of, without_nops, SpellsTree}
-use Rattle.dt_write.specs.Written.{has, used, used_by, used_below, strings_block, offset_of, zeros_after, property_block, begin_block, nodes_block, root_node, structure_block, names_of}
-use Rattle.dt_write.proofs.Strings.{Extends, Extends-trans, Extends-used_by, Extends-used_below, has-append, has-used, holds, offset_within}
-
--- ---- the names that are used
-
--- the table has the names of all properties of the trees
-abbrev pub HasAll : List (List ℕ) → List Property → Type 0
-HasAll names [] = Unit {0}
-HasAll names (p ∷ ps) = (has names p.name ≡ true) × HasAll names ps
-
-abbrev pub HasBelow : List (List ℕ) → Forest → Type 0
-HasBelow names no_nodes = Unit {0}
-HasBelow names (branch name ps cs ss) = HasAll names ps × HasBelow names cs × HasBelow names ss
-
-has-extended : (old new : List (List ℕ)) (name : List ℕ) → Extends old new → has old name ≡ true → has new name ≡ true
-has-extended old new name x h = rw x.is (has-append old x.more name h)
-
-HasAll-extended : (old new : List (List ℕ)) (ps : List Property) → Extends old new → HasAll old ps → HasAll new ps
-HasAll-extended old new [] x h = tt
-HasAll-extended old new (p ∷ ps) x h = (has-extended old new p.name x h.0, HasAll-extended old new ps x h.1)
-
-HasBelow-extended : (old new : List (List ℕ)) (f : Forest) → Extends old new → HasBelow old f → HasBelow new f
-HasBelow-extended old new no_nodes x h = tt
-HasBelow-extended old new (branch name ps cs ss) x h = (HasAll-extended old new ps x h.0, HasBelow-extended old new cs x h.1, HasBelow-extended old new ss x h.2)
-
-HasAll-used_by : (names : List (List ℕ)) (ps : List Property) → HasAll (used_by names ps) ps
-HasAll-used_by names [] = tt
-HasAll-used_by names (p ∷ ps) =
-    (has-extended (used names p.name) (used_by (used names p.name) ps) p.name (Extends-used_by (used names p.name) ps) (has-used names p.name), HasAll-used_by (used names p.name) ps)
-
-HasBelow-used_below : (names : List (List ℕ)) (f : Forest) → HasBelow (used_below names f) f
-HasBelow-used_below names no_nodes = tt
-HasBelow-used_below names (branch name ps cs ss) =
-    let own = used_by names ps in
-    let mid = used_below own cs in
-    let all = used_below mid ss in (
-      HasAll-extended own all ps (Extends-trans own mid all (Extends-used_below own cs) (Extends-used_below mid ss)) (HasAll-used_by names ps),
-      HasBelow-extended mid all cs (Extends-used_below mid ss) (HasBelow-used_below own cs),
-      HasBelow-used_below mid ss,
-    )
-
--- the names have no NUL
-abbrev pub AreTexts : Forest → Type 0
-AreTexts no_nodes = Unit {0}
-AreTexts (branch name ps cs ss) = IsText name × AllByRecursion (λ p. IsText p.name) ps × AreTexts cs × AreTexts ss
+use Rattle.dt_write.specs.Written.{has, strings_block, offset_of, zeros_after, property_block, begin_block, nodes_block, root_node, structure_block, names_of}
+use Rattle.dt_write.specs.Parts.{HasAll, HasBelow}
+use Rattle.dt_write.proofs.Places.{place_within}
+use Rattle.dt_write.proofs.Kept.{held}
+use Rattle.dt_write.proofs.TreeNames.{AreTexts, in_from_has, has_below, texts_used_below}
 
 -- ---- lists of tokens
 
@@ -85,12 +45,12 @@ no_nops (branch name ps cs ss) =
 length-zeros : (size : ℕ) → length (zeros_after size) ≡ (4 - size % 4) % 4
 length-zeros size = length-replicate ((4 - size % 4) % 4) 0
 
-property_spelled : (names : List (List ℕ)) (p : Property) → has names p.name ≡ true → IsText p.name → length (strings_block names) < 2 ^ 32 → length p.value < 2 ^ 32 → SpellsProperty (strings_block names) p (property_block names p)
-property_spelled names p h text strings value = record {
+property_spelled : (names : List (List ℕ)) (p : Property) → AllByRecursion IsText names → has names p.name ≡ true → IsText p.name → length (strings_block names) < 2 ^ 32 → length p.value < 2 ^ 32 → SpellsProperty (strings_block names) p (property_block names p)
+property_spelled names p all h text strings value = record {
   offset = offset_of names p.name;
-  offset_fits = omega (arith, offset_within names p.name);
+  offset_fits = omega (arith, place_within (strings_block names) p.name);
   length_fits = value;
-  named = holds names p.name text h;
+  named = held names p.name text all (in_from_has names p.name h);
   bytes = record {
     padding = zeros_after (length p.value);
     whole = refl;
@@ -119,28 +79,28 @@ value_short names p more lt =
     let value = length-append p.value (zeros_after (length p.value)) in
     (omega arith, omega arith)
 
-properties_spelled : (names : List (List ℕ)) (ps : List Property) → HasAll names ps → AllByRecursion (λ p. IsText p.name) ps → length (strings_block names) < 2 ^ 32 → length (flat_map (property_block names) ps) < 2 ^ 32
+properties_spelled : (names : List (List ℕ)) (ps : List Property) → AllByRecursion IsText names → HasAll names ps → AllByRecursion (λ p. IsText p.name) ps → length (strings_block names) < 2 ^ 32 → length (flat_map (property_block names) ps) < 2 ^ 32
     → SpellsAll (strings_block names) (map prop ps) (flat_map (property_block names) ps)
-properties_spelled names [] h texts strings short = refl
-properties_spelled names (p ∷ ps) h texts strings short =
+properties_spelled names [] all h texts strings short = refl
+properties_spelled names (p ∷ ps) all h texts strings short =
     let both = value_short names p (flat_map (property_block names) ps) short in
-    (property_block names p, flat_map (property_block names) ps, refl, property_spelled names p h.0 texts.0 strings both.0, properties_spelled names ps h.1 texts.1 strings both.1)
+    (property_block names p, flat_map (property_block names) ps, refl, property_spelled names p all h.0 texts.0 strings both.0, properties_spelled names ps all h.1 texts.1 strings both.1)
 
-pub nodes_spelled : (names : List (List ℕ)) (f : Forest) → HasBelow names f → AreTexts f → length (strings_block names) < 2 ^ 32 → length (nodes_block names f) < 2 ^ 32
+pub nodes_spelled : (names : List (List ℕ)) (f : Forest) → AllByRecursion IsText names → HasBelow names f → AreTexts f → length (strings_block names) < 2 ^ 32 → length (nodes_block names f) < 2 ^ 32
     → SpellsAll (strings_block names) (tokens_of_forest f) (nodes_block names f)
-nodes_spelled names no_nodes h texts strings short = refl
-nodes_spelled names (branch name ps cs ss) h texts strings short =
+nodes_spelled names no_nodes all h texts strings short = refl
+nodes_spelled names (branch name ps cs ss) all h texts strings short =
     let own = flat_map (property_block names) ps in
     let below = nodes_block names cs in
     let beside = nodes_block names ss in
     let l = sizes (begin_block name) own below (word 2) beside short in
-    let after : SpellsAll (strings_block names) (end_node ∷ tokens_of_forest ss) (word 2 ++ beside) = (word 2, beside, refl, refl, nodes_spelled names ss h.2 texts.3 strings l.2) in
-    let inside = spells_append (strings_block names) (tokens_of_forest cs) (end_node ∷ tokens_of_forest ss) below (word 2 ++ beside) (nodes_spelled names cs h.1 texts.2 strings l.1) after in (
+    let after : SpellsAll (strings_block names) (end_node ∷ tokens_of_forest ss) (word 2 ++ beside) = (word 2, beside, refl, refl, nodes_spelled names ss all h.2 texts.3 strings l.2) in
+    let inside = spells_append (strings_block names) (tokens_of_forest cs) (end_node ∷ tokens_of_forest ss) below (word 2 ++ beside) (nodes_spelled names cs all h.1 texts.2 strings l.1) after in (
       begin_block name,
       own ++ (below ++ (word 2 ++ beside)),
       rows (begin_block name) own below (word 2) beside,
       begin_spelled name texts.0,
-      spells_append (strings_block names) (map prop ps) (tokens_of_forest cs ++ end_node ∷ tokens_of_forest ss) own (below ++ (word 2 ++ beside)) (properties_spelled names ps h.0 texts.1 strings l.0) inside,
+      spells_append (strings_block names) (map prop ps) (tokens_of_forest cs ++ end_node ∷ tokens_of_forest ss) own (below ++ (word 2 ++ beside)) (properties_spelled names ps all h.0 texts.1 strings l.0) inside,
     )
   where
     rows : (v w x y z : List ℕ) → v ++ w ++ x ++ y ++ z ≡ v ++ (w ++ (x ++ (y ++ z)))
@@ -156,7 +116,7 @@ pub structure_spelled : (t : Reading) → AreTexts (root_node t) → length (str
 structure_spelled t texts strings short =
     let names = names_of t in
     let nodes = nodes_block names (root_node t) in
-    let inside = nodes_spelled names (root_node t) (HasBelow-used_below [] (root_node t)) texts strings (omega (arith, length-append nodes (word 9))) in
+    let inside = nodes_spelled names (root_node t) (texts_used_below [] (root_node t) tt texts) (has_below [] (root_node t)) texts strings (omega (arith, length-append nodes (word 9))) in
     record {
       tokens = tokens_of t.properties t.children;
       spelled = spells_append (strings_block names) (tokens_of t.properties t.children) (end_tree ∷ []) nodes (word 9) inside (word 9, [], refl, refl, refl);

@@ -9,10 +9,11 @@ use Rattle.std.proofs.lemmas.List.Elements.{recursion_from_All}
 use Rattle.std.proofs.lemmas.Nat.{from_be_bytes-to_be_bytes_4}
 use Rattle.dt_model.specs.Names.{is_name_byte, IsNodeName, IsPropertyName}
 use Rattle.dt_model.specs.Tree.{Property, Forest, no_nodes, branch, Reading}
-use Rattle.dt_model.specs.Valid.{AreNodes, IsValid, IsWithinLimits}
+use Rattle.dt_model.specs.Valid.{AreDistinct, AreNodes, IsValid, IsWithinLimits}
 use Rattle.dt_model.specs.Format.{word_at, pair, reservation_block, IsText, SpellsTree, part, Header, HasHeader, Reads, IsWithin}
 use Rattle.dt_write.specs.Written.{assembled, written, root_node, structure_block, strings_block, names_of}
-use Rattle.dt_write.proofs.Spelled.{AreTexts, structure_spelled}
+use Rattle.dt_write.proofs.TreeNames.{AreTexts, texts_used_below, distinct_below}
+use Rattle.dt_write.proofs.Spelled.{structure_spelled}
 
 -- ---- names have no NUL
 
@@ -33,6 +34,16 @@ property_texts (p ∷ ps) h = (property_text p.name h.0, property_texts ps h.1)
 node_texts : (f : Forest) → AreNodes f → AreTexts f
 node_texts no_nodes h = tt
 node_texts (branch name ps cs ss) h = (node_text name h.0, property_texts ps h.1.named, node_texts cs h.2, node_texts ss h.4)
+
+-- the names of a tree's properties have none, and are each there once
+pub tree_texts : (t : Reading) → IsValid t → AreTexts (root_node t)
+tree_texts t valid = (tt, property_texts t.properties valid.properties.named, node_texts t.children valid.nodes, tt)
+
+pub names_are_texts : (t : Reading) → IsValid t → AllByRecursion IsText (names_of t)
+names_are_texts t valid = texts_used_below [] (root_node t) tt (tree_texts t valid)
+
+pub names_are_distinct : (t : Reading) → AreDistinct (names_of t)
+names_are_distinct t = distinct_below [] (root_node t) tt
 
 -- ---- the header
 
@@ -123,8 +134,7 @@ written_reads t valid short =
     let s = structure_block t in
     let n = strings_block (names_of t) in
     let len = assembled_length t.boot_cpu r s n in
-    let texts : AreTexts (root_node t) = (tt, property_texts t.properties valid.properties.named, node_texts t.children valid.nodes, tt) in
-    assembled_reads t s n (omega arith) (structure_spelled t texts (omega arith) (omega arith)) valid
+    assembled_reads t s n (omega arith) (structure_spelled t (tree_texts t valid) (omega arith) (omega arith)) valid
 
 -- and it is within the limits, where the tree is
 pub written_within : (t : Reading) → IsValid t → IsWithinLimits t → length (written t) ≤ 16777216 → IsWithin (written t) t

@@ -1,11 +1,13 @@
 -- The one blob that the writer makes of a tree: header, reservations, structure, strings, with no NOP and zeros as padding
 -- (Devicetree Specification v0.4, chapter 5).
-use Rattle.std.specs.Prelude.{ℕ, ◌+◌, ◌-◌, ◌%◌, Bool, if◌then◌else◌, List, [], ◌∷◌, ◌++◌, length, replicate}
+use Rattle.std.specs.Prelude.{ℕ, ◌+◌, ◌-◌, ◌%◌, ◌||◌, Bool, false, if◌then◌else◌, List, [], ◌∷◌, ◌++◌, length, replicate}
 use Rattle.std.specs.List.{flat_map, list_any}
+use Rattle.std.specs.Option.{unwrap_or}
 use Rattle.std.specs.Str.{bytes_eq}
 use Rattle.dt_model.specs.Names.{Name}
 use Rattle.dt_model.specs.Tree.{Property, Forest, no_nodes, branch, Reading}
 use Rattle.dt_model.specs.Format.{word, reservation_block}
+use Rattle.dt_model_format.specs.Strings.{terminated, place_in}
 
 -- ---- the strings block (5.5)
 
@@ -27,17 +29,23 @@ abbrev pub used_below : List Name → Forest → List Name
 used_below names no_nodes = names
 used_below names (branch name ps cs ss) = used_below (used_below (used_by names ps) cs) ss
 
--- a name and a NUL
-abbrev pub terminated : Name → List ℕ
-terminated name = name ++ 0 ∷ []
+-- is the name an end of the other, which is longer?
+abbrev pub is_end : Name → Name → Bool
+is_end name [] = false
+is_end name (b ∷ longer) = bytes_eq name longer || is_end name longer
 
+-- those of some names that are no end of one of all
+abbrev pub kept_of : List Name → List Name → List Name
+kept_of all [] = []
+kept_of all (n ∷ ns) = if list_any (is_end n) all then kept_of all ns else n ∷ kept_of all ns
+
+-- the names that are no end of another, each with a NUL, in the order of first use
 abbrev pub strings_block : List Name → List ℕ
-strings_block names = flat_map terminated names
+strings_block names = flat_map terminated (kept_of names names)
 
--- where a name begins in the strings block
+-- the first place at which the strings block holds the name
 abbrev pub offset_of : List Name → Name → ℕ
-offset_of [] name = 0
-offset_of (n ∷ ns) name = if bytes_eq name n then 0 else length (terminated n) + offset_of ns name
+offset_of names name = unwrap_or (place_in (strings_block names) name) 0
 
 -- ---- the structure block (5.4)
 

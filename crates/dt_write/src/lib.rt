@@ -17,17 +17,20 @@ ghost use Rattle.dt_write.specs.Refusals.{WhyNoBytes};
 
 mod laws;
 mod names;
+mod sharing;
+mod strings;
 mod structure;
 mod whole;
 mod words;
 
 use dt_flat::FlatTree;
 use dt_names::Fault;
-pub use laws::{one_outcome, written_reads};
+pub use laws::{names_share_bytes, one_outcome, written_reads};
 use std::alloc::Global;
 
 /// The blob of a tree: header, reservations, structure, strings, nothing between them (Devicetree Specification v0.4,
-/// chapter 5). Version 17, last compatible version 16, each name once in the order of first use, no NOP, zeros as padding.
+/// chapter 5). Version 17, last compatible version 16, no NOP, zeros as padding. The names of properties that are no end of
+/// a longer one are stored, in the order of first use; each other name is the end of the first of them that ends with it.
 ///
 /// # Errors
 ///

@@ -1,87 +1,85 @@
-//! The names of properties that a blob uses, each once: its strings block.
+//! The names of a tree's properties, each once, in the order of first use.
 
-ghost use Rattle.std.specs.Prelude.{◌≡◌, ◌≤◌, ◌++◌, [], length, OnOk, IfOk, IfErr, None};
-ghost use Rattle.dt_model.specs.Limits.{most_bytes};
-ghost use Rattle.dt_write.specs.Written.{used, offset_of, strings_block};
-ghost use Rattle.dt_write.specs.Refusals.{WhyNoBytes};
+ghost use Rattle.std.specs.Prelude.{◌≡◌, ◌<◌, [], false, map, length, slice_index_or, OnOk, IfSome, IfNone};
+ghost use Rattle.dt_model.specs.Valid.{AreDistinct};
+ghost use Rattle.dt_write.specs.Written.{has, used, used_by, used_below};
+ghost use Rattle.dt_write.specs.Parts.{tree_at};
 
-use crate::words::fits;
-use dt_names::{Fault, FaultKind, Seed};
-use indexmap::IndexMap;
+use dt_flat::{FlatTree, NodeId, Props};
+use dt_names::Seed;
+use indexmap::IndexSet;
 use std::alloc::{AllocError, Global};
 use std::marker::Model;
 
-/// The names of a strings block, with the places where they begin in it. It is seen as the names, in the order of first use.
+/// Names, each once, in the order in which they came, which is that of their numbers. It is seen as the names.
 #[derive(Drop)]
-pub(crate) struct Names {
-    alloc: Global,
-    offsets: IndexMap<Vec<u8>, usize, Seed>,
-    size: usize,
+pub(crate) struct Names<'t> {
+    set: IndexSet<&'t [u8], Seed>,
 }
 
-impl Model for Names {
-    ghost use Rattle.std.specs.Prelude.{List, ℕ};
+impl<'t> Model for Names<'t> {
+    ghost use Rattle.std.specs.Prelude.{List, map};
     ghost use Rattle.dt_model.specs.Names.{Name};
-    ghost use Rattle.dt_write.specs.Places.{names_kept, IsTable};
+    ghost use Rattle.dt_model.specs.Valid.{AreDistinct};
 
     ghost Value = { List Name };
 
-    ghost view = { λ a. names_kept a.offsets.entries };
+    ghost view = { λ a. map (λ name. name.now) a.set.keys };
 
-    ghost invariant = { λ a. IsTable a.offsets.entries a.size };
+    ghost invariant = { λ a. AreDistinct (map (λ name. name.now) a.set.keys) };
 }
 
-impl Names {
+impl<'t> Names<'t> {
     /// No names. Takes no memory. The names will be hashed behind the seed.
     pub fn new(alloc: Global, seed: Seed) -> Self
         ensures { result ≡ [] }
     {
         Names {
-            alloc,
-            offsets: IndexMap::with_hasher(alloc, seed),
-            size: 0,
+            set: IndexSet::with_hasher(alloc, seed),
         }
     }
 
-    /// How many bytes the strings block of the names has.
-    pub fn size(&self) -> usize
-        ensures block { result ≡ length (strings_block self.now) }
-        ensures short { result ≤ most_bytes }
+    /// Puts a name at the end, where it isn't among them.
+    fn note(&mut self, name: &'t [u8]) -> Result<(), AllocError>
+        ensures { OnOk result (self.new ≡ used self.old name.now) }
     {
-        self.size
+        self.set.insert(name)?;
+        Ok(())
     }
 
-    /// Where the name begins, in bytes from the start of the strings block; a name that isn't there is put at its end.
-    ///
-    /// # Errors
-    ///
-    /// `Limit` where the strings block would be longer than 16,777,216 bytes; and `NoMemory`.
-    pub fn offset(&mut self, name: &[u8]) -> Result<usize, Fault>
-        ensures names { OnOk result (self.new ≡ used self.old name.now) }
-        ensures offset { IfOk result (λ offset. offset ≡ offset_of self.new name.now) }
-        ensures within { IfOk result (λ offset. offset ≤ most_bytes) }
-        ensures refused { IfErr result (λ fault. WhyNoBytes fault.kind (length (strings_block (used self.old name.now))) × (fault.at ≡ None)) }
+    /// The names, by their numbers.
+    pub fn as_slice(&self) -> &[&'t [u8]]
+        ensures names { map (λ name. name.now) result.now ≡ self.now }
+        ensures distinct { AreDistinct (map (λ name. name.now) result.now) }
     {
-        if let Some(offset) = self.offsets.get(name) {
-            return Ok(*offset);
-        }
-        let offset = self.size;
-        if !fits(offset, name.len() + 1) {
-            return Err(Fault::of(FaultKind::Limit));
-        }
-        let key = Vec::from_slice(self.alloc, name)?;
-        self.offsets.insert(key, offset)?;
-        self.size = offset + name.len() + 1;
-        Ok(offset)
+        self.set.as_slice()
     }
 
-    /// Puts the strings block of the names at the end.
-    pub fn put(&self, out: &mut Vec<u8>) -> Result<(), AllocError>
-        ensures { OnOk result (out.new.items ≡ out.old.items ++ strings_block self.now) }
+    /// The number of a name.
+    pub fn number(&self, name: &[u8]) -> Option<usize>
+        ensures is { IfSome result (λ number. (number < length self.now) × (slice_index_or self.now number [] ≡ name.now)) }
+        ensures none { IfNone result (has self.now name.now ≡ false) }
     {
-        for name in self.offsets.keys().as_slice() {
-            out.extend_from_slice(name)?;
-            out.push(0)?;
+        self.set.get_index_of(name)
+    }
+
+    fn note_properties(&mut self, props: Props<'t>) -> Result<(), AllocError>
+        ensures { OnOk result (self.new ≡ used_by self.old props.entry) }
+    {
+        for (name, _) in props {
+            self.note(name)?;
+        }
+        Ok(())
+    }
+
+    /// Notes the names of a node's properties, and then those of all that stands below it.
+    pub fn note_node(&mut self, tree: &'t FlatTree, node: NodeId) -> Result<(), AllocError>
+        requires { node < length tree.now.slots }
+        ensures { OnOk result (self.new ≡ used_below self.old (tree_at tree.now.slots node)) }
+    {
+        self.note_properties(tree.props(node))?;
+        for child in tree.children(node) {
+            self.note_node(tree, child)?;
         }
         Ok(())
     }

@@ -1,12 +1,13 @@
 //! The structure block (Devicetree Specification v0.4, 5.4).
 
-ghost use Rattle.std.specs.Prelude.{◌≡◌, ◌+◌, ◌<◌, ◌^◌, ◌++◌, ◌∷◌, [], length, OnOk, IfErr, None};
+ghost use Rattle.std.specs.Prelude.{◌≡◌, ◌+◌, ◌<◌, ◌^◌, ◌++◌, ◌∷◌, [], true, length, OnOk, IfErr, None};
+ghost use Rattle.std.specs.List.{flat_map};
 ghost use Rattle.dt_model.specs.Format.{word};
-ghost use Rattle.dt_write.specs.Written.{begin_block, zeros_after};
-ghost use Rattle.dt_write.specs.Parts.{tree_at, PutsProperties, PutsNodes, properties_size, nodes_size};
+ghost use Rattle.dt_write.specs.Written.{has, begin_block, property_block, nodes_block, zeros_after};
+ghost use Rattle.dt_write.specs.Parts.{tree_at, HasAll, HasBelow};
 ghost use Rattle.dt_write.specs.Refusals.{WhyNoBytes};
 
-use crate::names::Names;
+use crate::strings::Strings;
 use crate::words::{fits, put_word, put_zeros};
 use dt_flat::{FlatTree, NodeId, Props};
 use dt_names::{Fault, FaultKind};
@@ -27,7 +28,7 @@ fn put_begin(out: &mut Vec<u8>, name: &[u8]) -> Result<(), AllocError>
     put_zeros(out, name.len() + 1)
 }
 
-/// Puts a property whose name stands at an offset of the strings block.
+/// Puts a property whose name begins at an offset of the strings block.
 fn put_value(out: &mut Vec<u8>, offset: u32, value: &[u8]) -> Result<(), AllocError>
     requires { length value.now < 2 ^ 32 }
     ensures { OnOk result (out.new.items ≡ out.old.items
@@ -41,53 +42,53 @@ fn put_value(out: &mut Vec<u8>, offset: u32, value: &[u8]) -> Result<(), AllocEr
 }
 
 fn put_property(
-    names: &mut Names,
+    strings: &Strings<'_>,
     out: &mut Vec<u8>,
     name: &[u8],
     value: &[u8],
 ) -> Result<(), Fault>
+    requires { has strings.now name.now ≡ true }
     ensures put { OnOk result
-        (PutsProperties (record { name = name.now; value = value.now } ∷ [])
-        names.old names.new out.old.items out.new.items) }
+        (out.new.items ≡ out.old.items ++ property_block strings.now (record { name = name.now; value = value.now })) }
     ensures refused { IfErr result (λ fault. WhyNoBytes fault.kind
-        (length out.old.items + properties_size names.old (record { name = name.now; value = value.now } ∷ [])) × (fault.at ≡ None)) }
+        (length out.old.items + length (property_block strings.now (record { name = name.now; value = value.now }))) × (fault.at ≡ None)) }
 {
     if !fits(out.len(), value.len()) {
         return Err(Fault::of(FaultKind::Limit));
     }
-    let offset = names.offset(name)?;
-    put_value(out, offset as u32, value)?;
+    put_value(out, strings.offset(name) as u32, value)?;
     Ok(())
 }
 
-fn put_properties(props: Props<'_>, names: &mut Names, out: &mut Vec<u8>) -> Result<(), Fault>
-    ensures put { OnOk result (PutsProperties props.entry names.old names.new out.old.items out.new.items) }
-    ensures refused { IfErr result
-        (λ fault. WhyNoBytes fault.kind (length out.old.items + properties_size names.old props.entry) × (fault.at ≡ None)) }
+fn put_properties(props: Props<'_>, strings: &Strings<'_>, out: &mut Vec<u8>) -> Result<(), Fault>
+    requires { HasAll strings.now props }
+    ensures put { OnOk result (out.new.items ≡ out.old.items ++ flat_map (property_block strings.now) props.entry) }
+    ensures refused { IfErr result (λ fault. WhyNoBytes fault.kind
+        (length out.old.items + length (flat_map (property_block strings.now) props.entry)) × (fault.at ≡ None)) }
 {
     for (name, value) in props {
-        put_property(names, out, name, value)?;
+        put_property(strings, out, name, value)?;
     }
     Ok(())
 }
 
-/// Puts a node with all that stands below it at the end of the structure block, and the names of its properties into the
-/// strings block.
+/// Puts a node with all that stands below it at the end of the structure block.
 pub(crate) fn put_node(
     tree: &FlatTree,
     node: NodeId,
-    names: &mut Names,
+    strings: &Strings<'_>,
     out: &mut Vec<u8>,
 ) -> Result<(), Fault>
-    requires { node < length tree.now.slots }
-    ensures put { OnOk result (PutsNodes (tree_at tree.now.slots node) names.old names.new out.old.items out.new.items) }
+    requires within { node < length tree.now.slots }
+    requires has { HasBelow strings.now (tree_at tree.now.slots node) }
+    ensures put { OnOk result (out.new.items ≡ out.old.items ++ nodes_block strings.now (tree_at tree.now.slots node)) }
     ensures refused { IfErr result (λ fault. WhyNoBytes fault.kind
-        (length out.old.items + nodes_size names.old (tree_at tree.now.slots node)) × (fault.at ≡ None)) }
+        (length out.old.items + length (nodes_block strings.now (tree_at tree.now.slots node))) × (fault.at ≡ None)) }
 {
     put_begin(out, tree.name(node))?;
-    put_properties(tree.props(node), names, out)?;
+    put_properties(tree.props(node), strings, out)?;
     for child in tree.children(node) {
-        put_node(tree, child, names, out)?;
+        put_node(tree, child, strings, out)?;
     }
     put_word(out, END_NODE)?;
     Ok(())

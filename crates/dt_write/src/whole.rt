@@ -1,14 +1,15 @@
 //! A whole blob of its blocks (Devicetree Specification v0.4, 5.2 and 5.3).
 
-ghost use Rattle.std.specs.Prelude.{◌≡◌, ◌+◌, ◌≤◌, ◌++◌, [], length, drop, OnOk, IfErr, None};
+ghost use Rattle.std.specs.Prelude.{◌≡◌, ◌+◌, ◌≤◌, ◌++◌, [], length, drop, OnOk, IfOk, IfErr, None};
 ghost use Rattle.dt_model.specs.Limits.{most_bytes};
 ghost use Rattle.dt_model.specs.Format.{reservation_block};
 ghost use Rattle.dt_flat.specs.Arena.{reading};
-ghost use Rattle.dt_write.specs.Written.{header, strings_block};
-ghost use Rattle.dt_write.specs.Parts.{IsFront, IsBody, IsBlob};
+ghost use Rattle.dt_write.specs.Written.{header, names_of, strings_block, structure_block};
+ghost use Rattle.dt_write.specs.Parts.{IsFront, IsBlob};
 ghost use Rattle.dt_write.specs.Refusals.{WhyNoBytes, WhyNotWritten};
 
 use crate::names::Names;
+use crate::strings::Strings;
 use crate::structure::put_node;
 use crate::words::{fits, put_pair, put_word, set_words};
 use dt_flat::FlatTree;
@@ -75,52 +76,63 @@ fn put_front(tree: &FlatTree, out: &mut Vec<u8>) -> Result<(), AllocError>
     put_reservations(out, tree.reservations())
 }
 
-/// Puts the structure block, and its names into the table.
-fn put_structure(tree: &FlatTree, names: &mut Names, out: &mut Vec<u8>) -> Result<(), Fault>
-    requires unnamed { names.old ≡ [] }
+/// Puts the structure block.
+fn put_structure(tree: &FlatTree, strings: &Strings<'_>, out: &mut Vec<u8>) -> Result<(), Fault>
+    requires names { strings.now ≡ names_of (reading tree.now) }
     requires front { IsFront tree.now.reservations out.old.items }
-    ensures body { OnOk result (IsBody (reading tree.now) names.new out.old.items out.new.items) }
+    ensures body { OnOk result (out.new.items ≡ out.old.items ++ structure_block (reading tree.now)) }
     ensures refused { IfErr result (λ fault. WhyNotWritten (reading tree.now) fault.kind × (fault.at ≡ None)) }
 {
-    put_node(tree, tree.root(), names, out)?;
+    put_node(tree, tree.root(), strings, out)?;
     put_word(out, END)?;
     Ok(())
 }
 
 /// Puts the strings block, where the blob is not too long with it.
-fn put_strings(names: &Names, out: &mut Vec<u8>) -> Result<(), Fault>
-    ensures put { OnOk result (out.new.items ≡ out.old.items ++ strings_block names.now) }
+fn put_strings(strings: &Strings<'_>, out: &mut Vec<u8>) -> Result<(), Fault>
+    ensures put { OnOk result (out.new.items ≡ out.old.items ++ strings_block strings.now) }
     ensures size { OnOk result (length out.new.items ≤ most_bytes) }
     ensures refused { IfErr result
-        (λ fault. WhyNoBytes fault.kind (length out.old.items + length (strings_block names.now)) × (fault.at ≡ None)) }
+        (λ fault. WhyNoBytes fault.kind (length out.old.items + length (strings_block strings.now)) × (fault.at ≡ None)) }
 {
-    if !fits(out.len(), names.size()) {
+    if !fits(out.len(), strings.size()) {
         return Err(Fault::of(FaultKind::Limit));
     }
-    names.put(out)?;
+    strings.put(out)?;
     Ok(())
 }
 
 /// Puts the blocks of a blob one after the other, and then sets its header.
-fn put_blocks(tree: &FlatTree, names: &mut Names, out: &mut Vec<u8>) -> Result<(), Fault>
-    requires unnamed { names.old ≡ [] }
+fn put_blocks(tree: &FlatTree, strings: &Strings<'_>, out: &mut Vec<u8>) -> Result<(), Fault>
+    requires names { strings.now ≡ names_of (reading tree.now) }
     requires empty { out.old.items ≡ [] }
     ensures blob { OnOk result (IsBlob (reading tree.now) out.new.items) }
     ensures refused { IfErr result (λ fault. WhyNotWritten (reading tree.now) fault.kind × (fault.at ≡ None)) }
 {
     put_front(tree, out)?;
-    let structure = out.len();
-    put_structure(tree, names, out)?;
-    let strings = out.len();
-    put_strings(names, out)?;
+    let structure_start = out.len();
+    put_structure(tree, strings, out)?;
+    let strings_start = out.len();
+    put_strings(strings, out)?;
     set_header(
         out,
         tree.boot_cpu(),
-        structure - HEADER_SIZE,
-        strings - structure,
-        names.size(),
+        structure_start - HEADER_SIZE,
+        strings_start - structure_start,
+        strings.size(),
     );
     Ok(())
+}
+
+/// The strings block of a tree's names.
+fn strings_of(alloc: Global, tree: &FlatTree) -> Result<Strings<'_>, Fault>
+    ensures names { IfOk result (λ strings. strings ≡ names_of (reading tree.now)) }
+    ensures refused { IfErr result (λ fault. WhyNotWritten (reading tree.now) fault.kind × (fault.at ≡ None)) }
+{
+    tree.validity();
+    let mut names = Names::new(alloc, tree.seed());
+    names.note_node(tree, tree.root())?;
+    Strings::new(alloc, names)
 }
 
 /// Puts the blob of a tree into an empty buffer, which doesn't grow far beyond the limit where the blob would be too long.
@@ -133,6 +145,6 @@ pub(crate) fn put_blob(alloc: Global, tree: &FlatTree, out: &mut Vec<u8>) -> Res
     if tree.reservations().len() > MOST_BYTES / PAIR_SIZE {
         return Err(Fault::of(FaultKind::Limit));
     }
-    let mut names = Names::new(alloc, tree.seed());
-    put_blocks(tree, &mut names, out)
+    let strings = strings_of(alloc, tree)?;
+    put_blocks(tree, &strings, out)
 }

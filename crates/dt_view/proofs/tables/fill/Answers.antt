@@ -1,9 +1,10 @@
-use Rattle.std.proofs.Common.{◌+◌, ◌∷◌, length, cond, nat_eq, Some, sym, ap, subst, ◌∙◌, arith}
+use Rattle.std.proofs.Common.{◌+◌, ◌∷◌, ℕ, Option, length, cond, nat_eq, Some, sym, ap, subst, ◌∙◌, arith}
 use Rattle.dt_read.specs.StepsLeft.{step_view}
-use Rattle.dt_view.specs.Tables.{at_number}
-use Rattle.dt_view.proofs.Walks.{AreFew, opened, parent_told}
+use Rattle.dt_view.specs.Tables.{at_number, PutsChild}
+use Rattle.dt_view.proofs.Walks.{AreFew, innermost, opened, parent_told}
 use Rattle.dt_view.proofs.ParentSteps.{is_innermost, shorter}
-use Rattle.dt_view.proofs.Tabled.{IsFilled, unfilled, opens_one, room_for_one, past_one, past_another, all_filled}
+use Rattle.dt_view.proofs.Tabled.{IsFilled, above_opened, unfilled, opens_one, room_for_one, past_one, past_another, all_filled}
+use Rattle.dt_view.proofs.Children.{names_told, none_found, one_found, others_found, all_found}
 use Rattle.dt_view.proofs.Valued.{none_valued, one_valued, others_valued, all_valued}
 use Rattle.dt_view.proofs.tables.fill.Goals as goal
 
@@ -14,6 +15,7 @@ loop-step-init c =
       tt,
       rw (whole, c.new-open_nodes.ensures, c.requires.parents, c.requires.phandles) (unfilled c.args.blob.now c.validity.ensures.valid c.validity.ensures.within c.validity.ensures.places),
       rw (whole, c.requires.values) (none_valued c.args.blob.now c.validity.ensures.valid),
+      rw (whole, c.requires.children) (none_found c.args.blob.now c.validity.ensures.valid),
     )
 
 pub note_phandle-requires : goal.note_phandle-requires
@@ -36,13 +38,16 @@ pub loop-step-preserved-in-Open : goal.loop-step-preserved-in-Open
 loop-step-preserved-in-Open c =
     let t = c.args.blob.now in
     let e = c.in-Some.ensures.steps ∙ ap (λ s. step_view s ∷ c.next.new.self) c.in-Open.is in
-    let inner = is_innermost c.innermost.result c.loop-step.open_nodes c.innermost.ensures in (
+    let inner = is_innermost c.innermost-above.result c.loop-step.open_nodes c.innermost-above.ensures in (
       tt,
       tt,
       subst (λ ks. IsFilled t c.put_parent.new.parents.entries c.note_phandle.new.phandles.entries ks (c.loop-step.count + 1) c.next.new.self) (sym c.push.ensures)
           (past_one t c.loop-step.parents.entries c.put_parent.new.parents.entries c.loop-step.phandles.entries c.note_phandle.new.phandles.entries c.loop-step.open_nodes c.loop-step.count c.in-Open.node c.in-Open.name.now c.loop-step.step-iterator c.next.new.self c.validity.ensures.valid c.validity.ensures.places c.loop-step.invariant.2 e
           (λ j. c.in_ok-put_parent-in-Open.ensures j ∙ ap (λ o. cond (nat_eq c.in-Open.node j) (Some o) (at_number c.loop-step.parents.entries j)) inner) c.in_ok-note_phandle-in-Open.ensures),
       one_valued t c.loop-step.values.entries c.note_values.new.values.entries c.in-Open.node c.in-Open.name.now c.loop-step.step-iterator c.next.new.self c.loop-step.invariant.3 e c.in_ok-note_values-in-Open.ensures,
+      one_found t c.loop-step.children.entries c.put_child.new.children.entries c.in-Open.node c.in-Open.name.now (innermost c.loop-step.open_nodes) c.loop-step.step-iterator c.next.new.self c.validity.ensures.places c.loop-step.invariant.4 e
+          (above_opened t c.loop-step.parents.entries c.loop-step.phandles.entries c.loop-step.open_nodes c.loop-step.count c.in-Open.node c.in-Open.name.now c.loop-step.step-iterator c.next.new.self c.validity.ensures.valid c.validity.ensures.places c.loop-step.invariant.2 e)
+          (subst (λ (a : Option ℕ). PutsChild c.loop-step.children.entries c.put_child.new.children.entries a c.in-Open.name.now c.in-Open.node) inner c.in_ok-put_child-in-Open.ensures),
     )
 
 pub loop-step-preserved-in-Property : goal.loop-step-preserved-in-Property
@@ -54,6 +59,7 @@ loop-step-preserved-in-Property c =
       past_another c.args.blob.now c.loop-step.parents.entries c.loop-step.phandles.entries open_nodes open_nodes c.loop-step.count c.loop-step.step-iterator c.next.new.self c.loop-step.invariant.2
           (ap opened e) (λ k. ap (parent_told k open_nodes) e) (λ few. subst (AreFew (length open_nodes)) e few),
       others_valued c.args.blob.now c.loop-step.values.entries c.loop-step.step-iterator c.next.new.self c.loop-step.invariant.3 (ap opened e),
+      others_found c.args.blob.now c.loop-step.children.entries c.loop-step.step-iterator c.next.new.self c.loop-step.invariant.4 (ap opened e) (ap names_told e),
     )
 
 pub loop-step-preserved : goal.loop-step-preserved
@@ -66,6 +72,7 @@ loop-step-preserved c =
           (ap opened e) (λ k. ap (parent_told k open_nodes) e ∙ ap (λ ks. parent_told k ks c.next.new.self) (sym c.pop.ensures))
           (λ few. subst (λ ks. AreFew (length ks) c.next.new.self) (sym c.pop.ensures) (subst (λ n. AreFew n c.next.new.self) (shorter open_nodes) (subst (AreFew (length open_nodes)) e few))),
       others_valued c.args.blob.now c.loop-step.values.entries c.loop-step.step-iterator c.next.new.self c.loop-step.invariant.3 (ap opened e),
+      others_found c.args.blob.now c.loop-step.children.entries c.loop-step.step-iterator c.next.new.self c.loop-step.invariant.4 (ap opened e) (ap names_told e),
     )
 
 pub returns-clause-parents : goal.returns-clause-parents
@@ -84,3 +91,6 @@ note_values-requires c =
 
 pub returns-clause-values : goal.returns-clause-values
 returns-clause-values c = all_valued c.args.blob.now c.loop-step.values.entries c.loop-step.step-iterator c.loop-step.invariant.3 c.in-None.ensures.steps.0
+
+pub returns-clause-children : goal.returns-clause-children
+returns-clause-children c = all_found c.args.blob.now c.loop-step.children.entries c.loop-step.step-iterator c.loop-step.invariant.4 c.in-None.ensures.steps.0

@@ -1,4 +1,4 @@
-use Rattle.std.proofs.Common.{◌≡◌, ◌≢◌, ℕ, ◌<◌, ◌≤◌, length, refl, arith}
+use Rattle.std.proofs.Common.{ℕ, ◌≤◌, length, refl, arith}
 use Rattle.dt_names.specs.Fault.{IsExclusive, IsOneRefusal}
 use Rattle.dt_names.specs.declared.fault.FaultKind.TheVariants.{NoMemory, Limit}
 use Rattle.dt_write.specs.Refusals.{WhyNoBytes}

@@ -1,35 +1,40 @@
-use Rattle.std.proofs.Common.{◌≡◌, ◌+◌, ◌<◌, ◌≤◌, ◌∙◌, ◌++◌, ◌∷◌, ℕ, List, length, sym, subst}
+use Rattle.std.proofs.Common.{◌<◌, ◌∙◌, ◌∷◌, ℕ, List, length, sym, subst, arith}
 use Rattle.std.specs.List.{AllByRecursion}
 use Rattle.std.proofs.lemmas.List.Elements.{recursion_from_All}
 use Rattle.std.proofs.lemmas.Result.{err_from_is_err_and}
-use Rattle.dt_model.specs.Tree.{Property, Forest}
-use Rattle.dt_flat.specs.Arena.{properties, name_of, children, below}
-use Rattle.dt_write.specs.Written.{begin_block}
-use Rattle.dt_write.specs.Parts.{tree_at, trees_at, nodes_size, PutsProperties, PutsNodes}
-use Rattle.dt_write.proofs.Puts.{PutsNodes-branch, below_is}
-use Rattle.dt_write.proofs.Sizes.{longer}
-use Rattle.dt_write.proofs.Left.{nodes_begin, nodes_step, node_within, properties_within, children_within, nodes_over, transitive}
+use Rattle.dt_flat.specs.Arena.{children}
+use Rattle.dt_write.specs.Parts.{HasAll, HasBelow}
+use Rattle.dt_write.proofs.Puts.{longer, transitive, nodes_begin, nodes_step, nodes_over, node_has, node_within, node_put, properties_within, children_within, below_is}
 use Rattle.dt_write.proofs.structure.+put_node.Goals as goal
+
+pub put_properties-requires : goal.put_properties-requires
+put_properties-requires t c = subst (HasAll c.args.strings.now) (sym c.props.ensures) c.requires.has.0
+
+pub put_node-requires : goal.put_node-requires
+put_node-requires t c =
+    let under : AllByRecursion (λ child. (c.args.node < child) × (child < length c.args.tree.now.slots)) (c.in-Some.child ∷ c.next.new.self) =
+    subst (λ (nodes : List ℕ). AllByRecursion (λ child. (c.args.node < child) × (child < length c.args.tree.now.slots)) nodes) c.in-Some.ensures.steps c.loop-child.invariant.below in (
+      omega (arith, under.0.0, under.0.1),
+      (
+        under.0.1,
+        node_has c.args.strings.now c.args.tree.now.slots (children c.args.tree.now.slots c.args.node) c.loop-child.child-iterator c.next.new.self c.in-Some.child c.put_properties.new.out.items c.loop-child.out.items
+            c.in-Some.ensures.steps c.loop-child.invariant.left,
+      ),
+    )
 
 pub returns-in_err-put_properties-clause-refused : goal.returns-in_err-put_properties-clause-refused
 returns-in_err-put_properties-clause-refused t c =
     let e = err_from_is_err_and c.from_residual-in_err-put_properties.result c.from_residual-in_err-put_properties.ensures.1 in
     let r = c.in_err-put_properties.ensures.refused in
-    let size = properties_within c.args.tree.now.slots c.args.node c.args.names.now c.name.result.now c.props.result c.args.out.now.items c.put_begin.new.out.items c.name.ensures c.props.ensures c.in_ok-put_begin.ensures in
+    let size = properties_within c.args.strings.now c.args.tree.now.slots c.args.node c.name.result.now c.props.result c.args.out.now.items c.put_begin.new.out.items c.name.ensures c.props.ensures c.in_ok-put_begin.ensures in
     rw (e.1, e.2) (longer c.in_err-put_properties.field-0.0.kind _ _ size r.0, r.1)
 
 pub returns-clause-put : goal.returns-clause-put
 returns-clause-put t c =
     let slots = c.args.tree.now.slots in
-    let node = c.args.node in
-    let begun = subst (λ (n : List ℕ). c.put_begin.new.out.items ≡ c.args.out.now.items ++ begin_block n) c.name.ensures c.in_ok-put_begin.ensures in
-    let own : PutsProperties (properties slots node) c.args.names.now c.put_properties.new.names c.put_begin.new.out.items c.put_properties.new.out.items =
-    subst (λ (ps : List Property). PutsProperties ps c.args.names.now c.put_properties.new.names c.put_begin.new.out.items c.put_properties.new.out.items) c.props.ensures c.in_ok-put_properties.ensures.put in
-    let inside : PutsNodes (trees_at slots (children slots node)) c.put_properties.new.names c.loop-child.names c.put_properties.new.out.items c.loop-child.out.items =
-    nodes_over slots (trees_at slots (children slots node)) c.loop-child.child-iterator c.put_properties.new.names c.loop-child.names c.put_properties.new.out.items c.loop-child.out.items c.in-None.ensures.steps.0 c.loop-child.invariant.left in
-    PutsNodes-branch (name_of slots node) (properties slots node) (below slots node) c.args.names.now c.put_properties.new.names c.loop-child.names
-    c.args.out.now.items c.put_begin.new.out.items c.put_properties.new.out.items c.loop-child.out.items c.put_word.new.out.items
-    begun own (subst (λ (f : Forest). PutsNodes f c.put_properties.new.names c.loop-child.names c.put_properties.new.out.items c.loop-child.out.items) (sym (below_is slots node)) inside) c.in_ok-put_word.ensures
+    let inside = nodes_over c.args.strings.now slots (children slots c.args.node) c.loop-child.child-iterator c.put_properties.new.out.items c.loop-child.out.items c.in-None.ensures.steps.0 c.loop-child.invariant.left in
+    node_put c.args.strings.now slots c.args.node c.name.result.now c.props.result c.args.out.now.items c.put_begin.new.out.items c.put_properties.new.out.items c.loop-child.out.items c.put_word.new.out.items
+    c.name.ensures c.props.ensures c.in_ok-put_begin.ensures c.in_ok-put_properties.ensures.put inside c.in_ok-put_word.ensures
 
 pub loop-child-init : goal.loop-child-init
 loop-child-init t c =
@@ -39,7 +44,7 @@ loop-child-init t c =
     record {
       next = tt;
       ends = tt;
-      left = nodes_begin slots all c.into_iter-child-iterator.result c.put_properties.new.names c.put_properties.new.out.items same;
+      left = nodes_begin c.args.strings.now slots all c.into_iter-child-iterator.result c.put_properties.new.out.items (subst (HasBelow c.args.strings.now) (below_is slots c.args.node) c.requires.has.1) same;
       below = subst (λ (nodes : List ℕ). AllByRecursion (λ child. (c.args.node < child) × (child < length slots)) nodes) (sym same)
           (recursion_from_All (λ child. (c.args.node < child) × (child < length slots)) all c.children-child-items.ensures.below);
     }
@@ -52,9 +57,8 @@ loop-child-preserved t c =
     record {
       next = tt;
       ends = tt;
-      left = nodes_step slots (trees_at slots (children slots c.args.node)) c.loop-child.child-iterator c.next.new.self c.in-Some.child
-          c.put_properties.new.names c.loop-child.names c.put_node.new.names c.put_properties.new.out.items c.loop-child.out.items c.put_node.new.out.items
-          c.in-Some.ensures.steps c.loop-child.invariant.left c.in_ok-put_node.ensures.put;
+      left = nodes_step c.args.strings.now slots (children slots c.args.node) c.loop-child.child-iterator c.next.new.self c.in-Some.child
+          c.put_properties.new.out.items c.loop-child.out.items c.put_node.new.out.items c.in-Some.ensures.steps c.loop-child.invariant.left c.in_ok-put_node.ensures.put;
       below = under.1;
     }
 
@@ -63,10 +67,7 @@ returns-in_err-put_node-clause-refused t c =
     let e = err_from_is_err_and c.from_residual-in_err-put_node.result c.from_residual-in_err-put_node.ensures.1 in
     let r = c.in_err-put_node.ensures.refused in
     let slots = c.args.tree.now.slots in
-    let node = c.args.node in
-    let all = children slots node in
-    let part = node_within slots (trees_at slots all) c.loop-child.child-iterator c.next.new.self c.in-Some.child c.put_properties.new.names c.loop-child.names c.put_properties.new.out.items c.loop-child.out.items
-    c.in-Some.ensures.steps c.loop-child.invariant.left in
-    let own : length c.put_properties.new.out.items + nodes_size c.put_properties.new.names (trees_at slots all) ≤ length c.args.out.now.items + nodes_size c.args.names.now (tree_at slots node) =
-    children_within slots node c.args.names.now c.put_properties.new.names c.name.result.now c.props.result c.args.out.now.items c.put_begin.new.out.items c.put_properties.new.out.items c.name.ensures c.props.ensures c.in_ok-put_begin.ensures c.in_ok-put_properties.ensures.put in
+    let all = children slots c.args.node in
+    let part = node_within c.args.strings.now slots all c.loop-child.child-iterator c.next.new.self c.in-Some.child c.put_properties.new.out.items c.loop-child.out.items c.in-Some.ensures.steps c.loop-child.invariant.left in
+    let own = children_within c.args.strings.now slots c.args.node c.name.result.now c.props.result c.args.out.now.items c.put_begin.new.out.items c.put_properties.new.out.items c.name.ensures c.props.ensures c.in_ok-put_begin.ensures c.in_ok-put_properties.ensures.put in
     rw (e.1, e.2) (longer c.in_err-put_node.field-0.0.kind _ _ (transitive _ _ _ part own) r.0, r.1)
