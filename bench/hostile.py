@@ -252,6 +252,13 @@ def hashed(timer, folder):
 # ---- names that end alike
 
 
+def random_name(made, length, number):
+    """A random name that ends with a number in four digits, so that no other has it."""
+    digits = "0123456789abcdefghijklmnopqrstuvwxyz"
+    own = "".join(digits[number // 36**place % 36] for place in range(4))
+    return base64.b32encode(made.randbytes(160)).decode()[: length - 4] + own
+
+
 def ending_alike(timer):
     """`compile` on names that are ends of each other, or differ in their first bytes alone, beside random names of the same lengths."""
     worst = 0
@@ -259,9 +266,9 @@ def ending_alike(timer):
     fronts = [f"{number:05x}{'a' * 250}" for number in range(65_000)]
     made = random.Random(2)
     for title, names in (("chains of ends", chains), ("one end of 250 bytes", fronts)):
-        while sum(len(name) + 2 for name in names) > (1 << 24) - 64:
-            names = names[:-1]
-        plain = [base64.b32encode(made.randbytes(160)).decode()[: len(name) - 5] + f"{number:05x}" for number, name in enumerate(names)]
+        while sum(len(name) + 14 for name in names) > (1 << 24) - 4096:
+            names = names[: len(names) * 99 // 100]
+        plain = [random_name(made, len(name), number) for number, name in enumerate(names)]
         for make in (properties, spread):
             took = [timer.seconds("compile", timer.file(f"{kind}.dts", make(which))) for kind, which in (("random", plain), ("alike", names))]
             ratio = float("inf") if took[1] is None else took[1] / took[0]

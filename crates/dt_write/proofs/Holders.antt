@@ -4,12 +4,13 @@ use Rattle.std.specs.Prelude.{nat_lt, nat_eq}
 use Rattle.std.specs.Borrow.{Bor}
 use Rattle.std.specs.List.{list_any, Contains}
 use Rattle.std.specs.Cmp.{IsStrictWeakOrder}
+use Rattle.std.specs.List.Sorted.{IsPermutation}
 use Rattle.std.specs.Cmp.Lexicographic.{slice_cmp, nat_list_cmp_total}
 use Rattle.std.specs.Ordering.{nat_cmp, is_lt}
 use Rattle.std.specs.Option.{unwrap_or}
 use Rattle.std.specs.Str.{bytes_eq}
 use Rattle.std.proofs.lemmas.List.{length-set, length-map, length-take-le, take-append-drop, take_more, drop_more, get_or_default, get_or-map, get_or-set_same, get_or-set_other}
-use Rattle.std.proofs.lemmas.List.Sorted.{ranks_by, IsStrictWeakOrder-flip, sorted_far, Contains-permutation, IsPermutation-sym}
+use Rattle.std.proofs.lemmas.List.Sorted.{ranks_by, IsStrictWeakOrder-flip, sorted_far, All-permutation, Contains-permutation, IsPermutation-sym}
 use Rattle.dt_model.specs.Lists.{IsIn}
 use Rattle.dt_model.specs.Names.{Name}
 use Rattle.dt_model.specs.Valid.{AreDistinct}
@@ -17,11 +18,12 @@ use Rattle.dt_model.proofs.Tests.{bytes_eq_true, each_in, each_from}
 use Rattle.dt_write.specs.declared.sharing.Row.{Row}
 use Rattle.dt_write.specs.Written.{is_end}
 use Rattle.dt_write.specs.Sharing.{ends, IsHolder}
-use Rattle.dt_write.specs.Rows.{gathered, left, rows_from, AreRows, AreHolders}
+use Rattle.dt_write.specs.Rows.{gathered, left, tail_of, rows_from, AreRows, AreHolders}
 use Rattle.dt_write.proofs.Ends.{ended, or_true}
 use Rattle.dt_write.proofs.Runs.{IsUpto, upto_names}
 use Rattle.dt_write.proofs.Kept.{longer_in}
 use Rattle.dt_write.proofs.Shortest.{not_end}
+use Rattle.dt_write.proofs.Tails.{falling, AreBytes, IsTailed, turned_bytes}
 use Rattle.dt_write.proofs.Open.{IsStored, IsFirst, AreOpen, IsNext, still_first, first_new, open_new}
 
 abbrev pub names_of_all : List (Bor (List ℕ)) → List Name
@@ -63,23 +65,23 @@ rows_count : (k : ℕ) (names : List (Bor (List ℕ))) → length (rows_from k n
 rows_count k [] = refl
 rows_count k (n ∷ names) = ap suc (rows_count (suc k) names)
 
-rows_push : (k : ℕ) (names : List (Bor (List ℕ))) (n : Bor (List ℕ)) → rows_from k (names ++ n ∷ []) ≡ rows_from k names ++ record { name = n; number = k + length names } ∷ []
-rows_push k [] n = ap (λ (m : ℕ). record { name = n; number = m } ∷ []) (omega arith)
-rows_push k (m ∷ names) n = ap (λ (rows : List Row). record { name = m; number = k } ∷ rows) (rows_push (suc k) names n ∙ ap (λ (i : ℕ). rows_from (suc k) names ++ record { name = n; number = i } ∷ []) (omega arith))
+rows_push : (k : ℕ) (names : List (Bor (List ℕ))) (n : Bor (List ℕ)) → rows_from k (names ++ n ∷ []) ≡ rows_from k names ++ record { name = n; number = k + length names; tail = tail_of n.now } ∷ []
+rows_push k [] n = ap (λ (m : ℕ). record { name = n; number = m; tail = tail_of n.now } ∷ []) (omega arith)
+rows_push k (m ∷ names) n = ap (λ (rows : List Row). record { name = m; number = k; tail = tail_of m.now } ∷ rows) (rows_push (suc k) names n ∙ ap (λ (i : ℕ). rows_from (suc k) names ++ record { name = n; number = i; tail = tail_of n.now } ∷ []) (omega arith))
 
-pub one_row_more : (names : List (Bor (List ℕ))) (i : ℕ) (d : Bor (List ℕ)) (rows new : List Row) → i < length names → rows ≡ rows_from 0 (take i names) → new ≡ rows ++ record { name = get_or names i d; number = i } ∷ []
+pub one_row_more : (names : List (Bor (List ℕ))) (i : ℕ) (d : Bor (List ℕ)) (rows new : List Row) → i < length names → rows ≡ rows_from 0 (take i names) → new ≡ rows ++ record { name = get_or names i d; number = i; tail = tail_of (get_or names i d).now } ∷ []
     → new ≡ rows_from 0 (take (i + 1) names)
 one_row_more names i d rows new lt before e =
     let x = get_or names i d in
-    e ∙ ap (λ (rs : List Row). rs ++ record { name = x; number = i } ∷ []) before
-    ∙ ap (λ (k : ℕ). rows_from 0 (take i names) ++ record { name = x; number = k } ∷ []) (omega (arith, length-take-le i names (omega (arith, lt))))
+    e ∙ ap (λ (rs : List Row). rs ++ record { name = x; number = i; tail = tail_of x.now } ∷ []) before
+    ∙ ap (λ (k : ℕ). rows_from 0 (take i names) ++ record { name = x; number = k; tail = tail_of x.now } ∷ []) (omega (arith, length-take-le i names (omega (arith, lt))))
     ∙ sym (rows_push 0 (take i names) x) ∙ ap (rows_from 0) (sym (take_more names i d lt))
 
-rows_at : (k : ℕ) (names : List (Bor (List ℕ))) (i : ℕ) (d : Row) (e : Bor (List ℕ)) → i < length names → get_or (rows_from k names) i d ≡ record { name = get_or names i e; number = k + i }
+rows_at : (k : ℕ) (names : List (Bor (List ℕ))) (i : ℕ) (d : Row) (e : Bor (List ℕ)) → i < length names → get_or (rows_from k names) i d ≡ record { name = get_or names i e; number = k + i; tail = tail_of (get_or names i e).now }
 rows_at k [] i d e lt = absurd (omega (arith, lt))
-rows_at k (n ∷ names) zero d e lt = ap (λ (m : ℕ). record { name = n; number = m }) (omega arith)
+rows_at k (n ∷ names) zero d e lt = ap (λ (m : ℕ). record { name = n; number = m; tail = tail_of n.now }) (omega arith)
 rows_at k (n ∷ names) (suc i) d e lt =
-    rows_at (suc k) names i d e (omega (arith, lt)) ∙ ap (λ (m : ℕ). record { name = get_or names i e; number = m }) (omega arith)
+    rows_at (suc k) names i d e (omega (arith, lt)) ∙ ap (λ (m : ℕ). record { name = get_or names i e; number = m; tail = tail_of (get_or names i e).now }) (omega arith)
 
 -- each row has the number of its name, and each name has a row
 pub record AreNumbered (names : List Name) (P : Row → Type 0) : Type 0 where
@@ -108,7 +110,7 @@ numbered_rows names rows are = record {
         let there : Contains first r = Contains-permutation rows first r (IsPermutation-sym first rows are.numbered) (c.place, c.lt, c.is) in
         let k = there.0 in
         let lt : k < length names = omega (arith, there.1, rows_count 0 names) in
-        let is : r ≡ record { name = get_or names k r.name; number = 0 + k } = sym there.2 ∙ rows_at 0 names k r r.name lt in
+        let is : r ≡ record { name = get_or names k r.name; number = 0 + k; tail = tail_of (get_or names k r.name).now } = sym there.2 ∙ rows_at 0 names k r r.name lt in
         let number : r.number ≡ k = ap (λ (s : Row). s.number) is ∙ omega arith in (
           omega (arith, lt, number, length-map names (λ (name : Bor (List ℕ)). name.now)),
           ap (λ (m : ℕ). get_or (names_of_all names) m []) number ∙ get_or-map (λ (name : Bor (List ℕ)). name.now) names k r.name [] lt ∙ sym (ap (λ (s : Row). s.name.now) is),
@@ -123,16 +125,13 @@ numbered_rows names rows are = record {
         by : (ns : List (Bor (List ℕ))) → names ≡ ns → (r : Row) × Came rows (length rows) r × (r.name.now ≡ get_or (names_of_all names) i []) × (r.number ≡ i)
         by [] e = absurd (omega (arith, less, ap length e))
         by (n ∷ ns) e =
-            let r : Row = record { name = get_or names i n; number = i } in
-            let there : Contains first r = (i, omega (arith, less, rows_count 0 names), rows_at 0 names i r n less ∙ ap (λ (m : ℕ). record { name = get_or names i n; number = m }) (omega arith)) in
+            let r : Row = record { name = get_or names i n; number = i; tail = tail_of (get_or names i n).now } in
+            let there : Contains first r = (i, omega (arith, less, rows_count 0 names), rows_at 0 names i r n less ∙ ap (λ (m : ℕ). record { name = get_or names i n; number = m; tail = tail_of (get_or names i n).now }) (omega arith)) in
             let c = Contains-permutation first rows r are.numbered there in
             (r, record { place = c.0; lt = c.1; is = c.2 }, sym (get_or-map (λ (name : Bor (List ℕ)). name.now) names i n [] less), refl)
 
 -- the order of the rows
-abbrev pub falling : Row → Row → Bool
-falling a b = is_lt (slice_cmp nat_cmp (reverse b.name.now) (reverse a.name.now))
-
-pub is_order : IsStrictWeakOrder falling
+is_order : IsStrictWeakOrder falling
 is_order = IsStrictWeakOrder-flip (λ (a b : Row). is_lt (slice_cmp nat_cmp (reverse a.name.now) (reverse b.name.now))) (ranks_by nat_list_cmp_total (λ (r : Row). reverse r.name.now))
 
 falls : (names : List (Bor (List ℕ))) (rows : List Row) → AreRows names rows → (i j : ℕ) (d : Row) → i ≤ j → j < length rows
@@ -301,3 +300,10 @@ holders_over names rows stack holders are held = record {
 pub row_within : (names : List (Bor (List ℕ))) (rows : List Row) (i : ℕ) (d : Row) → AreRows names rows → i < length rows → (get_or rows i d).number < length (names_of_all names)
 row_within names rows i d are lt =
     (numbered_rows names rows are).within (get_or rows i d) (record { place = i; lt = lt; is = get_or_default rows i (get_or rows i d) d lt })
+
+-- the rows have the last bytes of their names, where these are bytes
+pub all_tailed : (names : List (Bor (List ℕ))) (rows : List Row) → IsPermutation (rows_from 0 names) rows → ((i : ℕ) (d : Bor (List ℕ)) → i < length names → AreBytes (get_or names i d).now)
+    → (k : ℕ) (d : Row) → k < length rows → IsTailed (get_or rows k d)
+all_tailed names rows moved bytes = All-permutation IsTailed (rows_from 0 names) rows moved
+    (λ k d lt. let less : k < length names = omega (arith, lt, rows_count 0 names) in
+    subst IsTailed (sym (rows_at 0 names k d d.name less)) (record { tail = refl; bytes = turned_bytes (get_or names k d.name).now (bytes k d.name less) }))

@@ -1,6 +1,7 @@
 pub mod Places
 pub mod Ends
 pub mod Runs
+pub mod Tails
 pub mod Kept
 pub mod Shortest
 pub mod Open

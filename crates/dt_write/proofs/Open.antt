@@ -1,7 +1,7 @@
 -- Names in falling order of their bytes from the end, of which those stay open that no later one ends.
-use Rattle.std.proofs.Common.{◌≡◌, ℕ, suc, ◌≤◌, ◌-◌, Bool, true, false, cond, nat_eq, List, [], ◌∷◌, ◌++◌, length, reverse, take, drop, Option, Some, None, ◌⊎◌, inl, inr, refl, sym, ap, subst, ◌∙◌, arith}
-use Rattle.std.specs.Prelude.{nat_lt, IsTrue}
-use Rattle.std.specs.List.{AllByRecursion, ends_with, slice_get}
+use Rattle.std.proofs.Common.{◌≡◌, ℕ, suc, ◌≤◌, ◌<◌, ◌-◌, Bool, true, false, cond, List, [], ◌∷◌, ◌++◌, length, reverse, take, drop, Option, Some, None, ◌⊎◌, inl, inr, refl, sym, ap, subst, ◌∙◌, arith}
+use Rattle.std.specs.Prelude.{nat_lt}
+use Rattle.std.specs.List.{AllByRecursion, slice_get}
 use Rattle.std.specs.Str.{bytes_eq}
 use Rattle.std.specs.Option.{unwrap_or}
 use Rattle.std.proofs.lemmas.List.{length-append, reverse-append, take-append-drop, drop_at}
@@ -164,20 +164,30 @@ none_last (y ∷ []) e = absurd cc
 none_last (y ∷ z ∷ zs) e = absurd (let h = none_last (z ∷ zs) (shorter y z zs ∙ e) in cc)
 
 -- the name that the code finds to end another, or not
-pub ends_with_is : (b : Bool) (n m : Name) → (IsTrue b → length n ≤ length m) → b ≡ ends_with nat_eq m n → ends n m ≡ b
-ends_with_is true n m bound e =
-    let same : n ≡ drop (length m - length n) m = bytes_eq_true n (drop (length m - length n) m) (sym e) in
-    let whole : m ≡ take (length m - length n) m ++ n = sym (take-append-drop (length m - length n) m) ∙ ap (λ (x : Name). take (length m - length n) m ++ x) (sym same) in
-    subst (λ (x : Name). ends n x ≡ true) (sym whole) (ends_own (take (length m - length n) m) n)
-ends_with_is false n m bound e = by (ends n m) refl
+pub end_is : (n m : Name) → length n ≤ length m → ends n m ≡ bytes_eq (drop (length m - length n) m) n
+end_is n m le = by (bytes_eq (drop (length m - length n) m) n) refl
   where
-    by : (t : Bool) → ends n m ≡ t → t ≡ false
-    by false k = refl
-    by true k =
-        let h = ends_of n m k in
-        let size : length h.front ≡ length m - length n = omega (arith, ap length h.is, length-append h.front n) in
-        let rest : drop (length m - length n) m ≡ n = ap (drop (length m - length n)) h.is ∙ drop_at h.front n (length m - length n) size in
-        absurd (let f : false ≡ true = e ∙ ap (bytes_eq n) rest ∙ bytes_eq_refl n in cc)
+    by : (b : Bool) → bytes_eq (drop (length m - length n) m) n ≡ b → ends n m ≡ b
+    by true e =
+        let same : drop (length m - length n) m ≡ n = bytes_eq_true (drop (length m - length n) m) n e in
+        let whole : m ≡ take (length m - length n) m ++ n = sym (take-append-drop (length m - length n) m) ∙ ap (λ (x : Name). take (length m - length n) m ++ x) same in
+        subst (λ (x : Name). ends n x ≡ true) (sym whole) (ends_own (take (length m - length n) m) n)
+    by false e = other (ends n m) refl
+      where
+        other : (t : Bool) → ends n m ≡ t → t ≡ false
+        other false k = refl
+        other true k =
+            let h = ends_of n m k in
+            let size : length h.front ≡ length m - length n = omega (arith, ap length h.is, length-append h.front n) in
+            let rest : drop (length m - length n) m ≡ n = ap (drop (length m - length n)) h.is ∙ drop_at h.front n (length m - length n) size in
+            absurd (let f : true ≡ false = sym (ap (λ (x : Name). bytes_eq x n) rest ∙ bytes_eq_refl n) ∙ e in cc)
+
+pub no_end : (n m : Name) → length m < length n → ends n m ≡ false
+no_end n m lt = other (ends n m) refl
+  where
+    other : (t : Bool) → ends n m ≡ t → t ≡ false
+    other false k = refl
+    other true k = let h = ends_of n m k in absurd (omega (arith, lt, ap length h.is, length-append h.front n))
 
 pub taken_step : (x : Name) (acc : Option ℕ) (stack new : List Row) (last : Row) → stack ≡ new ++ last ∷ [] → ends x last.name.now ≡ true
     → (gathered x (Some (lesser acc last.number)) (reverse new) ≡ gathered x acc (reverse stack)) × (left x (reverse new) ≡ left x (reverse stack))

@@ -1,5 +1,5 @@
 -- Names with their numbers, in falling order of their bytes from the end.
-use Rattle.std.specs.Prelude.{◌≡◌, ℕ, suc, ◌<◌, ◌≤◌, nat_lt, List, [], ◌∷◌, length, reverse, take, Option, Some, None, if◌then◌else◌, slice_index_or}
+use Rattle.std.specs.Prelude.{◌≡◌, ℕ, zero, suc, ◌+◌, ◌*◌, ◌<◌, ◌≤◌, nat_lt, List, [], ◌∷◌, length, reverse, take, Option, Some, None, if◌then◌else◌, slice_index_or}
 use Rattle.std.specs.Borrow.{Bor}
 use Rattle.std.specs.Cmp.Lexicographic.{slice_cmp}
 use Rattle.std.specs.List.{flat_map}
@@ -12,10 +12,18 @@ use Rattle.dt_write.specs.declared.sharing.Row.{Row}
 use Rattle.dt_write.specs.Written.{kept_of, offset_of, strings_block}
 use Rattle.dt_write.specs.Sharing.{ends, IsHolder}
 
+-- so many bytes from the front on as a number, zeros where there are fewer
+abbrev pub leading : List ℕ → ℕ → ℕ
+leading bytes zero = 0
+leading bytes (suc count) = leading bytes count * 256 + slice_index_or bytes count 0
+
+abbrev pub tail_of : Name → ℕ
+tail_of name = leading (reverse name) 8
+
 -- names with their numbers, of which the first is given
 abbrev pub rows_from : ℕ → List (Bor (List ℕ)) → List Row
 rows_from number [] = []
-rows_from number (name ∷ names) = record { name = name; number = number } ∷ rows_from (suc number) names
+rows_from number (name ∷ names) = record { name = name; number = number; tail = tail_of name.now } ∷ rows_from (suc number) names
 
 -- the rows are the names with their numbers, and the name of each is no later than those before it, by their bytes from the end
 pub record AreRows (names : List (Bor (List ℕ))) (rows : List Row) : Type 0 where

@@ -15,15 +15,15 @@ pub index_mut-requires : goal.index_mut-requires
 index_mut-requires c =
     let rows = c.deref-row-items.result.now in
     let are : AreRows c.args.names.now rows = subst (AreRows c.args.names.now) (sym c.deref-row-items.ensures.value) c.in_ok-rows.ensures in
-    omega (arith, row_within c.args.names.now rows c.loop-row.row-index (record { name = record { ref_ptr = (0, 0); now = [] }; number = 0 }) are c.loop-row-test.true, c.loop-row.invariant.size, c.loop-row.holders.ok)
+    omega (arith, row_within c.args.names.now rows c.loop-row.row-index (record { name = record { ref_ptr = (0, 0); now = [] }; number = 0; tail = 0 }) are c.loop-row-test.true, c.loop-row.invariant.size, c.loop-row.holders.ok)
 
 pub loop-row-preserved : goal.loop-row-preserved
 loop-row-preserved c =
     let rows = c.deref-row-items.result.now in
     let i = c.loop-row.row-index in
-    let none : Row = record { name = record { ref_ptr = (0, 0); now = [] }; number = 0 } in
+    let none : Row = record { name = record { ref_ptr = (0, 0); now = [] }; number = 0; tail = 0 } in
     let x : Row = get_or rows i none in
-    let top : Row = record { name = x.name; number = c.take_ended-holder.result } in
+    let top : Row = record { name = x.name; number = c.take_ended-holder.result; tail = x.tail } in
     let are : AreRows c.args.names.now rows = subst (AreRows c.args.names.now) (sym c.deref-row-items.ensures.value) c.in_ok-rows.ensures in
     let turned : reverse c.push.new.self.items ≡ top ∷ left x.name.now (reverse c.loop-row.stack.items) =
     ap reverse c.in_ok-push.ensures.items ∙ reverse-append c.take_ended-holder.new.stack.items (top ∷ []) ∙ ap (λ (s : List Row). top ∷ s) c.take_ended-holder.ensures.left in
