@@ -50,6 +50,7 @@ fn call_on_trees(
         "dma" | "spec" => resolving::ask_node(alloc, name, words, input, out),
         "node-at" => resolving::node(words, input, out),
         "views" => resolving::views(alloc, input, out),
+        "paths" => resolving::paths(alloc, input, out),
         "fixups" | "local-fixups" => marks::call(alloc, name, input, out),
         "still" => {
             out.tell(still::answered(alloc, words, input)?);

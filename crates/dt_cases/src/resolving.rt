@@ -95,6 +95,26 @@ pub fn views(alloc: Global, blob: &[u8], out: &mut Outcome) -> Result<(), Stop> 
     Ok(())
 }
 
+/// Tells how many nodes a blob has, each of which its index finds by its path.
+pub fn paths(alloc: Global, blob: &[u8], out: &mut Outcome) -> Result<(), Stop> {
+    let blob = Blob::check(blob)?;
+    let index = Index::new(alloc, &blob)?;
+    let tree = blob.to_flat(alloc)?;
+    for node in 0..tree.node_count() {
+        find(alloc, &index, &tree, node)?;
+    }
+    let count = tree.node_count();
+    writeln!(out.lines(), "{count}");
+    Ok(())
+}
+
+fn find(alloc: Global, index: &Index<'_>, tree: &FlatTree, node: NodeId) -> Result<NodeId, Stop>
+    requires { node < length tree.now.slots }
+{
+    let text = text_of(alloc, &tree.path(alloc, node)?)?;
+    Ok(index.node_at(&text)?)
+}
+
 /// Tells a node of which the three views answer differently, or which the index finds by another path.
 fn compare_at(
     alloc: Global,
