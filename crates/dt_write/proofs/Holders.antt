@@ -53,6 +53,16 @@ one_place (x ∷ xs) zero (suc j) d ds p q e = absurd (each_in (λ y. y ≢ x) x
 one_place (x ∷ xs) (suc i) zero d ds p q e = absurd (each_in (λ y. y ≢ x) xs (get_or xs i d) ds.0 (in_at xs i d (omega (arith, p))) e)
 one_place (x ∷ xs) (suc i) (suc j) d ds p q e = ap suc (one_place xs i j d ds.1 (omega (arith, p)) (omega (arith, q)) e)
 
+-- names that are lent, by their numbers
+pub lent_at : (names : List (Bor (List ℕ))) (i : ℕ) → i < length names → get_or (names_of_all names) i [] ≡ (get_or names i (record { ref_ptr = (0, 0); now = [] })).now
+lent_at names i lt = get_or-map (λ (name : Bor (List ℕ)). name.now) names i (record { ref_ptr = (0, 0); now = [] }) [] lt
+
+pub lent_within : (names : List (Bor (List ℕ))) (i : ℕ) → i < length names → i < length (names_of_all names)
+lent_within names i lt = omega (arith, lt, length-map names (λ (name : Bor (List ℕ)). name.now))
+
+pub lent_all : (names : List (Bor (List ℕ))) (i : ℕ) → length names ≤ i → i ≤ length names → i ≡ length (names_of_all names)
+lent_all names i over upto = omega (arith, over, upto, length-map names (λ (name : Bor (List ℕ)). name.now))
+
 -- ---- the rows
 
 -- the row is among the first so many

@@ -1,10 +1,10 @@
 -- The names that are stored, one after the other, and the offsets of all.
-use Rattle.std.proofs.Common.{◌≡◌, ◌≢◌, ℕ, ◌+◌, ◌-◌, ◌<◌, ◌≤◌, Bool, true, false, cond, ◌||◌, List, [], ◌∷◌, ◌++◌, length, take, drop, get_or, inl, refl, sym, ap, subst, ◌∙◌, arith}
+use Rattle.std.proofs.Common.{◌≡◌, ◌≢◌, ℕ, ◌+◌, ◌-◌, ◌<◌, ◌≤◌, Bool, true, false, cond, ◌||◌, List, [], ◌∷◌, ◌++◌, length, take, drop, get_or, inl, refl, sym, ap, subst, ◌∙◌, append_assoc, arith}
 use Rattle.std.specs.Prelude.{nat_lt}
 use Rattle.std.specs.Borrow.{Bor}
 use Rattle.std.specs.List.{flat_map, list_any, AllByRecursion}
 use Rattle.std.specs.Str.{bytes_eq}
-use Rattle.std.proofs.lemmas.List.{append-nil, length-append, length_push, take-append-drop, take_at, take_all, take_more, drop_more, get_or_at, get_or_push, get_or_append_left}
+use Rattle.std.proofs.lemmas.List.{append-nil, length-append, length_push, take-append-drop, take_at, take_all, take_more, drop_more, get_or_at, get_or_push, get_or_append_left, get_or_default, length-map}
 use Rattle.std.proofs.lemmas.List.Concat.{flat_map-append}
 use Rattle.dt_model.specs.Format.{IsText}
 use Rattle.dt_model.specs.Lists.{IsIn}
@@ -14,11 +14,11 @@ use Rattle.dt_model.proofs.Tests.{bytes_eq_true, each_in, in_right}
 use Rattle.dt_model_format.specs.Strings.{terminated}
 use Rattle.dt_write.specs.Written.{is_end, kept_of, strings_block, offset_of}
 use Rattle.dt_write.specs.Sharing.{ends, IsHolder, IsInFirst}
-use Rattle.dt_write.specs.Rows.{AreHolders, AreStarts, AreOffsets}
+use Rattle.dt_write.specs.Rows.{AreHolders, AreStarts}
 use Rattle.dt_write.proofs.Ends.{Ends, ends_of}
 use Rattle.dt_write.proofs.Kept.{offset_in_first}
 use Rattle.dt_write.proofs.Shortest.{not_end}
-use Rattle.dt_write.proofs.Holders.{names_of_all, in_at, one_place}
+use Rattle.dt_write.proofs.Holders.{names_of_all, lent_at, in_at, one_place}
 
 pub kept-append : (all xs ys : List Name) → kept_of all (xs ++ ys) ≡ kept_of all xs ++ kept_of all ys
 kept-append all [] ys = refl
@@ -82,19 +82,18 @@ other_stored names holders i distinct are lt differs = by (list_any (is_end x) n
 
 -- ---- storing one after the other
 
--- of so many names: where each starts, those that are stored, and how many bytes they take
-pub record AreStored (names : List Name) (count : ℕ) (starts : List ℕ) (strings : List Name) (bytes : ℕ) : Type 0 where
+-- of so many names: where each starts, and how many bytes the stored ones take
+pub record AreStored (names : List Name) (count : ℕ) (starts : List ℕ) (bytes : ℕ) : Type 0 where
   pub begun : length starts ≡ count
   pub each : (i : ℕ) → i < count → get_or starts i 0 ≡ taken_by names (take i names)
-  pub stored : strings ≡ kept_of names (take count names)
   pub size : bytes ≡ taken_by names (take count names)
   pub short : bytes ≤ 16777216
 
-pub none_stored : (names : List Name) → AreStored names 0 [] [] 0
-none_stored names = record { begun = refl; each = λ i lt. absurd (omega (arith, lt)); stored = refl; size = refl; short = omega arith }
+pub none_stored : (names : List Name) → AreStored names 0 [] 0
+none_stored names = record { begun = refl; each = λ i lt. absurd (omega (arith, lt)); size = refl; short = omega arith }
 
-starts_more : (names : List Name) (count : ℕ) (starts : List ℕ) (stored : List Name) (size : ℕ) → AreStored names count starts stored size → (i : ℕ) → i < count + 1 → get_or (starts ++ size ∷ []) i 0 ≡ taken_by names (take i names)
-starts_more names count starts stored size so_far i lt = by (nat_lt i count) refl
+starts_more : (names : List Name) (count : ℕ) (starts : List ℕ) (size : ℕ) → AreStored names count starts size → (i : ℕ) → i < count + 1 → get_or (starts ++ size ∷ []) i 0 ≡ taken_by names (take i names)
+starts_more names count starts size so_far i lt = by (nat_lt i count) refl
   where
     by : (b : Bool) → nat_lt i count ≡ b → get_or (starts ++ size ∷ []) i 0 ≡ taken_by names (take i names)
     by true e = let less : i < count = grind (arith, e) in get_or_append_left starts (size ∷ []) 0 i (omega (arith, less, so_far.begun)) ∙ so_far.each i less
@@ -105,44 +104,65 @@ starts_more names count starts stored size so_far i lt = by (nat_lt i count) ref
 more_taken : (names : List Name) (i : ℕ) → i < length names → taken_by names (take (i + 1) names) ≡ taken_by names (take i names) + taken_by names (get_or names i [] ∷ [])
 more_taken names i lt = ap (taken_by names) (take_more names i [] lt) ∙ taken-append names (take i names) (get_or names i [] ∷ [])
 
-more_kept : (names : List Name) (i : ℕ) → i < length names → kept_of names (take (i + 1) names) ≡ kept_of names (take i names) ++ kept_of names (get_or names i [] ∷ [])
-more_kept names i lt = ap (kept_of names) (take_more names i [] lt) ∙ kept-append names (take i names) (get_or names i [] ∷ [])
-
-pub one_stored : (names : List Name) (i : ℕ) (x : Name) (starts : List ℕ) (stored : List Name) (size : ℕ) → i < length names → get_or names i [] ≡ x → list_any (is_end x) names ≡ false → size + (length x + 1) ≤ 16777216
-    → AreStored names i starts stored size → AreStored names (i + 1) (starts ++ size ∷ []) (stored ++ x ∷ []) (size + (length x + 1))
-one_stored names i x starts stored size lt at e fits so_far = record {
+pub one_stored : (names : List Name) (i : ℕ) (x : Name) (starts : List ℕ) (size : ℕ) → i < length names → get_or names i [] ≡ x → list_any (is_end x) names ≡ false → size + (length x + 1) ≤ 16777216
+    → AreStored names i starts size → AreStored names (i + 1) (starts ++ size ∷ []) (size + (length x + 1))
+one_stored names i x starts size lt at e fits so_far = record {
   begun = length_push starts size ∙ ap (λ (k : ℕ). k + 1) so_far.begun;
-  each = starts_more names i starts stored size so_far;
-  stored = sym (more_kept names i lt ∙ ap (λ (n : Name). kept_of names (take i names) ++ kept_of names (n ∷ [])) at ∙ ap (λ (l : List Name). kept_of names (take i names) ++ l) (one_kept names x e) ∙ ap (λ (l : List Name). l ++ x ∷ []) (sym so_far.stored));
+  each = starts_more names i starts size so_far;
   size = omega (arith, so_far.size, more_taken names i lt, ap (λ (n : Name). taken_by names (n ∷ [])) at, one_taken names x e);
   short = fits;
 }
 
-pub one_passed : (names : List Name) (i : ℕ) (starts : List ℕ) (stored : List Name) (size : ℕ) → i < length names → list_any (is_end (get_or names i [])) names ≡ true
-    → AreStored names i starts stored size → AreStored names (i + 1) (starts ++ size ∷ []) stored size
-one_passed names i starts stored size lt e so_far = record {
+pub one_passed : (names : List Name) (i : ℕ) (starts : List ℕ) (size : ℕ) → i < length names → list_any (is_end (get_or names i [])) names ≡ true → AreStored names i starts size → AreStored names (i + 1) (starts ++ size ∷ []) size
+one_passed names i starts size lt e so_far = record {
   begun = length_push starts size ∙ ap (λ (k : ℕ). k + 1) so_far.begun;
-  each = starts_more names i starts stored size so_far;
-  stored = so_far.stored ∙ sym (append-nil (kept_of names (take i names))) ∙ ap (λ (l : List Name). kept_of names (take i names) ++ l) (sym (none_kept names (get_or names i []) e)) ∙ sym (more_kept names i lt);
+  each = starts_more names i starts size so_far;
   size = omega (arith, so_far.size, more_taken names i lt, ap (λ (l : List Name). length (flat_map terminated l)) (none_kept names (get_or names i []) e));
   short = so_far.short;
 }
 
 -- with the next one the names that are stored are no more than all
-pub no_more_than_all : (names : List Name) (i : ℕ) (starts : List ℕ) (stored : List Name) (size : ℕ) → i < length names → list_any (is_end (get_or names i [])) names ≡ false → AreStored names i starts stored size
+pub no_more_than_all : (names : List Name) (i : ℕ) (starts : List ℕ) (size : ℕ) → i < length names → list_any (is_end (get_or names i [])) names ≡ false → AreStored names i starts size
     → size + (length (get_or names i []) + 1) ≤ length (strings_block names)
-no_more_than_all names i starts stored size lt e so_far =
+no_more_than_all names i starts size lt e so_far =
     let x = get_or names i [] in
     let split : taken_by names names ≡ taken_by names (take (i + 1) names) + taken_by names (drop (i + 1) names) = ap (taken_by names) (sym (take-append-drop (i + 1) names)) ∙ taken-append names (take (i + 1) names) (drop (i + 1) names) in
     omega (arith, so_far.size, more_taken names i lt, one_taken names x e, split)
 
-pub all_stored : (names : List Name) (i : ℕ) (starts : List ℕ) (stored : List Name) (size : ℕ) → i ≡ length names → AreStored names i starts stored size → AreStarts names starts × (stored ≡ kept_of names names) × (size ≡ length (strings_block names))
-all_stored names i starts stored size e so_far =
-    let all : take i names ≡ names = take_all i names (omega (arith, e)) in (
-      record { count = so_far.begun ∙ e; each = λ k lt. so_far.each k (omega (arith, lt, e)) },
-      so_far.stored ∙ ap (kept_of names) all,
-      so_far.size ∙ ap (taken_by names) all,
-    )
+pub all_stored : (names : List Name) (i : ℕ) (starts : List ℕ) (size : ℕ) → i ≡ length names → AreStored names i starts size → AreStarts names starts × (size ≡ length (strings_block names))
+all_stored names i starts size e so_far =
+    let all : take i names ≡ names = take_all i names (omega (arith, e)) in
+    (record { count = so_far.begun ∙ e; each = λ k lt. so_far.each k (omega (arith, lt, e)) }, so_far.size ∙ ap (taken_by names) all)
+
+-- ---- the strings, one after the other
+
+-- what is put of so many names
+abbrev pub strings_to : List Name → ℕ → List ℕ
+strings_to names count = flat_map terminated (kept_of names (take count names))
+
+strings_more : (names : List Name) (i : ℕ) → i < length names → strings_to names (i + 1) ≡ strings_to names i ++ flat_map terminated (kept_of names (get_or names i [] ∷ []))
+strings_more names i lt =
+    ap (λ (l : List Name). flat_map terminated l) (ap (kept_of names) (take_more names i [] lt) ∙ kept-append names (take i names) (get_or names i [] ∷ []))
+    ∙ flat_map-append terminated (kept_of names (take i names)) (kept_of names (get_or names i [] ∷ []))
+
+pub one_string : (names : List Name) (i : ℕ) (x : Name) (old before named after : List ℕ) → i < length names → get_or names i [] ≡ x → list_any (is_end x) names ≡ false → before ≡ old ++ strings_to names i
+    → named ≡ before ++ x → after ≡ named ++ 0 ∷ [] → after ≡ old ++ strings_to names (i + 1)
+one_string names i x old before named after lt at e is put ended =
+    let own : flat_map terminated (kept_of names (get_or names i [] ∷ [])) ≡ terminated x =
+    ap (λ (n : Name). flat_map terminated (kept_of names (n ∷ []))) at ∙ ap (flat_map terminated) (one_kept names x e) ∙ append-nil (terminated x) in
+    ended ∙ ap (λ (w : List ℕ). w ++ 0 ∷ []) (put ∙ ap (λ (w : List ℕ). w ++ x) is) ∙ regroup old (strings_to names i) x (0 ∷ [])
+    ∙ ap (λ (w : List ℕ). old ++ w) (sym (strings_more names i lt ∙ ap (λ (w : List ℕ). strings_to names i ++ w) own))
+  where
+    regroup : (a b c d : List ℕ) → ((a ++ b) ++ c) ++ d ≡ a ++ (b ++ (c ++ d))
+    regroup a b c d = simp append_assoc
+
+pub no_string : (names : List Name) (i : ℕ) (old before : List ℕ) → i < length names → list_any (is_end (get_or names i [])) names ≡ true → before ≡ old ++ strings_to names i → before ≡ old ++ strings_to names (i + 1)
+no_string names i old before lt e is =
+    is ∙ ap (λ (w : List ℕ). old ++ w)
+    (sym (strings_more names i lt ∙ ap (λ (l : List Name). strings_to names i ++ flat_map terminated l) (none_kept names (get_or names i []) e) ∙ append-nil (strings_to names i)))
+
+pub all_strings : (names : List Name) (i : ℕ) → i ≡ length names → strings_to names i ≡ strings_block names
+all_strings names i e = ap (λ (l : List Name). flat_map terminated (kept_of names l)) (take_all i names (omega (arith, e)))
 
 -- ---- offsets
 
@@ -219,30 +239,35 @@ placed names holders starts i texts held begun lt = record {
       is = refl;
     }
 
--- the offsets of so many names
-pub record ArePlaced (names : List Name) (some : ℕ) (offsets : List ℕ) : Type 0 where
-  pub count : length offsets ≡ some
-  pub each : (i : ℕ) → i < some → get_or offsets i 0 ≡ offset_of names (get_or names i [])
+-- what the code adds and takes to find where a name begins
+pub record IsOffset (names : List Name) (name : Name) (start size : ℕ) : Type 0 where
+  pub inside : start + size ≤ length (strings_block names)
+  pub longer : length name ≤ size
+  pub is : start + size - length name ≡ offset_of names name
 
-pub none_placed : (names : List Name) → ArePlaced names 0 []
-none_placed names = record { count = refl; each = λ i lt. absurd (omega (arith, lt)) }
-
-pub one_placed : (names : List Name) (count : ℕ) (offsets : List ℕ) (o : ℕ) → o ≡ offset_of names (get_or names count []) → ArePlaced names count offsets → ArePlaced names (count + 1) (offsets ++ o ∷ [])
-one_placed names count offsets o is so_far = record {
-  count = length_push offsets o ∙ ap (λ (k : ℕ). k + 1) so_far.count;
-  each = λ i lt. by i lt (nat_lt i count) refl;
+pub offset_by : (names : List Name) (holders starts : List ℕ) (lent : List (Bor (List ℕ))) (i h s : ℕ) (name : Name) → AllByRecursion IsText names → AreHolders names holders → AreStarts names starts
+    → names_of_all lent ≡ names → i < length names → get_or names i [] ≡ name → h ≡ get_or holders i h → s ≡ get_or starts h s → IsOffset names name s (length (get_or lent h (record { ref_ptr = (0, 0); now = [] })).now)
+offset_by names holders starts lent i h s name texts held begun all lt at own first = record {
+  inside = omega (arith, start, size, p.inside);
+  longer = omega (arith, size, p.longer, ap length at);
+  is = omega (arith, start, size, ap length at) ∙ p.is ∙ ap (offset_of names) at;
 }
   where
-    by : (i : ℕ) → i < count + 1 → (b : Bool) → nat_lt i count ≡ b → get_or (offsets ++ o ∷ []) i 0 ≡ offset_of names (get_or names i [])
-    by i lt true e = let less : i < count = grind (arith, e) in get_or_append_left offsets (o ∷ []) 0 i (omega (arith, less, so_far.count)) ∙ so_far.each i less
-    by i lt false e =
-        let same : i ≡ count = grind (arith, e, lt) in
-        get_or_push offsets o 0 i (so_far.count ∙ sym same) ∙ is ∙ ap (λ (k : ℕ). offset_of names (get_or names k [])) (sym same)
+    p : IsPlaced names starts i (get_or holders i 0)
+    p = placed names holders starts i texts held begun lt
 
-pub all_placed : (names : List Name) (count : ℕ) (offsets : List ℕ) → count ≡ length names → ArePlaced names count offsets → AreOffsets names offsets
-all_placed names count offsets e so_far = record { count = so_far.count ∙ e; each = λ i lt. so_far.each i (omega (arith, lt, e)) }
+    holder : h ≡ get_or holders i 0
+    holder = own ∙ get_or_default holders i h 0 (omega (arith, lt, held.count))
 
--- names that are lent, each with its NUL
-pub all_terminated : (names : List (Bor (List ℕ))) → flat_map (λ (name : Bor (List ℕ)). terminated name.now) names ≡ flat_map terminated (names_of_all names)
-all_terminated [] = refl
-all_terminated (n ∷ names) = ap (λ (w : List ℕ). terminated n.now ++ w) (all_terminated names)
+    start : s ≡ get_or starts (get_or holders i 0) 0
+    start = first ∙ ap (λ (k : ℕ). get_or starts k s) holder ∙ get_or_default starts (get_or holders i 0) s 0 (omega (arith, p.within, begun.count))
+
+    there : h < length lent
+    there = omega (arith, holder, p.within, ap length all, length-map lent (λ (name : Bor (List ℕ)). name.now))
+
+    size : length (get_or lent h (record { ref_ptr = (0, 0); now = [] })).now ≡ length (get_or names (get_or holders i 0) [])
+    size = ap length (sym (lent_at lent h there) ∙ (λ j. get_or (all j) (holder j) []))
+
+-- what the code reads as a name's holder
+pub owner_is : (names : List Name) (holders : List ℕ) (i h : ℕ) → AreHolders names holders → i < length names → h ≡ get_or holders i h → h ≡ get_or holders i 0
+owner_is names holders i h held lt e = e ∙ get_or_default holders i h 0 (omega (arith, lt, held.count))

@@ -2,14 +2,15 @@
 use Rattle.std.specs.Prelude.{◌≡◌, ℕ, zero, suc, ◌+◌, ◌*◌, ◌<◌, ◌≤◌, nat_lt, List, [], ◌∷◌, length, reverse, take, Option, Some, None, if◌then◌else◌, slice_index_or}
 use Rattle.std.specs.Borrow.{Bor}
 use Rattle.std.specs.Cmp.Lexicographic.{slice_cmp}
-use Rattle.std.specs.List.{flat_map}
+use Rattle.std.specs.List.{flat_map, AllByRecursion}
 use Rattle.std.specs.List.Sorted.{IsPermutation, IsSortedBy}
 use Rattle.std.specs.Ordering.{nat_cmp, is_lt}
+use Rattle.dt_model.specs.Format.{IsText}
 use Rattle.dt_model.specs.Limits.{most_bytes}
 use Rattle.dt_model.specs.Names.{Name}
 use Rattle.dt_model_format.specs.Strings.{terminated}
 use Rattle.dt_write.specs.declared.sharing.Row.{Row}
-use Rattle.dt_write.specs.Written.{kept_of, offset_of, strings_block}
+use Rattle.dt_write.specs.Written.{kept_of, strings_block}
 use Rattle.dt_write.specs.Sharing.{ends, IsHolder}
 
 -- so many bytes from the front on as a number, zeros where there are fewer
@@ -55,14 +56,10 @@ pub record AreStarts (names : List Name) (starts : List ℕ) : Type 0 where
   pub count : length starts ≡ length names
   pub each : (i : ℕ) → i < length names → slice_index_or starts i 0 ≡ length (flat_map terminated (kept_of names (take i names)))
 
--- each name has its offset
-pub record AreOffsets (names : List Name) (offsets : List ℕ) : Type 0 where
-  pub count : length offsets ≡ length names
-  pub each : (i : ℕ) → i < length names → slice_index_or offsets i 0 ≡ offset_of names (slice_index_or names i [])
-
 -- the strings block of the names, which fits a blob
-pub record AreStrings (names : List Name) (places : List ℕ) (strings : List Name) (bytes : ℕ) : Type 0 where
-  pub offsets : AreOffsets names places
-  pub stored : strings ≡ kept_of names names
+pub record AreStrings (names : List Name) (owners begins : List ℕ) (bytes : ℕ) : Type 0 where
+  pub texts : AllByRecursion IsText names
+  pub holders : AreHolders names owners
+  pub starts : AreStarts names begins
   pub size : bytes ≡ length (strings_block names)
   pub short : bytes ≤ most_bytes
