@@ -162,7 +162,7 @@ def compare(tool, path, runs):
         return ("dtool refuses" if ours[1] else "compiles") + (", dtc refuses" if theirs[1] else ", dtc compiles"), ours[2], None
     with open(path, "rb") as source:
         found = difference(Tree(ours[0]), Tree(theirs[0]), moved_names(source.read()))
-    ratio = ours[3] / theirs[3], peak(commands[0]) / peak(commands[1]), path, len(ours[0]), len(theirs[0])
+    ratio = ours[3] / theirs[3], peak(commands[0]) / peak(commands[1]), path, ours[0], theirs[0]
     return "the same" if found is None else "other", found, ratio
 
 
@@ -188,8 +188,10 @@ def main():
         parts = sorted((r[which], r[2]) for r in ratios)
         if parts:
             print(f"{name} beside dtc's: median {parts[len(parts) // 2][0]:.2f}, worst {parts[-1][0]:.2f} ({os.path.relpath(parts[-1][1], folder)})")
-    longer = [path for _, _, path, own, other in ratios if own > other]
-    print(f"blobs: {sum(r[3] for r in ratios)} bytes, dtc's {sum(r[4] for r in ratios)}; {len(longer)} longer than dtc's {longer[:3]}")
+    longer = [path for _, _, path, own, other in ratios if len(own) > len(other)]
+    alike = [path for _, _, path, own, other in ratios if len(own) > len(other) and own[36:40] == other[36:40]]
+    print(f"blobs: {sum(len(r[3]) for r in ratios)} bytes, dtc's {sum(len(r[4]) for r in ratios)}; {len(longer)} longer than dtc's, "
+          f"of which {len(alike)} have no more in their structure blocks {alike[:3]}")
 
 
 if __name__ == "__main__":
