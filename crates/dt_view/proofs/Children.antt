@@ -1,10 +1,9 @@
 -- The table of children, as it is filled on the way through a tree.
-use Rattle.std.proofs.Common.{◌≡◌, ◌≢◌, ◌⊎◌, ℕ, ◌&&◌, nat_eq, Bool, true, false, cond, List, [], ◌∷◌, ◌++◌, map, Option, Some, None, Bor, refl, sym, ap, subst, ◌∙◌, inl, inr, append_assoc, true≢false}
+use Rattle.std.proofs.Common.{◌≡◌, ◌≢◌, ◌⊎◌, ℕ, ◌&&◌, nat_eq, Bool, true, false, cond, List, [], ◌∷◌, ◌++◌, map, Option, Some, None, refl, sym, ap, subst, ◌∙◌, inl, inr, append_assoc, true≢false}
 use Rattle.std.specs.Prelude.{is_some}
 use Rattle.std.specs.HashMap.{HashMap, UpdatesBy}
-use Rattle.std.specs.Map.{lookup}
 use Rattle.std.specs.Str.{bytes_eq}
-use Rattle.std.proofs.lemmas.Bool.{eqb-true, eq-eqb}
+use Rattle.std.proofs.lemmas.Bool.{eq-eqb}
 use Rattle.std.proofs.lemmas.List.{append-nil, map-append, same_from_push}
 use Rattle.std.proofs.lemmas.Slice.Eq.{bytes_eq-Decides}
 use Rattle.dt_model.specs.Lists.{IsIn}
@@ -14,7 +13,7 @@ use Rattle.dt_model.specs.Tree.{Property, Placed, preorder, nodes_of}
 use Rattle.dt_model.specs.Valid.{IsValid}
 use Rattle.dt_model.proofs.Listed.{stands_listed}
 use Rattle.dt_model.proofs.Tests.{in_append}
-use Rattle.dt_read.specs.Placed.{Nodes, no_nodes, node, forest_of, PlacedTree, reading_of, path_at, place_of, last_name, HasPlacesApart, IsAt, IsNode}
+use Rattle.dt_read.specs.Placed.{Nodes, no_nodes, node, forest_of, PlacedTree, reading_of, path_at, place_of, last_name, HasPlacesApart, IsNode}
 use Rattle.dt_read.specs.Walked.{Step, opens, holds, closes, steps_of_nodes, steps_of}
 use Rattle.dt_read.proofs.NodePlaces.{path_is, stands_place}
 use Rattle.dt_resolve_model.specs.Above.{front}

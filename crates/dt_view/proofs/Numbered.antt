@@ -3,11 +3,10 @@ use Rattle.std.proofs.Common.{◌≡◌, ℕ, Bool, true, false, List, [], ◌�
 use Rattle.std.specs.Prelude.{if◌then◌else◌}
 use Rattle.dt_model.specs.Applied.{is_cell, node_numbered}
 use Rattle.dt_model.specs.Names.{Name}
-use Rattle.dt_model.specs.Path.{Path}
 use Rattle.dt_model.specs.Tree.{Placed, value_of, value_in, nodes_of}
 use Rattle.dt_model.specs.Valid.{IsValid}
 use Rattle.dt_model.proofs.Listed.{listed_value}
-use Rattle.dt_read.specs.Placed.{PlacedTree, reading_of, path_at, IsAt, IsNode, HasPlacesApart}
+use Rattle.dt_read.specs.Placed.{PlacedTree, reading_of, path_at, IsNode, HasPlacesApart}
 use Rattle.dt_read.specs.Walked.{Step, opens}
 use Rattle.dt_read.proofs.NodePlaces.{path_is, at_node}
 use Rattle.dt_view.proofs.Walks.{AreOpened}

@@ -19,7 +19,7 @@ use Rattle.dt_model.proofs.Tests.{in_append}
 use Rattle.dt_read.specs.Placed.{PlacedTree, reading_of, path_at, place_of, properties_found, properties_at, IsAt, IsNode}
 use Rattle.dt_read.specs.Walked.{Step, opens, steps_of}
 use Rattle.dt_read.proofs.NodePlaces.{stands_place}
-use Rattle.dt_view.specs.Tables.{Key, value_at, PutsValue, AreValues, AreKept}
+use Rattle.dt_view.specs.Tables.{Key, first_found, value_at, PutsValue, AreValues, AreKept}
 use Rattle.dt_view.proofs.Walks.{opened, AreOpened}
 use Rattle.dt_view.proofs.Openings.{OpensNext, all_opened, next_opened, none_opened}
 
@@ -122,8 +122,25 @@ keeping_next node properties p left rest old mid new distinct e k put =
 pub keeping_all : (node : ℕ) (properties left : List Property) (old new : List (Key × Bor (List ℕ))) → left ≡ [] → AreKeeping node properties left old new → AreKept node properties properties old new
 keeping_all node properties left old new e k = subst (λ qs. AreKept node properties qs old new) (sym (k.whole ∙ ap (λ qs. k.done ++ qs) e ∙ append-nil k.done)) k.kept
 
+-- what was found before the properties that are left, and then what is found in them
+pub found_next : (before new whole : Option (List ℕ)) (p : Property) (left rest : List Property) (x : Name) → left ≡ p ∷ rest → new ≡ first_found before (value_of (p ∷ []) x)
+    → first_found before (value_of left x) ≡ whole → first_found new (value_of rest x) ≡ whole
+found_next before new whole p left rest x e is all = ap (λ o. first_found o (value_of rest x)) is ∙ step before (bytes_eq x p.name) ∙ ap (λ ps. first_found before (value_of ps x)) (sym e) ∙ all
+  where
+    step : (o : Option (List ℕ)) (b : Bool) → first_found (first_found o (cond b (Some p.value) None)) (value_of rest x) ≡ first_found o (cond b (Some p.value) (value_of rest x))
+    step (Some v) b = refl
+    step None true = refl
+    step None false = refl
+
+pub found_all : (found whole : Option (List ℕ)) (left : List Property) (x : Name) → left ≡ [] → first_found found (value_of left x) ≡ whole → found ≡ whole
+found_all found whole left x e all = same found ∙ ap (λ ps. first_found found (value_of ps x)) (sym e) ∙ all
+  where
+    same : (o : Option (List ℕ)) → o ≡ first_found o None
+    same None = refl
+    same (Some v) = refl
+
 -- the values of a path's node are those of its properties
-value_of_all : (t : PlacedTree) (p : Path) (x : Name) → value_in (reading_of t) p x ≡ value_of (properties_at t p) x
+pub value_of_all : (t : PlacedTree) (p : Path) (x : Name) → value_in (reading_of t) p x ≡ value_of (properties_at t p) x
 value_of_all t p x = by (node_at (reading_of t) p) refl
   where
     by : (o : Option Node) → node_at (reading_of t) p ≡ o → value_in (reading_of t) p x ≡ value_of (properties_at t p) x

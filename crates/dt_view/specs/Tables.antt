@@ -40,6 +40,11 @@ pub record IsNoted (t : PlacedTree) (node : ℕ) (old new : List (ℕ × ℕ)) :
 abbrev pub Key : Type 0
 Key = ℕ × Bor (List ℕ)
 
+-- what was found first
+abbrev pub first_found : Option (List ℕ) → Option (List ℕ) → Option (List ℕ)
+first_found None later = later
+first_found (Some v) later = Some v
+
 -- the value that a table has for a node and a name
 abbrev pub value_at : List (Key × Bor (List ℕ)) → ℕ → Name → Option (List ℕ)
 value_at entries k x = option_copied (lookup (λ (key : Key). nat_eq k key.0 && bytes_eq x key.1.now) entries)

@@ -1,15 +1,15 @@
 //! Tables from the nodes of a tree to the nodes above them, from phandles to nodes, and from nodes and names to the values of properties and to
 //! children.
 
-ghost use Rattle.std.specs.Prelude.{◌≡◌, ◌↔◌, ℕ, [], Some, nat_eq, length, OnOk, IfOk, IfSome, IsSome, cond};
+ghost use Rattle.std.specs.Prelude.{◌≡◌, ◌↔◌, ◌∷◌, ℕ, [], Some, nat_eq, length, OnOk, IfOk, IfSome, IsSome, cond, codes};
 ghost use Rattle.std.specs.Int.{w32, from_be_bytes};
+ghost use Rattle.std.specs.Option.{option_copied};
 ghost use Rattle.dt_model.specs.Meaning.{cell};
-ghost use Rattle.dt_model.specs.Tree.{nodes_of};
+ghost use Rattle.dt_model.specs.Tree.{nodes_of, value_in, value_of};
 ghost use Rattle.dt_model.specs.Valid.{IsPhandle};
 ghost use Rattle.dt_read.specs.Placed.{path_at, properties_at, reading_of, IsNode};
-ghost use Rattle.dt_view.specs.Tables.{at_number, AreParents, ArePhandles, IsNoted, PutsValue, AreKept, AreValues, PutsChild, AreChildren};
+ghost use Rattle.dt_view.specs.Tables.{at_number, first_found, AreParents, ArePhandles, IsNoted, PutsValue, AreKept, AreValues, PutsChild, AreChildren};
 
-use crate::blob::value_of;
 use dt_names::{NodeId, Seed, phandle_of};
 use dt_read::{Blob, OpenNodes, Step};
 use std::alloc::AllocError;
@@ -51,12 +51,17 @@ fn number_of(value: &[u8]) -> Option<u32>
 }
 
 /// Puts the number of a node into the table, where it has one.
-fn note_phandle(blob: &Blob<'_>, phandles: &mut Phandles, node: NodeId) -> Result<(), AllocError>
-    requires { IsNode blob.now node }
+fn note_phandle(
+    blob: &Blob<'_>,
+    phandles: &mut Phandles,
+    node: NodeId,
+    value: Option<&[u8]>,
+) -> Result<(), AllocError>
+    requires { option_copied value ≡ value_in (reading_of blob.now) (path_at blob.now node) (codes "phandle") }
     ensures { OnOk result (IsNoted blob.now node phandles.old.entries phandles.new.entries) }
 {
     blob.validity();
-    let Some(value) = value_of(blob, node, b"phandle") else {
+    let Some(value) = value else {
         return Ok(());
     };
     let Some(number) = number_of(value) else {
@@ -77,17 +82,34 @@ fn put_value<'a>(
     Ok(())
 }
 
-/// Puts the values of a node into the table.
-fn note_values<'a>(blob: &Blob<'a>, values: &mut Values<'a>, node: NodeId) -> Result<(), AllocError>
+/// The value of `phandle`, after one more property of its node.
+fn phandle_after<'a>(found: Option<&'a [u8]>, name: &[u8], value: &'a [u8]) -> Option<&'a [u8]>
+    ensures { option_copied result ≡ first_found (option_copied found.entry) (value_of (record { name = name.now; value = value.now } ∷ []) (codes "phandle")) }
+{
+    match found {
+        None if name == b"phandle".as_slice() => Some(value),
+        _ => found,
+    }
+}
+
+/// Puts the values of a node into the table, and answers that of `phandle`, where it has one.
+fn note_values<'a>(
+    blob: &Blob<'a>,
+    values: &mut Values<'a>,
+    node: NodeId,
+) -> Result<Option<&'a [u8]>, AllocError>
     requires { IsNode blob.now node }
-    ensures { OnOk result (AreKept node (properties_at blob.now (path_at blob.now node))
+    ensures kept { OnOk result (AreKept node (properties_at blob.now (path_at blob.now node))
         (properties_at blob.now (path_at blob.now node)) values.old.entries values.new.entries) }
+    ensures phandle { IfOk result (λ value. option_copied value ≡ value_in (reading_of blob.now) (path_at blob.now node) (codes "phandle")) }
 {
     blob.validity();
+    let mut phandle = None;
     for (name, value) in blob.props(node) {
+        phandle = phandle_after(phandle, name, value);
         put_value(values, node, name, value)?;
     }
-    Ok(())
+    Ok(phandle)
 }
 
 /// Puts a node into the table, by its name and the node above it; not the root, which has none.
@@ -132,8 +154,8 @@ pub(crate) fn fill<'a>(
                 let above = open_nodes.innermost();
                 put_parent(parents, node, above)?;
                 put_child(children, above, name, node)?;
-                note_phandle(blob, phandles, node)?;
-                note_values(blob, values, node)?;
+                let phandle = note_values(blob, values, node)?;
+                note_phandle(blob, phandles, node, phandle)?;
                 open_nodes.push(node);
                 count += 1;
             }

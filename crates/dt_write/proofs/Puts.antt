@@ -8,7 +8,7 @@ use Rattle.dt_model.specs.Names.{Name}
 use Rattle.dt_model.specs.Tree.{Property, Forest, branch}
 use Rattle.dt_model.specs.Format.{word}
 use Rattle.dt_flat.specs.Arena.{Slot, name_of, properties, children_among, children, forest_among, below}
-use Rattle.dt_write.specs.Written.{has, zeros_after, property_block, begin_block, nodes_block}
+use Rattle.dt_write.specs.Written.{has, property_block, begin_block, nodes_block}
 use Rattle.dt_write.specs.Parts.{trees_at, tree_at, HasAll, HasBelow}
 use Rattle.dt_write.specs.Refusals.{WhyNoBytes}
 
@@ -26,10 +26,6 @@ five_put a b1 b2 b3 b4 b5 x1 x2 x3 x4 x5 e1 e2 e3 e4 e5 =
     e5 ∙ ap (λ (t : List ℕ). t ++ b5) (e4 ∙ ap (λ (t : List ℕ). t ++ b4) (e3 ∙ ap (λ (t : List ℕ). t ++ b3) (e2 ∙ ap (λ (t : List ℕ). t ++ b2) e1))) ∙ simp append_assoc
 
 -- ---- properties
-
--- a value is no longer than its property
-pub value_within : (names : List Name) (p : Property) → length p.value ≤ length (property_block names p)
-value_within names p = omega (arith, length-append p.value (zeros_after (length p.value)))
 
 -- these are left of all properties: with them what was put is as long as with all
 pub record PropertiesLeft (names : List Name) (all left : List Property) (before after : List ℕ) : Type 0 where

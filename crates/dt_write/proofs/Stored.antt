@@ -4,7 +4,7 @@ use Rattle.std.specs.Prelude.{nat_lt}
 use Rattle.std.specs.Borrow.{Bor}
 use Rattle.std.specs.List.{flat_map, list_any, AllByRecursion}
 use Rattle.std.specs.Str.{bytes_eq}
-use Rattle.std.proofs.lemmas.List.{append-nil, length-append, length_push, take-append-drop, take_at, take_all, take_more, drop_more, get_or_at, get_or_push, get_or_append_left, get_or_default, length-map}
+use Rattle.std.proofs.lemmas.List.{append-nil, length-append, length_push, take-append-drop, take_at, take_all, take_more, get_or_at, get_or_push, get_or_append_left, get_or_default, length-map}
 use Rattle.std.proofs.lemmas.List.Concat.{flat_map-append}
 use Rattle.dt_model.specs.Format.{IsText}
 use Rattle.dt_model.specs.Lists.{IsIn}
@@ -47,9 +47,6 @@ one_taken : (all : List Name) (x : Name) → list_any (is_end x) all ≡ false �
 one_taken all x e = ap (λ (l : List Name). length (flat_map terminated l)) (one_kept all x e) ∙ omega (arith, length-append (terminated x) [], length-append x (0 ∷ []))
 
 -- ---- which are stored
-
-split_at : (names : List Name) (i : ℕ) → i < length names → names ≡ take i names ++ (get_or names i [] ∷ [] ++ drop (i + 1) names)
-split_at names i lt = sym (take-append-drop i names) ∙ ap (λ (l : List Name). take i names ++ l) (drop_more names i [] lt)
 
 pub own_stored : (names : List Name) (holders : List ℕ) (i : ℕ) → AreHolders names holders → i < length names → get_or holders i 0 ≡ i → list_any (is_end (get_or names i [])) names ≡ false
 own_stored names holders i are lt e =

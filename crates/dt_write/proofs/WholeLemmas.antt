@@ -65,11 +65,6 @@ strings_too_large t names front body kind named is b w =
           w;
     }
 
--- strings that are longer than a blob
-pub names_too_large : (t : Reading) (names : List Name) (kind : FaultKind) → names ≡ names_of t → WhyNoBytes kind (length (strings_block names)) → WhyNotWritten t kind
-names_too_large t names kind named w =
-    record { why = longer kind (length (strings_block names)) (length (written t)) (omega (arith, ap (λ (n : List Name). length (strings_block n)) named, written_length t)) w }
-
 -- the header set
 pub header_set : (t : Reading) (names : List Name) (front body whole blob : List ℕ) (r s n : ℕ) → names ≡ names_of t → IsFront t.reservations front → body ≡ front ++ structure_block t → whole ≡ body ++ strings_block names
     → r + 40 ≡ length front → s + length front ≡ length body → n ≡ length (strings_block names) → blob ≡ header t.boot_cpu r s n ++ drop 40 whole → length blob ≤ 16777216 → IsBlob t blob

@@ -6,7 +6,7 @@ ghost use Rattle.dt_model.specs.Limits.{most_bytes};
 ghost use Rattle.dt_model.specs.Format.{IsText};
 ghost use Rattle.dt_model.specs.Valid.{AreDistinct};
 ghost use Rattle.dt_write.specs.Written.{has, offset_of, strings_block};
-ghost use Rattle.dt_write.specs.Rows.{AreHolders, AreStarts};
+ghost use Rattle.dt_write.specs.Rows.{AreHolders, AreStarts, AreStrings};
 ghost use Rattle.dt_write.specs.Refusals.{WhyNoBytes};
 
 use crate::names::Names;
@@ -62,6 +62,30 @@ fn put_starts(names: &[&[u8]], holders: &[usize], starts: &mut Vec<usize>) -> Re
     Ok(size)
 }
 
+/// Where names lie in their strings block.
+struct Layout {
+    holders: Vec<usize>,
+    starts: Vec<usize>,
+    size: usize,
+}
+
+fn layout_of(alloc: Global, names: &[&[u8]]) -> Result<Layout, Fault>
+    requires distinct { AreDistinct (map (λ name. name.now) names.now) }
+    requires texts { AllByRecursion IsText (map (λ name. name.now) names.now) }
+    ensures is { IfOk result (λ layout. AreStrings (map (λ name. name.now) names.now) layout.holders.items layout.starts.items layout.size) }
+    ensures refused { IfErr result (λ fault.
+        WhyNoBytes fault.kind (length (strings_block (map (λ name. name.now) names.now))) × (fault.at ≡ None)) }
+{
+    let holders = holders_of(alloc, names)?;
+    let mut starts = Vec::with_capacity(alloc, names.len())?;
+    let size = put_starts(names, &holders, &mut starts)?;
+    Ok(Layout {
+        holders,
+        starts,
+        size,
+    })
+}
+
 impl<'t> Strings<'t> {
     /// The strings block of some names.
     ///
@@ -73,10 +97,11 @@ impl<'t> Strings<'t> {
         ensures is { IfOk result (λ strings. strings ≡ names.entry) }
         ensures refused { IfErr result (λ fault. WhyNoBytes fault.kind (length (strings_block names.entry)) × (fault.at ≡ None)) }
     {
-        let all = names.as_slice();
-        let holders = holders_of(alloc, all)?;
-        let mut starts = Vec::with_capacity(alloc, all.len())?;
-        let size = put_starts(all, &holders, &mut starts)?;
+        let Layout {
+            holders,
+            starts,
+            size,
+        } = layout_of(alloc, names.as_slice())?;
         Ok(Strings {
             names,
             holders,

@@ -18,11 +18,6 @@ loop-step-init c =
       rw (whole, c.requires.children) (none_found c.args.blob.now c.validity.ensures.valid),
     )
 
-pub note_phandle-requires : goal.note_phandle-requires
-note_phandle-requires c =
-    let e = c.in-Some.ensures.steps ∙ ap (λ s. step_view s ∷ c.next.new.self) c.in-Open.is in
-    opens_one c.args.blob.now c.loop-step.parents.entries c.loop-step.phandles.entries c.loop-step.open_nodes c.loop-step.count c.in-Open.node c.in-Open.name.now c.loop-step.step-iterator c.next.new.self c.validity.ensures.places c.loop-step.invariant.2 e
-
 pub push-requires : goal.push-requires
 push-requires c =
     let e = c.in-Some.ensures.steps ∙ ap (λ s. step_view s ∷ c.next.new.self) c.in-Open.is in
@@ -44,7 +39,7 @@ loop-step-preserved-in-Open c =
       subst (λ ks. IsFilled t c.put_parent.new.parents.entries c.note_phandle.new.phandles.entries ks (c.loop-step.count + 1) c.next.new.self) (sym c.push.ensures)
           (past_one t c.loop-step.parents.entries c.put_parent.new.parents.entries c.loop-step.phandles.entries c.note_phandle.new.phandles.entries c.loop-step.open_nodes c.loop-step.count c.in-Open.node c.in-Open.name.now c.loop-step.step-iterator c.next.new.self c.validity.ensures.valid c.validity.ensures.places c.loop-step.invariant.2 e
           (λ j. c.in_ok-put_parent-in-Open.ensures j ∙ ap (λ o. cond (nat_eq c.in-Open.node j) (Some o) (at_number c.loop-step.parents.entries j)) inner) c.in_ok-note_phandle-in-Open.ensures),
-      one_valued t c.loop-step.values.entries c.note_values.new.values.entries c.in-Open.node c.in-Open.name.now c.loop-step.step-iterator c.next.new.self c.loop-step.invariant.3 e c.in_ok-note_values-in-Open.ensures,
+      one_valued t c.loop-step.values.entries c.note_values.new.values.entries c.in-Open.node c.in-Open.name.now c.loop-step.step-iterator c.next.new.self c.loop-step.invariant.3 e c.in_ok-phandle-in-Open.ensures.kept,
       one_found t c.loop-step.children.entries c.put_child.new.children.entries c.in-Open.node c.in-Open.name.now (innermost c.loop-step.open_nodes) c.loop-step.step-iterator c.next.new.self c.validity.ensures.places c.loop-step.invariant.4 e
           (above_opened t c.loop-step.parents.entries c.loop-step.phandles.entries c.loop-step.open_nodes c.loop-step.count c.in-Open.node c.in-Open.name.now c.loop-step.step-iterator c.next.new.self c.validity.ensures.valid c.validity.ensures.places c.loop-step.invariant.2 e)
           (subst (λ (a : Option ℕ). PutsChild c.loop-step.children.entries c.put_child.new.children.entries a c.in-Open.name.now c.in-Open.node) inner c.in_ok-put_child-in-Open.ensures),
