@@ -1,17 +1,17 @@
 -- A blob within the limits has no fault.
-use Rattle.std.proofs.Common.{◌≡◌, ℕ, ◌+◌, ◌%◌, ◌≤◌, true, false, not, ◌&&◌, List, length, drop, take, Option, Some, None, nat_eq, nat_lt, nat_le, if◌then◌else◌, sym, ap, subst, ◌∙◌, arith}
+use Rattle.std.proofs.Common.{◌≡◌, ℕ, ◌+◌, ◌%◌, ◌≤◌, true, false, not, ◌&&◌, List, ◌++◌, length, drop, take, Option, Some, None, nat_eq, nat_lt, nat_le, if◌then◌else◌, sym, ap, subst, ◌∙◌, arith}
 use Rattle.std.specs.Prelude.{unwrap_or}
 use Rattle.std.specs.List.{flat_map}
 use Rattle.std.proofs.lemmas.Bool.{le-ltb, le-leb, eq-eqb}
 use Rattle.std.proofs.lemmas.List.{length-append, length-drop, length-take}
 use Rattle.dt_model.specs.Tree.{Property, Forest, Reading}
 use Rattle.dt_model.specs.Format.{word_at, Header, SpellsTree, part, pair, reservation_block, Reads, IsWithin}
-use Rattle.dt_model.specs.Checks.{BlobFault, short_header, bad_magic, bad_total, over_limit, bad_version, misaligned, block_outside, number, header_fault, strings_of, structure_of, HasReservations, IsSpelled, AreApart, AreNumbered, IsFirstFault, in_header, in_reservations, at_a_limit, at_a_token, in_names, in_phandles}
+use Rattle.dt_model.specs.Checks.{BlobFault, counted, short_header, bad_magic, bad_total, over_limit, bad_version, misaligned, block_outside, number, header_fault, strings_of, structure_of, HasReservations, IsSpelled, AreApart, AreNumbered, IsFirstFault, in_header, in_reservations, at_a_limit, at_a_token, in_names, in_phandles}
 use Rattle.dt_model.proofs.Blobs.{same_header}
 use Rattle.dt_model_format.proofs.FirstFaults.{no_stop, one_spelled, not_apart}
 use Rattle.dt_model_format.proofs.Leads.{spelled_within}
 
-number_is : (bytes : List ℕ) (at n : ℕ) → word_at bytes at ≡ Some n → number bytes at ≡ n
+pub number_is : (bytes : List ℕ) (at n : ℕ) → word_at bytes at ≡ Some n → number bytes at ≡ n
 number_is bytes at n e = ap (λ (o : Option ℕ). unwrap_or o 0) e
 
 -- the reservations begin inside the blob
@@ -55,13 +55,17 @@ header_passes bytes t r size =
     else if not (first i && second i && third i) then Some block_outside
     else None
 
-has_reservations : (bytes : List ℕ) (t : Reading) → Reads bytes t → HasReservations bytes
-has_reservations bytes t r =
+-- the reservations stand where the header says
+pub reserved_at : (bytes : List ℕ) (t : Reading) (r : Reads bytes t) → drop (number bytes 16) (counted bytes) ≡ reservation_block t.reservations ++ r.behind
+reserved_at bytes t r =
     let total = number_is bytes 4 r.header.total_size r.words.total_size in
     let offset = number_is bytes 16 r.header.reservations_offset r.words.reservations_offset in
-    (t.reservations, r.behind, r.valid.reservations, (λ i. drop (offset i) (take (total i) bytes)) ∙ r.reservations)
+    (λ i. drop (offset i) (take (total i) bytes)) ∙ r.reservations
 
-spelled_tree_of : (bytes : List ℕ) (t : Reading) → Reads bytes t → SpellsTree (strings_of bytes) t.properties t.children (structure_of bytes)
+has_reservations : (bytes : List ℕ) (t : Reading) → Reads bytes t → HasReservations bytes
+has_reservations bytes t r = (t.reservations, r.behind, r.valid.reservations, reserved_at bytes t r)
+
+pub spelled_tree_of : (bytes : List ℕ) (t : Reading) → Reads bytes t → SpellsTree (strings_of bytes) t.properties t.children (structure_of bytes)
 spelled_tree_of bytes t r =
     let h = r.header in
     let w = r.words in
@@ -70,13 +74,13 @@ spelled_tree_of bytes t r =
     subst (λ (block : List ℕ). SpellsTree (strings_of bytes) t.properties t.children block) structure
     (subst (λ (names : List ℕ). SpellsTree names t.properties t.children (part h.structure_offset h.structure_size bytes)) strings r.structure)
 
-spelled_of : (bytes : List ℕ) (t : Reading) → Reads bytes t → IsWithin bytes t → IsSpelled (strings_of bytes) (structure_of bytes) t.properties t.children
+pub spelled_of : (bytes : List ℕ) (t : Reading) → Reads bytes t → IsWithin bytes t → IsSpelled (strings_of bytes) (structure_of bytes) t.properties t.children
 spelled_of bytes t r within = spelled_within (strings_of bytes) (structure_of bytes) t.properties t.children (spelled_tree_of bytes t r) (r.valid.properties).named r.valid.nodes within.tree.depth within.tree.count
 
-apart_of : (bytes : List ℕ) (t : Reading) → Reads bytes t → AreApart t.properties t.children
+pub apart_of : (bytes : List ℕ) (t : Reading) → Reads bytes t → AreApart t.properties t.children
 apart_of bytes t r = record { properties_apart = r.valid.properties; nodes_apart = r.valid.nodes; siblings_apart = r.valid.siblings }
 
-numbered_of : (bytes : List ℕ) (t : Reading) → Reads bytes t → AreNumbered t.properties t.children
+pub numbered_of : (bytes : List ℕ) (t : Reading) → Reads bytes t → AreNumbered t.properties t.children
 numbered_of bytes t r = record { valid = r.valid.phandles_valid; own = r.valid.phandles_distinct }
 
 small_of : (bytes : List ℕ) (t : Reading) (r : Reads bytes t) → IsWithin bytes t → r.header.total_size ≤ 16777216

@@ -14,6 +14,8 @@ pub mod Headers
 pub mod Apart
 pub mod ByteValues
 pub mod Wholes
+pub mod Lying
+pub mod CheckedBytes
 pub mod CountLemmas
 pub mod Growing
 pub mod Shallow

@@ -214,3 +214,7 @@ spells (p ∷ ps) bytes behind v e =
 -- where pairs and a pair of zeros stand, they end
 pub reserved_ends : (ps : List (ℕ × ℕ)) (bytes behind : List ℕ) → AllByRecursion IsReservation ps → bytes ≡ reservation_block ps ++ behind → ends bytes ≡ true
 reserved_ends ps bytes behind v e = (spelled_pairs ps bytes (spells ps bytes behind v e)).0
+
+-- and they are read
+pub reserved_pairs : (ps : List (ℕ × ℕ)) (bytes behind : List ℕ) → AllByRecursion IsReservation ps → bytes ≡ reservation_block ps ++ behind → pairs_of bytes ≡ ps
+reserved_pairs ps bytes behind v e = (spelled_pairs ps bytes (spells ps bytes behind v e)).1

@@ -176,30 +176,6 @@ mark_again at end_tree = refl
 pub marked : (strings : List ℕ) (at : ℕ) (token : Token) (own : List ℕ) → Spells strings token own → SpellsMark strings at (mark_at at token) own
 marked strings at token own s = record { placed = ap (mark_at at) (mark_again at token); token = subst (λ (t : Token). Spells strings t own) (sym (mark_again at token)) s }
 
--- the same tokens with their places
-pub record Marked (strings : List ℕ) (at : ℕ) (tokens : List Token) (bytes : List ℕ) : Type 0 where
-  pub marks : List Mark
-  pub same : map token_of marks ≡ tokens
-  pub spelled : SpellsMarks strings at marks bytes
-
-pub all_marked : (strings : List ℕ) (at : ℕ) (tokens : List Token) (bytes : List ℕ) → SpellsAll strings tokens bytes → Marked strings at tokens bytes
-all_marked strings at [] bytes s = record { marks = []; same = refl; spelled = s }
-all_marked strings at (token ∷ tokens) bytes s =
-    let m = all_marked strings (at + length s.0) tokens s.1 s.4 in
-    record {
-      marks = mark_at at token ∷ m.marks;
-      same = (λ i. mark_again at token i ∷ m.same i);
-      spelled = (s.0, s.1, s.2, marked strings at token s.0 s.3, m.spelled);
-    }
-
-pub marks_push : (strings : List ℕ) (at : ℕ) (marks : List Mark) (before own : List ℕ) (mark : Mark) → SpellsMarks strings at marks before → SpellsMark strings (at + length before) mark own → SpellsMarks strings at (marks ++ mark ∷ []) (before ++ own)
-marks_push strings at [] before own mark s t =
-    let here : at + length before ≡ at = omega (arith, ap length s) in
-    (own, [], ap (λ (x : List ℕ). x ++ own) s ∙ sym (append-nil own), subst (λ (n : ℕ). SpellsMark strings n mark own) here t, refl)
-marks_push strings at (first ∷ marks) before own mark s t =
-    let len : at + length before ≡ at + length s.0 + length s.1 = omega (arith, ap length s.2, length-append s.0 s.1) in
-    (s.0, s.1 ++ own, ap (λ (x : List ℕ). x ++ own) s.2 ∙ append_assoc s.0 s.1 own, s.3, marks_push strings (at + length s.0) marks s.1 own mark s.4 (subst (λ (n : ℕ). SpellsMark strings n mark own) len t))
-
 tokens_of_marks : (marks : List Mark) → map token_of (without_nop_marks marks) ≡ without_nops (map token_of marks)
 tokens_of_marks [] = refl
 tokens_of_marks (begin_mark place name ∷ marks) = ap (λ (x : List Token). begin_node name ∷ x) (tokens_of_marks marks)
@@ -237,40 +213,52 @@ only_word n rest bytes tag four =
     let nothing : drop 4 rest ≡ [] = drop_of_length-le rest {i = 4} (omega arith) in
     t.0 ∙ ap (λ (x : List ℕ). word n ++ x) nothing ∙ append-nil (word n)
 
--- at the last token the block is a tree's
-pub over : (strings block : List ℕ) (at here : ℕ) (rest : List ℕ) (p : Position) → IsBytes block → Reaches strings block here rest p → IsLast strings p rest → (tree : Root) × HasTree strings at block tree
-over strings block at here rest p bytes r last =
-    let fit : IsBytes rest = subst IsBytes (ap (drop (length r.before)) r.whole ∙ drop_at r.before rest (length r.before) refl) (IsBytes-drop (length r.before) block bytes) in
-    let end : rest ≡ word 9 = only_word 9 rest fit last.tag last.last in
-    let whole : block ≡ r.before ++ word 9 = r.whole ∙ ap (λ (x : List ℕ). r.before ++ x) end in
-    let m = all_marked strings at r.tokens r.before r.spelled in
-    let closed = both_true (eqb p.depth 0) p.late last.behind in
-    let depth : p.depth ≡ 0 = eqb-true p.depth 0 closed.0 in
-    let led : lead_all (map token_of m.marks) front ≡ Some p = ap (λ (t : List Token). lead_all t front) m.same ∙ r.led in
-    let t = tree_of_led m.marks p led depth closed.1 in
-    let tokens : without_nops r.tokens ≡ tokens_of t.tree.properties (forest_of t.tree.children) =
-    ap without_nops (sym m.same) ∙ sym (tokens_of_marks m.marks) ∙ ap (map token_of) t.tokens ∙ tokens_of_root t.tree in
-    let checked : IsSpelled strings block t.tree.properties (forest_of t.tree.children) = record {
-      tokens = r.tokens;
-      end = p;
-      spelled = subst (SpellsAll strings (r.tokens ++ end_tree ∷ [])) (sym whole) (spells_push strings r.tokens r.before (word 9) end_tree r.spelled refl);
-      whole = tokens;
-      led = r.led;
-      closed = depth;
-      ended = closed.1;
-    } in (
+-- the tokens up to END, with their places
+pub record MarkedWhole (strings : List ℕ) (at : ℕ) (tokens : List Token) (bytes : List ℕ) : Type 0 where
+  pub marks : List Mark
+  pub same : map token_of marks ≡ tokens
+  pub spelled : SpellsMarks strings at (marks ++ last_mark ∷ []) bytes
+
+marked_whole : (strings : List ℕ) (at : ℕ) (tokens : List Token) (bytes : List ℕ) → SpellsAll strings (tokens ++ end_tree ∷ []) bytes → MarkedWhole strings at tokens bytes
+marked_whole strings at [] bytes s = record { marks = []; same = refl; spelled = (s.0, s.1, s.2, marked strings at end_tree s.0 s.3, s.4) }
+marked_whole strings at (token ∷ tokens) bytes s =
+    let m = marked_whole strings (at + length s.0) tokens s.1 s.4 in
+    record {
+      marks = mark_at at token ∷ m.marks;
+      same = (λ i. mark_again at token i ∷ m.same i);
+      spelled = (s.0, s.1, s.2, marked strings at token s.0 s.3, m.spelled);
+    }
+
+-- a block whose tokens lead to the end of the root spells a tree
+pub tree_spelled : (strings block : List ℕ) (at : ℕ) (tokens : List Token) (end : Position) → SpellsAll strings (tokens ++ end_tree ∷ []) block → lead_all tokens front ≡ Some end → end.depth ≡ 0 → end.late ≡ true
+    → (tree : Root) × HasTree strings at block tree
+tree_spelled strings block at tokens end spelled led closed ended =
+    let m = marked_whole strings at tokens block spelled in
+    let t = tree_of_led m.marks end (ap (λ (ts : List Token). lead_all ts front) m.same ∙ led) closed ended in
+    let whole : without_nops tokens ≡ tokens_of t.tree.properties (forest_of t.tree.children) =
+    ap without_nops (sym m.same) ∙ sym (tokens_of_marks m.marks) ∙ ap (map token_of) t.tokens ∙ tokens_of_root t.tree in (
       t.tree,
       record {
         marks = m.marks;
-        spelled = subst (SpellsMarks strings at (m.marks ++ last_mark ∷ [])) (sym whole) (marks_push strings at m.marks r.before (word 9) last_mark m.spelled (marked strings (at + length r.before) end_tree (word 9) refl));
+        spelled = m.spelled;
         whole = t.tokens;
-        checked = checked;
+        checked = record { tokens = tokens; end = end; spelled = spelled; whole = whole; led = led; closed = closed; ended = ended };
         properties = t.properties;
         nodes = t.nodes;
         count = t.count;
         depth = t.depth;
       },
     )
+
+-- at the last token the block is a tree's
+pub over : (strings block : List ℕ) (at here : ℕ) (rest : List ℕ) (p : Position) → IsBytes block → Reaches strings block here rest p → IsLast strings p rest → (tree : Root) × HasTree strings at block tree
+over strings block at here rest p bytes r last =
+    let fit : IsBytes rest = subst IsBytes (ap (drop (length r.before)) r.whole ∙ drop_at r.before rest (length r.before) refl) (IsBytes-drop (length r.before) block bytes) in
+    let end : rest ≡ word 9 = only_word 9 rest fit last.tag last.last in
+    let whole : block ≡ r.before ++ word 9 = r.whole ∙ ap (λ (x : List ℕ). r.before ++ x) end in
+    let closed = both_true (eqb p.depth 0) p.late last.behind in
+    let spelled : SpellsAll strings (r.tokens ++ end_tree ∷ []) block = subst (SpellsAll strings (r.tokens ++ end_tree ∷ [])) (sym whole) (spells_push strings r.tokens r.before (word 9) end_tree r.spelled refl) in
+    tree_spelled strings block at r.tokens p spelled r.led (eqb-true p.depth 0 closed.0) closed.1
   where
     both_true : (a b : Bool) → a && b ≡ true → (a ≡ true) × (b ≡ true)
     both_true true true e = (refl, refl)

@@ -19,4 +19,6 @@ pub mod Classes
 pub mod Phandle
 pub mod Growth
 pub mod Blocks
+pub mod Checked
 pub mod Counting
+pub mod Lying

@@ -7,6 +7,7 @@ ghost use Rattle.dt_model.specs.Path.{Path};
 ghost use Rattle.dt_model.specs.Valid.{IsValid, IsWithinLimits};
 ghost use Rattle.dt_names.specs.declared.fault.FaultKind.TheVariants.{Limit, NoMemory};
 ghost use Rattle.dt_flat.specs.Arena.{reading};
+ghost use Rattle.dt_read.specs.Checked.{IsBlob, placed_of};
 ghost use Rattle.dt_read.specs.Kinds.{kind_of};
 ghost use Rattle.dt_read.specs.Placed.{reading_of, IsAt, HasPlacesApart};
 ghost use Rattle.dt_read.specs.Walked.{steps_of, WalkIn};
@@ -15,7 +16,7 @@ ghost use Rattle.dt_names.specs.Fault.{IsNoMemory};
 use crate::NodeId;
 use crate::blocks::blocks_of;
 use crate::counts::{Counts, count_pairs, count_tokens};
-use crate::distinct::has_distinct_names;
+use crate::distinct::{WORDS, has_distinct_names};
 use crate::flatten::flat_of;
 use crate::phandle::are_phandles;
 use crate::reservations::Reservations;
@@ -24,6 +25,7 @@ use crate::steps::Steps;
 use crate::structure::Structure;
 use crate::walk::{Children, Props};
 use dt_flat::FlatTree;
+use dt_model_format::blob_has_no_fault;
 use dt_names::{Fault, FaultKind, Seed};
 use std::alloc::Global;
 use std::marker::Model;
@@ -82,6 +84,26 @@ impl<'a> Blob<'a> {
         ensures reads { IfOk result (λ b. Reads bytes.now (reading_of b)) }
         ensures within { IfOk result (λ b. IsWithin bytes.now (reading_of b)) }
         ensures places { IfOk result (λ b. HasPlacesApart b) }
+        ensures placed { IfOk result (λ b. b ≡ placed_of bytes.now) }
+        ensures fault { IfErr result (λ e. (f : BlobFault) × (e.kind ≡ kind_of f) × IsFirstFault bytes.now f e.at) }
+    {
+        let mut table = [0; WORDS];
+        Blob::check_with(bytes, &mut table)
+    }
+
+    /// The same with a table that the caller lends, in place of 128 KiB of the stack. Its words may have any values, and are changed. A table
+    /// that has less than a word for two names of a node makes it read the tokens more often.
+    ///
+    /// # Errors
+    ///
+    /// Those of `check`.
+    pub fn check_with(bytes: &'a [u8], table: &mut [u64]) -> Result<Blob<'a>, Fault>
+        requires some { 0 < length table.old }
+        requires few { length table.old < 2 ^ 32 }
+        ensures reads { IfOk result (λ b. Reads bytes.now (reading_of b)) }
+        ensures within { IfOk result (λ b. IsWithin bytes.now (reading_of b)) }
+        ensures places { IfOk result (λ b. HasPlacesApart b) }
+        ensures placed { IfOk result (λ b. b ≡ placed_of bytes.now) }
         ensures fault { IfErr result (λ e. (f : BlobFault) × (e.kind ≡ kind_of f) × IsFirstFault bytes.now f e.at) }
     {
         let blocks = blocks_of(bytes)?;
@@ -90,10 +112,11 @@ impl<'a> Blob<'a> {
             Err(bad) => return Err(placed(bad, blocks.at)),
         };
         let seed = structure.seed();
-        if !has_distinct_names(&structure, seed) {
+        let mut held = usize::MAX;
+        if !has_distinct_names(&structure, seed, table, &mut held) {
             return Err(Fault::of(FaultKind::Duplicate));
         }
-        if !are_phandles(&structure, seed) {
+        if !are_phandles(&structure, seed, table, &mut held) {
             return Err(Fault::of(FaultKind::BlobPhandle));
         }
         Ok(Blob {
@@ -102,6 +125,24 @@ impl<'a> Blob<'a> {
             reservations: blocks.reservations,
             boot_cpu: blocks.boot_cpu,
         })
+    }
+
+    /// The blob of bytes that were checked before. It reads the header and the reservations alone. The seed is what tables made of the blob hash
+    /// names and numbers behind; no answer depends on it.
+    pub fn of(bytes: &'a [u8], seed: Seed) -> Blob<'a>
+        requires { IsBlob bytes.now }
+        ensures { result ≡ placed_of bytes.now }
+    {
+        blob_has_no_fault();
+        match blocks_of(bytes) {
+            Ok(blocks) => Blob {
+                seed,
+                structure: Structure::of(blocks.strings, blocks.at, blocks.block),
+                reservations: blocks.reservations,
+                boot_cpu: blocks.boot_cpu,
+            },
+            Err(_) => unreachable!(),
+        }
     }
 
     /// What is true of each blob: it holds a tree that a blob may hold (Devicetree Specification v0.4, chapters 2 and 5), within

@@ -2,7 +2,8 @@
 
 ghost use Rattle.std.specs.Prelude.{◌≡◌, ◌∷◌, [], ◌<◌, ◌^◌, length};
 ghost use Rattle.std.specs.Option.{MatchOption, IfSome};
-ghost use Rattle.dt_read.specs.View.{view_at};
+ghost use Rattle.dt_read.specs.Lying.{TokenLies};
+ghost use Rattle.dt_read.specs.View.{view, view_at};
 ghost use Rattle.dt_read.specs.TreeTokens.{AreTokens, marks_in, past, past_properties};
 
 use crate::token::{Token, token_at};
@@ -10,20 +11,22 @@ use std::marker::Model;
 
 /// A token, its place, and what stands behind it.
 #[derive(Drop)]
-struct Found<'a> {
-    at: usize,
-    token: Token<'a>,
-    behind: usize,
-    rest: &'a [u8],
+pub(crate) struct Found<'a> {
+    pub at: usize,
+    pub token: Token<'a>,
+    pub behind: usize,
+    pub rest: &'a [u8],
 }
 
 /// The first token that isn't a NOP.
-fn next_token<'a>(strings: &'a [u8], at: usize, bytes: &'a [u8]) -> Option<Found<'a>>
+pub(crate) fn next_token<'a>(strings: &'a [u8], at: usize, bytes: &'a [u8]) -> Option<Found<'a>>
     requires { AreTokens strings.now at bytes.now }
     ensures next { MatchOption result (marks_in strings.now at bytes.now ≡ []) (λ found.
         marks_in strings.now at bytes.now ≡ view_at found.at found.token ∷ marks_in strings.now found.behind found.rest.now) }
     ensures no_nop { IfSome result (λ found. found.token ≡ Token.Nop → ⊥) }
     ensures few { length (marks_in strings.now at bytes.now) < 2 ^ 32 }
+    ensures lies { IfSome result (λ found.
+        TokenLies strings.now at bytes.now found.at (view found.token) found.behind found.rest.now) }
     ensures tokens { MatchOption result (AreTokens strings.now at bytes.now) (λ found.
         AreTokens strings.now found.behind found.rest.now) }
 {

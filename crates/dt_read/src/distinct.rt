@@ -1,6 +1,7 @@
 //! Keys that differ, found with no memory: a table of bits tells most keys that are new, and an exact walk the others. Few names of a tree
 //! are compared all at once; of many, first those of children, of which there are at most as many as nodes, and then the properties of one
-//! node after another. So a table is gone through again only for more than 32,768 children or properties of one node, and each token a few times.
+//! node after another. A table holds two keys a word; more keys are compared class by class. So with 16,384 words the tokens are read again only
+//! for more than 32,768 children, or properties of one node.
 
 ghost use Rattle.std.specs.Prelude.{◌≡◌, ◌↔◌, ◌<◌, ◌^◌, ◌%◌, ◌++◌, ◌∷◌, [], ℕ, Some, IsTrue, length, take};
 ghost use Rattle.std.specs.Bool.{OnTrue, OnFalse};
@@ -22,36 +23,20 @@ use crate::token::Token;
 use dt_names::NodeId;
 use std::hash::{DefaultHasher, Hash, Hasher};
 
-/// The table's words: 2^20 bits, 128 KiB.
-const WORDS: usize = 16_384;
+/// How many words a table has that nobody lends: 2^20 bits, 128 KiB.
+pub(crate) const WORDS: usize = 16_384;
 
-/// As many keys as the table tells apart with few errors.
-const KEYS_OF_A_CLASS: usize = 32_768;
-
-/// A table of bits, and how many keys it may hold by now.
-#[derive(Drop)]
-pub(crate) struct Table {
-    words: [u64; WORDS],
-    count: usize,
-}
-
-impl Table {
-    pub fn new() -> Table {
-        Table {
-            words: [0; WORDS],
-            count: 0,
-        }
-    }
-
-    /// Makes room for so many keys: the table is emptied where it would hold too many.
-    fn make_room(&mut self, count: usize) {
-        let full = self.count.saturating_add(count);
-        if full > KEYS_OF_A_CLASS {
-            self.words.fill(0);
-            self.count = count;
-        } else {
-            self.count = full;
-        }
+/// Makes room for `count` keys more: a table in which more than two a word would be is emptied.
+fn make_room(words: &mut [u64], held: &mut usize, count: usize)
+    requires few { length words.old < 2 ^ 32 }
+    ensures size { length words.new ≡ length words.old }
+{
+    let full = held.saturating_add(count);
+    if full > 2 * words.len() {
+        words.fill(0);
+        *held = count;
+    } else {
+        *held = full;
     }
 }
 
@@ -118,13 +103,23 @@ fn is_distinct_class(
 }
 
 /// Whether keys differ. The seed, how many keys there seem to be, and what the table holds, decide only how long it takes.
-pub(crate) fn are_distinct(first: &Keys<'_>, seed: u64, count: usize, table: &mut Table) -> bool
-    ensures { IsTrue result ↔ AreDistinct first.now }
+pub(crate) fn are_distinct(
+    first: &Keys<'_>,
+    seed: u64,
+    count: usize,
+    words: &mut [u64],
+    held: &mut usize,
+) -> bool
+    requires some { 0 < length words.old }
+    requires few { length words.old < 2 ^ 32 }
+    ensures size { length words.new ≡ length words.old }
+    ensures is { IsTrue result ↔ AreDistinct first.now }
 {
-    let classes = (count / KEYS_OF_A_CLASS + 1) as u64;
+    let most = 2 * words.len();
+    let classes = (count / most + 1) as u64;
     for class in 0..classes {
-        table.make_room(count.min(KEYS_OF_A_CLASS));
-        if !is_distinct_class(first, seed, class, classes, &mut table.words) {
+        make_room(words, held, count.min(most));
+        if !is_distinct_class(first, seed, class, classes, words) {
             return false;
         }
     }
@@ -132,22 +127,39 @@ pub(crate) fn are_distinct(first: &Keys<'_>, seed: u64, count: usize, table: &mu
 }
 
 /// Whether the names of the properties differ of the node of a place, behind whose BEGIN_NODE the cursor stands.
-fn has_distinct_properties(cursor: &Cursor<'_>, place: NodeId, seed: u64, table: &mut Table) -> bool
-    ensures { IsTrue result ↔ AreDistinct (property_names (left_by cursor.now).properties) }
+fn has_distinct_properties(
+    cursor: &Cursor<'_>,
+    place: NodeId,
+    seed: u64,
+    words: &mut [u64],
+    held: &mut usize,
+) -> bool
+    requires some { 0 < length words.old }
+    requires few { length words.old < 2 ^ 32 }
+    ensures size { length words.new ≡ length words.old }
+    ensures is { IsTrue result ↔ AreDistinct (property_names (left_by cursor.now).properties) }
 {
     let own = Keys::own(cursor.copy(), place);
     let count = own.copy().count();
-    are_distinct(&own, seed, count, table)
+    are_distinct(&own, seed, count, words, held)
 }
 
 /// Whether they do so in each node.
-fn have_distinct_properties(structure: &Structure, seed: u64, table: &mut Table) -> bool
-    ensures { IsTrue result ↔ AreDistinctInEach (marks_of structure.now ++ last_mark ∷ []) }
+fn have_distinct_properties(
+    structure: &Structure,
+    seed: u64,
+    words: &mut [u64],
+    held: &mut usize,
+) -> bool
+    requires some { 0 < length words.old }
+    requires few { length words.old < 2 ^ 32 }
+    ensures size { length words.new ≡ length words.old }
+    ensures is { IsTrue result ↔ AreDistinctInEach (marks_of structure.now ++ last_mark ∷ []) }
 {
     let mut cursor = structure.start();
     while let Some((place, token)) = cursor.next() {
         let begins = matches!(token, Token::BeginNode(_));
-        if begins && !has_distinct_properties(&cursor, place, seed, table) {
+        if begins && !has_distinct_properties(&cursor, place, seed, words, held) {
             return false;
         }
     }
@@ -155,18 +167,26 @@ fn have_distinct_properties(structure: &Structure, seed: u64, table: &mut Table)
 }
 
 /// Whether the names differ in each node.
-pub(crate) fn has_distinct_names(structure: &Structure, seed: u64) -> bool
-    requires { HasRisingPlaces structure.now }
-    ensures { IsTrue result ↔ HasDistinctNames structure.now }
+pub(crate) fn has_distinct_names(
+    structure: &Structure,
+    seed: u64,
+    words: &mut [u64],
+    held: &mut usize,
+) -> bool
+    requires places { HasRisingPlaces structure.now }
+    requires some { 0 < length words.old }
+    requires few { length words.old < 2 ^ 32 }
+    ensures size { length words.new ≡ length words.old }
+    ensures is { IsTrue result ↔ HasDistinctNames structure.now }
 {
-    let mut table = Table::new();
+    let most = 2 * words.len();
     let names = Keys::of(structure, Wanted::Names);
     let count = names.copy().count();
-    if count <= KEYS_OF_A_CLASS {
-        return are_distinct(&names, seed, count, &mut table);
+    if count <= most {
+        return are_distinct(&names, seed, count, words, held);
     }
     let children = Keys::of(structure, Wanted::Children);
     let count = children.copy().count();
-    are_distinct(&children, seed, count, &mut table)
-        && have_distinct_properties(structure, seed, &mut table)
+    are_distinct(&children, seed, count, words, held)
+        && have_distinct_properties(structure, seed, words, held)
 }

@@ -4,6 +4,8 @@ ghost use Rattle.std.specs.Prelude.{◌≡◌, ℕ, List, Option};
 ghost use Rattle.dt_model.specs.Checks.{BlobFault, IsFirstFault};
 ghost use Rattle.dt_model.specs.Format.{Reads, IsWithin};
 ghost use Rattle.dt_model.specs.Tree.{Reading};
+ghost use Rattle.dt_read.specs.Checked.{placed_of};
+ghost use Rattle.dt_read.specs.Placed.{reading_of};
 
 use dt_model_format::{blob_has_no_fault, first_fault_is_one};
 
@@ -19,3 +21,8 @@ pub fn one_answer()
     blob_has_no_fault();
     first_fault_is_one();
 }
+
+/// The tree of a blob's bytes, with the places of its nodes, is the one that they are read as.
+pub fn placed_is_read()
+    ensures { (bytes : List ℕ) (t : Reading) → Reads bytes t → IsWithin bytes t → reading_of (placed_of bytes) ≡ t }
+{}

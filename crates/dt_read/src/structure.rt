@@ -43,7 +43,8 @@ impl<'a> Structure<'a> {
     ghost use Rattle.dt_read.specs.Marks.{last_mark, marks_of};
     ghost use Rattle.dt_read.specs.Order.{HasRisingPlaces};
     ghost use Rattle.dt_read.specs.Walked.{Step, holds, closes, steps_of_nodes};
-    ghost use Rattle.dt_read.specs.TreeTokens.{HasTree, node_of, heads_of, head_named, first_place, BeginsNode};
+    ghost use Rattle.dt_read.specs.Parsing.{tree_in};
+    ghost use Rattle.dt_read.specs.TreeTokens.{HasTree, IsStructure, node_of, heads_of, head_named, first_place, BeginsNode};
 
     /// The tree that a structure block spells, or its first wrong token. The block stands at that place of the blob.
     pub fn check(strings: &'a [u8], at: usize, block: &'a [u8]) -> Result<Structure<'a>, BadTagAt>
@@ -57,6 +58,14 @@ impl<'a> Structure<'a> {
             None => Ok(Structure { strings, at, block }),
             Some(bad) => Err(bad),
         }
+    }
+
+    /// The tree of a block that is known to spell one.
+    pub fn of(strings: &'a [u8], at: usize, block: &'a [u8]) -> Structure<'a>
+        requires { IsStructure strings.now at block.now }
+        ensures { result ≡ tree_in strings.now at block.now }
+    {
+        Structure { strings, at, block }
     }
 
     /// The place where a node begins.

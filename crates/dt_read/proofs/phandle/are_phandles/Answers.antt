@@ -37,7 +37,7 @@ returns c =
     let right = right_keys c.args.structure.now in (
       λ t. right.0 (record {
         each = c.loop-key.invariant.2.0 (subst (λ (keys : List Key). AllByRecursion (λ k. IsPhandle k.bytes) keys) (sym c.in-None.ensures.steps.0) tt);
-        distinct = subst AreDistinct c.of.ensures.all (c.are_distinct.ensures.0 t);
+        distinct = subst AreDistinct c.of.ensures.all (c.are_distinct.ensures.is.0 t);
       }),
-      λ a. c.are_distinct.ensures.1 (subst AreDistinct (sym c.of.ensures.all) (right.1 a).distinct),
+      λ a. c.are_distinct.ensures.is.1 (subst AreDistinct (sym c.of.ensures.all) (right.1 a).distinct),
     )
