@@ -1,4 +1,3 @@
-pub mod PathTexts
 pub mod Told
 pub mod WordTexts
 pub mod Going

@@ -4,5 +4,4 @@ pub mod AllLines
 pub mod Listed
 pub mod Asked
 -- inside
-pub mod Paths
 pub mod Given

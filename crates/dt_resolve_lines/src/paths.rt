@@ -4,28 +4,12 @@ ghost use Rattle.std.specs.Prelude.{◌≡◌, ◌≢◌, ◌++◌, [], OnOk, If
 ghost use Rattle.dt_model.specs.Path.{path_text};
 ghost use Rattle.dt_read.specs.Placed.{path_at, IsNode};
 ghost use Rattle.dt_text_writer.specs.Written.{Puts, FailsAt};
-ghost use Rattle.dt_resolve_lines.specs.Paths.{names_text, way_text, AreNodes};
+ghost use Rattle.dt_view.specs.Ways.{way_text, AreNodes};
 
 use dt_names::{Fault, NodeId, Sink};
 use dt_read::OpenNodes;
 use dt_text_writer::Writer;
-use dt_view::TreeView;
-
-/// The nodes on the way down to a node, the first one below the root in front.
-fn way_to<V: TreeView>(view: &V, node: NodeId) -> OpenNodes
-    requires { IsNode (V.tree view.now) node }
-    ensures text { way_text (V.tree view.now) result ≡ names_text (path_at (V.tree view.now) node) }
-    ensures nodes { AreNodes (V.tree view.now) result }
-{
-    view.validity();
-    let mut way = OpenNodes::new();
-    let mut here = node;
-    while let Some(above) = view.parent(here) {
-        way.push(here);
-        here = above;
-    }
-    way
-}
+use dt_view::{TreeView, way_to};
 
 /// Writes the names of the nodes on a way, each behind a slash.
 fn put_way<V: TreeView, S: Sink>(

@@ -10,3 +10,5 @@ pub mod Steps
 pub mod Numbers
 pub mod Valued
 pub mod Children
+pub mod Places
+pub mod PathTexts

@@ -1,5 +1,6 @@
 -- what callers read, in this order
 pub mod Views
 pub mod Trees
+pub mod Ways
 -- inside
 pub mod Tables

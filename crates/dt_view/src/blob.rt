@@ -1,7 +1,7 @@
 //! A blob as a view. A blob's tokens tell no parent, so the node above a node is told by a walk from the root up to it: for a boot loader, which
 //! asks seldom and has no memory to spend.
 
-ghost use Rattle.std.specs.Prelude.{◌≡◌, ◌∷◌, ◌++◌, ℕ, [], IfSome, option_map};
+ghost use Rattle.std.specs.Prelude.{◌≡◌, ◌↔◌, ◌∷◌, ◌++◌, ℕ, [], IfSome, IsTrue, option_map};
 ghost use Rattle.std.specs.Option.{option_copied};
 ghost use Rattle.dt_model.specs.Applied.{is_cell, node_numbered};
 ghost use Rattle.dt_model.specs.Tree.{nodes_of, value_in};
@@ -41,6 +41,21 @@ fn parent_of(blob: &Blob<'_>, node: NodeId) -> Option<NodeId>
         }
     }
     None
+}
+
+/// Whether a number is a node's place, by a walk up to it: for whoever has the number from elsewhere.
+pub fn is_node(blob: &Blob<'_>, node: NodeId) -> bool
+    ensures { IsTrue result ↔ IsNode blob.now node }
+{
+    blob.validity();
+    for step in blob.steps() {
+        if let Step::Open { node: here, .. } = step {
+            if here == node {
+                return true;
+            }
+        }
+    }
+    false
 }
 
 /// The value of a node's property.

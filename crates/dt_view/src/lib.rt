@@ -19,10 +19,13 @@ mod laws;
 mod tables;
 mod values;
 mod view;
+mod ways;
 
+pub use blob::is_node;
 pub use counts::{address_cells, cells, is_pci, one_cell};
 pub use finding::node_at;
 pub use index::Index;
 pub use laws::{one_finding, tree_is_seen};
 pub use values::{cell_at, cells_after, first_cells};
 pub use view::TreeView;
+pub use ways::way_to;

@@ -1,7 +1,7 @@
 use Rattle.std.proofs.Common.{◌++◌, ◌∙◌, [], ◌∷◌, List, ℕ, drop, codes, sym, ap, subst}
 use Rattle.dt_text_writer.proofs.Writing.{puts_then, exits_at, turned}
-use Rattle.dt_resolve_lines.specs.Paths.{way_text, AreNodes}
-use Rattle.dt_resolve_lines.proofs.PathTexts.{next_on_way}
+use Rattle.dt_view.specs.Ways.{way_text, AreNodes}
+use Rattle.dt_view.proofs.PathTexts.{next_on_way}
 use Rattle.dt_resolve_lines.proofs.paths.put_way.Goals as goal
 
 pub returns-in_err-put_pieces-clause-refused : goal.returns-in_err-put_pieces-clause-refused

@@ -1,7 +1,7 @@
 -- A front of the names passed.
 use Rattle.std.proofs.Common.{◌≡◌, List, ℕ, ◌++◌, length}
 use Rattle.dt_text_writer.specs.Written.{Puts}
-use Rattle.dt_resolve_lines.specs.Paths.{way_text, AreNodes}
+use Rattle.dt_view.specs.Ways.{way_text, AreNodes}
 use Rattle.dt_resolve_lines.proofs.paths.put_way.Given as goal
 
 abbrev pub invariant-loop-node : goal.invariant-loop-node

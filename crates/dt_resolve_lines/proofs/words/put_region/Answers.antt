@@ -1,4 +1,4 @@
-use Rattle.std.proofs.Common.{◌++◌, List, ℕ, ap, subst, ◌∙◌}
+use Rattle.std.proofs.Common.{List, ℕ, ap, subst, ◌∙◌}
 use Rattle.std.specs.Prelude.{OnOk, IfErr}
 use Rattle.dt_model.specs.Printed.{significant}
 use Rattle.dt_names.specs.Sink.{joined}

@@ -4,9 +4,9 @@ use Rattle.dt_model.specs.Limits.{most_names}
 use Rattle.dt_read.specs.Placed.{path_at, reading_of}
 use Rattle.dt_read.proofs.NodePlaces.{stands_place}
 use Rattle.dt_model.proofs.Depths.{within_depth}
-use Rattle.dt_resolve_lines.specs.Paths.{names_text, way_text, AreNodes}
-use Rattle.dt_resolve_lines.proofs.PathTexts.{one_name_less, one_shorter}
-use Rattle.dt_resolve_lines.proofs.paths.way_to.Goals as goal
+use Rattle.dt_view.specs.Ways.{names_text, way_text, AreNodes}
+use Rattle.dt_view.proofs.PathTexts.{one_name_less, one_shorter}
+use Rattle.dt_view.proofs.ways.way_to.Goals as goal
 
 pub push-requires : goal.push-requires
 push-requires g c =

@@ -1,4 +1,4 @@
--- The names of a path.
+-- The names of a path, and the nodes on the way down it.
 use Rattle.std.specs.Prelude.{ℕ, List, [], ◌∷◌, ◌++◌, codes}
 use Rattle.std.specs.List.{AllByRecursion}
 use Rattle.dt_model.specs.Path.{Path}

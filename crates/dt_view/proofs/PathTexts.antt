@@ -4,7 +4,7 @@ use Rattle.dt_model.specs.Names.{Name}
 use Rattle.dt_model.specs.Path.{Path, path_text}
 use Rattle.dt_read.specs.Placed.{PlacedTree, last_name, path_at}
 use Rattle.dt_resolve_model.specs.Above.{front}
-use Rattle.dt_resolve_lines.specs.Paths.{names_text, way_text}
+use Rattle.dt_view.specs.Ways.{names_text, way_text}
 
 pub names_are : (p : Path) → p ≢ [] → path_text p ≡ names_text p
 names_are [] some = absurd (some refl)
