@@ -99,3 +99,16 @@ go_on() { # PROGRAM WORD..
     if [ -n "$room" ] && [ -f "$room/stdin" ]; then "$program" "$@" < "$room/stdin"; else "$program" "$@"; fi
     exit $?
 }
+
+# Proves a crate over what its libraries state, and builds it. Its line of crates.txt names them: the repository's, and the toolchain's. Is called
+# in crates/, and $kit is the toolchain.
+prove_and_build() { # CRATE ROOT-FILE WORD..
+    crate=$1 source=$2; shift 2
+    for name in std $(sed -n "s/^$crate\( staticlib\)\{0,1\}://p" ../crates.txt); do
+        if [ -d "$name" ]; then libraries=../$name/out/rlib; else libraries=$kit/rlibs; fi
+        set -- "$@" --extern "$name=$libraries/$name.rlib"
+    done
+    for libraries in */out/rlib; do set -- "$@" -L "dependency=../$libraries"; done
+    (cd "$crate" && "$kit/bin/rattle" build --crate-name "$crate" "$source" --links "$crate=" "$@" -L "dependency=$kit/rlibs" \
+        --antt-project "$kit/rattle/logic/antt-project.json" --logic-built "$kit/logic_built")
+}

@@ -1,0 +1,154 @@
+/*
+ * What bench/library.py measures: `library BLOB CALL COUNT` makes a call COUNT times, each time for the next node (or phandle) of the blob;
+ * `library BLOB stack` prints how many bytes of the stack each call takes, by painting one.
+ */
+#include "../c/dtool.h"
+#include <libfdt.h>
+#include <stdio.h>
+#include <stdlib.h>
+#include <string.h>
+#include <ucontext.h>
+
+#define MOST 65536
+
+static uint8_t *blob;
+static size_t len, base;
+static char *paths[MOST];
+static size_t nodes[MOST];
+static uint32_t phandles[MOST];
+static int count, numbered;
+static uint64_t table[16384];
+static volatile size_t sink;
+
+static size_t words(const char *call)
+{
+	return !strcmp(call, "check-4k") ? 512 : 16384;
+}
+
+static void make(const char *call, int i)
+{
+	struct dtool_fault fault;
+	struct dtool_span span;
+	struct dtool_property property;
+	struct dtool_region region;
+	struct dtool_route route;
+	char text[20000];
+	size_t found = 0;
+	int n = i % count, size;
+
+	if (!strncmp(call, "check", 5))
+		found = dtool_check(blob, len, table, words(call), &fault);
+	else if (!strcmp(call, "node_at"))
+		dtool_node_at(blob, len, paths[n], strlen(paths[n]), &found, &fault);
+	else if (!strcmp(call, "parent"))
+		dtool_parent(blob, len, nodes[n], &found);
+	else if (!strcmp(call, "by_phandle"))
+		dtool_by_phandle(blob, len, phandles[i % numbered], &found);
+	else if (!strcmp(call, "value"))
+		found = dtool_value(blob, len, nodes[n], "compatible", 10, &span);
+	else if (!strcmp(call, "property"))
+		found = dtool_property(blob, len, nodes[n], 0, &property);
+	else if (!strcmp(call, "name"))
+		found = dtool_name(blob, len, nodes[n]).at;
+	else if (!strcmp(call, "path"))
+		found = dtool_path(blob, len, nodes[n], text, sizeof text);
+	else if (!strcmp(call, "root"))
+		found = dtool_root(blob, len);
+	else if (!strcmp(call, "region"))
+		found = dtool_region(blob, len, nodes[n], 0, &region, &fault);
+	else if (!strcmp(call, "route"))
+		found = dtool_route(blob, len, nodes[n], 0, &route, &fault);
+	else if (!strcmp(call, "fdt_check_full"))
+		found = fdt_check_full(blob, len);
+	else if (!strcmp(call, "fdt_path_offset"))
+		found = fdt_path_offset(blob, paths[n]);
+	else if (!strcmp(call, "fdt_parent_offset"))
+		found = fdt_parent_offset(blob, nodes[n] - base);
+	else if (!strcmp(call, "fdt_node_offset_by_phandle"))
+		found = fdt_node_offset_by_phandle(blob, phandles[i % numbered]);
+	else if (!strcmp(call, "fdt_getprop"))
+		found = fdt_getprop(blob, nodes[n] - base, "compatible", &size) != NULL;
+	else if (!strcmp(call, "fdt_get_path"))
+		found = fdt_get_path(blob, nodes[n] - base, text, sizeof text);
+	else if (!strcmp(call, "fdt_get_name"))
+		found = fdt_get_name(blob, nodes[n] - base, &size) != NULL;
+	sink += found;
+}
+
+static uint8_t painted[1 << 20] __attribute__((aligned(64)));
+static ucontext_t whole, part;
+static const char *measured;
+
+static void measure(void)
+{
+	struct dtool_fault fault;
+	struct dtool_span span;
+	struct dtool_region region;
+	struct dtool_route route;
+	static char text[20000];
+	size_t found;
+
+	switch (measured[0]) {
+	case 'c': dtool_check(blob, len, table, 512, &fault); break;
+	case 'n': dtool_node_at(blob, len, paths[count - 1], strlen(paths[count - 1]), &found, &fault); break;
+	case 'b': dtool_by_phandle(blob, len, phandles[numbered - 1], &found); break;
+	case 'p': dtool_parent(blob, len, nodes[count - 1], &found); break;
+	case 'v': dtool_value(blob, len, nodes[0], "compatible", 10, &span); break;
+	case 't': dtool_path(blob, len, nodes[count - 1], text, sizeof text); break;
+	case 'r': dtool_region(blob, len, nodes[count - 1], 0, &region, &fault); break;
+	case 'i': dtool_route(blob, len, nodes[count - 1], 0, &route, &fault); break;
+	}
+}
+
+static void stack(void)
+{
+	static const char *calls[] = { "check", "node_at", "by_phandle", "parent", "value", "text of the path", "region", "interrupt's route" };
+	for (size_t i = 0; i < 2 * sizeof calls / sizeof *calls; i++) {
+		size_t at = 0;
+		measured = calls[i % (sizeof calls / sizeof *calls)];
+		memset(painted, 0x5a, sizeof painted);
+		getcontext(&part);
+		part.uc_stack.ss_sp = painted;
+		part.uc_stack.ss_size = sizeof painted;
+		part.uc_link = &whole;
+		makecontext(&part, measure, 0);
+		swapcontext(&whole, &part);
+		while (at < sizeof painted && painted[at] == 0x5a)
+			at++;
+		/* The first round is for the linker, which takes some stack of its own at a first call. */
+		if (i >= sizeof calls / sizeof *calls)
+			printf("%-20s %6zu bytes of stack\n", measured, sizeof painted - at);
+	}
+}
+
+int main(int argc, char **argv)
+{
+	FILE *stream = argc > 2 ? fopen(argv[1], "rb") : NULL;
+	char path[20000];
+	int depth = 0;
+
+	if (!stream || fseek(stream, 0, SEEK_END))
+		return 2;
+	len = ftell(stream);
+	rewind(stream);
+	blob = malloc(len);
+	if (fread(blob, 1, len, stream) != len)
+		return 2;
+	base = fdt_off_dt_struct(blob);
+	for (int offset = 0; offset >= 0 && depth >= 0 && count < MOST; offset = fdt_next_node(blob, offset, &depth)) {
+		uint32_t number = fdt_get_phandle(blob, offset);
+		fdt_get_path(blob, offset, path, sizeof path);
+		nodes[count] = base + offset;
+		paths[count++] = strdup(path);
+		if (number)
+			phandles[numbered++] = number;
+	}
+	if (!strcmp(argv[2], "size"))
+		printf("%zu %d %d\n", len, count, numbered);
+	else if (!strcmp(argv[2], "stack"))
+		stack();
+	else
+		for (int i = 0; i < atoi(argv[3]); i++)
+			make(argv[2], i);
+	return 0;
+}
