@@ -18,9 +18,6 @@ use dt_names::Seed;
 use dt_read::{Blob, name_span, property_spans, value_span};
 use dt_view::{TreeView, is_node, node_at};
 
-/// As many words of a table as are used: 128 KiB.
-const WORDS: usize = 16_384;
-
 /// The blob of bytes that are one. No look of this library hashes anything, so the seed is any.
 pub(crate) fn blob_of(bytes: &[u8]) -> Blob<'_>
     requires { IsBlob bytes.now }
@@ -37,8 +34,7 @@ pub extern "C" fn dtool_check(bytes: &[u8], table: &mut [u64], fault: &mut CFaul
     ensures refused { OnFalse result ((f : BlobFault) × IsRefused (λ e. (e.kind ≡ kind_of f) × IsFirstFault bytes.now f e.at) fault.new) }
     ensures no_fault { OnTrue result (fault.new ≡ fault.old) }
 {
-    let words = table.len().min(WORDS);
-    match Blob::check_with(bytes, &mut table[..words]) {
+    match Blob::check_with(bytes, table) {
         Ok(_) => true,
         Err(why) => {
             put_fault(why, fault);

@@ -88,16 +88,29 @@ impl<'a> Blob<'a> {
         ensures fault { IfErr result (λ e. (f : BlobFault) × (e.kind ≡ kind_of f) × IsFirstFault bytes.now f e.at) }
     {
         let mut table = [0; WORDS];
-        Blob::check_with(bytes, &mut table)
+        Blob::check_in(bytes, &mut table, 0)
     }
 
-    /// The same with a table that the caller lends, in place of 128 KiB of the stack. Its words may have any values, and are changed. A table
-    /// that has less than a word for two names of a node makes it read the tokens more often.
+    /// The same with a table that the caller lends, in place of 128 KiB of the stack. Its words may have any values, and are changed; of 16,384
+    /// no more are used. A table that has less than a word for two names of a node makes it read the tokens more often.
     ///
     /// # Errors
     ///
     /// Those of `check`.
     pub fn check_with(bytes: &'a [u8], table: &mut [u64]) -> Result<Blob<'a>, Fault>
+        requires { 0 < length table.old }
+        ensures reads { IfOk result (λ b. Reads bytes.now (reading_of b)) }
+        ensures within { IfOk result (λ b. IsWithin bytes.now (reading_of b)) }
+        ensures places { IfOk result (λ b. HasPlacesApart b) }
+        ensures placed { IfOk result (λ b. b ≡ placed_of bytes.now) }
+        ensures fault { IfErr result (λ e. (f : BlobFault) × (e.kind ≡ kind_of f) × IsFirstFault bytes.now f e.at) }
+    {
+        let words = table.len().min(WORDS);
+        Blob::check_in(bytes, &mut table[..words], usize::MAX)
+    }
+
+    /// The same with a table in which so many keys are at most: it is emptied before it would hold more than two a word.
+    fn check_in(bytes: &'a [u8], table: &mut [u64], keys: usize) -> Result<Blob<'a>, Fault>
         requires some { 0 < length table.old }
         requires few { length table.old < 2 ^ 32 }
         ensures reads { IfOk result (λ b. Reads bytes.now (reading_of b)) }
@@ -112,7 +125,7 @@ impl<'a> Blob<'a> {
             Err(bad) => return Err(placed(bad, blocks.at)),
         };
         let seed = structure.seed();
-        let mut held = usize::MAX;
+        let mut held = keys;
         if !has_distinct_names(&structure, seed, table, &mut held) {
             return Err(Fault::of(FaultKind::Duplicate));
         }

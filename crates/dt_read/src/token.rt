@@ -79,6 +79,7 @@ fn token_of<'a>(strings: &'a [u8], bytes: &'a [u8]) -> Option<(Token<'a>, usize)
 }
 
 /// The token at the front of the bytes, and how many bytes it takes.
+#[inline(always)]
 pub(crate) fn token_at<'a>(strings: &'a [u8], bytes: &'a [u8]) -> Option<(Token<'a>, usize)>
     requires { length bytes.now < 2 ^ 32 }
     ensures takes { IfSome result (λ r. Takes strings.now bytes.now (view r.0) r.1) }

@@ -7,7 +7,7 @@ use Rattle.dt_read.proofs.Apart.{apart, distinct, tree_phandles}
 use Rattle.dt_read.proofs.Numbers.{IsBytes}
 use Rattle.dt_read.proofs.Wholes.{first_at, names_at, phandles_at, numbered_by, by_numbered, number_small, reads, within, may_copy, places}
 use Rattle.dt_read.proofs.CheckedBytes.{placed_by}
-use Rattle.dt_read.proofs.blob.Blob.check_with.Goals as goal
+use Rattle.dt_read.proofs.blob.Blob.check_in.Goals as goal
 
 pub returns-in-Err-clause-fault : goal.returns-in-Err-clause-fault
 returns-in-Err-clause-fault c =
