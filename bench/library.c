@@ -20,59 +20,47 @@ static int count, numbered;
 static uint64_t table[16384];
 static volatile size_t sink;
 
-static size_t words(const char *call)
-{
-	return !strcmp(call, "check-4k") ? 512 : 16384;
-}
+enum call { NONE, CHECK, CHECK_4K, NODE_AT, PARENT, BY_PHANDLE, VALUE, PROPERTY, NAME, PATH, ROOT, REGION, ROUTE, FDT_CHECK, FDT_NODE_AT,
+	    FDT_PARENT, FDT_BY_PHANDLE, FDT_VALUE, FDT_PATH, FDT_NAME, CALLS };
 
-static void make(const char *call, int i)
+static const char *const calls[CALLS] = {
+	"none", "check-128k", "check-4k", "node_at", "parent", "by_phandle", "value", "property", "name", "path", "root", "region", "route",
+	"fdt_check_full", "fdt_path_offset", "fdt_parent_offset", "fdt_node_offset_by_phandle", "fdt_getprop", "fdt_get_path", "fdt_get_name",
+};
+
+static size_t make(enum call call, int i)
 {
 	struct dtool_fault fault;
 	struct dtool_span span;
 	struct dtool_property property;
 	struct dtool_region region;
 	struct dtool_route route;
-	char text[20000];
+	static char text[20000];
 	size_t found = 0;
 	int n = i % count, size;
 
-	if (!strncmp(call, "check", 5))
-		found = dtool_check(blob, len, table, words(call), &fault);
-	else if (!strcmp(call, "node_at"))
-		dtool_node_at(blob, len, paths[n], strlen(paths[n]), &found, &fault);
-	else if (!strcmp(call, "parent"))
-		dtool_parent(blob, len, nodes[n], &found);
-	else if (!strcmp(call, "by_phandle"))
-		dtool_by_phandle(blob, len, phandles[i % numbered], &found);
-	else if (!strcmp(call, "value"))
-		found = dtool_value(blob, len, nodes[n], "compatible", 10, &span);
-	else if (!strcmp(call, "property"))
-		found = dtool_property(blob, len, nodes[n], 0, &property);
-	else if (!strcmp(call, "name"))
-		found = dtool_name(blob, len, nodes[n]).at;
-	else if (!strcmp(call, "path"))
-		found = dtool_path(blob, len, nodes[n], text, sizeof text);
-	else if (!strcmp(call, "root"))
-		found = dtool_root(blob, len);
-	else if (!strcmp(call, "region"))
-		found = dtool_region(blob, len, nodes[n], 0, &region, &fault);
-	else if (!strcmp(call, "route"))
-		found = dtool_route(blob, len, nodes[n], 0, &route, &fault);
-	else if (!strcmp(call, "fdt_check_full"))
-		found = fdt_check_full(blob, len);
-	else if (!strcmp(call, "fdt_path_offset"))
-		found = fdt_path_offset(blob, paths[n]);
-	else if (!strcmp(call, "fdt_parent_offset"))
-		found = fdt_parent_offset(blob, nodes[n] - base);
-	else if (!strcmp(call, "fdt_node_offset_by_phandle"))
-		found = fdt_node_offset_by_phandle(blob, phandles[i % numbered]);
-	else if (!strcmp(call, "fdt_getprop"))
-		found = fdt_getprop(blob, nodes[n] - base, "compatible", &size) != NULL;
-	else if (!strcmp(call, "fdt_get_path"))
-		found = fdt_get_path(blob, nodes[n] - base, text, sizeof text);
-	else if (!strcmp(call, "fdt_get_name"))
-		found = fdt_get_name(blob, nodes[n] - base, &size) != NULL;
-	sink += found;
+	switch (call) {
+	case CHECK: return dtool_check(blob, len, table, 16384, &fault);
+	case CHECK_4K: return dtool_check(blob, len, table, 512, &fault);
+	case NODE_AT: return dtool_node_at(blob, len, paths[n], strlen(paths[n]), &found, &fault) + found;
+	case PARENT: return dtool_parent(blob, len, nodes[n], &found) + found;
+	case BY_PHANDLE: return dtool_by_phandle(blob, len, phandles[i % numbered], &found) + found;
+	case VALUE: return dtool_value(blob, len, nodes[n], "compatible", 10, &span);
+	case PROPERTY: return dtool_property(blob, len, nodes[n], 0, &property);
+	case NAME: return dtool_name(blob, len, nodes[n]).at;
+	case PATH: return dtool_path(blob, len, nodes[n], text, sizeof text);
+	case ROOT: return dtool_root(blob, len);
+	case REGION: return dtool_region(blob, len, nodes[n], 0, &region, &fault);
+	case ROUTE: return dtool_route(blob, len, nodes[n], 0, &route, &fault);
+	case FDT_CHECK: return fdt_check_full(blob, len);
+	case FDT_NODE_AT: return fdt_path_offset(blob, paths[n]);
+	case FDT_PARENT: return fdt_parent_offset(blob, nodes[n] - base);
+	case FDT_BY_PHANDLE: return fdt_node_offset_by_phandle(blob, phandles[i % numbered]);
+	case FDT_VALUE: return fdt_getprop(blob, nodes[n] - base, "compatible", &size) != NULL;
+	case FDT_PATH: return fdt_get_path(blob, nodes[n] - base, text, sizeof text);
+	case FDT_NAME: return fdt_get_name(blob, nodes[n] - base, &size) != NULL;
+	default: return 0;
+	}
 }
 
 static uint8_t painted[1 << 20] __attribute__((aligned(64)));
@@ -102,10 +90,10 @@ static void measure(void)
 
 static void stack(void)
 {
-	static const char *calls[] = { "check", "node_at", "by_phandle", "parent", "value", "text of the path", "region", "interrupt's route" };
-	for (size_t i = 0; i < 2 * sizeof calls / sizeof *calls; i++) {
-		size_t at = 0;
-		measured = calls[i % (sizeof calls / sizeof *calls)];
+	static const char *const stacks[] = { "check", "node_at", "by_phandle", "parent", "value", "text of the path", "region", "interrupt's route" };
+	for (volatile size_t i = 0; i < 2 * sizeof stacks / sizeof *stacks; i++) {
+		volatile size_t at = 0;
+		measured = stacks[i % (sizeof stacks / sizeof *stacks)];
 		memset(painted, 0x5a, sizeof painted);
 		getcontext(&part);
 		part.uc_stack.ss_sp = painted;
@@ -116,7 +104,7 @@ static void stack(void)
 		while (at < sizeof painted && painted[at] == 0x5a)
 			at++;
 		/* The first round is for the linker, which takes some stack of its own at a first call. */
-		if (i >= sizeof calls / sizeof *calls)
+		if (i >= sizeof stacks / sizeof *stacks)
 			printf("%-20s %6zu bytes of stack\n", measured, sizeof painted - at);
 	}
 }
@@ -147,8 +135,12 @@ int main(int argc, char **argv)
 		printf("%zu %d %d\n", len, count, numbered);
 	else if (!strcmp(argv[2], "stack"))
 		stack();
-	else
-		for (int i = 0; i < atoi(argv[3]); i++)
-			make(argv[2], i);
+	else {
+		int call = 0, times = atoi(argv[3]);
+		while (call < CALLS && strcmp(argv[2], calls[call]))
+			call++;
+		for (int i = 0; i < times; i++)
+			sink += make(call, i);
+	}
 	return 0;
 }
