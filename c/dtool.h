@@ -134,7 +134,7 @@ struct dtool_span dtool_name(const uint8_t *blob, size_t len, size_t node);
 
 /*
  * Writes the path of a node with a NUL behind it; false where `room` bytes are too few, and then `out` may hold a part of it. A path has at
- * most 64 names of at most 255 bytes: 16,385 bytes are enough. Walks up to the node for each name.
+ * most 64 names of at most 255 bytes: 16,385 bytes are enough. Walks up to the node.
  */
 bool dtool_path(const uint8_t *blob, size_t len, size_t node, char *out, size_t room);
 
@@ -172,6 +172,15 @@ bool dtool_route(const uint8_t *blob, size_t len, size_t node, uint64_t index, s
 /* Where an entry of another list of specifiers arrives (2.5): property "clocks" and kind "clock", "led-gpios" and "gpio". Faults: as above. */
 bool dtool_specifier_route(const uint8_t *blob, size_t len, size_t node, const char *property, size_t property_len, const char *kind,
 			   size_t kind_len, uint64_t index, struct dtool_route *route, struct dtool_fault *fault);
+
+/*
+ * The same of the one entry that begins at a byte of the list (of interrupts-extended for an interrupt), whatever is before it. The two calls
+ * above read each entry before the one that they are asked for, so none may be empty (phandle 0); these two let a caller go on behind an empty
+ * entry, as Linux does. Faults: as above, of this entry alone; NO_INTERRUPTS where no cell begins at that byte.
+ */
+bool dtool_interrupt_at(const uint8_t *blob, size_t len, size_t node, uint64_t at, struct dtool_route *route, struct dtool_fault *fault);
+bool dtool_specifier_at(const uint8_t *blob, size_t len, size_t node, const char *property, size_t property_len, const char *kind,
+			size_t kind_len, uint64_t at, struct dtool_route *route, struct dtool_fault *fault);
 
 /* The name of a fault, as `dtool` prints it; "Unknown" for a number that no call gives. */
 static inline const char *dtool_fault_name(uint32_t number)

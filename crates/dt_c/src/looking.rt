@@ -18,7 +18,8 @@ use dt_names::Seed;
 use dt_read::{Blob, name_span, property_spans, value_span};
 use dt_view::{TreeView, is_node, node_at};
 
-/// The blob of bytes that are one. No look of this library hashes anything, so the seed is any.
+/// The blob of bytes that are one. No look of this library hashes anything, so the seed is any. It isn't inlined: each export would have a copy.
+#[inline(never)]
 pub(crate) fn blob_of(bytes: &[u8]) -> Blob<'_>
     requires { IsBlob bytes.now }
     ensures { result ≡ placed_of bytes.now }
@@ -63,7 +64,7 @@ pub extern "C" fn dtool_node_at(
     requires { IsBlob bytes.now }
     ensures is { OnTrue result (IsFoundBy (placed_of bytes.now) path.now out.new) }
     ensures node { OnTrue result (IsNode (placed_of bytes.now) out.new) }
-    ensures refused { OnFalse result (IsRefused (λ e. WhyNotFound e.kind (placed_of bytes.now) path.now) fault.new) }
+    ensures refused { OnFalse result (IsRefused (λ e. WhyNotFound e.kind (placed_of bytes.now) path.now × (e.at ≡ None)) fault.new) }
     ensures kept { OnFalse result (out.new ≡ out.old) }
     ensures no_fault { OnTrue result (fault.new ≡ fault.old) }
 {

@@ -1,15 +1,17 @@
 -- Lists of phandles with specifiers, entry by entry, and rows of maps.
-use Rattle.std.proofs.Common.{◌≡◌, ◌≢◌, ℕ, suc, ◌+◌, ◌*◌, ◌/◌, ◌%◌, ◌<◌, ◌≤◌, Bool, true, false, not, ◌||◌, ◌==◌, List, [], ◌∷◌, take, drop, length, refl, ap, ◌∙◌, arith}
+use Rattle.std.proofs.Common.{◌≡◌, ◌≢◌, ℕ, suc, ◌+◌, ◌*◌, ◌/◌, ◌%◌, ◌<◌, ◌≤◌, Bool, true, false, not, ◌||◌, ◌==◌, List, [], ◌∷◌, take, drop, length, refl, sym, ap, ◌∙◌, inl, inr, ◌⊎◌, arith}
 use Rattle.std.specs.Prelude.{if◌then◌else◌}
 use Rattle.std.proofs.lemmas.Bool.{le-ltb, lt-ltb}
 use Rattle.dt_model.specs.Path.{Path}
 use Rattle.dt_names.specs.declared.fault.Fault.{Fault}
 use Rattle.dt_names.specs.declared.fault.FaultKind.TheVariants.{BadCells, BadMap, NoInterrupts}
 use Rattle.dt_resolve_model.specs.Answers.{Answer, refused, refuse, answer, ◌>>=◌}
-use Rattle.dt_resolve_model.specs.World.{Quad, Value, World}
+use Rattle.dt_resolve_model.specs.World.{Quad, quads_of, Value, World}
 use Rattle.dt_resolve_model.specs.Regions.{entries, entries_of, entry_at}
 use Rattle.dt_resolve_model.proofs.Entries.{eq_false, entries_whole}
-use Rattle.dt_resolve_model.specs.Interrupts.{Sent, Entry, entry_of, first_entry, entry_sent, listed_at, specifier_count, RowCells, MapRow, map_row_of, map_row}
+use Rattle.dt_resolve_model.proofs.QuadsOfBytes.{quad_count}
+use Rattle.std.proofs.lemmas.List.{length-drop}
+use Rattle.dt_resolve_model.specs.Interrupts.{Sent, Entry, entry_of, first_entry, entry_sent, cells_from, listed_at, specifier_count, RowCells, MapRow, map_row_of, map_row}
 
 -- an entry whose phandle and count were read
 read_entry : (w : World) (count : Path → Answer ℕ) (ragged : Bool) (list : List Quad) (cell : Quad) (cells : List Quad) (q : Path) (n : ℕ) → list ≡ cell ∷ cells → w.node cell ≡ answer q → count q ≡ answer n
@@ -57,6 +59,23 @@ row_is w widths width cells cell behind q own e node are le long =
 pub no_cells : (cells : List Quad) → length cells ≡ 0 → cells ≡ []
 no_cells [] none = refl
 no_cells (cell ∷ cells) none = absurd (omega arith)
+
+-- ---- an entry by its byte
+
+-- no cell begins at the byte
+pub no_cell_at : (list : List ℕ) (at : ℕ) → (at % 4 ≢ 0) ⊎ (length list / 4 ≤ at / 4) → drop (length list / 4) (quads_of list) ≡ cells_from at (quads_of list)
+no_cell_at list at why = behind (length list / 4) (omega arith) ∙ sym (by why)
+  where
+    behind : (n : ℕ) → length list / 4 ≤ n → drop n (quads_of list) ≡ []
+    behind n past = no_cells (drop n (quads_of list)) (let left = length-drop n (quads_of list) in let all = quad_count list in omega (arith, left, all, past))
+
+    by : (at % 4 ≢ 0) ⊎ (length list / 4 ≤ at / 4) → cells_from at (quads_of list) ≡ []
+    by (inl odd) = rw (eq_false (at % 4) 0 odd) refl
+    by (inr past) = step (at % 4 == 0)
+      where
+        step : (t : Bool) → (if t then drop (at / 4) (quads_of list) else []) ≡ []
+        step true = behind (at / 4) past
+        step false = refl
 
 -- ---- an entry by its index
 

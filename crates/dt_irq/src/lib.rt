@@ -6,6 +6,7 @@
 //! let node = node_at(&view, b"/d@1234")?;
 //! route(&view, node, 0)                                           // Ok: /ic, 0 5 4, one hop
 //! specifier_route(&view, node, b"led-gpios", b"gpio", 0)          // where its GPIO is
+//! specifier_at(&view, node, b"led-gpios", b"gpio", 12)            // where that is whose phandle begins at byte 12 of the list
 //! ```
 //!
 //! The first is the first case of routes.cases, with its source; the other has cases in specifiers.cases (docs/CASES.md).
@@ -21,6 +22,6 @@ mod rows;
 mod sending;
 mod spaces;
 
-pub use providers::specifier_route;
+pub use providers::{specifier_at, specifier_route};
 pub use reached::Route;
-pub use routing::{Routes, route};
+pub use routing::{Routes, interrupt_at, route};

@@ -5,7 +5,7 @@ ghost use Rattle.dt_read.specs.Placed.{path_at, IsNode};
 ghost use Rattle.dt_resolve_model.specs.Answers.{told_as};
 ghost use Rattle.dt_resolve_model.specs.World.{value_of_bytes};
 ghost use Rattle.dt_resolve_model.specs.Interrupts.{most_hops};
-ghost use Rattle.dt_resolve_model.specs.Specifiers.{provided, provider_hop, specifier_route};
+ghost use Rattle.dt_resolve_model.specs.Specifiers.{provided, provider_hop, specifier_at, specifier_route};
 ghost use Rattle.dt_irq.specs.Cells.{numbers_of};
 ghost use Rattle.dt_irq.specs.Merging.{first_merged, merged_numbers, number_passed};
 ghost use Rattle.dt_irq.specs.Seen.{end_of, route_in, sent_in, HasArrived, IsSpecified};
@@ -13,7 +13,7 @@ ghost use Rattle.dt_view.specs.Views.{world_of};
 
 use crate::reached::{MOST_CELLS, MOST_HOPS, Route, cells_of};
 use crate::rows::{first_match, mask_of};
-use crate::sending::{Sent, entry_sent};
+use crate::sending::{Sent, entry_sent, sent_at};
 use crate::spaces::{Space, value_named};
 use dt_names::{Fault, FaultKind, NodeId};
 use dt_view::{TreeView, cell_at};
@@ -130,5 +130,31 @@ pub fn specifier_route<V: TreeView>(
         return Err(Fault::of(FaultKind::NoInterrupts));
     };
     let sent = entry_sent(view, Space::Kind(kind), list, index)?;
+    provided(view, kind, sent)
+}
+
+/// The route of the specifier that begins at a byte of a property of a node, as `specifier_route` goes, whatever is before it. So a caller can go on
+/// behind an entry that it passes over, such as the phandle 0 of an entry that isn't used.
+///
+/// # Errors
+///
+/// `NoInterrupts`: a node without the property, or no cell begins at that byte. `BadCells`: a count of cells that is absent or not from 0 to 8, a list
+/// that is cut behind that byte or ends in a part of a cell. Others as those of `specifier_route`, of this entry alone.
+pub fn specifier_at<V: TreeView>(
+    view: &V,
+    node: NodeId,
+    property: &[u8],
+    kind: &[u8],
+    at: u64,
+) -> Result<Route, Fault>
+    requires { IsNode (V.tree view.now) node }
+    ensures is { told_as (route_in (V.tree view.now)) result ≡ specifier_at (world_of (V.tree view.now))
+        (path_at (V.tree view.now) node) property.now kind.now at }
+    ensures arrived { IfOk result (HasArrived (V.tree view.now)) }
+{
+    let Some(list) = view.value(node, property) else {
+        return Err(Fault::of(FaultKind::NoInterrupts));
+    };
+    let sent = sent_at(view, Space::Kind(kind), list, at)?;
     provided(view, kind, sent)
 }

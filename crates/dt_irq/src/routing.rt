@@ -6,7 +6,7 @@ ghost use Rattle.dt_names.specs.declared.fault.FaultKind.TheVariants.{NoInterrup
 ghost use Rattle.dt_read.specs.Placed.{path_at, IsNode};
 ghost use Rattle.dt_resolve_model.specs.Answers.{answer, refuse, refused, told_as};
 ghost use Rattle.dt_resolve_model.specs.World.{quads_of};
-ghost use Rattle.dt_resolve_model.specs.Interrupts.{IsRoute, most_hops, routed};
+ghost use Rattle.dt_resolve_model.specs.Interrupts.{IsRoute, interrupt_at, most_hops, routed};
 ghost use Rattle.dt_irq.specs.Cells.{unit_at};
 ghost use Rattle.dt_irq.specs.RoutesLeft.{AreLeft, IsLeft, length_left};
 ghost use Rattle.dt_irq.specs.Seen.{interrupt_in, route_in, HasArrived, IsSpecified};
@@ -15,6 +15,8 @@ ghost use Rattle.dt_view.specs.Views.{world_of};
 use crate::hops::{Interrupt, hop};
 use crate::lists::Entries;
 use crate::reached::{MOST_HOPS, Route, cells_of};
+use crate::sending::sent_at;
+use crate::spaces::Space;
 use dt_names::{Fault, FaultKind, NodeId};
 use dt_view::TreeView;
 
@@ -124,6 +126,33 @@ pub fn route<V: TreeView>(view: &V, node: NodeId, index: u64) -> Result<Route, F
     ensures arrived { IfOk result (HasArrived (V.tree view.now)) }
 {
     let sent = Entries::of(view, node)?.nth(view, index)?;
+    let unit = unit_of(view, node);
+    routed(
+        view,
+        Interrupt {
+            node: sent.node,
+            unit,
+            specifier: sent.specifier,
+        },
+    )
+}
+
+/// The route of the interrupt that begins at a byte of a node's `interrupts-extended`, as `route` goes, whatever is before it. So a caller can go on
+/// behind an entry that it passes over, such as the phandle 0 of an entry that isn't used.
+///
+/// # Errors
+///
+/// `NoInterrupts`: a node without `interrupts-extended`, or no cell begins at that byte. `BadCells`: a count of cells, a list that is cut behind that
+/// byte or ends in a part of a cell. Others as those of `route`, of this entry alone.
+pub fn interrupt_at<V: TreeView>(view: &V, node: NodeId, at: u64) -> Result<Route, Fault>
+    requires { IsNode (V.tree view.now) node }
+    ensures is { told_as (route_in (V.tree view.now)) result ≡ interrupt_at (world_of (V.tree view.now)) (path_at (V.tree view.now) node) at }
+    ensures arrived { IfOk result (HasArrived (V.tree view.now)) }
+{
+    let Some(list) = view.value(node, b"interrupts-extended") else {
+        return Err(Fault::of(FaultKind::NoInterrupts));
+    };
+    let sent = sent_at(view, Space::Interrupts, list, at)?;
     let unit = unit_of(view, node);
     routed(
         view,

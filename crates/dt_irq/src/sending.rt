@@ -3,7 +3,7 @@
 ghost use Rattle.std.specs.Prelude.{◌≡◌, ◌<◌, length, None, IfOk, if◌then◌else◌};
 ghost use Rattle.dt_read.specs.Placed.{path_at, IsNode};
 ghost use Rattle.dt_resolve_model.specs.World.{quads_of, value_of_bytes};
-ghost use Rattle.dt_resolve_model.specs.Interrupts.{entry_sent, first_entry, is_ragged};
+ghost use Rattle.dt_resolve_model.specs.Interrupts.{cells_from, entry_sent, first_entry, is_ragged, sent_at};
 ghost use Rattle.dt_resolve_model.specs.Answers.{told_as};
 ghost use Rattle.dt_irq.specs.Seen.{entry_in, sent_in, IsSpecified};
 ghost use Rattle.dt_irq.specs.Spaces.{count_in};
@@ -87,4 +87,30 @@ pub(crate) fn entry_sent<'v, V: TreeView>(
         rest = first_entry(view, space, rest)?.rest;
     }
     Ok(first_entry(view, space, rest)?.sent)
+}
+
+/// A list from a byte on: its cells where one begins there, else only what is behind its last whole cell.
+fn list_from(list: &[u8], at: u64) -> &[u8]
+    ensures cells { quads_of result.now ≡ cells_from at (quads_of list.now) }
+    ensures ragged { is_ragged (value_of_bytes result.now) ≡ is_ragged (value_of_bytes list.now) }
+{
+    let cells = list.len() / 4;
+    if at % 4 == 0 && at / 4 < cells as u64 {
+        return cells_after(list, (at / 4) as usize);
+    }
+    cells_after(list, cells)
+}
+
+/// The entry that begins at a byte of a list, whatever is before it.
+pub(crate) fn sent_at<'v, V: TreeView>(
+    view: &V,
+    space: Space<'_>,
+    list: &'v [u8],
+    at: u64,
+) -> Result<Sent<'v>, Fault>
+    ensures is { told_as (sent_in (V.tree view.now)) result
+        ≡ sent_at (world_of (V.tree view.now)) (count_in space.entry (world_of (V.tree view.now))) at (value_of_bytes list.now) }
+    ensures there { IfOk result (λ s. IsSpecified (V.tree view.now) s.node s.specifier.now) }
+{
+    Ok(first_entry(view, space, list_from(list, at))?.sent)
 }

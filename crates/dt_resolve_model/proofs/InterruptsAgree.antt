@@ -1,5 +1,5 @@
 -- The route that a world determines is the one of each world that refines it.
-use Rattle.std.proofs.Common.{◌≡◌, ℕ, suc, zero, ◌+◌, ◌-◌, ◌*◌, ◌%◌, Bool, true, false, not, ◌==◌, inl, inr, List, [], ◌∷◌, ◌++◌, take, drop, length, refl, sym, ap, ◌∙◌, subst, Option, Some, None, arith}
+use Rattle.std.proofs.Common.{◌≡◌, ℕ, suc, zero, ◌+◌, ◌-◌, ◌*◌, ◌/◌, ◌%◌, Bool, true, false, not, ◌==◌, inl, inr, List, [], ◌∷◌, ◌++◌, take, drop, length, refl, sym, ap, ◌∙◌, subst, Option, Some, None, arith}
 use Rattle.std.specs.Prelude.{if◌then◌else◌, codes, nat_lt, is_some}
 use Rattle.dt_names.specs.declared.fault.FaultKind.TheVariants.{BadCells, NoInterrupts, Loop, BadMap, NoUnitAddress}
 use Rattle.dt_model.specs.Names.{Name}
@@ -8,7 +8,7 @@ use Rattle.dt_resolve_model.specs.Above.{parent_of}
 use Rattle.dt_resolve_model.specs.Answers.{Answer, undetermined, refused, answer, refuse, ◌>>=◌, Agrees}
 use Rattle.dt_resolve_model.specs.World.{Quad, Value, World}
 use Rattle.dt_resolve_model.specs.Regions.{figure_of, only_cell, address_count, entries_of, entry_at}
-use Rattle.dt_resolve_model.specs.Interrupts.{step_by, step_of, Lead, nowhere, arrived, onward, step_to, steps_from, after_step, ended, IsInterruptParent, specifier_size, size_told, size_at, specifier_count, Sent, Entry, entry_of, first_entry, entry_sent, is_ragged, listed_at, IsSentBy, Interrupt, RowCells, MapRow, map_row_of, map_row_at_parent, map_row, interrupt_row_cells, as_numbers, equal_under, matches, first_match, mask_of, led, hop, Route, at_node, arrival, routed, unit_of, most_hops, route_of_sent, IsRoute}
+use Rattle.dt_resolve_model.specs.Interrupts.{step_by, step_of, Lead, nowhere, arrived, onward, step_to, steps_from, after_step, ended, IsInterruptParent, specifier_size, size_told, size_at, specifier_count, Sent, Entry, entry_of, first_entry, entry_sent, is_ragged, cells_from, sent_at, listed_at, IsSentBy, Interrupt, RowCells, MapRow, map_row_of, map_row_at_parent, map_row, interrupt_row_cells, as_numbers, equal_under, matches, first_match, mask_of, led, hop, Route, at_node, arrival, routed, unit_of, most_hops, route_of_sent, IsRoute, extended_at, interrupt_at}
 use Rattle.dt_resolve_model.proofs.Agreeing.{Same, agree_bind, agree_refl, agree_same, IsSeen, AreSeen, IsValueSeen, IsMaybeSeen, Refines, seen_figure, seen_take, seen_drop, seen_length, seen_append}
 use Rattle.dt_resolve_model.proofs.RegionsAgree.{only_cell_agrees, only_number_agrees, address_count_agrees, AreAllSeen, entries_of_agree, entry_agrees}
 
@@ -142,6 +142,20 @@ first_entry_agrees v w r f g e ragged (c ∷ cs) (d ∷ ds) h =
 pub entry_sent_agrees : (v w : World) → Refines v w → (f g : Path → Answer ℕ) → ((q : Path) → Agrees (Same ℕ) (f q) (g q)) → (ragged : Bool) (i : ℕ) (cs ds : List Quad) → AreSeen w cs ds → Agrees (IsSentSeen w) (entry_sent v f ragged i cs) (entry_sent w g ragged i ds)
 entry_sent_agrees v w r f g e ragged zero cs ds h = agree_bind (IsEntrySeen w) (IsSentSeen w) (first_entry v f ragged cs) (first_entry w g ragged ds) _ _ (first_entry_agrees v w r f g e ragged cs ds h) (λ a b k. (b.sent, refl, k.sent))
 entry_sent_agrees v w r f g e ragged (suc i) cs ds h = agree_bind (IsEntrySeen w) (IsSentSeen w) (first_entry v f ragged cs) (first_entry w g ragged ds) _ _ (first_entry_agrees v w r f g e ragged cs ds h) (λ a b k. entry_sent_agrees v w r f g e ragged i a.rest b.rest k.rest)
+
+seen_from : (w : World) (at : ℕ) (cs ds : List Quad) → AreSeen w cs ds → AreSeen w (cells_from at cs) (cells_from at ds)
+seen_from w at cs ds h = step (at % 4 == 0)
+  where
+    step : (t : Bool) → AreSeen w (if t then drop (at / 4) cs else []) (if t then drop (at / 4) ds else [])
+    step true = seen_drop w (at / 4) cs ds h
+    step false = tt
+
+pub sent_at_agrees : (v w : World) → Refines v w → (f g : Path → Answer ℕ) → ((q : Path) → Agrees (Same ℕ) (f q) (g q)) → (at : ℕ) (a b : Value) → IsValueSeen w a b → Agrees (IsSentSeen w) (sent_at v f at a) (sent_at w g at b)
+sent_at_agrees v w r f g e at a b h =
+    let same : is_ragged b ≡ is_ragged a = ap (λ (n : ℕ). not (n % 4 == 0)) h.size in
+    subst (λ (t : Bool). Agrees (IsSentSeen w) (sent_at v f at a) (first_entry w g t (cells_from at b.cells) >>= λ x. answer x.sent)) (sym same)
+    (agree_bind (IsEntrySeen w) (IsSentSeen w) (first_entry v f (is_ragged a) (cells_from at a.cells)) (first_entry w g (is_ragged a) (cells_from at b.cells)) _ _
+    (first_entry_agrees v w r f g e (is_ragged a) (cells_from at a.cells) (cells_from at b.cells) (seen_from w at a.cells b.cells h.cells)) (λ x y k. (y.sent, refl, k.sent)))
 
 listed_at_agrees : (v w : World) → Refines v w → (index : ℕ) (a b : Value) → IsValueSeen w a b → (q : Path) → Agrees (IsSentSeen w) (listed_at v index a q) (listed_at w index b q)
 listed_at_agrees v w r index a b h q =
@@ -350,3 +364,16 @@ route_agrees v w r p index x y (s, h, e) (s', h', e') =
     (agree_bind (IsSentSeen w) (Same Route) s s' (route_of_sent v p) (route_of_sent w p)
     (sent_by_agrees v w r p index (v.value p (codes "interrupts-extended")) (w.value p (codes "interrupts-extended")) (v.value p (codes "interrupts")) (w.value p (codes "interrupts")) (r.value p (codes "interrupts-extended")) (r.value p (codes "interrupts")) s s' h h')
     (route_of_sent_agrees v w r p)))
+
+extended_at_agrees : (v w : World) → Refines v w → (at : ℕ) (a b : Option Value) → IsMaybeSeen w a b → Agrees (IsSentSeen w) (extended_at v at a) (extended_at w at b)
+extended_at_agrees v w r at None None h = refl
+extended_at_agrees v w r at None (Some b) h = absurd h
+extended_at_agrees v w r at (Some a) None h = absurd h
+extended_at_agrees v w r at (Some a) (Some b) h = sent_at_agrees v w r (specifier_count v) (specifier_count w) (specifier_count_agrees v w r) at a b h
+
+-- the same of the interrupt that begins at a byte
+pub interrupt_at_agrees : (v w : World) → Refines v w → (p : Path) (at : ℕ) → Agrees (Same Route) (interrupt_at v p at) (interrupt_at w p at)
+interrupt_at_agrees v w r p at =
+    agree_bind (IsSentSeen w) (Same Route) (v.value p (codes "interrupts-extended") >>= extended_at v at) (w.value p (codes "interrupts-extended") >>= extended_at w at) (route_of_sent v p) (route_of_sent w p)
+    (agree_bind (IsMaybeSeen w) (IsSentSeen w) (v.value p (codes "interrupts-extended")) (w.value p (codes "interrupts-extended")) (extended_at v at) (extended_at w at) (r.value p (codes "interrupts-extended")) (extended_at_agrees v w r at))
+    (route_of_sent_agrees v w r p)

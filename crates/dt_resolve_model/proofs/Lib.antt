@@ -11,3 +11,4 @@ pub mod Named
 pub mod NamedRoutes
 pub mod QuadsOfBytes
 pub mod Entries
+pub mod Beginnings

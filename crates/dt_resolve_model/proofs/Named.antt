@@ -13,8 +13,8 @@ use Rattle.dt_resolve_model.specs.Above.{front}
 use Rattle.dt_resolve_model.specs.Answers.{Answer, undetermined, refused, answer, refuse, ◌>>=◌}
 use Rattle.dt_resolve_model.specs.World.{Quad, figure, pointer, torn, Value, World, tree_world, value_of_bytes, node_found}
 use Rattle.dt_resolve_model.specs.Regions.{figure_of, joined_to, joined, cells_at, first_cell, only_cell, only_number, count_of, address_count, size_count, bus_cells, is_pci_text, is_pci, entries_of, mapped_by, mapped, fitting, by_ranges, unless_pci, risen, translated, region_at, entry_at, listed, region, dma_region}
-use Rattle.dt_resolve_model.specs.Interrupts.{RowCells, size_told, Sent, first_entry, entry_sent, is_ragged, map_row_at_parent, map_row, as_numbers, matches, first_match, mask_of, Route, most_hops}
-use Rattle.dt_resolve_model.specs.Specifiers.{cells_name, map_name, mask_name, pass_name, provider_count, provider_of, provider_row_cells, passed_cell, merged, provider_hop, provided_at, provision, provided, specifier_route}
+use Rattle.dt_resolve_model.specs.Interrupts.{RowCells, size_told, Sent, first_entry, entry_sent, is_ragged, cells_from, map_row_at_parent, map_row, as_numbers, matches, first_match, mask_of, Route, most_hops}
+use Rattle.dt_resolve_model.specs.Specifiers.{cells_name, map_name, mask_name, pass_name, provider_count, provider_of, provider_row_cells, passed_cell, merged, provider_hop, provided_at, provision, provided, specifier_route, provider_at, specifier_at}
 use Rattle.dt_resolve_model.specs.Faults.{IsRegionFault, IsSpecifierFault, IsRefusedFor}
 
 module _ (is : FaultKind → Type 0) where
@@ -181,7 +181,7 @@ module _ (is : FaultKind → Type 0) (may : AreListFaults is) (t : Reading) wher
   of_node torn = tt
 
   module _ (count : Path → Answer ℕ) (counts : (q : Path) → IsRefusedFor is (count q)) where
-    of_first : (ragged : Bool) (cells : List Quad) → IsRefusedFor is (first_entry (tree_world t) count ragged cells)
+    pub of_first : (ragged : Bool) (cells : List Quad) → IsRefusedFor is (first_entry (tree_world t) count ragged cells)
     of_first true [] = (may.cells, refl)
     of_first false [] = (may.absent, refl)
     of_first ragged (cell ∷ cells) =
@@ -281,3 +281,13 @@ module _ (t : Reading) where
         by : (o : Option Value) → Named (provider_of v kind index o)
         by None = (tt, refl)
         by (Some list) = of_sent IsSpecifierFault specifier_faults t (provider_count v kind) of_provider (is_ragged list) index list.cells
+
+    pub specifier_at_named : (p : Path) (property : Name) (at : ℕ) → Named (specifier_at v p property kind at)
+    specifier_at_named p property at =
+        bound IsSpecifierFault (v.value p property >>= provider_at v kind at) _ (by (option_map value_of_bytes (value_in t p property))) (of_provided most_hops 0)
+      where
+        by : (o : Option Value) → Named (provider_at v kind at o)
+        by None = (tt, refl)
+        by (Some list) =
+            bound IsSpecifierFault (first_entry v (provider_count v kind) (is_ragged list) (cells_from at list.cells)) _
+            (of_first IsSpecifierFault specifier_faults t (provider_count v kind) of_provider (is_ragged list) (cells_from at list.cells)) (λ x. tt)

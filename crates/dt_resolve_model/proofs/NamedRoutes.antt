@@ -1,16 +1,15 @@
 -- The route of an interrupt is refused for the faults that its rules name.
-use Rattle.std.proofs.Common.{◌≡◌, ℕ, suc, zero, ◌+◌, Bool, true, false, List, [], ◌∷◌, ◌++◌, take, length, refl, sym, subst, inl, inr, Option, Some, None}
+use Rattle.std.proofs.Common.{◌≡◌, ℕ, suc, zero, ◌+◌, List, ◌++◌, take, length, refl, sym, subst, inl, inr, Option, Some, None}
 use Rattle.std.specs.Prelude.{codes, nat_lt, option_map}
-use Rattle.dt_names.specs.declared.fault.Fault.{Fault}
 use Rattle.dt_names.specs.declared.fault.FaultKind.TheVariants.{NoInterrupts, NoParent, Loop}
 use Rattle.dt_model.specs.Path.{Path}
 use Rattle.dt_model.specs.Tree.{Reading, value_in}
 use Rattle.dt_resolve_model.specs.Answers.{Answer, undetermined, refused, answer, refuse, ◌>>=◌}
 use Rattle.dt_resolve_model.specs.World.{Quad, Value, World, tree_world, value_of_bytes}
 use Rattle.dt_resolve_model.specs.Regions.{only_cell, address_count, entries_of, entry_at}
-use Rattle.dt_resolve_model.specs.Interrupts.{step_by, step_of, Lead, nowhere, arrived, onward, step_to, steps_from, after_step, ended, IsInterruptParent, specifier_count, Sent, is_ragged, listed_at, IsSentBy, IsSent, Interrupt, interrupt_row_cells, as_numbers, mask_of, first_match, led, hop, Route, at_node, arrival, routed, most_hops, route_of_sent, IsRoute}
+use Rattle.dt_resolve_model.specs.Interrupts.{step_by, step_of, Lead, nowhere, arrived, onward, step_to, steps_from, after_step, ended, IsInterruptParent, specifier_count, Sent, first_entry, is_ragged, cells_from, listed_at, IsSentBy, IsSent, Interrupt, interrupt_row_cells, as_numbers, mask_of, first_match, led, hop, Route, at_node, arrival, routed, most_hops, IsRoute, extended_at, interrupt_at}
 use Rattle.dt_resolve_model.specs.Faults.{IsRouteFault, IsRefusedFor, AreNamed}
-use Rattle.dt_resolve_model.proofs.Named.{bound, chosen, of_numbers, of_entry, of_count, of_size, of_entries, of_cell, AreListFaults, of_node, of_sent, of_mask, of_match, region_named, dma_region_named, specifier_named}
+use Rattle.dt_resolve_model.proofs.Named.{bound, chosen, of_numbers, of_entry, of_count, of_size, of_entries, of_cell, AreListFaults, of_node, of_first, of_sent, of_mask, of_match, region_named, dma_region_named, specifier_named, specifier_at_named}
 
 abbrev route_faults : AreListFaults IsRouteFault
 route_faults = record { cells = tt; absent = tt; unknown = tt; broken = tt; unmatched = tt }
@@ -114,10 +113,22 @@ module _ (t : Reading) where
       (bound IsRouteFault h.0 _ (of_is_sent p index h.0 h.1)
       (λ sent. of_routed most_hops 0 _))
 
+  interrupt_at_named : (p : Path) (at : ℕ) → Fine (interrupt_at w p at)
+  interrupt_at_named p at =
+      bound IsRouteFault (w.value p (codes "interrupts-extended") >>= extended_at w at) _ (by (at_in p (codes "interrupts-extended"))) (λ sent. of_routed most_hops 0 _)
+    where
+      by : (o : Option Value) → Fine (extended_at w at o)
+      by None = (tt, refl)
+      by (Some v) =
+          bound IsRouteFault (first_entry w (specifier_count w) (is_ragged v) (cells_from at v.cells)) _
+          (of_first IsRouteFault route_faults t (specifier_count w) of_count_at (is_ragged v) (cells_from at v.cells)) (λ x. tt)
+
 pub are_named : (t : Reading) → AreNamed t
 are_named t = record {
   regions = region_named t;
   dma_regions = dma_region_named t;
   routes = route_named t;
   specifiers = λ p property kind index. specifier_named t kind p property index;
+  interrupts_at = interrupt_at_named t;
+  specifiers_at = λ p property kind at. specifier_at_named t kind p property at;
 }

@@ -8,9 +8,9 @@ use Rattle.dt_resolve_model.specs.Answers.{Answer, answer, refuse, ◌>>=◌, Ag
 use Rattle.dt_resolve_model.specs.World.{Quad, figure, Value, World}
 use Rattle.dt_resolve_model.specs.Regions.{figure_of}
 use Rattle.dt_resolve_model.specs.Interrupts.{Sent, entry_sent, is_ragged, MapRow, as_numbers, first_match, mask_of, Route, most_hops}
-use Rattle.dt_resolve_model.specs.Specifiers.{cells_name, map_name, mask_name, pass_name, provider_count, provider_of, provider_row_cells, passed, passed_cell, merged, led_by, provider_hop, provided_at, provision, provided, specifier_route}
+use Rattle.dt_resolve_model.specs.Specifiers.{cells_name, map_name, mask_name, pass_name, provider_count, provider_of, provider_row_cells, passed, passed_cell, merged, led_by, provider_hop, provided_at, provision, provided, specifier_route, provider_at, specifier_at}
 use Rattle.dt_resolve_model.proofs.Agreeing.{Same, agree_bind, agree_refl, agree_same, IsSeen, AreSeen, IsValueSeen, IsMaybeSeen, Refines, seen_figure, seen_length}
-use Rattle.dt_resolve_model.proofs.InterruptsAgree.{IsSentSeen, IsRowSeen, AreWidthsSame, agree_at, size_agrees, entry_sent_agrees, first_match_agrees, mask_of_agrees, as_numbers_agree}
+use Rattle.dt_resolve_model.proofs.InterruptsAgree.{IsSentSeen, IsRowSeen, AreWidthsSame, agree_at, size_agrees, entry_sent_agrees, sent_at_agrees, first_match_agrees, mask_of_agrees, as_numbers_agree}
 
 count_agrees : (v w : World) → Refines v w → (kind : Name) (p : Path) → Agrees (Same ℕ) (provider_count v kind p) (provider_count w kind p)
 count_agrees v w r kind p = size_agrees v w r 0 (cells_name kind) p
@@ -111,4 +111,17 @@ pub specifier_route_agrees : (v w : World) → Refines v w → (p : Path) (prope
 specifier_route_agrees v w r p property kind index =
     agree_bind (IsSentSeen w) (Same Route) (v.value p property >>= provider_of v kind index) (w.value p property >>= provider_of w kind index) (provided v kind most_hops 0) (provided w kind most_hops 0)
     (agree_bind (IsMaybeSeen w) (IsSentSeen w) (v.value p property) (w.value p property) (provider_of v kind index) (provider_of w kind index) (r.value p property) (provider_agrees v w r kind index))
+    (provided_agrees v w r kind most_hops 0)
+
+provider_at_agrees : (v w : World) → Refines v w → (kind : Name) (at : ℕ) (a b : Option Value) → IsMaybeSeen w a b → Agrees (IsSentSeen w) (provider_at v kind at a) (provider_at w kind at b)
+provider_at_agrees v w r kind at None None h = refl
+provider_at_agrees v w r kind at None (Some b) h = absurd h
+provider_at_agrees v w r kind at (Some a) None h = absurd h
+provider_at_agrees v w r kind at (Some a) (Some b) h = sent_at_agrees v w r (provider_count v kind) (provider_count w kind) (count_agrees v w r kind) at a b h
+
+-- the same of the specifier that begins at a byte
+pub specifier_at_agrees : (v w : World) → Refines v w → (p : Path) (property kind : Name) (at : ℕ) → Agrees (Same Route) (specifier_at v p property kind at) (specifier_at w p property kind at)
+specifier_at_agrees v w r p property kind at =
+    agree_bind (IsSentSeen w) (Same Route) (v.value p property >>= provider_at v kind at) (w.value p property >>= provider_at w kind at) (provided v kind most_hops 0) (provided w kind most_hops 0)
+    (agree_bind (IsMaybeSeen w) (IsSentSeen w) (v.value p property) (w.value p property) (provider_at v kind at) (provider_at w kind at) (r.value p property) (provider_at_agrees v w r kind at))
     (provided_agrees v w r kind most_hops 0)

@@ -8,8 +8,8 @@ use Rattle.dt_names.specs.declared.fault.FaultKind.TheVariants.{NoReg, BadCells,
 use Rattle.dt_resolve_model.specs.Answers.{Answer, undetermined, refused, answer}
 use Rattle.dt_resolve_model.specs.World.{tree_world}
 use Rattle.dt_resolve_model.specs.Regions.{region, dma_region}
-use Rattle.dt_resolve_model.specs.Interrupts.{Route, IsRoute}
-use Rattle.dt_resolve_model.specs.Specifiers.{specifier_route}
+use Rattle.dt_resolve_model.specs.Interrupts.{Route, IsRoute, interrupt_at}
+use Rattle.dt_resolve_model.specs.Specifiers.{specifier_route, specifier_at}
 
 -- those of regions
 abbrev pub IsRegionFault : FaultKind → Type 0
@@ -55,3 +55,5 @@ pub record AreNamed (t : Reading) : Type 0 where
   pub dma_regions : (p : Path) (address size : ℕ) → IsRefusedFor IsRegionFault (dma_region (tree_world t) p address size)
   pub routes : (p : Path) (index : ℕ) (r : Answer Route) → IsRoute (tree_world t) p index r → IsRefusedFor IsRouteFault r
   pub specifiers : (p : Path) (property kind : Name) (index : ℕ) → IsRefusedFor IsSpecifierFault (specifier_route (tree_world t) p property kind index)
+  pub interrupts_at : (p : Path) (at : ℕ) → IsRefusedFor IsRouteFault (interrupt_at (tree_world t) p at)
+  pub specifiers_at : (p : Path) (property kind : Name) (at : ℕ) → IsRefusedFor IsSpecifierFault (specifier_at (tree_world t) p property kind at)

@@ -1,5 +1,5 @@
 -- Routes of interrupts to their controllers (Devicetree Specification v0.4, 2.4).
-use Rattle.std.specs.Prelude.{◌≡◌, ℕ, zero, suc, ◌+◌, ◌-◌, ◌*◌, ◌%◌, Bool, true, false, not, ◌&&◌, ◌==◌, ◌⊎◌, nat_le, nat_lt, List, [], ◌∷◌, ◌++◌, length, take, drop, codes, Option, Some, None, is_some, if◌then◌else◌}
+use Rattle.std.specs.Prelude.{◌≡◌, ℕ, zero, suc, ◌+◌, ◌-◌, ◌*◌, ◌/◌, ◌%◌, Bool, true, false, not, ◌&&◌, ◌==◌, ◌⊎◌, nat_le, nat_lt, List, [], ◌∷◌, ◌++◌, length, take, drop, codes, Option, Some, None, is_some, if◌then◌else◌}
 use Rattle.std.specs.Int.Bits.{bit_and}
 use Rattle.dt_names.specs.declared.fault.FaultKind.TheVariants.{BadCells, NoInterrupts, NoParent, Loop, BadMap, NoMapEntry, NoUnitAddress}
 use Rattle.dt_model.specs.Names.{Name}
@@ -95,6 +95,25 @@ entry_sent w count ragged (suc i) cells = first_entry w count ragged cells >>= �
 -- bytes are left behind the last whole cell
 abbrev pub is_ragged : Value → Bool
 is_ragged v = not (v.size % 4 == 0)
+
+-- a list's cells from a byte on: none where no cell begins there
+abbrev pub cells_from : ℕ → List Quad → List Quad
+cells_from at cells = if at % 4 == 0 then drop (at / 4) cells else []
+
+-- where the entry is sent that begins at a byte of a list, whatever is before it
+abbrev pub sent_at : World → (Path → Answer ℕ) → ℕ → Value → Answer Sent
+sent_at w count at v = first_entry w count (is_ragged v) (cells_from at v.cells) >>= λ x. answer x.sent
+
+-- the cells behind so many entries of a list, which are read in order
+abbrev pub cells_behind : World → (Path → Answer ℕ) → Bool → ℕ → List Quad → Answer (List Quad)
+cells_behind w count ragged zero cells = answer cells
+cells_behind w count ragged (suc i) cells = first_entry w count ragged cells >>= λ x. cells_behind w count ragged i x.rest
+
+-- the byte of a list at which the entry begins that an index names: all cells that are left from there on are behind the entries before it
+pub record IsBeginning (w : World) (count : Path → Answer ℕ) (v : Value) (index at : ℕ) : Type 0 where
+  pub left : List Quad
+  pub behind : cells_behind w count (is_ragged v) index v.cells ≡ answer left
+  pub place : at + 4 * length left ≡ 4 * length v.cells
 
 -- an entry of `interrupts`, at the interrupt parent (2.4.1.1)
 abbrev pub listed_at : World → ℕ → Value → Path → Answer Sent
@@ -240,3 +259,12 @@ route_of_sent w p sent = w.value p (codes "reg") >>= λ v. routed w most_hops 0 
 -- the route of the interrupt of a node that an index names
 abbrev pub IsRoute : World → Path → ℕ → Answer Route → Type 0
 IsRoute w p index r = (sent : Answer Sent) × IsSent w p index sent × (r ≡ (sent >>= route_of_sent w p))
+
+-- where the interrupt is sent that begins at a byte of `interrupts-extended`; without it there is none
+abbrev pub extended_at : World → ℕ → Option Value → Answer Sent
+extended_at w at None = refuse NoInterrupts
+extended_at w at (Some v) = sent_at w (specifier_count w) at v
+
+-- the route of the interrupt of a node that begins at a byte of its `interrupts-extended`
+abbrev pub interrupt_at : World → Path → ℕ → Answer Route
+interrupt_at w p at = w.value p (codes "interrupts-extended") >>= extended_at w at >>= route_of_sent w p

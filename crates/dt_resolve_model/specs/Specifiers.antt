@@ -8,7 +8,7 @@ use Rattle.dt_model.specs.Path.{Path}
 use Rattle.dt_resolve_model.specs.Answers.{Answer, answer, refuse, ◌>>=◌}
 use Rattle.dt_resolve_model.specs.World.{Quad, figure, Value, World}
 use Rattle.dt_resolve_model.specs.Regions.{figure_of}
-use Rattle.dt_resolve_model.specs.Interrupts.{size_at, Sent, entry_sent, is_ragged, RowCells, MapRow, as_numbers, first_match, mask_of, Route, most_hops}
+use Rattle.dt_resolve_model.specs.Interrupts.{size_at, Sent, entry_sent, is_ragged, sent_at, RowCells, MapRow, as_numbers, first_match, mask_of, Route, most_hops}
 
 -- `#KIND-cells`, `KIND-map`, `KIND-map-mask` and `KIND-map-pass-thru` (2.5.1)
 abbrev pub cells_name : Name → Name
@@ -83,3 +83,12 @@ provided w kind (suc left) hops at = provision w kind (λ v. provider_hop w kind
 -- the route of the specifier that an index names in a property of a node, by the names of a kind
 abbrev pub specifier_route : World → Path → Name → Name → ℕ → Answer Route
 specifier_route w p property kind index = w.value p property >>= provider_of w kind index >>= provided w kind most_hops 0
+
+-- where the entry is sent that begins at a byte of a property; without it there is none
+abbrev pub provider_at : World → Name → ℕ → Option Value → Answer Sent
+provider_at w kind at None = refuse NoInterrupts
+provider_at w kind at (Some v) = sent_at w (provider_count w kind) at v
+
+-- the route of the specifier that begins at a byte of a property of a node, by the names of a kind
+abbrev pub specifier_at : World → Path → Name → Name → ℕ → Answer Route
+specifier_at w p property kind at = w.value p property >>= provider_at w kind at >>= provided w kind most_hops 0

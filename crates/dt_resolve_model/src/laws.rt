@@ -2,7 +2,8 @@
 
 ghost use Rattle.dt_model.specs.Tree.{Reading};
 ghost use Rattle.dt_resolve_model.specs.Faults.{AreNamed};
-ghost use Rattle.dt_resolve_model.specs.Laws.{MeaningIsResolved, ParentIsOne, RouteIsOne, WrittenNumbersAreFound};
+ghost use Rattle.dt_resolve_model.specs.World.{World};
+ghost use Rattle.dt_resolve_model.specs.Laws.{EntriesAreAtTheirBytes, MeaningIsResolved, ParentIsOne, RouteIsOne, WrittenNumbersAreFound};
 
 /// Whatever a meaning determines of a region or a route, an answer or a fault, is so in the tree of each blob that represents it.
 pub fn meaning_is_resolved()
@@ -28,4 +29,9 @@ pub fn route_is_one()
 /// place.
 pub fn faults_are_named()
     ensures { (t : Reading) → AreNamed t }
+{}
+
+/// At the byte where the entry of an index begins, `interrupt_at` and `specifier_at` give the route of that index.
+pub fn entries_are_at_their_bytes()
+    ensures { (w : World) → EntriesAreAtTheirBytes w }
 {}

@@ -8,7 +8,8 @@ mod regions;
 mod rows;
 
 pub use laws::{
-    faults_are_named, meaning_is_resolved, parent_is_one, route_is_one, written_numbers_are_found,
+    entries_are_at_their_bytes, faults_are_named, meaning_is_resolved, parent_is_one, route_is_one,
+    written_numbers_are_found,
 };
 pub use questions::Question;
 pub use regions::{BusAddress, BusCells, RangeCells, Region};

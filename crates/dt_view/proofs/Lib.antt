@@ -1,14 +1,14 @@
 pub mod Walks
 pub mod Shallow
 pub mod Parents
-pub mod ParentSteps
 pub mod Openings
 pub mod Numbered
+pub mod Places
+pub mod Walking
 pub mod Tabled
 pub mod Indexed
 pub mod Steps
 pub mod Numbers
 pub mod Valued
 pub mod Children
-pub mod Places
 pub mod PathTexts

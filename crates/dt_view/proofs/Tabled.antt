@@ -1,31 +1,29 @@
 -- Tables that are filled on the way through a tree.
-use Rattle.std.proofs.Common.{◌≡◌, ◌≢◌, ◌⊎◌, ℕ, suc, ◌+◌, ◌<◌, ◌^◌, ◌==◌, nat_eq, Bool, true, false, cond, List, [], ◌∷◌, ◌++◌, length, map, Option, Some, None, codes, refl, sym, ap, subst, ◌∙◌, inl, inr, true≢false, arith}
+use Rattle.std.proofs.Common.{◌≡◌, ◌⊎◌, ℕ, suc, ◌+◌, ◌<◌, ◌^◌, nat_eq, Bool, true, false, cond, List, [], ◌∷◌, ◌++◌, length, Option, Some, None, codes, refl, sym, ap, subst, ◌∙◌, inl, inr, true≢false, arith}
 use Rattle.std.specs.Prelude.{is_some}
 use Rattle.std.specs.Int.{w32, from_be_bytes}
 use Rattle.std.proofs.lemmas.Bool.{eqb-true, eq-eqb}
 use Rattle.std.proofs.lemmas.List.{append-nil, length-append}
 use Rattle.std.proofs.lemmas.Nat.{from_be_bytes-to_be_bytes_4}
-use Rattle.dt_model.specs.Limits.{most_bodies, most_nodes}
+use Rattle.dt_model.specs.Limits.{most_nodes}
 use Rattle.dt_model.specs.Lists.{IsIn}
 use Rattle.dt_model.specs.Meaning.{cell}
 use Rattle.dt_model.specs.Names.{Name}
 use Rattle.dt_model.specs.Path.{Path}
 use Rattle.dt_model.specs.Tree.{Placed, Reading, nodes_of, value_in}
-use Rattle.dt_model.specs.Valid.{IsValid, IsWithinLimits, IsPhandle, AreDistinct, node_count, phandle_values, phandles}
+use Rattle.dt_model.specs.Valid.{IsValid, IsWithinLimits, IsPhandle, node_count, phandle_values, phandles}
 use Rattle.dt_model.proofs.Distinct.{in_flat}
 use Rattle.dt_model.proofs.Listed.{value_listed}
 use Rattle.dt_model.proofs.Preorder.{length-preorder, phandle_list, all_phandles, value_in_list}
 use Rattle.dt_model.proofs.Tests.{each_in, in_append}
 use Rattle.dt_read.specs.Placed.{PlacedTree, reading_of, path_at, place_of, IsAt, IsNode}
 use Rattle.dt_read.specs.Walked.{Step, opens, steps_of}
-use Rattle.dt_read.proofs.NodePlaces.{at_node}
 use Rattle.dt_view.specs.Tables.{at_number, HasNumber, AreParents, ArePhandles, IsNoted}
 use Rattle.dt_view.specs.Views.{IsAbove}
-use Rattle.dt_view.proofs.Walks.{innermost, parent_told, AreFew, opened, AreOpened}
+use Rattle.dt_view.proofs.Walks.{innermost, AreOpened}
 use Rattle.dt_read.specs.Placed.{HasPlacesApart}
-use Rattle.dt_view.proofs.Openings.{OpensNext, all_opened, all_apart, next_opened, none_opened}
-use Rattle.dt_view.proofs.Parents.{parent_is_above}
-use Rattle.dt_view.proofs.Shallow.{few_open}
+use Rattle.dt_view.proofs.Openings.{OpensNext, none_opened}
+use Rattle.dt_view.proofs.Walking.{IsWalked, not_walked, next_walked, walked_node, above_walked, one_walked}
 
 pub is_phandle : (t : Reading) (p : Path) (v : List ℕ) → IsValid t → value_in t p (codes "phandle") ≡ Some v → IsPhandle v
 is_phandle t p v valid e =
@@ -64,102 +62,57 @@ not_noted t node old none = record { from = λ n k e. inl e; kept = λ n some. s
 
 -- ---- step by step
 
--- the tables have the nodes that were opened, and the steps open the others
+-- the tables have the nodes that were opened
 pub record IsFilled (t : PlacedTree) (parents : List (ℕ × Option ℕ)) (phandles : List (ℕ × ℕ)) (open_nodes : List ℕ) (count : ℕ) (steps : List Step) : Type 0 where
-  pub before : List Placed
-  pub nodes : List Placed
-  pub are : AreOpened t before nodes steps
-  pub apart : AreDistinct (opened steps)
-  pub told : (k : ℕ) → IsIn k (opened steps) → parent_told k open_nodes steps ≡ parent_told k [] (steps_of t)
-  pub few : AreFew (length open_nodes) steps
-  pub above : AreParents t before parents
-  pub numbered : ArePhandles t before phandles
-  pub counted : count ≡ length before
+  pub walked : IsWalked t open_nodes steps
+  pub above : AreParents t walked.before parents
+  pub numbered : ArePhandles t walked.before phandles
+  pub counted : count ≡ length walked.before
 
 -- nothing was opened
 pub unfilled : (t : PlacedTree) → IsValid (reading_of t) → IsWithinLimits (reading_of t) → HasPlacesApart t → IsFilled t [] [] [] 0 (steps_of t)
 unfilled t valid within places = record {
-  before = [];
-  nodes = nodes_of (reading_of t);
-  are = all_opened t valid;
-  apart = all_apart t valid places;
-  told = λ k i. refl;
-  few = few_open t within;
+  walked = not_walked t valid within places;
   above = λ n k i at. absurd i;
   numbered = record { has = λ n k e. absurd (let z : None ≡ Some k = e in cc); found = λ x k n i at low has. absurd i };
   counted = refl;
 }
 
-pub opens_one : (t : PlacedTree) (parents : List (ℕ × Option ℕ)) (phandles : List (ℕ × ℕ)) (open_nodes : List ℕ) (count k : ℕ) (name : Name) (steps rest : List Step) → HasPlacesApart t → IsFilled t parents phandles open_nodes count steps → steps ≡ opens k name ∷ rest → IsNode t k
-opens_one t parents phandles open_nodes count k name steps rest places f e =
-    let next = next_opened t f.before f.nodes k name rest (subst (AreOpened t f.before f.nodes) e f.are) in
-    at_node t places next.first.path k next.at
-
 pub room_for_one : (t : PlacedTree) (parents : List (ℕ × Option ℕ)) (phandles : List (ℕ × ℕ)) (open_nodes : List ℕ) (count k : ℕ) (name : Name) (steps rest : List Step) → IsWithinLimits (reading_of t) → IsFilled t parents phandles open_nodes count steps → steps ≡ opens k name ∷ rest
-    → (length open_nodes < most_bodies) × (count < most_nodes)
+    → count < most_nodes
 room_for_one t parents phandles open_nodes count k name steps rest within f e =
-    let next = next_opened t f.before f.nodes k name rest (subst (AreOpened t f.before f.nodes) e f.are) in
-    let some : length f.nodes ≡ suc (length next.later) = ap length next.are in
-    let all : length (nodes_of (reading_of t)) ≡ length f.before + length f.nodes = ap length f.are.whole ∙ length-append f.before f.nodes in
+    let next = next_walked t open_nodes k name steps rest f.walked e in
+    let some : length f.walked.nodes ≡ suc (length next.later) = ap length next.are in
+    let all : length (nodes_of (reading_of t)) ≡ length f.walked.before + length f.walked.nodes = ap length f.walked.are.whole ∙ length-append f.walked.before f.walked.nodes in
     let size : length (nodes_of (reading_of t)) ≡ suc (node_count (reading_of t).children) = ap suc (length-preorder [] (reading_of t).children) in
     let limit = within.count in
     let is = f.counted in
-    ((subst (AreFew (length open_nodes)) e f.few).0, omega arith)
-
--- the innermost open node is the one above the node that is opened
-pub above_opened : (t : PlacedTree) (parents : List (ℕ × Option ℕ)) (phandles : List (ℕ × ℕ)) (open_nodes : List ℕ) (count k : ℕ) (name : Name) (steps rest : List Step) → IsValid (reading_of t) → HasPlacesApart t → IsFilled t parents phandles open_nodes count steps → steps ≡ opens k name ∷ rest
-    → IsAbove t k (innermost open_nodes)
-above_opened t parents phandles open_nodes count k name steps rest valid places f e =
-    let there : IsNode t k = opens_one t parents phandles open_nodes count k name steps rest places f e in
-    let told : parent_told k open_nodes (opens k name ∷ rest) ≡ parent_told k [] (steps_of t) = ap (parent_told k open_nodes) (sym e) ∙ f.told k (subst (λ s. IsIn k (opened s)) (sym e) (inl refl)) in
-    let is : innermost open_nodes ≡ parent_told k [] (steps_of t) = sym (ap (λ b. cond b (innermost open_nodes) (parent_told k (k ∷ open_nodes) rest)) (eq-eqb k k refl)) ∙ told in
-    subst (IsAbove t k) (sym is) (parent_is_above t k valid places there)
+    omega arith
 
 pub past_one : (t : PlacedTree) (parents parents' : List (ℕ × Option ℕ)) (phandles phandles' : List (ℕ × ℕ)) (open_nodes : List ℕ) (count k : ℕ) (name : Name) (steps rest : List Step) → IsValid (reading_of t) → HasPlacesApart t → IsFilled t parents phandles open_nodes count steps → steps ≡ opens k name ∷ rest
     → ((j : ℕ) → at_number parents' j ≡ cond (nat_eq k j) (Some (innermost open_nodes)) (at_number parents j)) → IsNoted t k phandles phandles' → IsFilled t parents' phandles' (k ∷ open_nodes) (count + 1) rest
 past_one t parents parents' phandles phandles' open_nodes count k name steps rest valid places f e put note = record {
-  before = f.before ++ next.first ∷ [];
-  nodes = next.later;
-  are = next.left;
-  apart = (subst (λ s. AreDistinct (opened s)) e f.apart).1;
-  told = told;
-  few = (subst (AreFew (length open_nodes)) e f.few).1;
+  walked = one_walked t open_nodes k name steps rest f.walked e;
   above = above;
   numbered = record { has = has; found = found };
-  counted = let is = f.counted in let more = length-append f.before (next.first ∷ []) in omega (arith, is, more);
+  counted = let is = f.counted in let more = length-append f.walked.before (next.first ∷ []) in omega (arith, is, more);
 }
   where
-    next : OpensNext t f.before f.nodes k rest
-    next = next_opened t f.before f.nodes k name rest (subst (AreOpened t f.before f.nodes) e f.are)
+    next : OpensNext t f.walked.before f.walked.nodes k rest
+    next = next_walked t open_nodes k name steps rest f.walked e
 
     there : IsNode t k
-    there = at_node t places next.first.path k next.at
-
-    told' : (j : ℕ) → IsIn j (opened (opens k name ∷ rest)) → parent_told j open_nodes (opens k name ∷ rest) ≡ parent_told j [] (steps_of t)
-    told' j i = ap (parent_told j open_nodes) (sym e) ∙ f.told j (subst (λ s. IsIn j (opened s)) (sym e) i)
-
-    other : (j : ℕ) → IsIn j (opened rest) → j ≢ k
-    other j i = each_in (λ z. z ≢ k) (opened rest) j (subst (λ s. AreDistinct (opened s)) e f.apart).0 i
-
-    unequal : (a b : ℕ) → a ≢ b → (b == a) ≡ false
-    unequal a b ne = by (b == a) refl
-      where
-        by : (u : Bool) → (b == a) ≡ u → u ≡ false
-        by true is = absurd (ne (sym (eqb-true b a is)))
-        by false is = refl
-
-    told : (j : ℕ) → IsIn j (opened rest) → parent_told j (k ∷ open_nodes) rest ≡ parent_told j [] (steps_of t)
-    told j i = sym (ap (λ b. cond b (innermost open_nodes) (parent_told j (k ∷ open_nodes) rest)) (unequal j k (other j i))) ∙ told' j (inr i)
+    there = walked_node t open_nodes k name steps rest f.walked e places
 
     own : IsAbove t k (innermost open_nodes)
-    own = above_opened t parents phandles open_nodes count k name steps rest valid places f e
+    own = above_walked t open_nodes k name steps rest f.walked e valid places
 
-    above : AreParents t (f.before ++ next.first ∷ []) parents'
+    above : AreParents t (f.walked.before ++ next.first ∷ []) parents'
     above n j i at = by (nat_eq k j) refl
       where
         by : (b : Bool) → nat_eq k j ≡ b → (a : Option ℕ) × (at_number parents' j ≡ Some a) × IsAbove t j a
         by true is = (innermost open_nodes, put j ∙ ap (λ b. cond b (Some (innermost open_nodes)) (at_number parents j)) is, subst (λ x. IsAbove t x (innermost open_nodes)) (eqb-true k j is) own)
-        by false is = elim (in_append n f.before (next.first ∷ []) i) [
+        by false is = elim (in_append n f.walked.before (next.first ∷ []) i) [
           | inl old ↦ let a = f.above n j old at in (a.0, put j ∙ ap (λ b. cond b (Some (innermost open_nodes)) (at_number parents j)) is ∙ a.1, a.2)
           | inr new ↦ absurd (true≢false (sym (eq-eqb k j (same new)) ∙ is))
         ]
@@ -174,8 +127,8 @@ past_one t parents parents' phandles phandles' open_nodes count k name steps res
       | inr new ↦ (subst (IsNode t) (sym new.0) there, subst (λ x. HasNumber t x n) (sym new.0) new.1)
     ]
 
-    found : (x : Placed) (j n : ℕ) → IsIn x (f.before ++ next.first ∷ []) → IsAt t x.path j → n < 2 ^ 32 → HasNumber t j n → is_some (at_number phandles' n) ≡ true
-    found x j n i at low h = elim (in_append x f.before (next.first ∷ []) i) [
+    found : (x : Placed) (j n : ℕ) → IsIn x (f.walked.before ++ next.first ∷ []) → IsAt t x.path j → n < 2 ^ 32 → HasNumber t j n → is_some (at_number phandles' n) ≡ true
+    found x j n i at low h = elim (in_append x f.walked.before (next.first ∷ []) i) [
       | inl old ↦ note.kept n (f.numbered.found x j n old at low h)
       | inr new ↦ note.own n low (subst (λ y. HasNumber t y n) (sym (same new)) h)
     ]
@@ -185,18 +138,13 @@ past_one t parents parents' phandles phandles' open_nodes count k name steps res
         same (inr none) = absurd none
 
 -- a property, or a node's end
-pub past_another : (t : PlacedTree) (parents : List (ℕ × Option ℕ)) (phandles : List (ℕ × ℕ)) (open_nodes new : List ℕ) (count : ℕ) (steps rest : List Step) → IsFilled t parents phandles open_nodes count steps → opened steps ≡ opened rest
-    → ((k : ℕ) → parent_told k open_nodes steps ≡ parent_told k new rest) → (AreFew (length open_nodes) steps → AreFew (length new) rest) → IsFilled t parents phandles new count rest
-past_another t parents phandles open_nodes new count steps rest f same told few = record {
-  before = f.before;
-  nodes = f.nodes;
-  are = record { whole = f.are.whole; places = f.are.places ∙ ap (map (λ k. Some k)) same };
-  apart = subst AreDistinct same f.apart;
-  told = λ k i. sym (told k) ∙ f.told k (subst (IsIn k) (sym same) i);
-  few = few f.few;
-  above = f.above;
-  numbered = f.numbered;
-  counted = f.counted;
+pub past_another : (t : PlacedTree) (parents : List (ℕ × Option ℕ)) (phandles : List (ℕ × ℕ)) (open_nodes new : List ℕ) (count : ℕ) (steps rest : List Step) → (f : IsFilled t parents phandles open_nodes count steps) → (w : IsWalked t new rest) → w.before ≡ f.walked.before
+    → IsFilled t parents phandles new count rest
+past_another t parents phandles open_nodes new count steps rest f w same = record {
+  walked = w;
+  above = subst (λ ns. AreParents t ns parents) (sym same) f.above;
+  numbered = subst (λ ns. ArePhandles t ns phandles) (sym same) f.numbered;
+  counted = f.counted ∙ ap length (sym same);
 }
 
 -- at the end the tables have all nodes
@@ -207,8 +155,8 @@ pub record AreAllFilled (t : PlacedTree) (parents : List (ℕ × Option ℕ)) (p
 
 pub all_filled : (t : PlacedTree) (parents : List (ℕ × Option ℕ)) (phandles : List (ℕ × ℕ)) (open_nodes : List ℕ) (count : ℕ) (steps : List Step) → IsFilled t parents phandles open_nodes count steps → steps ≡ [] → AreAllFilled t parents phandles count
 all_filled t parents phandles open_nodes count steps f e =
-    let none : f.nodes ≡ [] = none_opened t f.before f.nodes (subst (AreOpened t f.before f.nodes) e f.are) in
-    let all : nodes_of (reading_of t) ≡ f.before = f.are.whole ∙ ap (λ ns. f.before ++ ns) none ∙ append-nil f.before in
+    let none : f.walked.nodes ≡ [] = none_opened t f.walked.before f.walked.nodes (subst (AreOpened t f.walked.before f.walked.nodes) e f.walked.are) in
+    let all : nodes_of (reading_of t) ≡ f.walked.before = f.walked.are.whole ∙ ap (λ ns. f.walked.before ++ ns) none ∙ append-nil f.walked.before in
     record {
       above = subst (λ ns. AreParents t ns parents) (sym all) f.above;
       numbered = subst (λ ns. ArePhandles t ns phandles) (sym all) f.numbered;

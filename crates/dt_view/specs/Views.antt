@@ -17,6 +17,11 @@ abbrev pub IsAbove : PlacedTree → ℕ → Option ℕ → Type 0
 IsAbove t node None = path_at t node ≡ []
 IsAbove t node (Some above) = IsNode t above × (path_at t above ≡ front (path_at t node)) × (path_at t node ≢ [])
 
+-- the nodes above one, the innermost first
+abbrev pub AreAbove : PlacedTree → ℕ → List ℕ → Type 0
+AreAbove t node [] = path_at t node ≡ []
+AreAbove t node (above ∷ more) = IsAbove t node (Some above) × AreAbove t above more
+
 -- the first child of the node of a path
 abbrev pub first_child_of : PlacedTree → Path → Option ℕ
 first_child_of t path = first_place_of t path (child_names t path)

@@ -6,7 +6,7 @@ ghost use Rattle.std.specs.Option.{option_copied};
 ghost use Rattle.dt_model.specs.Applied.{is_cell, node_numbered};
 ghost use Rattle.dt_model.specs.Tree.{nodes_of, value_in};
 ghost use Rattle.dt_read.specs.Placed.{PlacedTree, last_name, path_at, place_of, reading_of, IsAt, IsNode};
-ghost use Rattle.dt_view.specs.Views.{first_child_of, next_sibling_of, IsAbove};
+ghost use Rattle.dt_view.specs.Views.{first_child_of, next_sibling_of, AreAbove, IsAbove};
 
 use crate::view::TreeView;
 use dt_names::NodeId;
@@ -21,26 +21,37 @@ pub(crate) fn root_of(blob: &Blob<'_>) -> NodeId
     blob.root()
 }
 
-/// The node above a node, by a walk up to it.
-fn parent_of(blob: &Blob<'_>, node: NodeId) -> Option<NodeId>
-    requires { IsNode blob.now node }
-    ensures { IsAbove blob.now node result }
+/// Puts the nodes above a node, the innermost first and none above the root, by a walk up to it.
+#[inline(always)]
+pub fn put_nodes_above(blob: &Blob<'_>, node: NodeId, above: &mut OpenNodes)
+    requires node { IsNode blob.now node }
+    requires none { above.old ≡ [] }
+    ensures { AreAbove blob.now node above.new }
 {
     blob.validity();
-    let mut open_nodes = OpenNodes::new();
     for step in blob.steps() {
         match step {
             Step::Open { node: here, .. } => {
                 if here == node {
-                    return open_nodes.innermost();
+                    return;
                 }
-                open_nodes.push(here);
+                above.push(here);
             }
             Step::Property { .. } => {}
-            Step::Close => open_nodes.pop(),
+            Step::Close => above.pop(),
         }
     }
-    None
+}
+
+/// The node above a node, by a walk up to it. It isn't inlined: each copy of it would keep a table of its own in the caller's frame.
+#[inline(never)]
+fn parent_of(blob: &Blob<'_>, node: NodeId) -> Option<NodeId>
+    requires { IsNode blob.now node }
+    ensures { IsAbove blob.now node result }
+{
+    let mut above = OpenNodes::new();
+    put_nodes_above(blob, node, &mut above);
+    above.innermost()
 }
 
 /// Whether a number is a node's place, by a walk up to it: for whoever has the number from elsewhere.

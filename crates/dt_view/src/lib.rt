@@ -21,7 +21,7 @@ mod values;
 mod view;
 mod ways;
 
-pub use blob::is_node;
+pub use blob::{is_node, put_nodes_above};
 pub use counts::{address_cells, cells, is_pci, one_cell};
 pub use finding::node_at;
 pub use index::Index;

@@ -1,9 +1,9 @@
-use Rattle.std.proofs.Common.{◌+◌, ◌∷◌, ℕ, Option, length, cond, nat_eq, Some, sym, ap, subst, ◌∙◌, arith}
+use Rattle.std.proofs.Common.{◌+◌, ◌∷◌, ℕ, Option, cond, nat_eq, Some, refl, sym, ap, subst, ◌∙◌, arith}
 use Rattle.dt_read.specs.StepsLeft.{step_view}
 use Rattle.dt_view.specs.Tables.{at_number, PutsChild}
-use Rattle.dt_view.proofs.Walks.{AreFew, innermost, opened, parent_told}
-use Rattle.dt_view.proofs.ParentSteps.{is_innermost, shorter}
-use Rattle.dt_view.proofs.Tabled.{IsFilled, above_opened, unfilled, opens_one, room_for_one, past_one, past_another, all_filled}
+use Rattle.dt_view.proofs.Walks.{innermost, opened}
+use Rattle.dt_view.proofs.Walking.{is_innermost, walked_node, room_walked, above_walked, property_walked, end_walked}
+use Rattle.dt_view.proofs.Tabled.{IsFilled, unfilled, room_for_one, past_one, past_another, all_filled}
 use Rattle.dt_view.proofs.Children.{names_told, none_found, one_found, others_found, all_found}
 use Rattle.dt_view.proofs.Valued.{none_valued, one_valued, others_valued, all_valued}
 use Rattle.dt_view.proofs.tables.fill.Goals as goal
@@ -21,12 +21,12 @@ loop-step-init c =
 pub push-requires : goal.push-requires
 push-requires c =
     let e = c.in-Some.ensures.steps ∙ ap (λ s. step_view s ∷ c.next.new.self) c.in-Open.is in
-    (room_for_one c.args.blob.now c.loop-step.parents.entries c.loop-step.phandles.entries c.loop-step.open_nodes c.loop-step.count c.in-Open.node c.in-Open.name.now c.loop-step.step-iterator c.next.new.self c.validity.ensures.within c.loop-step.invariant.2 e).0
+    room_walked c.args.blob.now c.loop-step.open_nodes c.in-Open.node c.in-Open.name.now c.loop-step.step-iterator c.next.new.self c.loop-step.invariant.2.walked e
 
 pub overflow_add-count : goal.overflow_add-count
 overflow_add-count c =
     let e = c.in-Some.ensures.steps ∙ ap (λ s. step_view s ∷ c.next.new.self) c.in-Open.is in
-    let room = (room_for_one c.args.blob.now c.loop-step.parents.entries c.loop-step.phandles.entries c.loop-step.open_nodes c.loop-step.count c.in-Open.node c.in-Open.name.now c.loop-step.step-iterator c.next.new.self c.validity.ensures.within c.loop-step.invariant.2 e).1 in
+    let room = room_for_one c.args.blob.now c.loop-step.parents.entries c.loop-step.phandles.entries c.loop-step.open_nodes c.loop-step.count c.in-Open.node c.in-Open.name.now c.loop-step.step-iterator c.next.new.self c.validity.ensures.within c.loop-step.invariant.2 e in
     omega (arith, room)
 
 pub loop-step-preserved-in-Open : goal.loop-step-preserved-in-Open
@@ -41,7 +41,7 @@ loop-step-preserved-in-Open c =
           (λ j. c.in_ok-put_parent-in-Open.ensures j ∙ ap (λ o. cond (nat_eq c.in-Open.node j) (Some o) (at_number c.loop-step.parents.entries j)) inner) c.in_ok-note_phandle-in-Open.ensures),
       one_valued t c.loop-step.values.entries c.note_values.new.values.entries c.in-Open.node c.in-Open.name.now c.loop-step.step-iterator c.next.new.self c.loop-step.invariant.3 e c.in_ok-phandle-in-Open.ensures.kept,
       one_found t c.loop-step.children.entries c.put_child.new.children.entries c.in-Open.node c.in-Open.name.now (innermost c.loop-step.open_nodes) c.loop-step.step-iterator c.next.new.self c.validity.ensures.places c.loop-step.invariant.4 e
-          (above_opened t c.loop-step.parents.entries c.loop-step.phandles.entries c.loop-step.open_nodes c.loop-step.count c.in-Open.node c.in-Open.name.now c.loop-step.step-iterator c.next.new.self c.validity.ensures.valid c.validity.ensures.places c.loop-step.invariant.2 e)
+          (above_walked t c.loop-step.open_nodes c.in-Open.node c.in-Open.name.now c.loop-step.step-iterator c.next.new.self c.loop-step.invariant.2.walked e c.validity.ensures.valid c.validity.ensures.places)
           (subst (λ (a : Option ℕ). PutsChild c.loop-step.children.entries c.put_child.new.children.entries a c.in-Open.name.now c.in-Open.node) inner c.in_ok-put_child-in-Open.ensures),
     )
 
@@ -52,7 +52,7 @@ loop-step-preserved-in-Property c =
       tt,
       tt,
       past_another c.args.blob.now c.loop-step.parents.entries c.loop-step.phandles.entries open_nodes open_nodes c.loop-step.count c.loop-step.step-iterator c.next.new.self c.loop-step.invariant.2
-          (ap opened e) (λ k. ap (parent_told k open_nodes) e) (λ few. subst (AreFew (length open_nodes)) e few),
+          (property_walked c.args.blob.now open_nodes _ c.loop-step.step-iterator c.next.new.self c.loop-step.invariant.2.walked e) refl,
       others_valued c.args.blob.now c.loop-step.values.entries c.loop-step.step-iterator c.next.new.self c.loop-step.invariant.3 (ap opened e),
       others_found c.args.blob.now c.loop-step.children.entries c.loop-step.step-iterator c.next.new.self c.loop-step.invariant.4 (ap opened e) (ap names_told e),
     )
@@ -64,8 +64,7 @@ loop-step-preserved c =
       tt,
       tt,
       past_another c.args.blob.now c.loop-step.parents.entries c.loop-step.phandles.entries open_nodes c.pop.new.self c.loop-step.count c.loop-step.step-iterator c.next.new.self c.loop-step.invariant.2
-          (ap opened e) (λ k. ap (parent_told k open_nodes) e ∙ ap (λ ks. parent_told k ks c.next.new.self) (sym c.pop.ensures))
-          (λ few. subst (λ ks. AreFew (length ks) c.next.new.self) (sym c.pop.ensures) (subst (λ n. AreFew n c.next.new.self) (shorter open_nodes) (subst (AreFew (length open_nodes)) e few))),
+          (end_walked c.args.blob.now open_nodes c.pop.new.self c.loop-step.step-iterator c.next.new.self c.loop-step.invariant.2.walked e c.pop.ensures) refl,
       others_valued c.args.blob.now c.loop-step.values.entries c.loop-step.step-iterator c.next.new.self c.loop-step.invariant.3 (ap opened e),
       others_found c.args.blob.now c.loop-step.children.entries c.loop-step.step-iterator c.next.new.self c.loop-step.invariant.4 (ap opened e) (ap names_told e),
     )
@@ -82,7 +81,7 @@ returns-clause-count c = (all_filled c.args.blob.now c.loop-step.parents.entries
 pub note_values-requires : goal.note_values-requires
 note_values-requires c =
     let e = c.in-Some.ensures.steps ∙ ap (λ s. step_view s ∷ c.next.new.self) c.in-Open.is in
-    opens_one c.args.blob.now c.loop-step.parents.entries c.loop-step.phandles.entries c.loop-step.open_nodes c.loop-step.count c.in-Open.node c.in-Open.name.now c.loop-step.step-iterator c.next.new.self c.validity.ensures.places c.loop-step.invariant.2 e
+    walked_node c.args.blob.now c.loop-step.open_nodes c.in-Open.node c.in-Open.name.now c.loop-step.step-iterator c.next.new.self c.loop-step.invariant.2.walked e c.validity.ensures.places
 
 pub returns-clause-values : goal.returns-clause-values
 returns-clause-values c = all_valued c.args.blob.now c.loop-step.values.entries c.loop-step.step-iterator c.loop-step.invariant.3 c.in-None.ensures.steps.0
