@@ -48,6 +48,8 @@ fn call_on_trees(
         "print" | "printed" | "again" | "values" => printing::call(alloc, name, words, input, out),
         "regs" | "irqs" => resolving::call(alloc, name, input, out),
         "dma" | "spec" => resolving::ask_node(alloc, name, words, input, out),
+        "specifier-at" => resolving::specifier(words, input, out),
+        "interrupt-at" => resolving::interrupt(words, input, out),
         "node-at" => resolving::node(words, input, out),
         "views" => resolving::views(alloc, input, out),
         "paths" => resolving::paths(alloc, input, out),

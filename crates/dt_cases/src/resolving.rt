@@ -8,7 +8,7 @@ use crate::names::text_of;
 use crate::numbers::{number, wide};
 use crate::outcome::{Lines, Outcome, Stop};
 use dt_flat::FlatTree;
-use dt_irq::{Route, Routes, route, specifier_route};
+use dt_irq::{Route, Routes, interrupt_at, route, specifier_at, specifier_route};
 use dt_names::{Fault, NodeId, Out};
 use dt_ranges::{Regions, dma_region, region};
 use dt_read::Blob;
@@ -71,6 +71,45 @@ fn specifier_of(words: &str) -> Option<Question<'_>> {
         kind: kind.as_bytes(),
         index: number(index)?,
     })
+}
+
+/// `specifier-at PATH PROP KIND BYTE` tells the route of the specifier that begins at a byte.
+pub fn specifier(words: &str, blob: &[u8], out: &mut Outcome) -> Result<(), Stop> {
+    let Some((path, words)) = words.split_once(' ') else {
+        return Err(Stop::Malformed);
+    };
+    let Some(
+        Question::Specifier {
+            property,
+            kind,
+            index,
+        },
+    ) = specifier_of(words)
+    else {
+        return Err(Stop::Malformed);
+    };
+    let blob = Blob::check(blob)?;
+    let node = node_at(&blob, path.as_bytes())?;
+    put_route(
+        &blob,
+        specifier_at(&blob, node, property, kind, index),
+        out.lines(),
+    );
+    Ok(())
+}
+
+/// `interrupt-at PATH BYTE` tells the route of the interrupt that begins at a byte.
+pub fn interrupt(words: &str, blob: &[u8], out: &mut Outcome) -> Result<(), Stop> {
+    let Some((path, words)) = words.split_once(' ') else {
+        return Err(Stop::Malformed);
+    };
+    let Some(at) = number(words) else {
+        return Err(Stop::Malformed);
+    };
+    let blob = Blob::check(blob)?;
+    let node = node_at(&blob, path.as_bytes())?;
+    put_route(&blob, interrupt_at(&blob, node, at), out.lines());
+    Ok(())
 }
 
 /// Tells of the node of a path what a blob has around it.
