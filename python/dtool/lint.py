@@ -5,6 +5,7 @@ import sys
 from collections import defaultdict
 from typing import Dict, Iterable, Iterator, List, NamedTuple, Optional, Set, Tuple
 
+from . import __version__
 from .faults import Fault, FaultKind
 from .lists import is_phandles, specifier_kind
 from .source import Source
@@ -421,6 +422,7 @@ def _parser(program: str) -> argparse.ArgumentParser:
     parser = argparse.ArgumentParser(prog=program, formatter_class=argparse.RawDescriptionHelpFormatter,
                                      description="Reports what the lists of a blob say wrongly: each node, property and index, and what is wrong.",
                                      epilog=f"kinds, all on but for those marked off:\n{kinds}\n\n{NOT_REPORTED}\n\nStatus 0: nothing is reported; 1: something is; 2: a blob can't be linted.")
+    parser.add_argument("--version", action="version", version=f"{program} of dtool {__version__}")
     parser.add_argument("blobs", metavar="BLOB", nargs="+", help="a blob of version 17")
     parser.add_argument("--json", action="store_true", help="print a list of objects")
     parser.add_argument("--source", metavar="FILE", help="the source of the blob behind the C preprocessor: print file and line of each property")

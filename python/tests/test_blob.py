@@ -155,7 +155,8 @@ class Answers(unittest.TestCase):
                 nodes += 1
                 at = node.offset - shift
                 self.assertEqual(tree.get_name(at), node.name)
-                self.assertEqual(tree.path_offset(node.path), at)
+                if not self.is_found_otherwise(node):
+                    self.assertEqual(tree.path_offset(node.path), at)
                 self.assertEqual(tree.get_phandle(at), node["phandle"].cells[0] if "phandle" in node else 0)
                 if node.parent:
                     self.assertEqual(tree.parent_offset(at), node.parent.offset - shift)
@@ -166,6 +167,15 @@ class Answers(unittest.TestCase):
                     where = tree.next_property_offset(where, libfdt.QUIET_NOTFOUND)
                 self.assertEqual(list(names.items()), list(node.properties().items()))
         self.assertGreater(nodes, 20)
+
+    def is_found_otherwise(self, node):
+        """Whether libfdt takes a name on the way for that of an earlier sibling with a unit address: `spi` for `spi@1000`."""
+        while node.parent:
+            siblings = [] if node.unit_address else [child for child in node.parent.children if child.name.partition("@")[0] == node.name]
+            if len(siblings) > 1:
+                return True
+            node = node.parent
+        return False
 
     @staticmethod
     def bytes_of(path):

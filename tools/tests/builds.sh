@@ -1,6 +1,28 @@
 # Tests of tools/dtc and tools/fdtoverlay as a build uses them; read by `run`, whose `is`, `told` and `hex` they use.
 # shellcheck shell=sh
 
+# DTOOL_LINT: what lint gets, and that output and status stay. A program takes Python's place, and prints the words that lint gets.
+linted() {
+    printf '#!/bin/sh\nshift 4\necho "lint: $*"\nexit "${LINT_STATUS:-0}"\n' > python && chmod +x python
+    printf '/dts-v1/;\n/ { a; };\n' > ok.dts
+    printf '/dts-v1/;\n/plugin/;\n&a { };\n' > overlay.dts
+    "$tools/dtc" -o want.dtb ok.dts
+    words='lint: --warnings --source ok.dts --name ok.dts'
+    is 'dtc: DTOOL_LINT' "0 $words" "$(PYTHON=$PWD/python DTOOL_LINT=1 "$tools/dtc" -o got.dtb ok.dts 2> lint.txt; echo "$? $(sed 's/ [^ ]*$//' lint.txt)")"
+    is 'dtc: DTOOL_LINT: the blob' 0 "$(cmp -s want.dtb got.dtb; echo $?)"
+    is 'dtc: DTOOL_LINT: a finding' "0 $words" \
+        "$(LINT_STATUS=1 PYTHON=$PWD/python DTOOL_LINT=1 "$tools/dtc" -o got.dtb ok.dts 2> lint.txt; echo "$? $(sed 's/ [^ ]*$//' lint.txt)")"
+    is 'dtc: DTOOL_LINT: not linted' '0 Warning: ok.dts: not linted' \
+        "$(LINT_STATUS=2 PYTHON=$PWD/python DTOOL_LINT=1 "$tools/dtc" -o got.dtb ok.dts 2> lint.txt; echo "$? $(tail -n 1 lint.txt)")"
+    is 'dtc: DTOOL_LINT: no Python' '0 Warning: ok.dts: not linted' \
+        "$(PYTHON=$PWD/nopython DTOOL_LINT=1 "$tools/dtc" -o got.dtb ok.dts 2> lint.txt; echo "$? $(tail -n 1 lint.txt)")"
+    is 'dtc: no DTOOL_LINT' '0 ' "$(PYTHON=$PWD/python "$tools/dtc" -o got.dtb ok.dts 2> lint.txt; echo "$? $(cat lint.txt)")"
+    is 'dtc: DTOOL_LINT: quiet' '0 ' "$(PYTHON=$PWD/python DTOOL_LINT=1 "$tools/dtc" -q -o got.dtb ok.dts 2> lint.txt; echo "$? $(cat lint.txt)")"
+    is 'dtc: DTOOL_LINT: an object' '0 ' "$(PYTHON=$PWD/python DTOOL_LINT=1 "$tools/dtc" -o got.dtbo overlay.dts 2> lint.txt; echo "$? $(cat lint.txt)")"
+    is 'lint: no Python' "dtool-lint: no program $PWD/nopython: it needs Python 3.8 or later" "$(PYTHON=$PWD/nopython told "$tools/lint" x.dtb)"
+    is 'lint: no Python, status' 2 "$(PYTHON=$PWD/nopython "$tools/lint" x.dtb 2> /dev/null; echo $?)"
+}
+
 status_of() { "$@" > /dev/null 2>&1; echo $?; }
 
 # What a source means to a script: the text of its blob.
