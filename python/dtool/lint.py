@@ -14,7 +14,7 @@ from .values import Value
 
 #: The kinds of findings, with what each is about.
 KINDS = {
-    "reg": "an entry of `reg` that has no address of the CPU, or a `reg` that isn't whole entries",
+    "reg": "an entry of `reg` that has no address of the CPU, a `reg` that isn't whole entries, or none on an I2C or SPI bus",
     "ranges": "`ranges` or `dma-ranges` that isn't whole entries, or is empty where the cells of both buses differ",
     "interrupts": "an interrupt that arrives nowhere, by `interrupts`, `interrupts-extended`, interrupt parents and maps",
     "specifiers": "an entry of a list of phandles with specifiers (`clocks`, `*-gpios`, `phys` ..) that arrives nowhere",
@@ -156,6 +156,9 @@ class _Board:
     def regions(self, node: Node) -> Iterator[Finding]:
         value = self.properties[node].get("reg")
         if value is None:
+            kind = self.bus_kind(self.parents[node]) if node in self.parents else None
+            if kind in ("I2C", "SPI"):
+                yield Finding(node.path, None, None, "reg", f"the node is on an {kind} bus, and has no `reg`")
             return
         if node not in self.parents:
             yield Finding(node.path, "reg", None, "reg", "the root has `reg`, and there is no bus above it")
@@ -209,11 +212,15 @@ class _Board:
             return "root"
         if self.is_compatible(bus, b"simple-bus"):
             return None if self.is_mbus(bus) else "simple-bus"
-        if name.startswith("i2c") and not any(child.name.startswith("i2c-bus") for child in self.children[bus]):
+        if name in ("i2c-bus", "i2c-arb") or (name == "i2c" and not any(child.name.partition("@")[0] == "i2c-bus" for child in self.children[bus])):
             return "I2C"
-        if name.startswith("spi") and "spi-slave" not in self.properties[bus]:
-            return "SPI"
+        if name == "spi" or self.has_spi_devices(bus):
+            return None if "spi-slave" in self.properties[bus] else "SPI"
         return None
+
+    def has_spi_devices(self, bus: Node) -> bool:
+        return (self.address_cells(bus), self.size_cells(bus)) == (1, 0) and any(
+            name.startswith("spi-") for child in self.children[bus] for name in self.properties[child])
 
     def is_mbus(self, bus: Node) -> bool:
         return any(text.startswith(b"marvell,") and text.endswith(b"-mbus") for text in self.properties[bus].get("compatible", b"").split(b"\0"))
@@ -322,7 +329,7 @@ class _Board:
         remote = self.properties[node].get("remote-endpoint")
         if remote is None or node not in self.parents:
             return
-        if not node.name.startswith("endpoint"):
+        if node.name.partition("@")[0] != "endpoint":
             yield Finding(node.path, None, None, "endpoints", "it has `remote-endpoint`, and its name isn't `endpoint`")
         target = self.target(remote)
         if target is None:

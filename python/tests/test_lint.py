@@ -20,6 +20,7 @@ MISTAKES = [
     ("reg = <0x1800 1>", "reg = <0x1800>", "/soc/pci@1800", "reg", None, "reg"),
     ("reg = <0x1800 1>", "reg = <0x1800 1>, <0x9000 1>", "/soc/pci@1800", "reg", 1, "reg"),
     ("reg = <0x1800 1>", "reg", "/soc/pci@1800", "reg", None, "reg"),
+    ("reg = <0x50>; vdd", "vdd", "/soc/i2c@1400/sensor@50", None, None, "reg"),
     ("interrupts = <0 1 4>", "interrupts = <0 1>", "/soc/uart@1000", "interrupts", 0, "interrupts"),
     ("<&ic 0 9 4>", "<&ic 0 9>", "/soc/pci@1800", "interrupts-extended", 2, "interrupts"),
     ("<&nx 1>, <0>", "<&nx 2>, <0>", "/soc/pci@1800", "interrupts-extended", 0, "interrupts"),
