@@ -2,6 +2,7 @@
 import ctypes
 import os
 from ctypes import POINTER, c_bool, c_char_p, c_size_t, c_uint32, c_uint64
+from typing import Callable, Dict
 
 #: Words of the table that dtool_check is lent. It uses no more.
 TABLE_WORDS = 16384
@@ -67,7 +68,7 @@ _CALLS = {
 }
 
 
-def _path():
+def _path() -> str:
     """Where libdtool.so is: what DTOOL_LIBRARY names, a file or its folder, else beside this module. Never below the working folder."""
     named = os.environ.get("DTOOL_LIBRARY")
     if not named:
@@ -77,7 +78,8 @@ def _path():
     return os.path.join(named, "libdtool.so") if os.path.isdir(named) else named
 
 
-def _load():
+def _load() -> Dict[str, Callable]:
+    """The calls of the library. Raises ImportError where it isn't there."""
     try:
         library = ctypes.CDLL(_path())
         calls = {}

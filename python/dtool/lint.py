@@ -70,9 +70,14 @@ def is_object(blob: Blob) -> bool:
 
 
 def _escaped(text: str) -> str:
-    """A text as a terminal may show it."""
-    return "".join(c if c.isprintable() else c.encode("unicode_escape", "backslashreplace").decode() if c < "\ud800" else f"\\x{ord(c) & 0xff:02x}"
-                   for c in text)
+    """A text as a terminal may show it. A byte that is no UTF-8 is a surrogate here."""
+
+    def shown(c: str) -> str:
+        if c.isprintable():
+            return c
+        return f"\\x{ord(c) & 0xff:02x}" if "\udc80" <= c <= "\udcff" else c.encode("unicode_escape").decode()
+
+    return "".join(map(shown, text))
 
 
 def _plural(count: int, what: str) -> str:
@@ -443,6 +448,8 @@ def _parser(program: str) -> argparse.ArgumentParser:
 
 def main(words: Optional[List[str]] = None, program: str = "dtool-lint") -> int:
     """The program: its status."""
+    for stream in (sys.stdout, sys.stderr):
+        stream.reconfigure(errors="backslashreplace")  # type: ignore[union-attr]
     options = _parser(program).parse_args(words)
     status, objects = 0, []
     wanted = set(options.only or (KINDS if options.all else KINDS.keys() - OFF)) - set(options.without or ())

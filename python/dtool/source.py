@@ -1,6 +1,6 @@
 """Where a source defines a node or a property: file and line, through cpp's line markers."""
 import re
-from typing import Dict, List, NamedTuple, Optional, Tuple
+from typing import Dict, Iterable, Iterator, List, NamedTuple, Optional, Tuple
 
 _TOKEN = re.compile(
     r"""
@@ -25,6 +25,10 @@ class Place(NamedTuple):
     line: int
 
 
+#: A token: its kind, its text and its place.
+_Token = Tuple[str, str, Place]
+
+
 class Source:
     """A source behind the C preprocessor, as far as it says where things are. It is no check: whatever isn't understood has no place."""
 
@@ -46,7 +50,7 @@ class Source:
         return found or self._nodes.get(node)
 
     @staticmethod
-    def _tokens(text: str, name: str):
+    def _tokens(text: str, name: str) -> Iterator[_Token]:
         """The tokens with their places, up to the end."""
         file, line, counted = name, 1, 0
         for match in _TOKEN.finditer(text):
@@ -58,9 +62,9 @@ class Source:
             elif kind != "skip":
                 yield kind, match.group(), Place(file, line)
 
-    def _read(self, tokens) -> None:
+    def _read(self, tokens: Iterable[_Token]) -> None:
         open_nodes: List[Optional[str]] = []
-        words: List[Tuple[str, str, Place]] = []
+        words: List[_Token] = []
         for kind, text, place in tokens:
             if text == "{" and kind == "other":
                 open_nodes.append(self._opened(open_nodes, words))
@@ -75,7 +79,7 @@ class Source:
             else:
                 words.append((kind, text, place))
 
-    def _opened(self, open_nodes: List[Optional[str]], words) -> Optional[str]:
+    def _opened(self, open_nodes: List[Optional[str]], words: List[_Token]) -> Optional[str]:
         """The path of the node that some words open. Its labels are kept."""
         head = next((word for word in words if word[0] in ("name", "reference", "path") or word[1] == "/"), None)
         if head is None:
@@ -95,7 +99,7 @@ class Source:
             self._labels.update((word[1][:-1], path) for word in words if word[0] == "label")
         return path
 
-    def _ended(self, node: Optional[str], words) -> None:
+    def _ended(self, node: Optional[str], words: List[_Token]) -> None:
         """A statement of a node: a property, with or without a value, or a deletion."""
         words = [word for word in words if word[0] != "label"]
         if node is None or not words:

@@ -2,13 +2,14 @@
 import ctypes
 import operator
 import os
-from typing import Dict, Iterator, List, NamedTuple, Optional, Tuple, Union
+from typing import Callable, Dict, Iterator, List, NamedTuple, Optional, Tuple, TypeVar, Union
 
 from ._library import CALLS, TABLE_WORDS, CFault, CProperty, CRegion, CReservation, CRoute, CSpan
 from .faults import Fault, FaultKind, NoSuchNode
 from .values import Value
 
 Text = Union[str, bytes]
+_Answer = TypeVar("_Answer")
 _check, _root, _node_at, _parent = (CALLS[name] for name in ("check", "root", "node_at", "parent"))
 _first_child, _next_sibling, _child = (CALLS[name] for name in ("first_child", "next_sibling", "child"))
 _by_phandle, _name, _path, _value, _property = (CALLS[name] for name in ("by_phandle", "name", "path", "value", "property"))
@@ -226,7 +227,7 @@ class Node:
         data = self._blob._data
         return data, len(data), self._offset
 
-    def _look(self, call, *more: object) -> Optional["Node"]:
+    def _look(self, call: Callable[..., bool], *more: object) -> Optional["Node"]:
         out = ctypes.c_size_t()
         return _node(self._blob, out.value) if call(*self._here(), *more, out) else None
 
@@ -360,7 +361,7 @@ class Node:
         """Where all entries of a list arrive; none without it. An empty entry is None, as the kernel counts. Raises Fault."""
         return [_answer(one) for _, one in self._entries(name, kind)]
 
-    def _arrival(self, call, *more: object) -> Route:
+    def _arrival(self, call: Callable[..., bool], *more: object) -> Route:
         out, fault = CRoute(), CFault()
         if not call(*self._here(), *more, out, fault):
             raise _fault(fault)
@@ -422,14 +423,15 @@ def _region_of(region: CRegion) -> Region:
     return Region(region.address_low | region.address_high << 64, region.size_low | region.size_high << 64, region.whole)
 
 
-def _answer(outcome):
+def _answer(outcome: Union[_Answer, Fault]) -> _Answer:
+    """An answer; a fault is raised."""
     if isinstance(outcome, Fault):
         raise outcome
     return outcome
 
 
-def _each(call, end: FaultKind, is_all):
-    """The outcome of a call at each index, up to the end of the list."""
+def _each(call: Callable[[int], _Answer], end: FaultKind, is_all: Callable[[Fault], bool]) -> Iterator[Union[_Answer, Fault]]:
+    """The outcome of a call at each index, up to the fault that ends the list, or behind one that is each entry's."""
     index = 0
     while True:
         try:
