@@ -14,6 +14,7 @@ import tempfile
 import time
 from collections import Counter, defaultdict
 from concurrent.futures import ProcessPoolExecutor
+from dataclasses import astuple
 
 HERE = os.path.dirname(os.path.abspath(__file__))
 os.environ.setdefault("DTOOL_LIBRARY", os.path.realpath(f"{HERE}/../crates/dt_c/out"))
@@ -47,7 +48,7 @@ def board(path):
             return None
         start = time.process_time()
         try:
-            findings = [tuple(finding) for finding in lint.lint(Blob.read(blob))]
+            findings = [astuple(finding) for finding in lint.lint(Blob.read(blob))]
         except (Fault, lint.NotLinted):
             return None
         return path, findings, [match.groups() for match in map(WARNING.search, done.stderr.splitlines()) if match], time.process_time() - start

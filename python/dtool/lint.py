@@ -3,7 +3,8 @@ import argparse
 import json
 import sys
 from collections import defaultdict
-from typing import Dict, Iterable, Iterator, List, NamedTuple, Optional, Set, Tuple
+from dataclasses import asdict, dataclass
+from typing import Dict, Iterable, Iterator, List, Optional, Set, Tuple
 
 from . import __version__
 from .faults import Fault, FaultKind
@@ -38,7 +39,8 @@ list of phandles, but for `interrupt-parent`; what is refused because of a `rang
 object is refused: apply it first."""
 
 
-class Finding(NamedTuple):
+@dataclass(frozen=True)
+class Finding:
     """Something that is wrong."""
 
     #: The path of the node.
@@ -195,7 +197,7 @@ class _Board:
         value = self.properties[node].get("reg")
         width = 4 * self.address_cells(bus)
         if value is None and kind == "simple-bus":
-            value = self.properties[node].get("ranges", Value())[4 * self.address_cells(node):]
+            value = Value(self.properties[node].get("ranges", Value())[4 * self.address_cells(node):])
         if kind is None or not value or not width or len(value) % 4 or len(value) < width:
             return
         cells = Value(value[:width]).cells
@@ -364,7 +366,8 @@ class _Board:
         if text.startswith(b"/"):
             return self.blob.get(text)
         first, _, rest = text.partition(b"/")
-        alias = self.properties.get(self.blob.get("/aliases"), {}).get(first.decode("utf-8", "replace")) if by_alias else None
+        aliases = self.blob.get("/aliases") if by_alias else None
+        alias = aliases.get(first) if aliases else None
         if alias is None or not alias.startswith(b"/"):
             return None
         return self.blob.get(bytes(alias[:-1]) + (b"/" + rest if rest else b""))
@@ -376,9 +379,9 @@ class _Board:
                     yield Finding(node.path, name, None, "paths", f"{self.shown(value)} names no node")
         elif node.path == "/chosen":
             for name in ("stdout-path", "linux,stdout-path"):
-                value = self.properties[node].get(name)
-                if value is not None and (not value.endswith(b"\0") or self.named(value[:-1].partition(b":")[0] + b"\0", True) is None):
-                    yield Finding(node.path, name, None, "paths", f"{self.shown(value)} names no node")
+                path = self.properties[node].get(name)
+                if path is not None and (not path.endswith(b"\0") or self.named(path[:-1].partition(b":")[0] + b"\0", True) is None):
+                    yield Finding(node.path, name, None, "paths", f"{self.shown(path)} names no node")
 
     @staticmethod
     def shown(value: Value) -> str:
@@ -426,7 +429,7 @@ def _lines(findings: Iterable[Finding], blob: str, source: Optional[Source], as_
 def _objects(findings: Iterable[Finding], blob: str, source: Optional[Source]) -> Iterator[dict]:
     for finding in findings:
         place = source.place(finding.node, finding.property) if source else None
-        yield {"blob": blob, **finding._asdict(), "file": place.file if place else None, "line": place.line if place else None}
+        yield {"blob": blob, **asdict(finding), "file": place.file if place else None, "line": place.line if place else None}
 
 
 def _parser(program: str) -> argparse.ArgumentParser:
@@ -449,9 +452,9 @@ def _parser(program: str) -> argparse.ArgumentParser:
 def main(words: Optional[List[str]] = None, program: str = "dtool-lint") -> int:
     """The program: its status."""
     for stream in (sys.stdout, sys.stderr):
-        stream.reconfigure(errors="backslashreplace")  # type: ignore[union-attr]
+        stream.reconfigure(errors="backslashreplace")  # type: ignore[attr-defined]
     options = _parser(program).parse_args(words)
-    status, objects = 0, []
+    status, objects = 0, []  # type: int, List[dict]
     wanted = set(options.only or (KINDS if options.all else KINDS.keys() - OFF)) - set(options.without or ())
     try:
         source = Source.read(options.source, options.name) if options.source else None

@@ -60,7 +60,7 @@ class Source:
             if match["marker"] is not None:
                 file, line = re.sub(r"\\(.)", r"\1", match["file"]), int(match["line"]) - 1
             elif kind != "skip":
-                yield kind, match.group(), Place(file, line)
+                yield kind or "other", match.group(), Place(file, line)
 
     def _read(self, tokens: Iterable[_Token]) -> None:
         open_nodes: List[Optional[str]] = []

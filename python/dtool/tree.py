@@ -144,7 +144,8 @@ class Blob:
     def _all(self) -> List["Node"]:
         """All nodes, each before its children. They are looked up once, with their paths."""
         if self._nodes is None:
-            nodes, paths = [], {}
+            nodes: List[Node] = []
+            paths: Dict[int, str] = {}
             open_nodes = [(self.root, "")]
             while open_nodes:
                 node, above = open_nodes.pop()
@@ -159,7 +160,8 @@ class Blob:
     @property
     def reservations(self) -> List[Reservation]:
         """The memory reservation block."""
-        found, one = [], CReservation()
+        found: List[Reservation] = []
+        one = CReservation()
         while CALLS["reservation"](self._data, len(self._data), len(found), one):
             found.append(Reservation(one.address, one.size))
         return found
@@ -299,7 +301,8 @@ class Node:
 
     def properties(self) -> Dict[str, Value]:
         """The properties with their values, in the order of the blob."""
-        found, one = {}, CProperty()
+        found: Dict[str, Value] = {}
+        one = CProperty()
         while _property(*self._here(), len(found), one):
             found[self._bytes_at(one.name).decode("ascii")] = Value(self._bytes_at(one.value))
         return found
