@@ -59,7 +59,7 @@ def _wheel_text(platform):
     return f"Wheel-Version: 1.0\nGenerator: dtool\nRoot-Is-Purelib: false\nTag: py3-none-{platform}\n"
 
 
-ENTRY_POINTS = "[console_scripts]\ndtool-lint = dtool.lint:main\n"
+ENTRY_POINTS = "[console_scripts]\n" + "".join(f"dtool-{name} = dtool.{name}:main\n" for name in ("lint", "report", "same"))
 
 
 def _sources():

@@ -35,6 +35,30 @@ is_of_dialect() {
     return 1
 }
 
+# Runs a program of the Python package over libdtool.so: in the repository the package of python/ and the library that `tools/build --library` made,
+# else those installed with this script. Python runs with -I: nothing is read from the working folder, nor from folders that the environment names.
+run_python() { # MODULE WORD..
+    here=$(cd "$here" && pwd) || exit 2
+    python=$here/python
+    if [ ! -d "$python" ]; then
+        python=$here/../python
+        export DTOOL_LIBRARY="${DTOOL_LIBRARY:-$here/../crates/dt_c/out}"
+    fi
+    command -v "${PYTHON:-python3}" > /dev/null || {
+        echo "dtool-$1: no program ${PYTHON:-python3}: it needs Python 3.8 or later" >&2
+        exit 2
+    }
+    exec "${PYTHON:-python3}" -I -c 'import importlib, sys
+sys.path.insert(0, sys.argv.pop(1))
+name = sys.argv.pop(1)
+try:
+    module = importlib.import_module("dtool." + name)
+except ImportError as why:
+    print(f"dtool-{name}: {why}", file=sys.stderr)
+    sys.exit(2)
+sys.exit(module.main())' "$python" "$@"
+}
+
 # What the toolchain is that proves and builds dtool, for whoever lacks it.
 lacks_toolchain() {
     die "rt is not on the path. dtool is proved and built by the Rattle toolchain, rattle-kit-13b or later (README.md, \"The toolchain\")"

@@ -4,10 +4,14 @@ import json
 import sys
 from typing import Iterator, List, Optional, Tuple, Union
 
-from . import __version__, lint
+from . import __version__, lint, report, same
 from .faults import Fault, FaultKind
 from .tree import Blob, Node, Region, Route, _each
 from .values import Value
+
+
+#: The commands that are programs of their own, too, with a help of their own.
+PROGRAMS = {"lint": lint, "same": same, "report": report}
 
 
 def _region_lines(blob: Blob) -> Iterator[Tuple[Node, int, Union[Region, Fault]]]:
@@ -58,7 +62,7 @@ def _shown(name: str, value: Value) -> str:
 
 
 def _parser() -> argparse.ArgumentParser:
-    parser = argparse.ArgumentParser(prog="python -m dtool", description="Asks a blob. `lint` has a help of its own.")
+    parser = argparse.ArgumentParser(prog="python -m dtool", description="Asks a blob. The last three have helps of their own.")
     parser.add_argument("--version", action="version", version=f"dtool {__version__}")
     commands = parser.add_subparsers(dest="command", metavar="COMMAND", required=True)
     for name, what in (("regs", "the CPU's address of each entry of each `reg`"), ("irqs", "where each interrupt arrives"),
@@ -74,7 +78,9 @@ def _parser() -> argparse.ArgumentParser:
             command.add_argument("index", metavar="INDEX", nargs="?", type=int, help="this entry alone; none before it may be empty")
         if name == "get":
             command.add_argument("property", metavar="PROPERTY", nargs="?")
-    commands.add_parser("lint", help="what the lists of a blob say wrongly", add_help=False)
+    for name, what in (("lint", "what the lists of a blob say wrongly"), ("same", "what two blobs differ by in meaning"),
+                       ("report", "a page that shows a blob")):
+        commands.add_parser(name, help=what, add_help=False)
     return parser
 
 
@@ -108,8 +114,9 @@ def _run(options: argparse.Namespace) -> None:
 def main(words: Optional[List[str]] = None) -> int:
     """The program: its status, which is that of `dtool`, 1 for a fault."""
     words = sys.argv[1:] if words is None else words
-    if words[:1] == ["lint"]:
-        return lint.main(words[1:], "python -m dtool lint")
+    for name, module in PROGRAMS.items():
+        if words[:1] == [name]:
+            return module.main(words[1:], f"python -m dtool {name}")
     options = _parser().parse_args(words)
     try:
         _run(options)

@@ -3,7 +3,7 @@
 
 # DTOOL_LINT: what lint gets, and that output and status stay. A program takes Python's place, and prints the words that lint gets.
 linted() {
-    printf '#!/bin/sh\nshift 4\necho "lint: $*"\nexit "${LINT_STATUS:-0}"\n' > python && chmod +x python
+    printf '#!/bin/sh\nshift 5\necho "lint: $*"\nexit "${LINT_STATUS:-0}"\n' > python && chmod +x python
     printf '/dts-v1/;\n/ { a; };\n' > ok.dts
     printf '/dts-v1/;\n/plugin/;\n&a { };\n' > overlay.dts
     "$tools/dtc" -o want.dtb ok.dts
