@@ -7,14 +7,19 @@ LINUX is an unpacked source tree, such as Debian's linux-source, FOLDER an empty
 name of a configuration, such as multi_v7_defconfig. A source tree of U-Boot is built by its own rules: ARCH is then `uboot`, and CROSS_COMPILE is
 taken from the environment. Prints the status with which make ends. Two blobs say the same where the nodes and the values are the same, a phandle
 standing for its node, and siblings and properties may be in any order. Without -@ dtool numbers labelled nodes too, and keeps the labels that an
-overlay refers to; and it keeps a property `name` that is its node's name: these are counted apart. A source that DTOOL_ELSE compiled is listed."""
+overlay refers to; and it keeps a property `name` that is its node's name: these are counted apart. A source that DTOOL_ELSE compiled is listed.
+Blobs are compared by dtool-same, so tools/build --library comes first."""
 import os
 import resource
 import subprocess
 import sys
 from collections import Counter
 
-from boards import Tree, same_value
+HERE = os.path.dirname(os.path.abspath(__file__))
+os.environ.setdefault("DTOOL_LIBRARY", os.path.realpath(f"{HERE}/../crates/dt_c/out"))
+sys.path.insert(0, f"{HERE}/../python")
+
+from dtool import Blob, same  # noqa: E402
 
 
 def configure(command, folder, arch, config, log):
@@ -45,29 +50,25 @@ def build(tree, folder, arch, jobs, config, *more):
     return blobs, took, status
 
 
-def tree_of(path):
-    with open(path, "rb") as file:
-        return Tree(file.read())
-
-
 def compared(ours, theirs):
-    """A word for what two blobs have in common."""
-    mine, others = dict(ours.nodes), dict(theirs.nodes)
-    if ours.reservations != theirs.reservations or not others.keys() <= mine.keys():
-        return "other"
-    for path, properties in others.items():
-        for name, value in properties.items():
-            if name not in mine[path] or name != b"phandle" and not same_value(mine[path][name], value, ours, theirs):
-                return "other"
-    more = {(path, name) for path in others for name in mine[path].keys() - others[path].keys()}
-    named = {(path, name) for path, name in more if name == b"name" and mine[path][name] == path.rpartition(b"/")[2].partition(b"@")[0] + b"\0"}
-    if any(path != b"/__symbols__" and name != b"phandle" for path, name in more - named):
-        return "other"
-    if mine.keys() - others.keys() - {b"/__symbols__"}:
-        return "the same, and nodes that dtc leaves out"
-    if named:
-        return "the same, and a name that dtc drops"
-    return "the same, and more phandles or labels" if more or mine.keys() != others.keys() else "the same"
+    """A word for what two blobs have in common, by dtool-same."""
+    more = False
+    words = set()
+    for it in same.differences(theirs, ours, names=["theirs", "ours"]):
+        if it.kind not in ("node", "property") or it.message != "only in ours":
+            return "other"
+        if it.node == "/__symbols__":
+            more = True
+        elif it.kind == "node":
+            words.add("the same, and nodes that dtc leaves out")
+        elif it.property == "name" and ours[it.node]["name"].texts == (ours[it.node].name.partition("@")[0],):
+            words.add("the same, and a name that dtc drops")
+        else:
+            return "other"
+    if words:
+        return min(words, key=lambda word: "name" in word)
+    numbered = {node.path for node in ours if "phandle" in node} - {node.path for node in theirs if "phandle" in node}
+    return "the same, and more phandles or labels" if more or numbered else "the same"
 
 
 def main():
@@ -80,11 +81,11 @@ def main():
     theirs, dtc_took, dtc_status = build(tree, os.path.join(folder, "theirs"), arch, jobs, config)
     if instead is not None:
         os.environ["DTOOL_ELSE"] = instead
-    script = os.path.join(os.path.dirname(os.path.abspath(__file__)), "../tools/dtc")
+    script = os.path.join(HERE, "../tools/dtc")
     ours, dtool_took, status = build(tree, os.path.join(folder, "ours"), arch, jobs, config, f"DTC={os.path.abspath(script)}")
     words = Counter()
     for name, path in sorted(theirs.items()):
-        word = compared(tree_of(ours[name]), tree_of(path)) if name in ours else "not made"
+        word = compared(Blob.read(ours[name]), Blob.read(path)) if name in ours else "not made"
         words[word] += 1
         if word in ("other", "not made"):
             print(f"{word}: {name}")

@@ -256,7 +256,7 @@ class _Picture:
     """A picture of regions: a bar for each, beside those that overlap it. Between two addresses at which bars begin or end lies as much height as
     the logarithm of their distance, so that a register and a gigabyte can both be seen."""
 
-    WIDTH, LEFT, LANE, ROW = 1100, 170, 26, 15
+    WIDTH, LEFT, LANE, ROW = 1100, 220, 26, 15
 
     def __init__(self, regions: List[Placed], link: Callable[[Node, str], str]):
         self.regions, self.link = regions, link

@@ -101,17 +101,33 @@ class Page(unittest.TestCase):
         self.assertEqual(asked("report", Stored(b"abc"))[:2], ("", 2))
         self.assertEqual(asked("report", stored, "-o", "/nope/x.html")[1], 2)
 
-    def test_browser(self):
-        """In a browser no script fails, and none of the blob's runs."""
+    def browser(self, text, fragment, *words):
+        """What a browser writes that opens a page; the test is left out where there is none."""
         if not BROWSER:
             LACKS.add("chromium")
             self.skipTest("no chromium")
         with tempfile.TemporaryDirectory() as folder:
             path = os.path.join(folder, "page.html")
             with open(path, "w", encoding="utf-8") as file:
-                file.write(self.page_of(harmful(), name="harm.dtb"))
-            done = subprocess.run([BROWSER, "--headless", "--no-sandbox", "--disable-gpu", "--enable-logging=stderr", f"--user-data-dir={folder}/profile",
-                                   "--virtual-time-budget=2000", "--dump-dom", f"file://{path}#n3"], stdout=subprocess.PIPE, stderr=subprocess.PIPE, timeout=120)
+                file.write(text)
+            return subprocess.run([BROWSER, "--headless", "--no-sandbox", "--disable-gpu", "--enable-logging=stderr", f"--user-data-dir={folder}/profile",
+                                   *words, f"file://{path}{fragment}"], stdout=subprocess.PIPE, stderr=subprocess.PIPE, timeout=120)
+
+    def test_screenshot(self):
+        """The page as it looks: of the board of these tests, or of the blob that DTOOL_SHOWN names. DTOOL_SCREENSHOT says where it is put."""
+        shown = os.environ.get("DTOOL_SHOWN")
+        text = "".join(page(Blob.read(shown), os.path.basename(shown))) if shown else self.page_of(BOARD)
+        with tempfile.TemporaryDirectory() as folder:
+            path = os.environ.get("DTOOL_SCREENSHOT", os.path.join(folder, "page.png"))
+            self.browser(text, "", "--hide-scrollbars", "--window-size=900,560", f"--screenshot={path}")
+            with open(path, "rb") as file:
+                data = file.read()
+        self.assertEqual(data[:4], b"\x89PNG")
+        self.assertTrue(5000 < len(data) < 100_000, len(data))
+
+    def test_browser(self):
+        """In a browser no script fails, and none of the blob's runs."""
+        done = self.browser(self.page_of(harmful(), name="harm.dtb"), "#n3", "--virtual-time-budget=2000", "--dump-dom")
         text = done.stdout.decode()
         self.assertIn("<title>harm.dtb</title>", text)
         self.assertNotIn("CONSOLE", done.stderr.decode(errors="replace"))
