@@ -1,6 +1,6 @@
 -- What is read of a tree in memory by path and by number.
 use Rattle.std.proofs.Common.{◌≡◌, ℕ, ◌<◌, ◌^◌, Bool, true, false, cond, eqb, List, length, Option, Some, None, is_some, refl, sym, ap, ◌∙◌}
-use Rattle.std.specs.Prelude.{codes, option_map, option_and_then}
+use Rattle.std.specs.Prelude.{◌↔◌, codes, option_map, option_and_then, IfSome, MatchOption}
 use Rattle.std.specs.Int.{w32, from_be_bytes}
 use Rattle.std.proofs.lemmas.Bool.{eqb-true}
 use Rattle.std.proofs.lemmas.Nat.{from_be_bytes-to_be_bytes_4}
@@ -73,3 +73,12 @@ pub number-had : (a : Arena) (p : Path) (n : ℕ) → n < 2 ^ 32 → HasNumber (
 number-had a p n fits has =
     let at = value-place a p (codes "phandle") (cell n) has in
     (at.0, value-numbered a.slots at.0 (cell n) at.2 refl ∙ ap (λ (k : ℕ). Some k) (from_be_bytes-to_be_bytes_4 n fits))
+
+-- the node that a number is looked for by, as a path
+pub found-by : (a : Arena) (n : ℕ) (r : Option ℕ) → AreCells a.slots → ((i : ℕ) → i < length a.slots → (p : Path) × (node_from a.slots 0 p ≡ Some i)) → n < 2 ^ 32
+    → ((i : ℕ) → (r ≡ Some i) ↔ (phandle_at a.slots i ≡ Some n)) → IfSome r (λ i. i < length a.slots)
+    → (found : Option Path) × (is_some found ≡ is_some r) × MatchOption found ((p : Path) → HasNumber (reading a) p n → ⊥) (λ p. HasNumber (reading a) p n)
+found-by a n None cells paths fits value there = (None, refl, λ p has. let at = number-had a p n fits has in let none : None ≡ Some at.0 = (value at.0).1 at.1 in cc)
+found-by a n (Some i) cells paths fits value there =
+    let path = paths i there in
+    (Some path.0, refl, has-number a path.0 i n path.1 cells ((value i).0 refl))

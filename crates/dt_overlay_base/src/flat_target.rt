@@ -1,9 +1,12 @@
 //! A tree in memory takes an overlay.
 
-ghost use Rattle.std.specs.Prelude.{◌≡◌, true};
+ghost use Rattle.std.specs.Prelude.{◌≡◌, ◌*◌, ◌≤◌, true};
 ghost use Rattle.dt_flat.specs.Arena.{reading as arena_reading};
+ghost use Rattle.dt_model.specs.Limits.{most_nodes};
+ghost use Rattle.dt_model.specs.Numbers.{numbers_of};
 ghost use Rattle.dt_model.specs.Tree.{stands_in};
 ghost use Rattle.dt_overlay_base.specs.FlatTargets.{HasRoom, IsPlaced, TreeRoomIsCounted};
+ghost use Rattle.dt_overlay_base.specs.Known.{IsNext};
 
 use crate::target::Target;
 use dt_flat::{FlatTree, NodeId};
@@ -20,6 +23,19 @@ fn node_at(tree: &FlatTree, path: &Path) -> NodeId
         Some(node) => node,
         None => unreachable!(),
     }
+}
+
+/// The least number above another that no node has: a tree has too few nodes for it to be far above.
+fn free_number(tree: &FlatTree, last: u32) -> u32
+    requires { last ≤ 2 * most_nodes }
+    ensures { IsNext (numbers_of (arena_reading tree.now)) last result }
+{
+    tree.validity();
+    let mut number = last + 1;
+    while tree.by_phandle(number).is_some() {
+        number += 1;
+    }
+    number
 }
 
 impl Target for FlatTree {
@@ -51,6 +67,10 @@ impl Target for FlatTree {
             Some(node) => Ok(Some(self.path(alloc, node)?)),
             None => Ok(None),
         }
+    }
+
+    fn free_above(&self, last: u32) -> u32 {
+        free_number(self, last)
     }
 
     fn set_prop(&mut self, path: &Path, name: &PropName<'_>, value: &[u8]) -> Result<(), Fault> {

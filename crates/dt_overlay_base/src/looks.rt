@@ -13,7 +13,6 @@ ghost use Rattle.dt_flat.specs.Arena.{properties, below};
 ghost use Rattle.dt_overlay_model.specs.Walk.{number_there as number_known, with_place, with_places};
 ghost use Rattle.dt_overlay_laws.specs.Landings.{MayLand, WhyNotLands, MayAllLand, IsStuck};
 ghost use Rattle.dt_overlay_base.specs.Known.{IsKnown, IsKnownBehind, WhereKnownOf, HasRoom, placed, trees_of, content_at};
-ghost use Rattle.dt_overlay_base.specs.Known.{IsNext};
 ghost use Rattle.dt_names.specs.Fault.{IsNoMemory, IsMemoryOr};
 
 use crate::Target;
@@ -31,20 +30,6 @@ pub fn is_bookkeeping(path: &Path) -> bool
         Some(name) => is_bookkeeping_name(name),
         None => false,
     }
-}
-
-/// The least number above another that no node of the base has: the base has too few nodes for it to be far above.
-fn free_number<T: Target>(alloc: Global, target: &T, last: u32) -> Result<u32, Fault>
-    requires { last ≤ 2 * most_nodes }
-    ensures next { IfOk result (IsNext (numbers_of (T.reading target.now)) last) }
-    ensures refused { IfErr result IsNoMemory }
-{
-    target.validity();
-    let mut number = last + 1;
-    while target.by_phandle(alloc, number)?.is_some() {
-        number += 1;
-    }
-    Ok(number)
 }
 
 /// The number of the node at a place: the base's, or the one that the place got.
@@ -80,7 +65,7 @@ fn number_place<T: Target>(target: &T, path: &Path, places: &mut Places) -> Resu
     if number_there(target, places, path)?.is_some() {
         return Ok(());
     }
-    let number = free_number(places.alloc(), target, places.last())?;
+    let number = target.free_above(places.last());
     places.give(path, number)?;
     Ok(())
 }

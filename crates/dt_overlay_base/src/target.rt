@@ -1,14 +1,17 @@
 //! Trees that take an overlay.
 
-ghost use Rattle.std.specs.Prelude.{◌≡◌, ◌+◌, ◌≤◌, true, false, ◌++◌, ◌∷◌, [], ℕ, List, None, Some, length, OnOk, OnErr, IsOk, IfOk, IfErr, MatchOption};
+ghost use Rattle.std.specs.Prelude.{◌≡◌, ◌+◌, ◌*◌, ◌≤◌, true, false, ◌++◌, ◌∷◌, [], ℕ, List, None, Some, length, OnOk, OnErr, IsOk, IfOk, IfErr, MatchOption};
 ghost use Rattle.std.specs.Option.{option_copied};
 ghost use Rattle.dt_model.specs.Applied.{with_cell};
 ghost use Rattle.dt_model.specs.Changes.{with_child_at, with_property_at};
+ghost use Rattle.dt_model.specs.Limits.{most_nodes};
+ghost use Rattle.dt_model.specs.Numbers.{numbers_of};
 ghost use Rattle.dt_model.specs.Path.{Path as Names};
 ghost use Rattle.dt_model.specs.Tree.{Reading, stands_in, value_in};
 ghost use Rattle.dt_model.specs.Valid.{IsValid, IsWithinLimits};
 ghost use Rattle.dt_names.specs.declared.fault.FaultKind.TheVariants.{NoMemory};
 ghost use Rattle.dt_overlay_laws.specs.Objects.{HasCells, HasNumber};
+ghost use Rattle.dt_overlay_base.specs.Known.{IsNext};
 ghost use Rattle.dt_overlay_base.specs.Targets.{MayAddAt, HasRoomAt, WhyNotAddedAt, WhyNotSetAt};
 ghost use Rattle.dt_names.specs.Fault.{IsNoMemory};
 
@@ -52,6 +55,11 @@ pub trait Target {
         ensures found { IfOk result (λ found. MatchOption found ((p : Names) → HasNumber (reading self.now) p number → ⊥)
             (λ path. HasNumber (reading self.now) path number)) }
         ensures refused { IfErr result IsNoMemory };
+
+    /// The least number above another that no node has as its `phandle`. Takes no memory.
+    fn free_above(&self, last: u32) -> u32
+        requires { last ≤ 2 * most_nodes }
+        ensures { IsNext (numbers_of (reading self.now)) last result };
 
     /// Sets a property of a path's node: one that is there keeps its place, a new one goes last.
     ///

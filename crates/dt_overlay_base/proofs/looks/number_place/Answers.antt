@@ -7,15 +7,15 @@ use Rattle.dt_overlay_base.specs.Known.{IsKnown, IsNext}
 use Rattle.dt_overlay_base.proofs.LooksNumbers.{last_low, place_given_next, none_there_at}
 use Rattle.dt_overlay_base.proofs.looks.number_place.Goals as goal
 
-pub free_number-requires : goal.free_number-requires
-free_number-requires g c = rw (c.last.ensures) (last_low (g.T.Target.reading c.args.target.now) c.args.places.now c.validity.ensures.within c.requires.room)
+pub free_above-number-requires : goal.free_above-number-requires
+free_above-number-requires g c = rw (c.last.ensures) (last_low (g.T.Target.reading c.args.target.now) c.args.places.now c.validity.ensures.within c.requires.room)
 
 pub returns-clause-known : goal.returns-clause-known
 returns-clause-known g c given landed known there =
     let base = g.T.Target.reading c.args.target.now in
     let q = c.args.path.now in
-    let next : IsNext (numbers_of base) c.args.places.now.last c.in_ok-number.number = subst (λ (n : ℕ). IsNext (numbers_of base) n c.in_ok-number.number) c.last.ensures c.in_ok-number.ensures.next in
+    let next : IsNext (numbers_of base) c.args.places.now.last c.free_above-number.result = subst (λ (n : ℕ). IsNext (numbers_of base) n c.free_above-number.result) c.last.ensures c.free_above-number.ensures in
     let none : is_some (number_there base given q) ≡ false = ap is_some (sym (c.in_ok-number_there.ensures.number given landed known)) ∙ sym c.is_some.ensures ∙ c.if-is_some.false in
     subst (λ (more : List (Path × ℕ)). IsKnown base more landed c.give.new.self)
-    (sym (place_given_next base given landed c.args.places.now known q c.requires.named there c.in_ok-number.number none next))
+    (sym (place_given_next base given landed c.args.places.now known q c.requires.named there c.free_above-number.result none next))
     (c.in_ok-give.ensures base given landed known there (none_there_at base given q none).1 next)
