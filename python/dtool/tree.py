@@ -76,10 +76,11 @@ class Blob:
     there are. Raises Fault where the bytes are no blob, or one beyond dtool's limits.
     """
 
-    __slots__ = ("_data", "_nodes", "_paths", "__weakref__")
+    __slots__ = ("_data", "_nodes", "_paths", "_numbered", "__weakref__")
     _data: bytes
     _nodes: Optional[List["Node"]]
     _paths: Dict[int, str]
+    _numbered: Dict[int, "Node"]  # what by_phandle found
 
     def __new__(cls, data: Union[bytes, bytearray, memoryview]) -> "Blob":
         own = bytes(memoryview(data))
@@ -90,6 +91,7 @@ class Blob:
         object.__setattr__(blob, "_data", own)
         object.__setattr__(blob, "_nodes", None)
         object.__setattr__(blob, "_paths", {})
+        object.__setattr__(blob, "_numbered", {})
         return blob
 
     def __setattr__(self, name: str, value: object) -> None:
@@ -178,9 +180,12 @@ class Blob:
 
     def by_phandle(self, number: int) -> Optional["Node"]:
         """The node whose phandle is a number, or None."""
-        out = ctypes.c_size_t()
-        found = _by_phandle(self._data, len(self._data), _number(number, 32, "a phandle"), out)
-        return _node(self, out.value) if found else None
+        number, out = _number(number, 32, "a phandle"), ctypes.c_size_t()
+        if number not in self._numbered:
+            if not _by_phandle(self._data, len(self._data), number, out):
+                return None
+            self._numbered[number] = _node(self, out.value)
+        return self._numbered[number]
 
     def alias(self, name: Text) -> Optional["Node"]:
         """The node that an alias of `/aliases` names, such as `serial0`; None without that alias, or where it names no node."""
