@@ -6,7 +6,7 @@ from typing import Iterator, List, Optional, Tuple, Union
 
 from . import __version__, lint, report, same
 from .faults import Fault, FaultKind
-from .tree import Blob, Node, Region, Route, _each
+from .tree import Blob, Node, Region, Route
 from .values import Value
 
 
@@ -22,9 +22,12 @@ def _region_lines(blob: Blob) -> Iterator[Tuple[Node, int, Union[Region, Fault]]
 
 def _interrupt_lines(blob: Blob) -> Iterator[Tuple[Node, int, Union[Route, Fault]]]:
     for node in blob:
-        if "interrupts" in node or "interrupts-extended" in node:
-            for index, outcome in enumerate(_each(node.interrupt, FaultKind.NO_INTERRUPTS, lambda fault: True)):
-                yield node, index, outcome
+        for index, outcome in enumerate(node._interrupts()):
+            if outcome is None:  # the program's rule knows no empty entries
+                outcome = Fault(FaultKind.UNKNOWN_PHANDLE)
+            yield node, index, outcome
+            if isinstance(outcome, Fault):
+                break
 
 
 def _line(outcome: Union[Region, Route, Fault]) -> str:

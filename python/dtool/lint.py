@@ -198,7 +198,7 @@ class _Board:
         width = 4 * self.address_cells(bus)
         if value is None and kind == "simple-bus":
             value = Value(self.properties[node].get("ranges", Value())[4 * self.address_cells(node):])
-        if kind is None or not value or not width or len(value) % 4 or len(value) < width:
+        if kind is None or not value or not 0 < width <= 16 or len(value) % 4 or len(value) < width:
             return
         cells = Value(value[:width]).cells
         address = int.from_bytes(value[:width], "big")
