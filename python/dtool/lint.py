@@ -38,6 +38,8 @@ Not reported: addresses on PCI buses and below buses without `ranges`; `gpios` o
 list of phandles, but for `interrupt-parent`; what is refused because of a `ranges` or an `interrupt-parent` that is reported itself. An overlay's
 object is refused: apply it first."""
 
+STATUS = "Status 0: nothing is reported; 1: something is; 2: a blob can't be linted."
+
 
 @dataclass(frozen=True)
 class Finding:
@@ -436,7 +438,7 @@ def _parser(program: str) -> argparse.ArgumentParser:
     kinds = "\n".join(f"  {name:<16} {what}{' (off)' if name in OFF else ''}" for name, what in KINDS.items())
     parser = argparse.ArgumentParser(prog=program, formatter_class=argparse.RawDescriptionHelpFormatter,
                                      description="Reports what the lists of a blob say wrongly: each node, property and index, and what is wrong.",
-                                     epilog=f"kinds, all on but for those marked off:\n{kinds}\n\n{NOT_REPORTED}\n\nStatus 0: nothing is reported; 1: something is; 2: a blob can't be linted.")
+                                     epilog=f"kinds, all on but for those marked off:\n{kinds}\n\n{NOT_REPORTED}\n\n{STATUS}")
     parser.add_argument("--version", action="version", version=f"{program} of dtool {__version__}")
     parser.add_argument("blobs", metavar="BLOB", nargs="+", help="a blob of version 17")
     parser.add_argument("--json", action="store_true", help="print a list of objects")

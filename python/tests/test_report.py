@@ -34,7 +34,8 @@ class Elements(HTMLParser):
 
 def harmful():
     texts = ", ".join('"' + text.replace('"', '\\"').replace('\\\\"', '\\"') + '"' for text in HARM)
-    return BOARD.replace('compatible = "a,board", "a,family"', f'compatible = "a,board"; harm = {texts}; model = {texts.partition(", ")[0]}; raw = [ff fe 3c 00]')
+    properties = f'compatible = "a,board"; harm = {texts}; model = {texts.partition(", ")[0]}; raw = [ff fe 3c 00]'
+    return BOARD.replace('compatible = "a,board", "a,family"', properties)
 
 
 class Page(unittest.TestCase):

@@ -37,7 +37,8 @@ class Wheel(unittest.TestCase):
             self.assertEqual(done.returncode, 0, done.stdout)
             bare = {name: value for name, value in os.environ.items() if name != "DTOOL_LIBRARY"}
             blob = Stored(compiled("/dts-v1/; / { a@1 { reg = <1 1>; }; };"))
-            done = run(f"{environment}/bin/python", "-c", "import dtool, sys; print(dtool.Blob.read(sys.argv[1])['/a@1'].path)", blob.name, cwd=folder, env=bare)
+            look = "import dtool, sys; print(dtool.Blob.read(sys.argv[1])['/a@1'].path)"
+            done = run(f"{environment}/bin/python", "-c", look, blob.name, cwd=folder, env=bare)
             self.assertEqual(done.stdout, "/a@1\n")
             done = run(f"{environment}/bin/dtool-lint", blob.name, cwd=folder, env=bare)
             self.assertEqual(done.returncode, 1, done.stdout)
@@ -48,7 +49,8 @@ class Wheel(unittest.TestCase):
         with tempfile.TemporaryDirectory() as folder:
             with open(os.path.join(folder, "libdtool.so"), "wb") as file:
                 file.write(b"no library")
-            for named, wanted in (("libdtool.so", "no absolute path"), ("./libdtool.so", "no absolute path"), (folder, "ELF"), ("/nope/libdtool.so", "No such file")):
+            relative = "no absolute path"
+            for named, wanted in (("libdtool.so", relative), ("./libdtool.so", relative), (folder, "ELF"), ("/nope/libdtool.so", "No such file")):
                 path = os.path.join(ROOT, "python")
                 done = run(sys.executable, "-c", "import dtool", cwd=folder, env={**os.environ, "DTOOL_LIBRARY": named, "PYTHONPATH": path})
                 self.assertEqual(done.returncode, 1)
