@@ -4,7 +4,7 @@ import base64
 import hashlib
 import os
 import sys
-from collections import defaultdict
+from collections import Counter, defaultdict
 from dataclasses import dataclass
 from html import escape
 from typing import Callable, Dict, Iterable, Iterator, List, Optional, Tuple
@@ -72,6 +72,9 @@ def _hash(text: str) -> str:
     return "sha256-" + base64.b64encode(hashlib.sha256(text.encode()).digest()).decode()
 
 
+#: The most regions of a picture, and the most rows of a table: a blob of 16 MiB has room for millions.
+MOST_REGIONS, MOST_ROWS = 5000, 10000
+
 #: What the page may do: its own style and its own script, and nothing else.
 POLICY = f"default-src 'none'; style-src '{_hash(STYLE)}'; script-src '{_hash(SCRIPT)}'; base-uri 'none'; form-action 'none'"
 
@@ -92,6 +95,17 @@ class Placed:
 def page(blob: Blob, name: str, other: Optional[Blob] = None, other_name: str = "") -> Iterator[str]:
     """The page of a blob, in parts. Names and values of the blob are escaped, and none becomes an attribute."""
     yield from _Page(blob, name, other, other_name).parts()
+
+
+def _table(heads: Tuple[str, ...], rows: Iterable[Tuple[str, ...]]) -> Iterator[str]:
+    """A table of cells that are HTML already; the first rows of a long one."""
+    yield "<table>" + ("<tr>" + "".join(f"<th>{head}</th>" for head in heads) + "</tr>" if heads else "") + "\n"
+    for count, row in enumerate(rows):
+        if count == MOST_ROWS:
+            yield "<tr><td>.. and more</td></tr>\n"
+            break
+        yield "<tr>" + "".join(f"<td>{cell}</td>" for cell in row) + "</tr>\n"
+    yield "</table>\n"
 
 
 def _text(text: str) -> str:
@@ -153,15 +167,16 @@ class _Page:
         reserved = self.blob.reservations
         if reserved:
             yield "<p>Reserved: " + ", ".join(f"<code>{it.address:#x}</code> of {it.size:#x} bytes" for it in reserved) + "</p>\n"
+        if len(self.regions) > MOST_REGIONS:
+            yield f"<p>{len(self.regions)} regions are too many for a picture. These are the first:</p>\n"
         if self.regions:
-            yield from _Picture(self.regions, self.link).parts()
+            yield from _Picture(self.regions[:MOST_REGIONS], self.link).parts()
         else:
             yield "<p>None.</p>\n"
         if self.refused:
-            yield f"<details><summary>{len(self.refused)} entries of <code>reg</code> without an address</summary><table>\n"
-            for node, index, fault in self.refused:
-                yield f"<tr><td>{self.link(node)}</td><td>{index}</td><td>{fault.kind.title}</td></tr>\n"
-            yield "</table></details>\n"
+            yield f"<details><summary>{len(self.refused)} entries of <code>reg</code> without an address</summary>"
+            yield from _table((), ((self.link(node), str(index), fault.kind.title) for node, index, fault in self.refused))
+            yield "</details>\n"
 
     # ---- interrupts
 
@@ -178,15 +193,15 @@ class _Page:
             yield "<p>None.</p>\n"
         for controller in (node for node in self.nodes if node in arriving):
             rows = sorted(arriving[controller], key=lambda row: row[0])
-            yield f"<details open><summary>{self.link(controller)}: {len(rows)} interrupts</summary><table><tr><th>line</th><th>from</th><th></th></tr>\n"
-            for cells, node, index, hops in rows:
-                shared = sum(row[0] == cells for row in rows) > 1
-                notes = ", ".join(note for note in (f"index {index}", f"through {hops} maps" if hops else "", "shared" if shared else "") if note)
-                yield (f"<tr><td>{' '.join(f'{cell:#x}' for cell in cells)}</td><td>{self.link(node)}</td>"
-                       f'<td class="dim">{notes}</td></tr>\n')
-            yield "</table></details>\n"
-        for node, index, fault in lost:
-            yield f'<p class="bad">{self.link(node)}: interrupt {index} arrives nowhere: {fault.kind.title}</p>\n'
+            count = Counter(row[0] for row in rows)
+            yield f"<details open><summary>{self.link(controller)}: {len(rows)} interrupts</summary>"
+            yield from _table(("line", "from", "index"), (
+                (" ".join(f"{cell:#x}" for cell in cells), self.link(node),
+                 f"{index}{f', through {hops} maps' if hops else ''}{', shared' if count[cells] > 1 else ''}") for cells, node, index, hops in rows))
+            yield "</details>\n"
+        if lost:
+            yield "<p>These arrive nowhere:</p>\n"
+            yield from _table((), ((self.link(node), str(index), fault.kind.title) for node, index, fault in lost))
 
     # ---- lint and differences
 
@@ -194,11 +209,9 @@ class _Page:
         if not self.findings:
             yield f"<p>{_text(self.not_linted) or 'Nothing.'}</p>\n"
             return
-        yield "<table><tr><th>node</th><th>property</th><th>kind</th><th>what is wrong</th></tr>\n"
-        for node, it in self.findings:
-            entry = "" if it.property is None else it.property if it.index is None else f"{it.property}[{it.index}]"
-            yield f"<tr><td>{self.link(node)}</td><td>{_text(entry)}</td><td>{it.kind}</td><td>{_text(it.message)}</td></tr>\n"
-        yield "</table>\n"
+        yield from _table(("node", "property", "kind", "what is wrong"), (
+            (self.link(node), _text((it.property or "") + ("" if it.index is None else f"[{it.index}]")), it.kind, _text(it.message))
+            for node, it in self.findings))
 
     def differences(self) -> Iterator[str]:
         assert self.other is not None
@@ -207,12 +220,9 @@ class _Page:
         if not rows:
             yield "<p>None: both mean the same.</p>\n"
             return
-        yield "<table><tr><th>node</th><th>property</th><th>what differs</th></tr>\n"
-        for it in rows:
-            node = by_path.get(it.node)
-            yield (f"<tr><td>{self.link(node) if node else _text(it.node or 'the header')}</td><td>{_text(it.property or '')}</td>"
-                   f"<td>{_text(it.message)}</td></tr>\n")
-        yield "</table>\n"
+        yield from _table(("node", "property", "what differs"), (
+            (self.link(by_path[it.node]) if it.node in by_path else _text(it.node or "the header"), _text(it.property or ""), _text(it.message))
+            for it in rows))
 
     # ---- the tree
 

@@ -55,7 +55,8 @@ class Page(unittest.TestCase):
                 path, _, address, size, how = line.split()
                 self.assertRegex(text, f"{re.escape(path.rpartition('/')[2])} {size} {how}")
         arrived = sum(" hops " in line for line in lines["irqs"])
-        self.assertEqual(len(re.findall(r'<td class="dim">index', text)), arrived + 1)  # and the one behind an empty entry, which irqs doesn't reach
+        table = text.partition('<h2 id="i">')[2].partition("<h2")[0]
+        self.assertEqual(table.count("<tr><td>"), arrived + 1)  # and the one behind an empty entry, which irqs doesn't reach
         self.assertEqual(elements.count("details") - len(Blob(compiled(BOARD))), 1)  # that of the one controller
 
     def test_structure(self):
