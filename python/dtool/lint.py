@@ -7,6 +7,7 @@ from dataclasses import asdict, dataclass
 from typing import Dict, Iterable, Iterator, List, Optional, Set, Tuple
 
 from . import __version__
+from ._terminal import escaped, report_failure, use_backslashes
 from .faults import Fault, FaultKind
 from .lists import is_phandles, specifier_kind
 from .source import Source
@@ -71,17 +72,6 @@ def lint(blob: Blob) -> List[Finding]:
 def is_object(blob: Blob) -> bool:
     """Whether a blob is an overlay's object: a child of the root has a node `__overlay__`, or labels of another tree are left."""
     return "/__fixups__" in blob or any(child.child("__overlay__") for child in blob.root.children)
-
-
-def _escaped(text: str) -> str:
-    """A text as a terminal may show it. A byte that is no UTF-8 is a surrogate here."""
-
-    def shown(c: str) -> str:
-        if c.isprintable():
-            return c
-        return f"\\x{ord(c) & 0xff:02x}" if "\udc80" <= c <= "\udcff" else c.encode("unicode_escape").decode()
-
-    return "".join(map(shown, text))
 
 
 def _plural(count: int, what: str) -> str:
@@ -425,7 +415,7 @@ def _lines(findings: Iterable[Finding], blob: str, source: Optional[Source], as_
         where = f"{place.file}:{place.line}" if place else blob
         entry = "" if finding.property is None else f": {finding.property}" if finding.index is None else f": {finding.property}[{finding.index}]"
         word = f"Warning (dtool_{finding.kind.replace('-', '_')}): " if as_warnings else ""
-        yield _escaped(f"{where}: {word}{finding.node}{entry}: {finding.message}")
+        yield escaped(f"{where}: {word}{finding.node}{entry}: {finding.message}")
 
 
 def _objects(findings: Iterable[Finding], blob: str, source: Optional[Source]) -> Iterator[dict]:
@@ -453,21 +443,20 @@ def _parser(program: str) -> argparse.ArgumentParser:
 
 def main(words: Optional[List[str]] = None, program: str = "dtool-lint") -> int:
     """The program: its status."""
-    for stream in (sys.stdout, sys.stderr):
-        stream.reconfigure(errors="backslashreplace")  # type: ignore[attr-defined]
+    use_backslashes()
     options = _parser(program).parse_args(words)
     status, objects = 0, []  # type: int, List[dict]
     wanted = set(options.only or (KINDS if options.all else KINDS.keys() - OFF)) - set(options.without or ())
     try:
         source = Source.read(options.source, options.name) if options.source else None
     except OSError as why:
-        print(_escaped(f"{program}: {options.source}: {why.strerror}"), file=sys.stderr)
+        report_failure(program, options.source, why)
         return 2
     for name in options.blobs:
         try:
             findings = lint(Blob.read(name))
         except (OSError, Fault, NotLinted) as why:
-            print(_escaped(f"{program}: {name}: {why.strerror if isinstance(why, OSError) else why}"), file=sys.stderr)
+            report_failure(program, name, why)
             status = 2
             continue
         findings = [finding for finding in findings if finding.kind in wanted]

@@ -10,8 +10,9 @@ from html import escape
 from typing import Callable, Dict, Iterable, Iterator, List, Optional, Tuple
 
 from . import __version__
+from ._terminal import escaped, report_failure, use_backslashes
 from .faults import Fault, FaultKind
-from .lint import OFF, NotLinted, _escaped, lint
+from .lint import OFF, NotLinted, lint
 from .same import differences
 from .tree import Blob, Node, Region, Route
 from .values import Value
@@ -110,7 +111,7 @@ def _table(heads: Tuple[str, ...], rows: Iterable[Tuple[str, ...]]) -> Iterator[
 
 def _text(text: str) -> str:
     """A text for the page: what a terminal may show, with HTML's characters escaped."""
-    return escape(_escaped(text))
+    return escape(escaped(text))
 
 
 class _Page:
@@ -342,8 +343,7 @@ def _is_above(above: Node, node: Node) -> bool:
 
 def main(words: Optional[List[str]] = None, program: str = "dtool-report") -> int:
     """The program: its status."""
-    for stream in (sys.stdout, sys.stderr):
-        stream.reconfigure(errors="backslashreplace")  # type: ignore[attr-defined]
+    use_backslashes()
     parser = argparse.ArgumentParser(prog=program, description="Writes one page that shows a blob: its addresses, interrupts, tree and mistakes.",
                                      epilog="Status 0: the page is written; 2: a blob can't be read, or the page not written.")
     parser.add_argument("--version", action="version", version=f"{program} of dtool {__version__}")
@@ -367,7 +367,7 @@ def main(words: Optional[List[str]] = None, program: str = "dtool-report") -> in
             with open(options.out, "w", encoding="utf-8") as file:
                 file.write(text)
     except (OSError, Fault) as why:
-        print(_escaped(f"{program}: {name}: {why.strerror if isinstance(why, OSError) else why}"), file=sys.stderr)
+        report_failure(program, name, why)
         return 2
     return 0
 

@@ -6,9 +6,9 @@ from dataclasses import dataclass
 from typing import Dict, Iterator, List, Optional, Set
 
 from . import __version__
+from ._terminal import escaped, report_failure, use_backslashes
 from .faults import Fault
 from .lists import is_phandles, specifier_kind
-from .lint import _escaped
 from .tree import Blob, Node
 from .values import Value
 
@@ -165,8 +165,7 @@ class _Pair:
 
 def main(words: Optional[List[str]] = None, program: str = "dtool-same") -> int:
     """The program: its status."""
-    for stream in (sys.stdout, sys.stderr):
-        stream.reconfigure(errors="backslashreplace")  # type: ignore[attr-defined]
+    use_backslashes()
     parser = argparse.ArgumentParser(prog=program, description="Prints what two blobs differ by in meaning: a phandle is the node that has it.",
                                      epilog="Status 0: they mean the same; 1: they differ; 2: a blob can't be read.")
     parser.add_argument("--version", action="version", version=f"{program} of dtool {__version__}")
@@ -180,13 +179,13 @@ def main(words: Optional[List[str]] = None, program: str = "dtool-same") -> int:
         try:
             blobs.append(Blob.read(name))
         except (OSError, Fault) as why:
-            print(_escaped(f"{program}: {name}: {why.strerror if isinstance(why, OSError) else why}"), file=sys.stderr)
+            report_failure(program, name, why)
             return 2
     names = [os.path.basename(name) for name in options.blobs]
     found = list(differences(blobs[0], blobs[1], options.exact, names if names[0] != names[1] else options.blobs))
     if not options.quiet:
         for it in found if options.all else found[:FIRST]:
-            print(_escaped(": ".join(part for part in (it.node, it.property, it.message) if part)))
+            print(escaped(": ".join(part for part in (it.node, it.property, it.message) if part)))
         if len(found) > FIRST and not options.all:
             print(f"and {len(found) - FIRST} more")
     return 1 if found else 0

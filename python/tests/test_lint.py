@@ -6,6 +6,7 @@ import tempfile
 import unittest
 
 from dtool import Blob, lint
+from dtool._terminal import escaped
 from dtool.lists import is_phandles, specifier_kind
 from dtool.source import Source
 
@@ -133,7 +134,7 @@ class Program(unittest.TestCase):
         text = asked("lint", blob)[0]
         self.assertIn('"/\\x1b[31m\\n\\xff" names no node', text)
         self.assertTrue(text.isascii() and text.count("\n") == 1)
-        self.assertEqual(lint._escaped("a\ue000\u202e\x00\udcff\ud800é"), "a\\ue000\\u202e\\x00\\xff\\ud800é")
+        self.assertEqual(escaped("a\ue000\u202e\x00\udcff\ud800é"), "a\\ue000\\u202e\\x00\\xff\\ud800é")
 
     def test_launcher(self):
         """tools/lint, from a folder with modules of the same names."""
