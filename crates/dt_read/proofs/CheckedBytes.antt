@@ -31,7 +31,7 @@ pub record IsRoot (bytes : List ℕ) (t : Reading) : Type 0 where
   pub properties : (root_of bytes).properties ≡ t.properties
   pub children : forest_of (root_of bytes).children ≡ t.children
 
-root_is_read : (bytes : List ℕ) (t : Reading) → Reads bytes t → IsWithin bytes t → IsRoot bytes t
+pub root_is_read : (bytes : List ℕ) (t : Reading) → Reads bytes t → IsWithin bytes t → IsRoot bytes t
 root_is_read bytes t reads within =
     let s = spelled_of bytes t reads within in
     let h = tree_spelled (strings_of bytes) (structure_of bytes) (number bytes 8) s.tokens s.end s.spelled s.led s.closed s.ended in
@@ -144,6 +144,7 @@ from_node bytes b node left a there e =
       begins = subst (λ (l : List ℕ). BeginsNode (marks_in b.strings.now node l) node there.parts) (sym e) p.begins;
       inside = part.0;
       front = part.1;
+      block = is;
       names = a.strings;
       names_inside = omega arith;
       name = there.name;

@@ -28,3 +28,11 @@ pub mod NameKeys
 pub mod NamesApart
 pub mod NodePlaces
 pub mod Behind
+pub mod ChangedTrees
+pub mod ChangedPlaces
+pub mod Splices
+pub mod Passing
+pub mod Extents
+pub mod Endings
+pub mod CutTrees
+pub mod NodeCuts

@@ -74,7 +74,7 @@ begin_holds strings bytes name n t =
 
 -- ---- tokens
 
-later_trans : (at : ℕ) (bytes : List ℕ) (here : ℕ) (left : List ℕ) (there : ℕ) (own : List ℕ) → IsLater at bytes here left → IsLater here left there own → IsLater at bytes there own
+pub later_trans : (at : ℕ) (bytes : List ℕ) (here : ℕ) (left : List ℕ) (there : ℕ) (own : List ℕ) → IsLater at bytes here left → IsLater here left there own → IsLater at bytes there own
 later_trans at bytes here left there own a b =
     let a1 = a.from in
     let a2 = a.within in

@@ -14,7 +14,7 @@ use Rattle.dt_read.proofs.Trees.{lexed_is, left_by-without_nop_marks, place_is}
 
 -- ---- the tree that is read is the tree that is spelled
 
-without_nop_marks-append : (xs ys : List Mark) → without_nop_marks (xs ++ ys) ≡ without_nop_marks xs ++ without_nop_marks ys
+pub without_nop_marks-append : (xs ys : List Mark) → without_nop_marks (xs ++ ys) ≡ without_nop_marks xs ++ without_nop_marks ys
 without_nop_marks-append [] ys = refl
 without_nop_marks-append (last_mark ∷ xs) ys = ap (λ (x : List Mark). last_mark ∷ x) (without_nop_marks-append xs ys)
 without_nop_marks-append (end_mark ∷ xs) ys = ap (λ (x : List Mark). end_mark ∷ x) (without_nop_marks-append xs ys)
@@ -108,36 +108,45 @@ among_tree place tree parts e =
 
 -- ---- NOPs between
 
-record Split (marks : List Mark) (mark : Mark) (post : List Mark) : Type 0 where
-  front : List Mark
-  later : List Mark
-  whole : marks ≡ front ++ mark ∷ later
-  same : without_nop_marks later ≡ post
+pub record Split (marks pre : List Mark) (mark : Mark) (post : List Mark) : Type 0 where
+  pub front : List Mark
+  pub later : List Mark
+  pub whole : marks ≡ front ++ mark ∷ later
+  pub before : without_nop_marks front ≡ pre
+  pub same : without_nop_marks later ≡ post
 
-split_more : (x : Mark) (marks pre : List Mark) (mark : Mark) (post : List Mark) → ((pre' : List Mark) → without_nop_marks marks ≡ pre' ++ mark ∷ post → Split marks mark post)
-    → x ∷ without_nop_marks marks ≡ pre ++ mark ∷ post → Split (x ∷ marks) mark post
-split_more x marks [] mark post further e =
+split_more : (x : Mark) (marks pre : List Mark) (mark : Mark) (post : List Mark) → ((ms : List Mark) → without_nop_marks (x ∷ ms) ≡ x ∷ without_nop_marks ms)
+    → ((pre' : List Mark) → without_nop_marks marks ≡ pre' ++ mark ∷ post → Split marks pre' mark post)
+    → x ∷ without_nop_marks marks ≡ pre ++ mark ∷ post → Split (x ∷ marks) pre mark post
+split_more x marks [] mark post stays further e =
     let head : x ≡ mark = cc in
     let tail : without_nop_marks marks ≡ post = cc in
-    record { front = []; later = marks; whole = ap (λ (y : Mark). y ∷ marks) head; same = tail }
-split_more x marks (y ∷ pre) mark post further e =
+    record { front = []; later = marks; whole = ap (λ (y : Mark). y ∷ marks) head; before = refl; same = tail }
+split_more x marks (y ∷ pre) mark post stays further e =
+    let head : x ≡ y = cc in
     let tail : without_nop_marks marks ≡ pre ++ mark ∷ post = cc in
     let s = further pre tail in
-    record { front = x ∷ s.front; later = s.later; whole = ap (λ (z : List Mark). x ∷ z) s.whole; same = s.same }
+    record {
+      front = x ∷ s.front;
+      later = s.later;
+      whole = ap (λ (z : List Mark). x ∷ z) s.whole;
+      before = stays s.front ∙ (λ i. head i ∷ s.before i);
+      same = s.same;
+    }
 
 split_nothing : (pre : List Mark) (mark : Mark) (post : List Mark) → [] ≡ pre ++ mark ∷ post → ⊥
 split_nothing [] mark post e = cc
 split_nothing (x ∷ pre) mark post e = cc
 
-split : (marks pre : List Mark) (mark : Mark) (post : List Mark) → without_nop_marks marks ≡ pre ++ mark ∷ post → Split marks mark post
+pub split : (marks pre : List Mark) (mark : Mark) (post : List Mark) → without_nop_marks marks ≡ pre ++ mark ∷ post → Split marks pre mark post
 split [] pre mark post e = absurd (split_nothing pre mark post e)
 split (nop_mark ∷ marks) pre mark post e =
     let s = split marks pre mark post e in
-    record { front = nop_mark ∷ s.front; later = s.later; whole = ap (λ (z : List Mark). nop_mark ∷ z) s.whole; same = s.same }
-split (last_mark ∷ marks) pre mark post e = split_more last_mark marks pre mark post (λ p. split marks p mark post) e
-split (end_mark ∷ marks) pre mark post e = split_more end_mark marks pre mark post (λ p. split marks p mark post) e
-split (prop_mark p ∷ marks) pre mark post e = split_more (prop_mark p) marks pre mark post (λ p. split marks p mark post) e
-split (begin_mark place name ∷ marks) pre mark post e = split_more (begin_mark place name) marks pre mark post (λ p. split marks p mark post) e
+    record { front = nop_mark ∷ s.front; later = s.later; whole = ap (λ (z : List Mark). nop_mark ∷ z) s.whole; before = s.before; same = s.same }
+split (last_mark ∷ marks) pre mark post e = split_more last_mark marks pre mark post (λ ms. refl) (λ p. split marks p mark post) e
+split (end_mark ∷ marks) pre mark post e = split_more end_mark marks pre mark post (λ ms. refl) (λ p. split marks p mark post) e
+split (prop_mark p ∷ marks) pre mark post e = split_more (prop_mark p) marks pre mark post (λ ms. refl) (λ p. split marks p mark post) e
+split (begin_mark place name ∷ marks) pre mark post e = split_more (begin_mark place name) marks pre mark post (λ ms. refl) (λ p. split marks p mark post) e
 
 -- ---- where tokens stand among the bytes
 

@@ -20,5 +20,6 @@ pub mod Phandle
 pub mod Growth
 pub mod Blocks
 pub mod Checked
+pub mod Cuts
 pub mod Counting
 pub mod Lying

@@ -1,6 +1,6 @@
 -- Where bytes lie in others.
 use Rattle.std.specs.Prelude.{◌≡◌, ℕ, ◌+◌, ◌-◌, ◌≤◌, List, length, drop}
-use Rattle.dt_model.specs.Checks.{number, strings_of}
+use Rattle.dt_model.specs.Checks.{number, strings_of, structure_of}
 use Rattle.dt_model.specs.Names.{Name}
 use Rattle.dt_model.specs.Tree.{value_in, value_of}
 use Rattle.dt_model.specs.Format.{Token, part}
@@ -43,6 +43,7 @@ pub record IsFromNode (bytes : List ℕ) (node : ℕ) (strings left : List ℕ) 
   pub begins : BeginsNode (marks_in strings node left) node parts
   pub inside : node + length left ≤ length bytes
   pub front : left ≡ part node (length left) bytes
+  pub block : left ≡ drop (node - number bytes 8) (structure_of bytes)
   pub names : strings ≡ strings_of bytes
   pub names_inside : number bytes 12 + number bytes 32 ≤ length bytes
   pub name : last_name (path_at (placed_of bytes) node) ≡ parts.name

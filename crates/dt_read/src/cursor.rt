@@ -2,6 +2,7 @@
 
 ghost use Rattle.std.specs.Prelude.{◌≡◌, ◌∷◌, [], ◌<◌, ◌^◌, length};
 ghost use Rattle.std.specs.Option.{MatchOption, IfSome};
+ghost use Rattle.dt_read.specs.Cuts.{Passes};
 ghost use Rattle.dt_read.specs.Lying.{TokenLies};
 ghost use Rattle.dt_read.specs.View.{view, view_at};
 ghost use Rattle.dt_read.specs.TreeTokens.{AreTokens, marks_in, past, past_properties};
@@ -29,6 +30,7 @@ pub(crate) fn next_token<'a>(strings: &'a [u8], at: usize, bytes: &'a [u8]) -> O
         TokenLies strings.now at bytes.now found.at (view found.token) found.behind found.rest.now) }
     ensures tokens { MatchOption result (AreTokens strings.now at bytes.now) (λ found.
         AreTokens strings.now found.behind found.rest.now) }
+    ensures nops { IfSome result (λ found. Passes strings.now at bytes.now found.at []) }
 {
     let mut here = at;
     let mut rest = bytes;

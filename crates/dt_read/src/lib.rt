@@ -15,6 +15,7 @@ mod blob;
 mod blocks;
 mod counts;
 mod cursor;
+mod cuts;
 mod distinct;
 mod fault;
 mod filter;
@@ -36,6 +37,7 @@ mod walk;
 
 pub use blob::Blob;
 pub use counts::Counts;
+pub use cuts::{Cut, end_cut, property_cut};
 pub use dt_names::NodeId;
 pub use laws::{one_answer, placed_is_read};
 pub use open_nodes::OpenNodes;

@@ -115,7 +115,7 @@ fn blocks(bytes: &[u8]) -> Blocks<'_>
 }
 
 /// The strings of a blob, and the tokens from a node on.
-fn node_from(bytes: &[u8], node: NodeId) -> (&[u8], &[u8])
+pub(crate) fn node_from(bytes: &[u8], node: NodeId) -> (&[u8], &[u8])
     requires blob { IsBlob bytes.now }
     requires node { IsNode (placed_of bytes.now) node }
     ensures { IsFromNode bytes.now node result.0.now result.1.now }

@@ -1,0 +1,108 @@
+-- A walk through the properties in front of some tokens.
+use Rattle.std.proofs.Common.{◌≡◌, ℕ, ◌+◌, ◌-◌, ◌≤◌, Bool, true, false, List, [], ◌∷◌, ◌++◌, length, drop, map, refl, sym, ap, subst, ◌∙◌, append_assoc, arith}
+use Rattle.std.proofs.lemmas.List.{append-nil, map-append}
+use Rattle.std.specs.List.{AllByRecursion}
+use Rattle.std.specs.Str.{bytes_eq}
+use Rattle.dt_model.specs.Format.{Token, prop}
+use Rattle.dt_model.specs.Names.{Name}
+use Rattle.dt_model.specs.Tree.{Property}
+use Rattle.std.specs.Borrow.{Bor}
+use Rattle.dt_read.specs.declared.token.Token.{Token as CodeToken}
+use Rattle.dt_read.specs.declared.token.Token.TheVariants as code
+use Rattle.dt_read.specs.View.{view_at}
+use Rattle.dt_read.specs.Cuts.{Passes, HasNoProperty, IsPropertyExtent}
+use Rattle.dt_read.specs.Lying.{IsLater, TokenLies}
+use Rattle.dt_read.specs.Marks.{Mark, prop_mark}
+use Rattle.dt_read.specs.TreeTokens.{AreTokens, marks_in}
+use Rattle.dt_read.proofs.Lying.{behind_later, later_first, token_later}
+use Rattle.dt_read.proofs.Passing.{passes_none, found_places, passes_found}
+
+-- the properties from the front up to a place, none of which has the name
+pub record Extends (strings : List ℕ) (at : ℕ) (bytes : List ℕ) (name : Name) (here : ℕ) (rest : List ℕ) : Type 0 where
+  pub before : List Property
+  pub others : AllByRecursion (λ p. bytes_eq name p.name ≡ false) before
+  pub whole : marks_in strings at bytes ≡ map prop_mark before ++ marks_in strings here rest
+  pub tokens : AreTokens strings here rest
+  pub later : IsLater at bytes here rest
+  pub passes : Passes strings at bytes here (map prop_mark before)
+
+pub extends_first : (strings : List ℕ) (at : ℕ) (bytes : List ℕ) (name : Name) → AreTokens strings at bytes → Extends strings at bytes name at bytes
+extends_first strings at bytes name tokens =
+    record { before = []; others = tt; whole = refl; tokens = tokens; later = later_first at bytes; passes = passes_none strings at bytes }
+
+all_more : (P : Property → Type 0) (ps : List Property) (p : Property) → AllByRecursion P ps → P p → AllByRecursion P (ps ++ p ∷ [])
+all_more P [] p a h = (h, tt)
+all_more P (q ∷ ps) p a h = (a.0, all_more P ps p a.1 h)
+
+-- what a look at the next token finds
+pub record FindsProperty (strings : List ℕ) (here : ℕ) (rest : List ℕ) (p : Property) (there next : ℕ) (left : List ℕ) : Type 0 where
+  pub lies : TokenLies strings here rest there (prop p) next left
+  pub nops : Passes strings here rest there []
+  pub marks : marks_in strings here rest ≡ prop_mark p ∷ marks_in strings next left
+  pub tokens : AreTokens strings next left
+
+pub extends_more : (strings : List ℕ) (at : ℕ) (bytes : List ℕ) (name : Name) (here : ℕ) (rest : List ℕ) (p : Property) (there next : ℕ) (left : List ℕ) → Extends strings at bytes name here rest
+    → FindsProperty strings here rest p there next left → bytes_eq name p.name ≡ false → Extends strings at bytes name next left
+extends_more strings at bytes name here rest p there next left e f other =
+    let both = passes_found strings at bytes here rest there (prop p) next left (map prop_mark e.before) e.passes e.later f.lies f.nops in
+    let more : map prop_mark (e.before ++ p ∷ []) ≡ map prop_mark e.before ++ prop_mark p ∷ [] = map-append prop_mark e.before (p ∷ []) in record {
+      before = e.before ++ p ∷ [];
+      others = all_more (λ q. bytes_eq name q.name ≡ false) e.before p e.others other;
+      whole = e.whole ∙ ap (λ (x : List Mark). map prop_mark e.before ++ x) f.marks ∙ sym (append_assoc (map prop_mark e.before) (prop_mark p ∷ []) (marks_in strings next left))
+          ∙ ap (λ (x : List Mark). x ++ marks_in strings next left) (sym more);
+      tokens = f.tokens;
+      later = behind_later strings at bytes there (prop p) next left (token_later strings at bytes here rest there (prop p) next left e.later f.lies);
+      passes = subst (Passes strings at bytes next) (sym more) both.1;
+    }
+
+-- there is none of that name
+pub extent_none : (strings : List ℕ) (at : ℕ) (bytes : List ℕ) (name : Name) (here : ℕ) (rest : List ℕ) → Extends strings at bytes name here rest → HasNoProperty (marks_in strings here rest)
+    → IsPropertyExtent strings at bytes name here here
+extent_none strings at bytes name here rest e none =
+    let w = e.later.within in record {
+      before = e.before;
+      own = [];
+      left = marks_in strings here rest;
+      whole = e.whole;
+      others = e.others;
+      is = none;
+      passes = e.passes;
+      passed = subst (Passes strings at bytes here) (sym (append-nil (map prop_mark e.before))) e.passes;
+      first = e.later.from;
+      order = omega arith;
+      within = w;
+      tokens = subst (AreTokens strings here) e.later.is e.tokens;
+      behind = ap (marks_in strings here) (sym e.later.is);
+    }
+
+-- there is one
+pub extent_some : (strings : List ℕ) (at : ℕ) (bytes : List ℕ) (name : Name) (here : ℕ) (rest : List ℕ) (p : Property) (there next : ℕ) (left : List ℕ) → Extends strings at bytes name here rest
+    → FindsProperty strings here rest p there next left → bytes_eq name p.name ≡ true → IsPropertyExtent strings at bytes name there next
+extent_some strings at bytes name here rest p there next left e f own =
+    let both = passes_found strings at bytes here rest there (prop p) next left (map prop_mark e.before) e.passes e.later f.lies f.nops in
+    let later = behind_later strings at bytes there (prop p) next left (token_later strings at bytes here rest there (prop p) next left e.later f.lies) in
+    let places = found_places strings at bytes here rest there (prop p) next left e.later f.lies in
+    let from = places.from in
+    let on = places.on in record {
+      before = e.before;
+      own = p ∷ [];
+      left = marks_in strings next left;
+      whole = e.whole ∙ ap (λ (x : List Mark). map prop_mark e.before ++ x) f.marks;
+      others = e.others;
+      is = own;
+      passes = both.0;
+      passed = both.1;
+      first = omega arith;
+      order = places.ahead;
+      within = places.within;
+      tokens = subst (AreTokens strings next) later.is f.tokens;
+      behind = ap (marks_in strings next) (sym later.is);
+    }
+
+-- a token that is no property
+pub no_property : (at : ℕ) (token : CodeToken) (more : List Mark) → ((name value : Bor (List ℕ)) → token ≡ code.Property name value → ⊥) → HasNoProperty (view_at at token ∷ more)
+no_property at (code.BeginNode name) more none = tt
+no_property at code.EndNode more none = tt
+no_property at (code.Property name value) more none = none name value refl
+no_property at code.Nop more none = tt
+no_property at code.End more none = tt
