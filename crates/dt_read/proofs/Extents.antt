@@ -1,16 +1,18 @@
 -- A walk through the properties in front of some tokens.
-use Rattle.std.proofs.Common.{◌≡◌, ℕ, ◌+◌, ◌-◌, ◌≤◌, Bool, true, false, List, [], ◌∷◌, ◌++◌, length, drop, map, refl, sym, ap, subst, ◌∙◌, append_assoc, arith}
-use Rattle.std.proofs.lemmas.List.{append-nil, map-append}
+use Rattle.std.proofs.Common.{◌≡◌, ℕ, ◌+◌, ◌-◌, ◌≤◌, Bool, true, false, List, [], ◌∷◌, ◌++◌, length, take, drop, map, Some, refl, sym, ap, subst, ◌∙◌, append_assoc, arith}
+use Rattle.std.proofs.lemmas.List.{append-nil, length-append, length-take-le, map-append}
 use Rattle.std.specs.List.{AllByRecursion}
 use Rattle.std.specs.Str.{bytes_eq}
-use Rattle.dt_model.specs.Format.{Token, prop}
+use Rattle.dt_model.proofs.Words.{length-padded}
+use Rattle.dt_model.specs.Format.{Token, prop, word}
+use Rattle.dt_model.specs.Lexing.{padded}
 use Rattle.dt_model.specs.Names.{Name}
 use Rattle.dt_model.specs.Tree.{Property}
 use Rattle.std.specs.Borrow.{Bor}
 use Rattle.dt_read.specs.declared.token.Token.{Token as CodeToken}
 use Rattle.dt_read.specs.declared.token.Token.TheVariants as code
 use Rattle.dt_read.specs.View.{view_at}
-use Rattle.dt_read.specs.Cuts.{Passes, HasNoProperty, IsPropertyExtent}
+use Rattle.dt_read.specs.Cuts.{Passes, HasNoProperty, property_size, IsPropertyExtent}
 use Rattle.dt_read.specs.Lying.{IsLater, TokenLies}
 use Rattle.dt_read.specs.Marks.{Mark, prop_mark}
 use Rattle.dt_read.specs.TreeTokens.{AreTokens, marks_in}
@@ -55,6 +57,15 @@ extends_more strings at bytes name here rest p there next left e f other =
       passes = subst (Passes strings at bytes next) (sym more) both.1;
     }
 
+-- a property's token takes as many bytes as its value needs
+property_ends : (strings : List ℕ) (here : ℕ) (rest : List ℕ) (p : Property) (there next : ℕ) (left : List ℕ) → TokenLies strings here rest there (prop p) next left → next ≡ there + property_size (Some p.value)
+property_ends strings here rest p there next left t =
+    let s = t.takes.spelled in
+    let content = word 3 ++ (word (length p.value) ++ (word s.offset ++ p.value)) in
+    let twelve : length content ≡ 12 + length p.value = omega (arith, length-append (word 3) (word (length p.value) ++ (word s.offset ++ p.value)), length-append (word (length p.value)) (word s.offset ++ p.value), length-append (word s.offset) p.value) in
+    let size : t.size ≡ padded (12 + length p.value) = sym (length-take-le t.size t.own t.takes.within) ∙ length-padded content (take t.size t.own) s.bytes ∙ ap padded twelve in
+    t.behind ∙ ap (λ (n : ℕ). there + n) size
+
 -- there is none of that name
 pub extent_none : (strings : List ℕ) (at : ℕ) (bytes : List ℕ) (name : Name) (here : ℕ) (rest : List ℕ) → Extends strings at bytes name here rest → HasNoProperty (marks_in strings here rest)
     → IsPropertyExtent strings at bytes name here here
@@ -69,7 +80,7 @@ extent_none strings at bytes name here rest e none =
       passes = e.passes;
       passed = subst (Passes strings at bytes here) (sym (append-nil (map prop_mark e.before))) e.passes;
       first = e.later.from;
-      order = omega arith;
+      size = omega arith;
       within = w;
       tokens = subst (AreTokens strings here) e.later.is e.tokens;
       behind = ap (marks_in strings here) (sym e.later.is);
@@ -93,7 +104,7 @@ extent_some strings at bytes name here rest p there next left e f own =
       passes = both.0;
       passed = both.1;
       first = omega arith;
-      order = places.ahead;
+      size = property_ends strings here rest p there next left f.lies;
       within = places.within;
       tokens = subst (AreTokens strings next) later.is f.tokens;
       behind = ap (marks_in strings next) (sym later.is);

@@ -36,3 +36,4 @@ pub mod Extents
 pub mod Endings
 pub mod CutTrees
 pub mod NodeCuts
+pub mod SplicedTrees

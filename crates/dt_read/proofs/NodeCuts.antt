@@ -9,15 +9,18 @@ use Rattle.dt_model.specs.Changes.{set_property}
 use Rattle.dt_model.specs.Checks.{number, strings_of, structure_of}
 use Rattle.dt_model.specs.Format.{Token, prop, word, Spells, SpellsBegin}
 use Rattle.dt_model.specs.Names.{Name}
-use Rattle.dt_model.specs.Tree.{Property}
-use Rattle.dt_read.specs.Cuts.{Content, with_value, appended, with_node, moved, moved_nodes, moved_content, marks_of_content, Passes, HasNoProperty, IsFoundProperty, IsPropertyExtent, opened, IsEndPlace, IsPropertyCut, IsEndCut}
+use Rattle.dt_model.specs.Tree.{Property, value_of, value_in}
+use Rattle.dt_read.specs.Checked.{placed_of}
+use Rattle.dt_read.specs.Cuts.{Content, with_value, appended, with_node, moved, moved_nodes, moved_content, marks_of_content, Passes, HasNoProperty, IsFoundProperty, property_size, found_size, IsPropertyExtent, opened, IsEndPlace, IsPropertyCut, IsEndCut}
 use Rattle.dt_read.specs.Lying.{IsLater, TokenLies}
 use Rattle.dt_read.specs.declared.token.Token.{Token as CodeToken}
 use Rattle.dt_read.specs.declared.token.Token.TheVariants as code
 use Rattle.dt_read.specs.View.{view, view_at}
 use Rattle.dt_read.specs.Marks.{Mark, begin_mark, end_mark, prop_mark, nop_mark, last_mark, SpellsMarks, marks_of_nodes, without_nop_marks}
+use Rattle.dt_read.specs.Parsing.{Left, left_by}
 use Rattle.dt_read.specs.Placed as placed
-use Rattle.dt_read.specs.Placed.{Nodes}
+use Rattle.dt_read.specs.Placed.{Nodes, path_at, reading_of}
+use Rattle.dt_read.specs.TreeCode.{left_by_properties, left_by_nodes}
 use Rattle.dt_read.specs.TreeTokens.{AreTokens, marks_in}
 use Rattle.dt_read.proofs.ChangedTrees.{moved_mark, moved_properties, moved_marks}
 use Rattle.dt_read.proofs.CutTrees.{CutNode, CutTokens, spliced_tree}
@@ -139,6 +142,25 @@ held name value (b ∷ before) own left (p ∷ ps) nodes more f o e =
     let h = held name value before own left ps nodes more f o.1 tail in
     record { behind = h.behind; set = rw test (λ i. sym same i ∷ h.set i); is = h.is }
 
+-- the property that is found is the node's, and takes as many bytes as its value needs
+found_value : (name : Name) (before own : List Property) (left : List Mark) (ps : List Property) (nodes : Nodes) (more : List Mark) → IsFoundProperty name own left
+    → AllByRecursion (λ p. bytes_eq name p.name ≡ false) before → map prop_mark before ++ (map prop_mark own ++ left) ≡ map prop_mark ps ++ (marks_of_nodes nodes ++ end_mark ∷ more)
+    → found_size own ≡ property_size (value_of ps name)
+found_value name [] [] left [] nodes more f o e = refl
+found_value name [] [] left (p ∷ ps) nodes more f o e = absurd (subst HasNoProperty e f)
+found_value name [] (q ∷ []) left [] nodes more f o e = absurd (first_is_none nodes more left q e)
+found_value name [] (q ∷ []) left (p ∷ ps) nodes more f o e =
+    let same : q ≡ p = cc in
+    let test : bytes_eq name p.name ≡ true = ap (λ (x : Property). bytes_eq name x.name) (sym same) ∙ f in
+    rw test (ap (λ (x : Property). property_size (Some x.value)) same)
+found_value name [] (q ∷ r ∷ own) left ps nodes more f o e = absurd f
+found_value name (b ∷ before) own left [] nodes more f o e = absurd (first_is_none nodes more (map prop_mark before ++ (map prop_mark own ++ left)) b e)
+found_value name (b ∷ before) own left (p ∷ ps) nodes more f o e =
+    let same : b ≡ p = cc in
+    let tail : map prop_mark before ++ (map prop_mark own ++ left) ≡ map prop_mark ps ++ (marks_of_nodes nodes ++ end_mark ∷ more) = cc in
+    let test : bytes_eq name p.name ≡ false = ap (λ (x : Property). bytes_eq name x.name) (sym same) ∙ o.0 in
+    rw test (found_value name before own left ps nodes more f o.1 tail)
+
 -- a property set among the tokens of a node, of which those behind it move
 value_between : (f : ℕ → ℕ) (name : Name) (value : List ℕ) (ps before behind : List Property) (nodes : Nodes) (more : List Mark) → set_property ps name value ≡ before ++ record { name = name; value = value } ∷ behind
     → marks_of_content (with_value name value (moved_content f (record { properties = ps; children = nodes }))) (end_mark ∷ map (moved_mark f) more)
@@ -155,6 +177,16 @@ value_between f name value ps before behind nodes more set =
     ∙ append_assoc (map prop_mark before) (prop_mark p ∷ map prop_mark behind) tail
     ∙ (λ i. sym (moved_properties f before) i ++ prop_mark p ∷ sym moved_tail i)
 
+-- the values of a node are those of the properties in front of what it has
+abbrev pub HasValues : (bytes : List ℕ) (node : ℕ) (strings : List ℕ) (next : ℕ) (rest : List ℕ) → Type 0
+HasValues bytes node strings next rest =
+    (x : Name) → value_in (reading_of (placed_of bytes)) (path_at (placed_of bytes) node) x ≡ value_of (left_by (marks_in strings next rest)).properties x
+
+content_properties : (c : Content) (more : List Mark) → (left_by (marks_of_content c (end_mark ∷ more))).properties ≡ c.properties
+content_properties c more =
+    let inside = left_by_nodes c.children more in
+    ap (λ (l : Left). l.properties) (left_by_properties c.properties (marks_of_nodes c.children ++ end_mark ∷ more) (ap (λ (l : Left). l.properties) inside))
+
 property_tokens : (bytes : List ℕ) (node : ℕ) (name : Name) (value : List ℕ) (next : ℕ) (rest : List ℕ) (from to : ℕ) (c : CutNode bytes node) → HeadOf (strings_of bytes) node (from_node bytes node) next rest
     → (e : IsPropertyExtent (strings_of bytes) next rest name from to)
     → (t : CutTokens bytes node (from - number bytes 8) (to - from) c) × (behind : List Property) × (t.passed ≡ map prop_mark e.before)
@@ -169,7 +201,7 @@ property_tokens bytes node name value next rest from to c h e =
     let begun = h.begun in
     let begins = c.from in
     let first = e.first in
-    let order = e.order in
+    let order = e.size in
     let within = e.within in
     let later = h.later.from in
     let inner = h.later.within in
@@ -208,14 +240,18 @@ property_tokens bytes node name value next rest from to c h e =
     regroup a b c d e = simp append_assoc
 
 property_becomes : (bytes : List ℕ) (node : ℕ) (name : Name) (next : ℕ) (rest : List ℕ) (from to : ℕ) (c : CutNode bytes node) → HeadOf (strings_of bytes) node (from_node bytes node) next rest
-    → IsPropertyExtent (strings_of bytes) next rest name from to → IsPropertyCut bytes node name (from - number bytes 8) (to - from)
-property_becomes bytes node name next rest from to c h e =
+    → HasValues bytes node (strings_of bytes) next rest → IsPropertyExtent (strings_of bytes) next rest name from to → IsPropertyCut bytes node name (from - number bytes 8) (to - from)
+property_becomes bytes node name next rest from to c h values e =
+    let own = head_is bytes node next rest c h in
+    let found = found_value name e.before e.own e.left c.stands.content.properties c.stands.content.children (c.stands.more ++ last_mark ∷ []) e.is e.others (sym e.whole ∙ own.1) in
+    let taken = e.size in
     let begun = h.begun in
     let begins = c.from in
     let first = e.first in
     let inside = (property_tokens bytes node name [] next rest from to c h e).0.inside in
     record {
       behind = record { begun = omega arith; inside = inside };
+      taken = omega arith ∙ found ∙ ap property_size (sym (values name ∙ ap (λ (x : List Property). value_of x name) (ap (λ (x : List Mark). (left_by x).properties) own.1 ∙ content_properties c.stands.content (c.stands.more ++ last_mark ∷ []))));
       becomes = λ value own more spelled.
           let t = property_tokens bytes node name value next rest from to c h e in
           let p : Property = record { name = name; value = value } in
@@ -228,11 +264,11 @@ property_becomes bytes node name next rest from to c h e =
 
 -- where a property is cut out of the bytes from its node on
 pub property_cut_is : (bytes : List ℕ) (node : ℕ) (name : Name) (strings left : List ℕ) (next : ℕ) (rest : List ℕ) (from to : ℕ) → CutNode bytes node → strings ≡ strings_of bytes
-    → left ≡ drop (node - number bytes 8) (structure_of bytes) → HeadOf strings node left next rest → IsPropertyExtent strings next rest name from to
+    → left ≡ drop (node - number bytes 8) (structure_of bytes) → HeadOf strings node left next rest → HasValues bytes node strings next rest → IsPropertyExtent strings next rest name from to
     → IsPropertyCut bytes node name (from - number bytes 8) (to - from)
 property_cut_is bytes node name strings left next rest from to c names block =
-    subst (λ (s : List ℕ). HeadOf s node left next rest → IsPropertyExtent s next rest name from to → IsPropertyCut bytes node name (from - number bytes 8) (to - from)) (sym names)
-    (subst (λ (l : List ℕ). HeadOf (strings_of bytes) node l next rest → IsPropertyExtent (strings_of bytes) next rest name from to → IsPropertyCut bytes node name (from - number bytes 8) (to - from)) (sym block)
+    subst (λ (s : List ℕ). HeadOf s node left next rest → HasValues bytes node s next rest → IsPropertyExtent s next rest name from to → IsPropertyCut bytes node name (from - number bytes 8) (to - from)) (sym names)
+    (subst (λ (l : List ℕ). HeadOf (strings_of bytes) node l next rest → HasValues bytes node (strings_of bytes) next rest → IsPropertyExtent (strings_of bytes) next rest name from to → IsPropertyCut bytes node name (from - number bytes 8) (to - from)) (sym block)
     (property_becomes bytes node name next rest from to c))
 
 -- ---- a child

@@ -176,7 +176,7 @@ mark_again at end_tree = refl
 pub marked : (strings : List ℕ) (at : ℕ) (token : Token) (own : List ℕ) → Spells strings token own → SpellsMark strings at (mark_at at token) own
 marked strings at token own s = record { placed = ap (mark_at at) (mark_again at token); token = subst (λ (t : Token). Spells strings t own) (sym (mark_again at token)) s }
 
-tokens_of_marks : (marks : List Mark) → map token_of (without_nop_marks marks) ≡ without_nops (map token_of marks)
+pub tokens_of_marks : (marks : List Mark) → map token_of (without_nop_marks marks) ≡ without_nops (map token_of marks)
 tokens_of_marks [] = refl
 tokens_of_marks (begin_mark place name ∷ marks) = ap (λ (x : List Token). begin_node name ∷ x) (tokens_of_marks marks)
 tokens_of_marks (end_mark ∷ marks) = ap (λ (x : List Token). end_node ∷ x) (tokens_of_marks marks)
@@ -184,7 +184,7 @@ tokens_of_marks (prop_mark p ∷ marks) = ap (λ (x : List Token). prop p ∷ x)
 tokens_of_marks (nop_mark ∷ marks) = tokens_of_marks marks
 tokens_of_marks (last_mark ∷ marks) = ap (λ (x : List Token). end_tree ∷ x) (tokens_of_marks marks)
 
-tokens_append : (xs ys : List Mark) → map token_of (xs ++ ys) ≡ map token_of xs ++ map token_of ys
+pub tokens_append : (xs ys : List Mark) → map token_of (xs ++ ys) ≡ map token_of xs ++ map token_of ys
 tokens_append [] ys = refl
 tokens_append (x ∷ xs) ys = ap (λ (t : List Token). token_of x ∷ t) (tokens_append xs ys)
 
@@ -203,7 +203,7 @@ tokens_of_nodes (node place name properties children siblings) =
     (whole ∙ ap (λ (t : List Token). t ++ map token_of (marks_of_nodes children ++ end_mark ∷ marks_of_nodes siblings)) (tokens_of_properties properties)
     ∙ ap (λ (t : List Token). map prop properties ++ t) (behind ∙ (λ i. inside i ++ end_node ∷ after i)))
 
-tokens_of_root : (tree : Root) → map token_of (marks_of tree) ≡ tokens_of tree.properties (forest_of tree.children)
+pub tokens_of_root : (tree : Root) → map token_of (marks_of tree) ≡ tokens_of tree.properties (forest_of tree.children)
 tokens_of_root tree = tokens_of_nodes (node tree.place [] tree.properties tree.children no_nodes)
 
 -- a word and nothing behind it

@@ -5,12 +5,13 @@ use Rattle.std.specs.Str.{bytes_eq}
 use Rattle.dt_model.specs.Changes.{set_property}
 use Rattle.dt_model.specs.Checks.{number, strings_of, structure_of}
 use Rattle.dt_model.specs.Format.{prop, word, Spells, SpellsBegin}
+use Rattle.dt_model.specs.Lexing.{padded}
 use Rattle.dt_model.specs.Names.{Name}
 use Rattle.dt_model.specs.Path.{Path}
-use Rattle.dt_model.specs.Tree.{Property}
+use Rattle.dt_model.specs.Tree.{Property, value_in}
 use Rattle.dt_read.specs.Checked.{placed_of, root_of}
 use Rattle.dt_read.specs.Marks.{Mark, begin_mark, end_mark, prop_mark, nop_mark, last_mark, SpellsMarks, Root, marks_of_nodes, marks_of, without_nop_marks}
-use Rattle.dt_read.specs.Placed.{Nodes, no_nodes, node, path_at}
+use Rattle.dt_read.specs.Placed.{Nodes, no_nodes, node, path_at, reading_of}
 use Rattle.dt_read.specs.TreeTokens.{AreTokens, marks_in}
 
 -- ---- trees with one node changed
@@ -93,9 +94,15 @@ pub record IsBehindNode (bytes : List ℕ) (node cut size : ℕ) : Type 0 where
   pub begun : node < number bytes 8 + cut
   pub inside : cut + size ≤ length (structure_of bytes)
 
+-- how many bytes the token of a property takes, of which the value may not be there
+abbrev pub property_size : Option (List ℕ) → ℕ
+property_size None = 0
+property_size (Some value) = padded (12 + length value)
+
 -- the bytes of a node's property of a name, or none where a new one goes
 pub record IsPropertyCut (bytes : List ℕ) (node : ℕ) (name : Name) (cut size : ℕ) : Type 0 where
   pub behind : IsBehindNode bytes node cut size
+  pub taken : size ≡ property_size (value_in (reading_of (placed_of bytes)) (path_at (placed_of bytes) node) name)
   pub becomes : (value own more : List ℕ) → Spells (strings_of bytes ++ more) (prop (record { name = name; value = value })) own
       → SpellsRoot (strings_of bytes ++ more) (number bytes 8) (spliced cut size own (structure_of bytes))
       (changed_root (with_value name value) (path_at (placed_of bytes) node) (moved_root (moved (number bytes 8 + cut) size (length own)) (root_of bytes)))
@@ -125,6 +132,11 @@ IsFoundProperty name [] behind = HasNoProperty behind
 IsFoundProperty name (p ∷ []) behind = bytes_eq name p.name ≡ true
 IsFoundProperty name (p ∷ q ∷ ps) behind = ⊥
 
+-- how many bytes a look for a property finds
+abbrev pub found_size : List Property → ℕ
+found_size [] = 0
+found_size (p ∷ ps) = property_size (Some p.value)
+
 -- where the property of a name lies among those at the front of some tokens, or would lie behind them
 pub record IsPropertyExtent (strings : List ℕ) (at : ℕ) (bytes : List ℕ) (name : Name) (from to : ℕ) : Type 0 where
   pub before : List Property
@@ -136,7 +148,7 @@ pub record IsPropertyExtent (strings : List ℕ) (at : ℕ) (bytes : List ℕ) (
   pub passes : Passes strings at bytes from (map prop_mark before)
   pub passed : Passes strings at bytes to (map prop_mark before ++ map prop_mark own)
   pub first : at ≤ from
-  pub order : from ≤ to
+  pub size : to ≡ from + found_size own
   pub within : to - at ≤ length bytes
   pub tokens : AreTokens strings to (drop (to - at) bytes)
   pub behind : marks_in strings to (drop (to - at) bytes) ≡ left
