@@ -81,7 +81,7 @@ cut_marks strings at (mark ∷ front) later bytes s =
 moves_on : (from was is place : ℕ) → from ≤ place → moved from was is place ≡ place + is - was
 moves_on from was is place le = rw (le-ltb place from le) refl
 
-stays_there : (from was is place : ℕ) → place < from → moved from was is place ≡ place
+pub stays_there : (from was is place : ℕ) → place < from → moved from was is place ≡ place
 stays_there from was is place lt = rw (lt-ltb place from lt) refl
 
 moved_token : (f : ℕ → ℕ) (mark : Mark) → token_of (moved_mark f mark) ≡ token_of mark

@@ -21,10 +21,10 @@ no_nul : (P : ℕ → Type 0) (xs : List ℕ) → (P 0 → ⊥) → AllByRecursi
 no_nul P [] f h = tt
 no_nul P (x ∷ xs) f h = (λ e. f (subst P e h.0), no_nul P xs f h.1)
 
-node_text : (n : List ℕ) → IsNodeName n → IsText n
+pub node_text : (n : List ℕ) → IsNodeName n → IsText n
 node_text n h = no_nul (λ b. IsTrue (is_name_byte b || (b == 64))) n (λ e. cc) (recursion_from_All (λ b. IsTrue (is_name_byte b || (b == 64))) n h.allowed)
 
-property_text : (n : List ℕ) → IsPropertyName n → IsText n
+pub property_text : (n : List ℕ) → IsPropertyName n → IsText n
 property_text n h = no_nul (λ b. IsTrue (is_name_byte b)) n (λ e. cc) (recursion_from_All (λ b. IsTrue (is_name_byte b)) n h.allowed)
 
 property_texts : (ps : List Property) → AllByRecursion (λ p. IsPropertyName p.name) ps → AllByRecursion (λ p. IsText p.name) ps
@@ -47,7 +47,7 @@ names_are_distinct t = distinct_below [] (root_node t) tt
 
 -- ---- the header
 
-header_of : (boot_cpu : ℕ) (r s n : List ℕ) → Header
+abbrev pub header_of : (boot_cpu : ℕ) (r s n : List ℕ) → Header
 header_of boot_cpu r s n = record {
   total_size = 40 + length r + length s + length n;
   structure_offset = 40 + length r;
@@ -63,8 +63,7 @@ header_of boot_cpu r s n = record {
 pub assembled_length : (boot_cpu : ℕ) (r s n : List ℕ) → length (assembled boot_cpu r s n) ≡ 40 + length r + length s + length n
 assembled_length boot_cpu r s n = omega (arith, length-append r s, length-append (r ++ s) n)
 
-says : (boot_cpu : ℕ) (r s n : List ℕ) → boot_cpu < 2 ^ 32 → 40 + length r + length s + length n < 2 ^ 32 → HasHeader (assembled boot_cpu r s n) (header_of boot_cpu r s n)
-unfolding header_of
+pub says : (boot_cpu : ℕ) (r s n : List ℕ) → boot_cpu < 2 ^ 32 → 40 + length r + length s + length n < 2 ^ 32 → HasHeader (assembled boot_cpu r s n) (header_of boot_cpu r s n)
 says boot_cpu r s n boot small = record {
   magic = at 0 0xd00dfeed (omega arith) refl;
   total_size = at 4 (40 + length r + length s + length n) (omega arith) (from_be_bytes-to_be_bytes_4 (40 + length r + length s + length n) small);
@@ -85,7 +84,7 @@ says boot_cpu r s n boot small = record {
 
 -- ---- the blocks stand where the header says
 
-piece : (b : List ℕ) (at place : ℕ) (before it after : List ℕ) (size : ℕ) → place ≡ at + length before → size ≡ length it → drop at b ≡ before ++ it ++ after → part place size b ≡ it
+pub piece : (b : List ℕ) (at place : ℕ) (before it after : List ℕ) (size : ℕ) → place ≡ at + length before → size ≡ length it → drop at b ≡ before ++ it ++ after → part place size b ≡ it
 piece b at place before it after size p q e =
     let moved : drop place b ≡ it ++ after = ap (λ (k : ℕ). drop k b) p ∙ sym (drop-drop (length before) at b) ∙ ap (drop (length before)) (e ∙ append_assoc before it after) ∙ drop_at before (it ++ after) (length before) refl in
     ap (take size) moved ∙ take_at it after size (sym q)
@@ -97,8 +96,7 @@ pairs_length (r ∷ rs) = omega (arith, length-append (pair r) (flat_map pair rs
 pub block_length : (rs : List (ℕ × ℕ)) → length (reservation_block rs) ≡ 16 * length rs + 16
 block_length rs = omega (arith, length-append (flat_map pair rs) (pair (0, 0)), pairs_length rs)
 
-assembled_reads : (t : Reading) (s n : List ℕ) → 40 + length (reservation_block t.reservations) + length s + length n < 2 ^ 32 → SpellsTree n t.properties t.children s → IsValid t → Reads (assembled t.boot_cpu (reservation_block t.reservations) s n) t
-unfolding header_of
+pub assembled_reads : (t : Reading) (s n : List ℕ) → 40 + length (reservation_block t.reservations) + length s + length n < 2 ^ 32 → SpellsTree n t.properties t.children s → IsValid t → Reads (assembled t.boot_cpu (reservation_block t.reservations) s n) t
 assembled_reads t s n small spelled valid =
     let r = reservation_block t.reservations in
     let b = assembled t.boot_cpu r s n in
@@ -138,7 +136,6 @@ written_reads t valid short =
 
 -- and it is within the limits, where the tree is
 pub written_within : (t : Reading) → IsValid t → IsWithinLimits t → length (written t) ≤ 16777216 → IsWithin (written t) t
-unfolding header_of
 written_within t valid limits short =
     let r = reservation_block t.reservations in
     let s = structure_block t in

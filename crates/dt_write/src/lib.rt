@@ -27,6 +27,7 @@ use dt_flat::FlatTree;
 use dt_names::Fault;
 pub use laws::{names_share_bytes, one_outcome, written_reads};
 use std::alloc::Global;
+pub use whole::set_header;
 
 /// The blob of a tree: header, reservations, structure, strings, nothing between them (Devicetree Specification v0.4,
 /// chapter 5). Version 17, last compatible version 16, no NOP, zeros as padding. The names of properties that are no end of

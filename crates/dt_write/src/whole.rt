@@ -29,8 +29,8 @@ const PAIR_SIZE: usize = 16;
 
 const END: u32 = 9;
 
-/// Sets the words of the header, when the sizes of the blocks are known.
-fn set_header(
+/// Sets the ten words of a header, from the sizes of the blocks (Devicetree Specification v0.4, 5.2).
+pub fn set_header(
     bytes: &mut [u8],
     boot_cpu: u32,
     reservations: usize,

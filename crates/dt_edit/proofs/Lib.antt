@@ -1,0 +1,10 @@
+pub mod ValidChanges
+pub mod Fronts
+pub mod Assembling
+pub mod Layouts
+pub mod Putting
+pub mod NamePlaces
+pub mod NumbersOwned
+pub mod Carrying
+pub mod CarriedOut
+pub mod PropertiesSet

@@ -1,0 +1,51 @@
+use Rattle.std.proofs.Common.{◌≡◌, ◌++◌, ◌+◌, List, ℕ, length, refl, sym, ap, subst, ◌∙◌}
+use Rattle.dt_model.specs.Changes.{with_property_at}
+use Rattle.dt_model.specs.Checks.{number, strings_of, structure_of}
+use Rattle.dt_model.specs.Names.{Name, IsPropertyName}
+use Rattle.dt_read.specs.Checked.{root_of}
+use Rattle.dt_read.specs.Cuts.{changed_root, with_value, moved, moved_root, spliced}
+use Rattle.dt_edit.specs.Editable.{reading_in, path_in, size_with_value}
+use Rattle.dt_edit.specs.Moving.{property_bytes}
+use Rattle.dt_edit.specs.Plans.{added_name, name_offset}
+use Rattle.dt_edit.proofs.Assembling.{IsEdited}
+use Rattle.dt_edit.proofs.PropertiesSet.{property_set, property_total, property_places}
+use Rattle.dt_edit.proofs.lent.set_prop.Goals as goal
+
+-- what the bytes are then
+done : (c : goal.After-slice_known-2-1) → (let old = c.args.bytes.now in let key = c.as_bytes-key.result.now in let cut = c.in-Some.plan.cut in let own = property_bytes (name_offset old key) c.args.value.now in
+    IsEdited c.carry_out.new.bytes (with_property_at (path_in old c.args.node) key c.args.value.now (reading_in old))
+    (changed_root (with_value key c.args.value.now) (path_in old c.args.node) (moved_root (moved (number old 8 + cut.at) cut.size (length own)) (root_of old)))
+    (spliced cut.at cut.size own (structure_of old)) (strings_of old ++ added_name old key))
+done c =
+    property_set c.args.bytes.now c.carry_out.new.bytes c.args.node c.as_bytes-key.result.now c.args.value.now c.in-Some.plan c.requires.editable
+    (subst IsPropertyName (sym c.as_bytes-key.ensures.value) c.as_bytes-key.ensures.valid) (c.may_set.ensures.0 c.if-not-may_set.false) c.in-Some.ensures.0 c.in-Some.ensures.1 c.carry_out.ensures
+
+pub returns-clause-editable : goal.returns-clause-editable
+returns-clause-editable c = (done c).editable
+
+pub returns-clause-ok : goal.returns-clause-ok
+returns-clause-ok c =
+    (done c).reads ∙ ap (λ (n : Name). with_property_at (path_in c.args.bytes.now c.args.node) n c.args.value.now (reading_in c.args.bytes.now)) c.as_bytes-key.ensures.value
+
+pub returns-clause-places : goal.returns-clause-places
+returns-clause-places c = λ _ path place at le.
+    let old = c.args.bytes.now in
+    let key = c.as_bytes-key.result.now in
+    let cut = c.in-Some.plan.cut in
+    let own : List ℕ = property_bytes (name_offset old key) c.args.value.now in
+    property_places old c.carry_out.new.bytes c.args.node key c.args.value.now own cut.at cut.size (with_property_at (path_in old c.args.node) key c.args.value.now (reading_in old))
+    (spliced cut.at cut.size own (structure_of old)) (strings_of old ++ added_name old key) path place c.in-Some.ensures.0.cut.behind.begun (done c) at le
+
+pub returns-clause-strings : goal.returns-clause-strings
+returns-clause-strings c = (done c).strings ∙ ap (λ (n : Name). strings_of c.args.bytes.now ++ added_name c.args.bytes.now n) c.as_bytes-key.ensures.value
+
+pub returns-clause-size : goal.returns-clause-size
+returns-clause-size c =
+    let old = c.args.bytes.now in
+    let key = c.as_bytes-key.result.now in
+    let cut = c.in-Some.plan.cut in
+    let own : List ℕ = property_bytes (name_offset old key) c.args.value.now in
+    property_total old c.carry_out.new.bytes c.args.node key c.args.value.now c.in-Some.plan (with_property_at (path_in old c.args.node) key c.args.value.now (reading_in old))
+    (changed_root (with_value key c.args.value.now) (path_in old c.args.node) (moved_root (moved (number old 8 + cut.at) cut.size (length own)) (root_of old)))
+    c.requires.editable c.in-Some.ensures.0 refl (done c)
+    ∙ ap (λ (n : Name). size_with_value old c.args.node n c.args.value.now) c.as_bytes-key.ensures.value

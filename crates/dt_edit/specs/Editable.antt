@@ -1,0 +1,61 @@
+-- Blobs that are edited where they lie, at the front of some bytes: what they are, how long they become, and why they aren't changed.
+use Rattle.std.specs.Prelude.{◌≡◌, ℕ, ◌+◌, ◌-◌, ◌<◌, ◌≤◌, List, [], ◌∷◌, ◌++◌, length, take, drop, Option, Some, None}
+use Rattle.dt_model.specs.Checks.{number, strings_of, structure_of}
+use Rattle.dt_model.specs.Format.{reservation_block}
+use Rattle.dt_model.specs.Lexing.{padded}
+use Rattle.dt_model.specs.Limits.{most_bytes}
+use Rattle.dt_model.specs.Names.{Name}
+use Rattle.dt_model.specs.Path.{Path}
+use Rattle.dt_model.specs.Tree.{Reading, value_in}
+use Rattle.dt_model_format.specs.Strings.{place_in}
+use Rattle.dt_names.specs.declared.fault.FaultKind.{FaultKind}
+use Rattle.dt_names.specs.declared.fault.FaultKind.TheVariants.{Limit, BlobPhandle, Duplicate}
+use Rattle.dt_overlay_base.specs.Targets.{MaySetAt}
+use Rattle.dt_read.specs.Checked.{IsBlob, placed_of}
+use Rattle.dt_read.specs.Cuts.{property_size}
+use Rattle.dt_read.specs.Placed.{PlacedTree, path_at, reading_of}
+use Rattle.dt_write.specs.Written.{assembled}
+
+-- the tree of some bytes, without places
+abbrev pub reading_in : List ℕ → Reading
+reading_in bytes = reading_of (placed_of bytes)
+
+-- the path of a node of some bytes
+abbrev pub path_in : List ℕ → ℕ → Path
+path_in bytes node = path_at (placed_of bytes) node
+
+-- At the front of the bytes is a blob whose blocks follow one another as a writer puts them, with nothing between: the header, the reservations, the
+-- structure and the strings.
+pub record IsEditable (bytes : List ℕ) : Type 0 where
+  pub blob : IsBlob bytes
+  pub whole : take (number bytes 4) bytes
+      ≡ assembled (number bytes 28) (reservation_block (placed_of bytes).reservations) (structure_of bytes) (strings_of bytes)
+
+-- how many bytes strings grow by when a name is used: none where they hold it
+abbrev pub name_size : Option ℕ → Name → ℕ
+name_size None name = length name + 1
+name_size (Some place) name = 0
+
+-- ---- a property
+
+-- how long the blob is once a node's property is set
+abbrev pub size_with_value : List ℕ → ℕ → Name → List ℕ → ℕ
+size_with_value bytes node name value =
+    number bytes 4 + property_size (Some value) + name_size (place_in (strings_of bytes) name) name
+    - property_size (value_in (reading_in bytes) (path_in bytes node) name)
+
+-- a blob of that size fits the bytes that there are, and the limit
+pub record Fits (bytes : List ℕ) (size : ℕ) : Type 0 where
+  pub room : size ≤ length bytes
+  pub limit : size ≤ most_bytes
+
+-- the property is set
+pub record MaySetIn (bytes : List ℕ) (node : ℕ) (name : Name) (value : List ℕ) : Type 0 where
+  pub may : MaySetAt (reading_in bytes) (path_in bytes node) name value
+  pub fits : Fits bytes (size_with_value bytes node name value)
+
+-- it isn't: it may not be; or else there is no room for it
+abbrev pub WhyNotSetIn : FaultKind → List ℕ → ℕ → Name → List ℕ → Type 0
+WhyNotSetIn BlobPhandle bytes node name value = ¬ MaySetAt (reading_in bytes) (path_in bytes node) name value
+WhyNotSetIn Limit bytes node name value = MaySetAt (reading_in bytes) (path_in bytes node) name value × ¬ Fits bytes (size_with_value bytes node name value)
+WhyNotSetIn _ bytes node name value = ⊥

@@ -1,0 +1,51 @@
+//! Edits of a blob in a buffer that the caller lends.
+
+ghost use Rattle.std.specs.Prelude.{◌≡◌, ◌≤◌, ◌++◌, None, length, IsOk, OnOk, OnErr, IfErr};
+ghost use Rattle.dt_edit.specs.Editable.{reading_in, path_in, size_with_value, IsEditable, MaySetIn, WhyNotSetIn};
+ghost use Rattle.dt_edit.specs.Plans.{added_name};
+ghost use Rattle.dt_model.specs.Changes.{with_property_at};
+ghost use Rattle.dt_model.specs.Checks.{number, strings_of};
+ghost use Rattle.dt_model.specs.Path.{Path};
+ghost use Rattle.dt_read.specs.Checked.{placed_of};
+ghost use Rattle.dt_read.specs.Placed.{IsAt, IsNode};
+ghost use Rattle.std.specs.Prelude.{ℕ};
+
+use crate::phandles::may_set;
+use crate::properties::{carry_out, plan_property};
+use dt_names::{Fault, FaultKind, PropName};
+use dt_read::NodeId;
+
+/// Sets a property of a node: one that is there keeps its place, a new one goes last. Takes no memory.
+///
+/// # Errors
+///
+/// `BlobPhandle` where the property is `phandle`, and the value isn't four bytes of a number from 1 to 0xfffffffe that no other node has; else
+/// `Limit` where the blob would be longer than the buffer or than 16 MiB. None has a place. At a fault the bytes are unchanged.
+pub fn set_prop(
+    bytes: &mut [u8],
+    node: NodeId,
+    name: &PropName<'_>,
+    value: &[u8],
+) -> Result<(), Fault>
+    requires editable { IsEditable bytes.old }
+    requires node { IsNode (placed_of bytes.old) node }
+    ensures editable { IsEditable bytes.new }
+    ensures ok { OnOk result (reading_in bytes.new ≡ with_property_at (path_in bytes.old node) name.now value.now (reading_in bytes.old)) }
+    ensures places { IsOk result → (path : Path) (place : ℕ) → IsAt (placed_of bytes.old) path place → place ≤ node
+        → IsAt (placed_of bytes.new) path place }
+    ensures strings { OnOk result (strings_of bytes.new ≡ strings_of bytes.old ++ added_name bytes.old name.now) }
+    ensures size { OnOk result (number bytes.new 4 ≡ size_with_value bytes.old node name.now value.now) }
+    ensures allowed { IsOk result → MaySetIn bytes.old node name.now value.now }
+    ensures err { OnErr result (bytes.new ≡ bytes.old) }
+    ensures refused { IfErr result (λ fault. WhyNotSetIn fault.kind bytes.old node name.now value.now × (fault.at ≡ None)) }
+{
+    let key = name.as_bytes();
+    if !may_set(bytes, node, key, value) {
+        return Err(Fault::of(FaultKind::BlobPhandle));
+    }
+    let Some(plan) = plan_property(bytes, node, key, value) else {
+        return Err(Fault::of(FaultKind::Limit));
+    };
+    carry_out(bytes, &plan, key, value);
+    Ok(())
+}

@@ -1,0 +1,12 @@
+//! Blobs edited where they lie, as a boot loader does (libfdt's `fdt_open_into`, `fdt_setprop` and `fdt_add_subnode`): a property set, a node
+//! added, a cell patched in the flat bytes, in a buffer that the caller lends. Takes no memory.
+#![tactic(auto)]
+
+mod layout;
+mod lent;
+mod moving;
+mod names;
+mod phandles;
+mod properties;
+
+pub use lent::set_prop;

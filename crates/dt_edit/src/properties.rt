@@ -1,0 +1,88 @@
+//! A property set: a plan, which looks, and its carrying out, which can't be refused.
+
+ghost use Rattle.std.specs.Prelude.{◌<◌, ◌++◌, MatchOption, length};
+ghost use Rattle.dt_edit.specs.Editable.{size_with_value, IsEditable, Fits};
+ghost use Rattle.dt_edit.specs.Moving.{property_bytes};
+ghost use Rattle.dt_edit.specs.Plans.{added_name, name_offset, HasOtherBlocks, IsPropertyPlan, HasPropertyRoom};
+ghost use Rattle.dt_model.specs.Checks.{strings_of, structure_of};
+ghost use Rattle.dt_read.specs.Checked.{placed_of};
+ghost use Rattle.dt_read.specs.Cuts.{spliced};
+ghost use Rattle.dt_read.specs.Placed.{IsNode};
+
+use crate::layout::{Layout, layout_of, strings_in};
+use crate::moving::{Span, bring_name, padded_len, splice_property};
+use crate::names::place_in;
+use dt_names::limits::MOST_BYTES;
+use dt_read::{Cut, NodeId, property_cut};
+use dt_write::set_header;
+
+const HEADER_SIZE: usize = 40;
+
+/// Where a property is set: the blob's layout, the bytes of the structure block that go, and where the strings hold the name, if they do.
+#[derive(Clone, Copy)]
+pub(crate) struct PropertyPlan {
+    layout: Layout,
+    cut: Cut,
+    place: Option<usize>,
+}
+
+/// How a node's property is set; None where the blob would not fit.
+pub(crate) fn plan_property(
+    bytes: &[u8],
+    node: NodeId,
+    name: &[u8],
+    value: &[u8],
+) -> Option<PropertyPlan>
+    requires editable { IsEditable bytes.now }
+    requires node { IsNode (placed_of bytes.now) node }
+    requires name { length name.now < 256 }
+    ensures { MatchOption result (¬ Fits bytes.now (size_with_value bytes.now node name.now value.now)) (λ plan.
+        IsPropertyPlan bytes.now node name.now plan × Fits bytes.now (size_with_value bytes.now node name.now value.now)) }
+{
+    let layout = layout_of(bytes);
+    let cut = property_cut(bytes, node, name);
+    if value.len() > MOST_BYTES {
+        return None;
+    }
+    let place = place_in(strings_in(bytes, &layout), name);
+    let added = match place {
+        Some(_) => 0,
+        None => name.len() + 1,
+    };
+    let total = layout.structure_at + layout.structure + layout.strings;
+    let size = total + padded_len(12 + value.len()) + added - cut.size;
+    if size > bytes.len() || size > MOST_BYTES {
+        return None;
+    }
+    Some(PropertyPlan { layout, cut, place })
+}
+
+/// Sets a property as it was planned.
+pub(crate) fn carry_out(bytes: &mut [u8], plan: &PropertyPlan, name: &[u8], value: &[u8])
+    requires editable { IsEditable bytes.old }
+    requires room { HasPropertyRoom bytes.old plan.now name.now value.now }
+    ensures { HasOtherBlocks bytes.old bytes.new
+        (spliced plan.now.cut.at plan.now.cut.size (property_bytes (name_offset bytes.old name.now) value.now) (structure_of bytes.old))
+        (strings_of bytes.old ++ added_name bytes.old name.now) }
+{
+    let PropertyPlan { layout, cut, place } = *plan;
+    let end = layout.structure_at + layout.structure + layout.strings;
+    let own = padded_len(12 + value.len());
+    let offset = place.unwrap_or(layout.strings);
+    let span = Span {
+        at: layout.structure_at + cut.at,
+        size: cut.size,
+        end,
+    };
+    splice_property(bytes, span, value, offset as u32);
+    let added = bring_name(bytes, end + own - cut.size, place, name);
+    let reservations = layout.structure_at - HEADER_SIZE;
+    let structure = layout.structure + own - cut.size;
+    set_header(
+        bytes,
+        layout.boot_cpu,
+        reservations,
+        structure,
+        layout.strings + added,
+    );
+}
