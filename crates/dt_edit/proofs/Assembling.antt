@@ -97,31 +97,28 @@ edits_of bytes e =
       cpu = refl;
     }
 
--- a blob of blocks that spell a tree can be edited, and is read as the tree
-pub record IsEdited (bytes : List ℕ) (t : Reading) (root : Root) (s n : List ℕ) : Type 0 where
+-- a blob put together of blocks that spell a tree can be edited, and is read as the tree
+pub record IsAssembled (bytes : List ℕ) (t : Reading) (s n : List ℕ) : Type 0 where
   pub editable : IsEditable bytes
   pub reads : reading_of (placed_of bytes) ≡ t
-  pub rooted : root_of bytes ≡ root
+  pub structure_at : number bytes 8 ≡ 40 + length (reservation_block t.reservations)
   pub structure : structure_of bytes ≡ s
   pub strings : strings_of bytes ≡ n
   pub total : number bytes 4 ≡ 40 + length (reservation_block t.reservations) + length s + length n
 
-pub edited : (t : Reading) (root : Root) (s n rest : List ℕ) → IsValid t → IsWithinLimits t → 40 + length (reservation_block t.reservations) + length s + length n ≤ most_bytes
-    → t.properties ≡ root.properties → t.children ≡ forest_of root.children → SpellsRoot n (40 + length (reservation_block t.reservations)) s root
-    → IsEdited (assembled t.boot_cpu (reservation_block t.reservations) s n ++ rest) t root s n
-edited t root s n rest valid within short properties children spelled =
+pub assembled_is : (t : Reading) (s n rest : List ℕ) → IsValid t → IsWithinLimits t → 40 + length (reservation_block t.reservations) + length s + length n ≤ most_bytes → SpellsTree n t.properties t.children s
+    → IsAssembled (assembled t.boot_cpu (reservation_block t.reservations) s n ++ rest) t s n
+assembled_is t s n rest valid within short tree =
     let r = reservation_block t.reservations in
     let b : List ℕ = assembled t.boot_cpu r s n in
     let bytes : List ℕ = b ++ rest in
     let len = assembled_length t.boot_cpu r s n in
     let boot = valid.boot_cpu in
     let blocks = blocks_of t.boot_cpu r s n rest boot (omega arith) in
-    let tree : SpellsTree n t.properties t.children s = subst (λ ps. SpellsTree n ps t.children s) (sym properties) (subst (λ cs. SpellsTree n root.properties cs s) (sym children) (spells_tree n (40 + length r) s root spelled)) in
     let own : Reads b t = assembled_reads t s n (omega arith) tree valid in
     let reads : Reads bytes t = reads_front b rest t own in
     let limits : IsWithin bytes t = within_front b rest t (record { header = header_of t.boot_cpu r s n; words = says t.boot_cpu r s n boot (omega arith); size = short; tree = within }) in
     let same = placed_is_read bytes t reads limits in
-    let place = blocks.structure_at in
     let total = blocks.total in
     let whole : take (number bytes 4) bytes ≡ b = take_at b rest (number bytes 4) (omega arith) in
     record {
@@ -130,8 +127,22 @@ edited t root s n rest valid within short properties children spelled =
         whole = whole ∙ (λ i. assembled (sym blocks.boot_cpu i) (reservation_block (sym same i).reservations) (sym blocks.structure i) (sym blocks.strings i));
       };
       reads = same;
-      rooted = (λ i. tree_in (blocks.strings i) (place i) (blocks.structure i)) ∙ spelled_root_is n (40 + length r) s root spelled;
+      structure_at = blocks.structure_at;
       structure = blocks.structure;
       strings = blocks.strings;
       total = total;
     }
+
+-- the same where their tree is known with its places
+pub record IsEdited (bytes : List ℕ) (t : Reading) (root : Root) (s n : List ℕ) : Type 0 where
+  pub is : IsAssembled bytes t s n
+  pub rooted : root_of bytes ≡ root
+
+pub edited : (t : Reading) (root : Root) (s n rest : List ℕ) → IsValid t → IsWithinLimits t → 40 + length (reservation_block t.reservations) + length s + length n ≤ most_bytes
+    → t.properties ≡ root.properties → t.children ≡ forest_of root.children → SpellsRoot n (40 + length (reservation_block t.reservations)) s root
+    → IsEdited (assembled t.boot_cpu (reservation_block t.reservations) s n ++ rest) t root s n
+edited t root s n rest valid within short properties children spelled =
+    let r = reservation_block t.reservations in
+    let tree : SpellsTree n t.properties t.children s = subst (λ ps. SpellsTree n ps t.children s) (sym properties) (subst (λ cs. SpellsTree n root.properties cs s) (sym children) (spells_tree n (40 + length r) s root spelled)) in
+    let a = assembled_is t s n rest valid within short tree in
+    record { is = a; rooted = (λ i. tree_in (a.strings i) (a.structure_at i) (a.structure i)) ∙ spelled_root_is n (40 + length r) s root spelled }

@@ -132,7 +132,7 @@ property_total old new node name value p t root e plan same done =
     let names = length-append (strings_of old) (added_name old name) in
     let brought = length_brought (place_in (strings_of old) name) name in
     let reserved = ap (λ rs. length (reservation_block rs)) same in
-    let now = done.total in
+    let now = done.is.total in
     omega arith
 
 -- nodes that aren't behind it stay where they are

@@ -36,6 +36,10 @@ abbrev pub name_size : Option ℕ → Name → ℕ
 name_size None name = length name + 1
 name_size (Some place) name = 0
 
+-- how long a blob is with its blocks one behind the other
+abbrev pub opened_size : List ℕ → ℕ
+opened_size bytes = 40 + length (reservation_block (placed_of bytes).reservations) + length (structure_of bytes) + length (strings_of bytes)
+
 -- ---- a property
 
 -- how long the blob is once a node's property is set

@@ -23,3 +23,6 @@ pub record HasRoomMade (old new : List ℕ) (at size own end : ℕ) : Type 0 whe
 pub record IsSpliced (old new own : List ℕ) (at size end : ℕ) : Type 0 where
   pub rest : List ℕ
   pub is : new ≡ take at old ++ (own ++ (drop (at + size) (take end old) ++ rest))
+
+abbrev pub three_blocks : (reservations structure strings : List ℕ) → List ℕ
+three_blocks reservations structure strings = reservations ++ (structure ++ strings)

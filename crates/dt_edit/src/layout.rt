@@ -8,7 +8,7 @@ ghost use Rattle.dt_edit.specs.Plans.{IsLayout};
 use dt_bytes::be32;
 
 /// The number at a place of a header.
-fn number(bytes: &[u8], at: usize) -> u32
+pub(crate) fn number(bytes: &[u8], at: usize) -> u32
     ensures { result ≡ number bytes.now at }
 {
     match be32(bytes, at) {

@@ -6,7 +6,9 @@ mod layout;
 mod lent;
 mod moving;
 mod names;
+mod opening;
 mod phandles;
 mod properties;
 
 pub use lent::set_prop;
+pub use opening::open_into;

@@ -40,7 +40,7 @@ fn put_word(bytes: &mut [u8], at: usize, number: u32)
 }
 
 /// Writes bytes at a place.
-fn put_bytes(bytes: &mut [u8], at: usize, own: &[u8])
+pub(crate) fn put_bytes(bytes: &mut [u8], at: usize, own: &[u8])
     requires { at + length own.now ≤ length bytes.old }
     ensures { bytes.new ≡ put at own.now bytes.old }
 {

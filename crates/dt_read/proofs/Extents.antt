@@ -4,7 +4,7 @@ use Rattle.std.proofs.lemmas.List.{append-nil, length-append, length-take-le, ma
 use Rattle.std.specs.List.{AllByRecursion}
 use Rattle.std.specs.Str.{bytes_eq}
 use Rattle.dt_model.proofs.Words.{length-padded}
-use Rattle.dt_model.specs.Format.{Token, prop, word}
+use Rattle.dt_model.specs.Format.{Token, prop, word, SpellsProperty}
 use Rattle.dt_model.specs.Lexing.{padded}
 use Rattle.dt_model.specs.Names.{Name}
 use Rattle.dt_model.specs.Tree.{Property}
@@ -16,7 +16,7 @@ use Rattle.dt_read.specs.Cuts.{Passes, HasNoProperty, property_size, IsPropertyE
 use Rattle.dt_read.specs.Lying.{IsLater, TokenLies}
 use Rattle.dt_read.specs.Marks.{Mark, prop_mark}
 use Rattle.dt_read.specs.TreeTokens.{AreTokens, marks_in}
-use Rattle.dt_read.proofs.Lying.{behind_later, later_first, token_later}
+use Rattle.dt_read.proofs.Lying.{behind_later, later_first, later_trans, token_later}
 use Rattle.dt_read.proofs.Passing.{passes_none, found_places, passes_found}
 
 -- the properties from the front up to a place, none of which has the name
@@ -66,6 +66,16 @@ property_ends strings here rest p there next left t =
     let size : t.size ≡ padded (12 + length p.value) = sym (length-take-le t.size t.own t.takes.within) ∙ length-padded content (take t.size t.own) s.bytes ∙ ap padded twelve in
     t.behind ∙ ap (λ (n : ℕ). there + n) size
 
+-- and its bytes are the token
+property_token : (strings : List ℕ) (at : ℕ) (bytes : List ℕ) (here : ℕ) (rest : List ℕ) (p : Property) (there next : ℕ) (left : List ℕ) → IsLater at bytes here rest
+    → TokenLies strings here rest there (prop p) next left → SpellsProperty strings p (take (property_size (Some p.value)) (drop (there - at) bytes))
+property_token strings at bytes here rest p there next left later t =
+    let ends = property_ends strings here rest p there next left t in
+    let behind = t.behind in
+    let size : t.size ≡ property_size (Some p.value) = omega arith in
+    let own : t.own ≡ drop (there - at) bytes = (later_trans at bytes here rest there t.own later t.later).is in
+    subst (λ (n : ℕ). SpellsProperty strings p (take n (drop (there - at) bytes))) size (subst (λ (x : List ℕ). SpellsProperty strings p (take t.size x)) own t.takes.spelled)
+
 -- there is none of that name
 pub extent_none : (strings : List ℕ) (at : ℕ) (bytes : List ℕ) (name : Name) (here : ℕ) (rest : List ℕ) → Extends strings at bytes name here rest → HasNoProperty (marks_in strings here rest)
     → IsPropertyExtent strings at bytes name here here
@@ -81,6 +91,7 @@ extent_none strings at bytes name here rest e none =
       passed = subst (Passes strings at bytes here) (sym (append-nil (map prop_mark e.before))) e.passes;
       first = e.later.from;
       size = omega arith;
+      token = tt;
       within = w;
       tokens = subst (AreTokens strings here) e.later.is e.tokens;
       behind = ap (marks_in strings here) (sym e.later.is);
@@ -105,6 +116,7 @@ extent_some strings at bytes name here rest p there next left e f own =
       passed = both.1;
       first = omega arith;
       size = property_ends strings here rest p there next left f.lies;
+      token = property_token strings at bytes here rest p there next left e.later f.lies;
       within = places.within;
       tokens = subst (AreTokens strings next) later.is f.tokens;
       behind = ap (marks_in strings next) (sym later.is);

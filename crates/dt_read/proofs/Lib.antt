@@ -37,3 +37,4 @@ pub mod Endings
 pub mod CutTrees
 pub mod NodeCuts
 pub mod SplicedTrees
+pub mod BlockBytes

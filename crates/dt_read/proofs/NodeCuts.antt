@@ -7,11 +7,11 @@ use Rattle.std.specs.Str.{bytes_eq}
 use Rattle.std.proofs.lemmas.Slice.Eq.{bytes_eq-Decides}
 use Rattle.dt_model.specs.Changes.{set_property}
 use Rattle.dt_model.specs.Checks.{number, strings_of, structure_of}
-use Rattle.dt_model.specs.Format.{Token, prop, word, Spells, SpellsBegin}
+use Rattle.dt_model.specs.Format.{Token, prop, word, Spells, SpellsBegin, SpellsProperty}
 use Rattle.dt_model.specs.Names.{Name}
 use Rattle.dt_model.specs.Tree.{Property, value_of, value_in}
 use Rattle.dt_read.specs.Checked.{placed_of}
-use Rattle.dt_read.specs.Cuts.{Content, with_value, appended, with_node, moved, moved_nodes, moved_content, marks_of_content, Passes, HasNoProperty, IsFoundProperty, property_size, found_size, IsPropertyExtent, opened, IsEndPlace, IsPropertyCut, IsEndCut}
+use Rattle.dt_read.specs.Cuts.{Content, with_value, appended, with_node, moved, moved_nodes, moved_content, marks_of_content, Passes, HasNoProperty, IsFoundProperty, property_size, found_size, IsFoundToken, IsTokenOf, IsPropertyExtent, opened, IsEndPlace, IsPropertyCut, IsEndCut}
 use Rattle.dt_read.specs.Lying.{IsLater, TokenLies}
 use Rattle.dt_read.specs.declared.token.Token.{Token as CodeToken}
 use Rattle.dt_read.specs.declared.token.Token.TheVariants as code
@@ -161,6 +161,27 @@ found_value name (b ∷ before) own left (p ∷ ps) nodes more f o e =
     let test : bytes_eq name p.name ≡ false = ap (λ (x : Property). bytes_eq name x.name) (sym same) ∙ o.0 in
     rw test (found_value name before own left ps nodes more f o.1 tail)
 
+-- and its token is that of the value
+found_token : (strings block : List ℕ) (cut size : ℕ) (name : Name) (before own : List Property) (left : List Mark) (ps : List Property) (nodes : Nodes) (more : List Mark) → IsFoundProperty name own left
+    → AllByRecursion (λ p. bytes_eq name p.name ≡ false) before → map prop_mark before ++ (map prop_mark own ++ left) ≡ map prop_mark ps ++ (marks_of_nodes nodes ++ end_mark ∷ more)
+    → size ≡ found_size own → IsFoundToken strings (drop cut block) own → IsTokenOf strings block cut size name (value_of ps name)
+found_token strings block cut size name [] [] left [] nodes more f o e s t = tt
+found_token strings block cut size name [] [] left (p ∷ ps) nodes more f o e s t = absurd (subst HasNoProperty e f)
+found_token strings block cut size name [] (q ∷ []) left [] nodes more f o e s t = absurd (first_is_none nodes more left q e)
+found_token strings block cut size name [] (q ∷ []) left (p ∷ ps) nodes more f o e s t =
+    let same : q ≡ p = cc in
+    let test : bytes_eq name p.name ≡ true = ap (λ (x : Property). bytes_eq name x.name) (sym same) ∙ f in
+    let named : p.name ≡ name = sym ((bytes_eq-Decides name p.name).0 test) in
+    rw test (subst (λ (n : Name). SpellsProperty strings (record { name = n; value = p.value }) (take size (drop cut block))) named
+    (subst (λ (x : Property). SpellsProperty strings x (take size (drop cut block))) same (subst (λ (n : ℕ). SpellsProperty strings q (take n (drop cut block))) (sym s) t)))
+found_token strings block cut size name [] (q ∷ r ∷ own) left ps nodes more f o e s t = absurd f
+found_token strings block cut size name (b ∷ before) own left [] nodes more f o e s t = absurd (first_is_none nodes more (map prop_mark before ++ (map prop_mark own ++ left)) b e)
+found_token strings block cut size name (b ∷ before) own left (p ∷ ps) nodes more f o e s t =
+    let same : b ≡ p = cc in
+    let tail : map prop_mark before ++ (map prop_mark own ++ left) ≡ map prop_mark ps ++ (marks_of_nodes nodes ++ end_mark ∷ more) = cc in
+    let test : bytes_eq name p.name ≡ false = ap (λ (x : Property). bytes_eq name x.name) (sym same) ∙ o.0 in
+    rw test (found_token strings block cut size name before own left ps nodes more f o.1 tail s t)
+
 -- a property set among the tokens of a node, of which those behind it move
 value_between : (f : ℕ → ℕ) (name : Name) (value : List ℕ) (ps before behind : List Property) (nodes : Nodes) (more : List Mark) → set_property ps name value ≡ before ++ record { name = name; value = value } ∷ behind
     → marks_of_content (with_value name value (moved_content f (record { properties = ps; children = nodes }))) (end_mark ∷ map (moved_mark f) more)
@@ -245,13 +266,18 @@ property_becomes bytes node name next rest from to c h values e =
     let own = head_is bytes node next rest c h in
     let found = found_value name e.before e.own e.left c.stands.content.properties c.stands.content.children (c.stands.more ++ last_mark ∷ []) e.is e.others (sym e.whole ∙ own.1) in
     let taken = e.size in
+    let values_are : value_in (reading_of (placed_of bytes)) (path_at (placed_of bytes) node) name ≡ value_of c.stands.content.properties name =
+    values name ∙ ap (λ (x : List Property). value_of x name) (ap (λ (x : List Mark). (left_by x).properties) own.1 ∙ content_properties c.stands.content (c.stands.more ++ last_mark ∷ [])) in
     let begun = h.begun in
     let begins = c.from in
     let first = e.first in
     let inside = (property_tokens bytes node name [] next rest from to c h e).0.inside in
     record {
       behind = record { begun = omega arith; inside = inside };
-      taken = omega arith ∙ found ∙ ap property_size (sym (values name ∙ ap (λ (x : List Property). value_of x name) (ap (λ (x : List Mark). (left_by x).properties) own.1 ∙ content_properties c.stands.content (c.stands.more ++ last_mark ∷ []))));
+      taken = omega arith ∙ found ∙ ap property_size (sym values_are);
+      token = subst (IsTokenOf (strings_of bytes) (structure_of bytes) (from - number bytes 8) (to - from) name) (sym values_are)
+          (found_token (strings_of bytes) (structure_of bytes) (from - number bytes 8) (to - from) name e.before e.own e.left c.stands.content.properties c.stands.content.children (c.stands.more ++ last_mark ∷ []) e.is e.others
+          (sym e.whole ∙ own.1) (omega arith) (subst (λ (x : List ℕ). IsFoundToken (strings_of bytes) x e.own) (behind_of bytes node next from rest c.from e.first h.later) e.token));
       becomes = λ value own more spelled.
           let t = property_tokens bytes node name value next rest from to c h e in
           let p : Property = record { name = name; value = value } in

@@ -4,7 +4,7 @@ use Rattle.std.specs.List.{AllByRecursion}
 use Rattle.std.specs.Str.{bytes_eq}
 use Rattle.dt_model.specs.Changes.{set_property}
 use Rattle.dt_model.specs.Checks.{number, strings_of, structure_of}
-use Rattle.dt_model.specs.Format.{prop, word, Spells, SpellsBegin}
+use Rattle.dt_model.specs.Format.{prop, word, part, Spells, SpellsBegin, SpellsProperty}
 use Rattle.dt_model.specs.Lexing.{padded}
 use Rattle.dt_model.specs.Names.{Name}
 use Rattle.dt_model.specs.Path.{Path}
@@ -99,10 +99,16 @@ abbrev pub property_size : Option (List ℕ) → ℕ
 property_size None = 0
 property_size (Some value) = padded (12 + length value)
 
+-- a token of so many bytes at a place of a block is the property, where it is there
+abbrev pub IsTokenOf : (strings block : List ℕ) (cut size : ℕ) → Name → Option (List ℕ) → Type 0
+IsTokenOf strings block cut size name None = Unit {0}
+IsTokenOf strings block cut size name (Some value) = SpellsProperty strings (record { name = name; value = value }) (part cut size block)
+
 -- the bytes of a node's property of a name, or none where a new one goes
 pub record IsPropertyCut (bytes : List ℕ) (node : ℕ) (name : Name) (cut size : ℕ) : Type 0 where
   pub behind : IsBehindNode bytes node cut size
   pub taken : size ≡ property_size (value_in (reading_of (placed_of bytes)) (path_at (placed_of bytes) node) name)
+  pub token : IsTokenOf (strings_of bytes) (structure_of bytes) cut size name (value_in (reading_of (placed_of bytes)) (path_at (placed_of bytes) node) name)
   pub becomes : (value own more : List ℕ) → Spells (strings_of bytes ++ more) (prop (record { name = name; value = value })) own
       → SpellsRoot (strings_of bytes ++ more) (number bytes 8) (spliced cut size own (structure_of bytes))
       (changed_root (with_value name value) (path_at (placed_of bytes) node) (moved_root (moved (number bytes 8 + cut) size (length own)) (root_of bytes)))
@@ -137,6 +143,11 @@ abbrev pub found_size : List Property → ℕ
 found_size [] = 0
 found_size (p ∷ ps) = property_size (Some p.value)
 
+-- what a look for a property finds is its token
+abbrev pub IsFoundToken : (strings bytes : List ℕ) → List Property → Type 0
+IsFoundToken strings bytes [] = Unit {0}
+IsFoundToken strings bytes (p ∷ ps) = SpellsProperty strings p (take (property_size (Some p.value)) bytes)
+
 -- where the property of a name lies among those at the front of some tokens, or would lie behind them
 pub record IsPropertyExtent (strings : List ℕ) (at : ℕ) (bytes : List ℕ) (name : Name) (from to : ℕ) : Type 0 where
   pub before : List Property
@@ -149,6 +160,7 @@ pub record IsPropertyExtent (strings : List ℕ) (at : ℕ) (bytes : List ℕ) (
   pub passed : Passes strings at bytes to (map prop_mark before ++ map prop_mark own)
   pub first : at ≤ from
   pub size : to ≡ from + found_size own
+  pub token : IsFoundToken strings (drop (from - at) bytes) own
   pub within : to - at ≤ length bytes
   pub tokens : AreTokens strings to (drop (to - at) bytes)
   pub behind : marks_in strings to (drop (to - at) bytes) ≡ left

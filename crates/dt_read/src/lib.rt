@@ -12,6 +12,7 @@
 #![tactic(auto)]
 
 mod blob;
+mod block_bytes;
 mod blocks;
 mod counts;
 mod cursor;
@@ -36,6 +37,7 @@ mod token;
 mod walk;
 
 pub use blob::Blob;
+pub use block_bytes::{reservation_bytes, strings_bytes, structure_bytes};
 pub use counts::Counts;
 pub use cuts::{Cut, end_cut, property_cut};
 pub use dt_names::NodeId;

@@ -63,6 +63,13 @@ impl OpenNodes {
         }
     }
 
+    /// How many are open.
+    pub fn len(&self) -> usize
+        ensures { result ≡ length self.now }
+    {
+        MOST_BODIES - self.top
+    }
+
     /// The number of the innermost node.
     pub fn innermost(&self) -> Option<usize>
         ensures { MatchOption result (self.now ≡ []) (λ number. self.now ≡ number ∷ drop 1 self.now) }

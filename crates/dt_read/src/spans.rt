@@ -103,7 +103,7 @@ fn name_from(strings: &[u8], at: usize, bytes: &[u8]) -> Span
 }
 
 /// The blocks of a blob.
-fn blocks(bytes: &[u8]) -> Blocks<'_>
+pub(crate) fn blocks(bytes: &[u8]) -> Blocks<'_>
     requires { IsBlob bytes.now }
     ensures { AreBlocks bytes.now result }
 {

@@ -21,11 +21,11 @@ done c =
     (subst IsPropertyName (sym c.as_bytes-key.ensures.value) c.as_bytes-key.ensures.valid) (c.may_set.ensures.0 c.if-not-may_set.false) c.in-Some.ensures.0 c.in-Some.ensures.1 c.carry_out.ensures
 
 pub returns-clause-editable : goal.returns-clause-editable
-returns-clause-editable c = (done c).editable
+returns-clause-editable c = (done c).is.editable
 
 pub returns-clause-ok : goal.returns-clause-ok
 returns-clause-ok c =
-    (done c).reads ∙ ap (λ (n : Name). with_property_at (path_in c.args.bytes.now c.args.node) n c.args.value.now (reading_in c.args.bytes.now)) c.as_bytes-key.ensures.value
+    (done c).is.reads ∙ ap (λ (n : Name). with_property_at (path_in c.args.bytes.now c.args.node) n c.args.value.now (reading_in c.args.bytes.now)) c.as_bytes-key.ensures.value
 
 pub returns-clause-places : goal.returns-clause-places
 returns-clause-places c = λ _ path place at le.
@@ -37,7 +37,7 @@ returns-clause-places c = λ _ path place at le.
     (spliced cut.at cut.size own (structure_of old)) (strings_of old ++ added_name old key) path place c.in-Some.ensures.0.cut.behind.begun (done c) at le
 
 pub returns-clause-strings : goal.returns-clause-strings
-returns-clause-strings c = (done c).strings ∙ ap (λ (n : Name). strings_of c.args.bytes.now ++ added_name c.args.bytes.now n) c.as_bytes-key.ensures.value
+returns-clause-strings c = (done c).is.strings ∙ ap (λ (n : Name). strings_of c.args.bytes.now ++ added_name c.args.bytes.now n) c.as_bytes-key.ensures.value
 
 pub returns-clause-size : goal.returns-clause-size
 returns-clause-size c =
