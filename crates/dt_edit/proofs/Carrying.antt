@@ -8,11 +8,11 @@ use Rattle.dt_model.specs.Lexing.{padded}
 use Rattle.dt_model.specs.Names.{Name}
 use Rattle.dt_read.specs.Cuts.{spliced}
 use Rattle.std.specs.Option.{unwrap_or}
-use Rattle.dt_model_format.specs.Strings.{place_in}
+use Rattle.dt_model_format.specs.Strings.{place_in, terminated}
 use Rattle.dt_write.proofs.Places.{place_within}
 use Rattle.dt_edit.specs.Editable.{name_size}
 use Rattle.dt_edit.specs.Plans.{brought_by, place_or}
-use Rattle.dt_edit.specs.Moving.{put, property_bytes, HasRoomMade, IsSpliced}
+use Rattle.dt_edit.specs.Moving.{put, begin_bytes, node_bytes, property_bytes, HasRoomMade, IsSpliced}
 use Rattle.dt_write.specs.Written.{zeros_after, header, assembled}
 
 -- what is put into the room that was made
@@ -33,6 +33,15 @@ length_property offset value =
     let zeros : List ℕ = zeros_after n in
     let pad : length zeros ≡ (4 - n % 4) % 4 = length-replicate ((4 - n % 4) % 4) 0 in
     omega (arith, pad, length-append value zeros)
+
+pub length_node : (name : Name) → length (node_bytes name) ≡ padded (5 + length name) + 4
+length_node name =
+    let n : ℕ = length name in
+    let zeros : List ℕ = zeros_after (n + 1) in
+    let text : List ℕ = terminated name in
+    let pad : length zeros ≡ (4 - (n + 1) % 4) % 4 = length-replicate ((4 - (n + 1) % 4) % 4) 0 in
+    let long : length text ≡ n + 1 = length-append name (0 ∷ []) in
+    omega (arith, pad, long, length-append text zeros, length-append (begin_bytes name) (word 2))
 
 pub length_spliced : (cut size : ℕ) (own s : List ℕ) → cut + size ≤ length s → length (spliced cut size own s) ≡ length s + length own - size
 length_spliced cut size own s le =

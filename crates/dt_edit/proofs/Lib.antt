@@ -8,3 +8,6 @@ pub mod NumbersOwned
 pub mod Carrying
 pub mod CarriedOut
 pub mod PropertiesSet
+pub mod Opened
+pub mod Below
+pub mod ChildrenAdded

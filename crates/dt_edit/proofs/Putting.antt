@@ -83,3 +83,19 @@ room_kept x at size own end same cut inside =
   where
     regroup : (a b c d : List ℕ) → ((a ++ b) ++ c) ++ d ≡ a ++ (b ++ (c ++ d))
     regroup a b c d = simp append_assoc
+
+pub put_three : (at : ℕ) (a b d x : List ℕ) → at + length a + length b + length d ≤ length x → put (at + length a + length b) d (put (at + length a) b (put at a x)) ≡ put at (a ++ (b ++ d)) x
+put_three at a b d x le =
+    let two : put (at + length a) b (put at a x) ≡ put at (a ++ b) x = put_put at a b x (omega arith) in
+    let end : at + length a + length b ≡ at + length (a ++ b) = omega (arith, length-append a b) in
+    (λ i. put (end i) d (two i)) ∙ put_put at (a ++ b) d x (omega (arith, length-append a b)) ∙ ap (λ (own : List ℕ). put at own x) (append_assoc a b d)
+
+pub put_four : (at : ℕ) (a b d e x : List ℕ) → at + length a + length b + length d + length e ≤ length x
+    → put (at + length a + length b + length d) e (put (at + length a + length b) d (put (at + length a) b (put at a x))) ≡ put at ((a ++ (b ++ d)) ++ e) x
+put_four at a b d e x le =
+    let three = put_three at a b d x (omega arith) in
+    let end : at + length a + length b + length d ≡ at + length (a ++ (b ++ d)) = omega (arith, length-append a (b ++ d), length-append b d) in
+    (λ i. put (end i) e (three i)) ∙ put_put at (a ++ (b ++ d)) e x (omega (arith, length-append a (b ++ d), length-append b d))
+
+pub put_nothing : (at : ℕ) (x : List ℕ) → x ≡ put at [] x
+put_nothing at x = let same : at ≡ at + length {A = ℕ} [] = omega arith in sym (take-append-drop at x) ∙ ap (λ (n : ℕ). take at x ++ drop n x) same

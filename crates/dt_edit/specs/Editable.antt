@@ -1,12 +1,13 @@
 -- Blobs that are edited where they lie, at the front of some bytes: what they are, how long they become, and why they aren't changed.
-use Rattle.std.specs.Prelude.{◌≡◌, ℕ, ◌+◌, ◌-◌, ◌<◌, ◌≤◌, List, [], ◌∷◌, ◌++◌, length, take, drop, Option, Some, None}
+use Rattle.std.specs.Prelude.{◌≡◌, ◌⊎◌, ℕ, ◌+◌, ◌-◌, ◌<◌, ◌≤◌, true, false, List, [], ◌∷◌, ◌++◌, length, take, drop, Option, Some, None}
 use Rattle.dt_model.specs.Checks.{number, strings_of, structure_of}
 use Rattle.dt_model.specs.Format.{reservation_block}
 use Rattle.dt_model.specs.Lexing.{padded}
-use Rattle.dt_model.specs.Limits.{most_bytes}
+use Rattle.dt_model.specs.Limits.{most_bytes, most_names, most_nodes}
 use Rattle.dt_model.specs.Names.{Name}
 use Rattle.dt_model.specs.Path.{Path}
-use Rattle.dt_model.specs.Tree.{Reading, value_in}
+use Rattle.dt_model.specs.Tree.{Reading, stands_in, value_in}
+use Rattle.dt_model.specs.Valid.{node_count}
 use Rattle.dt_model_format.specs.Strings.{place_in}
 use Rattle.dt_names.specs.declared.fault.FaultKind.{FaultKind}
 use Rattle.dt_names.specs.declared.fault.FaultKind.TheVariants.{Limit, BlobPhandle, Duplicate}
@@ -63,3 +64,27 @@ abbrev pub WhyNotSetIn : FaultKind → List ℕ → ℕ → Name → List ℕ �
 WhyNotSetIn BlobPhandle bytes node name value = ¬ MaySetAt (reading_in bytes) (path_in bytes node) name value
 WhyNotSetIn Limit bytes node name value = MaySetAt (reading_in bytes) (path_in bytes node) name value × ¬ Fits bytes (size_with_value bytes node name value)
 WhyNotSetIn _ bytes node name value = ⊥
+
+-- ---- a child
+
+-- how long the blob is once a node has a child of a name
+abbrev pub size_with_node : List ℕ → Name → ℕ
+size_with_node bytes name = number bytes 4 + padded (5 + length name) + 4
+
+-- the child is added
+pub record MayAddIn (bytes : List ℕ) (node : ℕ) (name : Name) : Type 0 where
+  pub fresh : stands_in (reading_in bytes) (path_in bytes node ++ name ∷ []) ≡ false
+  pub shallow : length (path_in bytes node) < most_names
+  pub few : 1 + node_count (reading_in bytes).children < most_nodes
+  pub fits : Fits bytes (size_with_node bytes name)
+
+-- there is no room for it: its path would have more than 64 names, there would be more than 65,536 nodes, or the blob would be too long
+abbrev pub HasNoRoomFor : List ℕ → ℕ → Name → Type 0
+HasNoRoomFor bytes node name =
+    ¬ ((length (path_in bytes node) < most_names) × (1 + node_count (reading_in bytes).children < most_nodes)) ⊎ ¬ Fits bytes (size_with_node bytes name)
+
+-- it isn't: it is there; or else there is no room for it
+abbrev pub WhyNotAddedIn : FaultKind → List ℕ → ℕ → Name → Type 0
+WhyNotAddedIn Duplicate bytes node name = stands_in (reading_in bytes) (path_in bytes node ++ name ∷ []) ≡ true
+WhyNotAddedIn Limit bytes node name = (stands_in (reading_in bytes) (path_in bytes node ++ name ∷ []) ≡ false) × HasNoRoomFor bytes node name
+WhyNotAddedIn _ bytes node name = ⊥

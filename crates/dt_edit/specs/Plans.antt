@@ -1,5 +1,5 @@
 -- Edits before they are carried out.
-use Rattle.std.specs.Prelude.{◌≡◌, ℕ, ◌+◌, ◌-◌, ◌≤◌, List, [], ◌∷◌, ◌++◌, length, Option, Some, None}
+use Rattle.std.specs.Prelude.{◌≡◌, ℕ, ◌+◌, ◌-◌, ◌<◌, ◌≤◌, List, [], ◌∷◌, ◌++◌, length, Option, Some, None}
 use Rattle.dt_model.specs.Checks.{number, strings_of, structure_of}
 use Rattle.dt_model.specs.Format.{reservation_block}
 use Rattle.dt_model.specs.Lexing.{padded}
@@ -7,11 +7,12 @@ use Rattle.dt_model.specs.Limits.{most_bytes}
 use Rattle.dt_model.specs.Names.{Name}
 use Rattle.dt_model_format.specs.Strings.{place_in, terminated}
 use Rattle.dt_read.specs.Checked.{placed_of}
-use Rattle.dt_read.specs.Cuts.{IsPropertyCut}
+use Rattle.dt_read.specs.Cuts.{IsPropertyCut, IsEndCut}
 use Rattle.dt_write.specs.Written.{assembled}
 use Rattle.dt_edit.specs.declared.layout.Layout.{Layout}
+use Rattle.dt_edit.specs.declared.children.NodePlan.{NodePlan}
 use Rattle.dt_edit.specs.declared.properties.PropertyPlan.{PropertyPlan}
-use Rattle.dt_edit.specs.Editable.{name_size, Fits}
+use Rattle.dt_edit.specs.Editable.{name_size, size_with_node, Fits}
 use Rattle.dt_names.specs.declared.fault.FaultKind.{FaultKind}
 use Rattle.dt_names.specs.declared.fault.FaultKind.TheVariants.{Limit}
 
@@ -63,3 +64,14 @@ pub record HasPropertyRoom (bytes : List ℕ) (p : PropertyPlan) (name : Name) (
   pub short : length value ≤ most_bytes
   pub room : number bytes 4 + padded (12 + length value) + name_size (place_in (strings_of bytes) name) name ≤ length bytes + p.cut.size
   pub limit : number bytes 4 + padded (12 + length value) + name_size (place_in (strings_of bytes) name) name ≤ most_bytes + p.cut.size
+
+-- a plan by which a node gets a child
+pub record IsNodePlan (bytes : List ℕ) (node : ℕ) (p : NodePlan) : Type 0 where
+  pub layout : IsLayout bytes p.layout
+  pub cut : IsEndCut bytes node p.cut
+
+pub record HasNodeRoom (bytes : List ℕ) (p : NodePlan) (name : Name) : Type 0 where
+  pub layout : IsLayout bytes p.layout
+  pub inside : p.cut ≤ length (structure_of bytes)
+  pub short : length name < 256
+  pub fits : Fits bytes (size_with_node bytes name)

@@ -1,18 +1,20 @@
 //! Edits of a blob in a buffer that the caller lends.
 
-ghost use Rattle.std.specs.Prelude.{◌≡◌, ◌≤◌, ◌++◌, None, length, IsOk, OnOk, OnErr, IfErr};
-ghost use Rattle.dt_edit.specs.Editable.{reading_in, path_in, size_with_value, IsEditable, MaySetIn, WhyNotSetIn};
+ghost use Rattle.std.specs.Prelude.{◌≡◌, ◌<◌, ◌≤◌, ◌++◌, ◌∷◌, [], None, IsOk, IfOk, OnOk, OnErr, IfErr};
+ghost use Rattle.dt_edit.specs.Editable.{reading_in, path_in, size_with_node, size_with_value, IsEditable, MayAddIn, MaySetIn, WhyNotAddedIn, WhyNotSetIn};
 ghost use Rattle.dt_edit.specs.Plans.{added_name};
-ghost use Rattle.dt_model.specs.Changes.{with_property_at};
+ghost use Rattle.dt_model.specs.Changes.{with_child_at, with_property_at};
 ghost use Rattle.dt_model.specs.Checks.{number, strings_of};
 ghost use Rattle.dt_model.specs.Path.{Path};
 ghost use Rattle.dt_read.specs.Checked.{placed_of};
 ghost use Rattle.dt_read.specs.Placed.{IsAt, IsNode};
 ghost use Rattle.std.specs.Prelude.{ℕ};
 
+use crate::children;
+use crate::children::{has_child, has_room_below, plan_node};
 use crate::phandles::may_set;
 use crate::properties::{carry_out, plan_property};
-use dt_names::{Fault, FaultKind, PropName};
+use dt_names::{Fault, FaultKind, NodeName, PropName};
 use dt_read::NodeId;
 
 /// Sets a property of a node: one that is there keeps its place, a new one goes last. Takes no memory.
@@ -48,4 +50,38 @@ pub fn set_prop(
     };
     carry_out(bytes, &plan, key, value);
     Ok(())
+}
+
+/// Adds a child at the end of the children of a node, and answers it. Takes no memory.
+///
+/// # Errors
+///
+/// `Duplicate` where the node has a child of that name; else `Limit` where the path has 64 names, the tree 65,536 nodes, or the blob would be longer
+/// than the buffer or than 16 MiB. None has a place. At a fault the bytes are unchanged.
+pub fn add_node(bytes: &mut [u8], parent: NodeId, name: &NodeName<'_>) -> Result<NodeId, Fault>
+    requires editable { IsEditable bytes.old }
+    requires parent { IsNode (placed_of bytes.old) parent }
+    ensures editable { IsEditable bytes.new }
+    ensures ok { OnOk result (reading_in bytes.new ≡ with_child_at (path_in bytes.old parent) name.now (reading_in bytes.old)) }
+    ensures node { IfOk result (λ node. IsAt (placed_of bytes.new) (path_in bytes.old parent ++ name.now ∷ []) node) }
+    ensures places { IfOk result (λ node. (path : Path) (place : ℕ) → IsAt (placed_of bytes.old) path place → place < node
+        → IsAt (placed_of bytes.new) path place) }
+    ensures strings { OnOk result (strings_of bytes.new ≡ strings_of bytes.old) }
+    ensures size { OnOk result (number bytes.new 4 ≡ size_with_node bytes.old name.now) }
+    ensures allowed { IsOk result → MayAddIn bytes.old parent name.now }
+    ensures err { OnErr result (bytes.new ≡ bytes.old) }
+    ensures refused { IfErr result (λ fault. WhyNotAddedIn fault.kind bytes.old parent name.now × (fault.at ≡ None)) }
+{
+    let key = name.as_bytes();
+    if has_child(bytes, parent, key) {
+        return Err(Fault::of(FaultKind::Duplicate));
+    }
+    if !has_room_below(bytes, parent) {
+        return Err(Fault::of(FaultKind::Limit));
+    }
+    let Some(plan) = plan_node(bytes, parent, key) else {
+        return Err(Fault::of(FaultKind::Limit));
+    };
+    children::carry_out(bytes, &plan, key);
+    Ok(plan.layout.structure_at + plan.cut)
 }

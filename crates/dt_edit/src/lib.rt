@@ -2,6 +2,7 @@
 //! added, a cell patched in the flat bytes, in a buffer that the caller lends. Takes no memory.
 #![tactic(auto)]
 
+mod children;
 mod layout;
 mod lent;
 mod moving;
@@ -10,5 +11,5 @@ mod opening;
 mod phandles;
 mod properties;
 
-pub use lent::set_prop;
+pub use lent::{add_node, set_prop};
 pub use opening::open_into;

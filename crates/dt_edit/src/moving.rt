@@ -1,13 +1,17 @@
 //! Bytes that move to make room for others, and what is written there.
 
 ghost use Rattle.std.specs.Prelude.{◌≡◌, ◌+◌, ◌<◌, ◌≤◌, ◌^◌, length, replicate};
-ghost use Rattle.dt_edit.specs.Moving.{put, property_bytes, HasRoomMade, IsSpliced};
+ghost use Rattle.dt_edit.specs.Moving.{put, node_bytes, property_bytes, HasRoomMade, IsSpliced};
 ghost use Rattle.dt_edit.specs.Plans.{brought_by};
 ghost use Rattle.dt_model.specs.Format.{word};
 ghost use Rattle.dt_model.specs.Lexing.{padded};
 ghost use Rattle.dt_model_format.specs.Strings.{terminated};
 
 use dt_bytes::put32;
+
+const BEGIN_NODE: u32 = 1;
+
+const END_NODE: u32 = 2;
 
 const PROP: u32 = 3;
 
@@ -116,4 +120,36 @@ pub(crate) fn bring_name(bytes: &mut [u8], end: usize, place: Option<usize>, nam
     }
     put_name(bytes, end, name);
     name.len() + 1
+}
+
+/// Writes the tokens of a node that has nothing at a place.
+fn put_node(bytes: &mut [u8], at: usize, name: &[u8])
+    requires room { at + padded (5 + length name.now) + 4 ≤ length bytes.old }
+    requires short { length name.now < 256 }
+    ensures { bytes.new ≡ put at (node_bytes name.now) bytes.old }
+{
+    let end = at + 5 + name.len();
+    let size = padded_len(5 + name.len());
+    put_word(bytes, at, BEGIN_NODE);
+    put_name(bytes, at + 4, name);
+    put_zeros(bytes, end, at + size - end);
+    put_word(bytes, at + size, END_NODE);
+}
+
+/// Puts the tokens of a node that has nothing in the place of some bytes.
+pub(crate) fn splice_node(bytes: &mut [u8], span: Span, name: &[u8])
+    requires cut { span.at + span.size ≤ span.end }
+    requires inside { span.end ≤ length bytes.old }
+    requires room { span.end + padded (5 + length name.now) + 4 ≤ length bytes.old + span.size }
+    requires short { length name.now < 256 }
+    ensures { IsSpliced bytes.old bytes.new (node_bytes name.now) span.at span.size span.end }
+{
+    make_room(
+        bytes,
+        span.at,
+        span.size,
+        padded_len(5 + name.len()) + 4,
+        span.end,
+    );
+    put_node(bytes, span.at, name);
 }

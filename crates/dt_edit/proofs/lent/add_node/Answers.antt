@@ -1,0 +1,73 @@
+use Rattle.std.proofs.Common.{◌≡◌, ◌++◌, ◌+◌, ◌∷◌, [], true, false, List, ℕ, refl, sym, ap, subst, ◌∙◌, arith}
+use Rattle.std.proofs.lemmas.Bool.{false_from_ne_true, true≢false}
+use Rattle.std.proofs.lemmas.List.{append-nil}
+use Rattle.dt_model.specs.Changes.{with_child_at}
+use Rattle.dt_model.specs.Checks.{number, strings_of, structure_of}
+use Rattle.dt_model.specs.Names.{Name, IsNodeName}
+use Rattle.dt_model.specs.Tree.{stands_in}
+use Rattle.dt_read.specs.Checked.{placed_of}
+use Rattle.dt_read.specs.Cuts.{spliced}
+use Rattle.dt_read.specs.Placed.{IsAt}
+use Rattle.dt_edit.specs.Editable.{reading_in, path_in, size_with_node, MayAddIn}
+use Rattle.dt_edit.specs.Moving.{node_bytes}
+use Rattle.dt_edit.proofs.Assembling.{IsEdited, edits_of}
+use Rattle.dt_edit.proofs.ChildrenAdded.{root_with_node, node_added, node_total, node_places, node_there}
+use Rattle.dt_edit.proofs.lent.add_node.Goals as goal
+
+-- it may be added
+may : (c : goal.After-slice_known-2-1) → MayAddIn c.args.bytes.now c.args.parent c.as_bytes-key.result.now
+may c = record {
+  fresh = false_from_ne_true (stands_in (reading_in c.args.bytes.now) (path_in c.args.bytes.now c.args.parent ++ c.as_bytes-key.result.now ∷ [])) (λ h. true≢false (sym (c.has_child.ensures.1 h) ∙ c.if-has_child.false));
+  shallow = (c.has_room_below.ensures.0 c.if-not-has_room_below.false).0;
+  few = (c.has_room_below.ensures.0 c.if-not-has_room_below.false).1;
+  fits = c.in-Some.ensures.1;
+}
+
+-- what the bytes are then
+done : (c : goal.After-slice_known-2-1) → (let old = c.args.bytes.now in let key = c.as_bytes-key.result.now in let cut = c.in-Some.plan.cut in
+    IsEdited c.carry_out.new.bytes (with_child_at (path_in old c.args.parent) key (reading_in old)) (root_with_node old c.args.parent cut key) (spliced cut 0 (node_bytes key) (structure_of old)) (strings_of old ++ []))
+done c =
+    node_added c.args.bytes.now c.carry_out.new.bytes c.args.parent c.as_bytes-key.result.now c.in-Some.plan c.requires.editable c.requires.parent
+    (subst IsNodeName (sym c.as_bytes-key.ensures.value) c.as_bytes-key.ensures.valid) (may c) c.in-Some.ensures.0 c.carry_out.ensures
+
+-- where the node is
+place : (c : goal.After-slice_known-2-1) → number c.args.bytes.now 8 + c.in-Some.plan.cut ≡ c.in-Some.plan.layout.structure_at + c.in-Some.plan.cut
+place c = let at = (edits_of c.args.bytes.now c.requires.editable).blocks.structure_at in let here = c.in-Some.ensures.0.layout.structure_at in omega arith
+
+pub returns-clause-editable : goal.returns-clause-editable
+returns-clause-editable c = (done c).is.editable
+
+pub returns-clause-ok : goal.returns-clause-ok
+returns-clause-ok c = (done c).is.reads ∙ ap (λ (n : Name). with_child_at (path_in c.args.bytes.now c.args.parent) n (reading_in c.args.bytes.now)) c.as_bytes-key.ensures.value
+
+pub returns-clause-node : goal.returns-clause-node
+returns-clause-node c =
+    let old = c.args.bytes.now in
+    let key = c.as_bytes-key.result.now in
+    let cut = c.in-Some.plan.cut in
+    let path = path_in old c.args.parent in
+    let there = node_there old c.carry_out.new.bytes c.args.parent cut key (with_child_at path key (reading_in old)) (spliced cut 0 (node_bytes key) (structure_of old)) (strings_of old ++ []) (done c) c.requires.parent (may c).fresh in
+    subst (λ (n : Name). IsAt (placed_of c.carry_out.new.bytes) (path ++ n ∷ []) (c.in-Some.plan.layout.structure_at + cut)) c.as_bytes-key.ensures.value
+    (subst (IsAt (placed_of c.carry_out.new.bytes) (path ++ key ∷ [])) (place c) there)
+
+pub returns-clause-places : goal.returns-clause-places
+returns-clause-places c = λ q k at lt.
+    let old = c.args.bytes.now in
+    let key = c.as_bytes-key.result.now in
+    let cut = c.in-Some.plan.cut in
+    let here = place c in
+    node_places old c.carry_out.new.bytes c.args.parent cut key (with_child_at (path_in old c.args.parent) key (reading_in old)) (spliced cut 0 (node_bytes key) (structure_of old)) (strings_of old ++ []) q k (done c) at (omega (arith, lt))
+
+pub returns-clause-strings : goal.returns-clause-strings
+returns-clause-strings c = (done c).is.strings ∙ append-nil (strings_of c.args.bytes.now)
+
+pub returns-clause-size : goal.returns-clause-size
+returns-clause-size c =
+    let old = c.args.bytes.now in
+    let key = c.as_bytes-key.result.now in
+    node_total old c.carry_out.new.bytes c.args.parent key c.in-Some.plan (with_child_at (path_in old c.args.parent) key (reading_in old)) (root_with_node old c.args.parent c.in-Some.plan.cut key)
+    c.requires.editable c.in-Some.ensures.0 refl (done c)
+    ∙ ap (size_with_node old) c.as_bytes-key.ensures.value
+
+pub returns-clause-allowed : goal.returns-clause-allowed
+returns-clause-allowed c = λ _. subst (MayAddIn c.args.bytes.now c.args.parent) c.as_bytes-key.ensures.value (may c)
