@@ -11,3 +11,4 @@ pub mod PropertiesSet
 pub mod Opened
 pub mod Below
 pub mod ChildrenAdded
+pub mod Outcomes

@@ -41,6 +41,16 @@ name_size (Some place) name = 0
 abbrev pub opened_size : List ℕ → ℕ
 opened_size bytes = 40 + length (reservation_block (placed_of bytes).reservations) + length (structure_of bytes) + length (strings_of bytes)
 
+-- a blob of a size fits the bytes that there are, and the limit
+pub record Fits (bytes : List ℕ) (size : ℕ) : Type 0 where
+  pub room : size ≤ length bytes
+  pub limit : size ≤ most_bytes
+
+-- a blob isn't copied: there is no room for it
+abbrev pub WhyNotOpened : FaultKind → List ℕ → ℕ → Type 0
+WhyNotOpened Limit bytes size = ¬ Fits bytes size
+WhyNotOpened _ bytes size = ⊥
+
 -- ---- a property
 
 -- how long the blob is once a node's property is set
@@ -48,11 +58,6 @@ abbrev pub size_with_value : List ℕ → ℕ → Name → List ℕ → ℕ
 size_with_value bytes node name value =
     number bytes 4 + property_size (Some value) + name_size (place_in (strings_of bytes) name) name
     - property_size (value_in (reading_in bytes) (path_in bytes node) name)
-
--- a blob of that size fits the bytes that there are, and the limit
-pub record Fits (bytes : List ℕ) (size : ℕ) : Type 0 where
-  pub room : size ≤ length bytes
-  pub limit : size ≤ most_bytes
 
 -- the property is set
 pub record MaySetIn (bytes : List ℕ) (node : ℕ) (name : Name) (value : List ℕ) : Type 0 where

@@ -13,13 +13,6 @@ use Rattle.dt_edit.specs.declared.layout.Layout.{Layout}
 use Rattle.dt_edit.specs.declared.children.NodePlan.{NodePlan}
 use Rattle.dt_edit.specs.declared.properties.PropertyPlan.{PropertyPlan}
 use Rattle.dt_edit.specs.Editable.{name_size, size_with_node, Fits}
-use Rattle.dt_names.specs.declared.fault.FaultKind.{FaultKind}
-use Rattle.dt_names.specs.declared.fault.FaultKind.TheVariants.{Limit}
-
--- a blob isn't copied: there is no room for it
-abbrev pub WhyNotOpened : FaultKind → List ℕ → ℕ → Type 0
-WhyNotOpened Limit bytes size = ¬ Fits bytes size
-WhyNotOpened _ bytes size = ⊥
 
 -- the blocks of a blob that can be edited are where this says
 pub record IsLayout (bytes : List ℕ) (l : Layout) : Type 0 where

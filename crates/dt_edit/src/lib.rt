@@ -3,6 +3,7 @@
 #![tactic(auto)]
 
 mod children;
+mod laws;
 mod layout;
 mod lent;
 mod moving;
@@ -11,5 +12,6 @@ mod opening;
 mod phandles;
 mod properties;
 
+pub use laws::one_outcome;
 pub use lent::{add_node, set_prop};
 pub use opening::open_into;

@@ -1,9 +1,8 @@
 //! A blob copied into a buffer, where it can be edited.
 
 ghost use Rattle.std.specs.Prelude.{◌≡◌, ◌+◌, ◌≤◌, None, length, IsOk, IfOk, IfErr, OnOk};
-ghost use Rattle.dt_edit.specs.Editable.{reading_in, opened_size, IsEditable, Fits};
+ghost use Rattle.dt_edit.specs.Editable.{reading_in, opened_size, IsEditable, Fits, WhyNotOpened};
 ghost use Rattle.dt_edit.specs.Moving.{put, three_blocks};
-ghost use Rattle.dt_edit.specs.Plans.{WhyNotOpened};
 ghost use Rattle.dt_model.specs.Checks.{number, strings_of, structure_of};
 ghost use Rattle.dt_read.specs.Checked.{IsBlob};
 

@@ -1,0 +1,21 @@
+use Rattle.dt_edit.specs.Editable.{opened_size}
+use Rattle.dt_edit.proofs.Outcomes.{opened_or, one_opening, set_or, one_setting, added_or, one_adding}
+use Rattle.dt_edit.proofs.laws.one_outcome.Goals as goal
+
+pub returns-clause-opened : goal.returns-clause-opened
+returns-clause-opened c = λ blob bytes. opened_or bytes (opened_size blob)
+
+pub returns-clause-one_of_opening : goal.returns-clause-one_of_opening
+returns-clause-one_of_opening c = λ blob bytes. one_opening bytes (opened_size blob)
+
+pub returns-clause-set : goal.returns-clause-set
+returns-clause-set c = set_or
+
+pub returns-clause-one_of_setting : goal.returns-clause-one_of_setting
+returns-clause-one_of_setting c = one_setting
+
+pub returns-clause-added : goal.returns-clause-added
+returns-clause-added c = added_or
+
+pub returns-clause-one_of_adding : goal.returns-clause-one_of_adding
+returns-clause-one_of_adding c = one_adding
