@@ -1,5 +1,5 @@
 /*
- * dtool.h: flattened devicetree blobs, checked once and then asked.
+ * dtool.h: flattened devicetree blobs, checked once and then asked, and edited in a buffer.
  *
  * Each call is proved to answer what the flattened format says of these bytes (docs/PROMISES.md, "The library for C"). No call takes memory,
  * keeps a pointer, or has any state, so any number of threads may ask one blob.
@@ -8,6 +8,12 @@
  *
  *   CHECKED  dtool_check accepted these bytes, all `len` of them, and none has changed since.
  *   NODE     A `node` that you pass is one that a call on these bytes gave you. Ask dtool_is_node about any other number.
+ *
+ * The edits at the end have a third:
+ *
+ *   EDITABLE dtool_open_into wrote the blob into this buffer, of all `room` bytes, and nothing but these edits has changed them since.
+ *
+ * Such a buffer is CHECKED as well: ask it, with `room` for `len`. An edit moves nodes: those that it says keep their numbers.
  *
  * A call that breaks one of them has undefined behaviour, as in C. So has a null pointer, even where a length is 0, and an output that overlaps
  * an input or another output. `table` is aligned as uint64_t is; nothing else has to be aligned. A file may be longer than its blob.
@@ -181,6 +187,27 @@ bool dtool_specifier_route(const uint8_t *blob, size_t len, size_t node, const c
 bool dtool_interrupt_at(const uint8_t *blob, size_t len, size_t node, uint64_t at, struct dtool_route *route, struct dtool_fault *fault);
 bool dtool_specifier_at(const uint8_t *blob, size_t len, size_t node, const char *property, size_t property_len, const char *kind,
 			size_t kind_len, uint64_t at, struct dtool_route *route, struct dtool_fault *fault);
+
+/*
+ * Copies a blob to the front of a buffer, its blocks one behind the other, where it can be edited. It reads as before. Fault: LIMIT where that
+ * is longer than `room` or than 16 MiB. A refused call changes no byte of the buffer.
+ */
+bool dtool_open_into(const uint8_t *blob, size_t len, uint8_t *buffer, size_t room, struct dtool_fault *fault);
+
+/*
+ * Sets a property of a node: one that is there keeps its place, a new one goes last. The node, and each one with a smaller number, keep their
+ * numbers. Faults: BAD_NAME (the name is none), BLOB_PHANDLE (a `phandle` that isn't a number from 1 to 0xfffffffe, or is another node's), LIMIT
+ * (the blob would be longer than `room` or than 16 MiB). A refused call changes no byte of the buffer. `value` doesn't overlap it.
+ */
+bool dtool_set_prop(uint8_t *buffer, size_t room, size_t node, const char *name, size_t name_len, const uint8_t *value, size_t value_len,
+		    struct dtool_fault *fault);
+
+/*
+ * Adds a child at the end of a node's children, and gives it. Each node with a number below the child's keeps its number. Faults: BAD_NAME,
+ * DUPLICATE (the node has a child of that name), LIMIT (as above, or more than 64 names in a path, or 65,536 nodes). A refused call changes no
+ * byte of the buffer.
+ */
+bool dtool_add_node(uint8_t *buffer, size_t room, size_t parent, const char *name, size_t name_len, size_t *node, struct dtool_fault *fault);
 
 /* The name of a fault, as `dtool` prints it; "Unknown" for a number that no call gives. */
 static inline const char *dtool_fault_name(uint32_t number)

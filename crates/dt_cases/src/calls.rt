@@ -2,8 +2,8 @@
 
 use crate::outcome::{Outcome, Stop};
 use crate::{
-    blobs, chains, damage, expressions, grammar, marks, names, numbers, printing, resolving, still,
-    tokens, trees,
+    blobs, chains, damage, edits, expressions, grammar, marks, names, numbers, printing, resolving,
+    still, tokens, trees,
 };
 use std::alloc::Global;
 
@@ -44,6 +44,7 @@ fn call_on_trees(
         "parse" | "item-count" => grammar::call(alloc, name, input, out),
         "tree" | "tree-blob" => trees::call(alloc, name, words, input, out),
         "damage" => damage::call(alloc, input, out),
+        "edit-in" | "edited-in" => edits::call(alloc, name, words, input, out),
         "apply" | "apply-bytes" | "build" => chains::call(alloc, name, input, others, out),
         "print" | "printed" | "again" | "values" => printing::call(alloc, name, words, input, out),
         "regs" | "irqs" => resolving::call(alloc, name, input, out),

@@ -10,6 +10,7 @@ mod calls;
 mod case;
 mod chains;
 mod damage;
+mod edits;
 mod expressions;
 mod grammar;
 mod input;

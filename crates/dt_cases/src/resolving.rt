@@ -73,7 +73,7 @@ fn specifier_of(words: &str) -> Option<Question<'_>> {
     })
 }
 
-/// `specifier-at PATH PROP KIND BYTE` tells the route of the specifier that begins at a byte.
+/// `specifier-at PATH PROP KIND BYTE` prints the route of the specifier that begins at a byte.
 pub fn specifier(words: &str, blob: &[u8], out: &mut Outcome) -> Result<(), Stop> {
     let Some((path, words)) = words.split_once(' ') else {
         return Err(Stop::Malformed);
@@ -98,7 +98,7 @@ pub fn specifier(words: &str, blob: &[u8], out: &mut Outcome) -> Result<(), Stop
     Ok(())
 }
 
-/// `interrupt-at PATH BYTE` tells the route of the interrupt that begins at a byte.
+/// `interrupt-at PATH BYTE` prints the route of the interrupt that begins at a byte.
 pub fn interrupt(words: &str, blob: &[u8], out: &mut Outcome) -> Result<(), Stop> {
     let Some((path, words)) = words.split_once(' ') else {
         return Err(Stop::Malformed);
