@@ -34,6 +34,6 @@ child_stands bytes node name child found e f =
 pub nodes_counted : (t : PlacedTree) → length (nodes_of (reading_of t)) ≡ 1 + node_count (reading_of t).children
 nodes_counted t = omega (arith, length-preorder [] (reading_of t).children)
 
-pub room_below : (bytes : List ℕ) (node nodes depth : ℕ) → depth ≡ length (path_in bytes node) → depth < 64 → nodes ≡ 1 + node_count (reading_in bytes).children
-    → IsTrue (nat_lt nodes 65536) ↔ ((length (path_in bytes node) < most_names) × (1 + node_count (reading_in bytes).children < most_nodes))
-room_below bytes node nodes depth d lt n = (λ h. let few = ltb-true nodes 65536 h in (omega arith, omega arith), λ h. let few = h.1 in lt-ltb nodes 65536 (omega arith))
+pub room_below : (bytes : List ℕ) (node depth : ℕ) → depth ≡ length (path_in bytes node) → 1 + node_count (reading_in bytes).children < most_nodes
+    → IsTrue (nat_lt depth 64) ↔ ((length (path_in bytes node) < most_names) × (1 + node_count (reading_in bytes).children < most_nodes))
+room_below bytes node depth d few = (λ h. let shallow = ltb-true depth 64 h in (omega arith, few), λ h. let shallow = h.0 in lt-ltb depth 64 (omega arith))

@@ -10,5 +10,6 @@ pub mod CarriedOut
 pub mod PropertiesSet
 pub mod Opened
 pub mod Below
+pub mod NodeSizes
 pub mod ChildrenAdded
 pub mod Outcomes

@@ -16,11 +16,14 @@ use crate::layout::{Layout, layout_of};
 use crate::moving::{Span, padded_len, splice_node};
 use dt_names::Seed;
 use dt_names::limits::{MOST_BYTES, MOST_NAMES, MOST_NODES};
-use dt_read::{Blob, NodeId, OpenNodes, end_cut};
+use dt_read::{Blob, NodeId, OpenNodes, end_cut, structure_bytes};
 use dt_view::put_nodes_above;
 use dt_write::set_header;
 
 const HEADER_SIZE: usize = 40;
+
+/// How many bytes a node takes at least: BEGIN_NODE, a NUL and its padding, and END_NODE.
+const LEAST_NODE_SIZE: usize = 12;
 
 /// How many names the path of a node has.
 fn depth_of(blob: &Blob<'_>, node: NodeId) -> usize
@@ -41,14 +44,24 @@ pub(crate) fn has_child(bytes: &[u8], node: NodeId, name: &[u8]) -> bool
     Blob::of(bytes, Seed::fixed()).child(node, name).is_some()
 }
 
+/// Whether a blob may have one node more, by the limit. A node takes 12 bytes at least, so a short blob isn't counted.
+fn may_grow(bytes: &[u8]) -> bool
+    requires { IsBlob bytes.now }
+    ensures { IsTrue result ↔ (1 + node_count (reading_in bytes.now).children < most_nodes) }
+{
+    if structure_bytes(bytes).len() < LEAST_NODE_SIZE * MOST_NODES {
+        return true;
+    }
+    Blob::of(bytes, Seed::fixed()).counts().nodes < MOST_NODES
+}
+
 /// Whether a blob may have a child below a node, and one node more, by the limits.
 pub(crate) fn has_room_below(bytes: &[u8], node: NodeId) -> bool
     requires blob { IsBlob bytes.now }
     requires node { IsNode (placed_of bytes.now) node }
     ensures { IsTrue result ↔ (length (path_in bytes.now node) < most_names) × (1 + node_count (reading_in bytes.now).children < most_nodes) }
 {
-    let blob = Blob::of(bytes, Seed::fixed());
-    depth_of(&blob, node) < MOST_NAMES && blob.counts().nodes < MOST_NODES
+    may_grow(bytes) && depth_of(&Blob::of(bytes, Seed::fixed()), node) < MOST_NAMES
 }
 
 /// Where a node is added: the blob's layout, and the offset of its parent's END_NODE in the structure block.
