@@ -11,8 +11,8 @@
 
 #define MOST 65536
 
-static uint8_t *blob;
-static size_t len, base;
+static uint8_t *blob, *edited;
+static size_t len, base, room, last;
 static char *paths[MOST];
 static size_t nodes[MOST];
 static uint32_t phandles[MOST];
@@ -85,12 +85,23 @@ static void measure(void)
 	case 't': dtool_path(blob, len, nodes[count - 1], text, sizeof text); break;
 	case 'r': dtool_region(blob, len, nodes[count - 1], 0, &region, &fault); break;
 	case 'i': dtool_route(blob, len, nodes[count - 1], 0, &route, &fault); break;
+	case 'o': dtool_open_into(blob, len, edited, room, &fault); break;
+	case 's': dtool_set_prop(edited, room, last, "phandle", 7, (const uint8_t *)"\0\0\xff\xff", 4, &fault); break;
+	case 'a': dtool_add_node(edited, room, last, "child", 5, &found, &fault); break;
 	}
 }
 
 static void stack(void)
 {
-	static const char *const stacks[] = { "check", "node_at", "by_phandle", "parent", "value", "text of the path", "region", "interrupt's route" };
+	static const char *const stacks[] = {
+		"check", "node_at", "by_phandle", "parent", "value", "text of the path", "region", "interrupt's route", "open_into", "set_prop", "add_node",
+	};
+	struct dtool_fault fault;
+
+	room = len + 4096;
+	edited = calloc(room, 1);
+	dtool_open_into(blob, len, edited, room, &fault);
+	dtool_node_at(edited, room, paths[count - 1], strlen(paths[count - 1]), &last, &fault);
 	for (volatile size_t i = 0; i < 2 * sizeof stacks / sizeof *stacks; i++) {
 		volatile size_t at = 0;
 		measured = stacks[i % (sizeof stacks / sizeof *stacks)];
