@@ -209,6 +209,14 @@ bool dtool_set_prop(uint8_t *buffer, size_t room, size_t node, const char *name,
  */
 bool dtool_add_node(uint8_t *buffer, size_t room, size_t parent, const char *name, size_t name_len, size_t *node, struct dtool_fault *fault);
 
+/*
+ * Writes a number into a property's value, the highest byte first, at an offset of the value. No other byte changes, and each node keeps its
+ * number. Faults: BAD_NAME, LIMIT (the node has no such property, or its value no four bytes at that offset), BLOB_PHANDLE (as above). A refused
+ * call changes no byte of the buffer.
+ */
+bool dtool_patch_cell(uint8_t *buffer, size_t room, size_t node, const char *name, size_t name_len, size_t offset, uint32_t value,
+		      struct dtool_fault *fault);
+
 /* The name of a fault, as `dtool` prints it; "Unknown" for a number that no call gives. */
 static inline const char *dtool_fault_name(uint32_t number)
 {

@@ -6,7 +6,7 @@
 #include "common.h"
 #include <libfdt.h>
 
-static unsigned long set, added, refused, differences;
+static unsigned long set, added, patched, refused, differences;
 static const char *file;
 static uint8_t *own, *other;
 static size_t room;
@@ -76,6 +76,35 @@ static void step(unsigned long number)
 	want(dtool_check(own, room, table, WORDS, &fault), "a blob");
 }
 
+/* A cell of one of a node's properties, at any offset that it has and beyond. A phandle stays what it is. */
+static void patch(void)
+{
+	struct dtool_fault fault;
+	struct dtool_property property;
+	char path[20000], name[40];
+	size_t node = any_node();
+	if (!dtool_property(own, room, node, any(4), &property) || property.name.len >= sizeof name)
+		return;
+	snprintf(name, sizeof name, "%s", (const char *)own + property.name.at);
+	if (!strcmp(name, "phandle"))
+		return;
+	size_t offset = any(property.value.len + 2);
+	uint32_t number = any(0xffffff), cell = cpu_to_fdt32(number);
+	bool fits = offset + 4 <= property.value.len;
+	uint8_t *before = malloc(room);
+	memcpy(before, own, room);
+	patched += fits;
+	want(dtool_path(own, room, node, path, sizeof path), "a path");
+	want(dtool_patch_cell(own, room, node, name, strlen(name), offset, number, &fault) == fits, "a cell patched where there is one");
+	want(fits || fault.number == DTOOL_LIMIT, "the fault of one that isn't there");
+	if (fits) {
+		want(!fdt_setprop_inplace_namelen_partial(other, fdt_path_offset(other, path), name, strlen(name), offset, &cell, 4), "a cell patched by libfdt");
+		memcpy(before + property.value.at + offset, &cell, 4);
+	}
+	want(!memcmp(before, own, room), "no other byte");
+	free(before);
+}
+
 static void compare_below(size_t node)
 {
 	char path[20000];
@@ -118,6 +147,11 @@ static void refuse(const uint8_t *blob, size_t len)
 	want(!dtool_set_prop(own, room, root, "a/b", 3, before, 4, &fault) && fault.number == DTOOL_BAD_NAME, "a property's name");
 	want(!dtool_add_node(own, room, root, "a/b", 3, &child, &fault) && fault.number == DTOOL_BAD_NAME, "a node's name");
 	want(!dtool_set_prop(own, room, root, "phandle", 7, before, 3, &fault) && fault.number == DTOOL_BLOB_PHANDLE, "a phandle");
+	want(!dtool_patch_cell(own, room, root, "a/b", 3, 0, 1, &fault) && fault.number == DTOOL_BAD_NAME, "a patched property's name");
+	want(!dtool_patch_cell(own, room, root, "not-there", 9, 0, 1, &fault) && fault.number == DTOOL_LIMIT, "no property to be patched");
+	size_t numbered;
+	if (dtool_by_phandle(own, room, 1, &numbered))
+		want(!dtool_patch_cell(own, room, numbered, "phandle", 7, 0, 0, &fault) && fault.number == DTOOL_BLOB_PHANDLE, "a phandle of 0");
 	want(!memcmp(before, own, room), "the same bytes");
 	memset(before, 1, room);
 	want(!dtool_open_into(blob, len, before, 40, &fault) && fault.number == DTOOL_LIMIT && before[0] == 1, "no room for a blob");
@@ -140,14 +174,16 @@ int main(int argc, char **argv)
 			printf("%s: no blob\n", file);
 			return 1;
 		}
-		for (unsigned long number = 0; number < steps; number++)
+		for (unsigned long number = 0; number < steps; number++) {
 			step(number);
+			patch();
+		}
 		compare();
 		refuse(blob, len);
 		free(blob);
 		free(own);
 		free(other);
 	}
-	printf("set %lu added %lu refused %lu differences %lu\n", set, added, refused, differences);
+	printf("set %lu added %lu patched %lu refused %lu differences %lu\n", set, added, patched, refused, differences);
 	return differences != 0;
 }

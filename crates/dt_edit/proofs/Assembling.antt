@@ -1,7 +1,7 @@
 -- A blob put together of its blocks: its numbers, its blocks and its tree.
-use Rattle.std.proofs.Common.{◌≡◌, ℕ, ◌+◌, ◌^◌, ◌<◌, ◌≤◌, List, [], ◌∷◌, ◌++◌, length, take, drop, Option, Some, None, refl, sym, ap, subst, ◌∙◌, append_assoc, arith}
+use Rattle.std.proofs.Common.{◌≡◌, ℕ, ◌+◌, ◌^◌, ◌<◌, ◌≤◌, List, [], ◌++◌, length, take, drop, Option, Some, refl, sym, ap, subst, ◌∙◌, arith}
 use Rattle.std.specs.Prelude.{unwrap_or}
-use Rattle.std.proofs.lemmas.List.{append-nil, length-append, length-take-le, take_at, take-append-drop}
+use Rattle.std.proofs.lemmas.List.{append-nil, drop_at, length-append, length-take-le, take_at, take-append-drop}
 use Rattle.dt_model.specs.Checks.{number, strings_of, structure_of}
 use Rattle.dt_model.specs.Format.{word_at, reservation_block, SpellsTree, Reads, IsWithin, part}
 use Rattle.dt_model.specs.Limits.{most_bytes}
@@ -9,12 +9,13 @@ use Rattle.dt_model.specs.Tree.{Reading}
 use Rattle.dt_model.specs.Valid.{IsValid, IsWithinLimits}
 use Rattle.dt_model_format.proofs.NoFaults.{number_is}
 use Rattle.dt_edit.specs.Editable.{IsEditable}
+use Rattle.dt_edit.specs.Plans.{size_of_blocks, HasOtherBlocks}
 use Rattle.dt_edit.proofs.Fronts.{word_front, part_front, reads_front, within_front}
-use Rattle.dt_read.specs.Checked.{IsBlob, placed_of, root_of}
+use Rattle.dt_read.specs.Checked.{placed_of, root_of}
 use Rattle.dt_read.specs.Cuts.{SpellsRoot}
 use Rattle.dt_read.specs.Marks.{Root}
 use Rattle.dt_read.specs.Parsing.{tree_in}
-use Rattle.dt_read.specs.Placed.{PlacedTree, forest_of, reading_of}
+use Rattle.dt_read.specs.Placed.{forest_of, reading_of}
 use Rattle.dt_read.proofs.CheckedBytes.{placed_is_read}
 use Rattle.dt_read.proofs.SplicedTrees.{spelled_root_is, spells_tree}
 use Rattle.dt_write.specs.Written.{assembled}
@@ -57,8 +58,7 @@ blocks_of cpu r s n rest boot small =
 
 -- what is true of a blob that can be edited
 pub record Edits (bytes : List ℕ) : Type 0 where
-  pub rest : List ℕ
-  pub is : bytes ≡ assembled (number bytes 28) (reservation_block (placed_of bytes).reservations) (structure_of bytes) (strings_of bytes) ++ rest
+  pub is : bytes ≡ assembled (number bytes 28) (reservation_block (placed_of bytes).reservations) (structure_of bytes) (strings_of bytes) ++ drop (number bytes 4) bytes
   pub blocks : HasBlocks bytes (number bytes 28) (reservation_block (placed_of bytes).reservations) (structure_of bytes) (strings_of bytes)
   pub boot : number bytes 28 < 2 ^ 32
   pub inside : number bytes 4 ≤ length bytes
@@ -86,7 +86,6 @@ edits_of bytes e =
     let is : bytes ≡ assembled (number bytes 28) r s n ++ drop (number bytes 4) bytes = sym (take-append-drop (number bytes 4) bytes) ∙ ap (λ (x : List ℕ). x ++ drop (number bytes 4) bytes) e.whole in
     let size : 40 + length r + length s + length n < 2 ^ 32 = omega (arith, assembled_length (number bytes 28) r s n, ap (λ (x : List ℕ). length x) e.whole, length-take-le (number bytes 4) bytes (omega arith)) in
     record {
-      rest = drop (number bytes 4) bytes;
       is = is;
       blocks = subst (λ (x : List ℕ). HasBlocks x (number bytes 28) r s n) (sym is) (blocks_of (number bytes 28) r s n (drop (number bytes 4) bytes) boot size);
       boot = boot;
@@ -132,6 +131,14 @@ assembled_is t s n rest valid within short tree =
       strings = blocks.strings;
       total = total;
     }
+
+-- bytes behind a blob stay where only its blocks are others
+pub behind_kept : (old new s n : List ℕ) (size : ℕ) → HasOtherBlocks old new s n → size ≡ size_of_blocks old s n → drop size new ≡ drop size old
+behind_kept old new s n size other same =
+    let r = reservation_block (placed_of old).reservations in
+    let b : List ℕ = assembled (number old 28) r s n in
+    let len = assembled_length (number old 28) r s n in
+    ap (drop size) other ∙ drop_at b (drop (size_of_blocks old s n) old) size (len ∙ sym same) ∙ ap (λ (k : ℕ). drop k old) (sym same)
 
 -- the same where their tree is known with its places
 pub record IsEdited (bytes : List ℕ) (t : Reading) (root : Root) (s n : List ℕ) : Type 0 where

@@ -1,5 +1,5 @@
 -- How deep a node is, and whether it has a child.
-use Rattle.std.proofs.Common.{◌≡◌, ◌≢◌, ◌↔◌, ℕ, suc, ◌+◌, ◌<◌, Bool, true, false, List, [], ◌∷◌, ◌++◌, length, Option, Some, None, refl, sym, ap, subst, ◌∙◌, arith}
+use Rattle.std.proofs.Common.{◌≡◌, ◌↔◌, ℕ, ◌+◌, ◌<◌, Bool, true, List, [], ◌∷◌, ◌++◌, length, Option, sym, ap, ◌∙◌, arith}
 use Rattle.std.specs.Prelude.{IsTrue, nat_lt, is_some}
 use Rattle.std.proofs.lemmas.Bool.{ltb-true, lt-ltb}
 use Rattle.dt_model.specs.Limits.{most_names, most_nodes}
@@ -9,7 +9,7 @@ use Rattle.dt_model.specs.Tree.{nodes_of, stands_in}
 use Rattle.dt_model.specs.Valid.{node_count}
 use Rattle.dt_model.proofs.Preorder.{length-preorder}
 use Rattle.dt_read.specs.Checked.{placed_of}
-use Rattle.dt_read.specs.Placed.{PlacedTree, path_at, place_of, reading_of, IsAt, IsNode}
+use Rattle.dt_read.specs.Placed.{PlacedTree, path_at, place_of, reading_of}
 use Rattle.dt_read.proofs.NodePlaces.{stands_place}
 use Rattle.dt_view.specs.Views.{AreAbove}
 use Rattle.dt_view.proofs.PathTexts.{one_shorter}

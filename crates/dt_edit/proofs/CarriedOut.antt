@@ -1,7 +1,7 @@
 -- A property's plan, carried out.
-use Rattle.std.proofs.Common.{◌≡◌, ℕ, ◌+◌, ◌-◌, ◌^◌, ◌<◌, ◌≤◌, List, [], ◌∷◌, ◌++◌, length, take, drop, Option, Some, None, refl, sym, ap, subst, ◌∙◌, append_assoc, arith}
+use Rattle.std.proofs.Common.{◌≡◌, ℕ, ◌+◌, ◌-◌, ◌^◌, ◌<◌, ◌≤◌, List, ◌++◌, length, drop, Option, Some, None, refl, ap, ◌∙◌, append_assoc, arith}
 use Rattle.std.specs.Option.{unwrap_or}
-use Rattle.std.proofs.lemmas.List.{length-append}
+use Rattle.std.proofs.lemmas.List.{drop-drop, length-append}
 use Rattle.dt_model.specs.Checks.{number, strings_of, structure_of}
 use Rattle.dt_model.specs.Format.{reservation_block}
 use Rattle.dt_model.specs.Lexing.{padded}
@@ -14,10 +14,10 @@ use Rattle.dt_write.specs.Written.{header}
 use Rattle.dt_edit.specs.declared.layout.Layout.{Layout}
 use Rattle.dt_edit.specs.declared.properties.PropertyPlan.{PropertyPlan}
 use Rattle.dt_edit.specs.Editable.{IsEditable, name_size}
-use Rattle.dt_edit.specs.Moving.{put, property_bytes, IsSpliced}
-use Rattle.dt_edit.specs.Plans.{brought_by, added_name, place_or, name_offset, IsLayout, HasOtherBlocks, HasPropertyRoom}
-use Rattle.dt_edit.proofs.Assembling.{Edits, edits_of}
-use Rattle.dt_edit.proofs.Carrying.{length_property, length_spliced, length_brought, structure_spliced, strings_grown, header_set, place_small}
+use Rattle.dt_edit.specs.Moving.{put, IsSpliced}
+use Rattle.dt_edit.specs.Plans.{brought_by, place_or, name_offset, IsLayout, HasOtherBlocks, HasPropertyRoom}
+use Rattle.dt_edit.proofs.Assembling.{edits_of}
+use Rattle.dt_edit.proofs.Carrying.{length_spliced, length_brought, structure_spliced, strings_grown, header_set, place_small}
 
 -- the numbers of a plan
 pub record PlanSizes (bytes : List ℕ) (l : Layout) (cut size own added : ℕ) : Type 0 where
@@ -88,16 +88,20 @@ blocks_edited old mid named new own added l cut size at end grown reservations s
     let second = i.strings in
     let total = edits.blocks.total in
     let front : length (top ++ r) ≡ 40 + length r = omega (arith, length-append top r) in
-    let is : old ≡ ((top ++ r) ++ (s ++ names)) ++ edits.rest = edits.is ∙ ap (λ (x : List ℕ). x ++ edits.rest) (append_assoc (top ++ r) s names) in
-    let moved = structure_spliced (top ++ r) s names edits.rest old mid own cut size at end is le (omega arith) (omega arith) m in
+    let tail : List ℕ = drop (number old 4) old in
+    let is : old ≡ ((top ++ r) ++ (s ++ names)) ++ tail = edits.is ∙ ap (λ (x : List ℕ). x ++ tail) (append_assoc (top ++ r) s names) in
+    let moved = structure_spliced (top ++ r) s names tail old mid own cut size at end is le (omega arith) (omega arith) m in
     let wide : length s' ≡ length s + length own - size = length_spliced cut size own s le in
     let ends : grown ≡ length (top ++ r) + length s' + length names = omega arith in
-    let written = strings_grown (top ++ r) s' names moved.0 mid added grown moved.1 ends room in
-    let named-is : named ≡ (top ++ r) ++ ((s' ++ (names ++ added)) ++ written.0) = n ∙ written.1 in
+    let behind : ℕ = end + length own - size in
+    let rest : List ℕ = drop (40 + length r + length s' + length (names ++ added)) old in
+    let left : drop (length added) (drop behind old) ≡ rest = drop-drop (length added) behind old ∙ ap (λ (k : ℕ). drop k old) (omega (arith, wide, length-append names added)) in
+    let named-is : named ≡ (top ++ r) ++ ((s' ++ (names ++ added)) ++ rest) =
+    n ∙ strings_grown (top ++ r) s' names (drop behind old) mid added grown moved ends room ∙ ap (λ (x : List ℕ). (top ++ r) ++ ((s' ++ (names ++ added)) ++ x)) left in
     let k : List ℕ = header cpu (length r) (length s') (length (names ++ added)) in
     let sizes : header l.boot_cpu reservations structure strings ≡ k =
     let a : reservations ≡ length r = omega arith in
     let b : structure ≡ length s' = omega arith in
     let d : strings ≡ length (names ++ added) = omega (arith, length-append names added) in
     let boot = i.boot_cpu in (λ j. header (boot j) (a j) (b j) (d j)) in
-    record { rest = written.0; is = h ∙ ap (λ (x : List ℕ). x ++ drop 40 named) sizes ∙ header_set top k r s' (names ++ added) written.0 named refl named-is }
+    h ∙ ap (λ (x : List ℕ). x ++ drop 40 named) sizes ∙ header_set top k r s' (names ++ added) rest named refl named-is

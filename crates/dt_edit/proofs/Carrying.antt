@@ -1,7 +1,6 @@
 -- Blocks that are spliced where they lie.
-use Rattle.std.proofs.Common.{◌≡◌, ℕ, ◌+◌, ◌-◌, ◌%◌, ◌≤◌, List, [], ◌∷◌, ◌++◌, length, take, drop, Option, Some, None, refl, sym, ap, subst, ◌∙◌, append_assoc, arith}
-use Rattle.std.specs.Prelude.{replicate}
-use Rattle.std.proofs.lemmas.List.{append-nil, length-append, length-drop, length-take-le, length-replicate, take_at, drop_at, drop-append-le, take-append-le, take-append-drop}
+use Rattle.std.proofs.Common.{◌≡◌, ℕ, ◌+◌, ◌-◌, ◌%◌, ◌≤◌, List, [], ◌∷◌, ◌++◌, length, take, drop, Option, Some, None, refl, sym, ap, ◌∙◌, append_assoc, arith}
+use Rattle.std.proofs.lemmas.List.{length-append, length-drop, length-take-le, length-replicate, take_at, drop_at, drop-append-le, take-append-le}
 use Rattle.std.proofs.Math.Seq.{drop-append-add, take-append-add}
 use Rattle.dt_model.specs.Format.{word}
 use Rattle.dt_model.specs.Lexing.{padded}
@@ -13,19 +12,19 @@ use Rattle.dt_write.proofs.Places.{place_within}
 use Rattle.dt_edit.specs.Editable.{name_size}
 use Rattle.dt_edit.specs.Plans.{brought_by, place_or}
 use Rattle.dt_edit.specs.Moving.{put, begin_bytes, node_bytes, property_bytes, HasRoomMade, IsSpliced}
-use Rattle.dt_write.specs.Written.{zeros_after, header, assembled}
+use Rattle.dt_write.specs.Written.{zeros_after}
 
 -- what is put into the room that was made
 pub spliced_room : (x b own : List ℕ) (at size end : ℕ) → at + size ≤ end → end ≤ length x → HasRoomMade x b at size (length own) end → IsSpliced x (put at own b) own at size end
 spliced_room x b own at size end cut inside m =
     let front : List ℕ = take at x in
-    let tail : List ℕ = drop (at + size) (take end x) ++ m.rest in
+    let tail : List ℕ = drop (at + size) (take end x) ++ drop (end + length own - size) x in
     let len : length front ≡ at = length-take-le at x (omega arith) in
     let first : take at b ≡ front = ap (take at) m.is ∙ take_at front (m.gap ++ tail) at len in
     let whole : b ≡ (front ++ m.gap) ++ tail = m.is ∙ sym (append_assoc front m.gap tail) in
     let size_of : length (front ++ m.gap) ≡ at + length own = omega (arith, length-append front m.gap, len, m.wide) in
     let last : drop (at + length own) b ≡ tail = ap (drop (at + length own)) whole ∙ drop_at (front ++ m.gap) tail (at + length own) size_of in
-    record { rest = m.rest; is = λ i. first i ++ (own ++ last i) }
+    λ i. first i ++ (own ++ last i)
 
 pub length_property : (offset : ℕ) (value : List ℕ) → length (property_bytes offset value) ≡ padded (12 + length value)
 length_property offset value =
@@ -49,7 +48,7 @@ length_spliced cut size own s le =
 
 -- a structure block, behind other bytes and in front of strings, of which a part is replaced
 pub structure_spliced : (p s n rest x b own : List ℕ) (cut size at end : ℕ) → x ≡ (p ++ (s ++ n)) ++ rest → cut + size ≤ length s → at ≡ length p + cut → end ≡ length p + length s + length n → IsSpliced x b own at size end
-    → (more : List ℕ) × (b ≡ p ++ ((spliced cut size own s ++ n) ++ more))
+    → b ≡ p ++ ((spliced cut size own s ++ n) ++ drop (end + length own - size) x)
 structure_spliced p s n rest x b own cut size at end e le here ends m =
     let w : List ℕ = p ++ (s ++ n) in
     let long : length w ≡ end = omega (arith, length-append p (s ++ n), length-append s n, ends) in
@@ -57,26 +56,23 @@ structure_spliced p s n rest x b own cut size at end e le here ends m =
     let front : take at x ≡ p ++ take cut s =
     ap (take at) e ∙ take-append-le at w rest (omega arith) ∙ ap (λ (k : ℕ). take k w) here ∙ take-append-add p (s ++ n) cut ∙ ap (λ (y : List ℕ). p ++ y) (take-append-le cut s n (omega arith)) in
     let on : at + size ≡ length p + (cut + size) = omega arith in
-    let behind : drop (at + size) (take end x) ≡ drop (cut + size) s ++ n = (λ i. drop (on i) (counted i)) ∙ drop-append-add p (s ++ n) (cut + size) ∙ drop-append-le (cut + size) s n le in (
-      m.rest,
-      m.is ∙ (λ i. front i ++ (own ++ (behind i ++ m.rest))) ∙ regroup p (take cut s) own (drop (cut + size) s) n m.rest,
-    )
+    let behind : drop (at + size) (take end x) ≡ drop (cut + size) s ++ n = (λ i. drop (on i) (counted i)) ∙ drop-append-add p (s ++ n) (cut + size) ∙ drop-append-le (cut + size) s n le in
+    let left : List ℕ = drop (end + length own - size) x in
+    m ∙ (λ i. front i ++ (own ++ (behind i ++ left))) ∙ regroup p (take cut s) own (drop (cut + size) s) n left
   where
     regroup : (a b c d e f : List ℕ) → (a ++ b) ++ (c ++ ((d ++ e) ++ f)) ≡ a ++ (((b ++ (c ++ d)) ++ e) ++ f)
     regroup a b c d e f = simp append_assoc
 
 -- bytes written behind the strings
-pub strings_grown : (p s n more b own : List ℕ) (end : ℕ) → b ≡ p ++ ((s ++ n) ++ more) → end ≡ length p + length s + length n → end + length own ≤ length b → (rest : List ℕ) × (put end own b ≡ p ++ ((s ++ (n ++ own)) ++ rest))
+pub strings_grown : (p s n more b own : List ℕ) (end : ℕ) → b ≡ p ++ ((s ++ n) ++ more) → end ≡ length p + length s + length n → end + length own ≤ length b → put end own b ≡ p ++ ((s ++ (n ++ own)) ++ drop (length own) more)
 strings_grown p s n more b own end e ends room =
     let w : List ℕ = p ++ (s ++ n) in
     let whole : b ≡ w ++ more = e ∙ sym (append_assoc p (s ++ n) more) in
     let long : length w ≡ end = omega (arith, length-append p (s ++ n), length-append s n, ends) in
     let front : take end b ≡ w = ap (take end) whole ∙ take_at w more end long in
     let on : end + length own ≡ length w + length own = omega arith in
-    let behind : drop (end + length own) b ≡ drop (length own) more = (λ i. drop (on i) (whole i)) ∙ drop-append-add w more (length own) in (
-      drop (length own) more,
-      (λ i. front i ++ (own ++ behind i)) ∙ regroup p s n own (drop (length own) more),
-    )
+    let behind : drop (end + length own) b ≡ drop (length own) more = (λ i. drop (on i) (whole i)) ∙ drop-append-add w more (length own) in
+    (λ i. front i ++ (own ++ behind i)) ∙ regroup p s n own (drop (length own) more)
   where
     regroup : (a b c d e : List ℕ) → (a ++ (b ++ c)) ++ (d ++ e) ≡ a ++ ((b ++ (c ++ d)) ++ e)
     regroup a b c d e = simp append_assoc

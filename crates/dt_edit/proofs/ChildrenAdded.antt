@@ -1,24 +1,22 @@
 -- A blob with a child added is read as the tree with that child.
-use Rattle.std.proofs.Common.{◌⊎◌, ◌≡◌, ℕ, ◌+◌, ◌-◌, ◌%◌, ◌^◌, ◌<◌, ◌≤◌, Bool, true, false, List, [], ◌∷◌, ◌++◌, length, take, drop, Option, Some, None, refl, sym, ap, subst, ◌∙◌, append_assoc, arith}
+use Rattle.std.proofs.Common.{◌≡◌, ℕ, ◌+◌, ◌-◌, ◌%◌, ◌<◌, Bool, true, false, List, [], ◌∷◌, ◌++◌, length, drop, Option, Some, None, refl, sym, ap, subst, ◌∙◌, append_assoc, arith}
 use Rattle.std.specs.Option.{option_map}
 use Rattle.std.specs.Prelude.{is_some, option_and_then}
 use Rattle.std.specs.Str.{bytes_eq}
 use Rattle.std.proofs.lemmas.List.{append-nil, length-append, length-replicate}
 use Rattle.dt_model.specs.Changes.{with_child, changed_sibling, changed_below, with_child_at}
 use Rattle.dt_model.specs.Checks.{number, strings_of, structure_of}
-use Rattle.dt_model.specs.Format.{word, IsText, IsPadded, SpellsBegin, reservation_block}
-use Rattle.dt_model.specs.Limits.{most_bytes, most_names, most_nodes}
+use Rattle.dt_model.specs.Format.{word, IsText, SpellsBegin, reservation_block}
 use Rattle.dt_model.specs.Names.{Name, IsNodeName}
 use Rattle.dt_model.specs.Path.{Path}
 use Rattle.dt_model.specs.Tree as tree
 use Rattle.dt_model.specs.Tree.{Forest, no_nodes, branch, Node, Reading, sibling, node_below, stands_in}
-use Rattle.dt_model.specs.Valid.{node_count}
 use Rattle.dt_model_format.specs.Strings.{terminated}
 use Rattle.dt_read.specs.Checked.{placed_of, root_of}
-use Rattle.dt_read.specs.Cuts.{Content, content_of, changed_content, changed_root, appended, with_node, moved, moved_nodes, moved_root, spliced, SpellsRoot, IsEndCut}
+use Rattle.dt_read.specs.Cuts.{content_of, changed_root, with_node, moved, moved_root, spliced, SpellsRoot}
 use Rattle.dt_read.specs.Marks.{Root}
-use Rattle.dt_read.specs.Placed.{PlacedTree, forest_of, reading_of, place_below, place_of, IsAt, IsNode}
-use Rattle.dt_read.proofs.ChangedPlaces.{plain_content, KeepsPlaces, appended_branch, appended_forest, appended_keeps, moved_place, new_place}
+use Rattle.dt_read.specs.Placed.{place_below, IsAt, IsNode}
+use Rattle.dt_read.proofs.ChangedPlaces.{appended_branch, appended_forest, appended_keeps, moved_place, new_place}
 use Rattle.dt_read.proofs.NodePlaces.{stands_place}
 use Rattle.dt_read.proofs.Splices.{stays_there}
 use Rattle.dt_write.specs.Written.{zeros_after, assembled}
@@ -26,8 +24,8 @@ use Rattle.dt_write.proofs.WrittenReads.{node_text}
 use Rattle.dt_edit.specs.declared.children.NodePlan.{NodePlan}
 use Rattle.dt_edit.specs.Editable.{reading_in, path_in, size_with_node, IsEditable, MayAddIn}
 use Rattle.dt_edit.specs.Moving.{begin_bytes, node_bytes}
-use Rattle.dt_edit.specs.Plans.{HasOtherBlocks, IsNodePlan}
-use Rattle.dt_edit.proofs.Assembling.{Edits, edits_of, IsEdited, edited}
+use Rattle.dt_edit.specs.Plans.{size_of_blocks, HasOtherBlocks, IsNodePlan}
+use Rattle.dt_edit.proofs.Assembling.{edits_of, IsEdited, edited}
 use Rattle.dt_edit.proofs.Carrying.{length_node, length_spliced}
 use Rattle.dt_edit.proofs.PropertiesSet.{changed_reads, changed_places, place_in_root}
 use Rattle.dt_edit.proofs.ValidChanges.{valid_with_child, within_with_child}
@@ -131,9 +129,10 @@ node_added old new node name p e at named may plan other =
     agree_below appends adds path (tree.root_of before) (λ m k. ap (λ (fs : Forest). record { properties = m.properties; children = fs }) (child_appended m.children name (fresh_sibling before path name m may.fresh k))) in
     let plain = reads ∙ same in
     let few = may.few in
-    let done = edited t root s n other.rest (valid_with_child before path name edits.valid named) (within_with_child before path name edits.within there may.fresh (omega arith) may.shallow) (omega arith)
+    let rest : List ℕ = drop (size_of_blocks old s n) old in
+    let done = edited t root s n rest (valid_with_child before path name edits.valid named) (within_with_child before path name edits.within there may.fresh (omega arith) may.shallow) (omega arith)
     (sym (ap (λ (m : Node). m.properties) plain)) (sym (ap (λ (m : Node). m.children) plain)) (subst (λ (k : ℕ). SpellsRoot n k s root) structure_at spelled) in
-    subst (λ (x : List ℕ). IsEdited x t root s n) (sym (other.is ∙ ap (λ (cpu : ℕ). assembled cpu (reservation_block (placed_of old).reservations) s n ++ other.rest) (sym edits.cpu))) done
+    subst (λ (x : List ℕ). IsEdited x t root s n) (sym (other ∙ ap (λ (cpu : ℕ). assembled cpu (reservation_block (placed_of old).reservations) s n ++ rest) (sym edits.cpu))) done
 
 pub node_total : (old new : List ℕ) (node : ℕ) (name : Name) (p : NodePlan) (t : Reading) (root : Root) → IsEditable old → IsNodePlan old node p → t.reservations ≡ (placed_of old).reservations
     → IsEdited new t root (spliced p.cut 0 (node_bytes name) (structure_of old)) (strings_of old ++ []) → number new 4 ≡ size_with_node old name

@@ -1,11 +1,10 @@
 -- Bytes behind a blob don't matter.
-use Rattle.std.proofs.Common.{◌≡◌, ℕ, ◌+◌, ◌≤◌, ◌<◌, Bool, true, false, List, [], ◌∷◌, ◌++◌, length, take, drop, Option, Some, None, refl, sym, ap, subst, ◌∙◌, arith}
+use Rattle.std.proofs.Common.{◌≡◌, ℕ, ◌+◌, ◌≤◌, Bool, true, false, List, ◌++◌, length, take, drop, Some, None, refl, sym, ap, subst, ◌∙◌, arith}
 use Rattle.std.proofs.lemmas.Bool.{leb-true, le-leb}
-use Rattle.std.proofs.lemmas.List.{length-append, length-drop, drop-append-le, take-append-le, take_at, take_all}
+use Rattle.std.proofs.lemmas.List.{length-append, length-drop, drop-append-le, take-append-le}
 use Rattle.std.specs.Int.{w32, from_be_bytes}
 use Rattle.std.specs.Prelude.{nat_le}
-use Rattle.dt_model.specs.Checks.{number}
-use Rattle.dt_model.specs.Format.{word_at, Header, HasHeader, IsSoundHeader, Reads, IsWithin, part, reservation_block, SpellsTree}
+use Rattle.dt_model.specs.Format.{word_at, Header, HasHeader, Reads, IsWithin, part, SpellsTree}
 use Rattle.dt_model.specs.Tree.{Reading}
 
 -- the number at a place in front is the same

@@ -1,12 +1,11 @@
 -- The layout of a blob that can be edited.
-use Rattle.std.proofs.Common.{◌≡◌, ℕ, ◌+◌, ◌≤◌, List, [], ◌++◌, length, take, drop, sym, ap, ◌∙◌, refl, arith}
-use Rattle.dt_model.specs.Checks.{number, strings_of, structure_of}
-use Rattle.dt_model.specs.Format.{part, reservation_block}
-use Rattle.dt_read.specs.Checked.{placed_of}
+use Rattle.std.proofs.Common.{◌≡◌, ℕ, ◌+◌, ◌≤◌, List, length, sym, ◌∙◌, arith}
+use Rattle.dt_model.specs.Checks.{number, strings_of}
+use Rattle.dt_model.specs.Format.{part}
 use Rattle.dt_edit.specs.declared.layout.Layout.{Layout}
 use Rattle.dt_edit.specs.Editable.{IsEditable}
 use Rattle.dt_edit.specs.Plans.{IsLayout}
-use Rattle.dt_edit.proofs.Assembling.{Edits, edits_of}
+use Rattle.dt_edit.proofs.Assembling.{edits_of}
 
 -- the layout is what the header says
 pub layout_is : (bytes : List ℕ) (l : Layout) → IsEditable bytes → l.boot_cpu ≡ number bytes 28 → l.structure_at ≡ number bytes 8 → l.structure ≡ number bytes 36 → l.strings ≡ number bytes 32 → IsLayout bytes l

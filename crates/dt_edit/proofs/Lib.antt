@@ -8,6 +8,7 @@ pub mod NumbersOwned
 pub mod Carrying
 pub mod CarriedOut
 pub mod PropertiesSet
+pub mod CellsPatched
 pub mod Opened
 pub mod Below
 pub mod NodeSizes

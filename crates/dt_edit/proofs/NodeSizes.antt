@@ -1,10 +1,10 @@
 -- A node takes 12 bytes at least, so a short structure block has few nodes.
-use Rattle.std.proofs.Common.{◌≡◌, ◌↔◌, ℕ, ◌+◌, ◌*◌, ◌%◌, ◌<◌, ◌≤◌, List, [], ◌∷◌, ◌++◌, length, map, true, refl, sym, ap, subst, ◌∙◌, append_assoc, arith}
+use Rattle.std.proofs.Common.{◌≡◌, ◌↔◌, ℕ, ◌+◌, ◌*◌, ◌<◌, ◌≤◌, List, [], ◌∷◌, ◌++◌, length, map, refl, sym, ap, ◌∙◌, append_assoc, arith}
 use Rattle.std.specs.Prelude.{IsTrue, nat_lt}
 use Rattle.std.proofs.lemmas.Bool.{ltb-true, lt-ltb}
 use Rattle.std.proofs.lemmas.List.{length-append}
 use Rattle.dt_model.specs.Checks.{number, strings_of, structure_of}
-use Rattle.dt_model.specs.Format.{word, Spells}
+use Rattle.dt_model.specs.Format.{word}
 use Rattle.dt_model.specs.Limits.{most_nodes}
 use Rattle.dt_model.specs.Tree.{Property}
 use Rattle.dt_model.specs.Valid.{node_count}

@@ -1,7 +1,6 @@
 -- Which node may have a number.
-use Rattle.std.proofs.Common.{◌≡◌, ◌↔◌, ℕ, ◌<◌, Bool, true, false, Fits, List, codes, Option, Some, None, length, refl, sym, ap, subst, ◌∙◌, arith}
+use Rattle.std.proofs.Common.{◌≡◌, ◌↔◌, ℕ, Fits, List, codes, Some, None, sym, ap, subst, ◌∙◌, arith}
 use Rattle.std.specs.Int.{w8, w32, from_be_bytes}
-use Rattle.std.specs.Option.{option_map}
 use Rattle.std.specs.Prelude.{IsTrue, nat_eq, slice_index_or}
 use Rattle.std.proofs.lemmas.Bool.{eqb-true, eq-eqb}
 use Rattle.std.proofs.lemmas.Nat.{be_bytes_4}
@@ -9,13 +8,12 @@ use Rattle.std.proofs.lemmas.Option.{same_Some}
 use Rattle.dt_model.specs.Applied.{node_numbered}
 use Rattle.dt_model.specs.Meaning.{cell}
 use Rattle.dt_model.specs.Names.{Name}
-use Rattle.dt_model.specs.Path.{Path}
 use Rattle.dt_model.specs.Tree.{nodes_of, value_in}
 use Rattle.dt_model.specs.Valid.{IsPhandle, IsValid}
 use Rattle.dt_model.proofs.Finding.{node_of_number, number_of_node}
 use Rattle.dt_overlay_base.specs.Targets.{MaySetAt}
 use Rattle.dt_read.specs.Checked.{IsBlob, placed_of}
-use Rattle.dt_read.specs.Placed.{PlacedTree, reading_of, path_at, place_of, IsNode}
+use Rattle.dt_read.specs.Placed.{place_of, IsNode}
 use Rattle.dt_read.proofs.CheckedBytes.{placed_is_read}
 use Rattle.dt_edit.specs.Editable.{reading_in, path_in}
 

@@ -1,6 +1,6 @@
 -- A blob copied to the front of a buffer.
-use Rattle.std.proofs.Common.{◌≡◌, ℕ, ◌+◌, ◌≤◌, ◌<◌, List, [], ◌∷◌, ◌++◌, length, take, drop, refl, sym, ap, subst, ◌∙◌, append_assoc, arith}
-use Rattle.std.proofs.lemmas.List.{length-append, length-take-le, drop_at, append-nil}
+use Rattle.std.proofs.Common.{◌≡◌, ℕ, ◌+◌, ◌≤◌, List, ◌++◌, length, take, drop, sym, ap, subst, ◌∙◌, append_assoc, arith}
+use Rattle.std.proofs.lemmas.List.{length-append, length-take-le, drop_at}
 use Rattle.dt_model.specs.Checks.{number, strings_of, structure_of}
 use Rattle.dt_model.specs.Format.{reservation_block, SpellsTree}
 use Rattle.dt_model.specs.Limits.{most_bytes}
@@ -8,10 +8,9 @@ use Rattle.dt_model.specs.Tree.{Reading}
 use Rattle.dt_model.specs.Valid.{IsValid, IsWithinLimits}
 use Rattle.dt_model_format.proofs.NoFaults.{number_is, spelled_tree_of}
 use Rattle.dt_read.specs.Checked.{IsBlob, placed_of}
-use Rattle.dt_read.specs.Placed.{reading_of}
 use Rattle.dt_read.proofs.CheckedBytes.{placed_is_read}
 use Rattle.dt_write.specs.Written.{header, assembled}
-use Rattle.dt_edit.specs.Editable.{reading_in, opened_size}
+use Rattle.dt_edit.specs.Editable.{reading_in}
 use Rattle.dt_edit.specs.Moving.{put, three_blocks}
 use Rattle.dt_edit.proofs.Assembling.{IsAssembled, assembled_is}
 
@@ -23,6 +22,15 @@ header_before k r s n x y le e =
   where
     regroup : (a b c d e : List ℕ) → a ++ ((b ++ (c ++ d)) ++ e) ≡ (((a ++ b) ++ c) ++ d) ++ e
     regroup a b c d e = simp append_assoc
+
+-- the bytes behind stay
+pub behind_opened : (k r s n old mid new : List ℕ) (size : ℕ) → length k ≡ 40 → 40 + length r + length s + length n ≤ length old → mid ≡ put 40 (three_blocks r s n) old → new ≡ k ++ drop 40 mid
+    → size ≡ 40 + length r + length s + length n → drop size new ≡ drop size old
+behind_opened k r s n old mid new size len le m h same =
+    let blocks : List ℕ = ((k ++ r) ++ s) ++ n in
+    let wide : length blocks ≡ size = omega (arith, length-append ((k ++ r) ++ s) n, length-append (k ++ r) s, length-append k r) in
+    let counted : 40 + length (r ++ (s ++ n)) ≡ size = omega (arith, length-append r (s ++ n), length-append s n) in
+    ap (drop size) (h ∙ header_before k r s n old mid (omega arith) m) ∙ drop_at blocks (drop (40 + length (r ++ (s ++ n))) old) size wide ∙ ap (λ (i : ℕ). drop i old) counted
 
 pub opened : (blob old mid new r s n : List ℕ) (cpu : ℕ) → IsBlob blob → r ≡ reservation_block (placed_of blob).reservations → s ≡ structure_of blob → n ≡ strings_of blob → cpu ≡ number blob 28
     → 40 + length r + length s + length n ≤ length old → 40 + length r + length s + length n ≤ most_bytes → mid ≡ put 40 (three_blocks r s n) old → new ≡ header cpu (length r) (length s) (length n) ++ drop 40 mid

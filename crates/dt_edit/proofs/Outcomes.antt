@@ -1,10 +1,9 @@
 -- An edit's outcome is one.
-use Rattle.std.proofs.Common.{◌⊎◌, ◌≡◌, ℕ, Bool, true, false, List, ◌++◌, ◌∷◌, [], refl, sym, ◌∙◌, true≢false, inl, inr}
+use Rattle.std.proofs.Common.{ℕ, List, refl, sym, ◌∙◌, true≢false, inl, inr}
 use Rattle.dt_model.specs.Names.{Name}
 use Rattle.dt_names.specs.Fault.{IsExclusive, IsOneRefusal}
-use Rattle.dt_names.specs.declared.fault.FaultKind.{FaultKind}
 use Rattle.dt_names.specs.declared.fault.FaultKind.TheVariants.{Limit, BlobPhandle, Duplicate}
-use Rattle.dt_edit.specs.Editable.{Fits, MayAddIn, MaySetIn, WhyNotAddedIn, WhyNotOpened, WhyNotSetIn}
+use Rattle.dt_edit.specs.Editable.{Fits, MayAddIn, MayPatchIn, MaySetIn, WhyNotAddedIn, WhyNotOpened, WhyNotPatchedIn, WhyNotSetIn}
 
 pub opened_or : (bytes : List ℕ) (size : ℕ) → IsExclusive (Fits bytes size) (λ kind. WhyNotOpened kind bytes size)
 opened_or bytes size Limit fits why = absurd (why fits)
@@ -28,6 +27,15 @@ one_setting bytes node name value Limit BlobPhandle a b why other = absurd (othe
 one_setting bytes node name value BlobPhandle _ a b why other = absurd other
 one_setting bytes node name value Limit _ a b why other = absurd other
 one_setting bytes node name value _ kind a b why other = absurd why
+
+pub patched_or : (bytes : List ℕ) (node : ℕ) (name : Name) (offset n : ℕ) → IsExclusive (MayPatchIn bytes node name offset n) (λ kind. WhyNotPatchedIn kind bytes node name offset n)
+patched_or bytes node name offset n BlobPhandle may why = absurd (why may)
+patched_or bytes node name offset n _ may why = absurd why
+
+pub one_patching : (bytes : List ℕ) (node : ℕ) (name : Name) (offset n : ℕ) → IsOneRefusal (λ kind. WhyNotPatchedIn kind bytes node name offset n)
+one_patching bytes node name offset n BlobPhandle BlobPhandle a b why other = refl
+one_patching bytes node name offset n BlobPhandle _ a b why other = absurd other
+one_patching bytes node name offset n _ kind a b why other = absurd why
 
 pub added_or : (bytes : List ℕ) (node : ℕ) (name : Name) → IsExclusive (MayAddIn bytes node name) (λ kind. WhyNotAddedIn kind bytes node name)
 added_or bytes node name Duplicate may why = absurd (true≢false (sym why ∙ may.fresh))

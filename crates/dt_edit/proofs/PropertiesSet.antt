@@ -1,11 +1,10 @@
 -- A blob with a property set is read as the tree with that property set.
-use Rattle.std.proofs.Common.{◌≡◌, ℕ, ◌+◌, ◌-◌, ◌%◌, ◌^◌, ◌<◌, ◌≤◌, List, [], ◌∷◌, ◌++◌, length, take, drop, Option, Some, None, refl, sym, ap, subst, ◌∙◌, append_assoc, arith}
+use Rattle.std.proofs.Common.{◌≡◌, ℕ, ◌+◌, ◌-◌, ◌%◌, ◌^◌, ◌<◌, ◌≤◌, List, [], ◌++◌, length, drop, Option, Some, None, refl, sym, ap, subst, ◌∙◌, arith}
 use Rattle.std.specs.Option.{option_map}
 use Rattle.std.proofs.lemmas.List.{length-append, length-replicate, drop_at}
 use Rattle.dt_model.specs.Changes.{set_property, changed_below, with_property_at}
 use Rattle.dt_model.specs.Checks.{number, strings_of, structure_of}
-use Rattle.dt_model.specs.Format.{word, IsText, IsPadded, HoldsName, SpellsProperty, Spells, prop, reservation_block}
-use Rattle.dt_model.specs.Lexing.{padded}
+use Rattle.dt_model.specs.Format.{word, IsText, IsPadded, HoldsName, SpellsProperty, reservation_block}
 use Rattle.dt_model.specs.Limits.{most_bytes}
 use Rattle.dt_model.specs.Names.{Name, IsPropertyName}
 use Rattle.dt_model.specs.Path.{Path}
@@ -14,19 +13,19 @@ use Rattle.dt_model.specs.Tree.{Node, Reading, Forest}
 use Rattle.dt_model_format.specs.Strings.{place_in, terminated}
 use Rattle.dt_overlay_base.specs.Targets.{MaySetAt}
 use Rattle.dt_read.specs.Checked.{placed_of, root_of}
-use Rattle.dt_read.specs.Cuts.{Content, content_of, changed_content, changed_root, with_value, moved, moved_nodes, moved_root, spliced, property_size, SpellsRoot, IsPropertyCut}
+use Rattle.dt_read.specs.Cuts.{Content, content_of, changed_root, with_value, moved, moved_root, spliced, SpellsRoot, IsPropertyCut}
 use Rattle.dt_read.specs.Marks.{Root}
-use Rattle.dt_read.specs.Placed.{PlacedTree, forest_of, reading_of, place_below, place_of, IsAt}
+use Rattle.dt_read.specs.Placed.{place_below, IsAt}
 use Rattle.dt_read.proofs.ChangedPlaces.{plain_content, IsChangeOf, KeepsPlaces, moved_forest, changed_plainly, moved_place, kept_places}
 use Rattle.dt_read.proofs.Splices.{holds_still, stays_there}
 use Rattle.dt_write.specs.Written.{zeros_after, assembled}
 use Rattle.dt_write.proofs.Places.{sound}
 use Rattle.dt_write.proofs.WrittenReads.{property_text}
 use Rattle.dt_edit.specs.declared.properties.PropertyPlan.{PropertyPlan}
-use Rattle.dt_edit.specs.Editable.{reading_in, path_in, name_size, size_with_value, IsEditable, Fits}
+use Rattle.dt_edit.specs.Editable.{reading_in, path_in, size_with_value, IsEditable, Fits}
 use Rattle.dt_edit.specs.Moving.{property_bytes}
-use Rattle.dt_edit.specs.Plans.{brought_by, added_name, place_or, name_offset, HasOtherBlocks, IsPropertyPlan}
-use Rattle.dt_edit.proofs.Assembling.{Edits, edits_of, IsEdited, edited}
+use Rattle.dt_edit.specs.Plans.{brought_by, added_name, place_or, name_offset, size_of_blocks, HasOtherBlocks, IsPropertyPlan}
+use Rattle.dt_edit.proofs.Assembling.{edits_of, IsEdited, edited}
 use Rattle.dt_edit.proofs.Carrying.{length_property, length_spliced, length_brought, place_small}
 use Rattle.dt_edit.proofs.ValidChanges.{valid_with_property, within_with_property}
 
@@ -85,6 +84,32 @@ property_spelled bytes name value text short fits = record {
 
 -- ---- the blob
 
+-- whatever token of the property comes there
+pub token_set : (old new : List ℕ) (node : ℕ) (name : Name) (value own more : List ℕ) (cut size : ℕ) → IsEditable old → IsPropertyName name → MaySetAt (reading_in old) (path_in old node) name value
+    → IsPropertyCut old node name cut size → SpellsProperty (strings_of old ++ more) (record { name = name; value = value }) own → number old 4 + length own + length more ≤ most_bytes + size
+    → HasOtherBlocks old new (spliced cut size own (structure_of old)) (strings_of old ++ more)
+    → IsEdited new (with_property_at (path_in old node) name value (reading_in old))
+    (changed_root (with_value name value) (path_in old node) (moved_root (moved (number old 8 + cut) size (length own)) (root_of old)))
+    (spliced cut size own (structure_of old)) (strings_of old ++ more)
+token_set old new node name value own more cut size e named may is token limit other =
+    let edits = edits_of old e in
+    let path = path_in old node in
+    let f : ℕ → ℕ = moved (number old 8 + cut) size (length own) in
+    let root : Root = changed_root (with_value name value) path (moved_root f (root_of old)) in
+    let t : Reading = with_property_at path name value (reading_in old) in
+    let s : List ℕ = spliced cut size own (structure_of old) in
+    let n : List ℕ = strings_of old ++ more in
+    let rest : List ℕ = drop (size_of_blocks old s n) old in
+    let place = edits.blocks.structure_at in
+    let total = edits.blocks.total in
+    let longer = length_spliced cut size own (structure_of old) is.behind.inside in
+    let names = length-append (strings_of old) more in
+    let spelled : SpellsRoot n (number old 8) s root = is.becomes value own more token in
+    let reads = changed_reads old (with_value name value) (λ m. record { properties = set_property m.properties name value; children = m.children }) f path (λ c. refl) in
+    let done = edited t root s n rest (valid_with_property (reading_in old) path name value edits.valid named may) (within_with_property (reading_in old) path name value edits.within) (omega arith)
+    (sym (ap (λ (m : Node). m.properties) reads)) (sym (ap (λ (m : Node). m.children) reads)) (subst (λ (k : ℕ). SpellsRoot n k s root) place spelled) in
+    subst (λ (x : List ℕ). IsEdited x t root s n) (sym (other ∙ ap (λ (cpu : ℕ). assembled cpu (reservation_block (placed_of old).reservations) s n ++ rest) (sym edits.cpu))) done
+
 pub property_set : (old new : List ℕ) (node : ℕ) (name : Name) (value : List ℕ) (p : PropertyPlan) → IsEditable old → IsPropertyName name → MaySetAt (reading_in old) (path_in old node) name value
     → IsPropertyPlan old node name p → Fits old (size_with_value old node name value)
     → HasOtherBlocks old new (spliced p.cut.at p.cut.size (property_bytes (name_offset old name) value) (structure_of old)) (strings_of old ++ added_name old name)
@@ -93,30 +118,14 @@ pub property_set : (old new : List ℕ) (node : ℕ) (name : Name) (value : List
     (spliced p.cut.at p.cut.size (property_bytes (name_offset old name) value) (structure_of old)) (strings_of old ++ added_name old name)
 property_set old new node name value p e named may plan fits other =
     let edits = edits_of old e in
-    let path = path_in old node in
     let own : List ℕ = property_bytes (name_offset old name) value in
     let wide = length_property (name_offset old name) value in
-    let f : ℕ → ℕ = moved (number old 8 + p.cut.at) p.cut.size (length own) in
-    let root : Root = changed_root (with_value name value) path (moved_root f (root_of old)) in
-    let t : Reading = with_property_at path name value (reading_in old) in
-    let s : List ℕ = spliced p.cut.at p.cut.size own (structure_of old) in
-    let n : List ℕ = strings_of old ++ added_name old name in
-    let place = edits.blocks.structure_at in
     let total = edits.blocks.total in
     let short = edits.short in
     let limit = fits.limit in
-    let inside = plan.cut.behind.inside in
     let taken = plan.cut.taken in
-    let longer = length_spliced p.cut.at p.cut.size own (structure_of old) inside in
-    let names = length-append (strings_of old) (added_name old name) in
     let brought = length_brought (place_in (strings_of old) name) name in
-    let spelled : SpellsRoot n (number old 8) s root =
-    plan.cut.becomes value own (added_name old name) (property_spelled old name value (property_text name named) (omega arith) (omega arith)) in
-    let reads = changed_reads old (with_value name value) (λ m. record { properties = set_property m.properties name value; children = m.children }) f path (λ c. refl) in
-    let own_cpu = edits.cpu in
-    let done = edited t root s n other.rest (valid_with_property (reading_in old) path name value edits.valid named may) (within_with_property (reading_in old) path name value edits.within) (omega arith)
-    (sym (ap (λ (m : Node). m.properties) reads)) (sym (ap (λ (m : Node). m.children) reads)) (subst (λ (k : ℕ). SpellsRoot n k s root) place spelled) in
-    subst (λ (x : List ℕ). IsEdited x t root s n) (sym (other.is ∙ ap (λ (cpu : ℕ). assembled cpu (reservation_block (placed_of old).reservations) s n ++ other.rest) (sym own_cpu))) done
+    token_set old new node name value own (added_name old name) p.cut.at p.cut.size e named may plan.cut (property_spelled old name value (property_text name named) (omega arith) (omega arith)) (omega arith) other
 
 -- how long it then is
 pub property_total : (old new : List ℕ) (node : ℕ) (name : Name) (value : List ℕ) (p : PropertyPlan) (t : Reading) (root : Root) → IsEditable old → IsPropertyPlan old node name p → t.reservations ≡ (placed_of old).reservations

@@ -1,7 +1,7 @@
 -- Bytes written one behind the other, and room made for them.
-use Rattle.std.proofs.Common.{◌≡◌, ℕ, ◌+◌, ◌-◌, ◌*◌, ◌/◌, ◌%◌, ◌≤◌, List, [], ◌∷◌, ◌++◌, length, take, drop, refl, sym, ap, subst, ◌∙◌, append_assoc, arith}
+use Rattle.std.proofs.Common.{◌≡◌, ℕ, ◌+◌, ◌-◌, ◌≤◌, List, [], ◌++◌, length, take, drop, sym, ap, ◌∙◌, append_assoc, arith}
 use Rattle.std.specs.List.{copy_within}
-use Rattle.std.proofs.lemmas.List.{length-append, length-drop, length-take-le, take_at, drop_at, drop-drop, drop-take, take-append-le, take-append-drop}
+use Rattle.std.proofs.lemmas.List.{length-append, length-drop, length-take-le, take_at, drop-drop, drop-take, take-append-le, take-append-drop}
 use Rattle.std.proofs.lemmas.List.Edits.{take-paste, drop-paste}
 use Rattle.std.proofs.Math.Seq.{take-add, drop-append-add}
 use Rattle.dt_edit.specs.Moving.{put, HasRoomMade}
@@ -57,12 +57,12 @@ room_made x at size own end cut inside room =
     let gap : take (at + own) x ≡ take at x ++ take own (drop at x) = take-add at own x in
     let upto : at + size + count ≡ end = omega arith in
     let part : take count moved ≡ drop (at + size) (take end x) = sym (drop-take (at + size) count x) ∙ ap (λ (n : ℕ). drop (at + size) (take n x)) upto in
+    let left : at + own + count ≡ end + own - size = omega arith in
     record {
       gap = take own (drop at x);
-      rest = drop (at + own + count) x;
       wide = length-take-le own (drop at x) (omega (arith, length-drop at x));
-      is = sym (take-append-drop (at + own + count) new) ∙ (λ i. front i ++ behind i) ∙ (λ i. (gap i ++ part i) ++ drop (at + own + count) x)
-          ∙ regroup (take at x) (take own (drop at x)) (drop (at + size) (take end x)) (drop (at + own + count) x);
+      is = sym (take-append-drop (at + own + count) new) ∙ (λ i. front i ++ behind i) ∙ (λ i. (gap i ++ part i) ++ drop (left i) x)
+          ∙ regroup (take at x) (take own (drop at x)) (drop (at + size) (take end x)) (drop (end + own - size) x);
     }
   where
     regroup : (a b c d : List ℕ) → ((a ++ b) ++ c) ++ d ≡ a ++ (b ++ (c ++ d))
@@ -73,12 +73,13 @@ room_kept x at size own end same cut inside =
     let front : take (at + size) x ≡ take at x ++ take size (drop at x) = take-add at size x in
     let from : take (at + size) (take end x) ≡ take (at + size) x = sym (take-append-le (at + size) (take end x) (drop end x) (omega (arith, length-take-le end x inside))) ∙ ap (take (at + size)) (take-append-drop end x) in
     let part : take end x ≡ take (at + size) x ++ drop (at + size) (take end x) = sym (take-append-drop (at + size) (take end x)) ∙ ap (λ (y : List ℕ). y ++ drop (at + size) (take end x)) from in
+    let left : end ≡ end + own - size = omega arith in
     record {
       gap = take size (drop at x);
-      rest = drop end x;
       wide = length-take-le size (drop at x) (omega (arith, length-drop at x)) ∙ same;
       is = sym (take-append-drop end x) ∙ ap (λ (y : List ℕ). y ++ drop end x) (part ∙ ap (λ (y : List ℕ). y ++ drop (at + size) (take end x)) front)
-          ∙ regroup (take at x) (take size (drop at x)) (drop (at + size) (take end x)) (drop end x);
+          ∙ regroup (take at x) (take size (drop at x)) (drop (at + size) (take end x)) (drop end x)
+          ∙ ap (λ (n : ℕ). take at x ++ (take size (drop at x) ++ (drop (at + size) (take end x) ++ drop n x))) left;
     }
   where
     regroup : (a b c d : List ℕ) → ((a ++ b) ++ c) ++ d ≡ a ++ (b ++ (c ++ d))

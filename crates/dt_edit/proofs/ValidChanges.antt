@@ -1,5 +1,5 @@
 -- A tree with a property set or a child added is one that a blob may hold.
-use Rattle.std.proofs.Common.{◌⊎◌, ◌≡◌, ℕ, ◌+◌, ◌≤◌, ◌<◌, Bool, true, false, List, [], ◌∷◌, ◌++◌, length, codes, Option, Some, None, refl, sym, ap, subst, ◌∙◌, arith, inl, inr}
+use Rattle.std.proofs.Common.{◌≡◌, ℕ, ◌+◌, ◌≤◌, ◌<◌, Bool, true, false, List, [], ◌∷◌, ◌++◌, length, codes, Some, refl, sym, ap, subst, ◌∙◌, arith, inl, inr}
 use Rattle.std.specs.List.{AllByRecursion, flat_map}
 use Rattle.std.specs.Str.{bytes_eq}
 use Rattle.dt_model.specs.Changes.{set_property, with_child, changed_sibling, changed_below, with_child_at, with_property_at, merged_node}
@@ -7,8 +7,8 @@ use Rattle.dt_model.specs.Limits.{most_names, most_nodes}
 use Rattle.dt_model.specs.Lists.{IsIn}
 use Rattle.dt_model.specs.Names.{Name, IsNodeName, IsPropertyName}
 use Rattle.dt_model.specs.Path.{Path}
-use Rattle.dt_model.specs.Tree.{Property, Forest, no_nodes, branch, Node, Reading, Placed, root_of, nodes_of, stands_in, value_in, value_of}
-use Rattle.dt_model.specs.Valid.{AreDistinct, AreProperties, AreNodes, IsPhandle, IsReservation, IsValid, IsWithinLimits, IsNoDeeper, names, node_count, phandle_values, phandles}
+use Rattle.dt_model.specs.Tree.{Forest, no_nodes, branch, Node, Reading, Placed, root_of, nodes_of, stands_in, value_in, value_of}
+use Rattle.dt_model.specs.Valid.{AreDistinct, AreNodes, IsPhandle, IsReservation, IsValid, IsWithinLimits, IsNoDeeper, names, node_count, phandle_values, phandles}
 use Rattle.dt_model.proofs.Listed.{listed_in, value_is_listed}
 use Rattle.dt_model.proofs.Preorder.{all_phandles, own_phandle, paths_apart, phandle_list}
 use Rattle.dt_model.proofs.Tests.{each_from}

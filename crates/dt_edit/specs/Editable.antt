@@ -1,9 +1,11 @@
 -- Blobs that are edited where they lie, at the front of some bytes: what they are, how long they become, and why they aren't changed.
-use Rattle.std.specs.Prelude.{◌≡◌, ◌⊎◌, ℕ, ◌+◌, ◌-◌, ◌<◌, ◌≤◌, true, false, List, [], ◌∷◌, ◌++◌, length, take, drop, Option, Some, None}
+use Rattle.std.specs.Prelude.{◌≡◌, ◌⊎◌, ℕ, ◌+◌, ◌-◌, ◌<◌, ◌≤◌, true, false, List, [], ◌∷◌, ◌++◌, length, take, drop, Option, Some, None, unwrap_or}
+use Rattle.dt_model.specs.Applied.{with_cell}
 use Rattle.dt_model.specs.Checks.{number, strings_of, structure_of}
 use Rattle.dt_model.specs.Format.{reservation_block}
 use Rattle.dt_model.specs.Lexing.{padded}
 use Rattle.dt_model.specs.Limits.{most_bytes, most_names, most_nodes}
+use Rattle.dt_model.specs.Meaning.{cell}
 use Rattle.dt_model.specs.Names.{Name}
 use Rattle.dt_model.specs.Path.{Path}
 use Rattle.dt_model.specs.Tree.{Reading, stands_in, value_in}
@@ -14,7 +16,7 @@ use Rattle.dt_names.specs.declared.fault.FaultKind.TheVariants.{Limit, BlobPhand
 use Rattle.dt_overlay_base.specs.Targets.{MaySetAt}
 use Rattle.dt_read.specs.Checked.{IsBlob, placed_of}
 use Rattle.dt_read.specs.Cuts.{property_size}
-use Rattle.dt_read.specs.Placed.{PlacedTree, path_at, reading_of}
+use Rattle.dt_read.specs.Placed.{path_at, reading_of}
 use Rattle.dt_write.specs.Written.{assembled}
 
 -- the tree of some bytes, without places
@@ -69,6 +71,31 @@ abbrev pub WhyNotSetIn : FaultKind → List ℕ → ℕ → Name → List ℕ �
 WhyNotSetIn BlobPhandle bytes node name value = ¬ MaySetAt (reading_in bytes) (path_in bytes node) name value
 WhyNotSetIn Limit bytes node name value = MaySetAt (reading_in bytes) (path_in bytes node) name value × ¬ Fits bytes (size_with_value bytes node name value)
 WhyNotSetIn _ bytes node name value = ⊥
+
+-- ---- a cell
+
+-- the node's property of a name has four bytes at an offset
+abbrev pub HasCellAt : List ℕ → ℕ → Name → ℕ → Type 0
+HasCellAt bytes node name offset = (value : List ℕ) × (value_in (reading_in bytes) (path_in bytes node) name ≡ Some value) × (offset + 4 ≤ length value)
+
+-- the property's value with a number in the cell at an offset
+abbrev pub value_patched : List ℕ → ℕ → Name → (offset n : ℕ) → List ℕ
+value_patched bytes node name offset n = with_cell (unwrap_or (value_in (reading_in bytes) (path_in bytes node) name) []) offset n
+
+-- the cell is patched
+abbrev pub MayPatchIn : List ℕ → ℕ → Name → (offset n : ℕ) → Type 0
+MayPatchIn bytes node name offset n = MaySetAt (reading_in bytes) (path_in bytes node) name (value_patched bytes node name offset n)
+
+-- it isn't: the property may not have that value
+abbrev pub WhyNotPatchedIn : FaultKind → List ℕ → ℕ → Name → (offset n : ℕ) → Type 0
+WhyNotPatchedIn BlobPhandle bytes node name offset n = ¬ MayPatchIn bytes node name offset n
+WhyNotPatchedIn _ bytes node name offset n = ⊥
+
+-- four bytes, somewhere, are another number's, and all others are the same
+pub record IsOneCell (old new : List ℕ) (n : ℕ) : Type 0 where
+  pub at : ℕ
+  pub inside : at + 4 ≤ length old
+  pub is : new ≡ take at old ++ (cell n ++ drop (at + 4) old)
 
 -- ---- a child
 

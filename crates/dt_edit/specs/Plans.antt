@@ -1,7 +1,7 @@
 -- Edits before they are carried out.
-use Rattle.std.specs.Prelude.{◌≡◌, ℕ, ◌+◌, ◌-◌, ◌<◌, ◌≤◌, List, [], ◌∷◌, ◌++◌, length, Option, Some, None}
+use Rattle.std.specs.Prelude.{◌≡◌, ℕ, ◌+◌, ◌<◌, ◌≤◌, List, [], ◌++◌, length, drop, Option, Some, None}
 use Rattle.dt_model.specs.Checks.{number, strings_of, structure_of}
-use Rattle.dt_model.specs.Format.{reservation_block}
+use Rattle.dt_model.specs.Format.{reservation_block, word}
 use Rattle.dt_model.specs.Lexing.{padded}
 use Rattle.dt_model.specs.Limits.{most_bytes}
 use Rattle.dt_model.specs.Names.{Name}
@@ -13,6 +13,7 @@ use Rattle.dt_edit.specs.declared.layout.Layout.{Layout}
 use Rattle.dt_edit.specs.declared.children.NodePlan.{NodePlan}
 use Rattle.dt_edit.specs.declared.properties.PropertyPlan.{PropertyPlan}
 use Rattle.dt_edit.specs.Editable.{name_size, size_with_node, Fits}
+use Rattle.dt_edit.specs.Moving.{put}
 
 -- the blocks of a blob that can be edited are where this says
 pub record IsLayout (bytes : List ℕ) (l : Layout) : Type 0 where
@@ -38,10 +39,14 @@ place_or (Some place) end = place
 abbrev pub name_offset : List ℕ → Name → ℕ
 name_offset bytes name = place_or (place_in (strings_of bytes) name) (length (strings_of bytes))
 
--- bytes at whose front is the blob of others, with another structure block and other strings
-pub record HasOtherBlocks (old new structure strings : List ℕ) : Type 0 where
-  pub rest : List ℕ
-  pub is : new ≡ assembled (number old 28) (reservation_block (placed_of old).reservations) structure strings ++ rest
+-- how long a blob is with the reservations of another, a structure block and strings
+abbrev pub size_of_blocks : (old structure strings : List ℕ) → ℕ
+size_of_blocks old structure strings = 40 + length (reservation_block (placed_of old).reservations) + length structure + length strings
+
+-- bytes at whose front is the blob of others, with another structure block and other strings; those behind it are as they were
+abbrev pub HasOtherBlocks : (old new structure strings : List ℕ) → Type 0
+HasOtherBlocks old new structure strings =
+    new ≡ assembled (number old 28) (reservation_block (placed_of old).reservations) structure strings ++ drop (size_of_blocks old structure strings) old
 
 -- a plan by which a node's property of a name is set
 pub record IsPropertyPlan (bytes : List ℕ) (node : ℕ) (name : Name) (p : PropertyPlan) : Type 0 where
@@ -57,6 +62,14 @@ pub record HasPropertyRoom (bytes : List ℕ) (p : PropertyPlan) (name : Name) (
   pub short : length value ≤ most_bytes
   pub room : number bytes 4 + padded (12 + length value) + name_size (place_in (strings_of bytes) name) name ≤ length bytes + p.cut.size
   pub limit : number bytes 4 + padded (12 + length value) + name_size (place_in (strings_of bytes) name) name ≤ most_bytes + p.cut.size
+
+-- a cell of a node's property, whose token is so many bytes at a place of the structure block, has become a number's
+pub record IsPatched (old new : List ℕ) (node : ℕ) (name : Name) (offset n : ℕ) : Type 0 where
+  pub at : ℕ
+  pub size : ℕ
+  pub cut : IsPropertyCut old node name at size
+  pub inside : number old 8 + at + 12 + offset + 4 ≤ length old
+  pub is : new ≡ put (number old 8 + at + 12 + offset) (word n) old
 
 -- a plan by which a node gets a child
 pub record IsNodePlan (bytes : List ℕ) (node : ℕ) (p : NodePlan) : Type 0 where

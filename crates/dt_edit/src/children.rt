@@ -12,15 +12,13 @@ ghost use Rattle.dt_read.specs.Checked.{IsBlob, placed_of};
 ghost use Rattle.dt_read.specs.Cuts.{spliced};
 ghost use Rattle.dt_read.specs.Placed.{path_at, IsNode};
 
-use crate::layout::{Layout, layout_of};
+use crate::layout::{HEADER_SIZE, Layout, layout_of};
 use crate::moving::{Span, padded_len, splice_node};
 use dt_names::Seed;
 use dt_names::limits::{MOST_BYTES, MOST_NAMES, MOST_NODES};
 use dt_read::{Blob, NodeId, OpenNodes, end_cut, structure_bytes};
 use dt_view::put_nodes_above;
 use dt_write::set_header;
-
-const HEADER_SIZE: usize = 40;
 
 /// How many bytes a node takes at least: BEGIN_NODE, a NUL and its padding, and END_NODE.
 const LEAST_NODE_SIZE: usize = 12;

@@ -7,6 +7,9 @@ ghost use Rattle.dt_edit.specs.Plans.{IsLayout};
 
 use dt_bytes::be32;
 
+/// How many bytes a header takes (Devicetree Specification v0.4, 5.2).
+pub(crate) const HEADER_SIZE: usize = 40;
+
 /// The number at a place of a header.
 pub(crate) fn number(bytes: &[u8], at: usize) -> u32
     ensures { result ≡ number bytes.now at }

@@ -2,6 +2,7 @@
 //! added, a cell patched in the flat bytes, in a buffer that the caller lends. Takes no memory.
 #![tactic(auto)]
 
+mod cells;
 mod children;
 mod laws;
 mod layout;
@@ -12,6 +13,7 @@ mod opening;
 mod phandles;
 mod properties;
 
+pub use cells::has_cell;
 pub use laws::one_outcome;
-pub use lent::{add_node, set_prop};
+pub use lent::{add_node, patch_cell, set_prop};
 pub use opening::open_into;

@@ -36,7 +36,7 @@ fn make_room(bytes: &mut [u8], at: usize, size: usize, own: usize, end: usize)
 }
 
 /// Writes a 32-bit word at a place, the highest byte first.
-fn put_word(bytes: &mut [u8], at: usize, number: u32)
+pub(crate) fn put_word(bytes: &mut [u8], at: usize, number: u32)
     requires { at + 4 ≤ length bytes.old }
     ensures { bytes.new ≡ put at (word number) bytes.old }
 {

@@ -1,19 +1,17 @@
 //! A blob copied into a buffer, where it can be edited.
 
-ghost use Rattle.std.specs.Prelude.{◌≡◌, ◌+◌, ◌≤◌, None, length, IsOk, IfOk, IfErr, OnOk};
+ghost use Rattle.std.specs.Prelude.{◌≡◌, ◌+◌, ◌≤◌, None, length, drop, IsOk, IfErr, OnOk};
 ghost use Rattle.dt_edit.specs.Editable.{reading_in, opened_size, IsEditable, Fits, WhyNotOpened};
 ghost use Rattle.dt_edit.specs.Moving.{put, three_blocks};
 ghost use Rattle.dt_model.specs.Checks.{number, strings_of, structure_of};
 ghost use Rattle.dt_read.specs.Checked.{IsBlob};
 
-use crate::layout::number;
+use crate::layout::{HEADER_SIZE, number};
 use crate::moving::put_bytes;
 use dt_names::limits::MOST_BYTES;
 use dt_names::{Fault, FaultKind};
 use dt_read::{reservation_bytes, strings_bytes, structure_bytes};
 use dt_write::set_header;
-
-const HEADER_SIZE: usize = 40;
 
 /// Writes three blocks behind the place of a header.
 fn put_blocks(bytes: &mut [u8], reservations: &[u8], structure: &[u8], strings: &[u8])
@@ -27,7 +25,7 @@ fn put_blocks(bytes: &mut [u8], reservations: &[u8], structure: &[u8], strings: 
 }
 
 /// Copies a blob that was checked to the front of a buffer, its blocks one behind the other, where it can be edited. It reads as before; a NOP stays
-/// one. Version 17, last compatible version 16. Takes no memory.
+/// one. Version 17, last compatible version 16 (Devicetree Specification v0.4, 5.2). The bytes behind it stay. Takes no memory.
 ///
 /// # Errors
 ///
@@ -39,6 +37,7 @@ pub fn open_into(blob: &[u8], bytes: &mut [u8]) -> Result<(), Fault>
     ensures structure { OnOk result (structure_of bytes.new ≡ structure_of blob.now) }
     ensures strings { OnOk result (strings_of bytes.new ≡ strings_of blob.now) }
     ensures size { OnOk result (number bytes.new 4 ≡ opened_size blob.now) }
+    ensures behind { OnOk result (drop (number bytes.new 4) bytes.new ≡ drop (number bytes.new 4) bytes.old) }
     ensures fits { IsOk result → Fits bytes.old (opened_size blob.now) }
     ensures err { IfErr result (λ fault. bytes.new ≡ bytes.old) }
     ensures refused { IfErr result (λ fault. WhyNotOpened fault.kind bytes.old (opened_size blob.now) × (fault.at ≡ None)) }

@@ -9,14 +9,12 @@ ghost use Rattle.dt_read.specs.Checked.{placed_of};
 ghost use Rattle.dt_read.specs.Cuts.{spliced};
 ghost use Rattle.dt_read.specs.Placed.{IsNode};
 
-use crate::layout::{Layout, layout_of, strings_in};
+use crate::layout::{HEADER_SIZE, Layout, layout_of, strings_in};
 use crate::moving::{Span, bring_name, padded_len, splice_property};
 use crate::names::place_in;
 use dt_names::limits::MOST_BYTES;
 use dt_read::{Cut, NodeId, property_cut};
 use dt_write::set_header;
-
-const HEADER_SIZE: usize = 40;
 
 /// Where a property is set: the blob's layout, the bytes of the structure block that go, and where the strings hold the name, if they do.
 #[derive(Clone, Copy)]

@@ -1,5 +1,4 @@
-use Rattle.std.proofs.Common.{◌≡◌, ◌+◌, ◌-◌, ◌++◌, [], ℕ, List, length, refl, sym, ap, subst, ◌∙◌, arith}
-use Rattle.dt_model.specs.Checks.{strings_of, structure_of}
+use Rattle.std.proofs.Common.{◌+◌, ◌-◌, [], ℕ, List, length, refl, arith}
 use Rattle.dt_edit.specs.Moving.{node_bytes}
 use Rattle.dt_edit.proofs.Assembling.{edits_of}
 use Rattle.dt_edit.proofs.CarriedOut.{blocks_edited}

@@ -1,4 +1,4 @@
-use Rattle.std.proofs.Common.{◌≡◌, length, ap, refl, sym, ◌∙◌, arith, List, ℕ}
+use Rattle.std.proofs.Common.{length, ap, refl, ◌∙◌, arith, List, ℕ}
 use Rattle.dt_model.specs.Tree.{nodes_of}
 use Rattle.dt_read.specs.Checked.{placed_of}
 use Rattle.dt_read.specs.Placed.{PlacedTree, reading_of}

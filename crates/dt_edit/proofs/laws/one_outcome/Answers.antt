@@ -1,5 +1,5 @@
 use Rattle.dt_edit.specs.Editable.{opened_size}
-use Rattle.dt_edit.proofs.Outcomes.{opened_or, one_opening, set_or, one_setting, added_or, one_adding}
+use Rattle.dt_edit.proofs.Outcomes.{opened_or, one_opening, set_or, one_setting, patched_or, one_patching, added_or, one_adding}
 use Rattle.dt_edit.proofs.laws.one_outcome.Goals as goal
 
 pub returns-clause-opened : goal.returns-clause-opened
@@ -19,3 +19,9 @@ returns-clause-added c = added_or
 
 pub returns-clause-one_of_adding : goal.returns-clause-one_of_adding
 returns-clause-one_of_adding c = one_adding
+
+pub returns-clause-patched : goal.returns-clause-patched
+returns-clause-patched c = patched_or
+
+pub returns-clause-one_of_patching : goal.returns-clause-one_of_patching
+returns-clause-one_of_patching c = one_patching

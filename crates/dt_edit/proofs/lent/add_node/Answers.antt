@@ -1,4 +1,4 @@
-use Rattle.std.proofs.Common.{◌≡◌, ◌++◌, ◌+◌, ◌∷◌, [], true, false, List, ℕ, refl, sym, ap, subst, ◌∙◌, arith}
+use Rattle.std.proofs.Common.{◌≡◌, ◌++◌, ◌+◌, ◌∷◌, [], refl, sym, ap, subst, ◌∙◌, arith}
 use Rattle.std.proofs.lemmas.Bool.{false_from_ne_true, true≢false}
 use Rattle.std.proofs.lemmas.List.{append-nil}
 use Rattle.dt_model.specs.Changes.{with_child_at}
@@ -10,7 +10,7 @@ use Rattle.dt_read.specs.Cuts.{spliced}
 use Rattle.dt_read.specs.Placed.{IsAt}
 use Rattle.dt_edit.specs.Editable.{reading_in, path_in, size_with_node, MayAddIn}
 use Rattle.dt_edit.specs.Moving.{node_bytes}
-use Rattle.dt_edit.proofs.Assembling.{IsEdited, edits_of}
+use Rattle.dt_edit.proofs.Assembling.{IsEdited, behind_kept, edits_of}
 use Rattle.dt_edit.proofs.ChildrenAdded.{root_with_node, node_added, node_total, node_places, node_there}
 use Rattle.dt_edit.proofs.lent.add_node.Goals as goal
 
@@ -71,3 +71,9 @@ returns-clause-size c =
 
 pub returns-clause-allowed : goal.returns-clause-allowed
 returns-clause-allowed c = λ _. subst (MayAddIn c.args.bytes.now c.args.parent) c.as_bytes-key.ensures.value (may c)
+
+pub returns-clause-behind : goal.returns-clause-behind
+returns-clause-behind c =
+    let old = c.args.bytes.now in
+    behind_kept old c.carry_out.new.bytes (spliced c.in-Some.plan.cut 0 (node_bytes c.as_bytes-key.result.now) (structure_of old)) (strings_of old ++ [])
+    (number c.carry_out.new.bytes 4) c.carry_out.ensures (done c).is.total

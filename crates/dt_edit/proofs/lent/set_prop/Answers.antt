@@ -1,4 +1,4 @@
-use Rattle.std.proofs.Common.{◌≡◌, ◌++◌, ◌+◌, List, ℕ, length, refl, sym, ap, subst, ◌∙◌}
+use Rattle.std.proofs.Common.{◌++◌, ◌+◌, List, ℕ, length, refl, sym, ap, subst, ◌∙◌}
 use Rattle.dt_model.specs.Changes.{with_property_at}
 use Rattle.dt_model.specs.Checks.{number, strings_of, structure_of}
 use Rattle.dt_model.specs.Names.{Name, IsPropertyName}
@@ -7,7 +7,7 @@ use Rattle.dt_read.specs.Cuts.{changed_root, with_value, moved, moved_root, spli
 use Rattle.dt_edit.specs.Editable.{reading_in, path_in, size_with_value}
 use Rattle.dt_edit.specs.Moving.{property_bytes}
 use Rattle.dt_edit.specs.Plans.{added_name, name_offset}
-use Rattle.dt_edit.proofs.Assembling.{IsEdited}
+use Rattle.dt_edit.proofs.Assembling.{IsEdited, behind_kept}
 use Rattle.dt_edit.proofs.PropertiesSet.{property_set, property_total, property_places}
 use Rattle.dt_edit.proofs.lent.set_prop.Goals as goal
 
@@ -49,3 +49,11 @@ returns-clause-size c =
     (changed_root (with_value key c.args.value.now) (path_in old c.args.node) (moved_root (moved (number old 8 + cut.at) cut.size (length own)) (root_of old)))
     c.requires.editable c.in-Some.ensures.0 refl (done c)
     ∙ ap (λ (n : Name). size_with_value old c.args.node n c.args.value.now) c.as_bytes-key.ensures.value
+
+pub returns-clause-behind : goal.returns-clause-behind
+returns-clause-behind c =
+    let old = c.args.bytes.now in
+    let key = c.as_bytes-key.result.now in
+    let cut = c.in-Some.plan.cut in
+    behind_kept old c.carry_out.new.bytes (spliced cut.at cut.size (property_bytes (name_offset old key) c.args.value.now) (structure_of old)) (strings_of old ++ added_name old key)
+    (number c.carry_out.new.bytes 4) c.carry_out.ensures (done c).is.total

@@ -1,4 +1,4 @@
-use Rattle.std.proofs.Common.{◌+◌, ℕ, List, sym, subst}
+use Rattle.std.proofs.Common.{ℕ, List, sym, subst}
 use Rattle.dt_edit.specs.Moving.{HasRoomMade}
 use Rattle.dt_edit.proofs.Putting.{room_made, room_kept}
 use Rattle.dt_edit.proofs.moving.make_room.Goals as goal

@@ -1,4 +1,4 @@
-use Rattle.std.proofs.Common.{◌≡◌, ◌+◌, ◌∷◌, [], List, ℕ, length, ap, ◌∙◌, arith}
+use Rattle.std.proofs.Common.{◌+◌, ◌∷◌, [], length, ap, ◌∙◌, arith}
 use Rattle.dt_edit.specs.Moving.{put}
 use Rattle.dt_edit.proofs.Putting.{put_put}
 use Rattle.dt_edit.proofs.moving.put_name.Goals as goal

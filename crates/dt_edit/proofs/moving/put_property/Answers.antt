@@ -1,8 +1,7 @@
-use Rattle.std.proofs.Common.{◌≡◌, ◌+◌, ◌-◌, ◌%◌, List, ℕ, length, refl, sym, ap, ◌∙◌, arith}
+use Rattle.std.proofs.Common.{◌≡◌, ◌+◌, ◌-◌, ◌%◌, List, ℕ, length, refl, ap, ◌∙◌, arith}
 use Rattle.std.specs.Prelude.{replicate}
 use Rattle.std.proofs.lemmas.List.{length-replicate}
 use Rattle.dt_model.specs.Format.{word}
-use Rattle.dt_model.specs.Lexing.{padded}
 use Rattle.dt_edit.specs.Moving.{put}
 use Rattle.dt_edit.proofs.Putting.{put_parts}
 use Rattle.dt_edit.proofs.moving.put_property.Goals as goal

@@ -1,5 +1,5 @@
 use Rattle.std.proofs.Common.{◌≡◌, ◌+◌, ℕ, List, length, sym, ap, subst, ◌∙◌}
-use Rattle.dt_edit.specs.Moving.{put, node_bytes, HasRoomMade, IsSpliced}
+use Rattle.dt_edit.specs.Moving.{node_bytes, HasRoomMade, IsSpliced}
 use Rattle.dt_edit.proofs.Carrying.{spliced_room, length_node}
 use Rattle.dt_edit.proofs.moving.splice_node.Goals as goal
 

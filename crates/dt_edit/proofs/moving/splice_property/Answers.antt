@@ -1,5 +1,5 @@
-use Rattle.std.proofs.Common.{◌≡◌, ◌+◌, ℕ, List, length, sym, ap, subst, ◌∙◌}
-use Rattle.dt_edit.specs.Moving.{put, property_bytes, HasRoomMade, IsSpliced}
+use Rattle.std.proofs.Common.{◌≡◌, ℕ, List, length, sym, subst, ◌∙◌}
+use Rattle.dt_edit.specs.Moving.{property_bytes, HasRoomMade, IsSpliced}
 use Rattle.dt_edit.proofs.Carrying.{spliced_room, length_property}
 use Rattle.dt_edit.proofs.moving.splice_property.Goals as goal
 

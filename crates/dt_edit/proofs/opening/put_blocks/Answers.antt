@@ -1,4 +1,4 @@
-use Rattle.std.proofs.Common.{◌≡◌, ◌+◌, List, ℕ, length, ap, ◌∙◌}
+use Rattle.std.proofs.Common.{◌+◌, length, ap, ◌∙◌}
 use Rattle.dt_edit.specs.Moving.{put}
 use Rattle.dt_edit.proofs.Putting.{put_three}
 use Rattle.dt_edit.proofs.opening.put_blocks.Goals as goal

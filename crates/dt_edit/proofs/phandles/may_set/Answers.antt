@@ -1,4 +1,4 @@
-use Rattle.std.proofs.Common.{◌≡◌, ◌≢◌, codes, true, false, ℕ, List, Option, Some, None, refl, sym, ap, ◌∙◌, subst}
+use Rattle.std.proofs.Common.{◌≡◌, Some, None, refl, sym, subst}
 use Rattle.dt_model.specs.Applied.{node_numbered}
 use Rattle.dt_model.specs.Tree.{nodes_of}
 use Rattle.dt_read.specs.Placed.{PlacedTree, path_at, reading_of, IsNode}
