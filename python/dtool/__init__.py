@@ -8,12 +8,15 @@
     node.interrupts()                     # [Route(controller=<Node /soc@0/interrupt-controller@38800000>, cells=(0, 27, 4), hops=0)]
     node.specifiers("clocks", "clock")
 
+A blob doesn't change; `blob.editable()` is a copy that does.
+
 Each answer comes from libdtool, whose calls are proved to answer what the flattened format and the Devicetree Specification v0.4 say of the
 bytes. A blob keeps bytes of its own that were checked, and a node comes from a call alone, so the two conditions of the library always hold.
 """
+from .editing import EditableBlob
 from .faults import Fault, FaultKind, NoSuchNode
 from .tree import Blob, Node, Region, Reservation, Route
 from .values import Value
 
 __version__ = "0.9.0"
-__all__ = ["Blob", "Fault", "FaultKind", "NoSuchNode", "Node", "Region", "Reservation", "Route", "Value"]
+__all__ = ["Blob", "EditableBlob", "Fault", "FaultKind", "NoSuchNode", "Node", "Region", "Reservation", "Route", "Value"]

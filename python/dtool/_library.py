@@ -65,6 +65,10 @@ _CALLS = {
     "interrupt_at": (c_bool, [*_NODE, c_uint64, POINTER(CRoute), _FAULT]),
     "specifier_route": (c_bool, [*_NODE, *_TEXT, *_TEXT, c_uint64, POINTER(CRoute), _FAULT]),
     "specifier_at": (c_bool, [*_NODE, *_TEXT, *_TEXT, c_uint64, POINTER(CRoute), _FAULT]),
+    "open_into": (c_bool, [*_BLOB, *_TEXT, _FAULT]),
+    "set_prop": (c_bool, [*_NODE, *_TEXT, *_TEXT, _FAULT]),
+    "add_node": (c_bool, [*_NODE, *_TEXT, _OUT, _FAULT]),
+    "patch_cell": (c_bool, [*_NODE, *_TEXT, c_size_t, c_uint32, _FAULT]),
 }
 
 

@@ -2,11 +2,14 @@
 import ctypes
 import operator
 import os
-from typing import Callable, Dict, Iterator, List, NamedTuple, Optional, Tuple, TypeVar, Union
+from typing import TYPE_CHECKING, Callable, Dict, Iterator, List, NamedTuple, Optional, Tuple, TypeVar, Union
 
 from ._library import CALLS, TABLE_WORDS, CFault, CProperty, CRegion, CReservation, CRoute, CSpan
 from .faults import Fault, FaultKind, NoSuchNode
 from .values import Value
+
+if TYPE_CHECKING:
+    from .editing import EditableBlob
 
 Text = Union[str, bytes]
 _Answer = TypeVar("_Answer")
@@ -197,6 +200,12 @@ class Blob:
         """The nodes that list a text in `compatible`, in the order of the blob."""
         wanted = _bytes_of(text)
         return [node for node in self if wanted in (node.get("compatible") or b"").split(b"\0")[:-1]]
+
+    def editable(self) -> "EditableBlob":
+        """A copy that can be changed. Raises Fault where its parts, one behind the other, are longer than 16 MiB."""
+        from .editing import EditableBlob
+
+        return EditableBlob(self)
 
 
 class Node:

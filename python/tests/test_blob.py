@@ -316,9 +316,7 @@ class Names(unittest.TestCase):
         from dtool import _library
 
         declared = dict(re.findall(r"^[a-z].*?\**dtool_(\w+)\(((?:const|uint8_t)[^;]*)\);", read("c", "dtool.h"), re.MULTILINE | re.DOTALL))
-        edits = {"open_into", "set_prop", "add_node"}  # The package has none of them.
-        self.assertEqual(set(_library._CALLS), set(declared) - edits - {"is_node"})
-        self.assertLessEqual(edits, set(declared))
+        self.assertEqual(set(_library._CALLS), set(declared) - {"is_node"})
         for name, (_, parameters) in _library._CALLS.items():
             self.assertEqual(len(parameters), declared[name].count(",") + 1, name)
 
