@@ -32,7 +32,8 @@ fn land<T: Target>(
     ensures applied { (read : Reading) → IsNumberedFor (T.reading target.old) read object.now landing.old.sites.items →
         OnOk result (IsApplied (T.reading target.old) read (T.reading target.new)) }
     ensures refused { (read : Reading) → IsNumberedFor (T.reading target.old) read object.now landing.old.sites.items →
-        IfErr result (IsWant (IsCrowded (HasNoRoom T.reading T.has_room) (T.reading target.old) read)) }
+        IfErr result (IsWant (IsCrowded (HasNoRoom T.reading T.has_room T.follows target.old) (T.reading target.old) read)) }
+    ensures follows { T.follows target.old target.new }
 {
     sited_is_applied();
     fragments_are_merged();
@@ -53,9 +54,10 @@ fn carry_out<T: Target>(
     ensures applied { OnOk result (IsApplied (T.reading target.old) (reading object.old.tree) (T.reading target.new)) }
     ensures well { OnOk result (IsWellFormed (T.reading target.old) (reading object.old.tree)) }
     ensures refused { IfErr result (λ fault. (fault.at ≡ None)
-        × WhyNotApplied (HasNoRoom T.reading T.has_room) fault.kind (T.reading target.old) (reading object.old.tree)) }
-    ensures left { IfErr result (λ fault. IsLeftBy (HasNoRoom T.reading T.has_room) fault.kind (T.reading target.old)
+        × WhyNotApplied (HasNoRoom T.reading T.has_room T.follows target.old) fault.kind (T.reading target.old) (reading object.old.tree)) }
+    ensures left { IfErr result (λ fault. IsLeftBy (HasNoRoom T.reading T.has_room T.follows target.old) fault.kind (T.reading target.old)
         (reading object.old.tree) (T.reading target.new)) }
+    ensures follows { T.follows target.old target.new }
 {
     read(alloc, target, landing, object)?;
     find_sites(alloc, target, object, landing)?;
@@ -70,9 +72,10 @@ fn apply_object<T: Target>(alloc: Global, target: &mut T, object: &mut Object) -
     ensures applied { OnOk result (IsApplied (T.reading target.old) (reading object.old.tree) (T.reading target.new)) }
     ensures well { OnOk result (IsWellFormed (T.reading target.old) (reading object.old.tree)) }
     ensures refused { IfErr result (λ fault. (fault.at ≡ None)
-        × WhyNotApplied (HasNoRoom T.reading T.has_room) fault.kind (T.reading target.old) (reading object.old.tree)) }
-    ensures left { IfErr result (λ fault. IsLeftBy (HasNoRoom T.reading T.has_room) fault.kind (T.reading target.old)
+        × WhyNotApplied (HasNoRoom T.reading T.has_room T.follows target.old) fault.kind (T.reading target.old) (reading object.old.tree)) }
+    ensures left { IfErr result (λ fault. IsLeftBy (HasNoRoom T.reading T.has_room T.follows target.old) fault.kind (T.reading target.old)
         (reading object.old.tree) (T.reading target.new)) }
+    ensures follows { T.follows target.old target.new }
 {
     let mut landing = Landing::new(alloc, object.seed().with(target.seed()))?;
     let done = carry_out(alloc, target, object, &mut landing);
@@ -102,9 +105,10 @@ pub fn apply<T: Target>(alloc: Global, target: &mut T, object: &Blob<'_>) -> Res
     ensures applied { OnOk result (IsApplied (T.reading target.old) (reading_of object.now) (T.reading target.new)) }
     ensures well { OnOk result (IsWellFormed (T.reading target.old) (reading_of object.now)) }
     ensures refused { IfErr result (λ fault. (fault.at ≡ None)
-        × WhyNotApplied (HasNoRoom T.reading T.has_room) fault.kind (T.reading target.old) (reading_of object.now)) }
-    ensures left { IfErr result (λ fault. IsLeftBy (HasNoRoom T.reading T.has_room) fault.kind (T.reading target.old)
+        × WhyNotApplied (HasNoRoom T.reading T.has_room T.follows target.old) fault.kind (T.reading target.old) (reading_of object.now)) }
+    ensures left { IfErr result (λ fault. IsLeftBy (HasNoRoom T.reading T.has_room T.follows target.old) fault.kind (T.reading target.old)
         (reading_of object.now) (T.reading target.new)) }
+    ensures follows { T.follows target.old target.new }
 {
     let tree = object.to_flat(alloc)?;
     let mut unread = Object::new(alloc, tree)?;

@@ -5,4 +5,5 @@ pub mod LooksNames
 pub mod LooksNumbers
 pub mod PlacesKept
 pub mod Reached
+pub mod Rooms
 pub mod TextsOfPaths

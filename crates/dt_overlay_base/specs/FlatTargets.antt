@@ -22,7 +22,11 @@ pub record IsPlaced (a : Arena) (p : Path) (i : ℕ) : Type 0 where
 abbrev pub HasRoom : Arena → Reading → Type 0
 HasRoom tree next = 1 + node_count next.children ≤ most_nodes
 
+-- what its changes keep: nothing
+abbrev pub Follows : Arena → Arena → Type 0
+Follows tree next = Unit {0}
+
 -- an object isn't applied to one for want of room only where too many nodes would come of it
 abbrev pub TreeRoomIsCounted : Type 0
-TreeRoomIsCounted = (kind : FaultKind) (base object : Reading) → WhyNotApplied (HasNoRoom reading HasRoom) kind base object
+TreeRoomIsCounted = (kind : FaultKind) (first : Arena) (base object : Reading) → WhyNotApplied (HasNoRoom reading HasRoom Follows first) kind base object
     → WhyNotApplied has_many kind base object

@@ -12,9 +12,9 @@ use Rattle.dt_names.specs.declared.fault.FaultKind.TheVariants.{NoMemory, Limit,
 
 -- ---- room
 
--- a tree of this kind that reads as t has no room for next
-abbrev pub HasNoRoom : {X : Type 0} → (X → Reading) → (X → Reading → Type 0) → Reading → Reading → Type 0
-HasNoRoom {X} reads has_room t next = (x : X) × (reads x ≡ t) × ¬ has_room x next
+-- a tree that comes of the first one by changes, and reads as t, has no room for next
+abbrev pub HasNoRoom : {X : Type 0} → (X → Reading) → (X → Reading → Type 0) → (X → X → Type 0) → X → Reading → Reading → Type 0
+HasNoRoom {X} reads has_room follows first t next = (x : X) × follows first x × (reads x ≡ t) × ¬ has_room x next
 
 -- memory was refused, or else there is no room
 abbrev pub IsWant : Type 0 → Fault → Type 0

@@ -5,7 +5,7 @@ ghost use Rattle.dt_flat.specs.Arena.{reading as arena_reading};
 ghost use Rattle.dt_model.specs.Limits.{most_nodes};
 ghost use Rattle.dt_model.specs.Numbers.{numbers_of};
 ghost use Rattle.dt_model.specs.Tree.{stands_in};
-ghost use Rattle.dt_overlay_base.specs.FlatTargets.{HasRoom, IsPlaced, TreeRoomIsCounted};
+ghost use Rattle.dt_overlay_base.specs.FlatTargets.{Follows, HasRoom, IsPlaced, TreeRoomIsCounted};
 ghost use Rattle.dt_overlay_base.specs.Known.{IsNext};
 
 use crate::target::Target;
@@ -42,6 +42,12 @@ impl Target for FlatTree {
     ghost reading = { arena_reading };
 
     ghost has_room = { HasRoom };
+
+    ghost follows = { Follows };
+
+    ghost follows_refl = { λ _. tt };
+
+    ghost follows_trans = { λ _ _ _ _ _. tt };
 
     fn validity(&self) {
         FlatTree::validity(self);

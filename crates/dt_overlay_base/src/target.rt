@@ -27,6 +27,14 @@ pub trait Target {
     /// target it may hang on more than its reading.
     ghost has_room: { Self → Reading → Type 0 };
 
+    /// What changes keep: whether a tree may come of another by changes. Where an object has no room is said of such trees alone, since any tree of
+    /// the same reading may have less. A `FlatTree` keeps nothing, since its reading says what there is room for.
+    ghost follows: { Self → Self → Type 0 };
+
+    ghost follows_refl: { (s : Self) → follows s s };
+
+    ghost follows_trans: { (a b c : Self) → follows a b → follows b c → follows a c };
+
     /// What is true of each tree: a blob may hold it (Devicetree Specification v0.4, chapters 2 and 5), it is within the limits,
     /// and each `phandle` is the cell of a number. Does nothing.
     fn validity(&self)
@@ -72,6 +80,7 @@ pub trait Target {
         ensures ok { OnOk result (reading self.new ≡ with_property_at path.now name.now value.now (reading self.old)) }
         ensures allowed { IsOk result → HasRoomAt (has_room self.old) (reading self.old) path.now name.now value.now }
         ensures err { OnErr result (reading self.new ≡ reading self.old) }
+        ensures follows { follows self.old self.new }
         ensures refused { IfErr result (λ fault.
             WhyNotSetAt (has_room self.old) fault.kind (reading self.old) path.now name.now value.now × (fault.at ≡ None)) };
 
@@ -86,6 +95,7 @@ pub trait Target {
         ensures ok { OnOk result (reading self.new ≡ with_child_at parent.now name.now (reading self.old)) }
         ensures allowed { IsOk result → MayAddAt (has_room self.old) (reading self.old) parent.now name.now }
         ensures err { OnErr result (reading self.new ≡ reading self.old) }
+        ensures follows { follows self.old self.new }
         ensures refused { IfErr result (λ fault.
             WhyNotAddedAt (has_room self.old) fault.kind (reading self.old) parent.now name.now × (fault.at ≡ None)) };
 
@@ -107,6 +117,7 @@ pub trait Target {
         ensures allowed { (value : List ℕ) → value_in (reading self.old) path.now name.now ≡ Some value →
             IsOk result → HasRoomAt (has_room self.old) (reading self.old) path.now name.now (with_cell value offset number) }
         ensures err { OnErr result (reading self.new ≡ reading self.old) }
+        ensures follows { follows self.old self.new }
         ensures refused { (v : List ℕ) → value_in (reading self.old) path.now name.now ≡ Some v →
             IfErr result (λ fault.
             WhyNotSetAt (has_room self.old) fault.kind (reading self.old) path.now name.now (with_cell v offset number) × (fault.at ≡ None)) };

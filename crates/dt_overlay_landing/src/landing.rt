@@ -10,7 +10,8 @@ ghost use Rattle.dt_model.specs.Changes.{with_child_at, with_property_at};
 ghost use Rattle.dt_overlay_laws.specs.Steps.{land_properties, land_node, MayLandProperties, MayLandNode, MaySetValue};
 ghost use Rattle.dt_overlay_laws.specs.Steps.{FullAtProperties, FullAtNode};
 ghost use Rattle.dt_overlay_object.specs.Objects.{Seen, IsToLandOn};
-ghost use Rattle.dt_overlay_landing.specs.Landed.{landed_as, landed_each, landed_properties, landed_with, MayLandEachOf, FullAtEachOf, MayLandSeen, seen_landed, FullAtSeen};
+ghost use Rattle.dt_overlay_landing.specs.Landed.{landed_as, landed_each, landed_properties, landed_with, seen_landed};
+ghost use Rattle.dt_overlay_landing.specs.Landed.{MayLandEachOf, MayLandSeen, FullAtEachOf, FullAtSeen};
 ghost use Rattle.dt_overlay_base.specs.Targets.{HasNoRoom, IsWant};
 
 use crate::values::Values;
@@ -41,8 +42,9 @@ fn land_property<T: Target>(
     requires may { MaySetValue path.now name.now (landed_as landing.now (record { name = name.now; value = value.now })).value (T.reading target.old) }
     ensures set { OnOk result (T.reading target.new ≡ with_property_at path.now name.now
         (landed_as landing.now (record { name = name.now; value = value.now })).value (T.reading target.old)) }
-    ensures refused { IfErr result (IsWant (HasNoRoom T.reading T.has_room (T.reading target.old) (with_property_at path.now name.now
+    ensures refused { IfErr result (IsWant (HasNoRoom T.reading T.has_room T.follows target.old (T.reading target.old) (with_property_at path.now name.now
         (landed_as landing.now (record { name = name.now; value = value.now })).value (T.reading target.old)))) }
+    ensures follows { T.follows target.old target.new }
 {
     let property = PropName::new(name)?;
     if name == b"phandle".as_slice() {
@@ -66,8 +68,9 @@ fn set_properties<T: Target>(
     requires named { AllByRecursion (λ p. IsPropertyName p.name) props }
     requires may { MayLandProperties path.now (landed_properties landing.now props) (T.reading target.old) }
     ensures landed { OnOk result (T.reading target.new ≡ land_properties path.now (landed_properties landing.now props.entry) (T.reading target.old)) }
-    ensures refused { IfErr result (IsWant (FullAtProperties (HasNoRoom T.reading T.has_room) path.now
+    ensures refused { IfErr result (IsWant (FullAtProperties (HasNoRoom T.reading T.has_room T.follows target.old) path.now
         (landed_properties landing.now props.entry) (T.reading target.old))) }
+    ensures follows { T.follows target.old target.new }
 {
     for (name, value) in props {
         land_property(target, path, name, value, landing)?;
@@ -87,8 +90,9 @@ fn add_child<T: Target>(
     requires shallow { length parent.now < most_names }
     ensures path { IfOk result (λ path. path ≡ parent.now ++ name.now ∷ []) }
     ensures added { OnOk result (T.reading target.new ≡ with_child_at parent.now name.now (T.reading target.old)) }
-    ensures refused { IfErr result (IsWant (HasNoRoom T.reading T.has_room (T.reading target.old)
+    ensures refused { IfErr result (IsWant (HasNoRoom T.reading T.has_room T.follows target.old (T.reading target.old)
         (with_child_at parent.now name.now (T.reading target.old)))) }
+    ensures follows { T.follows target.old target.new }
 {
     let path = child_path(alloc, parent, name)?;
     if !target.find(&path) {
@@ -110,8 +114,9 @@ fn land<T: Target>(
     requires stands { stands_in (T.reading target.old) path.now ≡ true }
     requires may { MayLandNode path.now (landed_with object.now values.now node) (T.reading target.old) }
     ensures landed { OnOk result (T.reading target.new ≡ land_node path.now (landed_with object.now values.now node) (T.reading target.old)) }
-    ensures refused { IfErr result (IsWant (FullAtNode (HasNoRoom T.reading T.has_room) path.now (landed_with object.now values.now node)
+    ensures refused { IfErr result (IsWant (FullAtNode (HasNoRoom T.reading T.has_room T.follows target.old) path.now (landed_with object.now values.now node)
         (T.reading target.old))) }
+    ensures follows { T.follows target.old target.new }
 {
     object.tree.validity();
     let landing = LandingNode {
@@ -138,7 +143,9 @@ fn land_each<T: Target>(
     requires numbers { length object.now.brought.numbers.items ≡ length object.now.tree.slots }
     requires may { MayLandEachOf object.now values.now sites.now (T.reading target.old) }
     ensures landed { OnOk result (T.reading target.new ≡ landed_each object.now values.now sites.now (T.reading target.old)) }
-    ensures refused { IfErr result (IsWant (FullAtEachOf (HasNoRoom T.reading T.has_room) object.now values.now sites.now (T.reading target.old))) }
+    ensures refused { IfErr result (IsWant (FullAtEachOf (HasNoRoom T.reading T.has_room T.follows target.old) object.now values.now sites.now
+        (T.reading target.old))) }
+    ensures follows { T.follows target.old target.new }
 {
     for (fragment, site) in object.fragments.iter().zip(sites) {
         land(target, object, values, fragment.content, site)?;
@@ -159,7 +166,8 @@ fn land_by<'o, T: Target>(
     ensures landed { (seen : Seen) (found : List Site) → IsToLandOn object.now seen found sites.now →
         OnOk result (T.reading target.new ≡ seen_landed (T.reading target.old) seen found) }
     ensures refused { (seen : Seen) (found : List Site) → IsToLandOn object.now seen found sites.now →
-        IfErr result (IsWant (FullAtSeen (HasNoRoom T.reading T.has_room) (T.reading target.old) seen found)) }
+        IfErr result (IsWant (FullAtSeen (HasNoRoom T.reading T.has_room T.follows target.old) (T.reading target.old) seen found)) }
+    ensures follows { T.follows target.old target.new }
 {
     object.tree.validity();
     values.write_all(&object.tree, &object.own_writes)?;
@@ -184,7 +192,8 @@ pub fn land_all<T: Target>(
     ensures landed { (seen : Seen) (found : List Site) → IsToLandOn object.now seen found landing.now.sites.items →
         OnOk result (T.reading target.new ≡ seen_landed (T.reading target.old) seen found) }
     ensures refused { (seen : Seen) (found : List Site) → IsToLandOn object.now seen found landing.now.sites.items →
-        IfErr result (IsWant (FullAtSeen (HasNoRoom T.reading T.has_room) (T.reading target.old) seen found)) }
+        IfErr result (IsWant (FullAtSeen (HasNoRoom T.reading T.has_room T.follows target.old) (T.reading target.old) seen found)) }
+    ensures follows { T.follows target.old target.new }
 {
     let mut values = Values::new(alloc, object.seed());
     let done = land_by(target, object, &landing.sites, &mut values);

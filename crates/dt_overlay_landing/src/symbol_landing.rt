@@ -24,8 +24,9 @@ use std::alloc::Global;
 fn add_symbols<T: Target>(alloc: Global, target: &mut T, symbols: &Path) -> Result<(), Fault>
     requires symbols { symbols.now ≡ codes "__symbols__" ∷ [] }
     ensures added { OnOk result (T.reading target.new ≡ with_child_at [] (codes "__symbols__") (T.reading target.old)) }
-    ensures refused { IfErr result (IsWant (HasNoRoom T.reading T.has_room (T.reading target.old)
+    ensures refused { IfErr result (IsWant (HasNoRoom T.reading T.has_room T.follows target.old (T.reading target.old)
         (with_child_at [] (codes "__symbols__") (T.reading target.old)))) }
+    ensures follows { T.follows target.old target.new }
 {
     if target.find(symbols) {
         return Ok(());
@@ -47,8 +48,9 @@ fn set_symbol<T: Target>(
         OnOk result (T.reading target.new ≡ with_label symbol.now path (T.reading target.old)) }
     ensures kept { OnOk result (landing.new.sites ≡ landing.old.sites) }
     ensures refused { (path : Names) → HasLanded object.now landing.old symbol.now path →
-        IfErr result (IsWant (HasNoRoom T.reading T.has_room (T.reading target.old)
+        IfErr result (IsWant (HasNoRoom T.reading T.has_room T.follows target.old (T.reading target.old)
         (with_label symbol.now path (T.reading target.old)))) }
+    ensures follows { T.follows target.old target.new }
 {
     object.tree.validity();
     let Some(path) = landing_path(
@@ -80,7 +82,9 @@ fn set_each_symbol<T: Target>(
     ensures set { (read : Reading) (found : List Site) → HasLabels read found object.now landing.old →
         OnOk result (T.reading target.new ≡ with_labels_of read found (T.reading target.old)) }
     ensures refused { (read : Reading) (found : List Site) → HasLabels read found object.now landing.old →
-        IfErr result (IsWant (FullAtSymbols (HasNoRoom T.reading T.has_room) (landed_symbols read found (symbols_in read)) (T.reading target.old))) }
+        IfErr result (IsWant (FullAtSymbols (HasNoRoom T.reading T.has_room T.follows target.old) (landed_symbols read found (symbols_in read))
+        (T.reading target.old))) }
+    ensures follows { T.follows target.old target.new }
 {
     let symbols = object.symbols.as_slice();
     if symbols.is_empty() {
@@ -107,7 +111,9 @@ pub fn set_symbols<T: Target>(
     requires sited { (seen : Seen) × (found : List Site) × IsToLandOn object.now seen found landing.old.sites.items × AreShallow seen.reading found }
     ensures set { WhereShallow object.now landing.old (λ read found. OnOk result (T.reading target.new ≡ with_labels_of read found (T.reading target.old))) }
     ensures refused { WhereShallow object.now landing.old (λ read found.
-        IfErr result (IsWant (FullAtSymbols (HasNoRoom T.reading T.has_room) (landed_symbols read found (symbols_in read)) (T.reading target.old)))) }
+        IfErr result (IsWant (FullAtSymbols (HasNoRoom T.reading T.has_room T.follows target.old) (landed_symbols read found (symbols_in read))
+        (T.reading target.old)))) }
+    ensures follows { T.follows target.old target.new }
 {
     object.tree.validity();
     set_each_symbol(target, object, landing)

@@ -210,15 +210,15 @@ over_crowded base object within h =
       change = landing_crossed base object h.applied.fixups of.end within.count (subst (has_many base) of.is h.many);
     }
 
--- ---- where there is more room
+-- ---- what is full by one relation is so by a wider one
 
-module _ (full : Reading → Reading → Type 0) (sub : (t next : Reading) → full t next → has_many t next) where
-  properties_more : (q : Path) (ps : List Property) (t : Reading) → FullAtProperties full q ps t → FullAtProperties has_many q ps t
+module _ (full wider : Reading → Reading → Type 0) (sub : (t next : Reading) → full t next → wider t next) where
+  pub properties_more : (q : Path) (ps : List Property) (t : Reading) → FullAtProperties full q ps t → FullAtProperties wider q ps t
   properties_more q [] t h = h
   properties_more q (x ∷ xs) t (inl h) = inl (sub t (with_property_at q x.name x.value t) h)
   properties_more q (x ∷ xs) t (inr h) = inr (properties_more q xs (with_property_at q x.name x.value t) h)
 
-  nodes_more : (q : Path) (f : Forest) (t : Reading) → FullAtNodes full q f t → FullAtNodes has_many q f t
+  pub nodes_more : (q : Path) (f : Forest) (t : Reading) → FullAtNodes full q f t → FullAtNodes wider q f t
   nodes_more q no_nodes t h = h
   nodes_more q (branch name properties children siblings) t (inl h) = inl (sub t (with_child_at q name t) h)
   nodes_more q (branch name properties children siblings) t (inr (inl h)) = inr (inl (properties_more (q ++ name ∷ []) properties (with_child_at q name t) h))
@@ -227,22 +227,22 @@ module _ (full : Reading → Reading → Type 0) (sub : (t next : Reading) → f
   nodes_more q (branch name properties children siblings) t (inr (inr (inr h))) =
       inr (inr (inr (nodes_more q siblings (land_nodes (q ++ name ∷ []) children (land_properties (q ++ name ∷ []) properties (with_child_at q name t))) h)))
 
-  node_more : (q : Path) (n : Node) (t : Reading) → FullAtNode full q n t → FullAtNode has_many q n t
+  pub node_more : (q : Path) (n : Node) (t : Reading) → FullAtNode full q n t → FullAtNode wider q n t
   node_more q n t (inl h) = inl (properties_more q n.properties t h)
   node_more q n t (inr h) = inr (nodes_more q n.children (land_properties q n.properties t) h)
 
   fragments_more : (object : Reading) (ws : List Write) (numbers : List (Path × ℕ)) (sites : List Site) (t : Reading) → FullAtFragments full t object ws numbers sites
-      → FullAtFragments has_many t object ws numbers sites
+      → FullAtFragments wider t object ws numbers sites
   fragments_more object ws numbers [] t h = h
   fragments_more object ws numbers (x ∷ sites) t (inl h) = inl (node_more x.at (fragment_of object ws numbers x) t h)
   fragments_more object ws numbers (x ∷ sites) t (inr h) = inr (fragments_more object ws numbers sites (land_node x.at (fragment_of object ws numbers x) t) h)
 
-  symbols_more : (ps : List Property) (t : Reading) → FullAtSymbols full ps t → FullAtSymbols has_many ps t
+  pub symbols_more : (ps : List Property) (t : Reading) → FullAtSymbols full ps t → FullAtSymbols wider ps t
   symbols_more [] t h = h
   symbols_more (p ∷ ps) t (inl h) = inl (sub t (with_child_at [] (codes "__symbols__") t) h)
   symbols_more (p ∷ ps) t (inr h) = inr (properties_more (codes "__symbols__" ∷ []) (p ∷ ps) (with_child_at [] (codes "__symbols__") t) h)
 
-  crowded_more : (base object : Reading) → IsCrowded full base object → IsCrowded has_many base object
+  crowded_more : (base object : Reading) → IsCrowded full base object → IsCrowded wider base object
   crowded_more base object h = record {
     well = h.well;
     result = h.result;
@@ -254,11 +254,11 @@ module _ (full : Reading → Reading → Type 0) (sub : (t next : Reading) → f
     change = by h.change;
   }
     where
-      by : FullAtLanding full base object h.fixups (new_numbers base object h.end) h.end.sites (symbols_in object) → FullAtLanding has_many base object h.fixups (new_numbers base object h.end) h.end.sites (symbols_in object)
+      by : FullAtLanding full base object h.fixups (new_numbers base object h.end) h.end.sites (symbols_in object) → FullAtLanding wider base object h.fixups (new_numbers base object h.end) h.end.sites (symbols_in object)
       by (inl some) = inl (fragments_more object (writes_of base object h.fixups h.end) (new_of base object h.fixups h.end) h.end.sites base some)
       by (inr some) = inr (symbols_more (labels_of base object h.fixups h.end) (land_fragments base object (writes_of base object h.fixups h.end) (new_of base object h.fixups h.end) h.end.sites) some)
 
-  pub fewer : (kind : FaultKind) (base object : Reading) → WhyNotApplied full kind base object → WhyNotApplied has_many kind base object
+  pub fewer : (kind : FaultKind) (base object : Reading) → WhyNotApplied full kind base object → WhyNotApplied wider kind base object
   fewer NoMemory base object h = h
   fewer NoFragmentTarget base object h = h
   fewer BadFixup base object h = h

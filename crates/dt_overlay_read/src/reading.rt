@@ -32,7 +32,7 @@ pub fn read<T: Target>(
     requires unread { IsUnread object.old.tree object.old }
     ensures read { OnOk result (IsReadFor (T.reading target.now) (reading object.old.tree) object.new) }
     ensures refused { IfErr result (λ fault. (fault.at ≡ None)
-        × WhyNotApplied (HasNoRoom T.reading T.has_room) fault.kind (T.reading target.now) (reading object.old.tree)) }
+        × WhyNotApplied (HasNoRoom T.reading T.has_room T.follows target.now) fault.kind (T.reading target.now) (reading object.old.tree)) }
 {
     object.tree.validity();
     list_fragments(alloc, &object.tree, &mut object.fragments)?;

@@ -25,10 +25,10 @@ returns-clause-well g c =
 
 pub returns-clause-refused : goal.returns-clause-refused
 returns-clause-refused g c =
-    subst (λ (o : Reading). IfErr c.apply_object-done.result (λ fault. (fault.at ≡ None) × WhyNotApplied (HasNoRoom g.T.Target.reading g.T.Target.has_room) fault.kind (g.T.Target.reading c.args.target.now) o)) (ap reading c.in_ok-unread.ensures.is ∙ c.in_ok-tree.ensures.reads)
+    subst (λ (o : Reading). IfErr c.apply_object-done.result (λ fault. (fault.at ≡ None) × WhyNotApplied (HasNoRoom g.T.Target.reading g.T.Target.has_room g.T.Target.follows c.args.target.now) fault.kind (g.T.Target.reading c.args.target.now) o)) (ap reading c.in_ok-unread.ensures.is ∙ c.in_ok-tree.ensures.reads)
     c.apply_object-done.ensures.refused
 
 pub returns-clause-left : goal.returns-clause-left
 returns-clause-left g c =
-    subst (λ (o : Reading). IfErr c.apply_object-done.result (λ fault. IsLeftBy (HasNoRoom g.T.Target.reading g.T.Target.has_room) fault.kind (g.T.Target.reading c.args.target.now) o (g.T.Target.reading c.apply_object-done.new.target))) (ap reading c.in_ok-unread.ensures.is ∙ c.in_ok-tree.ensures.reads)
+    subst (λ (o : Reading). IfErr c.apply_object-done.result (λ fault. IsLeftBy (HasNoRoom g.T.Target.reading g.T.Target.has_room g.T.Target.follows c.args.target.now) fault.kind (g.T.Target.reading c.args.target.now) o (g.T.Target.reading c.apply_object-done.new.target))) (ap reading c.in_ok-unread.ensures.is ∙ c.in_ok-tree.ensures.reads)
     c.apply_object-done.ensures.left

@@ -16,7 +16,7 @@ returns-in_err-find_sites-clause-refused g c =
     let read = c.in_ok-read.ensures.read in
     let e = err_from_is_err_and c.from_residual-in_err-find_sites.result c.from_residual-in_err-find_sites.ensures.1 in
     rw (e.1, e.2)
-    (site_told (HasNoRoom g.T.Target.reading g.T.Target.has_room) (g.T.Target.reading c.args.target.now) object c.read.new.object read c.in_err-find_sites.field-0.0 (c.in_err-find_sites.ensures.refused object read))
+    (site_told (HasNoRoom g.T.Target.reading g.T.Target.has_room g.T.Target.follows c.args.target.now) (g.T.Target.reading c.args.target.now) object c.read.new.object read c.in_err-find_sites.field-0.0 (c.in_err-find_sites.ensures.refused object read))
 
 pub number_all-requires : goal.number_all-requires
 number_all-requires g c =
@@ -28,7 +28,7 @@ pub returns-in_err-number_all-clause-refused : goal.returns-in_err-number_all-cl
 returns-in_err-number_all-clause-refused g c =
     let e = err_from_is_err_and c.from_residual-in_err-number_all.result c.from_residual-in_err-number_all.ensures.1 in
     rw (e.1, e.2)
-    (memory_told (HasNoRoom g.T.Target.reading g.T.Target.has_room) (g.T.Target.reading c.args.target.now) (reading c.args.object.now.tree) c.in_err-number_all.field-0.0 c.in_err-number_all.ensures.refused)
+    (memory_told (HasNoRoom g.T.Target.reading g.T.Target.has_room g.T.Target.follows c.args.target.now) (g.T.Target.reading c.args.target.now) (reading c.args.object.now.tree) c.in_err-number_all.field-0.0 c.in_err-number_all.ensures.refused)
 
 pub renumber-requires : goal.renumber-requires
 renumber-requires g c =
@@ -58,7 +58,7 @@ returns-clause-refused g c =
     let object = reading c.args.object.now.tree in
     let read = c.in_ok-read.ensures.read in
     let sited = c.in_ok-number_all.ensures.numbered object read (c.in_ok-find_sites.ensures.found object read) in
-    if_err c.land.result (landing_told (HasNoRoom g.T.Target.reading g.T.Target.has_room) base object)
+    if_err c.land.result (landing_told (HasNoRoom g.T.Target.reading g.T.Target.has_room g.T.Target.follows c.args.target.now) base object)
     (c.land.ensures.refused object (numbered_for base object c.read.new.object c.number_all.new.object c.renumber.new.object c.find_sites.new.landing.sites.items read sited (c.renumber.ensures _ sited.seen refl)))
 
 pub returns-clause-left : goal.returns-clause-left
@@ -67,5 +67,5 @@ returns-clause-left g c =
     let object = reading c.args.object.now.tree in
     let read = c.in_ok-read.ensures.read in
     let sited = c.in_ok-number_all.ensures.numbered object read (c.in_ok-find_sites.ensures.found object read) in
-    if_err c.land.result (landing_left (HasNoRoom g.T.Target.reading g.T.Target.has_room) base object (g.T.Target.reading c.land.new.target))
+    if_err c.land.result (landing_left (HasNoRoom g.T.Target.reading g.T.Target.has_room g.T.Target.follows c.args.target.now) base object (g.T.Target.reading c.land.new.target))
     (c.land.ensures.refused object (numbered_for base object c.read.new.object c.number_all.new.object c.renumber.new.object c.find_sites.new.landing.sites.items read sited (c.renumber.ensures _ sited.seen refl)))

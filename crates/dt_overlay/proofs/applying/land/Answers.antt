@@ -2,7 +2,12 @@ use Rattle.std.proofs.Common.{refl}
 use Rattle.std.proofs.lemmas.Result.{err_from_is_err_and}
 use Rattle.dt_overlay.proofs.CarriedOut.{seen_of, sited_on, may_land, shallow, carried, told_landing, told_symbols}
 use Rattle.dt_overlay_object.proofs.Results.{on_ok, if_err}
+use Rattle.dt_model.specs.Applied.{landed_symbols}
 use Rattle.dt_overlay_base.specs.Targets.{HasNoRoom}
+use Rattle.dt_overlay_base.proofs.Rooms.{behind}
+use Rattle.dt_overlay_landing.proofs.LandingNodes.{want_whole}
+use Rattle.dt_overlay_laws.proofs.Crowded.{symbols_more}
+use Rattle.dt_overlay_laws.specs.Objects.{symbols_in}
 use Rattle.dt_overlay.proofs.applying.land.Goals as goal
 
 pub land_all-requires : goal.land_all-requires
@@ -27,7 +32,7 @@ returns-in_err-land_all-clause-refused g c object n =
     let v = c.validity.ensures in
     let e = err_from_is_err_and c.from_residual.result c.from_residual.ensures.1 in
     rw (e.1, e.2)
-    (told_landing c.sited_is_applied.ensures c.fragments_are_merged.ensures base object o qs n v.valid v.within v.cells (HasNoRoom g.T.Target.reading g.T.Target.has_room) c.in_err-land_all.field-0.0
+    (told_landing c.sited_is_applied.ensures c.fragments_are_merged.ensures base object o qs n v.valid v.within v.cells (HasNoRoom g.T.Target.reading g.T.Target.has_room g.T.Target.follows c.args.target.now) c.in_err-land_all.field-0.0
     (c.in_err-land_all.ensures.refused (seen_of base object o qs n) n.end.sites
     (sited_on c.sited_is_applied.ensures c.fragments_are_merged.ensures base object o qs n v.valid v.within v.cells qs refl)))
 
@@ -73,7 +78,13 @@ returns-clause-refused g c object n =
     let merge = c.fragments_are_merged.ensures in
     let seen = seen_of base object o qs n in
     if_err c.set_symbols.result
-    (told_symbols law merge base object o qs n v.valid v.within v.cells (HasNoRoom g.T.Target.reading g.T.Target.has_room) (g.T.Target.reading c.land_all.new.target)
-    (c.in_ok-land_all.ensures.landed seen n.end.sites (sited_on law merge base object o qs n v.valid v.within v.cells qs refl)))
+    (λ fault want. told_symbols law merge base object o qs n v.valid v.within v.cells (HasNoRoom g.T.Target.reading g.T.Target.has_room g.T.Target.follows c.args.target.now) (g.T.Target.reading c.land_all.new.target)
+    (c.in_ok-land_all.ensures.landed seen n.end.sites (sited_on law merge base object o qs n v.valid v.within v.cells qs refl)) fault
+    (want_whole _ _ fault (symbols_more (HasNoRoom g.T.Target.reading g.T.Target.has_room g.T.Target.follows c.land_all.new.target) (HasNoRoom g.T.Target.reading g.T.Target.has_room g.T.Target.follows c.args.target.now)
+    (behind g.T.Target.reading g.T.Target.has_room g.T.Target.follows g.T.Target.follows_trans c.args.target.now c.land_all.new.target c.land_all.ensures.follows)
+    (landed_symbols object n.end.sites (symbols_in object)) (g.T.Target.reading c.land_all.new.target)) want))
     (c.set_symbols.ensures.refused seen n.end.sites (sited_on law merge base object o qs n v.valid v.within v.cells qs refl)
     (shallow law merge base object o qs n v.valid v.within v.cells))
+
+pub returns-clause-follows : goal.returns-clause-follows
+returns-clause-follows g c = g.T.Target.follows_trans c.args.target.now c.land_all.new.target c.set_symbols.new.target c.land_all.ensures.follows c.set_symbols.ensures.follows

@@ -7,6 +7,8 @@ use Rattle.dt_model.specs.Names.{IsNodeName}
 use Rattle.dt_flat.specs.Arena.{children, name_of}
 use Rattle.dt_overlay_laws.specs.Steps.{land_node, FullAtNode}
 use Rattle.dt_overlay_base.specs.Targets.{HasNoRoom}
+use Rattle.dt_overlay_base.proofs.Rooms.{behind}
+use Rattle.dt_overlay_laws.proofs.Crowded.{node_more}
 use Rattle.dt_overlay_landing.specs.Values.{with_kept, with_values}
 use Rattle.dt_overlay_landing.specs.Landed.{landed_at}
 use Rattle.dt_overlay_landing.proofs.ValuesKept.{children_with, name_with, length_with}
@@ -33,8 +35,8 @@ returns-in_err-set_properties-clause-refused g t c =
     let start = g.T.Target.reading c.args.target.now in
     let e = err_from_is_err_and c.from_residual.result c.from_residual.ensures.1 in
     rw (e.1, e.2)
-    (want_whole _ (FullAtNode (HasNoRoom g.T.Target.reading g.T.Target.has_room) q (landed_at numbers slots c.args.node) start) c.in_err-set_properties.field-0.0
-    (node_stuck (HasNoRoom g.T.Target.reading g.T.Target.has_room) numbers slots c.args.node q _ (map (with_kept c.args.values.now c.args.node) c.props.result) start (number_read c.args.object.now.brought.numbers.items c.args.node c.index.result.now (let lt = c.requires.node in omega (arith, lt, c.requires.numbers)) c.index.ensures)
+    (want_whole _ (FullAtNode (HasNoRoom g.T.Target.reading g.T.Target.has_room g.T.Target.follows c.args.target.now) q (landed_at numbers slots c.args.node) start) c.in_err-set_properties.field-0.0
+    (node_stuck (HasNoRoom g.T.Target.reading g.T.Target.has_room g.T.Target.follows c.args.target.now) numbers slots c.args.node q _ (map (with_kept c.args.values.now c.args.node) c.props.result) start (number_read c.args.object.now.brought.numbers.items c.args.node c.index.result.now (let lt = c.requires.node in omega (arith, lt, c.requires.numbers)) c.index.ensures)
     (properties_landed c.args.values.now c.args.node c.args.object.now.tree.slots c.props.result c.props.ensures)) c.in_err-set_properties.ensures.refused)
 
 pub loop-child-init : goal.loop-child-init
@@ -51,9 +53,10 @@ loop-child-init g t c =
     record {
       next = tt;
       ends = tt;
-      left = nodes_begin (HasNoRoom g.T.Target.reading g.T.Target.has_room) numbers slots node c.args.path.now c.into_iter-child-iterator.result _ (map (with_kept vs node) c.props.result) (g.T.Target.reading c.args.target.now) (g.T.Target.reading c.set_properties.new.target)
+      left = nodes_begin (HasNoRoom g.T.Target.reading g.T.Target.has_room g.T.Target.follows c.args.target.now) numbers slots node c.args.path.now c.into_iter-child-iterator.result _ (map (with_kept vs node) c.props.result) (g.T.Target.reading c.args.target.now) (g.T.Target.reading c.set_properties.new.target)
           all (number_read c.args.object.now.brought.numbers.items c.args.node c.index.result.now (let lt = c.requires.node in omega (arith, lt, c.requires.numbers)) c.index.ensures) (properties_landed vs node a.slots c.props.result c.props.ensures) c.in_ok-set_properties.ensures.landed
           c.requires.stands c.requires.may (subst (AllByRecursion (IsChildOf slots node)) (sym same) (still_children vs a.slots node (children a.slots node) (children_are a.slots node good below)));
+      follows = c.set_properties.ensures.follows;
     }
 
 pub returns-in_err-path-clause-refused : goal.returns-in_err-path-clause-refused
@@ -64,12 +67,13 @@ returns-in_err-path-clause-refused g t c =
     let name = c.name.result.now in
     let now = g.T.Target.reading c.loop-child.target in
     let whole = land_node q (landed_at numbers slots c.args.node) (g.T.Target.reading c.args.target.now) in
-    let crowded = FullAtNode (HasNoRoom g.T.Target.reading g.T.Target.has_room) q (landed_at numbers slots c.args.node) (g.T.Target.reading c.args.target.now) in
+    let crowded = FullAtNode (HasNoRoom g.T.Target.reading g.T.Target.has_room g.T.Target.follows c.args.target.now) q (landed_at numbers slots c.args.node) (g.T.Target.reading c.args.target.now) in
     let e = err_from_is_err_and c.from_residual-in_err-path.result c.from_residual-in_err-path.ensures.1 in
     let refused = c.in_err-path.ensures.refused in
-    let next = next_child (HasNoRoom g.T.Target.reading g.T.Target.has_room) numbers slots c.args.node q whole crowded c.loop-child.child-iterator c.next.new.self c.in-Some.child name (q ++ name ∷ []) now (with_child_at q name now)
+    let next = next_child (HasNoRoom g.T.Target.reading g.T.Target.has_room g.T.Target.follows c.args.target.now) numbers slots c.args.node q whole crowded c.loop-child.child-iterator c.next.new.self c.in-Some.child name (q ++ name ∷ []) now (with_child_at q name now)
     c.in-Some.ensures.steps (c.name.ensures ∙ sym (name_with c.args.values.now 0 c.args.object.now.tree.slots c.in-Some.child)) refl refl c.loop-child.invariant.left in
-    rw (e.1, e.2) (want_whole ((HasNoRoom g.T.Target.reading g.T.Target.has_room) now (with_child_at q name now)) crowded c.in_err-path.field-0.0 next.added refused)
+    rw (e.1, e.2) (want_whole ((HasNoRoom g.T.Target.reading g.T.Target.has_room g.T.Target.follows c.loop-child.target) now (with_child_at q name now)) crowded c.in_err-path.field-0.0
+    (λ full. next.added (behind g.T.Target.reading g.T.Target.has_room g.T.Target.follows g.T.Target.follows_trans c.args.target.now c.loop-child.target c.loop-child.invariant.follows now (with_child_at q name now) full)) refused)
 
 pub add_child-requires-clause-named : goal.add_child-requires-clause-named
 add_child-requires-clause-named g t c =
@@ -79,9 +83,9 @@ add_child-requires-clause-named g t c =
     let name = c.name.result.now in
     let now = g.T.Target.reading c.loop-child.target in
     let whole = land_node q (landed_at numbers slots c.args.node) (g.T.Target.reading c.args.target.now) in
-    let crowded = FullAtNode (HasNoRoom g.T.Target.reading g.T.Target.has_room) q (landed_at numbers slots c.args.node) (g.T.Target.reading c.args.target.now) in
+    let crowded = FullAtNode (HasNoRoom g.T.Target.reading g.T.Target.has_room g.T.Target.follows c.args.target.now) q (landed_at numbers slots c.args.node) (g.T.Target.reading c.args.target.now) in
     let is : name ≡ name_of slots c.in-Some.child = c.name.ensures ∙ sym (name_with c.args.values.now 0 c.args.object.now.tree.slots c.in-Some.child) in
-    let next = next_child (HasNoRoom g.T.Target.reading g.T.Target.has_room) numbers slots c.args.node q whole crowded c.loop-child.child-iterator c.next.new.self c.in-Some.child name (q ++ name ∷ []) now (with_child_at q name now)
+    let next = next_child (HasNoRoom g.T.Target.reading g.T.Target.has_room g.T.Target.follows c.args.target.now) numbers slots c.args.node q whole crowded c.loop-child.child-iterator c.next.new.self c.in-Some.child name (q ++ name ∷ []) now (with_child_at q name now)
     c.in-Some.ensures.steps is refl refl c.loop-child.invariant.left in
     subst IsNodeName (sym is) next.child.named
 
@@ -91,8 +95,8 @@ land-requires g t c κs within =
     let numbers = c.args.object.now.brought.numbers.items in
     let q = c.args.path.now in
     let whole = land_node q (landed_at numbers slots c.args.node) (g.T.Target.reading c.args.target.now) in
-    let crowded = FullAtNode (HasNoRoom g.T.Target.reading g.T.Target.has_room) q (landed_at numbers slots c.args.node) (g.T.Target.reading c.args.target.now) in
-    let next = next_child (HasNoRoom g.T.Target.reading g.T.Target.has_room) numbers slots c.args.node q whole crowded c.loop-child.child-iterator c.next.new.self c.in-Some.child c.name.result.now c.in_ok-path.path
+    let crowded = FullAtNode (HasNoRoom g.T.Target.reading g.T.Target.has_room g.T.Target.follows c.args.target.now) q (landed_at numbers slots c.args.node) (g.T.Target.reading c.args.target.now) in
+    let next = next_child (HasNoRoom g.T.Target.reading g.T.Target.has_room g.T.Target.follows c.args.target.now) numbers slots c.args.node q whole crowded c.loop-child.child-iterator c.next.new.self c.in-Some.child c.name.result.now c.in_ok-path.path
     (g.T.Target.reading c.loop-child.target) (g.T.Target.reading c.add_child.new.target)
     c.in-Some.ensures.steps (c.name.ensures ∙ sym (name_with c.args.values.now 0 c.args.object.now.tree.slots c.in-Some.child)) c.in_ok-path.ensures.path c.in_ok-path.ensures.added c.loop-child.invariant.left in
     let below = next.child.below in
@@ -107,12 +111,16 @@ returns-in_err-land-clause-refused g t c =
     let k = c.in-Some.child in
     let added = g.T.Target.reading c.add_child.new.target in
     let whole = land_node q (landed_at numbers slots c.args.node) (g.T.Target.reading c.args.target.now) in
-    let crowded = FullAtNode (HasNoRoom g.T.Target.reading g.T.Target.has_room) q (landed_at numbers slots c.args.node) (g.T.Target.reading c.args.target.now) in
+    let crowded = FullAtNode (HasNoRoom g.T.Target.reading g.T.Target.has_room g.T.Target.follows c.args.target.now) q (landed_at numbers slots c.args.node) (g.T.Target.reading c.args.target.now) in
     let e = err_from_is_err_and c.from_residual-in_err-land.result c.from_residual-in_err-land.ensures.1 in
     let refused = c.in_err-land.ensures.refused in
-    let next = next_child (HasNoRoom g.T.Target.reading g.T.Target.has_room) numbers slots c.args.node q whole crowded c.loop-child.child-iterator c.next.new.self k c.name.result.now c.in_ok-path.path (g.T.Target.reading c.loop-child.target) added
+    let next = next_child (HasNoRoom g.T.Target.reading g.T.Target.has_room g.T.Target.follows c.args.target.now) numbers slots c.args.node q whole crowded c.loop-child.child-iterator c.next.new.self k c.name.result.now c.in_ok-path.path (g.T.Target.reading c.loop-child.target) added
     c.in-Some.ensures.steps (c.name.ensures ∙ sym (name_with c.args.values.now 0 c.args.object.now.tree.slots c.in-Some.child)) c.in_ok-path.ensures.path c.in_ok-path.ensures.added c.loop-child.invariant.left in
-    rw (e.1, e.2) (want_whole (FullAtNode (HasNoRoom g.T.Target.reading g.T.Target.has_room) c.in_ok-path.path (landed_at numbers slots k) added) crowded c.in_err-land.field-0.0 next.landed refused)
+    let before = g.T.Target.follows_trans c.args.target.now c.loop-child.target c.add_child.new.target c.loop-child.invariant.follows c.add_child.ensures.follows in
+    rw (e.1, e.2)
+    (want_whole (FullAtNode (HasNoRoom g.T.Target.reading g.T.Target.has_room g.T.Target.follows c.add_child.new.target) c.in_ok-path.path (landed_at numbers slots k) added) crowded c.in_err-land.field-0.0
+    (λ full. next.landed (node_more (HasNoRoom g.T.Target.reading g.T.Target.has_room g.T.Target.follows c.add_child.new.target) (HasNoRoom g.T.Target.reading g.T.Target.has_room g.T.Target.follows c.args.target.now)
+    (behind g.T.Target.reading g.T.Target.has_room g.T.Target.follows g.T.Target.follows_trans c.args.target.now c.add_child.new.target before) c.in_ok-path.path (landed_at numbers slots k) added full)) refused)
 
 pub loop-child-preserved : goal.loop-child-preserved
 loop-child-preserved g t c =
@@ -120,11 +128,21 @@ loop-child-preserved g t c =
     let numbers = c.args.object.now.brought.numbers.items in
     let q = c.args.path.now in
     let whole = land_node q (landed_at numbers slots c.args.node) (g.T.Target.reading c.args.target.now) in
-    let crowded = FullAtNode (HasNoRoom g.T.Target.reading g.T.Target.has_room) q (landed_at numbers slots c.args.node) (g.T.Target.reading c.args.target.now) in
+    let crowded = FullAtNode (HasNoRoom g.T.Target.reading g.T.Target.has_room g.T.Target.follows c.args.target.now) q (landed_at numbers slots c.args.node) (g.T.Target.reading c.args.target.now) in
     record {
       next = tt;
       ends = tt;
-      left = nodes_step (HasNoRoom g.T.Target.reading g.T.Target.has_room) numbers slots c.args.node q whole crowded c.loop-child.child-iterator c.next.new.self c.in-Some.child c.name.result.now c.in_ok-path.path
+      left = nodes_step (HasNoRoom g.T.Target.reading g.T.Target.has_room g.T.Target.follows c.args.target.now) numbers slots c.args.node q whole crowded c.loop-child.child-iterator c.next.new.self c.in-Some.child c.name.result.now c.in_ok-path.path
           (g.T.Target.reading c.loop-child.target) (g.T.Target.reading c.add_child.new.target) (g.T.Target.reading c.land.new.target)
           c.in-Some.ensures.steps (c.name.ensures ∙ sym (name_with c.args.values.now 0 c.args.object.now.tree.slots c.in-Some.child)) c.in_ok-path.ensures.path c.in_ok-path.ensures.added c.in_ok-land.ensures.landed c.loop-child.invariant.left;
+      follows = g.T.Target.follows_trans c.args.target.now c.loop-child.target c.land.new.target c.loop-child.invariant.follows
+          (g.T.Target.follows_trans c.loop-child.target c.add_child.new.target c.land.new.target c.add_child.ensures.follows c.land.ensures.follows);
     }
+
+pub returns-in_err-path-clause-follows : goal.returns-in_err-path-clause-follows
+returns-in_err-path-clause-follows g t c = g.T.Target.follows_trans c.args.target.now c.loop-child.target c.add_child.new.target c.loop-child.invariant.follows c.add_child.ensures.follows
+
+pub returns-in_err-land-clause-follows : goal.returns-in_err-land-clause-follows
+returns-in_err-land-clause-follows g t c =
+    g.T.Target.follows_trans c.args.target.now c.loop-child.target c.land.new.target c.loop-child.invariant.follows
+    (g.T.Target.follows_trans c.loop-child.target c.add_child.new.target c.land.new.target c.add_child.ensures.follows c.land.ensures.follows)

@@ -13,7 +13,8 @@ abbrev pub invariant-loop-child : goal.invariant-loop-child
 invariant-loop-child g l = record {
   next : (goal.iterator-loop-child g).can_next l.child-iterator;
   ends : (goal.iterator-loop-child g).is_finite l.child-iterator;
-  left : NodesLeft (HasNoRoom g.T.Target.reading g.T.Target.has_room) l.object.brought.numbers.items (with_values l.values 0 l.object.tree.slots) l.node l.path l.child-iterator (g.T.Target.reading l.target)
+  left : NodesLeft (HasNoRoom g.T.Target.reading g.T.Target.has_room g.T.Target.follows l.fn.target) l.object.brought.numbers.items (with_values l.values 0 l.object.tree.slots) l.node l.path l.child-iterator (g.T.Target.reading l.target)
       (land_node l.path (landed_at l.object.brought.numbers.items (with_values l.values 0 l.object.tree.slots) l.node) (g.T.Target.reading l.fn.target))
-      (FullAtNode (HasNoRoom g.T.Target.reading g.T.Target.has_room) l.path (landed_at l.object.brought.numbers.items (with_values l.values 0 l.object.tree.slots) l.node) (g.T.Target.reading l.fn.target));
+      (FullAtNode (HasNoRoom g.T.Target.reading g.T.Target.has_room g.T.Target.follows l.fn.target) l.path (landed_at l.object.brought.numbers.items (with_values l.values 0 l.object.tree.slots) l.node) (g.T.Target.reading l.fn.target));
+  follows : g.T.Target.follows l.fn.target l.target;
 }

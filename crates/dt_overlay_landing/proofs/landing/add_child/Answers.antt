@@ -19,7 +19,7 @@ returns-in_err-add_node-clause-refused g c =
     let fresh : stands_in t (p ++ name ∷ []) ≡ false = ap (stands_in t) (sym c.in_ok-path.ensures.value) ∙ sym c.find.ensures ∙ c.if-not-find.true in
     let why : WhyNotAddedAt room c.in_err-add_node.field-0.0.kind t p name = subst (λ (x : List ℕ). WhyNotAddedAt room c.in_err-add_node.field-0.0.kind t p x) c.in_ok-new.ensures.value r.0 in
     rw (e.1, e.2)
-    (r.1, add_want room ((HasNoRoom g.T.Target.reading g.T.Target.has_room) t (with_child_at p name t)) t p name c.in_err-add_node.field-0.0.kind fresh c.requires.shallow (λ none. (c.args.target.now, refl, none)) why)
+    (r.1, add_want room ((HasNoRoom g.T.Target.reading g.T.Target.has_room g.T.Target.follows c.args.target.now) t (with_child_at p name t)) t p name c.in_err-add_node.field-0.0.kind fresh c.requires.shallow (λ none. (c.args.target.now, g.T.Target.follows_refl c.args.target.now, refl, none)) why)
 
 pub returns-clause-added : goal.returns-clause-added
 returns-clause-added g c =

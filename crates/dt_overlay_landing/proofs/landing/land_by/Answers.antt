@@ -52,5 +52,5 @@ returns-clause-refused g c seen found on =
     let said = all_said o c.args.values.now c.write_all.new.self c.write_all-2.new.self c.deref.result.now c.deref-2.result.now c.requires.none c.deref.ensures.value c.deref-2.ensures.value c.in_ok-write_all.ensures c.in_ok-write_all-2.ensures in
     if_err c.land_each.result
     (these_told o seen on.seen c.validity.ensures.valid c.validity.ensures.rooted c.validity.ensures.paths found c.args.sites.now on o.brought.numbers.items (with_values c.write_all-2.new.self 0 o.tree.slots) o.fragments.items
-    refl said refl (HasNoRoom g.T.Target.reading g.T.Target.has_room) (g.T.Target.reading c.args.target.now))
+    refl said refl (HasNoRoom g.T.Target.reading g.T.Target.has_room g.T.Target.follows c.args.target.now) (g.T.Target.reading c.args.target.now))
     c.land_each.ensures.refused

@@ -10,7 +10,8 @@ abbrev pub invariant-loop-fragment : goal.invariant-loop-fragment
 invariant-loop-fragment g l = record {
   next : (goal.iterator-loop-fragment g).can_next l.fragment-iterator;
   ends : (goal.iterator-loop-fragment g).is_finite l.fragment-iterator;
-  left : EachLeft (HasNoRoom g.T.Target.reading g.T.Target.has_room) l.object.brought.numbers.items (with_values l.values 0 l.object.tree.slots) (contents (iter_rest (zip_first l.fragment-iterator))) (iter_rest (zip_second l.fragment-iterator))
+  left : EachLeft (HasNoRoom g.T.Target.reading g.T.Target.has_room g.T.Target.follows l.fn.target) l.object.brought.numbers.items (with_values l.values 0 l.object.tree.slots) (contents (iter_rest (zip_first l.fragment-iterator))) (iter_rest (zip_second l.fragment-iterator))
       (g.T.Target.reading l.target) (land_each l.object.brought.numbers.items (with_values l.values 0 l.object.tree.slots) (contents l.object.fragments.items) l.sites (g.T.Target.reading l.fn.target))
-      (FullAtEach (HasNoRoom g.T.Target.reading g.T.Target.has_room) l.object.brought.numbers.items (with_values l.values 0 l.object.tree.slots) (contents l.object.fragments.items) l.sites (g.T.Target.reading l.fn.target));
+      (FullAtEach (HasNoRoom g.T.Target.reading g.T.Target.has_room g.T.Target.follows l.fn.target) l.object.brought.numbers.items (with_values l.values 0 l.object.tree.slots) (contents l.object.fragments.items) l.sites (g.T.Target.reading l.fn.target));
+  follows : g.T.Target.follows l.fn.target l.target;
 }

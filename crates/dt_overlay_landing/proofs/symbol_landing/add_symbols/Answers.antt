@@ -22,8 +22,8 @@ returns-clause-refused g c =
     IfErr-weaker c.add_node.result _ _
     (λ fault why. (
       why.1,
-      add_want (g.T.Target.has_room c.args.target.now) ((HasNoRoom g.T.Target.reading g.T.Target.has_room) t (with_child_at [] (codes "__symbols__") t)) t [] (codes "__symbols__") fault.kind fresh (omega arith)
-          (λ none. (c.args.target.now, refl, none))
+      add_want (g.T.Target.has_room c.args.target.now) ((HasNoRoom g.T.Target.reading g.T.Target.has_room g.T.Target.follows c.args.target.now) t (with_child_at [] (codes "__symbols__") t)) t [] (codes "__symbols__") fault.kind fresh (omega arith)
+          (λ none. (c.args.target.now, g.T.Target.follows_refl c.args.target.now, refl, none))
           (subst (λ (p : Path). WhyNotAddedAt (g.T.Target.has_room c.args.target.now) fault.kind t p (codes "__symbols__")) c.root-root.ensures
           (subst (λ (n : Name). WhyNotAddedAt (g.T.Target.has_room c.args.target.now) fault.kind t c.root-root.result n) name why.0)),
     )) c.add_node.ensures.refused

@@ -14,7 +14,8 @@ abbrev pub invariant-loop-symbol : goal.invariant-loop-symbol
 invariant-loop-symbol g l = record {
   kept : l.landing.sites ≡ l.fn.landing.sites;
   left : (read : Reading) (found : List Site) → AreToLand read found l.object.tree l.object.brought l.fn.landing.sites.items l.object.symbols.items →
-      LabelsLeft (HasNoRoom g.T.Target.reading g.T.Target.has_room) l.object.tree l.object.brought l.fn.landing.sites.items (drop l.symbol-index l.symbols) (g.T.Target.reading l.target)
+      LabelsLeft (HasNoRoom g.T.Target.reading g.T.Target.has_room g.T.Target.follows l.fn.target) l.object.tree l.object.brought l.fn.landing.sites.items (drop l.symbol-index l.symbols) (g.T.Target.reading l.target)
       (with_symbols_merged (landed_symbols read found (symbols_in read)) (g.T.Target.reading l.fn.target))
-      (FullAtSymbols (HasNoRoom g.T.Target.reading g.T.Target.has_room) (landed_symbols read found (symbols_in read)) (g.T.Target.reading l.fn.target));
+      (FullAtSymbols (HasNoRoom g.T.Target.reading g.T.Target.has_room g.T.Target.follows l.fn.target) (landed_symbols read found (symbols_in read)) (g.T.Target.reading l.fn.target));
+  follows : g.T.Target.follows l.fn.target l.target;
 }

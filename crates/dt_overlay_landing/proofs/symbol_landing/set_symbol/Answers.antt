@@ -54,6 +54,6 @@ returns-clause-refused g c path w =
     IfErr-weaker c.set_prop.result _ _
     (λ fault why. (
       why.1,
-      set_want room (HasNoRoom g.T.Target.reading g.T.Target.has_room t (with_property_at symbols label (path_value path) t)) t c.path-2.result.now c.in_ok-new.field-0 c.deref-3.result.now fault.kind may
-          (λ none. (c.args.target.now, refl, λ some. none (subst room (sym next) some))) why.0,
+      set_want room (HasNoRoom g.T.Target.reading g.T.Target.has_room g.T.Target.follows c.args.target.now t (with_property_at symbols label (path_value path) t)) t c.path-2.result.now c.in_ok-new.field-0 c.deref-3.result.now fault.kind may
+          (λ none. (c.args.target.now, g.T.Target.follows_refl c.args.target.now, refl, λ some. none (subst room (sym next) some))) why.0,
     )) c.set_prop.ensures.refused

@@ -27,6 +27,6 @@ returns-clause-set g c seen found on shallow =
 pub returns-clause-refused : goal.returns-clause-refused
 returns-clause-refused g c seen found on shallow =
     let o = c.args.object.now in
-    subst (λ (r : Reading). IfErr c.set_each_symbol.result (IsWant (FullAtSymbols (HasNoRoom g.T.Target.reading g.T.Target.has_room) (landed_symbols r found (symbols_in r)) (g.T.Target.reading c.args.target.now)))) on.seen.reads
+    subst (λ (r : Reading). IfErr c.set_each_symbol.result (IsWant (FullAtSymbols (HasNoRoom g.T.Target.reading g.T.Target.has_room g.T.Target.follows c.args.target.now) (landed_symbols r found (symbols_in r)) (g.T.Target.reading c.args.target.now)))) on.seen.reads
     (c.set_each_symbol.ensures.refused (reading o.tree) found
     (to_land o seen on.seen c.validity.ensures.valid c.validity.ensures.rooted c.validity.ensures.paths found c.args.landing.now.sites.items on shallow o.symbols.items refl))

@@ -16,7 +16,7 @@ returns-in_err-list_fixups-clause-refused g c =
     let a = c.args.object.now.tree in
     let e = err_from_is_err_and c.from_residual-in_err-list_fixups.result c.from_residual-in_err-list_fixups.ensures.1 in
     rw (e.1, e.2)
-    (label_told (HasNoRoom g.T.Target.reading g.T.Target.has_room) (g.T.Target.reading c.args.target.now) (reading a) c.in_err-list_fixups.field-0.0
+    (label_told (HasNoRoom g.T.Target.reading g.T.Target.has_room g.T.Target.follows c.args.target.now) (g.T.Target.reading c.args.target.now) (reading a) c.in_err-list_fixups.field-0.0
     (all_held a.slots (reading a) c.list_fragments.new.out.items (fragment_names (reading a).children) c.in_ok-list_fragments.ensures.listed) c.in_err-list_fixups.ensures.refused)
 
 pub returns-in_err-list_local_fixups-clause-refused : goal.returns-in_err-list_local_fixups-clause-refused
@@ -24,7 +24,7 @@ returns-in_err-list_local_fixups-clause-refused g c =
     let e = err_from_is_err_and c.from_residual-in_err-list_local_fixups.result c.from_residual-in_err-list_local_fixups.ensures.1 in
     let a = c.args.object.now.tree in
     rw (e.1, e.2)
-    (local_told (HasNoRoom g.T.Target.reading g.T.Target.has_room) (g.T.Target.reading c.args.target.now) (reading a) c.in_err-list_local_fixups.field-0.0
+    (local_told (HasNoRoom g.T.Target.reading g.T.Target.has_room g.T.Target.follows c.args.target.now) (g.T.Target.reading c.args.target.now) (reading a) c.in_err-list_local_fixups.field-0.0
     (all_held a.slots (reading a) c.list_fragments.new.out.items (fragment_names (reading a).children) c.in_ok-list_fragments.ensures.listed) c.in_ok-list_fixups.ensures.listed.well
     (c.in_err-list_local_fixups.ensures.refused [] c.bring_all.ensures.brought))
 
@@ -45,6 +45,6 @@ returns-clause-refused g c =
     let base = g.T.Target.reading c.args.target.now in
     let locals = c.in_ok-list_local_fixups.ensures.listed [] c.bring_all.ensures.brought in
     if_err c.list_symbols.result
-    (λ fault why. symbol_told (HasNoRoom g.T.Target.reading g.T.Target.has_room) base (reading a) fault
+    (λ fault why. symbol_told (HasNoRoom g.T.Target.reading g.T.Target.has_room g.T.Target.follows c.args.target.now) base (reading a) fault
     (all_held a.slots (reading a) c.list_fragments.new.out.items (fragment_names (reading a).children) c.in_ok-list_fragments.ensures.listed) c.in_ok-list_fixups.ensures.listed.well locals.well why)
     c.list_symbols.ensures.refused

@@ -18,7 +18,7 @@ returns-in_err-apply-clause-refused c =
     let why = c.in_err-apply.ensures.refused in
     rw (e.1, e.2)
     (read_not_applied (reading c.args.tree.now) (reading_of c.in_ok-object.object) c.args.input.now c.in_err-apply.field-0.0 read
-    (why.0, c.tree_room_is_counted.ensures c.in_err-apply.field-0.0.kind (reading c.args.tree.now) (reading_of c.in_ok-object.object) why.1))
+    (why.0, c.tree_room_is_counted.ensures c.in_err-apply.field-0.0.kind c.args.tree.now (reading c.args.tree.now) (reading_of c.in_ok-object.object) why.1))
 
 pub returns-clause-applied : goal.returns-clause-applied
 returns-clause-applied c = (
