@@ -142,8 +142,19 @@ cell_patched old new node name offset n e named has may p =
     (blocks_patched old w p.at p.size (12 + offset) (number old 8 + p.at + 12 + offset) e inside (omega arith) (omega arith)) in (
       own,
       kept,
-      token_set old new node name (value_patched old node name offset n) own [] p.at p.size e named may p.cut spelled (omega arith) blocks,
+      token_set old new (drop (size_of_blocks old (spliced p.at p.size own block) (strings_of old ++ [])) old) node name (value_patched old node name offset n) own [] p.at p.size e named may p.cut spelled (omega arith) blocks,
     )
+
+-- the blob is as long as it was
+pub cell_total : (old new own : List ℕ) (cut size : ℕ) (t : Reading) (root : Root) → IsEditable old → t.reservations ≡ (placed_of old).reservations → cut + size ≤ length (structure_of old) → length own ≡ size
+    → IsEdited new t root (spliced cut size own (structure_of old)) (strings_of old ++ []) → number new 4 ≡ number old 4
+cell_total old new own cut size t root e same inside kept done =
+    let total = (edits_of old e).blocks.total in
+    let longer = length_spliced cut size own (structure_of old) inside in
+    let names = ap (λ (x : List ℕ). length x) (append-nil (strings_of old)) in
+    let reserved = ap (λ rs. length (reservation_block rs)) same in
+    let now = done.is.total in
+    omega arith
 
 -- bytes that take the place of as many move nothing
 nothing_moves : (from size place : ℕ) → moved from size size place ≡ place

@@ -1,5 +1,5 @@
 -- A blob with a child added is read as the tree with that child.
-use Rattle.std.proofs.Common.{◌≡◌, ℕ, ◌+◌, ◌-◌, ◌%◌, ◌<◌, Bool, true, false, List, [], ◌∷◌, ◌++◌, length, drop, Option, Some, None, refl, sym, ap, subst, ◌∙◌, append_assoc, arith}
+use Rattle.std.proofs.Common.{◌≡◌, ℕ, ◌+◌, ◌-◌, ◌%◌, ◌<◌, Bool, true, false, List, [], ◌∷◌, ◌++◌, length, Option, Some, None, refl, sym, ap, subst, ◌∙◌, append_assoc, arith}
 use Rattle.std.specs.Option.{option_map}
 use Rattle.std.specs.Prelude.{is_some, option_and_then}
 use Rattle.std.specs.Str.{bytes_eq}
@@ -22,9 +22,9 @@ use Rattle.dt_read.proofs.Splices.{stays_there}
 use Rattle.dt_write.specs.Written.{zeros_after, assembled}
 use Rattle.dt_write.proofs.WrittenReads.{node_text}
 use Rattle.dt_edit.specs.declared.children.NodePlan.{NodePlan}
-use Rattle.dt_edit.specs.Editable.{reading_in, path_in, size_with_node, IsEditable, MayAddIn}
+use Rattle.dt_edit.specs.Editable.{reading_in, path_in, size_with_node, IsEditable, MayAddWithin}
 use Rattle.dt_edit.specs.Moving.{begin_bytes, node_bytes}
-use Rattle.dt_edit.specs.Plans.{size_of_blocks, HasOtherBlocks, IsNodePlan}
+use Rattle.dt_edit.specs.Plans.{IsNodePlan}
 use Rattle.dt_edit.proofs.Assembling.{edits_of, IsEdited, edited}
 use Rattle.dt_edit.proofs.Carrying.{length_node, length_spliced}
 use Rattle.dt_edit.proofs.PropertiesSet.{changed_reads, changed_places, place_in_root}
@@ -99,10 +99,10 @@ abbrev pub root_with_node : List ℕ → ℕ → ℕ → Name → Root
 root_with_node bytes node cut name =
     changed_root (with_node (number bytes 8 + cut) name) (path_in bytes node) (moved_root (moved (number bytes 8 + cut) 0 (length (node_bytes name))) (root_of bytes))
 
-pub node_added : (old new : List ℕ) (node : ℕ) (name : Name) (p : NodePlan) → IsEditable old → IsNode (placed_of old) node → IsNodeName name → MayAddIn old node name → IsNodePlan old node p
-    → HasOtherBlocks old new (spliced p.cut 0 (node_bytes name) (structure_of old)) (strings_of old ++ [])
+pub node_added : (old new rest : List ℕ) (node room : ℕ) (name : Name) (p : NodePlan) → IsEditable old → IsNode (placed_of old) node → IsNodeName name → MayAddWithin room old node name → IsNodePlan old node p
+    → new ≡ assembled (number old 28) (reservation_block (placed_of old).reservations) (spliced p.cut 0 (node_bytes name) (structure_of old)) (strings_of old ++ []) ++ rest
     → IsEdited new (with_child_at (path_in old node) name (reading_in old)) (root_with_node old node p.cut name) (spliced p.cut 0 (node_bytes name) (structure_of old)) (strings_of old ++ [])
-node_added old new node name p e at named may plan other =
+node_added old new rest node room name p e at named may plan other =
     let edits = edits_of old e in
     let path = path_in old node in
     let own : List ℕ = node_bytes name in
@@ -129,7 +129,6 @@ node_added old new node name p e at named may plan other =
     agree_below appends adds path (tree.root_of before) (λ m k. ap (λ (fs : Forest). record { properties = m.properties; children = fs }) (child_appended m.children name (fresh_sibling before path name m may.fresh k))) in
     let plain = reads ∙ same in
     let few = may.few in
-    let rest : List ℕ = drop (size_of_blocks old s n) old in
     let done = edited t root s n rest (valid_with_child before path name edits.valid named) (within_with_child before path name edits.within there may.fresh (omega arith) may.shallow) (omega arith)
     (sym (ap (λ (m : Node). m.properties) plain)) (sym (ap (λ (m : Node). m.children) plain)) (subst (λ (k : ℕ). SpellsRoot n k s root) structure_at spelled) in
     subst (λ (x : List ℕ). IsEdited x t root s n) (sym (other ∙ ap (λ (cpu : ℕ). assembled cpu (reservation_block (placed_of old).reservations) s n ++ rest) (sym edits.cpu))) done

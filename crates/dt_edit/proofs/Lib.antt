@@ -13,4 +13,5 @@ pub mod Opened
 pub mod Below
 pub mod NodeSizes
 pub mod ChildrenAdded
+pub mod GrownBlobs
 pub mod Outcomes

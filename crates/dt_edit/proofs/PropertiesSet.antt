@@ -1,5 +1,5 @@
 -- A blob with a property set is read as the tree with that property set.
-use Rattle.std.proofs.Common.{◌≡◌, ℕ, ◌+◌, ◌-◌, ◌%◌, ◌^◌, ◌<◌, ◌≤◌, List, [], ◌++◌, length, drop, Option, Some, None, refl, sym, ap, subst, ◌∙◌, arith}
+use Rattle.std.proofs.Common.{◌≡◌, ℕ, ◌+◌, ◌-◌, ◌%◌, ◌^◌, ◌<◌, ◌≤◌, List, [], ◌++◌, length, Option, Some, None, refl, sym, ap, subst, ◌∙◌, arith}
 use Rattle.std.specs.Option.{option_map}
 use Rattle.std.proofs.lemmas.List.{length-append, length-replicate, drop_at}
 use Rattle.dt_model.specs.Changes.{set_property, changed_below, with_property_at}
@@ -22,9 +22,9 @@ use Rattle.dt_write.specs.Written.{zeros_after, assembled}
 use Rattle.dt_write.proofs.Places.{sound}
 use Rattle.dt_write.proofs.WrittenReads.{property_text}
 use Rattle.dt_edit.specs.declared.properties.PropertyPlan.{PropertyPlan}
-use Rattle.dt_edit.specs.Editable.{reading_in, path_in, size_with_value, IsEditable, Fits}
+use Rattle.dt_edit.specs.Editable.{reading_in, path_in, size_with_value, IsEditable}
 use Rattle.dt_edit.specs.Moving.{property_bytes}
-use Rattle.dt_edit.specs.Plans.{brought_by, added_name, place_or, name_offset, size_of_blocks, HasOtherBlocks, IsPropertyPlan}
+use Rattle.dt_edit.specs.Plans.{brought_by, added_name, place_or, name_offset, IsPropertyPlan}
 use Rattle.dt_edit.proofs.Assembling.{edits_of, IsEdited, edited}
 use Rattle.dt_edit.proofs.Carrying.{length_property, length_spliced, length_brought, place_small}
 use Rattle.dt_edit.proofs.ValidChanges.{valid_with_property, within_with_property}
@@ -84,14 +84,14 @@ property_spelled bytes name value text short fits = record {
 
 -- ---- the blob
 
--- whatever token of the property comes there
-pub token_set : (old new : List ℕ) (node : ℕ) (name : Name) (value own more : List ℕ) (cut size : ℕ) → IsEditable old → IsPropertyName name → MaySetAt (reading_in old) (path_in old node) name value
+-- whatever token of the property comes there, and whatever is behind the blob
+pub token_set : (old new rest : List ℕ) (node : ℕ) (name : Name) (value own more : List ℕ) (cut size : ℕ) → IsEditable old → IsPropertyName name → MaySetAt (reading_in old) (path_in old node) name value
     → IsPropertyCut old node name cut size → SpellsProperty (strings_of old ++ more) (record { name = name; value = value }) own → number old 4 + length own + length more ≤ most_bytes + size
-    → HasOtherBlocks old new (spliced cut size own (structure_of old)) (strings_of old ++ more)
+    → new ≡ assembled (number old 28) (reservation_block (placed_of old).reservations) (spliced cut size own (structure_of old)) (strings_of old ++ more) ++ rest
     → IsEdited new (with_property_at (path_in old node) name value (reading_in old))
     (changed_root (with_value name value) (path_in old node) (moved_root (moved (number old 8 + cut) size (length own)) (root_of old)))
     (spliced cut size own (structure_of old)) (strings_of old ++ more)
-token_set old new node name value own more cut size e named may is token limit other =
+token_set old new rest node name value own more cut size e named may is token limit other =
     let edits = edits_of old e in
     let path = path_in old node in
     let f : ℕ → ℕ = moved (number old 8 + cut) size (length own) in
@@ -99,7 +99,6 @@ token_set old new node name value own more cut size e named may is token limit o
     let t : Reading = with_property_at path name value (reading_in old) in
     let s : List ℕ = spliced cut size own (structure_of old) in
     let n : List ℕ = strings_of old ++ more in
-    let rest : List ℕ = drop (size_of_blocks old s n) old in
     let place = edits.blocks.structure_at in
     let total = edits.blocks.total in
     let longer = length_spliced cut size own (structure_of old) is.behind.inside in
@@ -110,22 +109,21 @@ token_set old new node name value own more cut size e named may is token limit o
     (sym (ap (λ (m : Node). m.properties) reads)) (sym (ap (λ (m : Node). m.children) reads)) (subst (λ (k : ℕ). SpellsRoot n k s root) place spelled) in
     subst (λ (x : List ℕ). IsEdited x t root s n) (sym (other ∙ ap (λ (cpu : ℕ). assembled cpu (reservation_block (placed_of old).reservations) s n ++ rest) (sym edits.cpu))) done
 
-pub property_set : (old new : List ℕ) (node : ℕ) (name : Name) (value : List ℕ) (p : PropertyPlan) → IsEditable old → IsPropertyName name → MaySetAt (reading_in old) (path_in old node) name value
-    → IsPropertyPlan old node name p → Fits old (size_with_value old node name value)
-    → HasOtherBlocks old new (spliced p.cut.at p.cut.size (property_bytes (name_offset old name) value) (structure_of old)) (strings_of old ++ added_name old name)
+pub property_set : (old new rest : List ℕ) (node : ℕ) (name : Name) (value : List ℕ) (p : PropertyPlan) → IsEditable old → IsPropertyName name → MaySetAt (reading_in old) (path_in old node) name value
+    → IsPropertyPlan old node name p → size_with_value old node name value ≤ most_bytes
+    → new ≡ assembled (number old 28) (reservation_block (placed_of old).reservations) (spliced p.cut.at p.cut.size (property_bytes (name_offset old name) value) (structure_of old)) (strings_of old ++ added_name old name) ++ rest
     → IsEdited new (with_property_at (path_in old node) name value (reading_in old))
     (changed_root (with_value name value) (path_in old node) (moved_root (moved (number old 8 + p.cut.at) p.cut.size (length (property_bytes (name_offset old name) value))) (root_of old)))
     (spliced p.cut.at p.cut.size (property_bytes (name_offset old name) value) (structure_of old)) (strings_of old ++ added_name old name)
-property_set old new node name value p e named may plan fits other =
+property_set old new rest node name value p e named may plan limit other =
     let edits = edits_of old e in
     let own : List ℕ = property_bytes (name_offset old name) value in
     let wide = length_property (name_offset old name) value in
     let total = edits.blocks.total in
     let short = edits.short in
-    let limit = fits.limit in
     let taken = plan.cut.taken in
     let brought = length_brought (place_in (strings_of old) name) name in
-    token_set old new node name value own (added_name old name) p.cut.at p.cut.size e named may plan.cut (property_spelled old name value (property_text name named) (omega arith) (omega arith)) (omega arith) other
+    token_set old new rest node name value own (added_name old name) p.cut.at p.cut.size e named may plan.cut (property_spelled old name value (property_text name named) (omega arith) (omega arith)) (omega arith) other
 
 -- how long it then is
 pub property_total : (old new : List ℕ) (node : ℕ) (name : Name) (value : List ℕ) (p : PropertyPlan) (t : Reading) (root : Root) → IsEditable old → IsPropertyPlan old node name p → t.reservations ≡ (placed_of old).reservations

@@ -12,7 +12,7 @@ use Rattle.dt_model.specs.Tree.{Reading, stands_in, value_in}
 use Rattle.dt_model.specs.Valid.{node_count}
 use Rattle.dt_model_format.specs.Strings.{place_in}
 use Rattle.dt_names.specs.declared.fault.FaultKind.{FaultKind}
-use Rattle.dt_names.specs.declared.fault.FaultKind.TheVariants.{Limit, BlobPhandle, Duplicate}
+use Rattle.dt_names.specs.declared.fault.FaultKind.TheVariants.{NoMemory, Limit, BlobPhandle, Duplicate}
 use Rattle.dt_overlay_base.specs.Targets.{MaySetAt}
 use Rattle.dt_read.specs.Checked.{IsBlob, placed_of}
 use Rattle.dt_read.specs.Cuts.{property_size}
@@ -43,15 +43,30 @@ name_size (Some place) name = 0
 abbrev pub opened_size : List ℕ → ℕ
 opened_size bytes = 40 + length (reservation_block (placed_of bytes).reservations) + length (structure_of bytes) + length (strings_of bytes)
 
--- a blob of a size fits the bytes that there are, and the limit
-pub record Fits (bytes : List ℕ) (size : ℕ) : Type 0 where
-  pub room : size ≤ length bytes
+-- a blob of a size fits so many bytes, and the limit
+pub record FitsIn (bound size : ℕ) : Type 0 where
+  pub room : size ≤ bound
   pub limit : size ≤ most_bytes
+
+-- and the bytes that there are
+abbrev pub Fits : List ℕ → ℕ → Type 0
+Fits bytes size = FitsIn (length bytes) size
+
+-- At the front of the bytes is such a blob, and nothing is behind it.
+pub record IsWhole (bytes : List ℕ) : Type 0 where
+  pub editable : IsEditable bytes
+  pub whole : number bytes 4 ≡ length bytes
 
 -- a blob isn't copied: there is no room for it
 abbrev pub WhyNotOpened : FaultKind → List ℕ → ℕ → Type 0
 WhyNotOpened Limit bytes size = ¬ Fits bytes size
 WhyNotOpened _ bytes size = ⊥
+
+-- the same where bytes may become as many as a blob may have
+abbrev pub WhyNotOwned : FaultKind → ℕ → Type 0
+WhyNotOwned NoMemory size = size ≤ most_bytes
+WhyNotOwned Limit size = ¬ (size ≤ most_bytes)
+WhyNotOwned _ size = ⊥
 
 -- ---- a property
 
@@ -61,16 +76,28 @@ size_with_value bytes node name value =
     number bytes 4 + property_size (Some value) + name_size (place_in (strings_of bytes) name) name
     - property_size (value_in (reading_in bytes) (path_in bytes node) name)
 
--- the property is set
-pub record MaySetIn (bytes : List ℕ) (node : ℕ) (name : Name) (value : List ℕ) : Type 0 where
+-- the property is set, where there are so many bytes
+pub record MaySetWithin (room : ℕ) (bytes : List ℕ) (node : ℕ) (name : Name) (value : List ℕ) : Type 0 where
   pub may : MaySetAt (reading_in bytes) (path_in bytes node) name value
-  pub fits : Fits bytes (size_with_value bytes node name value)
+  pub fits : FitsIn room (size_with_value bytes node name value)
+
+abbrev pub MaySetIn : List ℕ → ℕ → Name → List ℕ → Type 0
+MaySetIn bytes node name value = MaySetWithin (length bytes) bytes node name value
 
 -- it isn't: it may not be; or else there is no room for it
+abbrev pub WhyNotSetWithin : ℕ → FaultKind → List ℕ → ℕ → Name → List ℕ → Type 0
+WhyNotSetWithin room BlobPhandle bytes node name value = ¬ MaySetAt (reading_in bytes) (path_in bytes node) name value
+WhyNotSetWithin room Limit bytes node name value =
+    MaySetAt (reading_in bytes) (path_in bytes node) name value × ¬ FitsIn room (size_with_value bytes node name value)
+WhyNotSetWithin room _ bytes node name value = ⊥
+
 abbrev pub WhyNotSetIn : FaultKind → List ℕ → ℕ → Name → List ℕ → Type 0
-WhyNotSetIn BlobPhandle bytes node name value = ¬ MaySetAt (reading_in bytes) (path_in bytes node) name value
-WhyNotSetIn Limit bytes node name value = MaySetAt (reading_in bytes) (path_in bytes node) name value × ¬ Fits bytes (size_with_value bytes node name value)
-WhyNotSetIn _ bytes node name value = ⊥
+WhyNotSetIn kind bytes node name value = WhyNotSetWithin (length bytes) kind bytes node name value
+
+-- the same where bytes may become as many as a blob may have: memory was refused for a property that may be set; or else it isn't for those reasons
+abbrev pub WhyNotSetOwned : FaultKind → List ℕ → ℕ → Name → List ℕ → Type 0
+WhyNotSetOwned NoMemory bytes node name value = MaySetWithin most_bytes bytes node name value
+WhyNotSetOwned kind bytes node name value = WhyNotSetWithin most_bytes kind bytes node name value
 
 -- ---- a cell
 
@@ -103,20 +130,32 @@ pub record IsOneCell (old new : List ℕ) (n : ℕ) : Type 0 where
 abbrev pub size_with_node : List ℕ → Name → ℕ
 size_with_node bytes name = number bytes 4 + padded (5 + length name) + 4
 
--- the child is added
-pub record MayAddIn (bytes : List ℕ) (node : ℕ) (name : Name) : Type 0 where
+-- the child is added, where there are so many bytes
+pub record MayAddWithin (room : ℕ) (bytes : List ℕ) (node : ℕ) (name : Name) : Type 0 where
   pub fresh : stands_in (reading_in bytes) (path_in bytes node ++ name ∷ []) ≡ false
   pub shallow : length (path_in bytes node) < most_names
   pub few : 1 + node_count (reading_in bytes).children < most_nodes
-  pub fits : Fits bytes (size_with_node bytes name)
+  pub fits : FitsIn room (size_with_node bytes name)
+
+abbrev pub MayAddIn : List ℕ → ℕ → Name → Type 0
+MayAddIn bytes node name = MayAddWithin (length bytes) bytes node name
 
 -- there is no room for it: its path would have more than 64 names, there would be more than 65,536 nodes, or the blob would be too long
-abbrev pub HasNoRoomFor : List ℕ → ℕ → Name → Type 0
-HasNoRoomFor bytes node name =
-    ¬ ((length (path_in bytes node) < most_names) × (1 + node_count (reading_in bytes).children < most_nodes)) ⊎ ¬ Fits bytes (size_with_node bytes name)
+abbrev pub HasNoRoomFor : ℕ → List ℕ → ℕ → Name → Type 0
+HasNoRoomFor room bytes node name =
+    ¬ ((length (path_in bytes node) < most_names) × (1 + node_count (reading_in bytes).children < most_nodes)) ⊎ ¬ FitsIn room (size_with_node bytes name)
 
 -- it isn't: it is there; or else there is no room for it
+abbrev pub WhyNotAddedWithin : ℕ → FaultKind → List ℕ → ℕ → Name → Type 0
+WhyNotAddedWithin room Duplicate bytes node name = stands_in (reading_in bytes) (path_in bytes node ++ name ∷ []) ≡ true
+WhyNotAddedWithin room Limit bytes node name =
+    (stands_in (reading_in bytes) (path_in bytes node ++ name ∷ []) ≡ false) × HasNoRoomFor room bytes node name
+WhyNotAddedWithin room _ bytes node name = ⊥
+
 abbrev pub WhyNotAddedIn : FaultKind → List ℕ → ℕ → Name → Type 0
-WhyNotAddedIn Duplicate bytes node name = stands_in (reading_in bytes) (path_in bytes node ++ name ∷ []) ≡ true
-WhyNotAddedIn Limit bytes node name = (stands_in (reading_in bytes) (path_in bytes node ++ name ∷ []) ≡ false) × HasNoRoomFor bytes node name
-WhyNotAddedIn _ bytes node name = ⊥
+WhyNotAddedIn kind bytes node name = WhyNotAddedWithin (length bytes) kind bytes node name
+
+-- the same where bytes may become as many as a blob may have
+abbrev pub WhyNotAddedOwned : FaultKind → List ℕ → ℕ → Name → Type 0
+WhyNotAddedOwned NoMemory bytes node name = MayAddWithin most_bytes bytes node name
+WhyNotAddedOwned kind bytes node name = WhyNotAddedWithin most_bytes kind bytes node name

@@ -1,7 +1,7 @@
 //! A node added: a plan, which looks, and its carrying out, which can't be refused.
 
 ghost use Rattle.std.specs.Prelude.{◌≡◌, ◌↔◌, ◌+◌, ◌<◌, ◌++◌, ◌∷◌, [], true, IsTrue, MatchOption, length};
-ghost use Rattle.dt_edit.specs.Editable.{reading_in, path_in, size_with_node, IsEditable, Fits};
+ghost use Rattle.dt_edit.specs.Editable.{reading_in, path_in, size_with_node, IsEditable, FitsIn};
 ghost use Rattle.dt_edit.specs.Moving.{node_bytes};
 ghost use Rattle.dt_edit.specs.Plans.{HasOtherBlocks, IsNodePlan, HasNodeRoom};
 ghost use Rattle.dt_model.specs.Checks.{strings_of, structure_of};
@@ -62,20 +62,21 @@ pub(crate) fn has_room_below(bytes: &[u8], node: NodeId) -> bool
     may_grow(bytes) && depth_of(&Blob::of(bytes, Seed::fixed()), node) < MOST_NAMES
 }
 
-/// Where a node is added: the blob's layout, and the offset of its parent's END_NODE in the structure block.
+/// Where a node is added: the blob's layout, the offset of its parent's END_NODE in the structure block, and how long the blob then is.
 #[derive(Clone, Copy)]
 pub(crate) struct NodePlan {
     pub layout: Layout,
     pub cut: usize,
+    pub size: usize,
 }
 
-/// How a child is added to a node; None where the blob would not fit.
-pub(crate) fn plan_node(bytes: &[u8], node: NodeId, name: &[u8]) -> Option<NodePlan>
+/// How a child is added to a node; None where the blob would not fit so many bytes.
+pub(crate) fn plan_node(bytes: &[u8], room: usize, node: NodeId, name: &[u8]) -> Option<NodePlan>
     requires editable { IsEditable bytes.now }
     requires node { IsNode (placed_of bytes.now) node }
     requires name { length name.now < 256 }
-    ensures { MatchOption result (¬ Fits bytes.now (size_with_node bytes.now name.now)) (λ plan.
-        IsNodePlan bytes.now node plan × Fits bytes.now (size_with_node bytes.now name.now)) }
+    ensures { MatchOption result (¬ FitsIn room (size_with_node bytes.now name.now)) (λ plan.
+        IsNodePlan bytes.now node plan × (plan.size ≡ size_with_node bytes.now name.now) × FitsIn room (size_with_node bytes.now name.now)) }
 {
     let layout = layout_of(bytes);
     let size = layout.structure_at
@@ -83,11 +84,11 @@ pub(crate) fn plan_node(bytes: &[u8], node: NodeId, name: &[u8]) -> Option<NodeP
         + layout.strings
         + padded_len(5 + name.len())
         + 4;
-    if size > bytes.len() || size > MOST_BYTES {
+    if size > room || size > MOST_BYTES {
         return None;
     }
     let cut = end_cut(bytes, node);
-    Some(NodePlan { layout, cut })
+    Some(NodePlan { layout, cut, size })
 }
 
 /// Adds a node as it was planned.
@@ -96,7 +97,7 @@ pub(crate) fn carry_out(bytes: &mut [u8], plan: &NodePlan, name: &[u8])
     requires room { HasNodeRoom bytes.old plan.now name.now }
     ensures { HasOtherBlocks bytes.old bytes.new (spliced plan.now.cut 0 (node_bytes name.now) (structure_of bytes.old)) (strings_of bytes.old ++ []) }
 {
-    let NodePlan { layout, cut } = *plan;
+    let NodePlan { layout, cut, .. } = *plan;
     let own = padded_len(5 + name.len()) + 4;
     let span = Span {
         at: layout.structure_at + cut,

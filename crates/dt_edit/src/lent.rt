@@ -6,6 +6,7 @@ ghost use Rattle.dt_edit.specs.Editable.{MayAddIn, MayPatchIn, MaySetIn, WhyNotA
 ghost use Rattle.dt_edit.specs.Plans.{added_name};
 ghost use Rattle.dt_model.specs.Changes.{with_child_at, with_property_at};
 ghost use Rattle.dt_model.specs.Checks.{number, strings_of};
+ghost use Rattle.dt_model.specs.Checks.{number as header_number};
 ghost use Rattle.dt_model.specs.Path.{Path};
 ghost use Rattle.dt_read.specs.Checked.{placed_of};
 ghost use Rattle.dt_read.specs.Placed.{IsAt, IsNode};
@@ -48,7 +49,8 @@ pub fn set_prop(
     if !may_set(bytes, node, key, value) {
         return Err(Fault::of(FaultKind::BlobPhandle));
     }
-    let Some(plan) = plan_property(bytes, node, key, value) else {
+    let room = bytes.len();
+    let Some(plan) = plan_property(bytes, room, node, key, value) else {
         return Err(Fault::of(FaultKind::Limit));
     };
     carry_out(bytes, &plan, key, value);
@@ -84,7 +86,8 @@ pub fn add_node(bytes: &mut [u8], parent: NodeId, name: &NodeName<'_>) -> Result
     if !has_room_below(bytes, parent) {
         return Err(Fault::of(FaultKind::Limit));
     }
-    let Some(plan) = plan_node(bytes, parent, key) else {
+    let room = bytes.len();
+    let Some(plan) = plan_node(bytes, room, parent, key) else {
         return Err(Fault::of(FaultKind::Limit));
     };
     children::carry_out(bytes, &plan, key);
@@ -113,6 +116,7 @@ pub fn patch_cell(
         ≡ with_property_at (path_in bytes.old node) name.now (value_patched bytes.old node name.now offset number) (reading_in bytes.old)) }
     ensures places { IsOk result → (path : Path) (place : ℕ) → IsAt (placed_of bytes.old) path place → IsAt (placed_of bytes.new) path place }
     ensures strings { OnOk result (strings_of bytes.new ≡ strings_of bytes.old) }
+    ensures size { OnOk result (header_number bytes.new 4 ≡ header_number bytes.old 4) }
     ensures cell { IsOk result → IsOneCell bytes.old bytes.new number }
     ensures allowed { IsOk result → MayPatchIn bytes.old node name.now offset number }
     ensures err { OnErr result (bytes.new ≡ bytes.old) }

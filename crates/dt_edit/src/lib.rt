@@ -1,5 +1,5 @@
 //! Blobs edited where they lie, as a boot loader does (libfdt's `fdt_open_into`, `fdt_setprop` and `fdt_add_subnode`): a property set, a node
-//! added, a cell patched in the flat bytes, in a buffer that the caller lends. Takes no memory.
+//! added, a cell patched in the flat bytes, in a buffer that the caller lends. Takes no memory. A [`BlobBuf`] has bytes of its own, which grow.
 #![tactic(auto)]
 
 mod cells;
@@ -10,6 +10,7 @@ mod lent;
 mod moving;
 mod names;
 mod opening;
+mod owned;
 mod phandles;
 mod properties;
 
@@ -17,3 +18,4 @@ pub use cells::has_cell;
 pub use laws::one_outcome;
 pub use lent::{add_node, patch_cell, set_prop};
 pub use opening::open_into;
+pub use owned::BlobBuf;

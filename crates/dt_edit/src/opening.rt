@@ -24,6 +24,15 @@ fn put_blocks(bytes: &mut [u8], reservations: &[u8], structure: &[u8], strings: 
     put_bytes(bytes, structure_at + structure.len(), strings);
 }
 
+/// How long a blob is with its blocks one behind the other.
+pub(crate) fn opened_size(blob: &[u8]) -> usize
+    requires { IsBlob blob.now }
+    ensures { result ≡ opened_size blob.now }
+{
+    let reservations = reservation_bytes(blob).len();
+    HEADER_SIZE + reservations + structure_bytes(blob).len() + strings_bytes(blob).len()
+}
+
 /// Copies a blob that was checked to the front of a buffer, its blocks one behind the other, where it can be edited. It reads as before; a NOP stays
 /// one. Version 17, last compatible version 16 (Devicetree Specification v0.4, 5.2). The bytes behind it stay. Takes no memory.
 ///

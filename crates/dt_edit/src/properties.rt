@@ -1,7 +1,7 @@
 //! A property set: a plan, which looks, and its carrying out, which can't be refused.
 
-ghost use Rattle.std.specs.Prelude.{◌<◌, ◌++◌, MatchOption, length};
-ghost use Rattle.dt_edit.specs.Editable.{size_with_value, IsEditable, Fits};
+ghost use Rattle.std.specs.Prelude.{◌≡◌, ◌<◌, ◌++◌, MatchOption, length};
+ghost use Rattle.dt_edit.specs.Editable.{size_with_value, IsEditable, FitsIn};
 ghost use Rattle.dt_edit.specs.Moving.{property_bytes};
 ghost use Rattle.dt_edit.specs.Plans.{added_name, name_offset, HasOtherBlocks, IsPropertyPlan, HasPropertyRoom};
 ghost use Rattle.dt_model.specs.Checks.{strings_of, structure_of};
@@ -16,17 +16,20 @@ use dt_names::limits::MOST_BYTES;
 use dt_read::{Cut, NodeId, property_cut};
 use dt_write::set_header;
 
-/// Where a property is set: the blob's layout, the bytes of the structure block that go, and where the strings hold the name, if they do.
+/// Where a property is set: the blob's layout, the bytes of the structure block that go, where the strings hold the name, if they do, and how long
+/// the blob then is.
 #[derive(Clone, Copy)]
 pub(crate) struct PropertyPlan {
     layout: Layout,
     cut: Cut,
     place: Option<usize>,
+    pub size: usize,
 }
 
-/// How a node's property is set; None where the blob would not fit.
+/// How a node's property is set; None where the blob would not fit so many bytes.
 pub(crate) fn plan_property(
     bytes: &[u8],
+    room: usize,
     node: NodeId,
     name: &[u8],
     value: &[u8],
@@ -34,8 +37,9 @@ pub(crate) fn plan_property(
     requires editable { IsEditable bytes.now }
     requires node { IsNode (placed_of bytes.now) node }
     requires name { length name.now < 256 }
-    ensures { MatchOption result (¬ Fits bytes.now (size_with_value bytes.now node name.now value.now)) (λ plan.
-        IsPropertyPlan bytes.now node name.now plan × Fits bytes.now (size_with_value bytes.now node name.now value.now)) }
+    ensures { MatchOption result (¬ FitsIn room (size_with_value bytes.now node name.now value.now)) (λ plan.
+        IsPropertyPlan bytes.now node name.now plan × (plan.size ≡ size_with_value bytes.now node name.now value.now)
+        × FitsIn room (size_with_value bytes.now node name.now value.now)) }
 {
     let layout = layout_of(bytes);
     let cut = property_cut(bytes, node, name);
@@ -49,10 +53,15 @@ pub(crate) fn plan_property(
     };
     let total = layout.structure_at + layout.structure + layout.strings;
     let size = total + padded_len(12 + value.len()) + added - cut.size;
-    if size > bytes.len() || size > MOST_BYTES {
+    if size > room || size > MOST_BYTES {
         return None;
     }
-    Some(PropertyPlan { layout, cut, place })
+    Some(PropertyPlan {
+        layout,
+        cut,
+        place,
+        size,
+    })
 }
 
 /// Sets a property as it was planned.
@@ -63,7 +72,12 @@ pub(crate) fn carry_out(bytes: &mut [u8], plan: &PropertyPlan, name: &[u8], valu
         (spliced plan.now.cut.at plan.now.cut.size (property_bytes (name_offset bytes.old name.now) value.now) (structure_of bytes.old))
         (strings_of bytes.old ++ added_name bytes.old name.now) }
 {
-    let PropertyPlan { layout, cut, place } = *plan;
+    let PropertyPlan {
+        layout,
+        cut,
+        place,
+        ..
+    } = *plan;
     let end = layout.structure_at + layout.structure + layout.strings;
     let own = padded_len(12 + value.len());
     let offset = place.unwrap_or(layout.strings);

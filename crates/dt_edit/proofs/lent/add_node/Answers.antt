@@ -20,14 +20,14 @@ may c = record {
   fresh = false_from_ne_true (stands_in (reading_in c.args.bytes.now) (path_in c.args.bytes.now c.args.parent ++ c.as_bytes-key.result.now ∷ [])) (λ h. true≢false (sym (c.has_child.ensures.1 h) ∙ c.if-has_child.false));
   shallow = (c.has_room_below.ensures.0 c.if-not-has_room_below.false).0;
   few = (c.has_room_below.ensures.0 c.if-not-has_room_below.false).1;
-  fits = c.in-Some.ensures.1;
+  fits = c.in-Some.ensures.2;
 }
 
 -- what the bytes are then
 done : (c : goal.After-slice_known-2-1) → (let old = c.args.bytes.now in let key = c.as_bytes-key.result.now in let cut = c.in-Some.plan.cut in
     IsEdited c.carry_out.new.bytes (with_child_at (path_in old c.args.parent) key (reading_in old)) (root_with_node old c.args.parent cut key) (spliced cut 0 (node_bytes key) (structure_of old)) (strings_of old ++ []))
 done c =
-    node_added c.args.bytes.now c.carry_out.new.bytes c.args.parent c.as_bytes-key.result.now c.in-Some.plan c.requires.editable c.requires.parent
+    node_added c.args.bytes.now c.carry_out.new.bytes _ c.args.parent _ c.as_bytes-key.result.now c.in-Some.plan c.requires.editable c.requires.parent
     (subst IsNodeName (sym c.as_bytes-key.ensures.value) c.as_bytes-key.ensures.valid) (may c) c.in-Some.ensures.0 c.carry_out.ensures
 
 -- where the node is

@@ -1,4 +1,4 @@
-use Rattle.std.proofs.Common.{◌≡◌, ◌+◌, ◌++◌, [], List, ℕ, length, sym, ap, subst, ◌∙◌}
+use Rattle.std.proofs.Common.{◌≡◌, ◌+◌, ◌++◌, [], List, ℕ, length, refl, sym, ap, subst, ◌∙◌}
 use Rattle.std.proofs.lemmas.List.{append-nil}
 use Rattle.dt_model.specs.Changes.{with_property_at}
 use Rattle.dt_model.specs.Checks.{number, strings_of, structure_of}
@@ -7,7 +7,7 @@ use Rattle.dt_read.specs.Checked.{root_of}
 use Rattle.dt_read.specs.Cuts.{changed_root, with_value, moved, moved_root, spliced}
 use Rattle.dt_edit.specs.Editable.{reading_in, path_in, value_patched, HasCellAt, MayPatchIn}
 use Rattle.dt_edit.proofs.Assembling.{IsEdited}
-use Rattle.dt_edit.proofs.CellsPatched.{cell_patched, cell_places}
+use Rattle.dt_edit.proofs.CellsPatched.{cell_patched, cell_places, cell_total}
 use Rattle.dt_edit.proofs.lent.patch_cell.Goals as goal
 
 pub patch-requires-clause-cell : goal.patch-requires-clause-cell
@@ -53,3 +53,13 @@ returns-clause-strings c = (done c).2.is.strings ∙ append-nil (strings_of c.ar
 
 pub returns-clause-allowed : goal.returns-clause-allowed
 returns-clause-allowed c = λ _. subst (λ (n : Name). MayPatchIn c.args.bytes.now c.args.node n c.args.offset c.args.number) c.as_bytes-key.ensures.value (may c)
+
+pub returns-clause-size : goal.returns-clause-size
+returns-clause-size c =
+    let old = c.args.bytes.now in
+    let key = c.as_bytes-key.result.now in
+    let p = c.patch.ensures in
+    let d = done c in
+    let value = value_patched old c.args.node key c.args.offset c.args.number in
+    cell_total old c.patch.new.bytes d.0 p.at p.size (with_property_at (path_in old c.args.node) key value (reading_in old))
+    (changed_root (with_value key value) (path_in old c.args.node) (moved_root (moved (number old 8 + p.at) p.size (length d.0)) (root_of old))) c.requires.editable refl p.cut.behind.inside d.1 d.2

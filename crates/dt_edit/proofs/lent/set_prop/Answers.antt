@@ -17,8 +17,8 @@ done : (c : goal.After-slice_known-2-1) → (let old = c.args.bytes.now in let k
     (changed_root (with_value key c.args.value.now) (path_in old c.args.node) (moved_root (moved (number old 8 + cut.at) cut.size (length own)) (root_of old)))
     (spliced cut.at cut.size own (structure_of old)) (strings_of old ++ added_name old key))
 done c =
-    property_set c.args.bytes.now c.carry_out.new.bytes c.args.node c.as_bytes-key.result.now c.args.value.now c.in-Some.plan c.requires.editable
-    (subst IsPropertyName (sym c.as_bytes-key.ensures.value) c.as_bytes-key.ensures.valid) (c.may_set.ensures.0 c.if-not-may_set.false) c.in-Some.ensures.0 c.in-Some.ensures.1 c.carry_out.ensures
+    property_set c.args.bytes.now c.carry_out.new.bytes _ c.args.node c.as_bytes-key.result.now c.args.value.now c.in-Some.plan c.requires.editable
+    (subst IsPropertyName (sym c.as_bytes-key.ensures.value) c.as_bytes-key.ensures.valid) (c.may_set.ensures.0 c.if-not-may_set.false) c.in-Some.ensures.0 c.in-Some.ensures.2.limit c.carry_out.ensures
 
 pub returns-clause-editable : goal.returns-clause-editable
 returns-clause-editable c = (done c).is.editable

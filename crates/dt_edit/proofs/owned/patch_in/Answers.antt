@@ -1,0 +1,31 @@
+use Rattle.std.proofs.Common.{◌≡◌, ◌++◌, ℕ, List, length, take, drop, sym, ap, subst, ◌∙◌, arith}
+use Rattle.dt_read.specs.Checked.{placed_of}
+use Rattle.dt_read.specs.Placed.{IsAt}
+use Rattle.dt_edit.specs.Editable.{IsOneCell, IsWhole, MayPatchIn}
+use Rattle.dt_edit.proofs.GrownBlobs.{still_whole, written}
+use Rattle.dt_edit.proofs.owned.patch_in.Goals as goal
+
+end : (c : goal.After-bytes-1) → take c.args.bytes.now.len (c.patch_cell.new.bytes ++ drop (length c.patch_cell.new.bytes) c.args.bytes.now.items) ≡ c.patch_cell.new.bytes
+end c =
+    written c.args.bytes.now.items c.patch_cell.new.bytes c.args.bytes.now.len (ap (λ (b : List ℕ). length b) (sym c.deref_mut.ensures.value) ∙ c.deref_mut.ensures.len)
+    (omega (arith, c.patch_cell.auto.bytes, ap (λ (b : List ℕ). length b) c.deref_mut.ensures.value))
+
+pub returns-clause-whole : goal.returns-clause-whole
+returns-clause-whole c =
+    let old = c.deref_mut.result.now in
+    subst IsWhole (sym (end c))
+    (still_whole c.patch_cell.result old c.patch_cell.new.bytes (subst IsWhole (sym c.deref_mut.ensures.value) c.requires.whole) c.patch_cell.auto.bytes c.patch_cell.ensures.editable c.patch_cell.ensures.size c.patch_cell.ensures.err)
+
+pub returns-clause-places : goal.returns-clause-places
+returns-clause-places c = λ ok path place at.
+    subst (λ (b : List ℕ). IsAt (placed_of b) path place) (sym (end c))
+    (c.patch_cell.ensures.places ok path place (subst (λ (b : List ℕ). IsAt (placed_of b) path place) (sym c.deref_mut.ensures.value) at))
+
+pub returns-clause-cell : goal.returns-clause-cell
+returns-clause-cell c = λ ok.
+    subst (λ (b : List ℕ). IsOneCell c.args.bytes.now.items b c.args.number) (sym (end c))
+    (subst (λ (b : List ℕ). IsOneCell b c.patch_cell.new.bytes c.args.number) c.deref_mut.ensures.value (c.patch_cell.ensures.cell ok))
+
+pub returns-clause-allowed : goal.returns-clause-allowed
+returns-clause-allowed c = λ ok.
+    subst (λ (b : List ℕ). MayPatchIn b c.args.node c.args.name.now c.args.offset c.args.number) c.deref_mut.ensures.value (c.patch_cell.ensures.allowed ok)
