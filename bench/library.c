@@ -88,6 +88,7 @@ static void measure(void)
 	case 'o': dtool_open_into(blob, len, edited, room, &fault); break;
 	case 's': dtool_set_prop(edited, room, last, "phandle", 7, (const uint8_t *)"\0\0\xff\xff", 4, &fault); break;
 	case 'a': dtool_add_node(edited, room, last, "child", 5, &found, &fault); break;
+	case 'w': dtool_patch_cell(edited, room, dtool_root(edited, room), "#address-cells", 14, 0, 2, &fault); break;
 	}
 }
 
@@ -95,6 +96,7 @@ static void stack(void)
 {
 	static const char *const stacks[] = {
 		"check", "node_at", "by_phandle", "parent", "value", "text of the path", "region", "interrupt's route", "open_into", "set_prop", "add_node",
+		"write of a cell",
 	};
 	struct dtool_fault fault;
 

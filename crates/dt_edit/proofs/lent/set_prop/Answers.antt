@@ -4,7 +4,7 @@ use Rattle.dt_model.specs.Checks.{number, strings_of, structure_of}
 use Rattle.dt_model.specs.Names.{Name, IsPropertyName}
 use Rattle.dt_read.specs.Checked.{root_of}
 use Rattle.dt_read.specs.Cuts.{changed_root, with_value, moved, moved_root, spliced}
-use Rattle.dt_edit.specs.Editable.{reading_in, path_in, size_with_value}
+use Rattle.dt_edit.specs.Editable.{reading_in, path_in, size_with_value, MaySetIn}
 use Rattle.dt_edit.specs.Moving.{property_bytes}
 use Rattle.dt_edit.specs.Plans.{added_name, name_offset}
 use Rattle.dt_edit.proofs.Assembling.{IsEdited, behind_kept}
@@ -57,3 +57,7 @@ returns-clause-behind c =
     let cut = c.in-Some.plan.cut in
     behind_kept old c.carry_out.new.bytes (spliced cut.at cut.size (property_bytes (name_offset old key) c.args.value.now) (structure_of old)) (strings_of old ++ added_name old key)
     (number c.carry_out.new.bytes 4) c.carry_out.ensures (done c).is.total
+
+pub returns-clause-allowed : goal.returns-clause-allowed
+returns-clause-allowed c = λ _.
+    subst (λ (n : Name). MaySetIn c.args.bytes.now c.args.node n c.args.value.now) c.as_bytes-key.ensures.value (record { may = c.may_set.ensures.0 c.if-not-may_set.false; fits = c.in-Some.ensures.2 })

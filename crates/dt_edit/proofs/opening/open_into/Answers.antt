@@ -34,3 +34,6 @@ returns-clause-behind c =
     omega (arith, total, ap (λ (x : List ℕ). length x) c.reservation_bytes-reservations.ensures, ap (λ (x : List ℕ). length x) c.structure_bytes-structure.ensures, ap (λ (x : List ℕ). length x) c.strings_bytes-strings.ensures) in
     behind_opened (header c.number-boot_cpu.result (length r) (length s) (length n)) r s n c.args.bytes.now c.put_blocks.new.bytes c.set_header.new.bytes (number c.set_header.new.bytes 4) refl
     (omega (arith, c.if-size-bytes.false)) c.put_blocks.ensures c.set_header.ensures size
+
+pub returns-clause-size : goal.returns-clause-size
+returns-clause-size c = (done c).total

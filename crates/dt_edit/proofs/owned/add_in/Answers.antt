@@ -146,3 +146,6 @@ returns-clause-strings c = ap strings_of (end c) ∙ (done c).is.is.strings ∙ 
 
 pub returns-clause-allowed : goal.returns-clause-allowed
 returns-clause-allowed c = λ _. subst (λ (n : Name). MayAddWithin most_bytes c.args.bytes.now.items c.args.parent n) c.as_bytes-key.ensures.value (may c)
+
+pub returns-clause-size : goal.returns-clause-size
+returns-clause-size c = ap (λ (b : List ℕ). length b) (end c) ∙ (done c).long ∙ (planned c).1 ∙ ap (size_with_node c.args.bytes.now.items) c.as_bytes-key.ensures.value

@@ -1,7 +1,9 @@
 use Rattle.std.proofs.Common.{◌≡◌, ◌++◌, ℕ, List, length, take, drop, sym, ap, subst, ◌∙◌, arith}
 use Rattle.dt_read.specs.Checked.{placed_of}
 use Rattle.dt_read.specs.Placed.{IsAt}
-use Rattle.dt_edit.specs.Editable.{IsOneCell, IsWhole, MayPatchIn}
+use Rattle.std.proofs.lemmas.Result.{on_ok_weaker, on_err_weaker, IfErr-weaker}
+use Rattle.dt_model.specs.Changes.{with_property_at}
+use Rattle.dt_edit.specs.Editable.{reading_in, path_in, value_patched, IsOneCell, IsWhole, MayPatchIn, WhyNotPatchedIn}
 use Rattle.dt_edit.proofs.GrownBlobs.{still_whole, written}
 use Rattle.dt_edit.proofs.owned.patch_in.Goals as goal
 
@@ -29,3 +31,18 @@ returns-clause-cell c = λ ok.
 pub returns-clause-allowed : goal.returns-clause-allowed
 returns-clause-allowed c = λ ok.
     subst (λ (b : List ℕ). MayPatchIn b c.args.node c.args.name.now c.args.offset c.args.number) c.deref_mut.ensures.value (c.patch_cell.ensures.allowed ok)
+
+pub returns-clause-ok : goal.returns-clause-ok
+returns-clause-ok c =
+    let value = c.deref_mut.ensures.value in
+    on_ok_weaker c.patch_cell.result
+    (λ e. ap reading_in (end c) ∙ e ∙ ap (λ (b : List ℕ). with_property_at (path_in b c.args.node) c.args.name.now (value_patched b c.args.node c.args.name.now c.args.offset c.args.number) (reading_in b)) value)
+    c.patch_cell.ensures.ok
+
+pub returns-clause-err : goal.returns-clause-err
+returns-clause-err c = on_err_weaker c.patch_cell.result (λ e. end c ∙ e ∙ c.deref_mut.ensures.value) c.patch_cell.ensures.err
+
+pub returns-clause-refused : goal.returns-clause-refused
+returns-clause-refused c =
+    IfErr-weaker c.patch_cell.result _ _
+    (λ fault why. (subst (λ (b : List ℕ). WhyNotPatchedIn fault.kind b c.args.node c.args.name.now c.args.offset c.args.number) c.deref_mut.ensures.value why.0, why.1)) c.patch_cell.ensures.refused
