@@ -45,6 +45,7 @@ fn call_on_trees(
         "tree" | "tree-blob" => trees::call(alloc, name, words, input, out),
         "damage" => damage::call(alloc, input, out),
         "edit-in" | "edited-in" => edits::call(alloc, name, words, input, out),
+        "edit" | "edited" => edits::call_owned(alloc, name, words, input, out),
         "apply" | "apply-bytes" | "build" => chains::call(alloc, name, input, others, out),
         "print" | "printed" | "again" | "values" => printing::call(alloc, name, words, input, out),
         "regs" | "irqs" => resolving::call(alloc, name, input, out),
