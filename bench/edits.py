@@ -3,8 +3,8 @@
 
     python3 bench/edits.py [STEPS] BLOB..
 
-Each step looks a node up by its path, and then sets a property of it (half of them new or longer than before) or adds a child. A figure is that of the
-steps less that of the same program without one. Needs what bench/library.py needs. The trees are compared by c/tests/edits.c, not here."""
+Each step looks a node up by its path, and then sets a property of it (half of them new or longer than before), adds a child, or patches the first cell
+of its `compatible`. A figure is that of the steps less that of the same program without one. Needs what bench/library.py needs. The trees are compared by c/tests/edits.c, not here."""
 import os
 import re
 import subprocess
@@ -38,14 +38,14 @@ def main():
         subprocess.run([compiler, "-O2", "-std=gnu11", f"{HERE}/edits.c", f"{LIBRARY}/libdtool.a", "-lfdt", "-o", program], check=True)
         for blob in words:
             print(f"{blob}: {os.path.getsize(blob)} bytes, {steps} steps")
-            for edit in "set", "add":
+            for edit in "set", "add", "patch":
                 costs = {}
                 for who in "dtool", "libfdt":
                     counts = [instructions(program, who, what, steps, blob) for what in (edit, "none")]
                     times = [seconds(program, who, what, steps, blob) for what in (edit, "none")]
                     costs[who] = counts[0] - counts[1], times[0] - times[1]
                 (ours, own_time), (theirs, time) = costs["dtool"], costs["libfdt"]
-                print(f"  {edit}  {ours:>14,}  libfdt {theirs:>14,}, {ours / theirs:.2f} times; {own_time:.2f} s, libfdt {time:.2f} s", flush=True)
+                print(f"  {edit:5}  {ours:>14,}  libfdt {theirs:>14,}, {ours / theirs:.2f} times; {own_time:.2f} s, libfdt {time:.2f} s", flush=True)
 
 
 main()
