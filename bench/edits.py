@@ -3,8 +3,9 @@
 
     python3 bench/edits.py [STEPS] BLOB..
 
-Each step looks a node up by its path, and then sets a property of it (half of them new or longer than before), adds a child, or patches the first cell
-of its `compatible`. A figure is that of the steps less that of the same program without one. Needs what bench/library.py needs. The trees are compared by c/tests/edits.c, not here."""
+Each step looks a node up by its path, and then sets a property of it (half of them new or longer than before), adds a child, or patches the first
+cell of its `compatible`. A figure is that of the steps less that of the same program without one. Needs what bench/library.py needs. The trees are
+compared by c/tests/edits.c, not here."""
 import os
 import re
 import subprocess
