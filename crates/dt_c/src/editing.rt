@@ -4,7 +4,8 @@ ghost use Rattle.std.specs.Prelude.{◌≡◌, ◌<◌, ◌≤◌, ◌∷◌, �
 ghost use Rattle.std.specs.Bool.{OnTrue, OnFalse};
 ghost use Rattle.dt_c.specs.Crossing.{IsRefused};
 ghost use Rattle.dt_c.specs.Edits.{WhyNotAddedNamed, WhyNotPatchedNamed, WhyNotSetNamed};
-ghost use Rattle.dt_edit.specs.Editable.{reading_in, path_in, opened_size, value_patched, IsEditable, IsOneCell, WhyNotOpened};
+ghost use Rattle.dt_edit.specs.Editable.{reading_in, path_in, opened_size, value_patched, IsEditable, WhyNotOpened};
+ghost use Rattle.dt_edit.specs.Plans.{IsPatched};
 ghost use Rattle.dt_model.specs.Changes.{with_child_at, with_property_at};
 ghost use Rattle.dt_model.specs.Checks.{number};
 ghost use Rattle.dt_model.specs.Path.{Path};
@@ -144,7 +145,7 @@ fn patch_named(
     ensures ok { OnOk result (reading_in bytes.new
         ≡ with_property_at (path_in bytes.old node) name.now (value_patched bytes.old node name.now offset number) (reading_in bytes.old)) }
     ensures places { IsOk result → (path : Path) (place : ℕ) → IsAt (placed_of bytes.old) path place → IsAt (placed_of bytes.new) path place }
-    ensures cell { IsOk result → IsOneCell bytes.old bytes.new number }
+    ensures cell { IsOk result → IsPatched bytes.old bytes.new node name.now offset number }
     ensures kept { OnErr result (bytes.new ≡ bytes.old) }
     ensures refused { IfErr result (λ e. WhyNotPatchedNamed e.kind bytes.old node name.now offset number × (e.at ≡ None)) }
 {
@@ -171,7 +172,7 @@ pub extern "C" fn dtool_patch_cell(
     ensures is { OnTrue result (reading_in bytes.new
         ≡ with_property_at (path_in bytes.old node) name.now (value_patched bytes.old node name.now offset value) (reading_in bytes.old)) }
     ensures places { IsTrue result → (path : Path) (place : ℕ) → IsAt (placed_of bytes.old) path place → IsAt (placed_of bytes.new) path place }
-    ensures cell { IsTrue result → IsOneCell bytes.old bytes.new value }
+    ensures cell { IsTrue result → IsPatched bytes.old bytes.new node name.now offset value }
     ensures kept { OnFalse result (bytes.new ≡ bytes.old) }
     ensures refused { OnFalse result (IsRefused (λ e. WhyNotPatchedNamed e.kind bytes.old node name.now offset value × (e.at ≡ None)) fault.new) }
     ensures no_fault { OnTrue result (fault.new ≡ fault.old) }

@@ -66,6 +66,10 @@ same_front x rest e =
       placed = λ i. record { boot_cpu = boot i; reservations = reserved i; place = (root i).place; properties = (root i).properties; children = (root i).children };
     }
 
+-- none behind it
+pub same_own : (x : List ℕ) → IsEditable x → IsSameBlob x x
+same_own x e = record { editable = e; boot_cpu = refl; total = refl; structure = refl; strings = refl; placed = refl }
+
 -- bytes behind a blob that had none
 pub same_blob : (x y zeros : List ℕ) → IsWhole x → y ≡ x ++ zeros → IsSameBlob x y
 same_blob x y zeros w e =

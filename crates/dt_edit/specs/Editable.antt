@@ -1,11 +1,10 @@
 -- Blobs that are edited where they lie, at the front of some bytes: what they are, how long they become, and why they aren't changed.
-use Rattle.std.specs.Prelude.{◌≡◌, ◌⊎◌, ℕ, ◌+◌, ◌-◌, ◌<◌, ◌≤◌, true, false, List, [], ◌∷◌, ◌++◌, length, take, drop, Option, Some, None, unwrap_or}
+use Rattle.std.specs.Prelude.{◌≡◌, ◌⊎◌, ℕ, ◌+◌, ◌-◌, ◌<◌, ◌≤◌, true, false, List, [], ◌∷◌, ◌++◌, length, take, Option, Some, None, unwrap_or}
 use Rattle.dt_model.specs.Applied.{with_cell}
 use Rattle.dt_model.specs.Checks.{number, strings_of, structure_of}
 use Rattle.dt_model.specs.Format.{reservation_block}
 use Rattle.dt_model.specs.Lexing.{padded}
 use Rattle.dt_model.specs.Limits.{most_bytes, most_names, most_nodes}
-use Rattle.dt_model.specs.Meaning.{cell}
 use Rattle.dt_model.specs.Names.{Name}
 use Rattle.dt_model.specs.Path.{Path}
 use Rattle.dt_model.specs.Tree.{Reading, stands_in, value_in}
@@ -117,12 +116,6 @@ MayPatchIn bytes node name offset n = MaySetAt (reading_in bytes) (path_in bytes
 abbrev pub WhyNotPatchedIn : FaultKind → List ℕ → ℕ → Name → (offset n : ℕ) → Type 0
 WhyNotPatchedIn BlobPhandle bytes node name offset n = ¬ MayPatchIn bytes node name offset n
 WhyNotPatchedIn _ bytes node name offset n = ⊥
-
--- four bytes, somewhere, are another number's, and all others are the same
-pub record IsOneCell (old new : List ℕ) (n : ℕ) : Type 0 where
-  pub at : ℕ
-  pub inside : at + 4 ≤ length old
-  pub is : new ≡ take at old ++ (cell n ++ drop (at + 4) old)
 
 -- ---- a child
 

@@ -63,7 +63,8 @@ pub record HasPropertyRoom (bytes : List ℕ) (p : PropertyPlan) (name : Name) (
   pub room : number bytes 4 + padded (12 + length value) + name_size (place_in (strings_of bytes) name) name ≤ length bytes + p.cut.size
   pub limit : number bytes 4 + padded (12 + length value) + name_size (place_in (strings_of bytes) name) name ≤ most_bytes + p.cut.size
 
--- a cell of a node's property, whose token is so many bytes at a place of the structure block, has become a number's
+-- Four bytes are a number's, and all others are the same: those at an offset of the value of a node's property, which is 12 bytes behind the first one of
+-- its token (Devicetree Specification v0.4, 5.4.1).
 pub record IsPatched (old new : List ℕ) (node : ℕ) (name : Name) (offset n : ℕ) : Type 0 where
   pub at : ℕ
   pub size : ℕ

@@ -1,7 +1,7 @@
 //! A node added: a plan, which looks, and its carrying out, which can't be refused.
 
-ghost use Rattle.std.specs.Prelude.{◌≡◌, ◌↔◌, ◌+◌, ◌<◌, ◌++◌, ◌∷◌, [], true, IsTrue, MatchOption, length};
-ghost use Rattle.dt_edit.specs.Editable.{reading_in, path_in, size_with_node, IsEditable, FitsIn};
+ghost use Rattle.std.specs.Prelude.{◌≡◌, ◌↔◌, ◌+◌, ◌<◌, ◌++◌, ◌∷◌, [], true, None, IsTrue, IsOk, IfOk, IfErr, length};
+ghost use Rattle.dt_edit.specs.Editable.{reading_in, path_in, size_with_node, IsEditable, MayAddWithin, WhyNotAddedWithin};
 ghost use Rattle.dt_edit.specs.Moving.{node_bytes};
 ghost use Rattle.dt_edit.specs.Plans.{HasOtherBlocks, IsNodePlan, HasNodeRoom};
 ghost use Rattle.dt_model.specs.Checks.{strings_of, structure_of};
@@ -14,8 +14,8 @@ ghost use Rattle.dt_read.specs.Placed.{path_at, IsNode};
 
 use crate::layout::{HEADER_SIZE, Layout, layout_of};
 use crate::moving::{Span, padded_len, splice_node};
-use dt_names::Seed;
 use dt_names::limits::{MOST_BYTES, MOST_NAMES, MOST_NODES};
+use dt_names::{Fault, FaultKind, Seed};
 use dt_read::{Blob, NodeId, OpenNodes, end_cut, structure_bytes};
 use dt_view::put_nodes_above;
 use dt_write::set_header;
@@ -34,7 +34,7 @@ fn depth_of(blob: &Blob<'_>, node: NodeId) -> usize
 }
 
 /// Whether a node of a blob has a child of a name.
-pub(crate) fn has_child(bytes: &[u8], node: NodeId, name: &[u8]) -> bool
+fn has_child(bytes: &[u8], node: NodeId, name: &[u8]) -> bool
     requires blob { IsBlob bytes.now }
     requires node { IsNode (placed_of bytes.now) node }
     ensures { IsTrue result ↔ (stands_in (reading_in bytes.now) (path_in bytes.now node ++ name.now ∷ []) ≡ true) }
@@ -54,7 +54,7 @@ fn may_grow(bytes: &[u8]) -> bool
 }
 
 /// Whether a blob may have a child below a node, and one node more, by the limits.
-pub(crate) fn has_room_below(bytes: &[u8], node: NodeId) -> bool
+fn has_room_below(bytes: &[u8], node: NodeId) -> bool
     requires blob { IsBlob bytes.now }
     requires node { IsNode (placed_of bytes.now) node }
     ensures { IsTrue result ↔ (length (path_in bytes.now node) < most_names) × (1 + node_count (reading_in bytes.now).children < most_nodes) }
@@ -70,14 +70,31 @@ pub(crate) struct NodePlan {
     pub size: usize,
 }
 
-/// How a child is added to a node; None where the blob would not fit so many bytes.
-pub(crate) fn plan_node(bytes: &[u8], room: usize, node: NodeId, name: &[u8]) -> Option<NodePlan>
+/// How a child is added to a node in so many bytes.
+///
+/// # Errors
+///
+/// `Duplicate` where the node has a child of that name; else `Limit`, by the path, the number of nodes, or the size. None has a place.
+pub(crate) fn plan_node(
+    bytes: &[u8],
+    room: usize,
+    node: NodeId,
+    name: &[u8],
+) -> Result<NodePlan, Fault>
     requires editable { IsEditable bytes.now }
     requires node { IsNode (placed_of bytes.now) node }
     requires name { length name.now < 256 }
-    ensures { MatchOption result (¬ FitsIn room (size_with_node bytes.now name.now)) (λ plan.
-        IsNodePlan bytes.now node plan × (plan.size ≡ size_with_node bytes.now name.now) × FitsIn room (size_with_node bytes.now name.now)) }
+    ensures plan { IfOk result (λ plan. IsNodePlan bytes.now node plan) }
+    ensures size { IfOk result (λ plan. plan.size ≡ size_with_node bytes.now name.now) }
+    ensures allowed { IsOk result → MayAddWithin room bytes.now node name.now }
+    ensures refused { IfErr result (λ fault. WhyNotAddedWithin room fault.kind bytes.now node name.now × (fault.at ≡ None)) }
 {
+    if has_child(bytes, node, name) {
+        return Err(Fault::of(FaultKind::Duplicate));
+    }
+    if !has_room_below(bytes, node) {
+        return Err(Fault::of(FaultKind::Limit));
+    }
     let layout = layout_of(bytes);
     let size = layout.structure_at
         + layout.structure
@@ -85,10 +102,10 @@ pub(crate) fn plan_node(bytes: &[u8], room: usize, node: NodeId, name: &[u8]) ->
         + padded_len(5 + name.len())
         + 4;
     if size > room || size > MOST_BYTES {
-        return None;
+        return Err(Fault::of(FaultKind::Limit));
     }
     let cut = end_cut(bytes, node);
-    Some(NodePlan { layout, cut, size })
+    Ok(NodePlan { layout, cut, size })
 }
 
 /// Adds a node as it was planned.

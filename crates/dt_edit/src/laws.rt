@@ -1,11 +1,13 @@
 //! What is true of the outcomes of edits.
 
-ghost use Rattle.std.specs.Prelude.{ℕ, List};
+ghost use Rattle.std.specs.Prelude.{◌≤◌, ℕ, List};
 ghost use Rattle.dt_edit.specs.Editable.{opened_size, Fits, MayAddIn, MayPatchIn, MaySetIn, WhyNotAddedIn, WhyNotOpened, WhyNotPatchedIn, WhyNotSetIn};
+ghost use Rattle.dt_edit.specs.Editable.{MayAddWithin, MaySetWithin, WhyNotAddedOwned, WhyNotOwned, WhyNotSetOwned};
+ghost use Rattle.dt_model.specs.Limits.{most_bytes};
 ghost use Rattle.dt_model.specs.Names.{Name};
 ghost use Rattle.dt_names.specs.Fault.{IsExclusive, IsOneRefusal};
 
-/// What is answered isn't refused, and what is refused is refused for one reason.
+/// An edit of lent bytes that is answered isn't refused, and one that is refused is refused for one reason.
 pub fn one_outcome()
     ensures opened { (blob bytes : List ℕ) → IsExclusive (Fits bytes (opened_size blob)) (λ kind. WhyNotOpened kind bytes (opened_size blob)) }
     ensures one_of_opening { (blob bytes : List ℕ) → IsOneRefusal (λ kind. WhyNotOpened kind bytes (opened_size blob)) }
@@ -17,4 +19,16 @@ pub fn one_outcome()
     ensures one_of_patching { (bytes : List ℕ) (node : ℕ) (name : Name) (offset n : ℕ) → IsOneRefusal (λ kind. WhyNotPatchedIn kind bytes node name offset n) }
     ensures added { (bytes : List ℕ) (node : ℕ) (name : Name) → IsExclusive (MayAddIn bytes node name) (λ kind. WhyNotAddedIn kind bytes node name) }
     ensures one_of_adding { (bytes : List ℕ) (node : ℕ) (name : Name) → IsOneRefusal (λ kind. WhyNotAddedIn kind bytes node name) }
+{}
+
+/// The same of a blob in memory of its own, where memory is one of the reasons. A cell of it is patched as in lent bytes.
+pub fn one_owned_outcome()
+    ensures made { (blob : List ℕ) → IsExclusive (opened_size blob ≤ most_bytes) (λ kind. WhyNotOwned kind (opened_size blob)) }
+    ensures one_of_making { (blob : List ℕ) → IsOneRefusal (λ kind. WhyNotOwned kind (opened_size blob)) }
+    ensures set { (bytes : List ℕ) (node : ℕ) (name : Name) (value : List ℕ) →
+        IsExclusive (MaySetWithin most_bytes bytes node name value) (λ kind. WhyNotSetOwned kind bytes node name value) }
+    ensures one_of_setting { (bytes : List ℕ) (node : ℕ) (name : Name) (value : List ℕ) → IsOneRefusal (λ kind. WhyNotSetOwned kind bytes node name value) }
+    ensures added { (bytes : List ℕ) (node : ℕ) (name : Name) →
+        IsExclusive (MayAddWithin most_bytes bytes node name) (λ kind. WhyNotAddedOwned kind bytes node name) }
+    ensures one_of_adding { (bytes : List ℕ) (node : ℕ) (name : Name) → IsOneRefusal (λ kind. WhyNotAddedOwned kind bytes node name) }
 {}

@@ -1,9 +1,9 @@
 //! Edits of a blob in a buffer that the caller lends.
 
 ghost use Rattle.std.specs.Prelude.{◌≡◌, ◌<◌, ◌≤◌, ◌++◌, ◌∷◌, [], ℕ, None, drop, IsOk, IfOk, OnOk, OnErr, IfErr};
-ghost use Rattle.dt_edit.specs.Editable.{reading_in, path_in, size_with_node, size_with_value, value_patched, HasCellAt, IsEditable, IsOneCell};
+ghost use Rattle.dt_edit.specs.Editable.{reading_in, path_in, size_with_node, size_with_value, value_patched, HasCellAt, IsEditable};
 ghost use Rattle.dt_edit.specs.Editable.{MayAddIn, MayPatchIn, MaySetIn, WhyNotAddedIn, WhyNotPatchedIn, WhyNotSetIn};
-ghost use Rattle.dt_edit.specs.Plans.{added_name};
+ghost use Rattle.dt_edit.specs.Plans.{added_name, IsPatched};
 ghost use Rattle.dt_model.specs.Changes.{with_child_at, with_property_at};
 ghost use Rattle.dt_model.specs.Checks.{number, strings_of};
 ghost use Rattle.dt_model.specs.Checks.{number as header_number};
@@ -13,8 +13,7 @@ ghost use Rattle.dt_read.specs.Placed.{IsAt, IsNode};
 
 use crate::cells::{may_patch, patch};
 use crate::children;
-use crate::children::{has_child, has_room_below, plan_node};
-use crate::phandles::may_set;
+use crate::children::plan_node;
 use crate::properties::{carry_out, plan_property};
 use dt_names::{Fault, FaultKind, NodeName, PropName};
 use dt_read::NodeId;
@@ -46,13 +45,7 @@ pub fn set_prop(
     ensures refused { IfErr result (λ fault. WhyNotSetIn fault.kind bytes.old node name.now value.now × (fault.at ≡ None)) }
 {
     let key = name.as_bytes();
-    if !may_set(bytes, node, key, value) {
-        return Err(Fault::of(FaultKind::BlobPhandle));
-    }
-    let room = bytes.len();
-    let Some(plan) = plan_property(bytes, room, node, key, value) else {
-        return Err(Fault::of(FaultKind::Limit));
-    };
+    let plan = plan_property(bytes, bytes.len(), node, key, value)?;
     carry_out(bytes, &plan, key, value);
     Ok(())
 }
@@ -80,16 +73,7 @@ pub fn add_node(bytes: &mut [u8], parent: NodeId, name: &NodeName<'_>) -> Result
     ensures refused { IfErr result (λ fault. WhyNotAddedIn fault.kind bytes.old parent name.now × (fault.at ≡ None)) }
 {
     let key = name.as_bytes();
-    if has_child(bytes, parent, key) {
-        return Err(Fault::of(FaultKind::Duplicate));
-    }
-    if !has_room_below(bytes, parent) {
-        return Err(Fault::of(FaultKind::Limit));
-    }
-    let room = bytes.len();
-    let Some(plan) = plan_node(bytes, room, parent, key) else {
-        return Err(Fault::of(FaultKind::Limit));
-    };
+    let plan = plan_node(bytes, bytes.len(), parent, key)?;
     children::carry_out(bytes, &plan, key);
     Ok(plan.layout.structure_at + plan.cut)
 }
@@ -117,7 +101,7 @@ pub fn patch_cell(
     ensures places { IsOk result → (path : Path) (place : ℕ) → IsAt (placed_of bytes.old) path place → IsAt (placed_of bytes.new) path place }
     ensures strings { OnOk result (strings_of bytes.new ≡ strings_of bytes.old) }
     ensures size { OnOk result (header_number bytes.new 4 ≡ header_number bytes.old 4) }
-    ensures cell { IsOk result → IsOneCell bytes.old bytes.new number }
+    ensures cell { IsOk result → IsPatched bytes.old bytes.new node name.now offset number }
     ensures allowed { IsOk result → MayPatchIn bytes.old node name.now offset number }
     ensures err { OnErr result (bytes.new ≡ bytes.old) }
     ensures refused { IfErr result (λ fault. WhyNotPatchedIn fault.kind bytes.old node name.now offset number × (fault.at ≡ None)) }

@@ -15,7 +15,7 @@ mod phandles;
 mod properties;
 
 pub use cells::has_cell;
-pub use laws::one_outcome;
+pub use laws::{one_outcome, one_owned_outcome};
 pub use lent::{add_node, patch_cell, set_prop};
 pub use opening::open_into;
 pub use owned::BlobBuf;

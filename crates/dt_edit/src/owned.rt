@@ -2,9 +2,9 @@
 
 ghost use Rattle.std.specs.Prelude.{◌≡◌, ◌-◌, ◌<◌, ◌≤◌, ◌++◌, ◌∷◌, [], ℕ, None, length, replicate, IsOk, IfOk, IfErr, OnOk, OnErr};
 ghost use Rattle.dt_edit.specs.Editable.{reading_in, path_in, opened_size, size_with_node, size_with_value, value_patched};
-ghost use Rattle.dt_edit.specs.Editable.{HasCellAt, IsOneCell, IsWhole, MayAddWithin, MayPatchIn, MaySetWithin};
+ghost use Rattle.dt_edit.specs.Editable.{HasCellAt, IsWhole, MayAddWithin, MayPatchIn, MaySetWithin};
 ghost use Rattle.dt_edit.specs.Editable.{WhyNotAddedOwned, WhyNotOwned, WhyNotPatchedIn, WhyNotSetOwned};
-ghost use Rattle.dt_edit.specs.Plans.{added_name};
+ghost use Rattle.dt_edit.specs.Plans.{added_name, IsPatched};
 ghost use Rattle.dt_model.specs.Changes.{with_child_at, with_property_at};
 ghost use Rattle.dt_model.specs.Checks.{strings_of, structure_of};
 ghost use Rattle.dt_model.specs.Limits.{most_bytes};
@@ -12,9 +12,8 @@ ghost use Rattle.dt_model.specs.Path.{Path};
 ghost use Rattle.dt_read.specs.Checked.{IsBlob, placed_of};
 ghost use Rattle.dt_read.specs.Placed.{IsAt, IsNode};
 
-use crate::children::{has_child, has_room_below, plan_node};
+use crate::children::plan_node;
 use crate::opening::{open_into, opened_size};
-use crate::phandles::may_set;
 use crate::properties::plan_property;
 use crate::{children, lent, properties};
 use dt_names::limits::MOST_BYTES;
@@ -49,12 +48,7 @@ fn set_in(bytes: &mut Vec<u8>, node: NodeId, name: &PropName<'_>, value: &[u8]) 
     ensures refused { IfErr result (λ fault. WhyNotSetOwned fault.kind bytes.old.items node name.now value.now × (fault.at ≡ None)) }
 {
     let key = name.as_bytes();
-    if !may_set(bytes, node, key, value) {
-        return Err(Fault::of(FaultKind::BlobPhandle));
-    }
-    let Some(plan) = plan_property(bytes, MOST_BYTES, node, key, value) else {
-        return Err(Fault::of(FaultKind::Limit));
-    };
+    let plan = plan_property(bytes, MOST_BYTES, node, key, value)?;
     grow(bytes, plan.size)?;
     properties::carry_out(bytes, &plan, key, value);
     bytes.truncate(plan.size);
@@ -77,15 +71,7 @@ fn add_in(bytes: &mut Vec<u8>, parent: NodeId, name: &NodeName<'_>) -> Result<No
     ensures refused { IfErr result (λ fault. WhyNotAddedOwned fault.kind bytes.old.items parent name.now × (fault.at ≡ None)) }
 {
     let key = name.as_bytes();
-    if has_child(bytes, parent, key) {
-        return Err(Fault::of(FaultKind::Duplicate));
-    }
-    if !has_room_below(bytes, parent) {
-        return Err(Fault::of(FaultKind::Limit));
-    }
-    let Some(plan) = plan_node(bytes, MOST_BYTES, parent, key) else {
-        return Err(Fault::of(FaultKind::Limit));
-    };
+    let plan = plan_node(bytes, MOST_BYTES, parent, key)?;
     grow(bytes, plan.size)?;
     children::carry_out(bytes, &plan, key);
     Ok(plan.layout.structure_at + plan.cut)
@@ -106,7 +92,7 @@ fn patch_in(
     ensures ok { OnOk result (reading_in bytes.new.items ≡ with_property_at (path_in bytes.old.items node) name.now
         (value_patched bytes.old.items node name.now offset number) (reading_in bytes.old.items)) }
     ensures places { IsOk result → (path : Path) (place : ℕ) → IsAt (placed_of bytes.old.items) path place → IsAt (placed_of bytes.new.items) path place }
-    ensures cell { IsOk result → IsOneCell bytes.old.items bytes.new.items number }
+    ensures cell { IsOk result → IsPatched bytes.old.items bytes.new.items node name.now offset number }
     ensures allowed { IsOk result → MayPatchIn bytes.old.items node name.now offset number }
     ensures err { OnErr result (bytes.new.items ≡ bytes.old.items) }
     ensures refused { IfErr result (λ fault. WhyNotPatchedIn fault.kind bytes.old.items node name.now offset number × (fault.at ≡ None)) }
@@ -240,7 +226,7 @@ impl BlobBuf {
         ensures ok { OnOk result (reading_in self.new
             ≡ with_property_at (path_in self.old node) name.now (value_patched self.old node name.now offset number) (reading_in self.old)) }
         ensures places { IsOk result → (path : Path) (place : ℕ) → IsAt (placed_of self.old) path place → IsAt (placed_of self.new) path place }
-        ensures cell { IsOk result → IsOneCell self.old self.new number }
+        ensures cell { IsOk result → IsPatched self.old self.new node name.now offset number }
         ensures allowed { IsOk result → MayPatchIn self.old node name.now offset number }
         ensures err { OnErr result (self.new ≡ self.old) }
         ensures refused { IfErr result (λ fault. WhyNotPatchedIn fault.kind self.old node name.now offset number × (fault.at ≡ None)) }

@@ -1,7 +1,7 @@
 //! A property set: a plan, which looks, and its carrying out, which can't be refused.
 
-ghost use Rattle.std.specs.Prelude.{◌≡◌, ◌<◌, ◌++◌, MatchOption, length};
-ghost use Rattle.dt_edit.specs.Editable.{size_with_value, IsEditable, FitsIn};
+ghost use Rattle.std.specs.Prelude.{◌≡◌, ◌<◌, ◌++◌, None, IsOk, IfOk, IfErr, length};
+ghost use Rattle.dt_edit.specs.Editable.{size_with_value, IsEditable, MaySetWithin, WhyNotSetWithin};
 ghost use Rattle.dt_edit.specs.Moving.{property_bytes};
 ghost use Rattle.dt_edit.specs.Plans.{added_name, name_offset, HasOtherBlocks, IsPropertyPlan, HasPropertyRoom};
 ghost use Rattle.dt_model.specs.Checks.{strings_of, structure_of};
@@ -12,7 +12,9 @@ ghost use Rattle.dt_read.specs.Placed.{IsNode};
 use crate::layout::{HEADER_SIZE, Layout, layout_of, strings_in};
 use crate::moving::{Span, bring_name, padded_len, splice_property};
 use crate::names::place_in;
+use crate::phandles::may_set;
 use dt_names::limits::MOST_BYTES;
+use dt_names::{Fault, FaultKind};
 use dt_read::{Cut, NodeId, property_cut};
 use dt_write::set_header;
 
@@ -26,25 +28,33 @@ pub(crate) struct PropertyPlan {
     pub size: usize,
 }
 
-/// How a node's property is set; None where the blob would not fit so many bytes.
+/// How a node's property is set in so many bytes.
+///
+/// # Errors
+///
+/// `BlobPhandle` where the property may not have that value; else `Limit`, by the size. None has a place.
 pub(crate) fn plan_property(
     bytes: &[u8],
     room: usize,
     node: NodeId,
     name: &[u8],
     value: &[u8],
-) -> Option<PropertyPlan>
+) -> Result<PropertyPlan, Fault>
     requires editable { IsEditable bytes.now }
     requires node { IsNode (placed_of bytes.now) node }
     requires name { length name.now < 256 }
-    ensures { MatchOption result (¬ FitsIn room (size_with_value bytes.now node name.now value.now)) (λ plan.
-        IsPropertyPlan bytes.now node name.now plan × (plan.size ≡ size_with_value bytes.now node name.now value.now)
-        × FitsIn room (size_with_value bytes.now node name.now value.now)) }
+    ensures plan { IfOk result (λ plan. IsPropertyPlan bytes.now node name.now plan) }
+    ensures size { IfOk result (λ plan. plan.size ≡ size_with_value bytes.now node name.now value.now) }
+    ensures allowed { IsOk result → MaySetWithin room bytes.now node name.now value.now }
+    ensures refused { IfErr result (λ fault. WhyNotSetWithin room fault.kind bytes.now node name.now value.now × (fault.at ≡ None)) }
 {
+    if !may_set(bytes, node, name, value) {
+        return Err(Fault::of(FaultKind::BlobPhandle));
+    }
     let layout = layout_of(bytes);
     let cut = property_cut(bytes, node, name);
     if value.len() > MOST_BYTES {
-        return None;
+        return Err(Fault::of(FaultKind::Limit));
     }
     let place = place_in(strings_in(bytes, &layout), name);
     let added = match place {
@@ -54,9 +64,9 @@ pub(crate) fn plan_property(
     let total = layout.structure_at + layout.structure + layout.strings;
     let size = total + padded_len(12 + value.len()) + added - cut.size;
     if size > room || size > MOST_BYTES {
-        return None;
+        return Err(Fault::of(FaultKind::Limit));
     }
-    Some(PropertyPlan {
+    Ok(PropertyPlan {
         layout,
         cut,
         place,

@@ -1,10 +1,8 @@
 use Rattle.std.proofs.Common.{◌≡◌, ◌++◌, ◌+◌, ◌∷◌, [], refl, sym, ap, subst, ◌∙◌, arith}
-use Rattle.std.proofs.lemmas.Bool.{false_from_ne_true, true≢false}
 use Rattle.std.proofs.lemmas.List.{append-nil}
 use Rattle.dt_model.specs.Changes.{with_child_at}
 use Rattle.dt_model.specs.Checks.{number, strings_of, structure_of}
 use Rattle.dt_model.specs.Names.{Name, IsNodeName}
-use Rattle.dt_model.specs.Tree.{stands_in}
 use Rattle.dt_read.specs.Checked.{placed_of}
 use Rattle.dt_read.specs.Cuts.{spliced}
 use Rattle.dt_read.specs.Placed.{IsAt}
@@ -16,23 +14,18 @@ use Rattle.dt_edit.proofs.lent.add_node.Goals as goal
 
 -- it may be added
 may : (c : goal.After-slice_known-2-1) → MayAddIn c.args.bytes.now c.args.parent c.as_bytes-key.result.now
-may c = record {
-  fresh = false_from_ne_true (stands_in (reading_in c.args.bytes.now) (path_in c.args.bytes.now c.args.parent ++ c.as_bytes-key.result.now ∷ [])) (λ h. true≢false (sym (c.has_child.ensures.1 h) ∙ c.if-has_child.false));
-  shallow = (c.has_room_below.ensures.0 c.if-not-has_room_below.false).0;
-  few = (c.has_room_below.ensures.0 c.if-not-has_room_below.false).1;
-  fits = c.in-Some.ensures.2;
-}
+may c = c.in_ok-plan.ensures.allowed refl
 
 -- what the bytes are then
-done : (c : goal.After-slice_known-2-1) → (let old = c.args.bytes.now in let key = c.as_bytes-key.result.now in let cut = c.in-Some.plan.cut in
+done : (c : goal.After-slice_known-2-1) → (let old = c.args.bytes.now in let key = c.as_bytes-key.result.now in let cut = c.in_ok-plan.plan.cut in
     IsEdited c.carry_out.new.bytes (with_child_at (path_in old c.args.parent) key (reading_in old)) (root_with_node old c.args.parent cut key) (spliced cut 0 (node_bytes key) (structure_of old)) (strings_of old ++ []))
 done c =
-    node_added c.args.bytes.now c.carry_out.new.bytes _ c.args.parent _ c.as_bytes-key.result.now c.in-Some.plan c.requires.editable c.requires.parent
-    (subst IsNodeName (sym c.as_bytes-key.ensures.value) c.as_bytes-key.ensures.valid) (may c) c.in-Some.ensures.0 c.carry_out.ensures
+    node_added c.args.bytes.now c.carry_out.new.bytes _ c.args.parent _ c.as_bytes-key.result.now c.in_ok-plan.plan c.requires.editable c.requires.parent
+    (subst IsNodeName (sym c.as_bytes-key.ensures.value) c.as_bytes-key.ensures.valid) (may c) c.in_ok-plan.ensures.plan c.carry_out.ensures
 
 -- where the node is
-place : (c : goal.After-slice_known-2-1) → number c.args.bytes.now 8 + c.in-Some.plan.cut ≡ c.in-Some.plan.layout.structure_at + c.in-Some.plan.cut
-place c = let at = (edits_of c.args.bytes.now c.requires.editable).blocks.structure_at in let here = c.in-Some.ensures.0.layout.structure_at in omega arith
+place : (c : goal.After-slice_known-2-1) → number c.args.bytes.now 8 + c.in_ok-plan.plan.cut ≡ c.in_ok-plan.plan.layout.structure_at + c.in_ok-plan.plan.cut
+place c = let at = (edits_of c.args.bytes.now c.requires.editable).blocks.structure_at in let here = c.in_ok-plan.ensures.plan.layout.structure_at in omega arith
 
 pub returns-clause-editable : goal.returns-clause-editable
 returns-clause-editable c = (done c).is.editable
@@ -44,17 +37,17 @@ pub returns-clause-node : goal.returns-clause-node
 returns-clause-node c =
     let old = c.args.bytes.now in
     let key = c.as_bytes-key.result.now in
-    let cut = c.in-Some.plan.cut in
+    let cut = c.in_ok-plan.plan.cut in
     let path = path_in old c.args.parent in
     let there = node_there old c.carry_out.new.bytes c.args.parent cut key (with_child_at path key (reading_in old)) (spliced cut 0 (node_bytes key) (structure_of old)) (strings_of old ++ []) (done c) c.requires.parent (may c).fresh in
-    subst (λ (n : Name). IsAt (placed_of c.carry_out.new.bytes) (path ++ n ∷ []) (c.in-Some.plan.layout.structure_at + cut)) c.as_bytes-key.ensures.value
+    subst (λ (n : Name). IsAt (placed_of c.carry_out.new.bytes) (path ++ n ∷ []) (c.in_ok-plan.plan.layout.structure_at + cut)) c.as_bytes-key.ensures.value
     (subst (IsAt (placed_of c.carry_out.new.bytes) (path ++ key ∷ [])) (place c) there)
 
 pub returns-clause-places : goal.returns-clause-places
 returns-clause-places c = λ q k at lt.
     let old = c.args.bytes.now in
     let key = c.as_bytes-key.result.now in
-    let cut = c.in-Some.plan.cut in
+    let cut = c.in_ok-plan.plan.cut in
     let here = place c in
     node_places old c.carry_out.new.bytes c.args.parent cut key (with_child_at (path_in old c.args.parent) key (reading_in old)) (spliced cut 0 (node_bytes key) (structure_of old)) (strings_of old ++ []) q k (done c) at (omega (arith, lt))
 
@@ -65,8 +58,8 @@ pub returns-clause-size : goal.returns-clause-size
 returns-clause-size c =
     let old = c.args.bytes.now in
     let key = c.as_bytes-key.result.now in
-    node_total old c.carry_out.new.bytes c.args.parent key c.in-Some.plan (with_child_at (path_in old c.args.parent) key (reading_in old)) (root_with_node old c.args.parent c.in-Some.plan.cut key)
-    c.requires.editable c.in-Some.ensures.0 refl (done c)
+    node_total old c.carry_out.new.bytes c.args.parent key c.in_ok-plan.plan (with_child_at (path_in old c.args.parent) key (reading_in old)) (root_with_node old c.args.parent c.in_ok-plan.plan.cut key)
+    c.requires.editable c.in_ok-plan.ensures.plan refl (done c)
     ∙ ap (size_with_node old) c.as_bytes-key.ensures.value
 
 pub returns-clause-allowed : goal.returns-clause-allowed
@@ -75,5 +68,5 @@ returns-clause-allowed c = λ _. subst (MayAddIn c.args.bytes.now c.args.parent)
 pub returns-clause-behind : goal.returns-clause-behind
 returns-clause-behind c =
     let old = c.args.bytes.now in
-    behind_kept old c.carry_out.new.bytes (spliced c.in-Some.plan.cut 0 (node_bytes c.as_bytes-key.result.now) (structure_of old)) (strings_of old ++ [])
+    behind_kept old c.carry_out.new.bytes (spliced c.in_ok-plan.plan.cut 0 (node_bytes c.as_bytes-key.result.now) (structure_of old)) (strings_of old ++ [])
     (number c.carry_out.new.bytes 4) c.carry_out.ensures (done c).is.total

@@ -6,6 +6,7 @@ use Rattle.dt_model.specs.Names.{Name, IsPropertyName}
 use Rattle.dt_read.specs.Checked.{root_of}
 use Rattle.dt_read.specs.Cuts.{changed_root, with_value, moved, moved_root, spliced}
 use Rattle.dt_edit.specs.Editable.{reading_in, path_in, value_patched, HasCellAt, MayPatchIn}
+use Rattle.dt_edit.specs.Plans.{IsPatched}
 use Rattle.dt_edit.proofs.Assembling.{IsEdited}
 use Rattle.dt_edit.proofs.CellsPatched.{cell_patched, cell_places, cell_total}
 use Rattle.dt_edit.proofs.lent.patch_cell.Goals as goal
@@ -50,6 +51,9 @@ returns-clause-places c = λ _ path place at.
 
 pub returns-clause-strings : goal.returns-clause-strings
 returns-clause-strings c = (done c).2.is.strings ∙ append-nil (strings_of c.args.bytes.now)
+
+pub returns-clause-cell : goal.returns-clause-cell
+returns-clause-cell c = λ _. subst (λ (n : Name). IsPatched c.args.bytes.now c.patch.new.bytes c.args.node n c.args.offset c.args.number) c.as_bytes-key.ensures.value c.patch.ensures
 
 pub returns-clause-allowed : goal.returns-clause-allowed
 returns-clause-allowed c = λ _. subst (λ (n : Name). MayPatchIn c.args.bytes.now c.args.node n c.args.offset c.args.number) c.as_bytes-key.ensures.value (may c)

@@ -1,14 +1,11 @@
-use Rattle.std.proofs.Common.{rules, ◌≡◌, ◌+◌, ◌-◌, ◌<◌, ◌++◌, ◌∷◌, [], true, ℕ, List, length, take, drop, None, sym, ap, subst, ◌∙◌, arith}
+use Rattle.std.proofs.Common.{rules, ◌≡◌, ◌+◌, ◌-◌, ◌<◌, ◌++◌, ◌∷◌, [], ℕ, List, length, take, drop, None, refl, sym, ap, subst, ◌∙◌, arith}
 use Rattle.std.specs.Prelude.{replicate, IfErr}
-use Rattle.std.proofs.lemmas.Bool.{false_from_ne_true, true≢false}
 use Rattle.std.proofs.lemmas.List.{append-nil, length-append, length-replicate}
 use Rattle.std.proofs.lemmas.Result.{IfErr-weaker}
 use Rattle.dt_model.specs.Changes.{with_child_at}
 use Rattle.dt_model.specs.Checks.{number, strings_of, structure_of}
-use Rattle.dt_model.specs.Limits.{most_bytes, most_names, most_nodes}
-use Rattle.dt_model.specs.Valid.{node_count}
+use Rattle.dt_model.specs.Limits.{most_bytes}
 use Rattle.dt_model.specs.Names.{Name, IsNodeName}
-use Rattle.dt_model.specs.Tree.{stands_in}
 use Rattle.dt_names.specs.Fault.{IsNoMemory}
 use Rattle.dt_names.specs.declared.fault.Fault.{Fault}
 use Rattle.dt_read.specs.Checked.{placed_of}
@@ -23,70 +20,48 @@ use Rattle.dt_edit.proofs.GrownBlobs.{IsSameBlob, IsChangedBlob, node_owned, nod
 use Rattle.dt_edit.proofs.owned.add_in.Goals as goal
 
 -- the plan, of the blob that there was
-planned : (c : goal.After-bytes-1) → (let old = c.args.bytes.now.items in let key = c.as_bytes-key.result.now in let plan = c.in-Some.plan in
-    IsNodePlan old c.args.parent plan × (plan.size ≡ size_with_node old key) × FitsIn most_bytes (size_with_node old key))
+planned : (c : goal.After-bytes-1) → (let old = c.args.bytes.now.items in let key = c.as_bytes-key.result.now in let plan = c.in_ok-plan.plan in
+    IsNodePlan old c.args.parent plan × (plan.size ≡ size_with_node old key) × MayAddWithin most_bytes old c.args.parent key)
 planned c =
     let key = c.as_bytes-key.result.now in
-    let plan = c.in-Some.plan in
-    subst (λ (b : List ℕ). IsNodePlan b c.args.parent plan × (plan.size ≡ size_with_node b key) × FitsIn most_bytes (size_with_node b key)) c.deref-3.ensures.value c.in-Some.ensures
-
--- it may be added
-may : (c : goal.After-bytes-1) → MayAddWithin most_bytes c.args.bytes.now.items c.args.parent c.as_bytes-key.result.now
-may c =
-    let old = c.args.bytes.now.items in
-    let key = c.as_bytes-key.result.now in
-    let stands : List ℕ → Type 0 = λ b. ¬ (stands_in (reading_in b) (path_in b c.args.parent ++ key ∷ []) ≡ true) in
-    let none : stands old = subst stands c.deref.ensures.value (λ h. true≢false (sym (c.has_child.ensures.1 h) ∙ c.if-has_child.false)) in
-    let below = c.has_room_below.ensures.0 c.if-not-has_room_below.false in
-    record {
-      fresh = false_from_ne_true (stands_in (reading_in old) (path_in old c.args.parent ++ key ∷ [])) none;
-      shallow = subst (λ (b : List ℕ). length (path_in b c.args.parent) < most_names) c.deref-2.ensures.value below.0;
-      few = let few = below.1 in subst (λ (b : List ℕ). 1 + node_count (reading_in b).children < most_nodes) c.deref-2.ensures.value few;
-      fits = (planned c).2;
-    }
+    let plan = c.in_ok-plan.plan in
+    let of : List ℕ → Type 0 = λ b. IsNodePlan b c.args.parent plan × (plan.size ≡ size_with_node b key) × MayAddWithin most_bytes b c.args.parent key in
+    subst of c.deref.ensures.value (c.in_ok-plan.ensures.plan, c.in_ok-plan.ensures.size, c.in_ok-plan.ensures.allowed refl)
 
 pub returns-in_err-grow-clause-refused : goal.returns-in_err-grow-clause-refused
 returns-in_err-grow-clause-refused c =
     let old = c.args.bytes.now.items in
     let key = c.as_bytes-key.result.now in
-    let told : IfErr c.from_residual.result IsNoMemory = search rules in
-    let p = subst (λ (b : List ℕ). FitsIn most_bytes (size_with_node b key)) c.deref-3.ensures.value c.in-Some.ensures.2 in
-    let stands : List ℕ → Type 0 = λ b. ¬ (stands_in (reading_in b) (path_in b c.args.parent ++ key ∷ []) ≡ true) in
-    let none : stands old = subst stands c.deref.ensures.value (λ h. true≢false (sym (c.has_child.ensures.1 h) ∙ c.if-has_child.false)) in
-    let below = c.has_room_below.ensures.0 c.if-not-has_room_below.false in
-    let may : MayAddWithin most_bytes old c.args.parent key = record {
-      fresh = false_from_ne_true (stands_in (reading_in old) (path_in old c.args.parent ++ key ∷ [])) none;
-      shallow = subst (λ (b : List ℕ). length (path_in b c.args.parent) < most_names) c.deref-2.ensures.value below.0;
-      few = subst (λ (b : List ℕ). 1 + node_count (reading_in b).children < most_nodes) c.deref-2.ensures.value below.1;
-      fits = p;
-    } in
+    let told : IfErr c.from_residual-in_err-grow.result IsNoMemory = search rules in
+    let may = subst (λ (b : List ℕ). MayAddWithin most_bytes b c.args.parent key) c.deref.ensures.value (c.in_ok-plan.ensures.allowed refl) in
     let added = subst (λ (n : Name). MayAddWithin most_bytes old c.args.parent n) c.as_bytes-key.ensures.value may in
-    IfErr-weaker c.from_residual.result IsNoMemory (λ (fault : Fault). WhyNotAddedOwned fault.kind old c.args.parent c.args.name.now × (fault.at ≡ None))
+    IfErr-weaker c.from_residual-in_err-grow.result IsNoMemory (λ (fault : Fault). WhyNotAddedOwned fault.kind old c.args.parent c.args.name.now × (fault.at ≡ None))
     (λ fault why. (subst (λ k. WhyNotAddedOwned k old c.args.parent c.args.name.now) (sym why.0) added, why.1)) told
 
 -- the bytes with room
-grown : (c : goal.After-bytes-1) → c.deref_mut.result.now ≡ c.args.bytes.now.items ++ replicate (c.in-Some.plan.size - length c.args.bytes.now.items) 0
+grown : (c : goal.After-bytes-1) → c.deref_mut.result.now ≡ c.args.bytes.now.items ++ replicate (c.in_ok-plan.plan.size - length c.args.bytes.now.items) 0
 grown c = c.deref_mut.ensures.value ∙ c.in_ok-grow.ensures.grown
 
 same : (c : goal.After-bytes-1) → IsSameBlob c.args.bytes.now.items c.deref_mut.result.now
-same c = same_blob c.args.bytes.now.items c.deref_mut.result.now (replicate (c.in-Some.plan.size - length c.args.bytes.now.items) 0) c.requires.whole (grown c)
+same c = same_blob c.args.bytes.now.items c.deref_mut.result.now (replicate (c.in_ok-plan.plan.size - length c.args.bytes.now.items) 0) c.requires.whole (grown c)
 
-long_enough : (c : goal.After-bytes-1) → length c.deref_mut.result.now ≡ length c.args.bytes.now.items + (c.in-Some.plan.size - length c.args.bytes.now.items)
+long_enough : (c : goal.After-bytes-1) → length c.deref_mut.result.now ≡ length c.args.bytes.now.items + (c.in_ok-plan.plan.size - length c.args.bytes.now.items)
 long_enough c =
     let old = c.args.bytes.now.items in
-    let zeros : List ℕ = replicate (c.in-Some.plan.size - length old) 0 in
-    ap (λ (b : List ℕ). length b) (grown c) ∙ length-append old zeros ∙ ap (λ (n : ℕ). length old + n) (length-replicate (c.in-Some.plan.size - length old) 0)
+    let zeros : List ℕ = replicate (c.in_ok-plan.plan.size - length old) 0 in
+    ap (λ (b : List ℕ). length b) (grown c) ∙ length-append old zeros ∙ ap (λ (n : ℕ). length old + n) (length-replicate (c.in_ok-plan.plan.size - length old) 0)
 
 pub carry_out-requires-clause-editable : goal.carry_out-requires-clause-editable
 carry_out-requires-clause-editable c =
-    (same_blob c.args.bytes.now.items c.deref_mut.result.now (replicate (c.in-Some.plan.size - length c.args.bytes.now.items) 0) c.requires.whole (c.deref_mut.ensures.value ∙ c.in_ok-grow.ensures.grown)).editable
+    (same_blob c.args.bytes.now.items c.deref_mut.result.now (replicate (c.in_ok-plan.plan.size - length c.args.bytes.now.items) 0) c.requires.whole (c.deref_mut.ensures.value ∙ c.in_ok-grow.ensures.grown)).editable
 
 pub carry_out-requires-clause-room : goal.carry_out-requires-clause-room
 carry_out-requires-clause-room c =
     let old = c.args.bytes.now.items in
     let key = c.as_bytes-key.result.now in
-    let plan = c.in-Some.plan in
-    let p = subst (λ (b : List ℕ). IsNodePlan b c.args.parent plan × (plan.size ≡ size_with_node b key) × FitsIn most_bytes (size_with_node b key)) c.deref-3.ensures.value c.in-Some.ensures in
+    let plan = c.in_ok-plan.plan in
+    let of : List ℕ → Type 0 = λ b. IsNodePlan b c.args.parent plan × (plan.size ≡ size_with_node b key) × FitsIn most_bytes (size_with_node b key) in
+    let p = subst of c.deref.ensures.value (c.in_ok-plan.ensures.plan, c.in_ok-plan.ensures.size, (c.in_ok-plan.ensures.allowed refl).fits) in
     let zeros : List ℕ = replicate (plan.size - length old) 0 in
     let is : c.deref_mut.result.now ≡ old ++ zeros = c.deref_mut.ensures.value ∙ c.in_ok-grow.ensures.grown in
     let long = ap (λ (b : List ℕ). length b) is ∙ length-append old zeros ∙ ap (λ (n : ℕ). length old + n) (length-replicate (plan.size - length old) 0) in
@@ -95,14 +70,14 @@ carry_out-requires-clause-room c =
     node_room old c.deref_mut.result.now c.args.parent key plan (same_blob old c.deref_mut.result.now zeros c.requires.whole is) p.0 p.2 short (omega (arith, size, long))
 
 -- what the blob is then
-done : (c : goal.After-bytes-1) → (let old = c.args.bytes.now.items in let key = c.as_bytes-key.result.now in let cut = c.in-Some.plan.cut in
-    IsChangedBlob c.carry_out.new.bytes (with_child_at (path_in old c.args.parent) key (reading_in old)) (root_with_node old c.args.parent cut key) (spliced cut 0 (node_bytes key) (structure_of old)) (strings_of old ++ []) c.in-Some.plan.size)
+done : (c : goal.After-bytes-1) → (let old = c.args.bytes.now.items in let key = c.as_bytes-key.result.now in let cut = c.in_ok-plan.plan.cut in
+    IsChangedBlob c.carry_out.new.bytes (with_child_at (path_in old c.args.parent) key (reading_in old)) (root_with_node old c.args.parent cut key) (spliced cut 0 (node_bytes key) (structure_of old)) (strings_of old ++ []) c.in_ok-plan.plan.size)
 done c =
     let p = planned c in
     let size = p.1 in
     let whole = c.requires.whole.whole in
-    node_owned c.args.bytes.now.items c.deref_mut.result.now c.carry_out.new.bytes c.args.parent c.as_bytes-key.result.now c.in-Some.plan c.requires.whole.editable (same c) c.requires.parent
-    (subst IsNodeName (sym c.as_bytes-key.ensures.value) c.as_bytes-key.ensures.valid) (may c) p.0 p.1 (omega (arith, c.carry_out.auto.bytes, long_enough c, size, whole)) c.carry_out.ensures
+    node_owned c.args.bytes.now.items c.deref_mut.result.now c.carry_out.new.bytes c.args.parent c.as_bytes-key.result.now c.in_ok-plan.plan c.requires.whole.editable (same c) c.requires.parent
+    (subst IsNodeName (sym c.as_bytes-key.ensures.value) c.as_bytes-key.ensures.valid) p.2 p.0 p.1 (omega (arith, c.carry_out.auto.bytes, long_enough c, size, whole)) c.carry_out.ensures
 
 end : (c : goal.After-bytes-1) → take c.grow.new.bytes.len (c.carry_out.new.bytes ++ drop (length c.carry_out.new.bytes) c.grow.new.bytes.items) ≡ c.carry_out.new.bytes
 end c =
@@ -110,7 +85,7 @@ end c =
     (omega (arith, c.carry_out.auto.bytes, ap (λ (b : List ℕ). length b) c.deref_mut.ensures.value))
 
 -- where the node is
-place : (c : goal.After-bytes-1) → number c.args.bytes.now.items 8 + c.in-Some.plan.cut ≡ c.in-Some.plan.layout.structure_at + c.in-Some.plan.cut
+place : (c : goal.After-bytes-1) → number c.args.bytes.now.items 8 + c.in_ok-plan.plan.cut ≡ c.in_ok-plan.plan.layout.structure_at + c.in_ok-plan.plan.cut
 place c = let at = (edits_of c.args.bytes.now.items c.requires.whole.editable).blocks.structure_at in let here = (planned c).0.layout.structure_at in omega arith
 
 pub returns-clause-whole : goal.returns-clause-whole
@@ -125,18 +100,18 @@ pub returns-clause-node : goal.returns-clause-node
 returns-clause-node c =
     let old = c.args.bytes.now.items in
     let key = c.as_bytes-key.result.now in
-    let cut = c.in-Some.plan.cut in
+    let cut = c.in_ok-plan.plan.cut in
     let path = path_in old c.args.parent in
-    let there = node_there old c.carry_out.new.bytes c.args.parent cut key (with_child_at path key (reading_in old)) (spliced cut 0 (node_bytes key) (structure_of old)) (strings_of old ++ []) (done c).is c.requires.parent (may c).fresh in
-    subst (λ (b : List ℕ). IsAt (placed_of b) (path ++ c.args.name.now ∷ []) (c.in-Some.plan.layout.structure_at + cut)) (sym (end c))
-    (subst (λ (n : Name). IsAt (placed_of c.carry_out.new.bytes) (path ++ n ∷ []) (c.in-Some.plan.layout.structure_at + cut)) c.as_bytes-key.ensures.value
+    let there = node_there old c.carry_out.new.bytes c.args.parent cut key (with_child_at path key (reading_in old)) (spliced cut 0 (node_bytes key) (structure_of old)) (strings_of old ++ []) (done c).is c.requires.parent (planned c).2.fresh in
+    subst (λ (b : List ℕ). IsAt (placed_of b) (path ++ c.args.name.now ∷ []) (c.in_ok-plan.plan.layout.structure_at + cut)) (sym (end c))
+    (subst (λ (n : Name). IsAt (placed_of c.carry_out.new.bytes) (path ++ n ∷ []) (c.in_ok-plan.plan.layout.structure_at + cut)) c.as_bytes-key.ensures.value
     (subst (IsAt (placed_of c.carry_out.new.bytes) (path ++ key ∷ [])) (place c) there))
 
 pub returns-clause-places : goal.returns-clause-places
 returns-clause-places c = λ q k at lt.
     let old = c.args.bytes.now.items in
     let key = c.as_bytes-key.result.now in
-    let cut = c.in-Some.plan.cut in
+    let cut = c.in_ok-plan.plan.cut in
     let here = place c in
     subst (λ (b : List ℕ). IsAt (placed_of b) q k) (sym (end c))
     (node_places old c.carry_out.new.bytes c.args.parent cut key (with_child_at (path_in old c.args.parent) key (reading_in old)) (spliced cut 0 (node_bytes key) (structure_of old)) (strings_of old ++ []) q k (done c).is at (omega (arith, lt)))
@@ -145,7 +120,7 @@ pub returns-clause-strings : goal.returns-clause-strings
 returns-clause-strings c = ap strings_of (end c) ∙ (done c).is.is.strings ∙ append-nil (strings_of c.args.bytes.now.items)
 
 pub returns-clause-allowed : goal.returns-clause-allowed
-returns-clause-allowed c = λ _. subst (λ (n : Name). MayAddWithin most_bytes c.args.bytes.now.items c.args.parent n) c.as_bytes-key.ensures.value (may c)
+returns-clause-allowed c = λ _. subst (λ (n : Name). MayAddWithin most_bytes c.args.bytes.now.items c.args.parent n) c.as_bytes-key.ensures.value (planned c).2
 
 pub returns-clause-size : goal.returns-clause-size
 returns-clause-size c = ap (λ (b : List ℕ). length b) (end c) ∙ (done c).long ∙ (planned c).1 ∙ ap (size_with_node c.args.bytes.now.items) c.as_bytes-key.ensures.value

@@ -3,7 +3,8 @@ use Rattle.dt_read.specs.Checked.{placed_of}
 use Rattle.dt_read.specs.Placed.{IsAt}
 use Rattle.std.proofs.lemmas.Result.{on_ok_weaker, on_err_weaker, IfErr-weaker}
 use Rattle.dt_model.specs.Changes.{with_property_at}
-use Rattle.dt_edit.specs.Editable.{reading_in, path_in, value_patched, IsOneCell, IsWhole, MayPatchIn, WhyNotPatchedIn}
+use Rattle.dt_edit.specs.Editable.{reading_in, path_in, value_patched, IsWhole, MayPatchIn, WhyNotPatchedIn}
+use Rattle.dt_edit.specs.Plans.{IsPatched}
 use Rattle.dt_edit.proofs.GrownBlobs.{still_whole, written}
 use Rattle.dt_edit.proofs.owned.patch_in.Goals as goal
 
@@ -25,8 +26,8 @@ returns-clause-places c = λ ok path place at.
 
 pub returns-clause-cell : goal.returns-clause-cell
 returns-clause-cell c = λ ok.
-    subst (λ (b : List ℕ). IsOneCell c.args.bytes.now.items b c.args.number) (sym (end c))
-    (subst (λ (b : List ℕ). IsOneCell b c.patch_cell.new.bytes c.args.number) c.deref_mut.ensures.value (c.patch_cell.ensures.cell ok))
+    subst (λ (b : List ℕ). IsPatched c.args.bytes.now.items b c.args.node c.args.name.now c.args.offset c.args.number) (sym (end c))
+    (subst (λ (b : List ℕ). IsPatched b c.patch_cell.new.bytes c.args.node c.args.name.now c.args.offset c.args.number) c.deref_mut.ensures.value (c.patch_cell.ensures.cell ok))
 
 pub returns-clause-allowed : goal.returns-clause-allowed
 returns-clause-allowed c = λ ok.

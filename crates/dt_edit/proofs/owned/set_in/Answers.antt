@@ -1,67 +1,55 @@
-use Rattle.std.proofs.Common.{◌≡◌, ◌+◌, ◌-◌, ◌++◌, ℕ, List, length, take, sym, ap, subst, ◌∙◌, arith}
+use Rattle.std.proofs.Common.{◌≡◌, ◌+◌, ◌-◌, ◌++◌, ℕ, List, length, take, refl, sym, ap, subst, ◌∙◌, arith}
 use Rattle.std.specs.Prelude.{replicate}
 use Rattle.std.proofs.lemmas.List.{length-append, length-replicate}
 use Rattle.dt_model.specs.Changes.{with_property_at}
 use Rattle.dt_model.specs.Checks.{number, strings_of, structure_of}
 use Rattle.dt_model.specs.Limits.{most_bytes}
 use Rattle.dt_model.specs.Names.{Name, IsPropertyName}
-use Rattle.dt_overlay_base.specs.Targets.{MaySetAt}
 use Rattle.dt_read.specs.Checked.{placed_of, root_of}
 use Rattle.dt_read.specs.Cuts.{changed_root, with_value, moved, moved_root, spliced}
 use Rattle.dt_read.specs.Placed.{IsAt}
-use Rattle.dt_edit.specs.Editable.{reading_in, path_in, size_with_value, FitsIn, IsWhole, MaySetWithin, WhyNotSetOwned}
+use Rattle.dt_edit.specs.Editable.{reading_in, path_in, size_with_value, FitsIn, IsWhole, MaySetWithin}
 use Rattle.dt_edit.specs.Moving.{property_bytes}
 use Rattle.dt_edit.specs.Plans.{added_name, name_offset, IsPropertyPlan}
 use Rattle.dt_edit.proofs.GrownBlobs.{IsSameBlob, IsChangedBlob, property_owned, property_room, same_blob, written}
 use Rattle.dt_edit.proofs.PropertiesSet.{property_places}
 use Rattle.dt_edit.proofs.owned.set_in.Goals as goal
 
-pub returns-in_default-clause-refused : goal.returns-in_default-clause-refused
-returns-in_default-clause-refused c =
-    let old = c.args.bytes.now.items in
-    let key = c.as_bytes-key.result.now in
-    let may : List ℕ → List ℕ → Type 0 = λ b n. MaySetAt (reading_in b) (path_in b c.args.node) n c.args.value.now in
-    let long : List ℕ → List ℕ → Type 0 = λ b n. ¬ FitsIn most_bytes (size_with_value b c.args.node n c.args.value.now) in
-    let set = subst (may old) c.as_bytes-key.ensures.value (subst (λ (b : List ℕ). may b key) c.deref.ensures.value (c.may_set.ensures.0 c.if-not-may_set.false)) in
-    let not = subst (long old) c.as_bytes-key.ensures.value (subst (λ (b : List ℕ). long b key) c.deref-2.ensures.value c.in_default.ensures) in
-    (subst (λ k. WhyNotSetOwned k old c.args.node c.args.name.now c.args.value.now) (sym c.of-in_default.ensures.kind) (set, not), c.of-in_default.ensures.at)
-
 -- the plan, of the blob that there was
-planned : (c : goal.After-truncate) → (let old = c.args.bytes.now.items in let key = c.as_bytes-key.result.now in let plan = c.in-Some.plan in
-    IsPropertyPlan old c.args.node key plan × (plan.size ≡ size_with_value old c.args.node key c.args.value.now) × FitsIn most_bytes (size_with_value old c.args.node key c.args.value.now))
+planned : (c : goal.After-truncate) → (let old = c.args.bytes.now.items in let key = c.as_bytes-key.result.now in let plan = c.in_ok-plan.plan in
+    IsPropertyPlan old c.args.node key plan × (plan.size ≡ size_with_value old c.args.node key c.args.value.now) × MaySetWithin most_bytes old c.args.node key c.args.value.now)
 planned c =
     let key = c.as_bytes-key.result.now in
-    let plan = c.in-Some.plan in
+    let plan = c.in_ok-plan.plan in
     let value = c.args.value.now in
-    subst (λ (b : List ℕ). IsPropertyPlan b c.args.node key plan × (plan.size ≡ size_with_value b c.args.node key value) × FitsIn most_bytes (size_with_value b c.args.node key value)) c.deref-2.ensures.value c.in-Some.ensures
-
-may : (c : goal.After-truncate) → MaySetAt (reading_in c.args.bytes.now.items) (path_in c.args.bytes.now.items c.args.node) c.as_bytes-key.result.now c.args.value.now
-may c = subst (λ (b : List ℕ). MaySetAt (reading_in b) (path_in b c.args.node) c.as_bytes-key.result.now c.args.value.now) c.deref.ensures.value (c.may_set.ensures.0 c.if-not-may_set.false)
+    let of : List ℕ → Type 0 = λ b. IsPropertyPlan b c.args.node key plan × (plan.size ≡ size_with_value b c.args.node key value) × MaySetWithin most_bytes b c.args.node key value in
+    subst of c.deref.ensures.value (c.in_ok-plan.ensures.plan, c.in_ok-plan.ensures.size, c.in_ok-plan.ensures.allowed refl)
 
 -- the bytes with room
-grown : (c : goal.After-truncate) → c.deref_mut.result.now ≡ c.args.bytes.now.items ++ replicate (c.in-Some.plan.size - length c.args.bytes.now.items) 0
+grown : (c : goal.After-truncate) → c.deref_mut.result.now ≡ c.args.bytes.now.items ++ replicate (c.in_ok-plan.plan.size - length c.args.bytes.now.items) 0
 grown c = c.deref_mut.ensures.value ∙ c.in_ok-grow.ensures.grown
 
 same : (c : goal.After-truncate) → IsSameBlob c.args.bytes.now.items c.deref_mut.result.now
-same c = same_blob c.args.bytes.now.items c.deref_mut.result.now (replicate (c.in-Some.plan.size - length c.args.bytes.now.items) 0) c.requires.whole (grown c)
+same c = same_blob c.args.bytes.now.items c.deref_mut.result.now (replicate (c.in_ok-plan.plan.size - length c.args.bytes.now.items) 0) c.requires.whole (grown c)
 
-long_enough : (c : goal.After-truncate) → length c.deref_mut.result.now ≡ length c.args.bytes.now.items + (c.in-Some.plan.size - length c.args.bytes.now.items)
+long_enough : (c : goal.After-truncate) → length c.deref_mut.result.now ≡ length c.args.bytes.now.items + (c.in_ok-plan.plan.size - length c.args.bytes.now.items)
 long_enough c =
     let old = c.args.bytes.now.items in
-    let zeros : List ℕ = replicate (c.in-Some.plan.size - length old) 0 in
-    ap (λ (b : List ℕ). length b) (grown c) ∙ length-append old zeros ∙ ap (λ (n : ℕ). length old + n) (length-replicate (c.in-Some.plan.size - length old) 0)
+    let zeros : List ℕ = replicate (c.in_ok-plan.plan.size - length old) 0 in
+    ap (λ (b : List ℕ). length b) (grown c) ∙ length-append old zeros ∙ ap (λ (n : ℕ). length old + n) (length-replicate (c.in_ok-plan.plan.size - length old) 0)
 
 pub carry_out-requires-clause-editable : goal.carry_out-requires-clause-editable
 carry_out-requires-clause-editable c =
-    (same_blob c.args.bytes.now.items c.deref_mut.result.now (replicate (c.in-Some.plan.size - length c.args.bytes.now.items) 0) c.requires.whole (c.deref_mut.ensures.value ∙ c.in_ok-grow.ensures.grown)).editable
+    (same_blob c.args.bytes.now.items c.deref_mut.result.now (replicate (c.in_ok-plan.plan.size - length c.args.bytes.now.items) 0) c.requires.whole (c.deref_mut.ensures.value ∙ c.in_ok-grow.ensures.grown)).editable
 
 pub carry_out-requires-clause-room : goal.carry_out-requires-clause-room
 carry_out-requires-clause-room c =
     let old = c.args.bytes.now.items in
     let key = c.as_bytes-key.result.now in
-    let plan = c.in-Some.plan in
+    let plan = c.in_ok-plan.plan in
     let value = c.args.value.now in
-    let p = subst (λ (b : List ℕ). IsPropertyPlan b c.args.node key plan × (plan.size ≡ size_with_value b c.args.node key value) × FitsIn most_bytes (size_with_value b c.args.node key value)) c.deref-2.ensures.value c.in-Some.ensures in
+    let of : List ℕ → Type 0 = λ b. IsPropertyPlan b c.args.node key plan × (plan.size ≡ size_with_value b c.args.node key value) × FitsIn most_bytes (size_with_value b c.args.node key value) in
+    let p = subst of c.deref.ensures.value (c.in_ok-plan.ensures.plan, c.in_ok-plan.ensures.size, (c.in_ok-plan.ensures.allowed refl).fits) in
     let zeros : List ℕ = replicate (plan.size - length old) 0 in
     let is : c.deref_mut.result.now ≡ old ++ zeros = c.deref_mut.ensures.value ∙ c.in_ok-grow.ensures.grown in
     let long = ap (λ (b : List ℕ). length b) is ∙ length-append old zeros ∙ ap (λ (n : ℕ). length old + n) (length-replicate (plan.size - length old) 0) in
@@ -70,20 +58,20 @@ carry_out-requires-clause-room c =
     property_room old c.deref_mut.result.now c.args.node key value plan (same_blob old c.deref_mut.result.now zeros c.requires.whole is) p.0 p.2 (omega (arith, size, long)) (omega (arith, whole, long))
 
 -- what the blob is then
-done : (c : goal.After-truncate) → (let old = c.args.bytes.now.items in let key = c.as_bytes-key.result.now in let value = c.args.value.now in let cut = c.in-Some.plan.cut in
+done : (c : goal.After-truncate) → (let old = c.args.bytes.now.items in let key = c.as_bytes-key.result.now in let value = c.args.value.now in let cut = c.in_ok-plan.plan.cut in
     let own = property_bytes (name_offset old key) value in
-    IsChangedBlob (take c.in-Some.plan.size c.carry_out.new.bytes) (with_property_at (path_in old c.args.node) key value (reading_in old))
+    IsChangedBlob (take c.in_ok-plan.plan.size c.carry_out.new.bytes) (with_property_at (path_in old c.args.node) key value (reading_in old))
     (changed_root (with_value key value) (path_in old c.args.node) (moved_root (moved (number old 8 + cut.at) cut.size (length own)) (root_of old)))
-    (spliced cut.at cut.size own (structure_of old)) (strings_of old ++ added_name old key) c.in-Some.plan.size)
+    (spliced cut.at cut.size own (structure_of old)) (strings_of old ++ added_name old key) c.in_ok-plan.plan.size)
 done c =
     let p = planned c in
-    property_owned c.args.bytes.now.items c.deref_mut.result.now c.carry_out.new.bytes c.args.node c.as_bytes-key.result.now c.args.value.now c.in-Some.plan c.requires.whole.editable (same c)
-    (subst IsPropertyName (sym c.as_bytes-key.ensures.value) c.as_bytes-key.ensures.valid) (may c) p.0 p.1 p.2 (omega (arith, c.carry_out.auto.bytes, long_enough c)) c.carry_out.ensures
+    property_owned c.args.bytes.now.items c.deref_mut.result.now c.carry_out.new.bytes c.args.node c.as_bytes-key.result.now c.args.value.now c.in_ok-plan.plan c.requires.whole.editable (same c)
+    (subst IsPropertyName (sym c.as_bytes-key.ensures.value) c.as_bytes-key.ensures.valid) p.2.may p.0 p.1 p.2.fits (omega (arith, c.carry_out.auto.bytes, long_enough c)) c.carry_out.ensures
 
-end : (c : goal.After-truncate) → c.truncate.new.self.items ≡ take c.in-Some.plan.size c.carry_out.new.bytes
+end : (c : goal.After-truncate) → c.truncate.new.self.items ≡ take c.in_ok-plan.plan.size c.carry_out.new.bytes
 end c =
     c.truncate.ensures.items
-    ∙ ap (take c.in-Some.plan.size) (written c.grow.new.bytes.items c.carry_out.new.bytes c.grow.new.bytes.len (ap (λ (b : List ℕ). length b) (sym c.deref_mut.ensures.value) ∙ c.deref_mut.ensures.len)
+    ∙ ap (take c.in_ok-plan.plan.size) (written c.grow.new.bytes.items c.carry_out.new.bytes c.grow.new.bytes.len (ap (λ (b : List ℕ). length b) (sym c.deref_mut.ensures.value) ∙ c.deref_mut.ensures.len)
     (omega (arith, c.carry_out.auto.bytes, ap (λ (b : List ℕ). length b) c.deref_mut.ensures.value)))
 
 pub returns-clause-whole : goal.returns-clause-whole
@@ -98,10 +86,10 @@ pub returns-clause-places : goal.returns-clause-places
 returns-clause-places c = λ _ path place at le.
     let old = c.args.bytes.now.items in
     let key = c.as_bytes-key.result.now in
-    let cut = c.in-Some.plan.cut in
+    let cut = c.in_ok-plan.plan.cut in
     let own : List ℕ = property_bytes (name_offset old key) c.args.value.now in
     subst (λ (b : List ℕ). IsAt (placed_of b) path place) (sym (end c))
-    (property_places old (take c.in-Some.plan.size c.carry_out.new.bytes) c.args.node key c.args.value.now own cut.at cut.size (with_property_at (path_in old c.args.node) key c.args.value.now (reading_in old))
+    (property_places old (take c.in_ok-plan.plan.size c.carry_out.new.bytes) c.args.node key c.args.value.now own cut.at cut.size (with_property_at (path_in old c.args.node) key c.args.value.now (reading_in old))
     (spliced cut.at cut.size own (structure_of old)) (strings_of old ++ added_name old key) path place (planned c).0.cut.behind.begun (done c).is at le)
 
 pub returns-clause-strings : goal.returns-clause-strings
@@ -116,4 +104,4 @@ returns-clause-size c =
 
 pub returns-clause-allowed : goal.returns-clause-allowed
 returns-clause-allowed c = λ _.
-    subst (λ (n : Name). MaySetWithin most_bytes c.args.bytes.now.items c.args.node n c.args.value.now) c.as_bytes-key.ensures.value (record { may = may c; fits = (planned c).2 })
+    subst (λ (n : Name). MaySetWithin most_bytes c.args.bytes.now.items c.args.node n c.args.value.now) c.as_bytes-key.ensures.value (planned c).2

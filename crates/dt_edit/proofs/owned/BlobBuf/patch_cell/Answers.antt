@@ -4,6 +4,7 @@ use Rattle.dt_model.specs.Path.{Path}
 use Rattle.dt_read.specs.Checked.{placed_of}
 use Rattle.dt_read.specs.Placed.{IsAt}
 use Rattle.dt_edit.specs.Editable.{MayPatchIn}
+use Rattle.dt_edit.specs.Plans.{IsPatched}
 use Rattle.dt_edit.proofs.owned.BlobBuf.patch_cell.Goals as goal
 
 pub returns-clause-places : goal.returns-clause-places
@@ -12,3 +13,7 @@ returns-clause-places c =
 
 pub returns-clause-allowed : goal.returns-clause-allowed
 returns-clause-allowed c = subst (λ (b : List ℕ). IsOk c.patch_in.result → MayPatchIn b c.args.node c.args.name.now c.args.offset c.args.number) c.self.view_is c.patch_in.ensures.allowed
+
+pub returns-clause-cell : goal.returns-clause-cell
+returns-clause-cell c =
+    subst (λ (b : List ℕ). IsOk c.patch_in.result → IsPatched b c.patch_in.new.bytes.items c.args.node c.args.name.now c.args.offset c.args.number) c.self.view_is c.patch_in.ensures.cell
