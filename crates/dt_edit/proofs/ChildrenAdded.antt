@@ -67,7 +67,7 @@ further_below (x ∷ p) name n m e = step (λ c k. further_below p name c m k) (
     step more (Some c) is =
         ap (option_and_then (λ (d : Node). node_below d (p ++ name ∷ []))) is ∙ more c (sym (ap (option_and_then (λ (d : Node). node_below d p)) is) ∙ e)
 
-fresh_sibling : (t : Reading) (p : Path) (name : Name) (m : Node) → stands_in t (p ++ name ∷ []) ≡ false → node_below (tree.root_of t) p ≡ Some m → sibling m.children name ≡ None
+pub fresh_sibling : (t : Reading) (p : Path) (name : Name) (m : Node) → stands_in t (p ++ name ∷ []) ≡ false → node_below (tree.root_of t) p ≡ Some m → sibling m.children name ≡ None
 fresh_sibling t p name m fresh e = step (sibling m.children name) (sym (ap is_some (further_below p name (tree.root_of t) m e)) ∙ fresh)
   where
     step : (o : Option Node) → is_some (option_and_then (λ (c : Node). node_below c []) o) ≡ false → o ≡ None

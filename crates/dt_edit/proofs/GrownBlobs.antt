@@ -37,6 +37,12 @@ pub record IsSameBlob (x y : List ℕ) : Type 0 where
   pub strings : strings_of y ≡ strings_of x
   pub placed : placed_of y ≡ placed_of x
 
+-- the structure block spells the tree
+pub spelled_in : (bytes : List ℕ) → IsEditable bytes → SpellsTree (strings_of bytes) (reading_in bytes).properties (reading_in bytes).children (structure_of bytes)
+spelled_in bytes e =
+    let same : reading_in bytes ≡ e.blob.0 = placed_is_read bytes e.blob.0 e.blob.1 e.blob.2 in
+    subst (λ (t : Reading). SpellsTree (strings_of bytes) t.properties t.children (structure_of bytes)) (sym same) (spelled_tree_of bytes e.blob.0 e.blob.1)
+
 same_front : (x rest : List ℕ) → IsEditable x → IsSameBlob x (take (number x 4) x ++ rest)
 unfolding placed_of
 same_front x rest e =
@@ -48,8 +54,7 @@ same_front x rest e =
     let y : List ℕ = take (number x 4) x ++ rest in
     let total = edits.blocks.total in
     let short = edits.short in
-    let same : t ≡ e.blob.0 = placed_is_read x e.blob.0 e.blob.1 e.blob.2 in
-    let tree : SpellsTree n t.properties t.children s = subst (λ (u : Reading). SpellsTree n u.properties u.children s) (sym same) (spelled_tree_of x e.blob.0 e.blob.1) in
+    let tree : SpellsTree n t.properties t.children s = spelled_in x e in
     let is : y ≡ assembled t.boot_cpu r s n ++ rest = (λ i. e.whole i ++ rest) ∙ (λ i. assembled (sym edits.cpu i) r s n ++ rest) in
     let a : IsAssembled y t s n = subst (λ (z : List ℕ). IsAssembled z t s n) (sym is) (assembled_is t s n rest edits.valid edits.within (omega arith) tree) in
     let now = edits_of y a.editable in

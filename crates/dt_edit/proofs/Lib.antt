@@ -14,4 +14,11 @@ pub mod Below
 pub mod NodeSizes
 pub mod ChildrenAdded
 pub mod GrownBlobs
+pub mod Between
+pub mod TreeSizes
+pub mod StringsUsed
+pub mod Rooms
+pub mod PhandleBytes
+pub mod DownPaths
+pub mod PhandlesMet
 pub mod Outcomes

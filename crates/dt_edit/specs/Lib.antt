@@ -1,5 +1,7 @@
 -- what callers read, in this order
 pub mod Editable
+pub mod Buffers
+pub mod BufferLaws
 -- inside
 pub mod Moving
 pub mod Plans

@@ -4,15 +4,18 @@
 
 mod cells;
 mod children;
+mod finding;
 mod laws;
 mod layout;
 mod lent;
 mod moving;
 mod names;
+mod numbers;
 mod opening;
 mod owned;
 mod phandles;
 mod properties;
+mod target;
 
 pub use cells::has_cell;
 pub use laws::{one_outcome, one_owned_outcome};

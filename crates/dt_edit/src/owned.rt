@@ -34,7 +34,12 @@ fn grow(bytes: &mut Vec<u8>, size: usize) -> Result<(), AllocError>
 }
 
 /// Sets a property of a blob behind which nothing is.
-fn set_in(bytes: &mut Vec<u8>, node: NodeId, name: &PropName<'_>, value: &[u8]) -> Result<(), Fault>
+pub(crate) fn set_in(
+    bytes: &mut Vec<u8>,
+    node: NodeId,
+    name: &PropName<'_>,
+    value: &[u8],
+) -> Result<(), Fault>
     requires whole { IsWhole bytes.old.items }
     requires node { IsNode (placed_of bytes.old.items) node }
     ensures whole { IsWhole bytes.new.items }
@@ -56,7 +61,11 @@ fn set_in(bytes: &mut Vec<u8>, node: NodeId, name: &PropName<'_>, value: &[u8]) 
 }
 
 /// Adds a child in a blob behind which nothing is.
-fn add_in(bytes: &mut Vec<u8>, parent: NodeId, name: &NodeName<'_>) -> Result<NodeId, Fault>
+pub(crate) fn add_in(
+    bytes: &mut Vec<u8>,
+    parent: NodeId,
+    name: &NodeName<'_>,
+) -> Result<NodeId, Fault>
     requires whole { IsWhole bytes.old.items }
     requires parent { IsNode (placed_of bytes.old.items) parent }
     ensures whole { IsWhole bytes.new.items }
@@ -78,7 +87,7 @@ fn add_in(bytes: &mut Vec<u8>, parent: NodeId, name: &NodeName<'_>) -> Result<No
 }
 
 /// Patches a cell in a blob behind which nothing is.
-fn patch_in(
+pub(crate) fn patch_in(
     bytes: &mut Vec<u8>,
     node: NodeId,
     name: &PropName<'_>,
@@ -92,6 +101,8 @@ fn patch_in(
     ensures ok { OnOk result (reading_in bytes.new.items ≡ with_property_at (path_in bytes.old.items node) name.now
         (value_patched bytes.old.items node name.now offset number) (reading_in bytes.old.items)) }
     ensures places { IsOk result → (path : Path) (place : ℕ) → IsAt (placed_of bytes.old.items) path place → IsAt (placed_of bytes.new.items) path place }
+    ensures strings { OnOk result (strings_of bytes.new.items ≡ strings_of bytes.old.items) }
+    ensures size { OnOk result (length bytes.new.items ≡ length bytes.old.items) }
     ensures cell { IsOk result → IsPatched bytes.old.items bytes.new.items node name.now offset number }
     ensures allowed { IsOk result → MayPatchIn bytes.old.items node name.now offset number }
     ensures err { OnErr result (bytes.new.items ≡ bytes.old.items) }
@@ -104,8 +115,8 @@ fn patch_in(
 /// them.
 #[derive(Drop)]
 pub struct BlobBuf {
-    bytes: Vec<u8>,
-    seed: Seed,
+    pub(crate) bytes: Vec<u8>,
+    pub(crate) seed: Seed,
 }
 
 impl Model for BlobBuf {
@@ -226,6 +237,8 @@ impl BlobBuf {
         ensures ok { OnOk result (reading_in self.new
             ≡ with_property_at (path_in self.old node) name.now (value_patched self.old node name.now offset number) (reading_in self.old)) }
         ensures places { IsOk result → (path : Path) (place : ℕ) → IsAt (placed_of self.old) path place → IsAt (placed_of self.new) path place }
+        ensures strings { OnOk result (strings_of self.new ≡ strings_of self.old) }
+        ensures size { OnOk result (length self.new ≡ length self.old) }
         ensures cell { IsOk result → IsPatched self.old self.new node name.now offset number }
         ensures allowed { IsOk result → MayPatchIn self.old node name.now offset number }
         ensures err { OnErr result (self.new ≡ self.old) }

@@ -11,7 +11,7 @@ use dt_read::{Blob, NodeId};
 use dt_view::TreeView;
 
 /// Whether a property's name is `phandle`.
-fn is_phandle(name: &[u8]) -> bool
+pub(crate) fn is_phandle(name: &[u8]) -> bool
     ensures { IsTrue result ↔ (name.now ≡ codes "phandle") }
 {
     name == b"phandle".as_slice()
