@@ -2,10 +2,16 @@
 
 use crate::outcome::{Outcome, Stop};
 use dt_chain::{apply_bytes, apply_list, build};
+use dt_names::{Fault, FaultKind};
+use dt_read::Blob;
+use dt_write::write_blob;
 use std::alloc::Global;
 
+/// How long a base and an object are at most that are applied both ways: edits of bytes take a time that is their number times the base's size.
+const MOST_BOTH_WAYS: usize = 1 << 16;
+
 /// `apply` gives the blob of a base with objects applied, `apply-bytes` that with one, and `build` that of a base's source with the overlays of
-/// other sources.
+/// other sources. `apply` of one object goes both ways, and reports where they differ.
 pub fn call(
     alloc: Global,
     name: &str,
@@ -13,11 +19,61 @@ pub fn call(
     overlays: &[&[u8]],
     out: &mut Outcome,
 ) -> Result<(), Stop> {
-    out.give(match (name, overlays) {
-        ("apply", _) => apply_list(alloc, base, overlays)?,
-        ("build", _) => build(alloc, base, overlays)?,
-        (_, [overlay]) => apply_bytes(alloc, base, overlay)?,
+    match (name, overlays) {
+        ("apply", [overlay]) if base.len() <= MOST_BOTH_WAYS && overlay.len() <= MOST_BOTH_WAYS => {
+            return apply_both_ways(alloc, base, overlay, out);
+        }
+        ("apply", _) => out.give(apply_list(alloc, base, overlays)?),
+        ("build", _) => out.give(build(alloc, base, overlays)?),
+        (_, [overlay]) => out.give(apply_bytes(alloc, base, overlay)?),
         _ => return Err(Stop::Malformed),
-    });
+    }
     Ok(())
+}
+
+/// The same blob as a writer makes it of its tree.
+fn normal(alloc: Global, blob: &[u8]) -> Result<Vec<u8>, Stop> {
+    let tree = Blob::check(blob)?.to_flat(alloc)?;
+    Ok(write_blob(alloc, &tree)?)
+}
+
+/// Applies an object, as a list of one and to the base's bytes.
+fn apply_both_ways(
+    alloc: Global,
+    base: &[u8],
+    overlay: &[u8],
+    out: &mut Outcome,
+) -> Result<(), Stop> {
+    match apply_list(alloc, base, &[overlay]) {
+        Ok(blob) => {
+            let edited = apply_bytes(alloc, base, overlay)?;
+            if normal(alloc, &edited)? == blob {
+                out.give(blob);
+            } else {
+                out.tell("apply-bytes answers another tree");
+            }
+            Ok(())
+        }
+        Err((input, fault)) => {
+            match refusal(alloc, base, overlay) {
+                Some(other) if other.kind == FaultKind::NoMemory => Err(Stop::from(other)),
+                Some(other) if other.kind == fault.kind && other.at == fault.at => Err(Stop::from((
+                    input, fault,
+                ))),
+                _ if fault.kind == FaultKind::NoMemory => Err(Stop::from((input, fault))),
+                _ => {
+                    out.tell("apply-bytes answers another fault");
+                    Ok(())
+                }
+            }
+        }
+    }
+}
+
+/// Why an object isn't applied to a base's bytes.
+fn refusal(alloc: Global, base: &[u8], overlay: &[u8]) -> Option<Fault> {
+    match apply_bytes(alloc, base, overlay) {
+        Ok(_) => None,
+        Err(fault) => Some(fault),
+    }
 }

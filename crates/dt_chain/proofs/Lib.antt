@@ -1,3 +1,4 @@
+pub mod EditedBytes
 pub mod Inputs
 pub mod Objects
 pub mod OverlayStages

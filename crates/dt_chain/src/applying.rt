@@ -1,28 +1,37 @@
 //! Objects applied to a blob.
 
-ghost use Rattle.std.specs.Prelude.{◌∷◌, [], ℕ, map, IfOk, IfErr};
+ghost use Rattle.std.specs.Prelude.{map, IfOk, IfErr};
+ghost use Rattle.dt_chain_promises.specs.AppliedBytes.{IsAppliedToBytes, WhyNotAppliedToBytes};
 ghost use Rattle.dt_chain_promises.specs.Apply.{IsRead, IsNoBlob, IsBlobApplied, WhyNoBlobApplied};
 
 use crate::in_turn::{Inputs, blob_of};
+use dt_edit::BlobBuf;
 use dt_flat::FlatTree;
 use dt_names::{Fault, Seed};
 use dt_overlay::{apply, tree_room_is_counted};
 use dt_read::Blob;
 use std::alloc::Global;
 
-/// The blob of a base with an overlay's object applied to it: as `apply_list` with one object.
+/// The blob of a base with an overlay's object applied to its bytes (dtc's notes on overlay objects). It has the reading of `apply_list`'s with one
+/// object; its bytes are the base's, where nothing was changed. No tree is made of the base, so a small object on a large base costs less memory; but
+/// each change moves the bytes behind it, so the time is the number of changes times the base's size.
 ///
 /// # Errors
 ///
-/// Those of `apply_list`, without the number of the input.
+/// The first fault of bytes that are no blob, at its place, of the base or else of the object; or that of `dt_overlay::apply`. `Limit`, without a
+/// place, where the base's blocks one behind the other are longer than 16 MiB; or where the blob, on the way to what comes of the object, would have
+/// more than 65,536 nodes or, with its NOPs and the names in its strings, be longer than 16 MiB. `NoMemory` has no place.
 pub fn apply_bytes(alloc: Global, base: &[u8], overlay: &[u8]) -> Result<Vec<u8>, Fault>
-    ensures blob { IfOk result (λ blob. IsBlobApplied base.now (overlay.now ∷ []) blob.items) }
-    ensures refused { IfErr result (λ fault. (k : ℕ) × WhyNoBlobApplied base.now (overlay.now ∷ []) k fault) }
+    ensures blob { IfOk result (λ blob. IsAppliedToBytes base.now overlay.now blob.items) }
+    ensures refused { IfErr result (λ fault. WhyNotAppliedToBytes base.now overlay.now fault) }
 {
-    match apply_list(alloc, base, &[overlay]) {
-        Ok(blob) => Ok(blob),
-        Err((_, fault)) => Err(fault),
-    }
+    let blob = Blob::check(base)?;
+    let object = Blob::check(overlay)?;
+    let mut buffer = BlobBuf::new(alloc, base, blob.seed().with(object.seed()))?;
+    buffer.validity();
+    apply(alloc, &mut buffer, &object)?;
+    buffer.validity();
+    Ok(buffer.into_bytes())
 }
 
 /// The blob of a base with the objects of overlays applied to it, one after another (dtc's notes on overlay objects): what

@@ -45,14 +45,14 @@ tree_is_of bytes m number h = record { represents = h.represents; meaning = h.me
 
 module _ (one : OneReading) where
   -- the tree of an overlay's blob is an object of the overlay
-  is_object : (bytes : List ℕ) (t : Reading) (o : Overlay) → IsRead bytes t → IsBlobOfOverlay bytes o → IsObject t o
+  pub is_object : (bytes : List ℕ) (t : Reading) (o : Overlay) → IsRead bytes t → IsBlobOfOverlay bytes o → IsObject t o
   is_object bytes t o h k =
       let same : k.tree ≡ t = read_once one bytes k.tree t k.read h in
       subst (λ (u : Reading). IsObject u o) same
       (record { local = k.number; encodes = k.encodes; overlay = k.overlay; valid = k.read.reads.valid; few = k.read.within.tree })
 
   -- and that of a meaning's is of the meaning
-  is_of : (bytes : List ℕ) (t : Reading) (m : Meaning) (number : Path → ℕ) → IsRead bytes t → IsBlobOfMeaning bytes m number → IsOf t m number
+  pub is_of : (bytes : List ℕ) (t : Reading) (m : Meaning) (number : Path → ℕ) → IsRead bytes t → IsBlobOfMeaning bytes m number → IsOf t m number
   is_of bytes t m number h k =
       let same : k.tree ≡ t = read_once one bytes k.tree t k.read h in
       subst (λ (u : Reading). IsOf u m number) same (tree_is_of bytes m number k)

@@ -1,3 +1,4 @@
+pub mod AppliedBytes
 pub mod AppliedMeanings
 pub mod AppliedOutcomes
 pub mod Blobs

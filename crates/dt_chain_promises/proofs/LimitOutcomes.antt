@@ -220,7 +220,7 @@ over_only : (f : checks.BlobFault) → Limit ≡ kind_of f → f ≡ over_limit
 over_only over_limit e = refl
 over_only f e = cc
 
-read_beyond : (bytes : List ℕ) → TellsLimit (IsNoBlob bytes) ↔ IsBlobBeyond bytes
+pub read_beyond : (bytes : List ℕ) → TellsLimit (IsNoBlob bytes) ↔ IsBlobBeyond bytes
 read_beyond bytes = (
   (λ h. (h.0.at, subst (λ (f : checks.BlobFault). checks.IsFirstFault bytes f h.0.at) (over_only h.1.fault (sym h.2 ∙ h.1.kind)) h.1.first)),
   (λ h. (record { kind = Limit; at = h.0 }, record { fault = over_limit; kind = refl; first = h.1 }, refl)),

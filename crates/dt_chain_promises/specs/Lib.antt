@@ -5,3 +5,4 @@ pub mod Build
 pub mod Decompile
 pub mod Laws
 pub mod Limits
+pub mod AppliedBytes

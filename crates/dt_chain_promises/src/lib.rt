@@ -2,8 +2,10 @@
 //! refusal, that what is answered is of what the texts mean, and what it tells of addresses and interrupts. No code.
 #![tactic(auto)]
 
+mod applied_bytes;
 mod laws;
 
+pub use applied_bytes::{one_applied_reading, what_applying_bytes_means};
 pub use laws::{
     one_blob, one_meaning, one_outcome, one_text, what_applying_means, what_building_means,
     what_building_resolves, what_compiling_means, what_limits_mean, what_printing_means,

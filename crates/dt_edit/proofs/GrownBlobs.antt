@@ -10,6 +10,8 @@ use Rattle.dt_model.specs.Names.{Name, IsNodeName, IsPropertyName}
 use Rattle.dt_model.specs.Tree.{Reading}
 use Rattle.dt_model_format.proofs.NoFaults.{spelled_tree_of}
 use Rattle.dt_model_format.specs.Strings.{place_in}
+use Rattle.dt_names.specs.declared.fault.FaultKind.{FaultKind}
+use Rattle.dt_names.specs.declared.fault.FaultKind.TheVariants.{NoMemory, Limit, BlobPhandle, Duplicate}
 use Rattle.dt_overlay_base.specs.Targets.{MaySetAt}
 use Rattle.dt_read.specs.Checked.{placed_of, root_of}
 use Rattle.dt_read.specs.Cuts.{changed_root, with_value, moved, moved_root, spliced}
@@ -22,7 +24,7 @@ use Rattle.dt_write.proofs.WrittenReads.{assembled_length}
 use Rattle.dt_edit.specs.declared.children.NodePlan.{NodePlan}
 use Rattle.dt_edit.specs.declared.layout.Layout.{Layout}
 use Rattle.dt_edit.specs.declared.properties.PropertyPlan.{PropertyPlan}
-use Rattle.dt_edit.specs.Editable.{reading_in, path_in, name_size, size_with_node, size_with_value, FitsIn, IsEditable, IsWhole, MayAddWithin}
+use Rattle.dt_edit.specs.Editable.{reading_in, path_in, name_size, size_with_node, size_with_value, FitsIn, IsEditable, IsWhole, MayAddWithin, WhyNotAddedOwned, WhyNotAddedWithin, WhyNotSetOwned, WhyNotSetWithin}
 use Rattle.dt_edit.specs.Moving.{node_bytes, property_bytes}
 use Rattle.dt_edit.specs.Plans.{added_name, brought_by, name_offset, place_or, size_of_blocks, HasNodeRoom, HasOtherBlocks, HasPropertyRoom, IsLayout, IsNodePlan, IsPropertyPlan}
 use Rattle.dt_edit.proofs.Assembling.{IsAssembled, IsEdited, assembled_is, edits_of}
@@ -89,6 +91,19 @@ layout_grown x y l s i = record {
   strings = i.strings ∙ ap (λ (b : List ℕ). length b) (sym s.strings);
   total = i.total ∙ sym s.total;
 }
+
+-- what is refused for want of room in lent bytes is refused so in a blob's own
+pub set_owned : (kind : FaultKind) (bytes : List ℕ) (node : ℕ) (name : Name) (value : List ℕ) → WhyNotSetWithin most_bytes kind bytes node name value → WhyNotSetOwned kind bytes node name value
+set_owned NoMemory bytes node name value why = absurd why
+set_owned BlobPhandle bytes node name value why = why
+set_owned Limit bytes node name value why = why
+set_owned _ bytes node name value why = absurd why
+
+pub added_owned : (kind : FaultKind) (bytes : List ℕ) (node : ℕ) (name : Name) → WhyNotAddedWithin most_bytes kind bytes node name → WhyNotAddedOwned kind bytes node name
+added_owned NoMemory bytes node name why = absurd why
+added_owned Duplicate bytes node name why = why
+added_owned Limit bytes node name why = why
+added_owned _ bytes node name why = absurd why
 
 -- what is behind a vector's slice is written back to it
 pub written : (items new : List ℕ) (len : ℕ) → length items ≡ len → length new ≡ length items → take len (new ++ drop (length new) items) ≡ new

@@ -1,7 +1,7 @@
 use Rattle.std.proofs.Common.{rules, ◌≡◌, ◌+◌, ◌-◌, ◌<◌, ◌++◌, ◌∷◌, [], ℕ, List, length, take, drop, None, refl, sym, ap, subst, ◌∙◌, arith}
 use Rattle.std.specs.Prelude.{replicate, IfErr}
 use Rattle.std.proofs.lemmas.List.{append-nil, length-append, length-replicate}
-use Rattle.std.proofs.lemmas.Result.{IfErr-weaker}
+use Rattle.std.proofs.lemmas.Result.{err_from_is_err_and, IfErr-weaker}
 use Rattle.dt_model.specs.Changes.{with_child_at}
 use Rattle.dt_model.specs.Checks.{number, strings_of, structure_of}
 use Rattle.dt_model.specs.Limits.{most_bytes}
@@ -11,12 +11,12 @@ use Rattle.dt_names.specs.declared.fault.Fault.{Fault}
 use Rattle.dt_read.specs.Checked.{placed_of}
 use Rattle.dt_read.specs.Cuts.{spliced}
 use Rattle.dt_read.specs.Placed.{IsAt}
-use Rattle.dt_edit.specs.Editable.{reading_in, path_in, size_with_node, FitsIn, IsWhole, MayAddWithin, WhyNotAddedOwned}
+use Rattle.dt_edit.specs.Editable.{reading_in, path_in, size_with_node, FitsIn, IsWhole, MayAddWithin, WhyNotAddedOwned, WhyNotAddedWithin}
 use Rattle.dt_edit.specs.Moving.{node_bytes}
 use Rattle.dt_edit.specs.Plans.{IsNodePlan}
 use Rattle.dt_edit.proofs.Assembling.{edits_of}
 use Rattle.dt_edit.proofs.ChildrenAdded.{root_with_node, node_places, node_there}
-use Rattle.dt_edit.proofs.GrownBlobs.{IsSameBlob, IsChangedBlob, node_owned, node_room, same_blob, written}
+use Rattle.dt_edit.proofs.GrownBlobs.{IsSameBlob, IsChangedBlob, added_owned, node_owned, node_room, same_blob, written}
 use Rattle.dt_edit.proofs.owned.add_in.Goals as goal
 
 -- the plan, of the blob that there was
@@ -27,6 +27,16 @@ planned c =
     let plan = c.in_ok-plan.plan in
     let of : List ℕ → Type 0 = λ b. IsNodePlan b c.args.parent plan × (plan.size ≡ size_with_node b key) × MayAddWithin most_bytes b c.args.parent key in
     subst of c.deref.ensures.value (c.in_ok-plan.ensures.plan, c.in_ok-plan.ensures.size, c.in_ok-plan.ensures.allowed refl)
+
+pub returns-in_err-plan-clause-refused : goal.returns-in_err-plan-clause-refused
+returns-in_err-plan-clause-refused c =
+    let old = c.args.bytes.now.items in
+    let kind = c.in_err-plan.field-0.0.kind in
+    let e = err_from_is_err_and c.from_residual.result c.from_residual.ensures.1 in
+    let why = c.in_err-plan.ensures.refused in
+    let here = subst (λ (b : List ℕ). WhyNotAddedWithin most_bytes kind b c.args.parent c.as_bytes-key.result.now) c.deref.ensures.value why.0 in
+    let named = subst (λ (n : Name). WhyNotAddedWithin most_bytes kind old c.args.parent n) c.as_bytes-key.ensures.value here in
+    rw (e.1, e.2) (added_owned kind old c.args.parent c.args.name.now named, why.1)
 
 pub returns-in_err-grow-clause-refused : goal.returns-in_err-grow-clause-refused
 returns-in_err-grow-clause-refused c =

@@ -3,6 +3,7 @@ use Rattle.dt_read.specs.Checked.{placed_of}
 use Rattle.dt_read.specs.Placed.{IsAt}
 use Rattle.std.proofs.lemmas.Result.{on_ok_weaker, on_err_weaker, IfErr-weaker}
 use Rattle.dt_model.specs.Changes.{with_property_at}
+use Rattle.dt_model.specs.Checks.{strings_of}
 use Rattle.dt_edit.specs.Editable.{reading_in, path_in, value_patched, IsWhole, MayPatchIn, WhyNotPatchedIn}
 use Rattle.dt_edit.specs.Plans.{IsPatched}
 use Rattle.dt_edit.proofs.GrownBlobs.{still_whole, written}
@@ -47,3 +48,10 @@ pub returns-clause-refused : goal.returns-clause-refused
 returns-clause-refused c =
     IfErr-weaker c.patch_cell.result _ _
     (λ fault why. (subst (λ (b : List ℕ). WhyNotPatchedIn fault.kind b c.args.node c.args.name.now c.args.offset c.args.number) c.deref_mut.ensures.value why.0, why.1)) c.patch_cell.ensures.refused
+
+pub returns-clause-strings : goal.returns-clause-strings
+returns-clause-strings c = on_ok_weaker c.patch_cell.result (λ e. ap strings_of (end c) ∙ e ∙ ap strings_of c.deref_mut.ensures.value) c.patch_cell.ensures.strings
+
+pub returns-clause-size : goal.returns-clause-size
+returns-clause-size c =
+    on_ok_weaker c.patch_cell.result (λ _. ap (λ (b : List ℕ). length b) (end c) ∙ c.patch_cell.auto.bytes ∙ ap (λ (b : List ℕ). length b) c.deref_mut.ensures.value) c.patch_cell.ensures.size

@@ -1,17 +1,20 @@
-use Rattle.std.proofs.Common.{◌≡◌, ◌+◌, ◌-◌, ◌++◌, ℕ, List, length, take, refl, sym, ap, subst, ◌∙◌, arith}
-use Rattle.std.specs.Prelude.{replicate}
+use Rattle.std.proofs.Common.{rules, None, ◌≡◌, ◌+◌, ◌-◌, ◌++◌, ℕ, List, length, take, refl, sym, ap, subst, ◌∙◌, arith}
+use Rattle.std.specs.Prelude.{replicate, IfErr}
 use Rattle.std.proofs.lemmas.List.{length-append, length-replicate}
+use Rattle.std.proofs.lemmas.Result.{err_from_is_err_and, IfErr-weaker}
 use Rattle.dt_model.specs.Changes.{with_property_at}
 use Rattle.dt_model.specs.Checks.{number, strings_of, structure_of}
 use Rattle.dt_model.specs.Limits.{most_bytes}
 use Rattle.dt_model.specs.Names.{Name, IsPropertyName}
+use Rattle.dt_names.specs.Fault.{IsNoMemory}
+use Rattle.dt_names.specs.declared.fault.Fault.{Fault}
 use Rattle.dt_read.specs.Checked.{placed_of, root_of}
 use Rattle.dt_read.specs.Cuts.{changed_root, with_value, moved, moved_root, spliced}
 use Rattle.dt_read.specs.Placed.{IsAt}
-use Rattle.dt_edit.specs.Editable.{reading_in, path_in, size_with_value, FitsIn, IsWhole, MaySetWithin}
+use Rattle.dt_edit.specs.Editable.{reading_in, path_in, size_with_value, FitsIn, IsWhole, MaySetWithin, WhyNotSetOwned, WhyNotSetWithin}
 use Rattle.dt_edit.specs.Moving.{property_bytes}
 use Rattle.dt_edit.specs.Plans.{added_name, name_offset, IsPropertyPlan}
-use Rattle.dt_edit.proofs.GrownBlobs.{IsSameBlob, IsChangedBlob, property_owned, property_room, same_blob, written}
+use Rattle.dt_edit.proofs.GrownBlobs.{IsSameBlob, IsChangedBlob, property_owned, property_room, same_blob, set_owned, written}
 use Rattle.dt_edit.proofs.PropertiesSet.{property_places}
 use Rattle.dt_edit.proofs.owned.set_in.Goals as goal
 
@@ -24,6 +27,25 @@ planned c =
     let value = c.args.value.now in
     let of : List ℕ → Type 0 = λ b. IsPropertyPlan b c.args.node key plan × (plan.size ≡ size_with_value b c.args.node key value) × MaySetWithin most_bytes b c.args.node key value in
     subst of c.deref.ensures.value (c.in_ok-plan.ensures.plan, c.in_ok-plan.ensures.size, c.in_ok-plan.ensures.allowed refl)
+
+pub returns-in_err-plan-clause-refused : goal.returns-in_err-plan-clause-refused
+returns-in_err-plan-clause-refused c =
+    let old = c.args.bytes.now.items in
+    let kind = c.in_err-plan.field-0.0.kind in
+    let e = err_from_is_err_and c.from_residual.result c.from_residual.ensures.1 in
+    let why = c.in_err-plan.ensures.refused in
+    let here = subst (λ (b : List ℕ). WhyNotSetWithin most_bytes kind b c.args.node c.as_bytes-key.result.now c.args.value.now) c.deref.ensures.value why.0 in
+    let named = subst (λ (n : Name). WhyNotSetWithin most_bytes kind old c.args.node n c.args.value.now) c.as_bytes-key.ensures.value here in
+    rw (e.1, e.2) (set_owned kind old c.args.node c.args.name.now c.args.value.now named, why.1)
+
+pub returns-in_err-grow-clause-refused : goal.returns-in_err-grow-clause-refused
+returns-in_err-grow-clause-refused c =
+    let old = c.args.bytes.now.items in
+    let told : IfErr c.from_residual-in_err-grow.result IsNoMemory = search rules in
+    let may = subst (λ (b : List ℕ). MaySetWithin most_bytes b c.args.node c.as_bytes-key.result.now c.args.value.now) c.deref.ensures.value (c.in_ok-plan.ensures.allowed refl) in
+    let named = subst (λ (n : Name). MaySetWithin most_bytes old c.args.node n c.args.value.now) c.as_bytes-key.ensures.value may in
+    IfErr-weaker c.from_residual-in_err-grow.result IsNoMemory (λ (fault : Fault). WhyNotSetOwned fault.kind old c.args.node c.args.name.now c.args.value.now × (fault.at ≡ None))
+    (λ fault why. (subst (λ k. WhyNotSetOwned k old c.args.node c.args.name.now c.args.value.now) (sym why.0) named, why.1)) told
 
 -- the bytes with room
 grown : (c : goal.After-truncate) → c.deref_mut.result.now ≡ c.args.bytes.now.items ++ replicate (c.in_ok-plan.plan.size - length c.args.bytes.now.items) 0
