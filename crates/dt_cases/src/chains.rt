@@ -32,9 +32,17 @@ pub fn call(
 }
 
 /// The same blob as a writer makes it of its tree.
-fn normal(alloc: Global, blob: &[u8]) -> Result<Vec<u8>, Stop> {
+fn normal(alloc: Global, blob: &[u8]) -> Result<Vec<u8>, Fault> {
     let tree = Blob::check(blob)?.to_flat(alloc)?;
-    Ok(write_blob(alloc, &tree)?)
+    write_blob(alloc, &tree)
+}
+
+/// What is refused once a list was applied is refused for the object.
+fn of_object(outcome: Result<Vec<u8>, Fault>) -> Result<Vec<u8>, Stop> {
+    match outcome {
+        Ok(blob) => Ok(blob),
+        Err(fault) => Err(Stop::RefusedInput(1, fault)),
+    }
 }
 
 /// Applies an object, as a list of one and to the base's bytes.
@@ -46,27 +54,23 @@ fn apply_both_ways(
 ) -> Result<(), Stop> {
     match apply_list(alloc, base, &[overlay]) {
         Ok(blob) => {
-            let edited = apply_bytes(alloc, base, overlay)?;
-            if normal(alloc, &edited)? == blob {
+            let edited = of_object(apply_bytes(alloc, base, overlay))?;
+            if of_object(normal(alloc, &edited))? == blob {
                 out.give(blob);
             } else {
                 out.tell("apply-bytes answers another tree");
             }
             Ok(())
         }
-        Err((input, fault)) => {
-            match refusal(alloc, base, overlay) {
-                Some(other) if other.kind == FaultKind::NoMemory => Err(Stop::from(other)),
-                Some(other) if other.kind == fault.kind && other.at == fault.at => Err(Stop::from((
-                    input, fault,
-                ))),
-                _ if fault.kind == FaultKind::NoMemory => Err(Stop::from((input, fault))),
-                _ => {
-                    out.tell("apply-bytes answers another fault");
-                    Ok(())
-                }
+        Err((input, fault)) => match refusal(alloc, base, overlay) {
+            Some(other) if other.kind == FaultKind::NoMemory => Err(Stop::from((input, other))),
+            Some(other) if is_same(other, fault) => Err(Stop::from((input, fault))),
+            _ if fault.kind == FaultKind::NoMemory => Err(Stop::from((input, fault))),
+            _ => {
+                out.tell("apply-bytes answers another fault");
+                Ok(())
             }
-        }
+        },
     }
 }
 
@@ -76,4 +80,8 @@ fn refusal(alloc: Global, base: &[u8], overlay: &[u8]) -> Option<Fault> {
         Ok(_) => None,
         Err(fault) => Some(fault),
     }
+}
+
+fn is_same(fault: Fault, other: Fault) -> bool {
+    fault.kind == other.kind && fault.at == other.at
 }
