@@ -1,12 +1,13 @@
-use Rattle.std.proofs.Common.{◌≡◌, ◌++◌, ◌+◌, ◌∷◌, [], refl, sym, ap, subst, ◌∙◌, arith}
+use Rattle.std.proofs.Common.{rules, ◌<◌, length, ◌≡◌, ◌++◌, ◌+◌, ◌∷◌, [], refl, sym, ap, subst, ◌∙◌, arith}
 use Rattle.std.proofs.lemmas.List.{append-nil}
+use Rattle.std.proofs.lemmas.Result.{err_from_is_err_and}
 use Rattle.dt_model.specs.Changes.{with_child_at}
 use Rattle.dt_model.specs.Checks.{number, strings_of, structure_of}
 use Rattle.dt_model.specs.Names.{Name, IsNodeName}
 use Rattle.dt_read.specs.Checked.{placed_of}
 use Rattle.dt_read.specs.Cuts.{spliced}
 use Rattle.dt_read.specs.Placed.{IsAt}
-use Rattle.dt_edit.specs.Editable.{reading_in, path_in, size_with_node, MayAddIn}
+use Rattle.dt_edit.specs.Editable.{reading_in, path_in, size_with_node, MayAddIn, WhyNotAddedIn}
 use Rattle.dt_edit.specs.Moving.{node_bytes}
 use Rattle.dt_edit.proofs.Assembling.{IsEdited, behind_kept, edits_of}
 use Rattle.dt_edit.proofs.ChildrenAdded.{root_with_node, node_added, node_total, node_places, node_there}
@@ -15,6 +16,19 @@ use Rattle.dt_edit.proofs.lent.add_node.Goals as goal
 -- it may be added
 may : (c : goal.After-slice_known-2-1) → MayAddIn c.args.bytes.now c.args.parent c.as_bytes-key.result.now
 may c = c.in_ok-plan.ensures.allowed refl
+
+pub returns-in_err-plan-clause-refused : goal.returns-in_err-plan-clause-refused
+returns-in_err-plan-clause-refused c =
+    let e = err_from_is_err_and c.from_residual.result c.from_residual.ensures.1 in
+    let why = c.in_err-plan.ensures.refused in
+    rw (e.1, e.2) (subst (λ (n : Name). WhyNotAddedIn c.in_err-plan.field-0.0.kind c.args.bytes.now c.args.parent n) c.as_bytes-key.ensures.value why.0, why.1)
+
+pub carry_out-requires-clause-room : goal.carry_out-requires-clause-room
+carry_out-requires-clause-room c =
+    let plan = c.in_ok-plan.ensures.plan in
+    let inside = plan.cut.behind.inside in
+    let short : length c.as_bytes-key.result.now < 256 = search rules in
+    record { layout = plan.layout; inside = omega arith; short = short; fits = (c.in_ok-plan.ensures.allowed refl).fits }
 
 -- what the bytes are then
 done : (c : goal.After-slice_known-2-1) → (let old = c.args.bytes.now in let key = c.as_bytes-key.result.now in let cut = c.in_ok-plan.plan.cut in

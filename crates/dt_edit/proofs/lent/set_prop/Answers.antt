@@ -1,10 +1,11 @@
 use Rattle.std.proofs.Common.{◌++◌, ◌+◌, List, ℕ, length, refl, sym, ap, subst, ◌∙◌}
+use Rattle.std.proofs.lemmas.Result.{err_from_is_err_and}
 use Rattle.dt_model.specs.Changes.{with_property_at}
 use Rattle.dt_model.specs.Checks.{number, strings_of, structure_of}
 use Rattle.dt_model.specs.Names.{Name, IsPropertyName}
 use Rattle.dt_read.specs.Checked.{root_of}
 use Rattle.dt_read.specs.Cuts.{changed_root, with_value, moved, moved_root, spliced}
-use Rattle.dt_edit.specs.Editable.{reading_in, path_in, size_with_value, MaySetIn}
+use Rattle.dt_edit.specs.Editable.{reading_in, path_in, size_with_value, MaySetIn, WhyNotSetIn}
 use Rattle.dt_edit.specs.Moving.{property_bytes}
 use Rattle.dt_edit.specs.Plans.{added_name, name_offset}
 use Rattle.dt_edit.proofs.Assembling.{IsEdited, behind_kept, edits_of}
@@ -18,6 +19,12 @@ carry_out-requires-clause-room c =
     let fits = (c.in_ok-plan.ensures.allowed refl).fits in
     property_room old old c.args.node c.as_bytes-key.result.now c.args.value.now c.in_ok-plan.plan (same_own old c.requires.editable) c.in_ok-plan.ensures.plan (record { room = fits.limit; limit = fits.limit }) fits.room
     (edits_of old c.requires.editable).inside
+
+pub returns-in_err-plan-clause-refused : goal.returns-in_err-plan-clause-refused
+returns-in_err-plan-clause-refused c =
+    let e = err_from_is_err_and c.from_residual.result c.from_residual.ensures.1 in
+    let why = c.in_err-plan.ensures.refused in
+    rw (e.1, e.2) (subst (λ (n : Name). WhyNotSetIn c.in_err-plan.field-0.0.kind c.args.bytes.now c.args.node n c.args.value.now) c.as_bytes-key.ensures.value why.0, why.1)
 
 -- what the bytes are then
 done : (c : goal.After-slice_known-2-1) → (let old = c.args.bytes.now in let key = c.as_bytes-key.result.now in let cut = c.in_ok-plan.plan.cut in let own = property_bytes (name_offset old key) c.args.value.now in

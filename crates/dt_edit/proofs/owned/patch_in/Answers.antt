@@ -1,10 +1,10 @@
 use Rattle.std.proofs.Common.{◌≡◌, ◌++◌, ℕ, List, length, take, drop, sym, ap, subst, ◌∙◌, arith}
 use Rattle.dt_read.specs.Checked.{placed_of}
-use Rattle.dt_read.specs.Placed.{IsAt}
+use Rattle.dt_read.specs.Placed.{IsAt, IsNode}
 use Rattle.std.proofs.lemmas.Result.{on_ok_weaker, on_err_weaker, IfErr-weaker}
 use Rattle.dt_model.specs.Changes.{with_property_at}
 use Rattle.dt_model.specs.Checks.{strings_of}
-use Rattle.dt_edit.specs.Editable.{reading_in, path_in, value_patched, IsWhole, MayPatchIn, WhyNotPatchedIn}
+use Rattle.dt_edit.specs.Editable.{reading_in, path_in, value_patched, HasCellAt, IsEditable, IsWhole, MayPatchIn, WhyNotPatchedIn}
 use Rattle.dt_edit.specs.Plans.{IsPatched}
 use Rattle.dt_edit.proofs.GrownBlobs.{still_whole, written}
 use Rattle.dt_edit.proofs.owned.patch_in.Goals as goal
@@ -13,6 +13,15 @@ end : (c : goal.After-bytes-1) → take c.args.bytes.now.len (c.patch_cell.new.b
 end c =
     written c.args.bytes.now.items c.patch_cell.new.bytes c.args.bytes.now.len (ap (λ (b : List ℕ). length b) (sym c.deref_mut.ensures.value) ∙ c.deref_mut.ensures.len)
     (omega (arith, c.patch_cell.auto.bytes, ap (λ (b : List ℕ). length b) c.deref_mut.ensures.value))
+
+pub patch_cell-requires-clause-editable : goal.patch_cell-requires-clause-editable
+patch_cell-requires-clause-editable c = subst IsEditable (sym c.deref_mut.ensures.value) c.requires.whole.editable
+
+pub patch_cell-requires-clause-node : goal.patch_cell-requires-clause-node
+patch_cell-requires-clause-node c = subst (λ (b : List ℕ). IsNode (placed_of b) c.args.node) (sym c.deref_mut.ensures.value) c.requires.node
+
+pub patch_cell-requires-clause-cell : goal.patch_cell-requires-clause-cell
+patch_cell-requires-clause-cell c = subst (λ (b : List ℕ). HasCellAt b c.args.node c.args.name.now c.args.offset) (sym c.deref_mut.ensures.value) c.requires.cell
 
 pub returns-clause-whole : goal.returns-clause-whole
 returns-clause-whole c =

@@ -5,6 +5,27 @@ use Rattle.dt_edit.specs.Editable.{name_size, size_with_value, FitsIn, WhyNotSet
 use Rattle.dt_edit.proofs.properties.plan_property.Goals as goal
 use Rattle.dt_edit.proofs.properties.plan_property.Goals.{in-Some, in-None}
 
+pub may_set-requires-clause-blob : goal.may_set-requires-clause-blob
+may_set-requires-clause-blob c = c.requires.editable.blob
+
+pub property_cut-cut-requires-clause-blob : goal.property_cut-cut-requires-clause-blob
+property_cut-cut-requires-clause-blob c = c.requires.editable.blob
+
+pub returns-then-value-gt-MOST_BYTES-clause-refused : goal.returns-then-value-gt-MOST_BYTES-clause-refused
+returns-then-value-gt-MOST_BYTES-clause-refused c =
+    let old = c.args.bytes.now in
+    let name = c.args.name.now in
+    let value = c.args.value.now in
+    let may = c.may_set.ensures.0 c.if-not-may_set.false in
+    let layout = c.layout_of-layout.ensures in
+    let total = layout.total in
+    let structure = layout.structure in
+    let taken = c.property_cut-cut.ensures.taken in
+    let inside = c.property_cut-cut.ensures.behind.inside in
+    let more = c.if-value-gt-MOST_BYTES.true in
+    let long : ¬ FitsIn c.args.room (size_with_value old c.args.node name value) = λ f. let limit = f.limit in omega (arith, total, structure, taken, inside, more, limit) in
+    (subst (λ k. WhyNotSetWithin c.args.room k old c.args.node name value) (sym c.of-then-value-gt-MOST_BYTES.ensures.kind) (may, long), c.of-then-value-gt-MOST_BYTES.ensures.at)
+
 pub returns-then-size-room-clause-refused : goal.returns-then-size-room-clause-refused
 returns-then-size-room-clause-refused c =
     let old = c.args.bytes.now in
