@@ -46,3 +46,22 @@ returns-then-size-room-clause-refused c =
       | inr more ↦ omega (arith, more, total, own, added, taken, limit)
     ] in
     (subst (λ k. WhyNotSetWithin c.args.room k old c.args.node name value) (sym c.of-then-size-room.ensures.kind) (may, long), c.of-then-size-room.ensures.at)
+
+pub returns-clause-allowed : goal.returns-clause-allowed
+returns-clause-allowed c = λ _.
+    let old = c.args.bytes.now in
+    let name = c.args.name.now in
+    let total = c.layout_of-layout.ensures.total in
+    let taken = c.property_cut-cut.ensures.taken in
+    let own = c.padded_len.ensures in
+    let found : c.place_in-place.result ≡ place_in (strings_of old) name = c.place_in-place.ensures ∙ ap (λ (strings : List ℕ). place_in strings name) c.strings_in.ensures in
+    let added : c.match-place.added ≡ name_size (place_in (strings_of old) name) name = elim c.match-place.branch [
+      | in-Some w ↦ w.added-is ∙ sym (ap (λ (o : Option ℕ). name_size o name) (sym found ∙ w.in-Some.is))
+      | in-None w ↦ w.added-is ∙ sym (ap (λ (o : Option ℕ). name_size o name) (sym found ∙ w.in-None.is))
+    ] in
+    let room = c.if-size-room.false in
+    let limit = c.if-size-gt-MOST_BYTES.false in
+    record {
+      may = c.may_set.ensures.0 c.if-not-may_set.false;
+      fits = record { room = omega (arith, room, total, taken, own, added); limit = omega (arith, limit, total, taken, own, added) };
+    }
