@@ -40,6 +40,7 @@ applied_to_bytes base object copy new t o read also of_base well applied follows
         steps = (o, reading_in new, also, record { well = well; applied = applied; valid = edits.valid; within = edits.within }, refl);
       };
       read = read_whole new whole;
+      whole = whole;
       copy = copy;
       of_base = of_base;
       follows = follows;

@@ -29,11 +29,12 @@ pub record IsCopy (bytes copy : List ℕ) : Type 0 where
   pub structure : structure_of copy ≡ structure_of bytes
   pub strings : strings_of copy ≡ strings_of bytes
 
--- the blob is read as what comes of the object on the base, and it comes of a copy of the base by changes
+-- the blob is read as what comes of the object on the base, with nothing behind it, and it comes of a copy of the base by changes
 pub record IsAppliedToBytes (base object blob : List ℕ) : Type 0 where
   pub result : Reading
   pub outcome : IsOutcome IsRead IsRead base (object ∷ []) result
   pub read : IsRead blob result
+  pub whole : IsWhole blob
   pub copy : List ℕ
   pub of_base : IsCopy base copy
   pub follows : Follows copy blob
