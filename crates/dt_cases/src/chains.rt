@@ -64,7 +64,7 @@ fn apply_both_ways(
         }
         Err((input, fault)) => match refusal(alloc, base, overlay) {
             Some(other) if other.kind == FaultKind::NoMemory => Err(Stop::from((input, other))),
-            Some(other) if is_same(other, fault) => Err(Stop::from((input, fault))),
+            Some(other) if other == fault => Err(Stop::from((input, fault))),
             _ if fault.kind == FaultKind::NoMemory => Err(Stop::from((input, fault))),
             _ => {
                 out.tell("apply-bytes answers another fault");
@@ -80,8 +80,4 @@ fn refusal(alloc: Global, base: &[u8], overlay: &[u8]) -> Option<Fault> {
         Ok(_) => None,
         Err(fault) => Some(fault),
     }
-}
-
-fn is_same(fault: Fault, other: Fault) -> bool {
-    fault.kind == other.kind && fault.at == other.at
 }
