@@ -1,12 +1,12 @@
 -- What a changed tree reads as, and where its nodes are.
-use Rattle.std.proofs.Common.{◌≡◌, ℕ, Bool, true, false, cond, List, [], ◌∷◌, ◌++◌, Option, Some, None, refl, sym, ap, subst, ◌∙◌}
+use Rattle.std.proofs.Common.{◌≡◌, ℕ, Bool, true, false, cond, [], ◌∷◌, ◌++◌, Some, None, refl, ap}
 use Rattle.std.specs.Option.{option_map}
 use Rattle.std.specs.Str.{bytes_eq}
 use Rattle.dt_model.proofs.Tests.{bytes_eq_refl}
 use Rattle.dt_model.specs.Changes.{changed_sibling, changed_below}
 use Rattle.dt_model.specs.Names.{Name}
 use Rattle.dt_model.specs.Path.{Path}
-use Rattle.dt_model.specs.Tree.{Property, Forest, no_nodes as no_branches, branch, Node}
+use Rattle.dt_model.specs.Tree.{Forest, no_nodes as no_branches, branch, Node}
 use Rattle.dt_read.specs.Cuts.{Content, changed_named, changed_content, appended, with_node, moved_nodes}
 use Rattle.dt_read.specs.Placed.{Nodes, no_nodes, node, forest_of, place_below}
 

@@ -1,12 +1,15 @@
 -- Reading tokens one after another.
-use Rattle.std.proofs.Common.{◌≡◌, ℕ, suc, ◌+◌, ◌^◌, ◌<◌, ◌≤◌, List, [], ◌∷◌, ◌++◌, length, map, drop, Some, None, refl, sym, ap, ◌∙◌, append_assoc, arith}
-use Rattle.std.proofs.lemmas.List.{length-append, length-drop}
+use Rattle.std.proofs.Common.{◌≡◌, ◌⊎◌, ℕ, suc, ◌+◌, ◌^◌, ◌<◌, ◌≤◌, List, [], ◌∷◌, ◌++◌, length, map, take, drop, Option, Some, None, refl, sym, ap, subst, ◌∙◌, append_assoc, inl, inr, arith}
+use Rattle.std.specs.Option.{IfSome}
+use Rattle.std.proofs.lemmas.List.{length-append, length-drop, take_at}
 use Rattle.dt_model.specs.Tree.{Property}
 use Rattle.dt_model.specs.Format as model
 use Rattle.dt_model.specs.Lexing.{token_in}
 use Rattle.dt_read.specs.declared.token.Token.{Token}
 use Rattle.dt_read.specs.declared.token.Token.TheVariants as code
-use Rattle.dt_read.specs.View.{view_at}
+use Rattle.dt_read.specs.declared.token.Tag.{Tag}
+use Rattle.dt_read.specs.declared.token.Tag.TheVariants as tags
+use Rattle.dt_read.specs.View.{view_at, tag_view, tag_mark, HasToken, IsInFront, IsTagIn}
 use Rattle.dt_read.specs.Placed.{Nodes, no_nodes, node}
 use Rattle.dt_read.specs.Marks.{Mark, begin_mark, end_mark, prop_mark, nop_mark, last_mark, token_of, mark_at, SpellsMarks, Takes, marks_of_nodes, without_nop_marks}
 use Rattle.dt_read.specs.Parsing.{lexed}
@@ -103,3 +106,72 @@ pub past_properties_at : (properties : List Property) (children : Nodes) (more :
 past_properties_at [] no_nodes more = refl
 past_properties_at [] (node place name properties children siblings) more = refl
 past_properties_at (p ∷ properties) children more = past_properties_at properties children more
+
+-- ---- tokens without the texts of properties
+
+-- the token at the front, where there is one
+abbrev FirstToken : List ℕ → List ℕ → Type 0
+FirstToken strings bytes = (token : model.Token) × (n : ℕ) × (token_in strings bytes ≡ Some (token, n)) × Takes strings bytes token n
+
+first_token : (strings : List ℕ) (at : ℕ) (bytes : List ℕ) → AreTokens strings at bytes → (bytes ≡ []) ⊎ FirstToken strings bytes
+first_token strings at bytes a = by a.marks a.spelled
+  where
+    by : (marks : List Mark) → SpellsMarks strings at marks bytes → (bytes ≡ []) ⊎ FirstToken strings bytes
+    by [] s = inl s
+    by (mark ∷ marks) s =
+        let own : take (length s.0) bytes ≡ s.0 = ap (take (length s.0)) s.2 ∙ take_at s.0 s.1 (length s.0) refl in
+        let long = spelled_len strings at mark s.0 s.3 in
+        let size = ap length s.2 ∙ length-append s.0 s.1 in
+        inr (
+          token_of mark,
+          length s.0,
+          ap (token_in strings) s.2 ∙ read_again strings at mark s.0 s.1 s.3,
+          record {
+            spelled = subst (model.Spells strings (token_of mark)) (sym own) s.3.token;
+            within = omega arith;
+            positive = omega arith;
+          },
+        )
+
+-- the tokens behind a tag
+pub record NextTag (strings : List ℕ) (at : ℕ) (bytes : List ℕ) (tag : Tag) (n : ℕ) : Type 0 where
+  pub p : Property
+  pub next : Next strings at bytes (tag_mark at tag p) n
+  pub own : HasToken strings tag p
+
+pub next_tag_from : (strings : List ℕ) (at : ℕ) (bytes : List ℕ) (tag : Tag) (n : ℕ) → AreTokens strings at bytes → IfSome (token_in strings bytes) (IsTagIn (Some (tag, n))) → (4 ≤ n) × (n ≤ length bytes) → IsInFront tag bytes → NextTag strings at bytes tag n
+next_tag_from strings at bytes tag n a is within front = elim (first_token strings at bytes a) [
+  | inl none ↦ absurd (let e = ap length none in let l = within.0 in let w = within.1 in omega arith)
+  | inr f ↦ (
+      let t : IsTagIn (Some (tag, n)) (f.0, f.1) = subst (λ (o : Option (model.Token × ℕ)). IfSome o (IsTagIn (Some (tag, n)))) f.2 is in
+      let next : Next strings at bytes (mark_at at f.0) f.1 = next_from strings at bytes f.0 f.1 a f.2 f.3 in
+      record {
+        p = t.0;
+        next = subst (λ (k : ℕ). Next strings at bytes (tag_mark at tag t.0) k) (sym t.2) (subst (λ (k : model.Token). Next strings at bytes (mark_at at k) f.1) (sym t.1) next);
+        own = has_token tag t.0 front (subst (λ (k : model.Token). Takes strings bytes k f.1) (sym t.1) f.3);
+      })
+]
+  where
+    has_token : (tag : Tag) (p : Property) → IsInFront tag bytes → {m : ℕ} → Takes strings bytes (tag_view tag p) m → HasToken strings tag p
+    has_token (tags.BeginNode name) p front t = tt
+    has_token tags.EndNode p front t = tt
+    has_token (tags.Property own) p front {m} t = (m, subst (λ (x : List ℕ). Takes strings x (model.prop p) m) (sym front) t)
+    has_token tags.Nop p front t = tt
+    has_token tags.End p front t = tt
+
+pub no_tag : (strings : List ℕ) (at : ℕ) (bytes : List ℕ) → AreTokens strings at bytes → IfSome (token_in strings bytes) (IsTagIn None) → marks_in strings at bytes ≡ []
+no_tag strings at bytes a is = nothing_left strings at bytes a (by (token_in strings bytes) is)
+  where
+    by : (o : Option (model.Token × ℕ)) → IfSome o (IsTagIn None) → o ≡ None
+    by None h = refl
+    by (Some t) h = absurd h
+
+pub kept_tag : (at : ℕ) (tag : Tag) (p : Property) (marks : List Mark) → (tag ≡ tags.Nop → ⊥) → without_nop_marks (tag_mark at tag p ∷ marks) ≡ tag_mark at tag p ∷ without_nop_marks marks
+kept_tag at (tags.BeginNode name) p marks h = refl
+kept_tag at tags.EndNode p marks h = refl
+kept_tag at (tags.Property own) p marks h = refl
+kept_tag at tags.Nop p marks h = absurd (h refl)
+kept_tag at tags.End p marks h = refl
+
+pub skipped_tag : (at : ℕ) (tag : Tag) (p : Property) (marks : List Mark) → tag ≡ tags.Nop → without_nop_marks (tag_mark at tag p ∷ marks) ≡ without_nop_marks marks
+skipped_tag at tag p marks h = ap (λ (t : Tag). without_nop_marks (tag_mark at t p ∷ marks)) h

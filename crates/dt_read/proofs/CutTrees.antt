@@ -1,20 +1,13 @@
 -- What a block spells whose tokens are cut at a node, with others put between.
-use Rattle.std.proofs.Common.{◌≡◌, ℕ, zero, suc, ◌+◌, ◌-◌, ◌<◌, ◌≤◌, Bool, true, false, cond, List, [], ◌∷◌, ◌++◌, length, take, drop, map, Option, Some, None, refl, sym, ap, subst, ◌∙◌, append_assoc, arith}
-use Rattle.std.proofs.lemmas.List.{append-nil, append_cancel_right, length-append, length-drop, length-take-le, map-append, take-append-drop, drop-drop}
-use Rattle.std.specs.List.{AllByRecursion}
-use Rattle.std.specs.Str.{bytes_eq}
-use Rattle.std.proofs.lemmas.Slice.Eq.{bytes_eq-Decides}
-use Rattle.dt_model.specs.Changes.{set_property}
+use Rattle.std.proofs.Common.{◌≡◌, ℕ, ◌+◌, ◌-◌, ◌≤◌, List, [], ◌∷◌, ◌++◌, length, take, drop, map, refl, sym, ap, subst, ◌∙◌, append_assoc, arith}
+use Rattle.std.proofs.lemmas.List.{append_cancel_right, length-take-le, map-append, take-append-drop}
 use Rattle.dt_model.specs.Checks.{number, strings_of, structure_of}
-use Rattle.dt_model.specs.Names.{Name}
-use Rattle.dt_model.specs.Path.{Path}
-use Rattle.dt_model.specs.Tree.{Property}
 use Rattle.dt_read.specs.Checked.{IsBlob, placed_of, root_of}
-use Rattle.dt_read.specs.Cuts.{Content, content_of, changed_root, with_value, appended, with_node, moved, moved_nodes, moved_content, moved_root, spliced, marks_of_content, HasNoProperty, IsFoundProperty, SpellsRoot}
-use Rattle.dt_read.specs.Marks.{Mark, begin_mark, end_mark, prop_mark, nop_mark, last_mark, SpellsMarks, Root, marks_of_nodes, marks_of, without_nop_marks}
+use Rattle.dt_read.specs.Cuts.{Content, changed_root, moved, moved_content, moved_root, spliced, marks_of_content, SpellsRoot}
+use Rattle.dt_read.specs.Marks.{Mark, begin_mark, end_mark, prop_mark, nop_mark, last_mark, SpellsMarks, marks_of_nodes, marks_of, without_nop_marks}
 use Rattle.dt_read.specs.Placed.{path_at, IsNode}
-use Rattle.dt_read.specs.TreeTokens.{AreTokens, marks_in, HasTree}
-use Rattle.dt_read.proofs.ChangedTrees.{moved_mark, moved_properties, moved_marks, Stands, in_tree, stands_in_tree}
+use Rattle.dt_read.specs.TreeTokens.{marks_in, HasTree}
+use Rattle.dt_read.proofs.ChangedTrees.{moved_mark, Stands, in_tree, stands_in_tree}
 use Rattle.dt_read.proofs.CheckedBytes.{root_is_read}
 use Rattle.dt_read.proofs.Nodes.{without_nop_marks-append, split}
 use Rattle.dt_read.proofs.Splices.{marks_still, marks_append, cut_marks, marks_moved, marks_kept}

@@ -1,5 +1,5 @@
 -- A walk to the END_NODE of a node.
-use Rattle.std.proofs.Common.{◌≡◌, ℕ, zero, suc, ◌+◌, ◌-◌, ◌^◌, ◌<◌, ◌≤◌, Bool, true, false, List, [], ◌∷◌, ◌++◌, length, take, drop, map, Option, Some, None, refl, sym, ap, subst, ◌∙◌, append_assoc, arith}
+use Rattle.std.proofs.Common.{◌≡◌, ℕ, zero, suc, ◌+◌, ◌-◌, ◌^◌, ◌<◌, ◌≤◌, List, [], ◌∷◌, ◌++◌, length, take, drop, map, Some, None, refl, sym, ap, subst, ◌∙◌, append_assoc, arith}
 use Rattle.std.specs.Prelude.{option_and_then}
 use Rattle.std.proofs.lemmas.List.{append-nil, length-append, length-drop, length-take-le, take-append-drop}
 use Rattle.dt_model.specs.Tree.{Property}
@@ -17,7 +17,7 @@ use Rattle.dt_read.specs.TreeTokens.{AreTokens, marks_in}
 use Rattle.dt_read.proofs.Lying.{behind_later, later_first, later_trans, token_later}
 use Rattle.dt_read.proofs.Trees.{lexed_is}
 use Rattle.dt_read.proofs.Cursors.{few_marks, kept}
-use Rattle.dt_read.proofs.Passing.{token_again, passes_none, found_places, passes_found}
+use Rattle.dt_read.proofs.Passing.{token_again, passes_none, passes_found}
 
 -- ---- how many nodes are open
 

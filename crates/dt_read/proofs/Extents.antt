@@ -1,10 +1,10 @@
 -- A walk through the properties in front of some tokens.
-use Rattle.std.proofs.Common.{◌≡◌, ℕ, ◌+◌, ◌-◌, ◌≤◌, Bool, true, false, List, [], ◌∷◌, ◌++◌, length, take, drop, map, Some, refl, sym, ap, subst, ◌∙◌, append_assoc, arith}
+use Rattle.std.proofs.Common.{◌≡◌, ℕ, ◌+◌, ◌-◌, true, false, List, [], ◌∷◌, ◌++◌, length, take, drop, map, Some, refl, sym, ap, subst, ◌∙◌, append_assoc, arith}
 use Rattle.std.proofs.lemmas.List.{append-nil, length-append, length-take-le, map-append}
 use Rattle.std.specs.List.{AllByRecursion}
 use Rattle.std.specs.Str.{bytes_eq}
 use Rattle.dt_model.proofs.Words.{length-padded}
-use Rattle.dt_model.specs.Format.{Token, prop, word, SpellsProperty}
+use Rattle.dt_model.specs.Format.{prop, word, SpellsProperty}
 use Rattle.dt_model.specs.Lexing.{padded}
 use Rattle.dt_model.specs.Names.{Name}
 use Rattle.dt_model.specs.Tree.{Property}

@@ -1,5 +1,6 @@
 pub mod Numbers
 pub mod Tokens
+pub mod Tags
 pub mod NameTests
 pub mod Nesting
 pub mod Scanning
@@ -15,6 +16,7 @@ pub mod Apart
 pub mod ByteValues
 pub mod Wholes
 pub mod Lying
+pub mod PropertyTokens
 pub mod CheckedBytes
 pub mod CountLemmas
 pub mod Growing

@@ -1,13 +1,13 @@
 -- Where a property of a node is cut out, and where a child of it is put in.
-use Rattle.std.proofs.Common.{◌≡◌, ℕ, ◌+◌, ◌-◌, ◌<◌, ◌≤◌, Bool, true, false, cond, List, [], ◌∷◌, ◌++◌, length, take, drop, map, Option, Some, None, refl, sym, ap, subst, ◌∙◌, append_assoc, arith}
-use Rattle.std.proofs.lemmas.List.{append-nil, length-append, length-drop, length-take-le, map-append, drop-drop}
+use Rattle.std.proofs.Common.{◌≡◌, ℕ, ◌+◌, ◌-◌, ◌<◌, ◌≤◌, true, false, List, [], ◌∷◌, ◌++◌, length, take, drop, map, Some, refl, sym, ap, subst, ◌∙◌, append_assoc, arith}
+use Rattle.std.proofs.lemmas.List.{append-nil, length-drop, length-take-le, map-append, drop-drop}
 use Rattle.std.proofs.Math.Seq.{take-add}
 use Rattle.std.specs.List.{AllByRecursion}
 use Rattle.std.specs.Str.{bytes_eq}
 use Rattle.std.proofs.lemmas.Slice.Eq.{bytes_eq-Decides}
 use Rattle.dt_model.specs.Changes.{set_property}
 use Rattle.dt_model.specs.Checks.{number, strings_of, structure_of}
-use Rattle.dt_model.specs.Format.{Token, prop, word, Spells, SpellsBegin, SpellsProperty}
+use Rattle.dt_model.specs.Format.{word, SpellsProperty}
 use Rattle.dt_model.specs.Names.{Name}
 use Rattle.dt_model.specs.Tree.{Property, value_of, value_in}
 use Rattle.dt_read.specs.Checked.{placed_of}
@@ -16,12 +16,12 @@ use Rattle.dt_read.specs.Lying.{IsLater, TokenLies}
 use Rattle.dt_read.specs.declared.token.Token.{Token as CodeToken}
 use Rattle.dt_read.specs.declared.token.Token.TheVariants as code
 use Rattle.dt_read.specs.View.{view, view_at}
-use Rattle.dt_read.specs.Marks.{Mark, begin_mark, end_mark, prop_mark, nop_mark, last_mark, SpellsMarks, marks_of_nodes, without_nop_marks}
+use Rattle.dt_read.specs.Marks.{Mark, begin_mark, end_mark, prop_mark, last_mark, SpellsMarks, marks_of_nodes, without_nop_marks}
 use Rattle.dt_read.specs.Parsing.{Left, left_by}
 use Rattle.dt_read.specs.Placed as placed
 use Rattle.dt_read.specs.Placed.{Nodes, path_at, reading_of}
 use Rattle.dt_read.specs.TreeCode.{left_by_properties, left_by_nodes}
-use Rattle.dt_read.specs.TreeTokens.{AreTokens, marks_in}
+use Rattle.dt_read.specs.TreeTokens.{marks_in}
 use Rattle.dt_read.proofs.ChangedTrees.{moved_mark, moved_properties, moved_marks}
 use Rattle.dt_read.proofs.CutTrees.{CutNode, CutTokens, spliced_tree}
 use Rattle.dt_read.proofs.Endings.{opened_content, one_end}

@@ -1,8 +1,8 @@
 -- What a block that spells a tree is read as.
-use Rattle.std.proofs.Common.{◌≡◌, ℕ, ◌+◌, List, [], ◌∷◌, ◌++◌, length, map, refl, sym, ap, subst, ◌∙◌}
-use Rattle.dt_model.specs.Format.{Token, end_tree, SpellsAll, SpellsTree}
+use Rattle.std.proofs.Common.{◌≡◌, ℕ, ◌+◌, List, [], ◌∷◌, ◌++◌, length, map, sym, ap, subst, ◌∙◌}
+use Rattle.dt_model.specs.Format.{Token, SpellsAll, SpellsTree}
 use Rattle.dt_read.specs.Cuts.{SpellsRoot}
-use Rattle.dt_read.specs.Marks.{Mark, last_mark, token_of, SpellsMarks, Root, marks_of}
+use Rattle.dt_read.specs.Marks.{Mark, last_mark, token_of, SpellsMarks, Root}
 use Rattle.dt_read.specs.Parsing.{root_left, tree_in, tree_of_marks}
 use Rattle.dt_read.specs.Placed.{forest_of}
 use Rattle.dt_read.specs.TreeCode.{tree_again}

@@ -1,11 +1,11 @@
 -- Tokens that are cut, put one behind the other, and moved.
-use Rattle.std.proofs.Common.{◌≡◌, ℕ, ◌+◌, ◌-◌, ◌<◌, ◌≤◌, Bool, true, false, List, [], ◌∷◌, ◌++◌, length, take, drop, map, refl, sym, ap, subst, ◌∙◌, append_assoc, arith, add-zero}
-use Rattle.std.proofs.lemmas.List.{append-nil, length-append, length-drop, length-take-le, drop_at, take_at, drop-drop, drop-append-le, take-append-drop}
+use Rattle.std.proofs.Common.{◌≡◌, ℕ, ◌+◌, ◌-◌, ◌<◌, ◌≤◌, List, [], ◌∷◌, ◌++◌, length, take, drop, map, refl, sym, ap, subst, ◌∙◌, append_assoc, arith, add-zero}
+use Rattle.std.proofs.lemmas.List.{length-append, length-drop, length-take-le, drop_at, take_at, drop-drop, drop-append-le, take-append-drop}
 use Rattle.std.proofs.lemmas.Bool.{lt-ltb, le-ltb}
-use Rattle.dt_model.specs.Format.{Token, begin_node, end_node, prop, nop, end_tree, HoldsName, SpellsProperty, Spells}
+use Rattle.dt_model.specs.Format.{Token, begin_node, end_node, prop, nop, end_tree, HoldsName, Spells}
 use Rattle.dt_model.specs.Names.{Name}
 use Rattle.dt_read.specs.Cuts.{moved}
-use Rattle.dt_read.specs.Marks.{Mark, begin_mark, end_mark, prop_mark, nop_mark, last_mark, token_of, mark_at, SpellsMark, SpellsMarks}
+use Rattle.dt_read.specs.Marks.{Mark, begin_mark, end_mark, prop_mark, nop_mark, last_mark, token_of, SpellsMark, SpellsMarks}
 use Rattle.dt_read.proofs.ChangedTrees.{moved_mark}
 use Rattle.dt_read.proofs.Trees.{spelled_len, place_is}
 

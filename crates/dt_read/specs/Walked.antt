@@ -21,6 +21,13 @@ steps_of_nodes (node place name properties children siblings) =
 abbrev pub steps_of : PlacedTree → List Step
 steps_of t = opens t.place [] ∷ (map holds t.properties ++ (steps_of_nodes t.children ++ closes ∷ []))
 
+-- the steps of a walk through the nodes alone
+abbrev pub without_properties : List Step → List Step
+without_properties [] = []
+without_properties (opens place name ∷ steps) = opens place name ∷ without_properties steps
+without_properties (holds p ∷ steps) = without_properties steps
+without_properties (closes ∷ steps) = closes ∷ without_properties steps
+
 -- the steps go through what the path's node has, up to its end, and on behind it
 pub record WalkIn (t : PlacedTree) (path : Path) (steps : List Step) : Type 0 where
   pub properties : List Property

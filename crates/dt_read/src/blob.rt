@@ -10,7 +10,7 @@ ghost use Rattle.dt_flat.specs.Arena.{reading};
 ghost use Rattle.dt_read.specs.Checked.{IsBlob, placed_of};
 ghost use Rattle.dt_read.specs.Kinds.{kind_of};
 ghost use Rattle.dt_read.specs.Placed.{reading_of, IsAt, HasPlacesApart};
-ghost use Rattle.dt_read.specs.Walked.{steps_of, WalkIn};
+ghost use Rattle.dt_read.specs.Walked.{steps_of, without_properties, WalkIn};
 ghost use Rattle.dt_names.specs.Fault.{IsNoMemory};
 
 use crate::NodeId;
@@ -21,7 +21,7 @@ use crate::flatten::flat_of;
 use crate::phandle::are_phandles;
 use crate::reservations::Reservations;
 use crate::scan::BadTagAt;
-use crate::steps::Steps;
+use crate::steps::{NodeSteps, Steps};
 use crate::structure::Structure;
 use crate::walk::{Children, Props};
 use dt_flat::FlatTree;
@@ -263,6 +263,13 @@ impl<'a> Blob<'a> {
         ensures { result ≡ steps_of self.now }
     {
         Steps::new(self.structure.start())
+    }
+
+    /// The same walk through the nodes alone, which costs less: it seeks no property's name. Takes no memory.
+    pub fn node_steps(&self) -> NodeSteps<'a>
+        ensures { result ≡ without_properties (steps_of self.now) }
+    {
+        NodeSteps::new(self.structure.start())
     }
 
     /// A walk through what a node has, in the order of `steps`: up to its `Close`, and on through what is behind the node.

@@ -1,12 +1,12 @@
 //! How many nodes, properties and reservations there are.
 
-ghost use Rattle.std.specs.Prelude.{◌≡◌, length};
+ghost use Rattle.std.specs.Prelude.{◌≡◌, ◌+◌, ◌≤◌, ◌^◌, length};
 ghost use Rattle.dt_read.specs.Counting.{nodes_in, properties_in};
 ghost use Rattle.dt_read.specs.Pairs.{pairs_of};
 
 use crate::cursor::Cursor;
 use crate::reservations::first_pair;
-use crate::token::Token;
+use crate::token::Tag;
 
 /// How many nodes there are, the root among them, how many properties they have, and how many memory reservations there
 /// are.
@@ -21,13 +21,14 @@ pub struct Counts {
 pub(crate) fn count_tokens(mut cursor: Cursor) -> (usize, usize)
     ensures nodes { result.0 ≡ nodes_in cursor.entry }
     ensures properties { result.1 ≡ properties_in cursor.entry }
+    ensures few { result.0 + result.1 ≤ 2 ^ 32 }
 {
     let mut nodes = 0usize;
     let mut properties = 0usize;
-    while let Some((_, token)) = cursor.next() {
-        match token {
-            Token::BeginNode(_) => nodes += 1,
-            Token::Property(_, _) => properties += 1,
+    while let Some((_, tag)) = cursor.next_tag() {
+        match tag {
+            Tag::BeginNode(_) => nodes += 1,
+            Tag::Property(_) => properties += 1,
             _ => {}
         }
     }

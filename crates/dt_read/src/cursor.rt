@@ -1,13 +1,16 @@
 //! A place in a structure block, from which tokens are read.
 
-ghost use Rattle.std.specs.Prelude.{◌≡◌, ◌∷◌, [], ◌<◌, ◌^◌, length};
+ghost use Rattle.std.specs.Prelude.{◌≡◌, ℕ, ◌+◌, ◌∷◌, [], ◌<◌, ◌^◌, List, length};
+ghost use Rattle.dt_model.specs.Tree.{Property};
 ghost use Rattle.std.specs.Option.{MatchOption, IfSome};
 ghost use Rattle.dt_read.specs.Cuts.{Passes};
 ghost use Rattle.dt_read.specs.Lying.{TokenLies};
-ghost use Rattle.dt_read.specs.View.{view, view_at};
+ghost use Rattle.dt_read.specs.View.{view, view_at, sought_view, tag_mark, HasToken, IsSought};
+ghost use Rattle.dt_read.specs.Marks.{mark_at};
 ghost use Rattle.dt_read.specs.TreeTokens.{AreTokens, marks_in, past, past_properties};
 
-use crate::token::{Token, token_at};
+use crate::property::{Sought, look_for};
+use crate::token::{Tag, Token, tag_at, token_at};
 use std::marker::Model;
 
 /// A token, its place, and what stands behind it.
@@ -45,6 +48,44 @@ pub(crate) fn next_token<'a>(strings: &'a [u8], at: usize, bytes: &'a [u8]) -> O
         return Some(Found {
             at: here,
             token,
+            behind,
+            rest: after,
+        });
+    }
+    None
+}
+
+/// A token of which no name of a property is sought, its place, and what stands behind it.
+#[derive(Drop)]
+pub(crate) struct FoundTag<'a> {
+    pub at: usize,
+    pub tag: Tag<'a>,
+    pub behind: usize,
+    pub rest: &'a [u8],
+}
+
+/// The first token that isn't a NOP, of tokens whose names are in any strings.
+fn next_tag<'a>(at: usize, bytes: &'a [u8]) -> Option<FoundTag<'a>>
+    requires { at + length bytes.now < 2 ^ 32 }
+    ensures next { (strings : List ℕ) → AreTokens strings at bytes.now → MatchOption result (marks_in strings at bytes.now ≡ []) (λ found.
+        (p : Property) × (marks_in strings at bytes.now ≡ tag_mark found.at found.tag p ∷ marks_in strings found.behind found.rest.now)
+        × HasToken strings found.tag p) }
+    ensures no_nop { IfSome result (λ found. found.tag ≡ Tag.Nop → ⊥) }
+    ensures tokens { (strings : List ℕ) → AreTokens strings at bytes.now → IfSome result (λ found. AreTokens strings found.behind found.rest.now) }
+{
+    let mut here = at;
+    let mut rest = bytes;
+    while let Some((tag, len)) = tag_at(rest) {
+        let behind = here + len;
+        let after = &rest[len..];
+        if let Tag::Nop = tag {
+            here = behind;
+            rest = after;
+            continue;
+        }
+        return Some(FoundTag {
+            at: here,
+            tag,
             behind,
             rest: after,
         });
@@ -106,6 +147,31 @@ impl<'a> Cursor<'a> {
         self.rest = found.rest;
         Some((found.at, found.token))
     }
+
+    /// Reads a token with its offset, and seeks no property's name, so it costs less than `next`.
+    pub fn next_tag(&mut self) -> Option<(usize, Tag<'a>)>
+        ensures next { MatchOption result ((self.old ≡ []) × (self.new ≡ [])) (λ found.
+            (p : Property) × (self.old ≡ tag_mark found.0 found.1 p ∷ self.new)) }
+        ensures no_nop { IfSome result (λ found. found.1 ≡ Tag.Nop → ⊥) }
+        ensures few { length self.old < 2 ^ 32 }
+    {
+        let found = next_tag(self.at, self.rest)?;
+        self.at = found.behind;
+        self.rest = found.rest;
+        Some((found.at, found.tag))
+    }
+
+    /// Reads a token as a search for the properties of a name sees it, with its offset.
+    pub fn seek(&mut self, name: &[u8]) -> Option<(usize, Sought<'a>)>
+        ensures next { MatchOption result ((self.old ≡ []) × (self.new ≡ [])) (λ found.
+            (p : Property) × IsSought name.now found.1 p × (self.old ≡ mark_at found.0 (sought_view found.1 p) ∷ self.new)) }
+        ensures few { length self.old < 2 ^ 32 }
+    {
+        let found = next_tag(self.at, self.rest)?;
+        self.at = found.behind;
+        self.rest = found.rest;
+        Some((found.at, look_for(self.strings, found.tag, name)))
+    }
 }
 
 /// Goes behind the node whose BEGIN_NODE was read last.
@@ -114,12 +180,12 @@ pub(crate) fn skip_node(cursor: &mut Cursor)
 {
     let mut open_nodes = 1usize;
     while open_nodes > 0 {
-        let Some((_, token)) = cursor.next() else {
+        let Some((_, tag)) = cursor.next_tag() else {
             return;
         };
-        match token {
-            Token::BeginNode(_) => open_nodes += 1,
-            Token::EndNode => open_nodes -= 1,
+        match tag {
+            Tag::BeginNode(_) => open_nodes += 1,
+            Tag::EndNode => open_nodes -= 1,
             _ => {}
         }
     }
@@ -130,7 +196,7 @@ pub(crate) fn skip_properties(cursor: &mut Cursor)
     ensures { cursor.new ≡ past_properties cursor.old }
 {
     let mut ahead = cursor.copy();
-    while let Some((_, Token::Property(_, _))) = ahead.next() {
+    while let Some((_, Tag::Property(_))) = ahead.next_tag() {
         *cursor = ahead.copy();
     }
 }

@@ -79,7 +79,7 @@ pub struct Cut {
     pub size: usize,
 }
 
-/// The bytes of a node's property of a name; none, behind its last property, where it has no such one.
+/// The bytes of a node's property of a name (Devicetree Specification v0.4, 5.4.1); none, behind its last property, where it has no such one.
 pub fn property_cut(bytes: &[u8], node: NodeId, name: &[u8]) -> Cut
     requires blob { IsBlob bytes.now }
     requires node { IsNode (placed_of bytes.now) node }
@@ -96,7 +96,7 @@ pub fn property_cut(bytes: &[u8], node: NodeId, name: &[u8]) -> Cut
     }
 }
 
-/// The offset of a node's END_NODE in the structure block.
+/// The offset of a node's END_NODE in the structure block (Devicetree Specification v0.4, 5.4.1).
 pub fn end_cut(bytes: &[u8], node: NodeId) -> usize
     requires blob { IsBlob bytes.now }
     requires node { IsNode (placed_of bytes.now) node }

@@ -15,13 +15,14 @@ ghost use Rattle.dt_read.specs.Marks.{last_mark, marks_of};
 ghost use Rattle.dt_read.specs.Parsing.{left_by};
 ghost use Rattle.dt_read.specs.Classes.{hash_of, IsNewIn};
 
+use crate::counts::count_tokens;
 use crate::cursor::Cursor;
 use crate::filter::{put, seems_to_hold};
 use crate::keys::{Key, Keys, Wanted};
 use crate::structure::Structure;
 use crate::token::Token;
 use dt_names::NodeId;
-use std::hash::{DefaultHasher, Hash, Hasher};
+use std::hash::{FoldHasher, Hash, Hasher};
 
 /// How many words a table has that nobody lends: 2^20 bits, 128 KiB.
 pub(crate) const WORDS: usize = 16_384;
@@ -43,7 +44,7 @@ fn make_room(words: &mut [u64], held: &mut usize, count: usize)
 fn hashed(key: &Key, seed: u64) -> u64
     ensures { result ≡ hash_of seed (said key.now) }
 {
-    let mut hasher = DefaultHasher::new();
+    let mut hasher = FoldHasher::default();
     hasher.write_u64(seed ^ key.owner as u64);
     key.sort.hash(&mut hasher);
     hasher.write(key.bytes);
@@ -181,12 +182,12 @@ pub(crate) fn has_distinct_names(
 {
     let most = 2 * words.len();
     let names = Keys::of(structure, Wanted::Names);
-    let count = names.copy().count();
+    let (nodes, properties) = count_tokens(structure.start());
+    let count = nodes + properties;
     if count <= most {
         return are_distinct(&names, seed, count, words, held);
     }
     let children = Keys::of(structure, Wanted::Children);
-    let count = children.copy().count();
-    are_distinct(&children, seed, count, words, held)
+    are_distinct(&children, seed, nodes, words, held)
         && have_distinct_properties(structure, seed, words, held)
 }

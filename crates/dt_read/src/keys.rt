@@ -9,6 +9,7 @@ ghost use Rattle.dt_read.specs.declared.keys.Wanted.TheVariants.{Own};
 use crate::NodeId;
 use crate::cursor::Cursor;
 use crate::open_nodes::OpenNodes;
+use crate::property::Sought;
 use crate::structure::Structure;
 use crate::token::Token;
 use std::marker::Model;
@@ -46,20 +47,14 @@ pub(crate) enum Wanted {
     Phandles,
 }
 
-/// The key that a token gives, where these nodes are open.
+/// The name that a token gives as a key, where these nodes are open.
 fn key_at<'a>(wanted: Wanted, open_nodes: &OpenNodes, token: Token<'a>) -> Option<Key<'a>>
+    requires { wanted ≡ Wanted.Phandles → ⊥ }
     ensures { (place : ℕ) → option_map said result ≡ key_of wanted open_nodes.now (view_at place token.entry) }
 {
     let (sort, bytes) = match (wanted, token) {
         (Wanted::Names | Wanted::Children, Token::BeginNode(name)) => (Sort::Child, name),
         (Wanted::Names | Wanted::Own, Token::Property(name, _)) => (Sort::Property, name),
-        (Wanted::Phandles, Token::Property(name, value)) if name == b"phandle".as_slice() => {
-            return Some(Key {
-                sort: Sort::Phandle,
-                owner: 0,
-                bytes: value,
-            });
-        }
         _ => return None,
     };
     let owner = open_nodes.innermost()?;
@@ -89,6 +84,30 @@ fn next_token<'a>(wanted: Wanted, cursor: &mut Cursor<'a>) -> Option<(usize, Tok
     }
     *cursor = ahead;
     Some((place, token))
+}
+
+/// Reads up to the next phandle, and keeps the open nodes. It seeks the end of no other property's name.
+fn next_phandle<'a>(cursor: &mut Cursor<'a>, open_nodes: &mut OpenNodes) -> Option<Key<'a>>
+    requires { AreShallowFor Wanted.Phandles (length open_nodes.old) cursor.old }
+    ensures next { MatchOption result ((keys_in Wanted.Phandles open_nodes.old cursor.old ≡ []) × (keys_in Wanted.Phandles open_nodes.new cursor.new ≡ []))
+        (λ key. keys_in Wanted.Phandles open_nodes.old cursor.old ≡ said key ∷ keys_in Wanted.Phandles open_nodes.new cursor.new) }
+    ensures shallow { AreShallowFor Wanted.Phandles (length open_nodes.new) cursor.new }
+{
+    while let Some((place, sought)) = cursor.seek(b"phandle") {
+        match sought {
+            Sought::BeginNode(_) => open_nodes.push(place),
+            Sought::EndNode => open_nodes.pop(),
+            Sought::Named(value) => {
+                return Some(Key {
+                    sort: Sort::Phandle,
+                    owner: 0,
+                    bytes: value,
+                });
+            }
+            Sought::Other | Sought::End => {}
+        }
+    }
+    None
 }
 
 /// The keys from a place on, in the order of the tokens. It is seen as the keys that are left.
@@ -160,6 +179,9 @@ impl<'a> Iterator for Keys<'a> {
     ghost remaining = { item_count (λ s. s) };
 
     fn next(&mut self) -> Option<Key<'a>> {
+        if let Wanted::Phandles = self.wanted {
+            return next_phandle(&mut self.cursor, &mut self.open_nodes);
+        }
         while let Some((place, token)) = next_token(self.wanted, &mut self.cursor) {
             let key = key_at(self.wanted, &self.open_nodes, token);
             match token {

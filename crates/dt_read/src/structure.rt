@@ -176,6 +176,8 @@ impl<'a> Structure<'a> {
         requires { IsSome (node_of self.now node) }
         ensures { IfSome (node_of self.now node) (λ parts. option_copied result ≡ value_of parts.properties name.now) }
     {
-        value_in(self.props(node), name)
+        let mut cursor = self.cursor_at(node);
+        let _ = cursor.next();
+        value_in(cursor, name)
     }
 }

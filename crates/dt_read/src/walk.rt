@@ -9,6 +9,7 @@ ghost use Rattle.std.specs.Iterator.{YieldsFirst, YieldsFirstBy, item_count};
 
 use crate::NodeId;
 use crate::cursor::{Cursor, skip_node};
+use crate::property::Sought;
 use crate::token::Token;
 use std::marker::Model;
 
@@ -89,13 +90,15 @@ impl<'a> Iterator for Props<'a> {
     }
 }
 
-/// The value at a name, where a property has it.
-pub(crate) fn value_in<'a>(mut props: Props<'a>, name: &[u8]) -> Option<&'a [u8]>
-    ensures { option_copied result ≡ value_of props.entry name.now }
+/// The value of the property of a name, among the properties at the front.
+pub(crate) fn value_in<'a>(mut cursor: Cursor<'a>, name: &[u8]) -> Option<&'a [u8]>
+    ensures { option_copied result ≡ value_of (left_by cursor.entry).properties name.now }
 {
-    while let Some((key, value)) = props.next() {
-        if name == key {
-            return Some(value);
+    while let Some((_, sought)) = cursor.seek(name) {
+        match sought {
+            Sought::Named(value) => return Some(value),
+            Sought::Other => {}
+            _ => return None,
         }
     }
     None

@@ -1,5 +1,5 @@
 -- A walk through a tree, step by step, with the nodes that are open.
-use Rattle.std.proofs.Common.{◌≡◌, ◌≢◌, ℕ, suc, ◌-◌, ◌<◌, ◌==◌, Bool, true, false, cond, List, [], ◌∷◌, ◌++◌, drop, length, map, Option, Some, None, refl, sym, ap, subst, ◌∙◌, inl, inr, arith}
+use Rattle.std.proofs.Common.{◌≡◌, ◌≢◌, ℕ, suc, ◌+◌, ◌-◌, ◌<◌, ◌≤◌, ◌==◌, Bool, true, false, cond, List, [], ◌∷◌, ◌++◌, drop, length, map, Option, Some, None, refl, sym, ap, subst, ◌∙◌, inl, inr, arith}
 use Rattle.std.specs.Option.{MatchOption}
 use Rattle.std.proofs.lemmas.Bool.{eqb-true, eq-eqb}
 use Rattle.dt_model.specs.Limits.{most_bodies}
@@ -8,9 +8,11 @@ use Rattle.dt_model.specs.Names.{Name}
 use Rattle.dt_model.specs.Tree.{Placed, Property, nodes_of}
 use Rattle.dt_model.specs.Valid.{IsValid, IsWithinLimits, AreDistinct}
 use Rattle.dt_model.proofs.Tests.{each_in}
-use Rattle.dt_read.specs.Placed.{PlacedTree, reading_of, IsNode, HasPlacesApart}
-use Rattle.dt_read.specs.Walked.{Step, opens, holds, closes, steps_of}
+use Rattle.dt_model.specs.Path.{Path}
+use Rattle.dt_read.specs.Placed.{PlacedTree, path_at, reading_of, IsNode, HasPlacesApart}
+use Rattle.dt_read.specs.Walked.{Step, opens, holds, closes, steps_of, without_properties}
 use Rattle.dt_read.proofs.NodePlaces.{at_node}
+use Rattle.dt_resolve_model.specs.Above.{front}
 use Rattle.dt_view.specs.Views.{IsAbove, AreAbove}
 use Rattle.dt_view.proofs.Walks.{innermost, parent_told, AreFew, opened, AreOpened}
 use Rattle.dt_view.proofs.Openings.{OpensNext, all_opened, all_apart, next_opened}
@@ -99,6 +101,33 @@ abbrev pub property_walked : (t : PlacedTree) (open_nodes : List ℕ) (p : Prope
 property_walked t open_nodes p steps rest walked e =
     another_walked t open_nodes open_nodes steps rest walked (ap opened e) (λ k. ap (parent_told k open_nodes) e) (λ few. subst (AreFew (length open_nodes)) e few)
 
+-- ---- a walk through the nodes alone
+
+pub opened_without : (steps : List Step) → opened steps ≡ opened (without_properties steps)
+opened_without [] = refl
+opened_without (opens place name ∷ steps) = ap (λ (ks : List ℕ). place ∷ ks) (opened_without steps)
+opened_without (holds p ∷ steps) = opened_without steps
+opened_without (closes ∷ steps) = opened_without steps
+
+told_without : (k : ℕ) (open_nodes : List ℕ) (steps : List Step) → parent_told k open_nodes steps ≡ parent_told k open_nodes (without_properties steps)
+told_without k open_nodes [] = refl
+told_without k open_nodes (opens place name ∷ steps) = ap (λ (told : Option ℕ). cond (place == k) (innermost open_nodes) told) (told_without k (place ∷ open_nodes) steps)
+told_without k open_nodes (holds p ∷ steps) = told_without k open_nodes steps
+told_without k open_nodes (closes ∷ steps) = told_without k (drop 1 open_nodes) steps
+
+few_without : (count : ℕ) (steps : List Step) → AreFew count steps → AreFew count (without_properties steps)
+few_without count [] few = tt
+few_without count (opens place name ∷ steps) few = (few.0, few_without (suc count) steps few.1)
+few_without count (holds p ∷ steps) few = few_without count steps few
+few_without count (closes ∷ steps) few = few_without (count - 1) steps few
+
+pub nodes_opened : (t : PlacedTree) (before nodes : List Placed) (steps : List Step) → AreOpened t before nodes steps → AreOpened t before nodes (without_properties steps)
+nodes_opened t before nodes steps are = record { whole = are.whole; places = are.places ∙ ap (map (λ k. Some k)) (opened_without steps) }
+
+pub nodes_walked : (t : PlacedTree) (open_nodes : List ℕ) (steps : List Step) → IsWalked t open_nodes steps → IsWalked t open_nodes (without_properties steps)
+nodes_walked t open_nodes steps walked =
+    another_walked t open_nodes open_nodes steps (without_properties steps) walked (opened_without steps) (λ k. told_without k open_nodes steps) (few_without (length open_nodes) steps)
+
 pub shorter : (ks : List ℕ) → length ks - 1 ≡ length (drop 1 ks)
 shorter [] = refl
 shorter (k ∷ ks) = let e : suc (length ks) - 1 ≡ length ks = omega arith in e
@@ -138,8 +167,12 @@ pub record IsAhead (t : PlacedTree) (node : ℕ) (open_nodes : List ℕ) (steps 
   pub above : AreOneAboveTheOther t open_nodes
   pub ahead : IsIn node (opened steps)
 
-pub is_ahead : (t : PlacedTree) (node : ℕ) → IsValid (reading_of t) → IsWithinLimits (reading_of t) → HasPlacesApart t → IsNode t node → IsAhead t node [] (steps_of t)
-is_ahead t node valid within places is = record { walked = not_walked t valid within places; above = tt; ahead = node_is_opened t node valid is }
+pub is_ahead : (t : PlacedTree) (node : ℕ) → IsValid (reading_of t) → IsWithinLimits (reading_of t) → HasPlacesApart t → IsNode t node → IsAhead t node [] (without_properties (steps_of t))
+is_ahead t node valid within places is = record {
+  walked = nodes_walked t [] (steps_of t) (not_walked t valid within places);
+  above = tt;
+  ahead = subst (IsIn node) (opened_without (steps_of t)) (node_is_opened t node valid is);
+}
 
 module _ (t : PlacedTree) (node : ℕ) (valid : IsValid (reading_of t)) (places : HasPlacesApart t) (open_nodes : List ℕ) (steps rest : List Step) (h : IsAhead t node open_nodes steps) where
   pub at_beginning : (here : ℕ) (name : Name) → steps ≡ opens here name ∷ rest → AreAbove t here open_nodes
@@ -152,12 +185,115 @@ module _ (t : PlacedTree) (node : ℕ) (valid : IsValid (reading_of t)) (places 
     ahead = opened_later node here (opened rest) other (subst (λ s. IsIn node (opened s)) e h.ahead);
   })
 
-  pub past_property : (p : Property) → steps ≡ holds p ∷ rest → IsAhead t node open_nodes rest
-  past_property p e = record { walked = property_walked t open_nodes p steps rest h.walked e; above = h.above; ahead = subst (λ s. IsIn node (opened s)) e h.ahead }
-
   pub past_end : (new : List ℕ) → steps ≡ closes ∷ rest → new ≡ drop 1 open_nodes → IsAhead t node new rest
   past_end new e is = record {
     walked = end_walked t open_nodes new steps rest h.walked e is;
     above = subst (AreOneAboveTheOther t) (sym is) (fewer_above t open_nodes h.above);
     ahead = subst (λ s. IsIn node (opened s)) e h.ahead;
+  }
+
+-- ---- the node one level up
+
+-- there are as many above a node as its path has names
+pub as_many_above : (t : PlacedTree) (node : ℕ) (above : List ℕ) → AreAbove t node above → length above ≡ length (path_at t node)
+as_many_above t node [] h = sym (ap length h)
+as_many_above t node (a ∷ above) h = ap suc (as_many_above t a above h.1 ∙ ap length h.0.1) ∙ longer (path_at t node) h.0.2
+  where
+    longer : (p : Path) → p ≢ [] → suc (length (front p)) ≡ length p
+    longer [] some = absurd (some refl)
+    longer (x ∷ []) some = refl
+    longer (x ∷ y ∷ p) some = ap suc (longer (y ∷ p) (λ e. absurd cc))
+
+-- what is kept is the open node of a level, where so many are open
+abbrev pub IsAtLevel : ℕ → Option ℕ → List ℕ → Type 0
+IsAtLevel level kept open_nodes = level ≤ length open_nodes → kept ≡ innermost (drop (length open_nodes - level) open_nodes)
+
+pub none_at_level : (level : ℕ) → IsAtLevel level None []
+none_at_level level le = let e : 0 - level ≡ 0 = omega arith in rw e refl
+
+pub here_at_level : (level here : ℕ) (open_nodes : List ℕ) → suc (length open_nodes) ≡ level → IsAtLevel level (Some here) (here ∷ open_nodes)
+here_at_level level here open_nodes is le = let e : suc (length open_nodes) - level ≡ 0 = omega arith in rw e refl
+
+pub still_at_level : (level here : ℕ) (kept : Option ℕ) (open_nodes : List ℕ) → suc (length open_nodes) ≢ level → IsAtLevel level kept open_nodes → IsAtLevel level kept (here ∷ open_nodes)
+still_at_level level here kept open_nodes other at le = let e : suc (length open_nodes) - level ≡ suc (length open_nodes - level) = omega arith in rw e (at (omega arith))
+
+pub left_at_level : (level : ℕ) (kept : Option ℕ) (open_nodes : List ℕ) → IsAtLevel level kept open_nodes → IsAtLevel level kept (drop 1 open_nodes)
+left_at_level level kept [] at le = at le
+left_at_level level kept (here ∷ open_nodes) at le = let e : suc (length open_nodes) - level ≡ suc (length open_nodes - level) = omega arith in subst (λ n. kept ≡ innermost (drop n (here ∷ open_nodes))) e (at (omega arith))
+
+pub innermost_at_level : (level : ℕ) (kept : Option ℕ) (open_nodes : List ℕ) → length open_nodes ≡ level → IsAtLevel level kept open_nodes → kept ≡ innermost open_nodes
+innermost_at_level level kept open_nodes is at = let e : length open_nodes - level ≡ 0 = omega arith in subst (λ n. kept ≡ innermost (drop n open_nodes)) e (at (omega arith))
+
+-- a walk up to a node that counts the open ones
+pub record IsCounted (t : PlacedTree) (node depth : ℕ) (steps : List Step) : Type 0 where
+  pub open_nodes : List ℕ
+  pub ahead : IsAhead t node open_nodes steps
+  pub count : depth ≡ length open_nodes
+
+-- and keeps the one of a level
+pub record IsKept (t : PlacedTree) (node level depth : ℕ) (kept : Option ℕ) (steps : List Step) : Type 0 where
+  pub counted : IsCounted t node depth steps
+  pub at : IsAtLevel level kept counted.open_nodes
+
+-- nothing was opened
+pub is_counted : (t : PlacedTree) (node : ℕ) → IsValid (reading_of t) → IsWithinLimits (reading_of t) → HasPlacesApart t → IsNode t node → IsCounted t node 0 (without_properties (steps_of t))
+is_counted t node valid within places is = record { open_nodes = []; ahead = is_ahead t node valid within places is; count = refl }
+
+pub is_kept : (t : PlacedTree) (node level : ℕ) → IsValid (reading_of t) → IsWithinLimits (reading_of t) → HasPlacesApart t → IsNode t node → IsKept t node level 0 None (without_properties (steps_of t))
+is_kept t node level valid within places is = record { counted = record { open_nodes = []; ahead = is_ahead t node valid within places is; count = refl }; at = none_at_level level }
+
+module _ (t : PlacedTree) (node : ℕ) (valid : IsValid (reading_of t)) (places : HasPlacesApart t) (depth : ℕ) (steps rest : List Step) where
+  pub room_counted : (here : ℕ) (name : Name) → IsCounted t node depth steps → steps ≡ opens here name ∷ rest → depth < most_bodies
+  room_counted here name h e = subst (λ n. n < most_bodies) (sym h.count) (room_walked t h.open_nodes here name steps rest h.ahead.walked e)
+
+  pub at_node_counted : (name : Name) → IsCounted t node depth steps → steps ≡ opens node name ∷ rest → depth ≡ length (path_at t node)
+  at_node_counted name h e = h.count ∙ as_many_above t node h.open_nodes (at_beginning t node valid places h.open_nodes steps rest h.ahead node name e)
+
+  pub begun_counted : (here : ℕ) (name : Name) → IsCounted t node depth steps → steps ≡ opens here name ∷ rest → here ≢ node → IsCounted t node (depth + 1) rest
+  begun_counted here name h e other = record {
+    open_nodes = here ∷ h.open_nodes;
+    ahead = past_beginning t node valid places h.open_nodes steps rest h.ahead here name (here ∷ h.open_nodes) e other refl;
+    count = let c = h.count in omega arith;
+  }
+
+  pub ended_counted : IsCounted t node depth steps → steps ≡ closes ∷ rest → IsCounted t node (depth - 1) rest
+  ended_counted h e = record {
+    open_nodes = drop 1 h.open_nodes;
+    ahead = past_end t node valid places h.open_nodes steps rest h.ahead (drop 1 h.open_nodes) e refl;
+    count = ap (λ n. n - 1) h.count ∙ shorter h.open_nodes;
+  }
+
+  pub at_node_kept : (level : ℕ) (kept : Option ℕ) (name : Name) → IsKept t node level depth kept steps → level ≡ length (path_at t node) → steps ≡ opens node name ∷ rest → IsAbove t node kept
+  at_node_kept level kept name h is e =
+      let above = at_beginning t node valid places h.counted.open_nodes steps rest h.counted.ahead node name e in
+      subst (IsAbove t node) (sym (innermost_at_level level kept h.counted.open_nodes (as_many_above t node h.counted.open_nodes above ∙ sym is) h.at)) (first_above t node h.counted.open_nodes above)
+
+  pub begun_kept : (level : ℕ) (kept : Option ℕ) (here : ℕ) (name : Name) → IsKept t node level depth kept steps → steps ≡ opens here name ∷ rest → here ≢ node → depth + 1 ≢ level → IsKept t node level (depth + 1) kept rest
+  begun_kept level kept here name h e other differs = record {
+    counted = record {
+      open_nodes = here ∷ h.counted.open_nodes;
+      ahead = past_beginning t node valid places h.counted.open_nodes steps rest h.counted.ahead here name (here ∷ h.counted.open_nodes) e other refl;
+      count = let c = h.counted.count in omega arith;
+    };
+    at = still_at_level level here kept h.counted.open_nodes (λ same. differs (let c = h.counted.count in omega arith)) h.at;
+  }
+
+  pub begun_here_kept : (level : ℕ) (kept : Option ℕ) (here : ℕ) (name : Name) → IsKept t node level depth kept steps → steps ≡ opens here name ∷ rest → here ≢ node → depth + 1 ≡ level → IsKept t node level (depth + 1) (Some here) rest
+  begun_here_kept level kept here name h e other same = record {
+    counted = record {
+      open_nodes = here ∷ h.counted.open_nodes;
+      ahead = past_beginning t node valid places h.counted.open_nodes steps rest h.counted.ahead here name (here ∷ h.counted.open_nodes) e other refl;
+      count = let c = h.counted.count in omega arith;
+    };
+    at = here_at_level level here h.counted.open_nodes (let c = h.counted.count in omega arith);
+  }
+
+  pub ended_kept : (level : ℕ) (kept : Option ℕ) → IsKept t node level depth kept steps → steps ≡ closes ∷ rest → IsKept t node level (depth - 1) kept rest
+  ended_kept level kept h e = record {
+    counted = record {
+      open_nodes = drop 1 h.counted.open_nodes;
+      ahead = past_end t node valid places h.counted.open_nodes steps rest h.counted.ahead (drop 1 h.counted.open_nodes) e refl;
+      count = ap (λ n. n - 1) h.counted.count ∙ shorter h.counted.open_nodes;
+    };
+    at = left_at_level level kept h.counted.open_nodes h.at;
   }

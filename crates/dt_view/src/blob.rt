@@ -1,7 +1,7 @@
 //! A blob as a view. A blob's tokens tell no parent, so the node above a node is told by a walk from the root up to it: for a boot loader, which
 //! asks seldom and has no memory to spend.
 
-ghost use Rattle.std.specs.Prelude.{◌≡◌, ◌↔◌, ◌∷◌, ◌++◌, ℕ, [], IfSome, IsTrue, option_map};
+ghost use Rattle.std.specs.Prelude.{◌≡◌, ◌↔◌, ◌∷◌, ◌++◌, ℕ, [], IfSome, IsTrue, length, option_map};
 ghost use Rattle.std.specs.Option.{option_copied};
 ghost use Rattle.dt_model.specs.Applied.{is_cell, node_numbered};
 ghost use Rattle.dt_model.specs.Tree.{nodes_of, value_in};
@@ -10,7 +10,7 @@ ghost use Rattle.dt_view.specs.Views.{first_child_of, next_sibling_of, AreAbove,
 
 use crate::view::TreeView;
 use dt_names::NodeId;
-use dt_read::{Blob, OpenNodes, Step};
+use dt_read::{Blob, NodeStep, OpenNodes};
 
 /// The root.
 pub(crate) fn root_of(blob: &Blob<'_>) -> NodeId
@@ -29,29 +29,65 @@ pub fn put_nodes_above(blob: &Blob<'_>, node: NodeId, above: &mut OpenNodes)
     ensures { AreAbove blob.now node above.new }
 {
     blob.validity();
-    for step in blob.steps() {
+    for step in blob.node_steps() {
         match step {
-            Step::Open { node: here, .. } => {
+            NodeStep::Open { node: here, .. } => {
                 if here == node {
                     return;
                 }
                 above.push(here);
             }
-            Step::Property { .. } => {}
-            Step::Close => above.pop(),
+            NodeStep::Close => above.pop(),
         }
     }
 }
 
-/// The node above a node, by a walk up to it. It isn't inlined: each copy of it would keep a table of its own in the caller's frame.
-#[inline(never)]
+/// How many nodes are above a node, by a walk up to it.
+fn depth_of(blob: &Blob<'_>, node: NodeId) -> usize
+    requires { IsNode blob.now node }
+    ensures { result ≡ length (path_at blob.now node) }
+{
+    blob.validity();
+    let mut depth = 0usize;
+    for step in blob.node_steps() {
+        match step {
+            NodeStep::Open { node: here, .. } => {
+                if here == node {
+                    return depth;
+                }
+                depth += 1;
+            }
+            NodeStep::Close => depth = depth.saturating_sub(1),
+        }
+    }
+    depth
+}
+
+/// The node above a node: the last one before it that is one level up. Two walks up to the node keep no table of the nodes above, which would be half
+/// a KiB of the stack of every look that asks.
 fn parent_of(blob: &Blob<'_>, node: NodeId) -> Option<NodeId>
     requires { IsNode blob.now node }
     ensures { IsAbove blob.now node result }
 {
-    let mut above = OpenNodes::new();
-    put_nodes_above(blob, node, &mut above);
-    above.innermost()
+    let level = depth_of(blob, node);
+    let mut depth = 0usize;
+    let mut above = None;
+    blob.validity();
+    for step in blob.node_steps() {
+        match step {
+            NodeStep::Open { node: here, .. } => {
+                if here == node {
+                    return above;
+                }
+                depth += 1;
+                if depth == level {
+                    above = Some(here);
+                }
+            }
+            NodeStep::Close => depth = depth.saturating_sub(1),
+        }
+    }
+    above
 }
 
 /// Whether a number is a node's place, by a walk up to it: for whoever has the number from elsewhere.
@@ -59,8 +95,8 @@ pub fn is_node(blob: &Blob<'_>, node: NodeId) -> bool
     ensures { IsTrue result ↔ IsNode blob.now node }
 {
     blob.validity();
-    for step in blob.steps() {
-        if let Step::Open { node: here, .. } = step {
+    for step in blob.node_steps() {
+        if let NodeStep::Open { node: here, .. } = step {
             if here == node {
                 return true;
             }
@@ -131,8 +167,8 @@ fn numbered(blob: &Blob<'_>, number: u32) -> Option<NodeId>
     ensures node { IfSome result (IsNode blob.now) }
 {
     blob.validity();
-    for step in blob.steps() {
-        if let Step::Open { node, .. } = step {
+    for step in blob.node_steps() {
+        if let NodeStep::Open { node, .. } = step {
             if is_number(value_of(blob, node, b"phandle"), number) {
                 return Some(node);
             }

@@ -1,5 +1,4 @@
-use Rattle.std.proofs.Common.{◌≡◌, ◌-◌, ℕ, sym, subst, arith}
-use Rattle.dt_model.specs.Checks.{number}
+use Rattle.std.proofs.Common.{◌-◌, ℕ, sym, subst, arith}
 use Rattle.dt_read.specs.Cuts.{IsEndCut}
 use Rattle.dt_read.proofs.CutTrees.{cut_node}
 use Rattle.dt_read.proofs.NodeCuts.{head_found, end_cut_is, content_behind}

@@ -1,7 +1,7 @@
-use Rattle.std.proofs.Common.{◌≡◌, ◌∷◌, ◌+◌, ◌-◌, [], List, ℕ, Some, refl, sym, ap, subst, ◌∙◌, arith}
+use Rattle.std.proofs.Common.{◌≡◌, ◌∷◌, [], ℕ, Some, sym, ap, subst, ◌∙◌, arith}
 use Rattle.dt_read.specs.Cuts.{opened}
-use Rattle.dt_read.specs.Marks.{Mark, end_mark}
-use Rattle.dt_read.specs.View.{view, view_at}
+use Rattle.dt_read.specs.Marks.{Mark}
+use Rattle.dt_read.specs.View.{view_at}
 use Rattle.dt_read.proofs.Endings.{Nests, FindsMark, nests_first, nests_more, nests_few, finds_mark, level_same, level_down, end_found, ends_before}
 use Rattle.dt_read.proofs.cuts.end_place.Goals as goal
 use Rattle.dt_read.proofs.cuts.end_place.Goals.{in-BeginNode, in-EndNode-2, in_default-token}

@@ -1,5 +1,4 @@
 use Rattle.std.proofs.Common.{◌≡◌, ◌-◌, ℕ, List, Some, sym, ap, subst, ◌∙◌, arith}
-use Rattle.dt_model.specs.Checks.{number}
 use Rattle.dt_model.specs.Tree.{Property, value_of}
 use Rattle.dt_read.specs.Cuts.{IsPropertyCut}
 use Rattle.dt_read.specs.Parsing.{left_by}

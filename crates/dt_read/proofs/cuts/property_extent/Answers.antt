@@ -1,4 +1,4 @@
-use Rattle.std.proofs.Common.{◌≡◌, ◌∷◌, List, ℕ, refl, sym, ap, subst, ◌∙◌}
+use Rattle.std.proofs.Common.{◌∷◌, sym, ap, subst, ◌∙◌}
 use Rattle.dt_model.specs.Format.{Token}
 use Rattle.dt_model.specs.Tree.{Property}
 use Rattle.dt_read.specs.Cuts.{HasNoProperty}

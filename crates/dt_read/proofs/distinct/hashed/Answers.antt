@@ -1,6 +1,6 @@
 use Rattle.std.proofs.Common.{◌≡◌, ℕ, [], ◌∷◌, ◌++◌, bit_xor, refl, ap, ◌∙◌}
 use Rattle.std.specs.Hash as fed
-use Rattle.std.specs.Hash.DefaultHasher as sip
+use Rattle.std.specs.Hash.FoldHasher as folding
 use Rattle.std.specs.List.{fold}
 use Rattle.dt_read.specs.Keys.{number_of}
 use Rattle.dt_read.specs.Classes.{hash_of}
@@ -25,8 +25,8 @@ returns c =
     let k = c.args.key.now in
     let tag = tag_of sort.the_type k.sort in
     c.finish.ensures
-    ∙ ap sip.finish c.write.ensures
-    ∙ ap (λ s. sip.finish (sip.write s k.bytes.now)) c.hash.ensures
-    ∙ ap (λ s. sip.finish (fold sip.write s (fed.usize tag ++ k.bytes.now ∷ []))) c.write_u64.ensures
-    ∙ ap (λ s. sip.finish (fold sip.write s (feed c.args.seed k tag))) c.new-hasher.ensures
-    ∙ ap (λ n. sip.finish (fold sip.write sip.initial (feed c.args.seed k n))) (number_is k.sort)
+    ∙ ap folding.finish c.write.ensures
+    ∙ ap (λ s. folding.finish (folding.write s k.bytes.now)) c.hash.ensures
+    ∙ ap (λ s. folding.finish (fold folding.write s (fed.usize tag ++ k.bytes.now ∷ []))) c.write_u64.ensures
+    ∙ ap (λ s. folding.finish (fold folding.write s (feed c.args.seed k tag))) c.default-hasher.ensures
+    ∙ ap (λ n. folding.finish (fold folding.write folding.initial (feed c.args.seed k n))) (number_is k.sort)

@@ -7,6 +7,7 @@ invariant-loop-place l =
     AreShallowFor l.self-inside.wanted (length l.self-inside.open_nodes) l.self-inside.cursor
     × (keys_in l.self-inside.wanted l.self-inside.open_nodes l.self-inside.cursor
     ≡ keys_in l.initial.self-inside.wanted l.initial.self-inside.open_nodes l.initial.self-inside.cursor)
+    × (l.self-inside.wanted ≡ l.initial.self-inside.wanted)
 
 abbrev pub decreases-loop-place : goal.decreases-loop-place
 decreases-loop-place l = length l.self-inside.cursor

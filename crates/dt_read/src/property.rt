@@ -1,0 +1,71 @@
+//! The token of a property, read in parts.
+
+ghost use Rattle.std.specs.Prelude.{◌≡◌, ℕ, List};
+ghost use Rattle.std.specs.Str.{bytes_eq};
+ghost use Rattle.dt_model.specs.Format.{prop};
+ghost use Rattle.dt_model.specs.Tree.{Property};
+ghost use Rattle.dt_read.specs.Marks.{Takes};
+ghost use Rattle.dt_read.specs.View.{sought_view, tag_view, HasToken, IsSought};
+
+use crate::header::number;
+use crate::parts::{from, part};
+use crate::token::Tag;
+use dt_bytes::text_at;
+
+/// A token as a search for the properties of one name sees it.
+#[derive(Clone, Copy)]
+pub(crate) enum Sought<'a> {
+    BeginNode(&'a [u8]),
+    EndNode,
+    /// A property of that name, which has this value.
+    Named(&'a [u8]),
+    /// A property of another name.
+    Other,
+    End,
+}
+
+/// Whether the property whose token is in front of some bytes has a name. The end of its own name is sought only where it begins so.
+pub(crate) fn is_named(strings: &[u8], bytes: &[u8], name: &[u8]) -> bool
+    requires { (p : Property) × (n : ℕ) × Takes strings.now bytes.now (prop p) n }
+    ensures { (p : Property) (n : ℕ) → Takes strings.now bytes.now (prop p) n → result ≡ bytes_eq name.now p.name }
+{
+    let text = from(strings, number(bytes, 8));
+    if text.len() < name.len() {
+        return false;
+    }
+    if &text[..name.len()] != name {
+        return false;
+    }
+    match text_at(text, 0) {
+        Some(text) => name == text,
+        None => false,
+    }
+}
+
+/// The value of the property whose token is in front of some bytes.
+pub(crate) fn value_of(bytes: &[u8]) -> &[u8]
+    requires { (strings : List ℕ) × (p : Property) × (n : ℕ) × Takes strings bytes.now (prop p) n }
+    ensures { (strings : List ℕ) (p : Property) (n : ℕ) → Takes strings bytes.now (prop p) n → result.now ≡ p.value }
+{
+    part(bytes, 12, number(bytes, 4))
+}
+
+/// What a search for the properties of a name sees in a token that is no NOP.
+pub(crate) fn look_for<'a>(strings: &'a [u8], tag: Tag<'a>, name: &[u8]) -> Sought<'a>
+    requires token { (p : Property) × HasToken strings.now tag p }
+    requires no_nop { tag ≡ Tag.Nop → ⊥ }
+    ensures { (p : Property) → HasToken strings.now tag.entry p → IsSought name.now result p × (sought_view result p ≡ tag_view tag.entry p) }
+{
+    match tag {
+        Tag::BeginNode(name) => Sought::BeginNode(name),
+        Tag::EndNode => Sought::EndNode,
+        Tag::Property(own) => {
+            if is_named(strings, own, name) {
+                Sought::Named(value_of(own))
+            } else {
+                Sought::Other
+            }
+        }
+        Tag::Nop | Tag::End => Sought::End,
+    }
+}
