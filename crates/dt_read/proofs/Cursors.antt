@@ -1,19 +1,23 @@
 -- Reading tokens one after another.
-use Rattle.std.proofs.Common.{◌≡◌, ◌⊎◌, ℕ, suc, ◌+◌, ◌^◌, ◌<◌, ◌≤◌, List, [], ◌∷◌, ◌++◌, length, map, take, drop, Option, Some, None, refl, sym, ap, subst, ◌∙◌, append_assoc, inl, inr, arith}
+use Rattle.std.proofs.Common.{◌≡◌, ◌⊎◌, ℕ, suc, ◌+◌, ◌^◌, ◌<◌, ◌≤◌, List, [], ◌∷◌, ◌++◌, length, map, take, drop, Bool, true, false, Option, Some, None, refl, sym, ap, subst, ◌∙◌, append_assoc, inl, inr, arith}
 use Rattle.std.specs.Option.{IfSome}
 use Rattle.std.proofs.lemmas.List.{length-append, length-drop, take_at}
-use Rattle.dt_model.specs.Tree.{Property}
+use Rattle.std.specs.Str.{bytes_eq}
+use Rattle.dt_model.specs.Tree.{Property, value_of}
 use Rattle.dt_model.specs.Format as model
 use Rattle.dt_model.specs.Lexing.{token_in}
 use Rattle.dt_read.specs.declared.token.Token.{Token}
 use Rattle.dt_read.specs.declared.token.Token.TheVariants as code
 use Rattle.dt_read.specs.declared.token.Tag.{Tag}
 use Rattle.dt_read.specs.declared.token.Tag.TheVariants as tags
-use Rattle.dt_read.specs.View.{view_at, tag_view, tag_mark, HasToken, IsInFront, IsTagIn}
+use Rattle.dt_read.specs.View.{view_at, sought_view, tag_view, tag_mark, HasToken, IsInFront, IsSought, IsTagIn}
+use Rattle.dt_read.specs.declared.property.Sought.{Sought}
+use Rattle.dt_read.specs.declared.property.Sought.TheVariants as seen
+use Rattle.std.specs.Prelude.{if◌then◌else◌}
 use Rattle.dt_read.specs.Placed.{Nodes, no_nodes, node}
 use Rattle.dt_read.specs.Marks.{Mark, begin_mark, end_mark, prop_mark, nop_mark, last_mark, token_of, mark_at, SpellsMarks, Takes, marks_of_nodes, without_nop_marks}
-use Rattle.dt_read.specs.Parsing.{lexed}
-use Rattle.dt_read.specs.TreeTokens.{AreTokens, marks_in, past, past_properties, Parts, marks_of_parts}
+use Rattle.dt_read.specs.Parsing.{lexed, left_by}
+use Rattle.dt_read.specs.TreeTokens.{AreTokens, marks_in, past, past_others, past_properties, Parts, marks_of_parts}
 use Rattle.dt_read.proofs.Trees.{read_again, first_mark, lexed_is, spelled_len}
 
 -- the tokens behind the first
@@ -175,3 +179,31 @@ kept_tag at tags.End p marks h = refl
 
 pub skipped_tag : (at : ℕ) (tag : Tag) (p : Property) (marks : List Mark) → tag ≡ tags.Nop → without_nop_marks (tag_mark at tag p ∷ marks) ≡ without_nop_marks marks
 skipped_tag at tag p marks h = ap (λ (t : Tag). without_nop_marks (tag_mark at t p ∷ marks)) h
+
+-- ---- behind properties of other names
+
+value_of_first : (name : List ℕ) (p : Property) (marks : List Mark) (b : Bool) → bytes_eq name p.name ≡ b → value_of (left_by (past_others name marks)).properties name ≡ value_of (left_by marks).properties name
+    → value_of (left_by (if b then prop_mark p ∷ marks else past_others name marks)).properties name ≡ (if b then Some p.value else value_of (left_by marks).properties name)
+value_of_first name p marks true is e = rw is refl
+value_of_first name p marks false is e = e
+
+pub value_past : (name : List ℕ) (marks : List Mark) → value_of (left_by (past_others name marks)).properties name ≡ value_of (left_by marks).properties name
+value_past name [] = refl
+value_past name (last_mark ∷ marks) = refl
+value_past name (end_mark ∷ marks) = refl
+value_past name (nop_mark ∷ marks) = refl
+value_past name (begin_mark place x ∷ marks) = refl
+value_past name (prop_mark p ∷ marks) = value_of_first name p marks (bytes_eq name p.name) refl (value_past name marks)
+
+-- what a search finds is the value, or there is none
+pub value_sought : (name : List ℕ) (at : ℕ) (value : _) (p : Property) (marks behind : List Mark) → IsSought name (seen.Named value) p → past_others name marks ≡ mark_at at (sought_view (seen.Named value) p) ∷ behind
+    → Some value.now ≡ value_of (left_by marks).properties name
+value_sought name at value p marks behind is e =
+    ap Some is.1 ∙ sym (ap (λ b. if b then Some p.value else value_of (left_by behind).properties name) is.0) ∙ sym (ap (λ m. value_of (left_by m).properties name) e) ∙ value_past name marks
+
+pub no_value : (name : List ℕ) (at : ℕ) (sought : Sought) (p : Property) (marks behind : List Mark) → ((value : _) → sought ≡ seen.Named value → ⊥) → past_others name marks ≡ mark_at at (sought_view sought p) ∷ behind
+    → None ≡ value_of (left_by marks).properties name
+no_value name at (seen.BeginNode x) p marks behind other e = sym (ap (λ m. value_of (left_by m).properties name) e) ∙ value_past name marks
+no_value name at seen.EndNode p marks behind other e = sym (ap (λ m. value_of (left_by m).properties name) e) ∙ value_past name marks
+no_value name at (seen.Named value) p marks behind other e = absurd (other value refl)
+no_value name at seen.End p marks behind other e = sym (ap (λ m. value_of (left_by m).properties name) e) ∙ value_past name marks

@@ -1,11 +1,13 @@
 -- The keys of phandles are the values of the properties `phandle`.
-use Rattle.std.proofs.Common.{◌↔◌, ◌≡◌, ◌≢◌, ℕ, Bool, true, false, List, [], ◌∷◌, ◌++◌, map, Some, None, codes, refl, sym, ap, subst}
+use Rattle.std.proofs.Common.{◌↔◌, ◌≡◌, ◌≢◌, ℕ, suc, ◌-◌, Bool, true, false, List, [], ◌∷◌, ◌++◌, length, drop, map, Some, None, codes, refl, sym, ap, subst, ◌∙◌, arith}
 use Rattle.std.specs.Prelude.{if◌then◌else◌}
 use Rattle.std.specs.List.{AllByRecursion}
 use Rattle.std.specs.Str.{bytes_eq}
 use Rattle.dt_model.specs.Valid.{AreDistinct, IsPhandle}
 use Rattle.dt_read.specs.Marks.{Mark, begin_mark, end_mark, prop_mark, nop_mark, last_mark, Root, marks_of}
-use Rattle.dt_read.specs.Keys.{Key, open_behind, with_key, keys_in, keys_of}
+use Rattle.dt_model.specs.Tree.{Property}
+use Rattle.dt_read.specs.Keys.{Key, open_behind, with_key, keys_in, keys_of, AreShallowFor}
+use Rattle.dt_read.specs.TreeTokens.{past_others}
 use Rattle.dt_read.specs.Phandle.{phandles_in, ArePhandles}
 use Rattle.dt_read.specs.declared.keys.Sort.TheVariants as sorts
 use Rattle.dt_read.specs.declared.keys.Wanted.TheVariants.{Phandles}
@@ -68,3 +70,38 @@ pub right_keys : (tree : Root) → AreRight (keys_of Phandles tree) ↔ ArePhand
 right_keys tree =
     let marks = marks_of tree ++ last_mark ∷ [] in
     subst (λ (keys : List Key). AreRight keys ↔ ArePhandles (phandles_in marks)) (sym (phandle_keys [] marks)) (right_values (phandles_in marks))
+
+-- ---- behind properties of other names
+
+past_first : (open_nodes : List ℕ) (p : Property) (marks : List Mark) (b : Bool) → bytes_eq (codes "phandle") p.name ≡ b → keys_in Phandles open_nodes (past_others (codes "phandle") marks) ≡ keys_in Phandles open_nodes marks
+    → keys_in Phandles open_nodes (if b then prop_mark p ∷ marks else past_others (codes "phandle") marks) ≡ with_key (if b then Some (phandle_key p.value) else None) (keys_in Phandles open_nodes marks)
+past_first open_nodes p marks true is e = ap (λ b. with_key (if b then Some (phandle_key p.value) else None) (keys_in Phandles open_nodes marks)) is
+past_first open_nodes p marks false is e = e
+
+pub keys_past : (open_nodes : List ℕ) (marks : List Mark) → keys_in Phandles open_nodes (past_others (codes "phandle") marks) ≡ keys_in Phandles open_nodes marks
+keys_past open_nodes [] = refl
+keys_past open_nodes (begin_mark place name ∷ marks) = refl
+keys_past open_nodes (end_mark ∷ marks) = refl
+keys_past open_nodes (nop_mark ∷ marks) = refl
+keys_past open_nodes (last_mark ∷ marks) = refl
+keys_past open_nodes (prop_mark p ∷ marks) = past_first open_nodes p marks (bytes_eq (codes "phandle") p.name) refl (keys_past open_nodes marks)
+
+shallow_first : (count : ℕ) (p : Property) (marks : List Mark) (b : Bool) → AreShallowFor Phandles count marks → AreShallowFor Phandles count (past_others (codes "phandle") marks) → AreShallowFor Phandles count (if b then prop_mark p ∷ marks else past_others (codes "phandle") marks)
+shallow_first count p marks true all past = all
+shallow_first count p marks false all past = past
+
+pub shallow_past : (count : ℕ) (marks : List Mark) → AreShallowFor Phandles count marks → AreShallowFor Phandles count (past_others (codes "phandle") marks)
+shallow_past count [] s = s
+shallow_past count (begin_mark place name ∷ marks) s = s
+shallow_past count (end_mark ∷ marks) s = s
+shallow_past count (nop_mark ∷ marks) s = s
+shallow_past count (last_mark ∷ marks) s = s
+shallow_past count (prop_mark p ∷ marks) s = shallow_first count p marks (bytes_eq (codes "phandle") p.name) s (shallow_past count marks s)
+
+-- the property that is found gives a key
+pub phandle_sought : (open_nodes : List ℕ) (p : Property) (value : List ℕ) (marks : List Mark) → bytes_eq (codes "phandle") p.name ≡ true → value ≡ p.value → keys_in Phandles open_nodes (prop_mark p ∷ marks) ≡ phandle_key value ∷ keys_in Phandles open_nodes marks
+phandle_sought open_nodes p value marks named is = ap (λ b. with_key (if b then Some (phandle_key p.value) else None) (keys_in Phandles open_nodes marks)) named ∙ ap (λ v. phandle_key v ∷ keys_in Phandles open_nodes marks) (sym is)
+
+pub shorter : (ks : List ℕ) → length ks - 1 ≡ length (drop 1 ks)
+shorter [] = refl
+shorter (k ∷ ks) = let e : suc (length ks) - 1 ≡ length ks = omega arith in e

@@ -1,9 +1,10 @@
 -- How far a scan has come, and where it ends.
-use Rattle.std.proofs.Common.{◌≡◌, ℕ, ◌+◌, ◌-◌, Bool, true, false, cond, not, ◌&&◌, ◌||◌, List, [], ◌∷◌, ◌++◌, length, take, drop, map, Option, Some, None, refl, sym, ap, subst, ◌∙◌, append_assoc, drop_of_length-le, arith, inl, inr}
+use Rattle.std.proofs.Common.{◌≡◌, ℕ, ◌+◌, ◌-◌, ◌≤◌, Bool, true, false, cond, not, ◌&&◌, ◌||◌, List, [], ◌∷◌, ◌++◌, length, take, drop, map, Option, Some, None, refl, sym, ap, subst, ◌∙◌, append_assoc, drop_of_length-le, arith, inl, inr}
 use Rattle.std.specs.Prelude.{option_and_then}
 use Rattle.std.specs.Option.{option_map}
 use Rattle.std.proofs.Math.Dec.{eqb}
-use Rattle.std.proofs.lemmas.Bool.{eqb-true}
+use Rattle.std.proofs.lemmas.Bool.{eqb-true, le-leb}
+use Rattle.std.proofs.lemmas.Bool.Decides.{eqb_tells}
 use Rattle.std.proofs.lemmas.Option.{same_Some}
 use Rattle.std.proofs.lemmas.List.{length-append, length-take, append-nil, take-append-drop, drop_at}
 use Rattle.dt_model.specs.Names.{Name, is_property_name}
@@ -14,9 +15,10 @@ use Rattle.dt_model.specs.Checks.{BlobFault, Position, front, is_behind, may_be_
 use Rattle.dt_read.specs.Marks.{Mark, begin_mark, end_mark, prop_mark, nop_mark, last_mark, token_of, mark_at, SpellsMark, SpellsMarks, Root, marks_of_nodes, marks_of, without_nop_marks}
 use Rattle.dt_read.specs.Placed.{Nodes, no_nodes, node, forest_of}
 use Rattle.dt_read.specs.TreeTokens.{HasTree}
+use Rattle.dt_read.specs.Known.{HasNameAt}
 use Rattle.dt_read.specs.Scan.{IsStuck, MovesTo, Reaches}
 use Rattle.dt_read.proofs.Numbers.{IsBytes, IsBytes-drop, number_takes}
-use Rattle.dt_read.proofs.Tokens.{chosen}
+use Rattle.dt_read.proofs.Tokens.{chosen, token_takes}
 use Rattle.dt_read.proofs.Nesting.{then_some, tree_of_led}
 
 -- ---- what a result says of what it is made of
@@ -103,6 +105,23 @@ property_read : (strings rest : List ℕ) (size offset : ℕ) (name : Name) → 
     → property_in strings rest ≡ Some (prop (record { name = name; value = take size (drop 12 rest) }), padded (12 + size))
 unfolding property_in
 property_read strings rest size offset name u v w f = rw (u, v, w) (λ i. cond (f i) (Some (prop (record { name = name; value = take size (drop 12 rest) }), padded (12 + size))) None)
+
+unequal : (a b : ℕ) → (a ≡ b → ⊥) → eqb a b ≡ false
+unequal a b ne = elim (eqb_tells a b) [
+  | inl is ↦ absurd (ne is.1)
+  | inr is ↦ is.0
+]
+
+-- a property whose name is known may stand there
+pub known_moves : (strings : List ℕ) (p : Position) (rest : List ℕ) (size offset : ℕ) → IsBytes rest → word_at rest 0 ≡ Some 3 → word_at rest 4 ≡ Some size → word_at rest 8 ≡ Some offset → padded (12 + size) ≤ length rest
+    → HasNameAt strings offset → (p.depth ≡ 0 → ⊥) → p.late ≡ false → MovesTo strings p rest p (padded (12 + size))
+unfolding token_in
+known_moves strings p rest size offset fits tag u v within named deep early =
+    let x : Property = record { name = named.0; value = take size (drop 12 rest) } in
+    let found : token_in strings rest ≡ property_in strings rest = rw tag refl in
+    let read : token_in strings rest ≡ Some (prop x, padded (12 + size)) = found ∙ property_read strings rest size offset named.0 u v named.1 (le-leb _ _ within) in
+    let depth : eqb p.depth 0 ≡ false = unequal p.depth 0 deep in
+    record { token = prop x; takes = token_takes strings rest (prop x) (padded (12 + size)) fits read; led = (λ i. cond (depth i || early i || not (named.2 i)) None (Some p)) }
 
 property_goes : (strings : List ℕ) (p : Position) (rest : List ℕ) (a b : Option ℕ) → word_at rest 4 ≡ a → word_at rest 8 ≡ b → property_fault strings p rest a b ≡ None → token_in strings rest ≡ property_in strings rest → IsStuck strings p rest → ⊥
 property_goes strings p rest None b u v e found stuck = absurd cc

@@ -23,3 +23,4 @@ pub mod Checked
 pub mod Cuts
 pub mod Counting
 pub mod Lying
+pub mod Known

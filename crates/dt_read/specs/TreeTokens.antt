@@ -105,6 +105,11 @@ abbrev pub past_properties : List Mark → List Mark
 past_properties (prop_mark p ∷ marks) = past_properties marks
 past_properties marks = marks
 
+-- what stands behind the properties of other names at the front
+abbrev pub past_others : List ℕ → List Mark → List Mark
+past_others name (prop_mark p ∷ marks) = if bytes_eq name p.name then prop_mark p ∷ marks else past_others name marks
+past_others name marks = marks
+
 -- The block, at that place, spells the tree, whose names are names, and which is within the limits.
 pub record HasTree (strings : List ℕ) (at : ℕ) (block : List ℕ) (tree : Root) : Type 0 where
   pub marks : List Mark

@@ -1,5 +1,5 @@
 -- What the code's tokens and positions stand for.
-use Rattle.std.specs.Prelude.{◌≡◌, ℕ, true, false, List, Option, Some, None}
+use Rattle.std.specs.Prelude.{◌≡◌, ℕ, true, List, Option, Some, None}
 use Rattle.std.specs.Str.{bytes_eq}
 use Rattle.dt_read.specs.declared.token.Token.{Token}
 use Rattle.dt_read.specs.declared.token.Token.TheVariants as code
@@ -60,11 +60,9 @@ abbrev pub sought_view : Sought → Property → model.Token
 sought_view (seen.BeginNode name) p = model.begin_node name.now
 sought_view seen.EndNode p = model.end_node
 sought_view (seen.Named value) p = model.prop p
-sought_view seen.Other p = model.prop p
 sought_view seen.End p = model.end_tree
 
--- it has that name, and the value, or another name
+-- it has that name, and the value
 abbrev pub IsSought : List ℕ → Sought → Property → Type 0
 IsSought name (seen.Named value) p = (bytes_eq name p.name ≡ true) × (value.now ≡ p.value)
-IsSought name seen.Other p = bytes_eq name p.name ≡ false
 IsSought name sought p = Unit {0}

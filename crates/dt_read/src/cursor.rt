@@ -7,7 +7,7 @@ ghost use Rattle.dt_read.specs.Cuts.{Passes};
 ghost use Rattle.dt_read.specs.Lying.{TokenLies};
 ghost use Rattle.dt_read.specs.View.{view, view_at, sought_view, tag_mark, HasToken, IsSought};
 ghost use Rattle.dt_read.specs.Marks.{mark_at};
-ghost use Rattle.dt_read.specs.TreeTokens.{AreTokens, marks_in, past, past_properties};
+ghost use Rattle.dt_read.specs.TreeTokens.{AreTokens, marks_in, past, past_others, past_properties};
 
 use crate::property::{Sought, look_for};
 use crate::token::{Tag, Token, tag_at, token_at};
@@ -161,16 +161,20 @@ impl<'a> Cursor<'a> {
         Some((found.at, found.tag))
     }
 
-    /// Reads a token as a search for the properties of a name sees it, with its offset.
+    /// Reads the first token that isn't a property of another name, as a search for the properties of a name sees it, with its offset.
     pub fn seek(&mut self, name: &[u8]) -> Option<(usize, Sought<'a>)>
-        ensures next { MatchOption result ((self.old ≡ []) × (self.new ≡ [])) (λ found.
-            (p : Property) × IsSought name.now found.1 p × (self.old ≡ mark_at found.0 (sought_view found.1 p) ∷ self.new)) }
-        ensures few { length self.old < 2 ^ 32 }
+        ensures next { MatchOption result ((past_others name.now self.old ≡ []) × (self.new ≡ [])) (λ found.
+            (p : Property) × IsSought name.now found.1 p × (past_others name.now self.old ≡ mark_at found.0 (sought_view found.1 p) ∷ self.new)) }
+        ensures fewer { IfSome result (λ _. length self.new < length self.old) }
     {
-        let found = next_tag(self.at, self.rest)?;
-        self.at = found.behind;
-        self.rest = found.rest;
-        Some((found.at, look_for(self.strings, found.tag, name)))
+        while let Some(found) = next_tag(self.at, self.rest) {
+            self.at = found.behind;
+            self.rest = found.rest;
+            if let Some(sought) = look_for(self.strings, found.tag, name) {
+                return Some((found.at, sought));
+            }
+        }
+        None
     }
 }
 

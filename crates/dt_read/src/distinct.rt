@@ -182,12 +182,17 @@ pub(crate) fn has_distinct_names(
 {
     let most = 2 * words.len();
     let names = Keys::of(structure, Wanted::Names);
+    let bound = structure.most_names();
+    if bound <= most {
+        return are_distinct(&names, seed, bound, words, held);
+    }
     let (nodes, properties) = count_tokens(structure.start());
     let count = nodes + properties;
     if count <= most {
         return are_distinct(&names, seed, count, words, held);
     }
     let children = Keys::of(structure, Wanted::Children);
-    are_distinct(&children, seed, nodes, words, held)
+    // The root is nobody's child.
+    are_distinct(&children, seed, nodes.saturating_sub(1), words, held)
         && have_distinct_properties(structure, seed, words, held)
 }

@@ -104,7 +104,7 @@ fn next_phandle<'a>(cursor: &mut Cursor<'a>, open_nodes: &mut OpenNodes) -> Opti
                     bytes: value,
                 });
             }
-            Sought::Other | Sought::End => {}
+            Sought::End => {}
         }
     }
     None

@@ -23,6 +23,7 @@ mod filter;
 mod flatten;
 mod header;
 mod keys;
+mod known;
 mod laws;
 mod name;
 mod open_nodes;

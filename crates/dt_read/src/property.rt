@@ -1,6 +1,6 @@
 //! The token of a property, read in parts.
 
-ghost use Rattle.std.specs.Prelude.{◌≡◌, ℕ, List};
+ghost use Rattle.std.specs.Prelude.{◌≡◌, ℕ, List, false, MatchOption};
 ghost use Rattle.std.specs.Str.{bytes_eq};
 ghost use Rattle.dt_model.specs.Format.{prop};
 ghost use Rattle.dt_model.specs.Tree.{Property};
@@ -19,8 +19,6 @@ pub(crate) enum Sought<'a> {
     EndNode,
     /// A property of that name, which has this value.
     Named(&'a [u8]),
-    /// A property of another name.
-    Other,
     End,
 }
 
@@ -50,22 +48,24 @@ pub(crate) fn value_of(bytes: &[u8]) -> &[u8]
     part(bytes, 12, number(bytes, 4))
 }
 
-/// What a search for the properties of a name sees in a token that is no NOP.
-pub(crate) fn look_for<'a>(strings: &'a [u8], tag: Tag<'a>, name: &[u8]) -> Sought<'a>
+/// What a search for the properties of a name sees in a token that is no NOP; None in a property of another name.
+pub(crate) fn look_for<'a>(strings: &'a [u8], tag: Tag<'a>, name: &[u8]) -> Option<Sought<'a>>
     requires token { (p : Property) × HasToken strings.now tag p }
     requires no_nop { tag ≡ Tag.Nop → ⊥ }
-    ensures { (p : Property) → HasToken strings.now tag.entry p → IsSought name.now result p × (sought_view result p ≡ tag_view tag.entry p) }
+    ensures { (p : Property) → HasToken strings.now tag.entry p → MatchOption result
+        ((bytes_eq name.now p.name ≡ false) × (tag_view tag.entry p ≡ prop p))
+        (λ sought. IsSought name.now sought p × (sought_view sought p ≡ tag_view tag.entry p)) }
 {
     match tag {
-        Tag::BeginNode(name) => Sought::BeginNode(name),
-        Tag::EndNode => Sought::EndNode,
+        Tag::BeginNode(name) => Some(Sought::BeginNode(name)),
+        Tag::EndNode => Some(Sought::EndNode),
         Tag::Property(own) => {
             if is_named(strings, own, name) {
-                Sought::Named(value_of(own))
+                Some(Sought::Named(value_of(own)))
             } else {
-                Sought::Other
+                None
             }
         }
-        Tag::Nop | Tag::End => Sought::End,
+        Tag::Nop | Tag::End => Some(Sought::End),
     }
 }

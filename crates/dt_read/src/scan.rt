@@ -11,8 +11,10 @@ ghost use Rattle.dt_read.specs.Scan.{IsStuck, MovesTo};
 ghost use Rattle.dt_read.specs.View.{view, position_of};
 
 use crate::fault::fault_at;
+use crate::known::KnownNames;
 use crate::name::{may_name_a_node, may_name_a_property};
-use crate::token::{Token, token_at};
+use crate::token::{PROP, Token, padded_len, token_at};
+use dt_bytes::be32;
 use dt_names::FaultKind;
 use dt_names::limits::{MOST_NAMES, MOST_NODES};
 
@@ -90,21 +92,43 @@ impl ScanState {
     }
 }
 
+/// How many bytes the property at the front of some bytes takes, where it may stand there and has a name that is known to be one.
+fn known_property(names: &mut KnownNames<'_>, place: ScanState, rest: &[u8]) -> Option<usize>
+    ensures strings { names.new ≡ names.old }
+    ensures moves { IfSome result (MovesTo names.old (position_of place) rest.now (position_of place)) }
+{
+    if place.depth == 0 || place.late || be32(rest, 0)? != PROP {
+        return None;
+    }
+    let value_len = be32(rest, 4)? as usize;
+    let offset = be32(rest, 8)?;
+    let len = padded_len(12 + value_len);
+    if rest.len() < len || !names.is_at(offset) {
+        return None;
+    }
+    Some(len)
+}
+
 /// Reads the token at the front of some bytes: where the next one stands, and how many bytes it takes. None where no token
 /// that may stand there does.
-fn step(strings: &[u8], place: ScanState, rest: &[u8]) -> Option<(ScanState, usize)>
-    requires { length rest.now < 2 ^ 32 }
-    ensures { MatchOption result (IsStuck strings.now (position_of place) rest.now)
+fn step(
+    strings: &[u8],
+    names: &mut KnownNames<'_>,
+    place: ScanState,
+    rest: &[u8],
+) -> Option<(ScanState, usize)>
+    requires few { length rest.now < 2 ^ 32 }
+    requires names { names.old ≡ strings.now }
+    ensures names { names.new ≡ names.old }
+    ensures moves { MatchOption result (IsStuck strings.now (position_of place) rest.now)
         (λ r. MovesTo strings.now (position_of place) rest.now (position_of r.0) r.1) }
 {
-    let found = token_at(strings, rest);
-    let Some((token, len)) = &found else {
-        return None;
-    };
-    match place.after(token) {
-        Some(next) => Some((next, *len)),
-        None => None,
+    if let Some(len) = known_property(names, place, rest) {
+        return Some((place, len));
     }
+    let (token, len) = token_at(strings, rest)?;
+    let next = place.after(&token)?;
+    Some((next, len))
 }
 
 /// The first token that is wrong: so many bytes behind the front of the structure block, and what is wrong with it.
@@ -125,9 +149,10 @@ pub(crate) fn first_bad_tag(strings: &[u8], block: &[u8]) -> Option<BadTagAt>
         late: false,
         nodes: 0,
     };
+    let mut names = KnownNames::new(strings);
     let mut offset = 0;
     let mut rest = block;
-    while let Some((next, len)) = step(strings, place, rest) {
+    while let Some((next, len)) = step(strings, &mut names, place, rest) {
         place = next;
         offset += len;
         rest = &rest[len..];

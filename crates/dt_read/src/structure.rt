@@ -93,6 +93,11 @@ impl<'a> Structure<'a> {
         hasher.finish()
     }
 
+    /// No fewer than the names of nodes and properties: each takes twelve bytes of tokens at least.
+    pub fn most_names(&self) -> usize {
+        self.block.len() / 12
+    }
+
     /// The root.
     pub fn root(&self) -> NodeId
         ensures { result ≡ self.now.place }

@@ -14,7 +14,7 @@ const BEGIN_NODE: u32 = 1;
 
 const END_NODE: u32 = 2;
 
-const PROP: u32 = 3;
+pub(crate) const PROP: u32 = 3;
 
 const NOP: u32 = 4;
 

@@ -94,14 +94,11 @@ impl<'a> Iterator for Props<'a> {
 pub(crate) fn value_in<'a>(mut cursor: Cursor<'a>, name: &[u8]) -> Option<&'a [u8]>
     ensures { option_copied result ≡ value_of (left_by cursor.entry).properties name.now }
 {
-    while let Some((_, sought)) = cursor.seek(name) {
-        match sought {
-            Sought::Named(value) => return Some(value),
-            Sought::Other => {}
-            _ => return None,
-        }
-    }
-    None
+    let (_, sought) = cursor.seek(name)?;
+    let Sought::Named(value) = sought else {
+        return None;
+    };
+    Some(value)
 }
 
 /// Sibling nodes from a place on. It is seen as their places and names.

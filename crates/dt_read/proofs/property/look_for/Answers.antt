@@ -10,4 +10,4 @@ returns-then-is_named c = λ p t.
 pub returns-else-is_named : goal.returns-else-is_named
 returns-else-is_named c = λ p t.
     let own = subst (λ tag. HasToken c.args.strings.now tag p) c.in-Property.is t in
-    (sym (c.is_named.ensures p own.0 own.1) ∙ c.if-is_named.false, ap (λ tag. tag_view tag p) (sym c.in-Property.is))
+    (sym (c.is_named.ensures p own.0 own.1) ∙ c.if-is_named.false, ap (λ tag. tag_view tag p) c.in-Property.is)
