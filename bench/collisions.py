@@ -3,7 +3,7 @@
 
     python3 bench/collisions.py crates/dtool/out/dtool
 
-The names are made against a table of 2^20 bits that is filled by SipHash-1-3 with both keys 0 of a name's sort, its owner and its
+The names are made against a table of 2^20 bits that is filled by the standard library's FoldHasher of a name's owner, its sort and its
 bytes, as a reader without a seed would: all fall in one class of two, and set bits below 2^17 only. The table is soon full there, and
 many further names have to be compared with all before them. A C compiler makes the search, which takes some seconds."""
 import os
@@ -22,46 +22,31 @@ SEARCH = r"""
 #include <stdint.h>
 #include <stdio.h>
 #include <stdlib.h>
+#include <string.h>
 static const char LETTERS[] = "abcdefghijklmnopqrstuvwxyzABCDEFGHIJKLMNOPQRSTUVWXYZ0123456789._";
-typedef struct { uint64_t v0, v1, v2, v3; } state;
-static inline uint64_t turned(uint64_t x, int by) { return x << by | x >> (64 - by); }
-static inline state round_of(state s) {
-    s.v0 += s.v1; s.v2 += s.v3;
-    s.v1 = turned(s.v1, 13) ^ s.v0; s.v3 = turned(s.v3, 16) ^ s.v2;
-    s.v0 = turned(s.v0, 32);
-    s.v2 += s.v1; s.v0 += s.v3;
-    s.v1 = turned(s.v1, 17) ^ s.v2; s.v3 = turned(s.v3, 21) ^ s.v0;
-    s.v2 = turned(s.v2, 32);
-    return s;
-}
-static inline state with_word(state s, uint64_t word) {
-    s.v3 ^= word; s = round_of(s); s.v0 ^= word;
-    return s;
-}
-static inline uint64_t finished(state s, uint64_t tail) {
-    s = with_word(s, tail);
-    s.v2 ^= 0xff;
-    s = round_of(round_of(round_of(s)));
-    return s.v0 ^ s.v1 ^ s.v2 ^ s.v3;
+static const uint64_t MULTIPLIER = 0x9e3779b97f4a7c15;
+/* up to eight bytes, as one number */
+static inline uint64_t with_bytes(uint64_t state, uint64_t bytes, uint64_t count) {
+    unsigned __int128 product = (unsigned __int128)(state ^ bytes) * (MULTIPLIER ^ 2 * count);
+    return (uint64_t)product ^ (uint64_t)(product >> 64);
 }
 /* the class is hash % 2; the five bits are told by 20 bits of the hash each, from each tenth on */
 static const uint64_t FIXED = 1 | 7ull << 17 | 7ull << 27 | 7ull << 37 | 7ull << 47 | 7ull << 57;
 int main(int argc, char **argv) {
     long left = atol(argv[1]);
-    state s = {0x736f6d6570736575, 0x646f72616e646f6d, 0x6c7967656e657261, 0x7465646279746573};
-    s = with_word(s, 0);              /* the sort: a child */
-    s = with_word(s, atol(argv[2]));  /* its owner: the root's place */
-    s = with_word(s, 7);              /* how long the name is */
-    uint64_t pairs[4096];
-    for (int i = 0; i < 4096; i++) pairs[i] = (uint64_t)LETTERS[i >> 6] << 40 | (uint64_t)LETTERS[i & 63] << 48;
+    uint64_t state = with_bytes(0x243f6a8885a308d3, atol(argv[2]), 8); /* the owner: the root's place */
+    state = with_bytes(state, 0, 8);                                   /* the sort: a child */
     for (uint64_t front = 0; left > 0; front++) {
-        uint64_t tail = 31ull << 56 | 'n';
-        for (int i = 0; i < 4; i++) tail |= (uint64_t)LETTERS[front >> 6 * i & 63] << (8 + 8 * i);
+        char name[8] = "n";
+        for (int i = 0; i < 4; i++) name[1 + i] = LETTERS[front >> 6 * i & 63];
         for (int i = 0; i < 4096 && left > 0; i++) {
-            uint64_t word = tail | pairs[i];
-            if (finished(s, word) & FIXED) continue;
-            for (int b = 0; b < 7; b++) putchar((char)(word >> 8 * b));
-            putchar('\n');
+            name[5] = LETTERS[i >> 6];
+            name[6] = LETTERS[i & 63];
+            uint32_t first, last;
+            memcpy(&first, name, 4);
+            memcpy(&last, name + 3, 4);
+            if (with_bytes(state, first | (uint64_t)last << 32, 7) & FIXED) continue;
+            puts(name);
             left--;
         }
     }

@@ -16,7 +16,7 @@ ghost use Rattle.dt_names.specs.Fault.{IsNoMemory};
 use crate::NodeId;
 use crate::blocks::blocks_of;
 use crate::counts::{Counts, count_pairs, count_tokens};
-use crate::distinct::{WORDS, has_distinct_names};
+use crate::distinct::{SMALL_BYTES, SMALL_WORDS, WORDS, has_distinct_names};
 use crate::flatten::flat_of;
 use crate::phandle::are_phandles;
 use crate::reservations::Reservations;
@@ -81,6 +81,23 @@ impl<'a> Blob<'a> {
     /// The blob's first fault, in the order in which it is read: the header, the reservations, the tokens of the structure block, names
     /// that differ, and phandles. A fault of a token has the token's place; a limit hasn't.
     pub fn check(bytes: &'a [u8]) -> Result<Blob<'a>, Fault>
+        ensures reads { IfOk result (λ b. Reads bytes.now (reading_of b)) }
+        ensures within { IfOk result (λ b. IsWithin bytes.now (reading_of b)) }
+        ensures places { IfOk result (λ b. HasPlacesApart b) }
+        ensures placed { IfOk result (λ b. b ≡ placed_of bytes.now) }
+        ensures fault { IfErr result (λ e. (f : BlobFault) × (e.kind ≡ kind_of f) × IsFirstFault bytes.now f e.at) }
+    {
+        // Few names need a small table, and no more of the stack is touched.
+        if bytes.len() <= SMALL_BYTES {
+            let mut table = [0; SMALL_WORDS];
+            return Blob::check_in(bytes, &mut table, 0);
+        }
+        Blob::check_large(bytes)
+    }
+
+    /// The same for a blob of any size.
+    #[inline(never)]
+    fn check_large(bytes: &'a [u8]) -> Result<Blob<'a>, Fault>
         ensures reads { IfOk result (λ b. Reads bytes.now (reading_of b)) }
         ensures within { IfOk result (λ b. IsWithin bytes.now (reading_of b)) }
         ensures places { IfOk result (λ b. HasPlacesApart b) }

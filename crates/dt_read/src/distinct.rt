@@ -27,6 +27,11 @@ use std::hash::{FoldHasher, Hash, Hasher};
 /// How many words a table has that nobody lends: 2^20 bits, 128 KiB.
 pub(crate) const WORDS: usize = 16_384;
 
+/// How many words it has for a blob of few bytes: 4 KiB,
+pub(crate) const SMALL_WORDS: usize = 512;
+/// which is of so many at most. Its 1,024 names take twelve bytes each.
+pub(crate) const SMALL_BYTES: usize = 12_288;
+
 /// Makes room for `count` keys more: a table in which more than two a word would be is emptied.
 fn make_room(words: &mut [u64], held: &mut usize, count: usize)
     requires few { length words.old < 2 ^ 32 }
