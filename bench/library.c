@@ -83,8 +83,22 @@ static void measure(void)
 	case 'p': dtool_parent(blob, len, nodes[count - 1], &found); break;
 	case 'v': dtool_value(blob, len, nodes[0], "compatible", 10, &span); break;
 	case 't': dtool_path(blob, len, nodes[count - 1], text, sizeof text); break;
-	case 'r': dtool_region(blob, len, nodes[count - 1], 0, &region, &fault); break;
-	case 'i': dtool_route(blob, len, nodes[count - 1], 0, &route, &fault); break;
+	case 'r':
+		for (size_t n = 0; n < count; n++)
+			dtool_region(blob, len, nodes[n], 0, &region, &fault);
+		break;
+	case 'd':
+		for (size_t n = 0; n < count; n++)
+			dtool_dma_region(blob, len, nodes[n], 0, 0, 1, 0, &region, &fault);
+		break;
+	case 'i':
+		for (size_t n = 0; n < count; n++)
+			dtool_route(blob, len, nodes[n], 0, &route, &fault);
+		break;
+	case 'k':
+		for (size_t n = 0; n < count; n++)
+			dtool_specifier_route(blob, len, nodes[n], "clocks", 6, "clock", 5, 0, &route, &fault);
+		break;
 	case 'o': dtool_open_into(blob, len, edited, room, &fault); break;
 	case 's': dtool_set_prop(edited, room, last, "phandle", 7, (const uint8_t *)"\0\0\xff\xff", 4, &fault); break;
 	case 'a': dtool_add_node(edited, room, last, "child", 5, &found, &fault); break;
@@ -95,7 +109,8 @@ static void measure(void)
 static void stack(void)
 {
 	static const char *const stacks[] = {
-		"check", "node_at", "by_phandle", "parent", "value", "text of the path", "region", "interrupt's route", "open_into", "set_prop", "add_node",
+		"check", "node_at", "by_phandle", "parent", "value", "text of the path", "region", "dma_region", "interrupt's route",
+		"kind's specifier", "open_into", "set_prop", "add_node",
 		"write of a cell",
 	};
 	struct dtool_fault fault;
