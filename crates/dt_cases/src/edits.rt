@@ -1,23 +1,26 @@
-//! Blobs that are edited in a buffer, step by step. A step that is refused leaves the bytes as they were, and the next one is taken.
+//! Blobs that are edited step by step. A step that is refused leaves the blob as it was, and the next one is taken.
 
-ghost use Rattle.dt_edit.specs.Editable.{IsEditable};
-ghost use Rattle.dt_read.specs.Checked.{placed_of};
-ghost use Rattle.dt_read.specs.Placed.{IsNode};
-
-use crate::blobs::tree_of;
+use crate::edited::{Cell, Edited, Lent};
 use crate::input::bytes_of;
 use crate::numbers::index;
 use crate::outcome::{Lines, Outcome, Stop};
-use crate::reading::put_tree;
-use dt_edit::{BlobBuf, add_node, has_cell, open_into, patch_cell, set_prop};
-use dt_names::{FaultKind, NodeId, NodeName, PropName, Seed};
+use dt_edit::BlobBuf;
+use dt_names::FaultKind;
 use dt_read::Blob;
-use dt_view::node_at;
 use std::alloc::Global;
+
+/// The call's name, the steps, and the blob that they are taken on.
+#[derive(Clone, Copy)]
+struct Edits<'a> {
+    name: &'a str,
+    steps: &'a str,
+    blob: &'a [u8],
+}
 
 /// `edit-in SIZE STEPS` takes steps on a blob in a buffer of so many bytes, and prints for each that is refused its fault, for `read` the tree's
 /// lines, and for `size` how long the blob is. `edited-in SIZE STEPS` gives the blob behind the last step. Steps end with `;`, and are
-/// `set PATH NAME [HEX]`, `cell PATH NAME OFFSET NUMBER` and `node PATH NAME`.
+/// `set PATH NAME [HEX]`, `cell PATH NAME OFFSET NUMBER` and `node PATH NAME`. Where no step meets a limit, the same steps are taken on a blob in
+/// memory of its own and on the blob's tree in memory: it prints `differs` where these don't say the same.
 pub fn call(
     alloc: Global,
     name: &str,
@@ -28,15 +31,19 @@ pub fn call(
     let (size, steps) = words.split_once(' ').unwrap_or((words, ""));
     let size = index(size).ok_or(Stop::Malformed)?;
     let edits = Edits { name, steps, blob };
-    let mut buffer = Vec::new(alloc);
-    buffer.resize(size, 0)?;
-    let taken = take_in(alloc, &edits, &mut buffer, out);
-    // Let go of by hand: what goes at an exit by itself is proved there field by field.
-    drop(buffer);
-    taken
+    match name {
+        "edit-in" => {
+            let said = said_by_lent(alloc, &edits, size)?;
+            tell(alloc, &edits, &said, out.lines())
+        }
+        _ => {
+            out.give(lent_behind(alloc, &edits, size)?);
+            Ok(())
+        }
+    }
 }
 
-/// `edit STEPS` and `edited STEPS`: the same on a blob in memory of its own.
+/// `edit STEPS` and `edited STEPS`: the same on a blob in memory of its own, and beside it in a buffer.
 pub fn call_owned(
     alloc: Global,
     name: &str,
@@ -44,63 +51,113 @@ pub fn call_owned(
     blob: &[u8],
     out: &mut Outcome,
 ) -> Result<(), Stop> {
-    let seed = Blob::check(blob)?.seed();
-    let mut own = BlobBuf::new(alloc, blob, seed)?;
+    let edits = Edits { name, steps, blob };
     match name {
         "edit" => {
-            let taken = take_owned(alloc, steps, &mut own, out.lines());
-            // Let go of by hand, as above.
-            drop(own);
-            taken
+            let said = said_by_owned(alloc, &edits)?;
+            tell(alloc, &edits, &said, out.lines())
         }
         _ => {
-            let taken = take_owned(alloc, steps, &mut own, &mut Lines::new(alloc));
-            out.give(own.into_bytes());
-            taken
-        }
-    }
-}
-
-/// The call's name, the steps, and the blob that they are taken on.
-#[derive(Clone, Copy)]
-struct Edits<'a> {
-    name: &'a str,
-    steps: &'a str,
-    blob: &'a [u8],
-}
-
-fn take_in(
-    alloc: Global,
-    edits: &Edits<'_>,
-    buffer: &mut [u8],
-    out: &mut Outcome,
-) -> Result<(), Stop> {
-    drop(Blob::check(edits.blob)?);
-    open_into(edits.blob, buffer)?;
-    match edits.name {
-        "edit-in" => take_all(alloc, edits.steps, buffer, out.lines()),
-        _ => {
-            take_all(alloc, edits.steps, buffer, &mut Lines::new(alloc))?;
-            let blob = buffer.get(..size_of(buffer)).ok_or(Stop::Malformed)?;
-            out.give(Vec::from_slice(alloc, blob)?);
+            out.give(owned_behind(alloc, &edits)?);
             Ok(())
         }
     }
 }
 
-/// How long a blob is that can be edited.
-fn size_of(bytes: &[u8]) -> usize {
-    match dt_bytes::be32(bytes, 4) {
-        Some(size) => size as usize,
-        None => 0,
+/// Puts what the steps said, and `differs` where they say something else on another form of the blob.
+fn tell(alloc: Global, edits: &Edits<'_>, said: &str, lines: &mut Lines) -> Result<(), Stop> {
+    lines.put(said);
+    if said.contains("Limit") {
+        return Ok(());
+    }
+    // A step of so many letters adds at most four times as many bytes.
+    let room = edits
+        .blob
+        .len()
+        .saturating_add(edits.steps.len().saturating_mul(4));
+    let by_lent = said_by_lent(alloc, edits, room)?;
+    let by_owned = said_by_owned(alloc, edits)?;
+    let by_tree = said_by_tree(alloc, edits)?;
+    let without_sizes = without_sizes(alloc, said)?;
+    if *said != *by_lent || *said != *by_owned || *without_sizes != *by_tree {
+        lines.put("differs\n");
+    }
+    Ok(())
+}
+
+/// The lines that are no size: a tree in memory has none.
+fn without_sizes(alloc: Global, said: &str) -> Result<String, Stop> {
+    let mut lines = Lines::new(alloc);
+    for line in said.lines() {
+        if index(line).is_none() {
+            writeln!(lines, "{line}");
+        }
+    }
+    lines.into_text()
+}
+
+fn said_by_lent(alloc: Global, edits: &Edits<'_>, size: usize) -> Result<String, Stop> {
+    let mut lent = Lent::new(alloc, edits.blob, size)?;
+    let said = said_by(alloc, edits.steps, &mut lent);
+    // Let go of by hand: what goes at an exit by itself is proved there field by field.
+    drop(lent);
+    said
+}
+
+fn said_by_owned(alloc: Global, edits: &Edits<'_>) -> Result<String, Stop> {
+    let seed = Blob::check(edits.blob)?.seed();
+    let mut owned = BlobBuf::new(alloc, edits.blob, seed)?;
+    let said = said_by(alloc, edits.steps, &mut owned);
+    drop(owned);
+    said
+}
+
+fn said_by_tree(alloc: Global, edits: &Edits<'_>) -> Result<String, Stop> {
+    let mut tree = Blob::check(edits.blob)?.to_flat(alloc)?;
+    let said = said_by(alloc, edits.steps, &mut tree);
+    drop(tree);
+    said
+}
+
+/// The blob behind the steps.
+fn lent_behind(alloc: Global, edits: &Edits<'_>, size: usize) -> Result<Vec<u8>, Stop> {
+    let mut lent = Lent::new(alloc, edits.blob, size)?;
+    let taken = said_by(alloc, edits.steps, &mut lent);
+    let blob = lent.blob(alloc);
+    drop(lent);
+    drop(taken?);
+    blob
+}
+
+fn owned_behind(alloc: Global, edits: &Edits<'_>) -> Result<Vec<u8>, Stop> {
+    let seed = Blob::check(edits.blob)?.seed();
+    let mut owned = BlobBuf::new(alloc, edits.blob, seed)?;
+    let taken = said_by(alloc, edits.steps, &mut owned);
+    let blob = owned.into_bytes();
+    drop(taken?);
+    Ok(blob)
+}
+
+/// What the steps say.
+fn said_by<E: Edited>(alloc: Global, steps: &str, edited: &mut E) -> Result<String, Stop> {
+    let mut lines = Lines::new(alloc);
+    match take_all(alloc, steps, edited, &mut lines) {
+        Ok(()) => lines.into_text(),
+        Err(stop) => {
+            drop(lines);
+            Err(stop)
+        }
     }
 }
 
-fn take_all(alloc: Global, steps: &str, bytes: &mut [u8], lines: &mut Lines) -> Result<(), Stop>
-    requires { IsEditable bytes.old }
-{
+fn take_all<E: Edited>(
+    alloc: Global,
+    steps: &str,
+    edited: &mut E,
+    lines: &mut Lines,
+) -> Result<(), Stop> {
     for step in steps.split_terminator(';') {
-        match take(alloc, step.trim(), bytes, lines) {
+        match take(alloc, step.trim(), edited, lines) {
             Ok(()) => {}
             Err(Stop::Refused(fault)) if fault.kind != FaultKind::NoMemory => {
                 writeln!(lines, "{fault}");
@@ -112,120 +169,50 @@ fn take_all(alloc: Global, steps: &str, bytes: &mut [u8], lines: &mut Lines) -> 
 }
 
 /// Takes one step.
-fn take(alloc: Global, step: &str, bytes: &mut [u8], lines: &mut Lines) -> Result<(), Stop>
-    requires { IsEditable bytes.old }
-    ensures { IsEditable bytes.new }
-{
+fn take<E: Edited>(
+    alloc: Global,
+    step: &str,
+    edited: &mut E,
+    lines: &mut Lines,
+) -> Result<(), Stop> {
     let (verb, words) = step.split_once(' ').unwrap_or((step, ""));
     match verb {
-        "read" => {
-            let tree = tree_of(alloc, bytes)?;
-            put_tree(lines, alloc, &tree);
-            Ok(())
-        }
+        "read" => edited.put(alloc, lines),
         "size" => {
-            let size = size_of(bytes);
-            writeln!(lines, "{size}");
+            if let Some(size) = edited.size() {
+                writeln!(lines, "{size}");
+            }
             Ok(())
         }
-        _ => take_at(alloc, verb, words, bytes),
+        _ => change(alloc, verb, words, edited),
     }
 }
 
 /// Takes a step whose words are a path, a name, and perhaps more.
-fn take_at(alloc: Global, verb: &str, words: &str, bytes: &mut [u8]) -> Result<(), Stop>
-    requires { IsEditable bytes.old }
-    ensures { IsEditable bytes.new }
-{
+fn change<E: Edited>(alloc: Global, verb: &str, words: &str, edited: &mut E) -> Result<(), Stop> {
     let (path, words) = words.split_once(' ').ok_or(Stop::Malformed)?;
     let (name, more) = words.split_once(' ').unwrap_or((words, ""));
-    let blob = Blob::of(bytes, Seed::fixed());
-    let node = node_at(&blob, path.as_bytes())?;
+    let path = path.as_bytes();
     match verb {
         "set" => {
             let value = bytes_of(alloc, more)?;
-            Ok(set_prop(bytes, node, &PropName::new(name.as_bytes())?, &value)?)
+            edited.set(path, name.as_bytes(), &value)
         }
-        "cell" => patch(bytes, node, name, more),
-        "node" => {
-            add_node(bytes, node, &NodeName::new(name.as_bytes())?)?;
-            Ok(())
+        "cell" => {
+            let cell = cell_of(more).ok_or(Stop::Malformed)?;
+            edited.patch(alloc, path, name.as_bytes(), cell)
         }
+        "node" => edited.add(path, name.as_bytes()),
         _ => Err(Stop::Malformed),
     }
 }
 
-/// Writes a number into a cell of a property, where there is one: the words are the offset and the number.
-fn patch(bytes: &mut [u8], node: NodeId, name: &str, words: &str) -> Result<(), Stop>
-    requires editable { IsEditable bytes.old }
-    requires node { IsNode (placed_of bytes.old) node }
-    ensures { IsEditable bytes.new }
-{
-    let (offset, cell) = words.split_once(' ').ok_or(Stop::Malformed)?;
-    let name = PropName::new(name.as_bytes())?;
-    let (Some(offset), Some(cell)) = (index(offset), index(cell)) else {
-        return Err(Stop::Malformed);
-    };
-    let Ok(cell) = u32::try_from(cell) else {
-        return Err(Stop::Malformed);
-    };
-    if !has_cell(bytes, node, name.as_bytes(), offset) {
-        return Err(Stop::Malformed);
-    }
-    Ok(patch_cell(bytes, node, &name, offset, cell)?)
-}
-
-fn take_owned(
-    alloc: Global,
-    steps: &str,
-    own: &mut BlobBuf,
-    lines: &mut Lines,
-) -> Result<(), Stop> {
-    for step in steps.split_terminator(';') {
-        match take_one(alloc, step.trim(), own, lines) {
-            Ok(()) => {}
-            Err(Stop::Refused(fault)) if fault.kind != FaultKind::NoMemory => {
-                writeln!(lines, "{fault}");
-            }
-            Err(stop) => return Err(stop),
-        }
-    }
-    Ok(())
-}
-
-/// Takes one step on a blob in memory of its own.
-fn take_one(alloc: Global, step: &str, own: &mut BlobBuf, lines: &mut Lines) -> Result<(), Stop> {
-    let (verb, words) = step.split_once(' ').unwrap_or((step, ""));
-    match verb {
-        "read" => {
-            let tree = tree_of(alloc, own.as_bytes())?;
-            put_tree(lines, alloc, &tree);
-            Ok(())
-        }
-        "size" => {
-            let size = own.as_bytes().len();
-            writeln!(lines, "{size}");
-            Ok(())
-        }
-        _ => change(alloc, verb, words, own),
-    }
-}
-
-/// Takes a step that changes such a blob.
-fn change(alloc: Global, verb: &str, words: &str, own: &mut BlobBuf) -> Result<(), Stop> {
-    let (path, words) = words.split_once(' ').ok_or(Stop::Malformed)?;
-    let (name, more) = words.split_once(' ').unwrap_or((words, ""));
-    let blob = own.blob();
-    let node = node_at(&blob, path.as_bytes())?;
-    match verb {
-        "set" => {
-            let value = bytes_of(alloc, more)?;
-            Ok(own.set_prop(node, &PropName::new(name.as_bytes())?, &value)?)
-        }
-        "node" => {
-            own.add_node(node, &NodeName::new(name.as_bytes())?)?;
-            Ok(())
-        }
-        _ => Err(Stop::Malformed),
-    }
+/// The cell that the words say: an offset and a number.
+fn cell_of(words: &str) -> Option<Cell> {
+    let (offset, number) = words.split_once(' ')?;
+    let number = u32::try_from(index(number)?).ok()?;
+    Some(Cell {
+        offset: index(offset)?,
+        number,
+    })
 }

@@ -3,13 +3,15 @@
 
 ghost use Rattle.std.specs.Prelude.{◌<◌, length};
 
+use crate::edited::{Cell, Edited, Lent};
 use crate::expressions::expression_of;
 use crate::names::text_of;
 use crate::outcome::{Lines, Stop};
-use crate::{still_nodes, still_texts};
+use crate::{still_edits, still_nodes, still_texts};
+use dt_edit::{BlobBuf, open_into};
 use dt_expr::eval;
 use dt_flat::FlatTree;
-use dt_names::NodeId;
+use dt_names::{Fault, NodeId};
 use dt_parse::parse;
 use dt_phandle::{Numbering, number};
 use dt_read::Blob;
@@ -22,7 +24,7 @@ const BEGIN: usize = 65_521;
 /// up to the next one of this size.
 const END: usize = 65_519;
 
-/// `still bytes`, `still blob`, `still source` and `still expression` make what these calls are asked of, and then ask each call that takes no
+/// `still bytes`, `still blob`, `still source`, `still expression` and `still edits` make what these calls are asked of, and then ask each call that takes no
 /// memory that such an input can be asked with; they answer how much came back: how many bytes, numbers, and answers that aren't refusals.
 pub fn answered(alloc: Global, words: &str, input: &[u8]) -> Result<usize, Stop> {
     match words {
@@ -30,6 +32,7 @@ pub fn answered(alloc: Global, words: &str, input: &[u8]) -> Result<usize, Stop>
         "blob" => of_blob(alloc, input),
         "source" => of_source(alloc, input),
         "expression" => of_expression(alloc, input),
+        "edits" => of_edits(alloc, input),
         _ => Err(Stop::Malformed),
     }
 }
@@ -82,6 +85,40 @@ fn numbers_of(numbering: &Numbering, nodes: usize) -> usize {
         }
     }
     numbered
+}
+
+fn of_edits(alloc: Global, input: &[u8]) -> Result<usize, Stop> {
+    let seed = Blob::check(input)?.seed();
+    let mut owned = BlobBuf::new(alloc, input, seed)?;
+    let made = still_edits::patched(alloc, &mut owned);
+    let mut lent = Lent::new(alloc, input, input.len().saturating_add(4096))?;
+    let mut copy = Vec::new(alloc);
+    copy.resize(input.len().saturating_add(64), 0)?;
+    let begun = ask_for(alloc, BEGIN);
+    let opened = usize::from(opened(input, &mut copy).is_ok());
+    let answered = opened
+        .saturating_add(still_edits::taken(alloc, &mut lent))
+        .saturating_add(rewritten(alloc, owned));
+    finish(alloc, begun, answered.saturating_add(made))
+}
+
+/// Copies a blob to the front of a buffer.
+fn opened(blob: &[u8], buffer: &mut [u8]) -> Result<(), Fault> {
+    drop(Blob::check(blob)?);
+    open_into(blob, buffer)
+}
+
+/// A cell written again in a blob in memory of its own, and how many bytes that has.
+fn rewritten(alloc: Global, mut owned: BlobBuf) -> usize {
+    let cell = Cell {
+        offset: 0,
+        number: 9,
+    };
+    let written = usize::from(owned.patch(alloc, b"/", b"still", cell).is_ok());
+    let is_read = usize::from(owned.blob().value(owned.blob().root(), b"still").is_some());
+    written
+        .saturating_add(is_read)
+        .saturating_add(owned.into_bytes().len())
 }
 
 fn of_blob(alloc: Global, input: &[u8]) -> Result<usize, Stop> {
