@@ -20,7 +20,7 @@ LIBRARY = os.environ.get("DTOOL_LIBRARY", f"{HERE}/../crates/dt_c/out")
 
 
 def instructions(*words):
-    done = subprocess.run(["valgrind", "--tool=callgrind", "--callgrind-out-file=/dev/null", *words], stderr=subprocess.PIPE, text=True)
+    done = subprocess.run(["valgrind", "--tool=callgrind", "--callgrind-out-file=/dev/null", *words], stdout=subprocess.DEVNULL, stderr=subprocess.PIPE, text=True)
     return int(re.search(r"Collected : (\d+)", done.stderr).group(1))
 
 
@@ -28,7 +28,7 @@ def seconds(*words):
     times = []
     for _ in range(5):
         before = os.times()
-        subprocess.run(words, stderr=subprocess.DEVNULL)
+        subprocess.run(words, stdout=subprocess.DEVNULL, stderr=subprocess.DEVNULL)
         times.append(os.times().children_user + os.times().children_system - before.children_user - before.children_system)
     return min(times)
 
