@@ -282,7 +282,7 @@ impl<'a> Blob<'a> {
         Steps::new(self.structure.start())
     }
 
-    /// The same walk through the nodes alone, which costs less: it seeks no property's name. Takes no memory.
+    /// The same walk through the nodes alone. It costs less, since it looks up no property's name. Takes no memory.
     pub fn node_steps(&self) -> NodeSteps<'a>
         ensures { result ≡ without_properties (steps_of self.now) }
     {

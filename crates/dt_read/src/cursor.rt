@@ -55,7 +55,7 @@ pub(crate) fn next_token<'a>(strings: &'a [u8], at: usize, bytes: &'a [u8]) -> O
     None
 }
 
-/// A token of which no name of a property is sought, its place, and what stands behind it.
+/// A tag, its place, and what is behind its token.
 #[derive(Drop)]
 pub(crate) struct FoundTag<'a> {
     pub at: usize,
@@ -64,7 +64,7 @@ pub(crate) struct FoundTag<'a> {
     pub rest: &'a [u8],
 }
 
-/// The first token that isn't a NOP, of tokens whose names are in any strings.
+/// The first tag that isn't a NOP.
 fn next_tag<'a>(at: usize, bytes: &'a [u8]) -> Option<FoundTag<'a>>
     requires { at + length bytes.now < 2 ^ 32 }
     ensures next { (strings : List ℕ) → AreTokens strings at bytes.now → MatchOption result (marks_in strings at bytes.now ≡ []) (λ found.
@@ -148,7 +148,7 @@ impl<'a> Cursor<'a> {
         Some((found.at, found.token))
     }
 
-    /// Reads a token with its offset, and seeks no property's name, so it costs less than `next`.
+    /// Reads a tag, with its offset. It costs less than `next`, which looks up a property's name.
     pub fn next_tag(&mut self) -> Option<(usize, Tag<'a>)>
         ensures next { MatchOption result ((self.old ≡ []) × (self.new ≡ [])) (λ found.
             (p : Property) × (self.old ≡ tag_mark found.0 found.1 p ∷ self.new)) }
@@ -161,7 +161,7 @@ impl<'a> Cursor<'a> {
         Some((found.at, found.tag))
     }
 
-    /// Reads the first token that isn't a property of another name, as a search for the properties of a name sees it, with its offset.
+    /// Skips the properties of other names, and reads what comes then, with its offset.
     pub fn seek(&mut self, name: &[u8]) -> Option<(usize, Sought<'a>)>
         ensures next { MatchOption result ((past_others name.now self.old ≡ []) × (self.new ≡ [])) (λ found.
             (p : Property) × IsSought name.now found.1 p × (past_others name.now self.old ≡ mark_at found.0 (sought_view found.1 p) ∷ self.new)) }

@@ -86,7 +86,7 @@ fn next_token<'a>(wanted: Wanted, cursor: &mut Cursor<'a>) -> Option<(usize, Tok
     Some((place, token))
 }
 
-/// Reads up to the next phandle, and keeps the open nodes. It seeks the end of no other property's name.
+/// Reads up to the next phandle, and keeps the open nodes.
 fn next_phandle<'a>(cursor: &mut Cursor<'a>, open_nodes: &mut OpenNodes) -> Option<Key<'a>>
     requires { AreShallowFor Wanted.Phandles (length open_nodes.old) cursor.old }
     ensures next { MatchOption result ((keys_in Wanted.Phandles open_nodes.old cursor.old ≡ []) × (keys_in Wanted.Phandles open_nodes.new cursor.new ≡ []))

@@ -12,7 +12,7 @@ use crate::parts::{from, part};
 use crate::token::Tag;
 use dt_bytes::text_at;
 
-/// A token as a search for the properties of one name sees it.
+/// What a search for the properties of one name finds.
 #[derive(Clone, Copy)]
 pub(crate) enum Sought<'a> {
     BeginNode(&'a [u8]),
@@ -22,7 +22,7 @@ pub(crate) enum Sought<'a> {
     End,
 }
 
-/// Whether the property whose token is in front of some bytes has a name. The end of its own name is sought only where it begins so.
+/// Whether the property whose token is at the front has this name. The end of its own name is looked up only where it begins so.
 pub(crate) fn is_named(strings: &[u8], bytes: &[u8], name: &[u8]) -> bool
     requires { (p : Property) × (n : ℕ) × Takes strings.now bytes.now (prop p) n }
     ensures { (p : Property) (n : ℕ) → Takes strings.now bytes.now (prop p) n → result ≡ bytes_eq name.now p.name }
@@ -40,7 +40,7 @@ pub(crate) fn is_named(strings: &[u8], bytes: &[u8], name: &[u8]) -> bool
     }
 }
 
-/// The value of the property whose token is in front of some bytes.
+/// The value of the property whose token is at the front.
 pub(crate) fn value_of(bytes: &[u8]) -> &[u8]
     requires { (strings : List ℕ) × (p : Property) × (n : ℕ) × Takes strings bytes.now (prop p) n }
     ensures { (strings : List ℕ) (p : Property) (n : ℕ) → Takes strings bytes.now (prop p) n → result.now ≡ p.value }
@@ -48,7 +48,7 @@ pub(crate) fn value_of(bytes: &[u8]) -> &[u8]
     part(bytes, 12, number(bytes, 4))
 }
 
-/// What a search for the properties of a name sees in a token that is no NOP; None in a property of another name.
+/// What a search for the properties of a name finds in a token that is no NOP; None in a property of another name.
 pub(crate) fn look_for<'a>(strings: &'a [u8], tag: Tag<'a>, name: &[u8]) -> Option<Sought<'a>>
     requires token { (p : Property) × HasToken strings.now tag p }
     requires no_nop { tag ≡ Tag.Nop → ⊥ }

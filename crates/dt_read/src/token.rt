@@ -30,7 +30,7 @@ pub(crate) enum Token<'a> {
     End,
 }
 
-/// A token of which no name of a property is sought. A property has the bytes from its token on.
+/// A token, without the name and the value of a property, which has the bytes from its token on in their place.
 #[derive(Clone, Copy)]
 pub(crate) enum Tag<'a> {
     BeginNode(&'a [u8]),
@@ -117,7 +117,7 @@ fn property_len(bytes: &[u8]) -> Option<usize>
     Some(len)
 }
 
-/// The token at the front, and how many bytes it takes, where it is one. It costs less than `token_at`.
+/// The tag at the front, and how many bytes its token takes. It costs less than `token_at`, and may answer one where the bytes are no token.
 #[inline(always)]
 #[tactic(auto, unfolding(dt_model::specs::Lexing::token_in))]
 pub(crate) fn tag_at<'a>(bytes: &'a [u8]) -> Option<(Tag<'a>, usize)>
