@@ -31,7 +31,7 @@ fn set_all<E: Edited>(edited: &mut E, path: &[u8]) -> usize {
 }
 
 /// Whether a cell is written, of a value that is made for it.
-pub fn patched<E: Edited>(alloc: Global, edited: &mut E) -> usize {
+fn patched<E: Edited>(alloc: Global, edited: &mut E) -> usize {
     let cell = Cell {
         offset: 1,
         number: 7,
