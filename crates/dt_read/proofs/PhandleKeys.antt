@@ -1,5 +1,5 @@
 -- The keys of phandles are the values of the properties `phandle`.
-use Rattle.std.proofs.Common.{◌↔◌, ◌≡◌, ◌≢◌, ℕ, suc, ◌-◌, Bool, true, false, List, [], ◌∷◌, ◌++◌, length, drop, map, Some, None, codes, refl, sym, ap, subst, ◌∙◌, arith}
+use Rattle.std.proofs.Common.{◌↔◌, ◌≡◌, ◌≢◌, ℕ, Bool, true, false, List, [], ◌∷◌, ◌++◌, map, Some, None, codes, refl, sym, ap, subst, ◌∙◌}
 use Rattle.std.specs.Prelude.{if◌then◌else◌}
 use Rattle.std.specs.List.{AllByRecursion}
 use Rattle.std.specs.Str.{bytes_eq}
@@ -101,7 +101,3 @@ shallow_past count (prop_mark p ∷ marks) s = shallow_first count p marks (byte
 -- the property that is found gives a key
 pub phandle_sought : (open_nodes : List ℕ) (p : Property) (value : List ℕ) (marks : List Mark) → bytes_eq (codes "phandle") p.name ≡ true → value ≡ p.value → keys_in Phandles open_nodes (prop_mark p ∷ marks) ≡ phandle_key value ∷ keys_in Phandles open_nodes marks
 phandle_sought open_nodes p value marks named is = ap (λ b. with_key (if b then Some (phandle_key p.value) else None) (keys_in Phandles open_nodes marks)) named ∙ ap (λ v. phandle_key v ∷ keys_in Phandles open_nodes marks) (sym is)
-
-pub shorter : (ks : List ℕ) → length ks - 1 ≡ length (drop 1 ks)
-shorter [] = refl
-shorter (k ∷ ks) = let e : suc (length ks) - 1 ≡ length ks = omega arith in e

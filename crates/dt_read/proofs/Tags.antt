@@ -15,12 +15,6 @@ if_there P (Some x) h = h x refl
 abbrev pub any_property : Property
 any_property = record { name = []; value = [] }
 
-pub one_length : {m n : ℕ} → Some m ≡ Some n → m ≡ n
-one_length e = cc
-
-pub one_number : (m n : ℕ) {o : Option ℕ} → Some m ≡ o → o ≡ Some n → m ≡ n
-one_number m n a b = cc
-
 -- the size of a property's value is at 4, and its token is within the bytes
 pub of_property : (strings bytes : List ℕ) (P : Token × ℕ → Type 0)
     → ((name : List ℕ) (size : ℕ) → word_at bytes 4 ≡ Some size → padded (12 + size) ≤ length bytes → P (prop (record { name = name; value = take size (drop 12 bytes) }), padded (12 + size)))

@@ -49,9 +49,21 @@ impl<'a> Model for Blob<'a> {
 
     ghost coded = { coded_placed };
 
-    ghost view = { λ b. record { boot_cpu = b.boot_cpu; reservations = pairs_of b.reservations.now; place = b.structure.place; properties = b.structure.properties; children = b.structure.children } };
+    ghost view = { λ b. record {
+      boot_cpu = b.boot_cpu;
+      reservations = pairs_of b.reservations.now;
+      place = b.structure.place;
+      properties = b.structure.properties;
+      children = b.structure.children;
+    } };
 
-    ghost invariant = { λ b. IsWellPlaced (record { boot_cpu = b.boot_cpu; reservations = pairs_of b.reservations.now; place = b.structure.place; properties = b.structure.properties; children = b.structure.children }) };
+    ghost invariant = { λ b. IsWellPlaced (record {
+      boot_cpu = b.boot_cpu;
+      reservations = pairs_of b.reservations.now;
+      place = b.structure.place;
+      properties = b.structure.properties;
+      children = b.structure.children;
+    }) };
 }
 
 /// The fault of the token at so many bytes behind the front of the structure block. A limit has no place.

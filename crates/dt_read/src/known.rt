@@ -1,8 +1,7 @@
 //! Names of properties that were met before. Names repeat: a board's blob has ten properties for each name, so most are judged without a look at
 //! their bytes.
 
-ghost use Rattle.std.specs.Prelude.{◌≡◌, ◌<◌, ◌%◌};
-ghost use Rattle.std.specs.Bool.{OnTrue};
+ghost use Rattle.std.specs.Prelude.{◌≡◌, ◌↔◌, ◌<◌, ◌%◌, IsTrue};
 ghost use Rattle.dt_read.specs.Known.{HasNameAt};
 
 use crate::name::may_name_a_property;
@@ -44,10 +43,10 @@ impl<'a> KnownNames<'a> {
         }
     }
 
-    /// Whether a name of a property stands at an offset of the strings, which is remembered.
+    /// Whether a name of a property stands at an offset of the strings. Where it does, the offset is remembered.
     pub fn is_at(&mut self, offset: u32) -> bool
         ensures strings { self.new ≡ self.old }
-        ensures name { OnTrue result (HasNameAt self.old offset) }
+        ensures name { IsTrue result ↔ HasNameAt self.old offset }
     {
         let place = offset as usize % PLACES;
         if self.offsets[place] == offset && offset != NONE {

@@ -92,7 +92,8 @@ impl ScanState {
     }
 }
 
-/// How many bytes the property at the front of some bytes takes, where it may stand there and has a name that is known to be one.
+/// How many bytes the property at the front takes, where it may stand there. It judges a name that was met before by its offset. None says nothing
+/// of the token.
 fn known_property(names: &mut KnownNames<'_>, place: ScanState, rest: &[u8]) -> Option<usize>
     ensures strings { names.new ≡ names.old }
     ensures moves { IfSome result (MovesTo names.old (position_of place) rest.now (position_of place)) }

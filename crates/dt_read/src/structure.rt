@@ -93,7 +93,7 @@ impl<'a> Structure<'a> {
         hasher.finish()
     }
 
-    /// No fewer than the names of nodes and properties: each takes twelve bytes of tokens at least.
+    /// About as many names as the block may hold: each takes twelve bytes of tokens at least. It only decides how long a check takes.
     pub fn most_names(&self) -> usize {
         self.block.len() / 12
     }

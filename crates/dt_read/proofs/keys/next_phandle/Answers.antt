@@ -1,10 +1,11 @@
 use Rattle.std.proofs.Common.{◌≡◌, ◌∷◌, codes, refl, length, sym, ap, subst, ◌∙◌}
+use Rattle.std.proofs.lemmas.List.{length-drop}
 use Rattle.dt_read.specs.Keys.{keys_in, AreShallowFor}
 use Rattle.dt_read.specs.Marks.{mark_at}
 use Rattle.dt_read.specs.TreeTokens.{past_others}
 use Rattle.dt_read.specs.View.{sought_view, IsSought}
 use Rattle.dt_read.specs.declared.keys.Wanted.TheVariants.{Phandles}
-use Rattle.dt_read.proofs.PhandleKeys.{keys_past, shallow_past, shorter, phandle_sought}
+use Rattle.dt_read.proofs.PhandleKeys.{keys_past, shallow_past, phandle_sought}
 use Rattle.dt_read.proofs.keys.next_phandle.Goals as goal
 
 pub push-requires : goal.push-requires
@@ -30,7 +31,7 @@ loop-place-preserved-in-EndNode c =
     let e = subst (λ s. past_others (codes "phandle") c.loop-place.cursor ≡ mark_at c.in-Some.place (sought_view s found.0) ∷ c.seek.new.self) c.in-EndNode.is found.2 in
     rw c.pop.ensures (
       sym (ap (keys_in Phandles open_nodes) e) ∙ keys_past open_nodes c.loop-place.cursor ∙ c.loop-place.invariant.0,
-      subst (λ n. AreShallowFor Phandles n c.seek.new.self) (shorter open_nodes)
+      subst (λ n. AreShallowFor Phandles n c.seek.new.self) (sym (length-drop 1 open_nodes))
           (subst (AreShallowFor Phandles (length open_nodes)) e (shallow_past (length open_nodes) c.loop-place.cursor c.loop-place.invariant.1) refl),
     )
 

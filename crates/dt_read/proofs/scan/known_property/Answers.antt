@@ -13,4 +13,4 @@ returns-clause-moves c =
     let len = c.padded_len-len.ensures in
     let long = c.if-rest-len.false in
     subst (MovesTo strings (position_of c.args.place) rest (position_of c.args.place)) (sym len)
-    (known_moves strings (position_of c.args.place) rest size c.in_ok-offset.offset (λ i. omega (arith, c.type_inv.rest i)) tag (sym c.in_ok-value_len.ensures) (sym c.in_ok-offset.ensures) (omega arith) c.if-not-is_at.ensures.name c.if-place-eq0.false c.if-place.false)
+    (known_moves strings (position_of c.args.place) rest size c.in_ok-offset.offset (λ i. omega (arith, c.type_inv.rest i)) tag (sym c.in_ok-value_len.ensures) (sym c.in_ok-offset.ensures) (omega arith) (c.is_at.ensures.name.0 c.if-not-is_at.false) c.if-place-eq0.false c.if-place.false)

@@ -2,10 +2,10 @@ use Rattle.std.proofs.Common.{Some, refl, sym, ap, subst, ◌∙◌}
 use Rattle.dt_model.specs.Format.{end_node, nop, end_tree}
 use Rattle.dt_model.specs.Lexing.{begin_in, property_in}
 use Rattle.std.specs.Option.{IfSome}
-use Rattle.std.proofs.lemmas.Option.{IfSome_then}
+use Rattle.std.proofs.lemmas.Option.{IfSome_then, same_Some}
 use Rattle.dt_read.specs.View.{IsTagIn}
 use Rattle.dt_read.specs.declared.token.Tag.TheVariants.{BeginNode}
-use Rattle.dt_read.proofs.Tags.{of_number, of_no_number, any_property, one_length}
+use Rattle.dt_read.proofs.Tags.{of_number, of_no_number, any_property}
 use Rattle.dt_read.proofs.token.tag_at.Goals as goal
 
 pub returns-in_err-be32-clause-is : goal.returns-in_err-be32-clause-is
@@ -27,7 +27,7 @@ returns-in_err-property_len-in-3-clause-is c = λ strings. of_number strings c.a
 
 pub returns-in_ok-property_len-in-3-clause-is : goal.returns-in_ok-property_len-in-3-clause-is
 returns-in_ok-property_len-in-3-clause-is c = λ strings. of_number strings c.args.bytes.now 3 (property_in strings c.args.bytes.now) _ (sym c.in_ok-be32.ensures ∙ ap Some c.in-3.is) refl
-    (IfSome_then (property_in strings c.args.bytes.now) (c.in_ok-property_len-in-3.ensures.is strings) (λ r h. (h.0, h.1, one_length h.2)))
+    (IfSome_then (property_in strings c.args.bytes.now) (c.in_ok-property_len-in-3.ensures.is strings) (λ r h. (h.0, h.1, same_Some _ _ h.2)))
 
 pub returns-in-4-clause-is : goal.returns-in-4-clause-is
 returns-in-4-clause-is c = λ strings. of_number strings c.args.bytes.now 4 (Some (nop, 4)) _ (sym c.in_ok-be32.ensures ∙ ap Some c.in-4.is) refl (any_property, refl, refl)
