@@ -2,6 +2,7 @@
 use Rattle.std.proofs.Common.{◌≡◌, ◌≢◌, ℕ, suc, ◌+◌, ◌-◌, ◌<◌, ◌≤◌, ◌==◌, Bool, true, false, cond, List, [], ◌∷◌, ◌++◌, drop, length, map, Option, Some, None, refl, sym, ap, subst, ◌∙◌, inl, inr, arith}
 use Rattle.std.specs.Option.{MatchOption}
 use Rattle.std.proofs.lemmas.Bool.{eqb-true, eq-eqb}
+use Rattle.std.proofs.lemmas.List.{length-drop}
 use Rattle.dt_model.specs.Limits.{most_bodies}
 use Rattle.dt_model.specs.Lists.{IsIn}
 use Rattle.dt_model.specs.Names.{Name}
@@ -128,14 +129,10 @@ pub nodes_walked : (t : PlacedTree) (open_nodes : List ℕ) (steps : List Step) 
 nodes_walked t open_nodes steps walked =
     another_walked t open_nodes open_nodes steps (without_properties steps) walked (opened_without steps) (λ k. told_without k open_nodes steps) (few_without (length open_nodes) steps)
 
-pub shorter : (ks : List ℕ) → length ks - 1 ≡ length (drop 1 ks)
-shorter [] = refl
-shorter (k ∷ ks) = let e : suc (length ks) - 1 ≡ length ks = omega arith in e
-
 abbrev pub end_walked : (t : PlacedTree) (open_nodes new : List ℕ) (steps rest : List Step) → IsWalked t open_nodes steps → steps ≡ closes ∷ rest → new ≡ drop 1 open_nodes → IsWalked t new rest
 end_walked t open_nodes new steps rest walked e is =
     another_walked t open_nodes new steps rest walked (ap opened e) (λ k. ap (parent_told k open_nodes) e ∙ ap (λ ks. parent_told k ks rest) (sym is))
-    (λ few. subst (λ ks. AreFew (length ks) rest) (sym is) (subst (λ n. AreFew n rest) (shorter open_nodes) (subst (AreFew (length open_nodes)) e few)))
+    (λ few. subst (λ ks. AreFew (length ks) rest) (sym is) (subst (λ n. AreFew n rest) (sym (length-drop 1 open_nodes)) (subst (AreFew (length open_nodes)) e few)))
 
 -- ---- up to a node
 
@@ -249,18 +246,18 @@ module _ (t : PlacedTree) (node : ℕ) (valid : IsValid (reading_of t)) (places 
   pub at_node_counted : (name : Name) → IsCounted t node depth steps → steps ≡ opens node name ∷ rest → depth ≡ length (path_at t node)
   at_node_counted name h e = h.count ∙ as_many_above t node h.open_nodes (at_beginning t node valid places h.open_nodes steps rest h.ahead node name e)
 
-  pub begun_counted : (here : ℕ) (name : Name) → IsCounted t node depth steps → steps ≡ opens here name ∷ rest → here ≢ node → IsCounted t node (depth + 1) rest
+  abbrev pub begun_counted : (here : ℕ) (name : Name) → IsCounted t node depth steps → steps ≡ opens here name ∷ rest → here ≢ node → IsCounted t node (depth + 1) rest
   begun_counted here name h e other = record {
     open_nodes = here ∷ h.open_nodes;
     ahead = past_beginning t node valid places h.open_nodes steps rest h.ahead here name (here ∷ h.open_nodes) e other refl;
     count = let c = h.count in omega arith;
   }
 
-  pub ended_counted : IsCounted t node depth steps → steps ≡ closes ∷ rest → IsCounted t node (depth - 1) rest
+  abbrev pub ended_counted : IsCounted t node depth steps → steps ≡ closes ∷ rest → IsCounted t node (depth - 1) rest
   ended_counted h e = record {
     open_nodes = drop 1 h.open_nodes;
     ahead = past_end t node valid places h.open_nodes steps rest h.ahead (drop 1 h.open_nodes) e refl;
-    count = ap (λ n. n - 1) h.count ∙ shorter h.open_nodes;
+    count = ap (λ n. n - 1) h.count ∙ sym (length-drop 1 h.open_nodes);
   }
 
   pub at_node_kept : (level : ℕ) (kept : Option ℕ) (name : Name) → IsKept t node level depth kept steps → level ≡ length (path_at t node) → steps ≡ opens node name ∷ rest → IsAbove t node kept
@@ -270,30 +267,18 @@ module _ (t : PlacedTree) (node : ℕ) (valid : IsValid (reading_of t)) (places 
 
   pub begun_kept : (level : ℕ) (kept : Option ℕ) (here : ℕ) (name : Name) → IsKept t node level depth kept steps → steps ≡ opens here name ∷ rest → here ≢ node → depth + 1 ≢ level → IsKept t node level (depth + 1) kept rest
   begun_kept level kept here name h e other differs = record {
-    counted = record {
-      open_nodes = here ∷ h.counted.open_nodes;
-      ahead = past_beginning t node valid places h.counted.open_nodes steps rest h.counted.ahead here name (here ∷ h.counted.open_nodes) e other refl;
-      count = let c = h.counted.count in omega arith;
-    };
+    counted = begun_counted here name h.counted e other;
     at = still_at_level level here kept h.counted.open_nodes (λ same. differs (let c = h.counted.count in omega arith)) h.at;
   }
 
   pub begun_here_kept : (level : ℕ) (kept : Option ℕ) (here : ℕ) (name : Name) → IsKept t node level depth kept steps → steps ≡ opens here name ∷ rest → here ≢ node → depth + 1 ≡ level → IsKept t node level (depth + 1) (Some here) rest
   begun_here_kept level kept here name h e other same = record {
-    counted = record {
-      open_nodes = here ∷ h.counted.open_nodes;
-      ahead = past_beginning t node valid places h.counted.open_nodes steps rest h.counted.ahead here name (here ∷ h.counted.open_nodes) e other refl;
-      count = let c = h.counted.count in omega arith;
-    };
+    counted = begun_counted here name h.counted e other;
     at = here_at_level level here h.counted.open_nodes (let c = h.counted.count in omega arith);
   }
 
   pub ended_kept : (level : ℕ) (kept : Option ℕ) → IsKept t node level depth kept steps → steps ≡ closes ∷ rest → IsKept t node level (depth - 1) kept rest
   ended_kept level kept h e = record {
-    counted = record {
-      open_nodes = drop 1 h.counted.open_nodes;
-      ahead = past_end t node valid places h.counted.open_nodes steps rest h.counted.ahead (drop 1 h.counted.open_nodes) e refl;
-      count = ap (λ n. n - 1) h.counted.count ∙ shorter h.counted.open_nodes;
-    };
+    counted = ended_counted h.counted e;
     at = left_at_level level kept h.counted.open_nodes h.at;
   }

@@ -1,4 +1,4 @@
-//! A blob as a view. A blob's tokens tell no parent, so the node above a node is told by a walk from the root up to it: for a boot loader, which
+//! A blob as a view. A blob's tokens name no parent, so the node above a node is found by two walks from the root up to it: for a boot loader, which
 //! asks seldom and has no memory to spend.
 
 ghost use Rattle.std.specs.Prelude.{◌≡◌, ◌↔◌, ◌∷◌, ◌++◌, ℕ, [], IfSome, IsTrue, length, option_map};
