@@ -38,7 +38,7 @@ SOURCES = {
 TOLD = re.compile(r"dtool: input ([0-2]): fault 1 NoMemory\n")
 ANSWER = re.compile(r": the answer is\n(.*?)and not\n", re.S)
 REFUSED = re.compile(r"(?:input (\d+): )?fault 1 NoMemory\n|fault 90 WriteFault\n")
-REPEATED = re.compile(r"^\*x? (?:(\d+)\.\.)?(\d+) (.*)", re.M)
+REPEATED = re.compile(r"^\*[ax]? (?:(\d+)\.\.)?(\d+) (.*)", re.M)
 FAULT = "fault 1 NoMemory\n"
 
 Program = collections.namedtuple("Program", "words given")
@@ -53,7 +53,8 @@ class Case(collections.namedtuple("Case", "name head lines samples")):
     def is_large(self):
         """Whether it repeats something a thousand times, or a long text often, or tries each change of each byte."""
         text = self.text()
-        often = any(int(n) - int(first or 0) >= 1000 or int(n) * len(piece) >= 100_000 for first, n, piece in REPEATED.findall(text))
+        repeated = REPEATED.findall(text)
+        often = sum(int(n) - int(first or 0) for first, n, _ in repeated) >= 1000 or any(int(n) * len(piece) >= 100_000 for _, n, piece in repeated)
         return often or self.head.endswith("damage") or "set-size" in text
 
     def inputs(self):
