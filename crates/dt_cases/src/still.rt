@@ -145,7 +145,7 @@ fn put_all(
     still_nodes::put_whole(blob, tree, lines);
     let mut count = finish(alloc, begun, lines.count())?;
     for node in 0..tree.node_count() {
-        count = put_at(alloc, blob, index, tree, node, lines)?;
+        count = put_at(alloc, index, tree, node, lines)?;
     }
     Ok(count)
 }
@@ -153,7 +153,6 @@ fn put_all(
 /// Puts what is told of a node.
 fn put_at(
     alloc: Global,
-    blob: &Blob<'_>,
     index: &Index<'_>,
     tree: &FlatTree,
     node: NodeId,
@@ -164,7 +163,7 @@ fn put_at(
     let path = tree.path(alloc, node)?;
     let text = text_of(alloc, &path)?;
     let begun = ask_for(alloc, BEGIN);
-    still_nodes::put_views(blob, index, tree, &text, lines);
+    still_nodes::put_views(index.blob(), index, tree, &text, lines);
     still_nodes::put_slot(tree, node, &path, lines);
     finish(alloc, begun, lines.count())
 }
