@@ -1,5 +1,5 @@
 -- The entry of `reg` that an index names.
-use Rattle.std.proofs.Common.{◌≡◌, ◌≢◌, ℕ, suc, ◌+◌, ◌-◌, ◌*◌, ◌/◌, ◌%◌, ◌<◌, ◌≤◌, List, [], ◌∷◌, take, drop, length, Option, Some, refl, sym, ap, subst, ◌∙◌, arith}
+use Rattle.std.proofs.Common.{◌≡◌, ◌≢◌, ℕ, suc, ◌+◌, ◌-◌, ◌*◌, ◌/◌, ◌%◌, ◌<◌, ◌≤◌, List, [], ◌∷◌, take, drop, length, Option, Some, None, refl, sym, ap, subst, ◌∙◌, arith}
 use Rattle.std.specs.Prelude.{codes, option_map}
 use Rattle.dt_names.specs.declared.fault.Fault.{Fault}
 use Rattle.dt_names.specs.declared.fault.FaultKind.TheVariants.{NoReg}
@@ -26,6 +26,11 @@ region_listed t (n ∷ names) q i reg own some is there has width even =
     ∙ ap (λ (z : Path). listed w z i (Some v)) (sym is)
     ∙ ap (λ (x : Answer BusCells). x >>= λ (c : BusCells). entries_of (c.address + c.size) v >>= entry_at NoReg i >>= region_of w q c) (sym has)
     ∙ ap (λ (x : Answer (List (List Quad))). x >>= entry_at NoReg i >>= region_of w q own) (entries_whole (own.address + own.size) v width even)
+
+-- where a node has no `reg`
+pub region_unlisted : (t : Reading) (p : Path) (i : ℕ) → None ≡ value_in t p (codes "reg") → region (tree_world t) p i ≡ refuse NoReg
+region_unlisted t [] i none = refl
+region_unlisted t (n ∷ names) i none = ap (λ (o : Option (List ℕ)). listed (tree_world t) (front (n ∷ names)) i (option_map value_of_bytes o)) (sym none)
 
 -- where the bus has no counts
 pub region_refused : (t : Reading) (p q : Path) (i : ℕ) (reg : List ℕ) (e : Fault) → p ≢ [] → q ≡ front p → Some reg ≡ value_in t p (codes "reg") → refused e ≡ bus_cells (tree_world t) q → region (tree_world t) p i ≡ refused e

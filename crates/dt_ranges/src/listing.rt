@@ -37,10 +37,11 @@ impl<'v> Regions<'v> {
         ensures refused { IfErr result (λ fault. (i : ℕ) → region (world_of (V.tree view.now)) (path_at (V.tree view.now) node) i ≡ refused fault) }
         ensures kind { IfErr result (λ fault. (fault.kind ≡ NoReg) ⊎ (fault.kind ≡ BadCells)) }
     {
-        let Some(bus) = view.parent(node) else {
+        // Most nodes have no `reg`, and of a blob the node above costs two walks.
+        let Some(reg) = view.value(node, b"reg") else {
             return Err(Fault::of(FaultKind::NoReg));
         };
-        let Some(reg) = view.value(node, b"reg") else {
+        let Some(bus) = view.parent(node) else {
             return Err(Fault::of(FaultKind::NoReg));
         };
         let own = cells(view, bus)?;

@@ -11,7 +11,7 @@ ghost use Rattle.dt_resolve_lines.specs.Listed.{AreAll, AreAllBegun, AreOwn, Are
 use crate::regions::put_regions;
 use crate::routes::put_routes;
 use dt_names::{Fault, NodeId, Sink};
-use dt_read::{Blob, Step};
+use dt_read::{Blob, NodeStep};
 use dt_text_writer::Writer;
 use dt_view::{Index, TreeView};
 use std::alloc::Global;
@@ -53,11 +53,10 @@ fn put_nodes<S: Sink>(
     ensures refused { IfErr result (λ fault. FailsAtLines S.taken (AreAllBegun listing (reading_of index.now)) fault writer.old writer.new) }
 {
     index.validity();
-    for step in index.blob().steps() {
+    for step in index.blob().node_steps() {
         match step {
-            Step::Open { node, .. } => put_node(index, writer, node, listing)?,
-            Step::Property { .. } => {}
-            Step::Close => {}
+            NodeStep::Open { node, .. } => put_node(index, writer, node, listing)?,
+            NodeStep::Close => {}
         }
     }
     Ok(())

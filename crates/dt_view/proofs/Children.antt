@@ -14,7 +14,7 @@ use Rattle.dt_model.specs.Valid.{IsValid}
 use Rattle.dt_model.proofs.Listed.{stands_listed}
 use Rattle.dt_model.proofs.Tests.{in_append}
 use Rattle.dt_read.specs.Placed.{Nodes, no_nodes, node, forest_of, PlacedTree, reading_of, path_at, place_of, last_name, HasPlacesApart, IsNode}
-use Rattle.dt_read.specs.Walked.{Step, opens, holds, closes, steps_of_nodes, steps_of}
+use Rattle.dt_read.specs.Walked.{without_properties, Step, opens, holds, closes, steps_of_nodes, steps_of}
 use Rattle.dt_read.proofs.NodePlaces.{path_is, stands_place}
 use Rattle.dt_resolve_model.specs.Above.{front}
 use Rattle.dt_view.specs.Tables.{Key, child_at, PutsChild, AreChildren}
@@ -38,6 +38,12 @@ names_told [] = []
 names_told (opens place name ∷ steps) = name ∷ names_told steps
 names_told (holds p ∷ steps) = names_told steps
 names_told (closes ∷ steps) = names_told steps
+
+pub names_without : (steps : List Step) → names_told steps ≡ names_told (without_properties steps)
+names_without [] = refl
+names_without (opens place name ∷ steps) = ap (λ (names : List Name). name ∷ names) (names_without steps)
+names_without (holds p ∷ steps) = names_without steps
+names_without (closes ∷ steps) = names_without steps
 
 last_of_all : (q : Path) (x : Name) → last_name (q ++ x ∷ []) ≡ x
 last_of_all [] x = refl

@@ -17,13 +17,13 @@ use Rattle.dt_model.proofs.Listed.{value_listed}
 use Rattle.dt_model.proofs.Preorder.{length-preorder, phandle_list, all_phandles, value_in_list}
 use Rattle.dt_model.proofs.Tests.{each_in, in_append}
 use Rattle.dt_read.specs.Placed.{PlacedTree, reading_of, path_at, place_of, IsAt, IsNode}
-use Rattle.dt_read.specs.Walked.{Step, opens, steps_of}
+use Rattle.dt_read.specs.Walked.{Step, opens, steps_of, without_properties}
 use Rattle.dt_view.specs.Tables.{at_number, HasNumber, AreParents, ArePhandles, IsNoted}
 use Rattle.dt_view.specs.Views.{IsAbove}
 use Rattle.dt_view.proofs.Walks.{innermost, AreOpened}
 use Rattle.dt_read.specs.Placed.{HasPlacesApart}
 use Rattle.dt_view.proofs.Openings.{OpensNext, none_opened}
-use Rattle.dt_view.proofs.Walking.{IsWalked, not_walked, next_walked, walked_node, above_walked, one_walked}
+use Rattle.dt_view.proofs.Walking.{IsWalked, not_walked, next_walked, walked_node, above_walked, one_walked, nodes_walked}
 
 pub is_phandle : (t : Reading) (p : Path) (v : List ℕ) → IsValid t → value_in t p (codes "phandle") ≡ Some v → IsPhandle v
 is_phandle t p v valid e =
@@ -146,6 +146,12 @@ past_another t parents phandles open_nodes new count steps rest f w same = recor
   numbered = subst (λ ns. ArePhandles t ns phandles) (sym same) f.numbered;
   counted = f.counted ∙ ap length (sym same);
 }
+
+-- a walk through the nodes alone fills them as well
+pub nodes_filled : (t : PlacedTree) (parents : List (ℕ × Option ℕ)) (phandles : List (ℕ × ℕ)) (open_nodes : List ℕ) (count : ℕ) (steps : List Step) → IsFilled t parents phandles open_nodes count steps
+    → IsFilled t parents phandles open_nodes count (without_properties steps)
+nodes_filled t parents phandles open_nodes count steps f =
+    past_another t parents phandles open_nodes open_nodes count steps (without_properties steps) f (nodes_walked t open_nodes steps f.walked) refl
 
 -- at the end the tables have all nodes
 pub record AreAllFilled (t : PlacedTree) (parents : List (ℕ × Option ℕ)) (phandles : List (ℕ × ℕ)) (count : ℕ) : Type 0 where

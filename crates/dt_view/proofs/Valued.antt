@@ -19,7 +19,7 @@ use Rattle.dt_model.proofs.Tests.{in_append}
 use Rattle.dt_read.specs.Placed.{PlacedTree, reading_of, path_at, place_of, properties_found, properties_at, IsAt, IsNode}
 use Rattle.dt_read.specs.Walked.{Step, opens, steps_of}
 use Rattle.dt_read.proofs.NodePlaces.{stands_place}
-use Rattle.dt_view.specs.Tables.{Key, first_found, value_at, PutsValue, AreValues, AreKept}
+use Rattle.dt_view.specs.Tables.{Key, first_found, is_asked, value_at, PutsValue, NotesValue, AreValues, AreKept}
 use Rattle.dt_view.proofs.Walks.{opened, AreOpened}
 use Rattle.dt_view.proofs.Openings.{OpensNext, all_opened, next_opened, none_opened}
 
@@ -76,14 +76,14 @@ distinct_at t p valid = by (node_at (reading_of t) p) refl
     by (Some c) e = (properties_listed (reading_of t) (record { path = p; properties = c.properties }) valid (at_listed (reading_of t) p c e)).distinct
 
 pub none_kept : (node : ℕ) (properties : List Property) (old : List (Key × Bor (List ℕ))) → AreKept node properties [] old old
-none_kept node properties old = record { from = λ k x v e. inl e; kept = λ k x e. e; own = λ x e. absurd (true≢false (sym e)) }
+none_kept node properties old = record { from = λ k x v e. inl e; kept = λ k x e. e; own = λ x asked e. absurd (true≢false (sym e)) }
 
 pub one_kept : (node : ℕ) (properties done : List Property) (p : Property) (rest : List Property) (old mid new : List (Key × Bor (List ℕ))) → properties ≡ done ++ p ∷ rest → AreDistinct (map (λ q. q.name) properties)
     → AreKept node properties done old mid → PutsValue mid new node p.name p.value → AreKept node properties (done ++ p ∷ []) old new
 one_kept node properties done p rest old mid new whole distinct before put = record {
   from = λ k x v e. from k x v (nat_eq node k && bytes_eq p.name x) refl (sym (put k x) ∙ e);
   kept = λ k x e. ap is_some (put k x) ∙ kept k x e (nat_eq node k && bytes_eq p.name x);
-  own = λ x e. ap is_some (put node x) ∙ own x e (bytes_eq p.name x) refl;
+  own = λ x asked e. ap is_some (put node x) ∙ own x asked e (bytes_eq p.name x) refl;
 }
   where
     from : (k : ℕ) (x : Name) (v : List ℕ) (b : Bool) → (nat_eq node k && bytes_eq p.name x) ≡ b → cond (nat_eq node k && bytes_eq p.name x) (Some p.value) (value_at mid k x) ≡ Some v
@@ -99,9 +99,22 @@ one_kept node properties done p rest old mid new whole distinct before put = rec
     kept k x e true = refl
     kept k x e false = before.kept k x e
 
-    own : (x : Name) → is_some (value_of (done ++ p ∷ []) x) ≡ true → (b : Bool) → bytes_eq p.name x ≡ b → is_some (cond (nat_eq node node && bytes_eq p.name x) (Some p.value) (value_at mid node x)) ≡ true
-    own x e true is = rw (eq-eqb node node refl, is) refl
-    own x e false is = rw (eq-eqb node node refl, is) (before.own x (sym (ap is_some (value_of_more done p x is)) ∙ e))
+    own : (x : Name) → is_asked x ≡ true → is_some (value_of (done ++ p ∷ []) x) ≡ true → (b : Bool) → bytes_eq p.name x ≡ b → is_some (cond (nat_eq node node && bytes_eq p.name x) (Some p.value) (value_at mid node x)) ≡ true
+    own x asked e true is = rw (eq-eqb node node refl, is) refl
+    own x asked e false is = rw (eq-eqb node node refl, is) (before.own x asked (sym (ap is_some (value_of_more done p x is)) ∙ e))
+
+-- a property that the rules do not ask for changes nothing
+pub none_more : (node : ℕ) (properties done : List Property) (p : Property) (old mid new : List (Key × Bor (List ℕ))) → is_asked p.name ≡ false → new ≡ mid
+    → AreKept node properties done old mid → AreKept node properties (done ++ p ∷ []) old new
+none_more node properties done p old mid new unasked same before = record {
+  from = λ k x v e. before.from k x v (ap (λ es. value_at es k x) (sym same) ∙ e);
+  kept = λ k x e. ap (λ es. is_some (value_at es k x)) same ∙ before.kept k x e;
+  own = λ x asked e. ap (λ es. is_some (value_at es node x)) same ∙ before.own x asked (sym (ap is_some (value_of_more done p x (other x asked (bytes_eq p.name x) refl))) ∙ e);
+}
+  where
+    other : (x : Name) → is_asked x ≡ true → (b : Bool) → bytes_eq p.name x ≡ b → b ≡ false
+    other x asked true is = absurd (true≢false (sym asked ∙ ap is_asked (sym ((bytes_eq-Decides p.name x).0 is)) ∙ unasked))
+    other x asked false is = refl
 
 -- the properties that are left come next
 pub record AreKeeping (node : ℕ) (properties left : List Property) (old new : List (Key × Bor (List ℕ))) : Type 0 where
@@ -110,14 +123,18 @@ pub record AreKeeping (node : ℕ) (properties left : List Property) (old new : 
   pub kept : AreKept node properties done old new
 
 pub keeping_next : (node : ℕ) (properties : List Property) (p : Property) (left rest : List Property) (old mid new : List (Key × Bor (List ℕ))) → AreDistinct (map (λ q. q.name) properties) → left ≡ p ∷ rest
-    → AreKeeping node properties left old mid → PutsValue mid new node p.name p.value → AreKeeping node properties rest old new
-keeping_next node properties p left rest old mid new distinct e k put =
+    → AreKeeping node properties left old mid → NotesValue mid new node p.name p.value → AreKeeping node properties rest old new
+keeping_next node properties p left rest old mid new distinct e k note =
     let whole : properties ≡ k.done ++ p ∷ rest = k.whole ∙ ap (λ qs. k.done ++ qs) e in
     record {
       done = k.done ++ p ∷ [];
       whole = whole ∙ sym (append_assoc k.done (p ∷ []) rest);
-      kept = one_kept node properties k.done p rest old mid new whole distinct k.kept put;
+      kept = by whole (is_asked p.name) refl note;
     }
+  where
+    by : properties ≡ k.done ++ p ∷ rest → (b : Bool) → is_asked p.name ≡ b → cond b (PutsValue mid new node p.name p.value) (new ≡ mid) → AreKept node properties (k.done ++ p ∷ []) old new
+    by whole true is put = one_kept node properties k.done p rest old mid new whole distinct k.kept put
+    by whole false is same = none_more node properties k.done p old mid new is same k.kept
 
 pub keeping_all : (node : ℕ) (properties left : List Property) (old new : List (Key × Bor (List ℕ))) → left ≡ [] → AreKeeping node properties left old new → AreKept node properties properties old new
 keeping_all node properties left old new e k = subst (λ qs. AreKept node properties qs old new) (sym (k.whole ∙ ap (λ qs. k.done ++ qs) e ∙ append-nil k.done)) k.kept
@@ -161,7 +178,7 @@ none_valued t valid = record {
   before = [];
   nodes = nodes_of (reading_of t);
   are = all_opened t valid;
-  valued = record { has = λ k x v e. absurd (let z : None ≡ Some v = e in cc); found = λ n k x i at some. absurd i };
+  valued = record { has = λ k x v e. absurd (let z : None ≡ Some v = e in cc); found = λ n k x asked i at some. absurd i };
 }
 
 pub one_valued : (t : PlacedTree) (old new : List (Key × Bor (List ℕ))) (k : ℕ) (name : Name) (steps rest : List Step) → AreValued t old steps → steps ≡ opens k name ∷ rest
@@ -182,11 +199,11 @@ one_valued t old new k name steps rest f e kept = record {
       | inr own ↦ ap (λ i. value_in (reading_of t) (path_at t i) x) own.0 ∙ value_of_all t (path_at t k) x ∙ own.1
     ]
 
-    found : (n : Placed) (j : ℕ) (x : Name) → IsIn n (f.before ++ next.first ∷ []) → IsAt t n.path j → is_some (value_in (reading_of t) (path_at t j) x) ≡ true → is_some (value_at new j x) ≡ true
-    found n j x i at some = elim (in_append n f.before (next.first ∷ []) i) [
-      | inl before ↦ kept.kept j x (f.valued.found n j x before at some)
+    found : (n : Placed) (j : ℕ) (x : Name) → is_asked x ≡ true → IsIn n (f.before ++ next.first ∷ []) → IsAt t n.path j → is_some (value_in (reading_of t) (path_at t j) x) ≡ true → is_some (value_at new j x) ≡ true
+    found n j x asked i at some = elim (in_append n f.before (next.first ∷ []) i) [
+      | inl before ↦ kept.kept j x (f.valued.found n j x asked before at some)
       | inr here ↦ subst (λ m. is_some (value_at new m x) ≡ true) (same here)
-          (kept.own x (sym (ap is_some (value_of_all t (path_at t k) x)) ∙ ap (λ m. is_some (value_in (reading_of t) (path_at t m) x)) (same here) ∙ some))
+          (kept.own x asked (sym (ap is_some (value_of_all t (path_at t k) x)) ∙ ap (λ m. is_some (value_in (reading_of t) (path_at t m) x)) (same here) ∙ some))
     ]
       where
         same : IsIn n (next.first ∷ []) → k ≡ j
@@ -209,12 +226,12 @@ all_valued t values steps f e =
 
 -- ---- what the whole table has
 
-pub value_looked_up : (t : PlacedTree) (values : List (Key × Bor (List ℕ))) (k : ℕ) (x : Name) → IsNode t k → AreValues t (nodes_of (reading_of t)) values → value_at values k x ≡ value_in (reading_of t) (path_at t k) x
-value_looked_up t values k x is are = by (value_at values k x) (value_in (reading_of t) (path_at t k) x) refl refl
+pub value_looked_up : (t : PlacedTree) (values : List (Key × Bor (List ℕ))) (k : ℕ) (x : Name) → is_asked x ≡ true → IsNode t k → AreValues t (nodes_of (reading_of t)) values → value_at values k x ≡ value_in (reading_of t) (path_at t k) x
+value_looked_up t values k x asked is are = by (value_at values k x) (value_in (reading_of t) (path_at t k) x) refl refl
   where
     by : (o p : Option (List ℕ)) → value_at values k x ≡ o → value_in (reading_of t) (path_at t k) x ≡ p → o ≡ p
     by (Some v) p e f = sym (are.has k x v e) ∙ f
     by None None e f = refl
     by None (Some v) e f =
         let n = stands_listed (reading_of t) (path_at t k) (sym (stands_place t (path_at t k)) ∙ ap is_some is) in
-        absurd (true≢false (sym (are.found n.0 k x n.1 (ap (place_of t) n.2 ∙ is) (ap is_some f)) ∙ ap is_some e))
+        absurd (true≢false (sym (are.found n.0 k x asked n.1 (ap (place_of t) n.2 ∙ is) (ap is_some f)) ∙ ap is_some e))

@@ -110,13 +110,13 @@ opened_without (opens place name ∷ steps) = ap (λ (ks : List ℕ). place ∷ 
 opened_without (holds p ∷ steps) = opened_without steps
 opened_without (closes ∷ steps) = opened_without steps
 
-told_without : (k : ℕ) (open_nodes : List ℕ) (steps : List Step) → parent_told k open_nodes steps ≡ parent_told k open_nodes (without_properties steps)
+pub told_without : (k : ℕ) (open_nodes : List ℕ) (steps : List Step) → parent_told k open_nodes steps ≡ parent_told k open_nodes (without_properties steps)
 told_without k open_nodes [] = refl
 told_without k open_nodes (opens place name ∷ steps) = ap (λ (told : Option ℕ). cond (place == k) (innermost open_nodes) told) (told_without k (place ∷ open_nodes) steps)
 told_without k open_nodes (holds p ∷ steps) = told_without k open_nodes steps
 told_without k open_nodes (closes ∷ steps) = told_without k (drop 1 open_nodes) steps
 
-few_without : (count : ℕ) (steps : List Step) → AreFew count steps → AreFew count (without_properties steps)
+pub few_without : (count : ℕ) (steps : List Step) → AreFew count steps → AreFew count (without_properties steps)
 few_without count [] few = tt
 few_without count (opens place name ∷ steps) few = (few.0, few_without (suc count) steps few.1)
 few_without count (holds p ∷ steps) few = few_without count steps few
@@ -125,7 +125,7 @@ few_without count (closes ∷ steps) few = few_without (count - 1) steps few
 pub nodes_opened : (t : PlacedTree) (before nodes : List Placed) (steps : List Step) → AreOpened t before nodes steps → AreOpened t before nodes (without_properties steps)
 nodes_opened t before nodes steps are = record { whole = are.whole; places = are.places ∙ ap (map (λ k. Some k)) (opened_without steps) }
 
-pub nodes_walked : (t : PlacedTree) (open_nodes : List ℕ) (steps : List Step) → IsWalked t open_nodes steps → IsWalked t open_nodes (without_properties steps)
+abbrev pub nodes_walked : (t : PlacedTree) (open_nodes : List ℕ) (steps : List Step) → IsWalked t open_nodes steps → IsWalked t open_nodes (without_properties steps)
 nodes_walked t open_nodes steps walked =
     another_walked t open_nodes open_nodes steps (without_properties steps) walked (opened_without steps) (λ k. told_without k open_nodes steps) (few_without (length open_nodes) steps)
 

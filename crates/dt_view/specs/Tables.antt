@@ -1,6 +1,7 @@
 -- Tables of a tree's nodes.
-use Rattle.std.specs.Prelude.{◌≡◌, ◌⊎◌, ◌<◌, ◌^◌, ◌&&◌, ℕ, nat_eq, true, List, [], ◌∷◌, ◌++◌, length, Option, Some, None, is_some, cond, codes}
+use Rattle.std.specs.Prelude.{◌≡◌, ◌⊎◌, ◌<◌, ◌^◌, ◌==◌, ◌&&◌, ◌||◌, ℕ, nat_eq, Bool, true, List, [], ◌∷◌, ◌++◌, length, Option, Some, None, is_some, cond, codes}
 use Rattle.std.specs.Borrow.{Bor}
+use Rattle.std.specs.List.{starts_with, ends_with}
 use Rattle.std.specs.Map.{lookup}
 use Rattle.std.specs.Option.{option_copied}
 use Rattle.std.specs.Str.{bytes_eq}
@@ -49,21 +50,31 @@ first_found (Some v) later = Some v
 abbrev pub value_at : List (Key × Bor (List ℕ)) → ℕ → Name → Option (List ℕ)
 value_at entries k x = option_copied (lookup (λ (key : Key). nat_eq k key.0 && bytes_eq x key.1.now) entries)
 
+-- whether the rules of addresses, interrupts and specifiers ask for properties of this name
+abbrev pub is_asked : Name → Bool
+is_asked x =
+    starts_with ◌==◌ x (codes "#") || starts_with ◌==◌ x (codes "interrupt") || bytes_eq x (codes "reg") || ends_with ◌==◌ x (codes "ranges")
+    || ends_with ◌==◌ x (codes "-map") || ends_with ◌==◌ x (codes "-map-mask") || ends_with ◌==◌ x (codes "-map-pass-thru")
+
 -- the new entries are the old ones, with a value at a node and a name
 abbrev pub PutsValue : List (Key × Bor (List ℕ)) → List (Key × Bor (List ℕ)) → ℕ → Name → List ℕ → Type 0
 PutsValue old new node name value = (k : ℕ) (x : Name) → value_at new k x ≡ cond (nat_eq node k && bytes_eq name x) (Some value) (value_at old k x)
 
--- each value is that of a node, and each of some nodes has its values there
+-- the same where the rules ask for the name; else nothing is put
+abbrev pub NotesValue : List (Key × Bor (List ℕ)) → List (Key × Bor (List ℕ)) → ℕ → Name → List ℕ → Type 0
+NotesValue old new node name value = cond (is_asked name) (PutsValue old new node name value) (new ≡ old)
+
+-- each value is that of a node, and each of some nodes has its values there that the rules ask for
 pub record AreValues (t : PlacedTree) (nodes : List Placed) (entries : List (Key × Bor (List ℕ))) : Type 0 where
   pub has : (k : ℕ) (x : Name) (v : List ℕ) → value_at entries k x ≡ Some v → value_in (reading_of t) (path_at t k) x ≡ Some v
-  pub found : (n : Placed) (k : ℕ) (x : Name) → IsIn n nodes → IsAt t n.path k → is_some (value_in (reading_of t) (path_at t k) x) ≡ true
-      → is_some (value_at entries k x) ≡ true
+  pub found : (n : Placed) (k : ℕ) (x : Name) → is_asked x ≡ true → IsIn n nodes → IsAt t n.path k
+      → is_some (value_in (reading_of t) (path_at t k) x) ≡ true → is_some (value_at entries k x) ≡ true
 
--- of a node's properties some are put into a table
+-- of a node's properties some are put into a table, where the rules ask for them
 pub record AreKept (node : ℕ) (properties some : List Property) (old new : List (Key × Bor (List ℕ))) : Type 0 where
   pub from : (k : ℕ) (x : Name) (v : List ℕ) → value_at new k x ≡ Some v → (value_at old k x ≡ Some v) ⊎ ((k ≡ node) × (value_of properties x ≡ Some v))
   pub kept : (k : ℕ) (x : Name) → is_some (value_at old k x) ≡ true → is_some (value_at new k x) ≡ true
-  pub own : (x : Name) → is_some (value_of some x) ≡ true → is_some (value_at new node x) ≡ true
+  pub own : (x : Name) → is_asked x ≡ true → is_some (value_of some x) ≡ true → is_some (value_at new node x) ≡ true
 
 -- ---- children
 

@@ -105,7 +105,8 @@ pub fn is_node(blob: &Blob<'_>, node: NodeId) -> bool
     false
 }
 
-/// The value of a node's property.
+/// The value of a node's property. Apart, so that what a look takes of the stack is given back before the way goes on.
+#[inline(never)]
 pub(crate) fn value_of<'b>(blob: &'b Blob<'_>, node: NodeId, name: &[u8]) -> Option<&'b [u8]>
     requires { IsNode blob.now node }
     ensures { option_copied result ≡ value_in (reading_of blob.now) (path_at blob.now node) name.now }

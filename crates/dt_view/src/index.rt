@@ -5,9 +5,9 @@ ghost use Rattle.dt_names.specs.declared.fault.FaultKind.TheVariants.{NoMemory};
 ghost use Rattle.dt_names.specs.Fault.{IsNoMemory};
 ghost use Rattle.dt_read.specs.Placed.{HasPlacesApart};
 
-use crate::blob::{first_child_of, name_of, root_of, sibling_behind};
+use crate::blob::{first_child_of, name_of, root_of, sibling_behind, value_of};
 use crate::finding::node_at;
-use crate::tables::{Children, Parents, Phandles, Values, fill};
+use crate::tables::{Children, Parents, Phandles, Values, fill, is_asked};
 use crate::view::TreeView;
 use dt_names::{Fault, NodeId};
 use dt_read::Blob;
@@ -183,12 +183,15 @@ impl<'a> Index<'a> {
         sibling_behind(self.blob, node)
     }
 
-    /// The value of a node's property.
+    /// The value of a node's property, from the table where it has the values of that name.
     fn value_in_table(&self, node: NodeId, name: &[u8]) -> Option<&[u8]>
         requires { IsNode self.now node }
         ensures { option_copied result ≡ value_in (reading_of self.now) (path_at self.now node) name.now }
     {
-        self.values.get(&(node, name)).copied()
+        if is_asked(name) {
+            return self.values.get(&(node, name)).copied();
+        }
+        value_of(self.blob, node, name)
     }
 }
 

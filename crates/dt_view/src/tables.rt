@@ -8,10 +8,10 @@ ghost use Rattle.dt_model.specs.Meaning.{cell};
 ghost use Rattle.dt_model.specs.Tree.{nodes_of, value_in, value_of};
 ghost use Rattle.dt_model.specs.Valid.{IsPhandle};
 ghost use Rattle.dt_read.specs.Placed.{path_at, properties_at, reading_of, IsNode};
-ghost use Rattle.dt_view.specs.Tables.{at_number, first_found, AreParents, ArePhandles, IsNoted, PutsValue, AreKept, AreValues, PutsChild, AreChildren};
+ghost use Rattle.dt_view.specs.Tables.{at_number, first_found, AreParents, ArePhandles, IsNoted, is_asked, PutsValue, NotesValue, AreKept, AreValues, PutsChild, AreChildren};
 
 use dt_names::{NodeId, Seed, phandle_of};
-use dt_read::{Blob, OpenNodes, Step};
+use dt_read::{Blob, NodeStep, OpenNodes};
 use std::alloc::AllocError;
 use std::collections::HashMap;
 
@@ -24,7 +24,7 @@ pub(crate) type Phandles = HashMap<u32, NodeId, Seed>;
 /// Each node but the root, by the node above it and its name.
 pub(crate) type Children<'a> = HashMap<(NodeId, &'a [u8]), NodeId, Seed>;
 
-/// The value of each property, by its node and its name.
+/// The value of each property that the rules of addresses, interrupts and specifiers ask for, by its node and its name.
 pub(crate) type Values<'a> = HashMap<(NodeId, &'a [u8]), &'a [u8], Seed>;
 
 fn put_parent(parents: &mut Parents, node: NodeId, above: Option<NodeId>) -> Result<(), AllocError>
@@ -82,6 +82,35 @@ fn put_value<'a>(
     Ok(())
 }
 
+/// Whether the rules of addresses, interrupts and specifiers ask for properties of this name (Devicetree Specification v0.4, 2.3.5 to 2.5.1): few of
+/// a board's do, so a table has these alone.
+pub(crate) fn is_asked(name: &[u8]) -> bool
+    ensures { result ≡ is_asked name.now }
+{
+    name.starts_with(b"#")
+        || name.starts_with(b"interrupt")
+        || name == b"reg".as_slice()
+        || name.ends_with(b"ranges")
+        || name.ends_with(b"-map")
+        || name.ends_with(b"-map-mask")
+        || name.ends_with(b"-map-pass-thru")
+}
+
+/// Puts a value into the table, where the rules ask for it.
+fn note_value<'a>(
+    values: &mut Values<'a>,
+    node: NodeId,
+    name: &'a [u8],
+    value: &'a [u8],
+) -> Result<(), AllocError>
+    ensures { OnOk result (NotesValue values.old.entries values.new.entries node name.now value.now) }
+{
+    if is_asked(name) {
+        return put_value(values, node, name, value);
+    }
+    Ok(())
+}
+
 /// The value of `phandle`, after one more property of its node.
 fn phandle_after<'a>(found: Option<&'a [u8]>, name: &[u8], value: &'a [u8]) -> Option<&'a [u8]>
     ensures { option_copied result ≡ first_found (option_copied found.entry) (value_of (record { name = name.now; value = value.now } ∷ []) (codes "phandle")) }
@@ -92,7 +121,7 @@ fn phandle_after<'a>(found: Option<&'a [u8]>, name: &[u8], value: &'a [u8]) -> O
     }
 }
 
-/// Puts the values of a node into the table, and answers that of `phandle`, where it has one.
+/// Puts the values of a node that the rules ask for into the table, and answers that of `phandle`, where it has one.
 fn note_values<'a>(
     blob: &Blob<'a>,
     values: &mut Values<'a>,
@@ -107,7 +136,7 @@ fn note_values<'a>(
     let mut phandle = None;
     for (name, value) in blob.props(node) {
         phandle = phandle_after(phandle, name, value);
-        put_value(values, node, name, value)?;
+        note_value(values, node, name, value)?;
     }
     Ok(phandle)
 }
@@ -148,9 +177,9 @@ pub(crate) fn fill<'a>(
     blob.validity();
     let mut open_nodes = OpenNodes::new();
     let mut count = 0usize;
-    for step in blob.steps() {
+    for step in blob.node_steps() {
         match step {
-            Step::Open { node, name } => {
+            NodeStep::Open { node, name } => {
                 let above = open_nodes.innermost();
                 put_parent(parents, node, above)?;
                 put_child(children, above, name, node)?;
@@ -159,8 +188,7 @@ pub(crate) fn fill<'a>(
                 open_nodes.push(node);
                 count += 1;
             }
-            Step::Property { .. } => {}
-            Step::Close => open_nodes.pop(),
+            NodeStep::Close => open_nodes.pop(),
         }
     }
     Ok(count)

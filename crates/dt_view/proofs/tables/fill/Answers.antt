@@ -1,38 +1,43 @@
-use Rattle.std.proofs.Common.{◌+◌, ◌∷◌, ℕ, Option, cond, nat_eq, Some, refl, sym, ap, subst, ◌∙◌, arith}
-use Rattle.dt_read.specs.StepsLeft.{step_view}
+use Rattle.std.proofs.Common.{◌+◌, ◌∷◌, [], ℕ, Option, cond, nat_eq, Some, refl, sym, ap, subst, ◌∙◌, arith}
+use Rattle.dt_read.specs.StepsLeft.{node_step_view}
+use Rattle.dt_read.specs.Walked.{steps_of, without_properties}
 use Rattle.dt_view.specs.Tables.{at_number, PutsChild}
 use Rattle.dt_view.proofs.Walks.{innermost, opened}
-use Rattle.dt_view.proofs.Walking.{is_innermost, walked_node, room_walked, above_walked, property_walked, end_walked}
-use Rattle.dt_view.proofs.Tabled.{IsFilled, unfilled, room_for_one, past_one, past_another, all_filled}
-use Rattle.dt_view.proofs.Children.{names_told, none_found, one_found, others_found, all_found}
+use Rattle.dt_view.proofs.Walking.{is_innermost, walked_node, room_walked, above_walked, end_walked, opened_without}
+use Rattle.dt_view.proofs.Tabled.{IsFilled, unfilled, nodes_filled, room_for_one, past_one, past_another, all_filled}
+use Rattle.dt_view.proofs.Children.{names_told, names_without, none_found, one_found, others_found, all_found}
 use Rattle.dt_view.proofs.Valued.{none_valued, one_valued, others_valued, all_valued}
 use Rattle.dt_view.proofs.tables.fill.Goals as goal
 
 pub loop-step-init : goal.loop-step-init
 loop-step-init c =
-    let whole = c.into_iter-step-iterator.ensures.into_iter_gives ∙ c.steps-step-items.ensures in (
+    let t = c.args.blob.now in
+    let steps = steps_of t in
+    let valid = c.validity.ensures.valid in
+    let whole = c.into_iter-step-iterator.ensures.into_iter_gives ∙ c.node_steps-step-items.ensures in
+    let filled = nodes_filled t [] [] [] 0 steps (unfilled t valid c.validity.ensures.within c.validity.ensures.places) in (
       tt,
       tt,
-      rw (whole, c.new-open_nodes.ensures, c.requires.parents, c.requires.phandles) (unfilled c.args.blob.now c.validity.ensures.valid c.validity.ensures.within c.validity.ensures.places),
-      rw (whole, c.requires.values) (none_valued c.args.blob.now c.validity.ensures.valid),
-      rw (whole, c.requires.children) (none_found c.args.blob.now c.validity.ensures.valid),
+      rw (whole, c.new-open_nodes.ensures, c.requires.parents, c.requires.phandles) filled,
+      rw (whole, c.requires.values) (others_valued t [] steps (without_properties steps) (none_valued t valid) (opened_without steps)),
+      rw (whole, c.requires.children) (others_found t [] steps (without_properties steps) (none_found t valid) (opened_without steps) (names_without steps)),
     )
 
 pub push-requires : goal.push-requires
 push-requires c =
-    let e = c.in-Some.ensures.steps ∙ ap (λ s. step_view s ∷ c.next.new.self) c.in-Open.is in
+    let e = c.in-Some.ensures.steps ∙ ap (λ s. node_step_view s ∷ c.next.new.self) c.in-Open.is in
     room_walked c.args.blob.now c.loop-step.open_nodes c.in-Open.node c.in-Open.name.now c.loop-step.step-iterator c.next.new.self c.loop-step.invariant.2.walked e
 
 pub overflow_add-count : goal.overflow_add-count
 overflow_add-count c =
-    let e = c.in-Some.ensures.steps ∙ ap (λ s. step_view s ∷ c.next.new.self) c.in-Open.is in
+    let e = c.in-Some.ensures.steps ∙ ap (λ s. node_step_view s ∷ c.next.new.self) c.in-Open.is in
     let room = room_for_one c.args.blob.now c.loop-step.parents.entries c.loop-step.phandles.entries c.loop-step.open_nodes c.loop-step.count c.in-Open.node c.in-Open.name.now c.loop-step.step-iterator c.next.new.self c.validity.ensures.within c.loop-step.invariant.2 e in
     omega (arith, room)
 
 pub loop-step-preserved-in-Open : goal.loop-step-preserved-in-Open
 loop-step-preserved-in-Open c =
     let t = c.args.blob.now in
-    let e = c.in-Some.ensures.steps ∙ ap (λ s. step_view s ∷ c.next.new.self) c.in-Open.is in
+    let e = c.in-Some.ensures.steps ∙ ap (λ s. node_step_view s ∷ c.next.new.self) c.in-Open.is in
     let inner = is_innermost c.innermost-above.result c.loop-step.open_nodes c.innermost-above.ensures in (
       tt,
       tt,
@@ -45,21 +50,9 @@ loop-step-preserved-in-Open c =
           (subst (λ (a : Option ℕ). PutsChild c.loop-step.children.entries c.put_child.new.children.entries a c.in-Open.name.now c.in-Open.node) inner c.in_ok-put_child-in-Open.ensures),
     )
 
-pub loop-step-preserved-in-Property : goal.loop-step-preserved-in-Property
-loop-step-preserved-in-Property c =
-    let e = c.in-Some.ensures.steps ∙ ap (λ s. step_view s ∷ c.next.new.self) c.in-Property.is in
-    let open_nodes = c.loop-step.open_nodes in (
-      tt,
-      tt,
-      past_another c.args.blob.now c.loop-step.parents.entries c.loop-step.phandles.entries open_nodes open_nodes c.loop-step.count c.loop-step.step-iterator c.next.new.self c.loop-step.invariant.2
-          (property_walked c.args.blob.now open_nodes _ c.loop-step.step-iterator c.next.new.self c.loop-step.invariant.2.walked e) refl,
-      others_valued c.args.blob.now c.loop-step.values.entries c.loop-step.step-iterator c.next.new.self c.loop-step.invariant.3 (ap opened e),
-      others_found c.args.blob.now c.loop-step.children.entries c.loop-step.step-iterator c.next.new.self c.loop-step.invariant.4 (ap opened e) (ap names_told e),
-    )
-
 pub loop-step-preserved : goal.loop-step-preserved
 loop-step-preserved c =
-    let e = c.in-Some.ensures.steps ∙ ap (λ s. step_view s ∷ c.next.new.self) c.in-Close.is in
+    let e = c.in-Some.ensures.steps ∙ ap (λ s. node_step_view s ∷ c.next.new.self) c.in-Close.is in
     let open_nodes = c.loop-step.open_nodes in (
       tt,
       tt,
@@ -80,7 +73,7 @@ returns-clause-count c = (all_filled c.args.blob.now c.loop-step.parents.entries
 
 pub note_values-requires : goal.note_values-requires
 note_values-requires c =
-    let e = c.in-Some.ensures.steps ∙ ap (λ s. step_view s ∷ c.next.new.self) c.in-Open.is in
+    let e = c.in-Some.ensures.steps ∙ ap (λ s. node_step_view s ∷ c.next.new.self) c.in-Open.is in
     walked_node c.args.blob.now c.loop-step.open_nodes c.in-Open.node c.in-Open.name.now c.loop-step.step-iterator c.next.new.self c.loop-step.invariant.2.walked e c.validity.ensures.places
 
 pub returns-clause-values : goal.returns-clause-values

@@ -12,8 +12,8 @@ loop-name-preserved c =
     let property : Property = record { name = c.in-Some.name.now; value = c.in-Some.value.now } in (
       tt,
       tt,
-      keeping_next c.args.node (properties_at t p) property c.loop-name.name-iterator c.next.new.self c.args.values.now.entries c.loop-name.values.entries c.put_value.new.values.entries
-          (distinct_at t p c.validity.ensures.valid) c.in-Some.ensures.steps c.loop-name.invariant.2 c.in_ok-put_value.ensures,
+      keeping_next c.args.node (properties_at t p) property c.loop-name.name-iterator c.next.new.self c.args.values.now.entries c.loop-name.values.entries c.note_value.new.values.entries
+          (distinct_at t p c.validity.ensures.valid) c.in-Some.ensures.steps c.loop-name.invariant.2 c.in_ok-note_value.ensures,
       found_next (option_copied c.loop-name.phandle) (option_copied c.phandle_after-phandle.result) (value_of (properties_at t p) (codes "phandle")) property c.loop-name.name-iterator c.next.new.self (codes "phandle")
           c.in-Some.ensures.steps c.phandle_after-phandle.ensures c.loop-name.invariant.3,
     )
