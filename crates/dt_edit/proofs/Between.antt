@@ -6,15 +6,8 @@ use Rattle.dt_model.specs.Changes.{changed_below, changed_sibling, changed_at}
 use Rattle.dt_model.specs.Format.{Token, begin_node, end_node, prop, tokens_of, tokens_of_forest}
 use Rattle.dt_model.specs.Names.{Name}
 use Rattle.dt_model.specs.Path.{Path}
+use Rattle.dt_edit.specs.Between.{node_tokens, tokens_in, IsBetween}
 use Rattle.dt_model.specs.Tree.{Forest, no_nodes, branch, Node, Reading, sibling, node_below, node_at, stands_in, root_of}
-
--- the tokens of what a node has, between its BEGIN_NODE and its END_NODE
-abbrev pub node_tokens : Node → List Token
-node_tokens n = map prop n.properties ++ tokens_of_forest n.children
-
--- those of a tree
-abbrev pub tokens_in : Reading → List Token
-tokens_in t = tokens_of t.properties t.children
 
 -- ---- a change that changes nothing
 
@@ -94,13 +87,6 @@ between_below (x ∷ p) m n e = step (λ c f. between_below p c n f) (sibling m.
         }
 
 -- ---- a tree
-
--- the tokens before and behind those of what the node of a path has, which stay whatever becomes of the node
-pub record IsBetween (t : Reading) (p : Path) (front back : List Token) : Type 0 where
-  pub node : Node
-  pub is : node_at t p ≡ Some node
-  pub now : tokens_in t ≡ front ++ (node_tokens node ++ back)
-  pub around : (change : Node → Node) → tokens_in (changed_at change p t) ≡ front ++ (node_tokens (change node) ++ back)
 
 pub between : (t : Reading) (p : Path) → stands_in t p ≡ true → (front back : List Token) × IsBetween t p front back
 between t p stands = step (node_at t p) refl stands

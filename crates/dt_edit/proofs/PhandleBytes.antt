@@ -17,7 +17,8 @@ use Rattle.dt_overlay_model.proofs.Phandles.{phandle_is}
 use Rattle.dt_read.proofs.Numbers.{IsBytes, IsBytes-take, IsBytes-drop}
 use Rattle.dt_edit.specs.Editable.{reading_in, IsEditable}
 use Rattle.dt_edit.proofs.Assembling.{edits_of}
-use Rattle.dt_edit.proofs.Between.{node_tokens, tokens_in, between}
+use Rattle.dt_edit.specs.Between.{node_tokens, tokens_in}
+use Rattle.dt_edit.proofs.Between.{between}
 use Rattle.dt_edit.proofs.GrownBlobs.{spelled_in}
 
 bytes_front : (xs ys : List ℕ) → IsBytes (xs ++ ys) → IsBytes xs

@@ -13,7 +13,8 @@ use Rattle.dt_model.proofs.Tests.{in_left, in_right, in_append, bytes_eq_true}
 use Rattle.dt_read.specs.Cuts.{property_size}
 use Rattle.dt_edit.specs.Buffers.{tokens_size, tree_size, token_names, property_names}
 use Rattle.dt_edit.proofs.ChildrenAdded.{fresh_sibling}
-use Rattle.dt_edit.proofs.Between.{node_tokens, between}
+use Rattle.dt_edit.specs.Between.{node_tokens}
+use Rattle.dt_edit.proofs.Between.{between}
 
 -- ---- sums and names of several tokens
 

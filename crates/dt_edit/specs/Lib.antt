@@ -2,6 +2,7 @@
 pub mod Editable
 pub mod Buffers
 pub mod BufferLaws
+pub mod Between
 -- inside
 pub mod Moving
 pub mod Plans

@@ -1,10 +1,14 @@
 //! What is true of the outcomes of edits.
 
-ghost use Rattle.std.specs.Prelude.{◌≤◌, ℕ, List};
+ghost use Rattle.std.specs.Prelude.{◌≡◌, ◌≤◌, ℕ, List, true};
+ghost use Rattle.dt_edit.specs.Between.{IsBetween};
 ghost use Rattle.dt_edit.specs.Editable.{opened_size, Fits, MayAddIn, MayPatchIn, MaySetIn, WhyNotAddedIn, WhyNotOpened, WhyNotPatchedIn, WhyNotSetIn};
 ghost use Rattle.dt_edit.specs.Editable.{MayAddWithin, MaySetWithin, WhyNotAddedOwned, WhyNotOwned, WhyNotSetOwned};
+ghost use Rattle.dt_model.specs.Format.{Token};
 ghost use Rattle.dt_model.specs.Limits.{most_bytes};
 ghost use Rattle.dt_model.specs.Names.{Name};
+ghost use Rattle.dt_model.specs.Path.{Path};
+ghost use Rattle.dt_model.specs.Tree.{Reading, stands_in};
 ghost use Rattle.dt_names.specs.Fault.{IsExclusive, IsOneRefusal};
 
 /// An edit of lent bytes that is answered isn't refused, and one that is refused is refused for one reason.
@@ -31,4 +35,10 @@ pub fn one_owned_outcome()
     ensures added { (bytes : List ℕ) (node : ℕ) (name : Name) →
         IsExclusive (MayAddWithin most_bytes bytes node name) (λ kind. WhyNotAddedOwned kind bytes node name) }
     ensures one_of_adding { (bytes : List ℕ) (node : ℕ) (name : Name) → IsOneRefusal (λ kind. WhyNotAddedOwned kind bytes node name) }
+{}
+
+/// What a node has is at one place among the tokens of its tree: those before it and behind it stay, whatever becomes of the node (Devicetree
+/// Specification v0.4, 5.4). So an edit of the structure block moves bytes, and rewrites none outside of the node.
+pub fn nodes_stand_between()
+    ensures { (t : Reading) (p : Path) → stands_in t p ≡ true → (front back : List Token) × IsBetween t p front back }
 {}

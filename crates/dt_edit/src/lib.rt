@@ -18,7 +18,7 @@ mod properties;
 mod target;
 
 pub use cells::has_cell;
-pub use laws::{one_outcome, one_owned_outcome};
+pub use laws::{nodes_stand_between, one_outcome, one_owned_outcome};
 pub use lent::{add_node, patch_cell, set_prop};
 pub use opening::open_into;
 pub use owned::BlobBuf;
