@@ -97,7 +97,8 @@ impl<'v> Listed<'v> {
 
 impl<'v> Entries<'v> {
     /// The entries of a node, from its first one on. A fault is each entry's: `NoInterrupts` of a node without both lists, one on the way to the
-    /// interrupt parent, or `BadCells` of a list that isn't whole entries.
+    /// interrupt parent, or `BadCells` of a list that isn't whole entries. Apart, so that its stack is given back before the way goes on.
+    #[inline(never)]
     pub fn of<V: TreeView>(view: &'v V, node: NodeId) -> Result<Entries<'v>, Fault>
         requires { IsNode (V.tree view.now) node }
         ensures left { IfOk result (λ entries. AreSentFrom (V.tree view.now) (path_at (V.tree view.now) node) 0 (entries_left entries)) }

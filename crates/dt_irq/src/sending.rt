@@ -70,7 +70,8 @@ pub(crate) fn first_entry<'v, V: TreeView>(
     })
 }
 
-/// The entry of a list that an index names, those before it read in order.
+/// The entry of a list that an index names, those before it read in order. Apart, so that its stack is given back before the way goes on.
+#[inline(never)]
 pub(crate) fn entry_sent<'v, V: TreeView>(
     view: &V,
     space: Space<'_>,
@@ -101,7 +102,8 @@ fn list_from(list: &[u8], at: u64) -> &[u8]
     cells_after(list, cells)
 }
 
-/// The entry that begins at a byte of a list, whatever is before it.
+/// The entry that begins at a byte of a list, whatever is before it. Apart, as `entry_sent`.
+#[inline(never)]
 pub(crate) fn sent_at<'v, V: TreeView>(
     view: &V,
     space: Space<'_>,

@@ -41,7 +41,9 @@ fn joined(name: &mut ArrayVec<u8, MOST_NAME_BYTES>, part: &[u8]) -> bool
     name.try_extend_from_slice(part).is_ok()
 }
 
-/// The value of a node's property, whose name is a kind with something before and behind it.
+/// The value of a node's property, whose name is a kind with something before and behind it. Apart, since the name
+/// is a quarter of a KiB of the stack.
+#[inline(never)]
 pub(crate) fn value_named<'v, V: TreeView>(
     view: &'v V,
     node: NodeId,

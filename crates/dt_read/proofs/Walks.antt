@@ -2,9 +2,10 @@
 use Rattle.std.proofs.Common.{◌≡◌, ℕ, List, [], ◌∷◌, ◌++◌, map, Option, Some, None, refl, sym, ap, ◌∙◌, append_assoc, Bor}
 use Rattle.std.specs.Option.{MatchOption}
 use Rattle.dt_model.specs.Tree.{Property}
+use Rattle.dt_read.specs.declared.token.Tag.{Tag}
 use Rattle.dt_read.specs.declared.token.Token.{Token}
 use Rattle.dt_read.specs.declared.token.Token.TheVariants as code
-use Rattle.dt_read.specs.View.{view_at}
+use Rattle.dt_read.specs.View.{tag_mark, view_at}
 use Rattle.dt_read.specs.Placed.{Nodes, no_nodes, node}
 use Rattle.dt_read.specs.Marks.{Mark, begin_mark, end_mark, prop_mark, marks_of_nodes}
 use Rattle.dt_read.specs.Parsing.{left_by}
@@ -85,6 +86,11 @@ root_stands place at code.Nop later rest e = absurd cc
 root_stands place at code.End later rest e = absurd cc
 
 -- the tokens behind BEGIN_NODE
+pub past_begin : (place : ℕ) (parts : Parts) (marks rest : List Mark) (result : Option (ℕ × Tag)) (b : BeginsNode marks place parts)
+    → MatchOption result ((marks ≡ []) × (rest ≡ [])) (λ found. (p : Property) × (marks ≡ tag_mark found.0 found.1 p ∷ rest)) → rest ≡ marks_of_parts parts b.more
+past_begin place parts marks rest None b h = let e = b.whole in let n = h.0 in absurd cc
+past_begin place parts marks rest (Some found) b h = let e = b.whole in let t = h.1 in cc
+
 pub next_of_node : (place : ℕ) (parts : Parts) (marks rest : List Mark) (result : Option (ℕ × Token)) (b : BeginsNode marks place parts)
     → MatchOption result ((marks ≡ []) × (rest ≡ [])) (λ found. marks ≡ view_at found.0 found.1 ∷ rest) → rest ≡ marks_of_parts parts b.more
 next_of_node place parts marks rest None b h = let e = b.whole in let n = h.0 in absurd cc

@@ -6,7 +6,7 @@ use crate::NodeId;
 use crate::cursor::{Cursor, skip_node, skip_properties};
 use crate::scan::{BadTagAt, first_bad_tag};
 use crate::steps::Steps;
-use crate::token::Token;
+use crate::token::{Tag, Token};
 use crate::walk::{Props, Siblings, sibling_in, value_in};
 use std::hash::{DefaultHasher, Hasher};
 use std::marker::Model;
@@ -115,8 +115,8 @@ impl<'a> Structure<'a> {
         ensures { IfSome (node_of self.now node) (λ parts. result.now ≡ parts.name) }
     {
         let mut cursor = self.cursor_at(node);
-        match cursor.next() {
-            Some((_, Token::BeginNode(name))) => name,
+        match cursor.next_tag() {
+            Some((_, Tag::BeginNode(name))) => name,
             _ => unreachable!(),
         }
     }
@@ -127,7 +127,7 @@ impl<'a> Structure<'a> {
         ensures { IfSome (node_of self.now node) (λ parts. result ≡ parts.properties) }
     {
         let mut cursor = self.cursor_at(node);
-        let _ = cursor.next();
+        let _ = cursor.next_tag();
         Props::new(cursor)
     }
 
@@ -137,7 +137,7 @@ impl<'a> Structure<'a> {
         ensures { IfSome (node_of self.now node) (λ parts. result ≡ heads_of parts.children) }
     {
         let mut cursor = self.cursor_at(node);
-        let _ = cursor.next();
+        let _ = cursor.next_tag();
         skip_properties(&mut cursor);
         Siblings::new(cursor)
     }
@@ -156,7 +156,7 @@ impl<'a> Structure<'a> {
         ensures { IfSome (node_of self.now node) (λ parts. result ≡ first_place parts.siblings) }
     {
         let mut cursor = self.cursor_at(node);
-        let _ = cursor.next();
+        let _ = cursor.next_tag();
         skip_node(&mut cursor);
         let (sibling, token) = cursor.next()?;
         let Token::BeginNode(_) = token else {
@@ -172,7 +172,7 @@ impl<'a> Structure<'a> {
             × (result ≡ map holds parts.properties ++ (steps_of_nodes parts.children ++ closes ∷ behind))) }
     {
         let mut cursor = self.cursor_at(node);
-        let _ = cursor.next();
+        let _ = cursor.next_tag();
         Steps::new(cursor)
     }
 
@@ -182,7 +182,7 @@ impl<'a> Structure<'a> {
         ensures { IfSome (node_of self.now node) (λ parts. option_copied result ≡ value_of parts.properties name.now) }
     {
         let mut cursor = self.cursor_at(node);
-        let _ = cursor.next();
+        let _ = cursor.next_tag();
         value_in(cursor, name)
     }
 }
