@@ -1,3 +1,4 @@
+pub mod Tables
 pub mod WordLemmas
 pub mod QuotedLemmas
 pub mod LetterLemmas

@@ -32,6 +32,27 @@ pub enum Class {
     Hex,
 }
 
+const NAME: u8 = 1;
+
+const PATH: u8 = 2;
+
+const LABEL: u8 = 4;
+
+const LABEL_START: u8 = 8;
+
+const HEX: u8 = 16;
+
+/// The classes of each byte that names, labels and numbers are made of: the low five bits of its letter are the flags above.
+static CLASSES: [u8; 256] = *b"\
+    @@@@@@@@@@@@@@@@@@@@@@@@@@@@@@@@\
+    @@@C@@@@@@CCCCCBWWWWWWWWWW@@@@@C\
+    C______OOOOOOOOOOOOOOOOOOOO@@@@O\
+    @______OOOOOOOOOOOOOOOOOOOO@@@@@\
+    @@@@@@@@@@@@@@@@@@@@@@@@@@@@@@@@\
+    @@@@@@@@@@@@@@@@@@@@@@@@@@@@@@@@\
+    @@@@@@@@@@@@@@@@@@@@@@@@@@@@@@@@\
+    @@@@@@@@@@@@@@@@@@@@@@@@@@@@@@@@";
+
 /// Whether a byte is in a class.
 pub(crate) fn is_in(class: Class, b: u8) -> bool
     ensures { result ≡ is_in class b }
@@ -40,14 +61,14 @@ pub(crate) fn is_in(class: Class, b: u8) -> bool
         Class::Blank => b == b' ' || (9 <= b && b <= 13),
         Class::LineBlank => b == b' ' || b == b'\t',
         Class::Line => b != b'\n',
-        Class::Name => b.is_ascii_alphanumeric() || b",._+-*#?@".contains(&b),
-        Class::Path => b.is_ascii_alphanumeric() || b",._+-*#?@/".contains(&b),
-        Class::Label => b.is_ascii_alphanumeric() || b == b'_',
-        Class::LabelStart => b.is_ascii_alphabetic() || b == b'_',
+        Class::Name => CLASSES[b as usize] & NAME != 0,
+        Class::Path => CLASSES[b as usize] & PATH != 0,
+        Class::Label => CLASSES[b as usize] & LABEL != 0,
+        Class::LabelStart => CLASSES[b as usize] & LABEL_START != 0,
         Class::Quoted => b != b'"' && b != b'\\',
         Class::Single => b != b'\'' && b != b'\\' && b != b'\n',
         Class::Digit => b.is_ascii_digit(),
         Class::Octal => b'0' <= b && b <= b'7',
-        Class::Hex => b.is_ascii_hexdigit(),
+        Class::Hex => CLASSES[b as usize] & HEX != 0,
     }
 }

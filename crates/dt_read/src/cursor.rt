@@ -162,6 +162,7 @@ impl<'a> Cursor<'a> {
     }
 
     /// Skips the properties of other names, and reads what comes then, with its offset.
+    #[inline(always)]
     pub fn seek(&mut self, name: &[u8]) -> Option<(usize, Sought<'a>)>
         ensures next { MatchOption result ((past_others name.now self.old ≡ []) × (self.new ≡ [])) (λ found.
             (p : Property) × IsSought name.now found.1 p × (past_others name.now self.old ≡ mark_at found.0 (sought_view found.1 p) ∷ self.new)) }

@@ -1,7 +1,6 @@
 -- Tables of a tree's nodes.
-use Rattle.std.specs.Prelude.{◌≡◌, ◌⊎◌, ◌<◌, ◌^◌, ◌==◌, ◌&&◌, ◌||◌, ℕ, nat_eq, Bool, true, List, [], ◌∷◌, ◌++◌, length, Option, Some, None, is_some, cond, codes}
+use Rattle.std.specs.Prelude.{◌≡◌, ◌⊎◌, ◌<◌, ◌^◌, ◌==◌, ◌-◌, ◌&&◌, ◌||◌, ℕ, nat_eq, Bool, true, List, [], ◌∷◌, ◌++◌, length, slice_index, Option, Some, None, is_some, cond, codes}
 use Rattle.std.specs.Borrow.{Bor}
-use Rattle.std.specs.List.{starts_with, ends_with}
 use Rattle.std.specs.Map.{lookup}
 use Rattle.std.specs.Option.{option_copied}
 use Rattle.std.specs.Str.{bytes_eq}
@@ -50,11 +49,15 @@ first_found (Some v) later = Some v
 abbrev pub value_at : List (Key × Bor (List ℕ)) → ℕ → Name → Option (List ℕ)
 value_at entries k x = option_copied (lookup (λ (key : Key). nat_eq k key.0 && bytes_eq x key.1.now) entries)
 
--- whether the rules of addresses, interrupts and specifiers ask for properties of this name
+-- whether a table has the values of this name: those that begin with #, those that end as KIND-map, KIND-map-mask and KIND-map-pass-thru do, and the
+-- others that the rules of addresses, interrupts and specifiers ask for
 abbrev pub is_asked : Name → Bool
 is_asked x =
-    starts_with ◌==◌ x (codes "#") || starts_with ◌==◌ x (codes "interrupt") || bytes_eq x (codes "reg") || ends_with ◌==◌ x (codes "ranges")
-    || ends_with ◌==◌ x (codes "-map") || ends_with ◌==◌ x (codes "-map-mask") || ends_with ◌==◌ x (codes "-map-pass-thru")
+    (slice_index x 0 == 35)
+    || (slice_index x (length x - 1) == 112) || (slice_index x (length x - 1) == 107) || (slice_index x (length x - 1) == 117)
+    || bytes_eq x (codes "reg") || bytes_eq x (codes "ranges") || bytes_eq x (codes "dma-ranges") || bytes_eq x (codes "device_type")
+    || bytes_eq x (codes "interrupts") || bytes_eq x (codes "interrupts-extended") || bytes_eq x (codes "interrupt-parent")
+    || bytes_eq x (codes "interrupt-controller")
 
 -- the new entries are the old ones, with a value at a node and a name
 abbrev pub PutsValue : List (Key × Bor (List ℕ)) → List (Key × Bor (List ℕ)) → ℕ → Name → List ℕ → Type 0

@@ -1,7 +1,7 @@
 //! Tables from the nodes of a tree to the nodes above them, from phandles to nodes, and from nodes and names to the values of properties and to
 //! children.
 
-ghost use Rattle.std.specs.Prelude.{◌≡◌, ◌↔◌, ◌∷◌, ℕ, [], Some, nat_eq, length, OnOk, IfOk, IfSome, IsSome, cond, codes};
+ghost use Rattle.std.specs.Prelude.{◌≡◌, ◌↔◌, ◌∷◌, ℕ, [], Some, nat_eq, length, slice_index, OnOk, IfOk, IfSome, IsSome, cond, codes};
 ghost use Rattle.std.specs.Int.{w32, from_be_bytes};
 ghost use Rattle.std.specs.Option.{option_copied};
 ghost use Rattle.dt_model.specs.Meaning.{cell};
@@ -82,18 +82,31 @@ fn put_value<'a>(
     Ok(())
 }
 
-/// Whether the rules of addresses, interrupts and specifiers ask for properties of this name (Devicetree Specification v0.4, 2.3.5 to 2.5.1): few of
-/// a board's do, so a table has these alone.
+/// The byte at a place of a name; 0 behind its end.
+fn byte_at(name: &[u8], place: usize) -> u8
+    ensures { result ≡ slice_index name.now place }
+{
+    if place < name.len() { name[place] } else { 0 }
+}
+
+/// Whether a table has the values of this name, as of all names that the rules of addresses, interrupts and specifiers ask for (Devicetree Specification
+/// v0.4, 2.3.5 to 2.5.1): `#KIND-cells`, `KIND-map` and its companions, and a few others. Most properties of a board have other names.
 pub(crate) fn is_asked(name: &[u8]) -> bool
     ensures { result ≡ is_asked name.now }
 {
-    name.starts_with(b"#")
-        || name.starts_with(b"interrupt")
+    let last = byte_at(name, name.len().saturating_sub(1));
+    byte_at(name, 0) == b'#'
+        || last == b'p'
+        || last == b'k'
+        || last == b'u'
         || name == b"reg".as_slice()
-        || name.ends_with(b"ranges")
-        || name.ends_with(b"-map")
-        || name.ends_with(b"-map-mask")
-        || name.ends_with(b"-map-pass-thru")
+        || name == b"ranges".as_slice()
+        || name == b"dma-ranges".as_slice()
+        || name == b"device_type".as_slice()
+        || name == b"interrupts".as_slice()
+        || name == b"interrupts-extended".as_slice()
+        || name == b"interrupt-parent".as_slice()
+        || name == b"interrupt-controller".as_slice()
 }
 
 /// Puts a value into the table, where the rules ask for it.
