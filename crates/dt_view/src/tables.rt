@@ -8,7 +8,8 @@ ghost use Rattle.dt_model.specs.Meaning.{cell};
 ghost use Rattle.dt_model.specs.Tree.{nodes_of, value_in, value_of};
 ghost use Rattle.dt_model.specs.Valid.{IsPhandle};
 ghost use Rattle.dt_read.specs.Placed.{path_at, properties_at, reading_of, IsNode};
-ghost use Rattle.dt_view.specs.Tables.{at_number, first_found, AreParents, ArePhandles, IsNoted, is_asked, PutsValue, NotesValue, AreKept, AreValues, PutsChild, AreChildren};
+ghost use Rattle.dt_view.specs.Tables.{at_number, first_found, is_asked, AreParents, ArePhandles, IsNoted, PutsValue, NotesValue, AreKept, AreValues};
+ghost use Rattle.dt_view.specs.Tables.{PutsChild, AreChildren};
 
 use dt_names::{NodeId, Seed, phandle_of};
 use dt_read::{Blob, NodeStep, OpenNodes};
