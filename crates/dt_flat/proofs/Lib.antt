@@ -2,8 +2,11 @@ pub mod ByPath
 pub mod AfterChild
 pub mod AfterProperty
 pub mod Edges
-pub mod KeptLemmas
-pub mod Linking
+pub mod ChainLemmas
+pub mod NameLemmas
+pub mod RowLemmas
+pub mod TableLemmas
+pub mod PlaceLemmas
 pub mod Numbering
 pub mod Distinctness
 pub mod Validity

@@ -1,9 +1,10 @@
 -- what callers read, in this order
 pub mod Arena
-pub mod Kept
 pub mod Numbers
 pub mod Refusals
 pub mod Planted
 pub mod Sound
 -- inside
-pub mod Linked
+pub mod Chain
+pub mod Names
+pub mod Rows

@@ -13,8 +13,12 @@
 //! Such changes, and what then is read, are cases of trees.cases (docs/CASES.md).
 #![tactic(auto)]
 
+mod chain;
 mod children;
+mod keys;
 mod laws;
+mod names;
+mod nodes;
 mod phandles;
 mod places;
 mod planting;

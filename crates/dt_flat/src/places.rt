@@ -1,154 +1,39 @@
 //! The nodes of a tree, each with what it has.
 
-ghost use Rattle.std.specs.Prelude.{◌≡◌, ◌<◌, ◌≤◌, ◌+◌, ◌++◌, ◌∷◌, ℕ, List, [], suc, None, Some, length, vec_len, vec_capacity, OnOk, OnErr};
+ghost use Rattle.std.specs.Prelude.{◌≡◌, ◌<◌, ◌≤◌, ◌+◌, ◌∷◌, ℕ, List, [], None, Some, length, OnOk, OnErr, option_map};
 ghost use Rattle.dt_model.specs.Applied.{with_cell};
 ghost use Rattle.dt_model.specs.Limits.{most_names};
 ghost use Rattle.dt_model.specs.Tree.{value_of};
-ghost use Rattle.dt_flat.specs.Linked.{children_at, listed, properties_at, with_value};
-ghost use Rattle.dt_flat.specs.Arena.{Slot, named_children, child_of, with_child, with_property, properties, name_of, depth_of, parent_of};
+ghost use Rattle.dt_flat.specs.Arena.{Slot, named_children, children, child_of, children_behind, first_node, with_child, with_property, properties, name_of, depth_of, parent_of};
 
 use crate::NodeId;
-use crate::children::ChildTable;
-use crate::properties::PropertyTable;
+use crate::children::Children;
+use crate::names::NameTable;
+use crate::nodes::{Branch, NodeTable};
+use crate::properties::{PropertyTable, Props};
 use dt_names::Seed;
 use std::alloc::{AllocError, Global};
 use std::marker::Model;
 
-/// What is kept of a node.
-#[derive(Drop)]
-pub(crate) struct Place {
-    pub parent: NodeId,
-    pub depth: usize,
-    pub name: Vec<u8>,
-    pub properties: PropertyTable,
-    pub children: ChildTable,
-}
-
-/// All nodes by their numbers. The root stands beside the others, so that a tree of a root alone takes no memory.
+/// All nodes by their numbers. The root is 0, and is in no table, so that a tree of a root alone takes no memory.
 #[derive(Drop)]
 pub(crate) struct Places {
     seed: Seed,
-    root: Place,
-    others: Vec<Place>,
+    names: NameTable,
+    nodes: NodeTable,
+    properties: PropertyTable,
 }
 
 impl Model for Places {
-    ghost use Rattle.std.specs.Prelude.{List, ◌∷◌};
+    ghost use Rattle.std.specs.Prelude.{List};
     ghost use Rattle.dt_flat.specs.Arena.{Slot};
-    ghost use Rattle.dt_flat.specs.Linked.{slots_kept, AreLinked};
+    ghost use Rattle.dt_flat.specs.Rows.{slots_kept, owned, AreRows};
 
     ghost Value = { List Slot };
 
-    ghost view = { λ a. slots_kept (a.root ∷ a.others.items) };
+    ghost view = { λ a. slots_kept a.names (owned a.names a.properties) a.nodes };
 
-    ghost invariant = { λ a. AreLinked (slots_kept (a.root ∷ a.others.items)) 0 (a.root ∷ a.others.items) };
-}
-
-impl Place {
-    fn new(alloc: Global, seed: Seed, parent: NodeId, depth: usize, name: Vec<u8>) -> Self
-        ensures parent { result.parent ≡ parent }
-        ensures depth { result.depth ≡ depth }
-        ensures name { result.name.items ≡ name.items }
-        ensures properties { result.properties ≡ [] }
-        ensures children { result.children ≡ [] }
-    {
-        Place {
-            parent,
-            depth,
-            name,
-            properties: PropertyTable::new(alloc, seed),
-            children: ChildTable::new(alloc, seed),
-        }
-    }
-}
-
-/// Adds to the children that a node lists.
-fn list(
-    root: &mut Place,
-    others: &mut Vec<Place>,
-    alloc: Global,
-    parent: NodeId,
-    name: &[u8],
-    node: NodeId,
-) -> Result<(), AllocError>
-    requires parent { parent < suc (length others.old.items) }
-    requires absent { child_of (children_at (root.old ∷ others.old.items) parent) name.now ≡ None }
-    ensures ok { OnOk result (root.new ∷ others.new.items ≡
-        listed (root.old ∷ others.old.items) parent (record { name = name.now; node = node })) }
-    ensures count { vec_len others.new ≡ vec_len others.old }
-    ensures room { vec_capacity others.new ≡ vec_capacity others.old }
-    ensures root { OnErr result (root.new ≡ root.old) }
-    ensures others { OnErr result (others.new.items ≡ others.old.items) }
-{
-    if parent == 0 {
-        root.children.add(alloc, name, node)
-    } else {
-        others[parent - 1].children.add(alloc, name, node)
-    }
-}
-
-/// Adds the node that comes next to the children that its parent lists, and makes room for it at the end.
-fn list_next(
-    root: &mut Place,
-    others: &mut Vec<Place>,
-    alloc: Global,
-    parent: NodeId,
-    name: &[u8],
-) -> Result<(), AllocError>
-    requires parent { parent < suc (length others.old.items) }
-    requires absent { child_of (children_at (root.old ∷ others.old.items) parent) name.now ≡ None }
-    ensures ok { OnOk result (root.new ∷ others.new.items ≡
-        listed (root.old ∷ others.old.items) parent (record { name = name.now; node = suc (length others.old.items) })) }
-    ensures room { OnOk result (vec_len others.new < vec_capacity others.new) }
-    ensures root { OnErr result (root.new ≡ root.old) }
-    ensures others { OnErr result (others.new.items ≡ others.old.items) }
-{
-    let node = 1 + others.len();
-    others.reserve(1)?;
-    list(root, others, alloc, parent, name, node)
-}
-
-/// Sets a property of a node.
-fn set_value(
-    root: &mut Place,
-    others: &mut Vec<Place>,
-    alloc: Global,
-    node: NodeId,
-    name: &[u8],
-    value: &[u8],
-) -> Result<(), AllocError>
-    requires { node < suc (length others.old.items) }
-    ensures ok { OnOk result (root.new ∷ others.new.items ≡ with_value (root.old ∷ others.old.items) node name.now value.now) }
-    ensures root { OnErr result (root.new ≡ root.old) }
-    ensures others { OnErr result (others.new.items ≡ others.old.items) }
-{
-    if node == 0 {
-        root.properties.set(alloc, name, value)
-    } else {
-        others[node - 1].properties.set(alloc, name, value)
-    }
-}
-
-/// Writes a number at an offset of the value of a property.
-fn patch(
-    root: &mut Place,
-    others: &mut Vec<Place>,
-    node: NodeId,
-    name: &[u8],
-    offset: usize,
-    number: u32,
-)
-    requires node { node < suc (length others.old.items) }
-    requires cell { (value : List ℕ) × (value_of (properties_at (root.old ∷ others.old.items) node) name.now ≡ Some value)
-        × (offset + 4 ≤ length value) }
-    ensures { (value : List ℕ) → value_of (properties_at (root.old ∷ others.old.items) node) name.now ≡ Some value →
-        root.new ∷ others.new.items ≡ with_value (root.old ∷ others.old.items) node name.now (with_cell value offset number) }
-{
-    if node == 0 {
-        root.properties.patch(name, offset, number);
-    } else {
-        others[node - 1].properties.patch(name, offset, number);
-    }
+    ghost invariant = { λ a. AreRows a.names a.nodes a.properties };
 }
 
 impl Places {
@@ -158,8 +43,9 @@ impl Places {
     {
         Places {
             seed,
-            root: Place::new(alloc, seed, 0, 0, Vec::new(alloc)),
-            others: Vec::new(alloc),
+            names: NameTable::new(alloc, seed),
+            nodes: NodeTable::new(alloc, seed),
+            properties: PropertyTable::new(alloc, seed),
         }
     }
 
@@ -179,23 +65,91 @@ impl Places {
     pub fn len(&self) -> usize
         ensures { result ≡ length self.now }
     {
-        1 + self.others.len()
+        1 + self.nodes.len()
     }
 
-    /// What is kept of a node.
-    pub fn get(&self, node: NodeId) -> &Place
+    /// The number of the node above a node; the root is its own.
+    pub fn parent(&self, node: NodeId) -> NodeId
         requires { node < length self.now }
-        ensures parent { result.now.parent ≡ parent_of self.now node }
-        ensures depth { result.now.depth ≡ depth_of self.now node }
-        ensures name { result.now.name.items ≡ name_of self.now node }
-        ensures properties { result.now.properties ≡ properties self.now node }
-        ensures children { result.now.children ≡ named_children self.now node }
+        ensures { result ≡ parent_of self.now node }
     {
+        let nodes = &self.nodes;
         if node == 0 {
-            &self.root
-        } else {
-            &self.others[node - 1]
+            return 0;
         }
+        nodes.at(node).parent
+    }
+
+    /// How many names the path of a node has.
+    pub fn depth(&self, node: NodeId) -> usize
+        requires { node < length self.now }
+        ensures { result ≡ depth_of self.now node }
+    {
+        let nodes = &self.nodes;
+        if node == 0 {
+            return 0;
+        }
+        nodes.at(node).depth
+    }
+
+    /// The name of a node; the root's is empty.
+    pub fn name(&self, node: NodeId) -> &[u8]
+        requires { node < length self.now }
+        ensures { result.now ≡ name_of self.now node }
+    {
+        let nodes = &self.nodes;
+        if node == 0 {
+            return b"";
+        }
+        self.names.at(nodes.at(node).name)
+    }
+
+    /// The child of a name.
+    pub fn child(&self, node: NodeId, name: &[u8]) -> Option<NodeId>
+        requires { node < length self.now }
+        ensures { result ≡ child_of (named_children self.now node) name.now }
+    {
+        self.names.validity();
+        let name = self.names.find(name)?;
+        self.nodes.child(node, name)
+    }
+
+    /// The child behind that of a name.
+    pub fn behind(&self, node: NodeId, name: &[u8]) -> Option<NodeId>
+        requires { node < length self.now }
+        ensures { result ≡ first_node (children_behind name.now (named_children self.now node)) }
+    {
+        let child = self.child(node, name)?;
+        let next = self.nodes.next(child);
+        if next == 0 { None } else { Some(next) }
+    }
+
+    /// The children of a node in order.
+    pub fn children(&self, node: NodeId) -> Children<'_>
+        requires { node < length self.now }
+        ensures { result ≡ children self.now node }
+    {
+        Children {
+            ranks: self.nodes.of(node),
+        }
+    }
+
+    /// The value of the property of a name.
+    pub fn value(&self, node: NodeId, name: &[u8]) -> Option<&[u8]>
+        requires { node < length self.now }
+        ensures { option_map (λ value. value.now) result ≡ value_of (properties self.now node) name.now }
+    {
+        self.names.validity();
+        let name = self.names.find(name)?;
+        self.properties.get(node, name)
+    }
+
+    /// The properties of a node in order.
+    pub fn props(&self, node: NodeId) -> Props<'_>
+        requires { node < length self.now }
+        ensures { result ≡ properties self.now node }
+    {
+        self.properties.of(&self.names, node)
     }
 
     /// Adds a child at the end, to a parent that has none of this name and isn't too deep.
@@ -206,11 +160,14 @@ impl Places {
         ensures ok { OnOk result (self.new ≡ with_child self.old parent name.now) }
         ensures err { OnErr result (self.new ≡ self.old) }
     {
-        let depth = self.get(parent).depth + 1;
-        let kept = Vec::from_slice(alloc, name)?;
-        list_next(&mut self.root, &mut self.others, alloc, parent, name)?;
-        self.others
-            .push_reserved(Place::new(alloc, self.seed, parent, depth, kept));
+        let depth = self.depth(parent) + 1;
+        let name = self.names.add(alloc, name)?;
+        self.names.validity();
+        self.nodes.add(Branch {
+            parent,
+            name,
+            depth,
+        })?;
         Ok(())
     }
 
@@ -226,7 +183,10 @@ impl Places {
         ensures ok { OnOk result (self.new ≡ with_property self.old node name.now value.now) }
         ensures err { OnErr result (self.new ≡ self.old) }
     {
-        set_value(&mut self.root, &mut self.others, alloc, node, name, value)?;
+        let value = Vec::from_slice(alloc, value)?;
+        let name = self.names.add(alloc, name)?;
+        self.names.validity();
+        self.properties.set(node, name, value)?;
         Ok(())
     }
 
@@ -238,6 +198,10 @@ impl Places {
         ensures { (value : List ℕ) → value_of (properties self.old node) name.now ≡ Some value →
             self.new ≡ with_property self.old node name.now (with_cell value offset number) }
     {
-        patch(&mut self.root, &mut self.others, node, name, offset, number);
+        self.names.validity();
+        let Some(name) = self.names.find(name) else {
+            unreachable!();
+        };
+        self.properties.patch(node, name, offset, number);
     }
 }

@@ -1,30 +1,35 @@
-//! The properties of one node.
+//! The properties of all nodes of a tree.
 
-ghost use Rattle.std.specs.Prelude.{◌≡◌, ◌<◌, ◌≤◌, ◌+◌, ℕ, List, [], length, OnOk, OnErr, option_map, slice_get, Some};
+ghost use Rattle.std.specs.Prelude.{◌≡◌, ◌<◌, ◌≤◌, ◌+◌, ◌++◌, ◌∷◌, ℕ, List, [], None, Some, length, slice_get, option_map, OnOk, OnErr};
 ghost use Rattle.std.specs.Iterator.{YieldsFirstBy, item_count};
+ghost use Rattle.std.specs.List.{AllByRecursion};
 ghost use Rattle.dt_model.specs.Applied.{with_cell};
-ghost use Rattle.dt_model.specs.Changes.{set_property};
-ghost use Rattle.dt_model.specs.Tree.{value_of};
+ghost use Rattle.dt_flat.specs.Rows.{owned, put, rows_of, place_of, value_held};
 
+use crate::NodeId;
+use crate::chain::Ranks;
+use crate::keys::Keys;
+use crate::names::{NameId, NameTable};
 use dt_names::Seed;
-use indexmap::IndexMap;
 use std::alloc::{AllocError, Global};
 use std::marker::Model;
 
-/// Properties in the order in which they were first set.
+/// Properties in the order in which they were first set, each with its node and its name.
 #[derive(Drop)]
 pub(crate) struct PropertyTable {
-    values: IndexMap<Vec<u8>, Vec<u8>, Seed>,
+    rows: Keys,
+    values: Vec<Vec<u8>>,
 }
 
 impl Model for PropertyTable {
-    ghost use Rattle.std.specs.Prelude.{List};
-    ghost use Rattle.dt_model.specs.Tree.{Property};
-    ghost use Rattle.dt_flat.specs.Kept.{properties_kept};
+    ghost use Rattle.std.specs.Prelude.{List, ◌≡◌, length};
+    ghost use Rattle.dt_flat.specs.Rows.{Held, held};
 
-    ghost Value = { List Property };
+    ghost Value = { List Held };
 
-    ghost view = { λ a. properties_kept a.values.entries };
+    ghost view = { λ t. held t.rows t.values.items };
+
+    ghost invariant = { λ t. length t.values.items ≡ length t.rows };
 }
 
 /// Writes a number, the highest byte first, at an offset.
@@ -36,77 +41,79 @@ fn write_cell(bytes: &mut [u8], offset: usize, number: u32)
 }
 
 impl PropertyTable {
-    /// A table of no properties, whose names are hashed behind a seed.
+    /// No properties yet, whose names will be hashed behind a seed. Takes no memory.
     pub fn new(alloc: Global, seed: Seed) -> Self
         ensures { result ≡ [] }
     {
         PropertyTable {
-            values: IndexMap::with_hasher(alloc, seed),
+            rows: Keys::new(alloc, seed),
+            values: Vec::new(alloc),
         }
-    }
-
-    /// How many there are.
-    pub fn len(&self) -> usize
-        ensures { result ≡ length self.now }
-    {
-        self.values.len()
     }
 
     /// The name and the value of the property at a place.
-    pub fn at(&self, place: usize) -> (&[u8], &[u8])
+    pub fn at(&self, place: usize) -> (NameId, &[u8])
         requires { place < length self.now }
-        ensures { slice_get self.now place ≡ Some (record { name = result.0.now; value = result.1.now }) }
+        ensures name { option_map (λ property. property.name) (slice_get self.now place) ≡ Some result.0 }
+        ensures value { option_map (λ property. property.value) (slice_get self.now place) ≡ Some result.1.now }
     {
-        match self.values.get_index(place) {
-            Some((name, value)) => (name.as_slice(), value.as_slice()),
-            None => unreachable!(),
-        }
+        let (_, name) = self.rows.at(place);
+        (name, self.values[place].as_slice())
     }
 
-    /// The value of the property of a name.
-    pub fn get(&self, name: &[u8]) -> Option<&[u8]>
-        ensures { option_map (λ value. value.now) result ≡ value_of self.now name.now }
+    /// The value of the property of a node and a name.
+    pub fn get(&self, node: NodeId, name: NameId) -> Option<&[u8]>
+        ensures { option_map (λ value. value.now) result ≡ value_held node name self.now }
     {
-        match self.values.get(name) {
-            Some(value) => Some(value.as_slice()),
-            None => None,
-        }
+        let place = self.rows.find(node, name)?;
+        Some(self.values[place].as_slice())
     }
 
-    /// Gives the name this value: a name that is there keeps its place, a new one goes last.
-    pub fn set(&mut self, alloc: Global, name: &[u8], value: &[u8]) -> Result<(), AllocError>
-        ensures ok { OnOk result (self.new ≡ set_property self.old name.now value.now) }
+    /// Adds a property at the end.
+    fn push(&mut self, node: NodeId, name: NameId, value: Vec<u8>) -> Result<(), AllocError>
+        requires { place_of node name (rows_of self.old) ≡ None }
+        ensures ok { OnOk result (self.new ≡ put self.old node name value.items) }
         ensures err { OnErr result (self.new ≡ self.old) }
     {
-        let key = Vec::from_slice(alloc, name)?;
-        let value = Vec::from_slice(alloc, value)?;
-        self.values.insert(key, value)?;
+        self.values.reserve(1)?;
+        self.rows.add(node, name)?;
+        self.values.push_reserved(value);
         Ok(())
     }
 
-    /// Writes a number, the highest byte first, at an offset of the value of the property of a name. Looks at no other byte of
-    /// the value.
-    pub fn patch(&mut self, name: &[u8], offset: usize, number: u32)
-        requires { (value : List ℕ) × (value_of self.old name.now ≡ Some value) × (offset + 4 ≤ length value) }
-        ensures { (value : List ℕ) → value_of self.old name.now ≡ Some value →
-            self.new ≡ set_property self.old name.now (with_cell value offset number) }
+    /// Gives the property of a node and a name this value: one that is there keeps its place, a new one goes last.
+    pub fn set(&mut self, node: NodeId, name: NameId, value: Vec<u8>) -> Result<(), AllocError>
+        ensures ok { OnOk result (self.new ≡ put self.old node name value.items) }
+        ensures err { OnErr result (self.new ≡ self.old) }
     {
-        let Some(place) = self.values.get_index_of(name) else {
-            unreachable!();
+        let Some(place) = self.rows.find(node, name) else {
+            return self.push(node, name, value);
         };
-        match self.values.get_index_mut(place) {
-            Some(value) => write_cell(value, offset, number),
-            None => unreachable!(),
-        }
+        self.values[place] = value;
+        Ok(())
     }
 
-    /// The properties in order.
-    pub fn iter(&self) -> Props<'_>
-        ensures { result ≡ self.now }
+    /// Writes a number, the highest byte first, at an offset of the value of a property. Looks at no other byte of the value.
+    pub fn patch(&mut self, node: NodeId, name: NameId, offset: usize, number: u32)
+        requires { (value : List ℕ) × (value_held node name self.old ≡ Some value) × (offset + 4 ≤ length value) }
+        ensures { (value : List ℕ) → value_held node name self.old ≡ Some value →
+            self.new ≡ put self.old node name (with_cell value offset number) }
+    {
+        let Some(place) = self.rows.find(node, name) else {
+            unreachable!();
+        };
+        write_cell(&mut self.values[place], offset, number);
+    }
+
+    /// The properties of a node in order, as names and values.
+    pub fn of<'a>(&'a self, names: &'a NameTable, node: NodeId) -> Props<'a>
+        requires { AllByRecursion (λ property. property.name < length names.now) self.now }
+        ensures { result ≡ owned names.now self.now node }
     {
         Props {
+            names,
             table: self,
-            place: 0,
+            ranks: self.rows.of(node),
         }
     }
 }
@@ -114,17 +121,21 @@ impl PropertyTable {
 /// The properties of a node, in order: their names and values. It is seen as those that are left.
 #[derive(Drop)]
 pub struct Props<'a> {
+    names: &'a NameTable,
     table: &'a PropertyTable,
-    place: usize,
+    ranks: Ranks<'a>,
 }
 
 impl<'a> Model for Props<'a> {
-    ghost use Rattle.std.specs.Prelude.{List, drop};
+    ghost use Rattle.std.specs.Prelude.{List, map};
     ghost use Rattle.dt_model.specs.Tree.{Property};
+    ghost use Rattle.dt_flat.specs.Rows.{property_at, AreWithin};
 
     ghost Value = { List Property };
 
-    ghost view = { λ p. drop p.place p.table.now };
+    ghost view = { λ p. map (property_at p.names.now p.table.now) p.ranks };
+
+    ghost invariant = { λ p. AreWithin p.names.now p.table.now p.ranks };
 }
 
 impl<'a> Iterator for Props<'a> {
@@ -135,11 +146,8 @@ impl<'a> Iterator for Props<'a> {
     ghost remaining = { item_count (λ s. s) };
 
     fn next(&mut self) -> Option<(&'a [u8], &'a [u8])> {
-        if self.place >= self.table.len() {
-            return None;
-        }
-        let property = self.table.at(self.place);
-        self.place += 1;
-        Some(property)
+        let rank = self.ranks.step()?;
+        let (name, value) = self.table.at(rank - 1);
+        Some((self.names.at(name), value))
     }
 }

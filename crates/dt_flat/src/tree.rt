@@ -51,7 +51,7 @@ fn number_at(places: &Places, node: NodeId) -> Option<u32>
     requires { node < length places.now }
     ensures { result ≡ phandle_at places.now node }
 {
-    let value = places.get(node).properties.get(b"phandle".as_slice())?;
+    let value = places.value(node, b"phandle".as_slice())?;
     if value.len() != 4 {
         return None;
     }
@@ -144,11 +144,10 @@ impl FlatTree {
     {
         let name = name.as_bytes();
         let node = self.places.len();
-        let above = self.places.get(parent);
-        if above.children.find(name).is_some() {
+        if self.places.child(parent, name).is_some() {
             return Err(Fault::of(FaultKind::Duplicate));
         }
-        if node >= MOST_NODES || above.depth >= MOST_NAMES {
+        if node >= MOST_NODES || self.places.depth(parent) >= MOST_NAMES {
             return Err(Fault::of(FaultKind::Limit));
         }
         self.places.add(self.alloc, parent, name)?;
@@ -286,7 +285,7 @@ impl FlatTree {
         requires { node < length self.now.slots }
         ensures { result.now ≡ name_of self.now.slots node }
     {
-        self.places.get(node).name.as_slice()
+        self.places.name(node)
     }
 
     /// The node above a node, None above the root.
@@ -298,7 +297,7 @@ impl FlatTree {
         if node == self.root() {
             return None;
         }
-        Some(self.places.get(node).parent)
+        Some(self.places.parent(node))
     }
 
     /// The sibling behind a node, None behind the last one and behind the root.
@@ -309,7 +308,7 @@ impl FlatTree {
             first_node (children_behind (name_of self.now.slots node) (named_children self.now.slots (parent_of self.now.slots node))) }
     {
         let parent = self.parent(node)?;
-        self.places.get(parent).children.behind(self.name(node))
+        self.places.behind(parent, self.name(node))
     }
 
     /// The node of a path, None where there is none. Takes no memory.
@@ -318,7 +317,7 @@ impl FlatTree {
     {
         let mut node = self.root();
         for name in path.names() {
-            node = self.places.get(node).children.find(name)?;
+            node = self.places.child(node, name)?;
         }
         Some(node)
     }
@@ -328,7 +327,7 @@ impl FlatTree {
         requires { node < length self.now.slots }
         ensures { result ≡ child_of (named_children self.now.slots node) name.now }
     {
-        self.places.get(node).children.find(name)
+        self.places.child(node, name)
     }
 
     /// The node that has the number as its `phandle` (Devicetree Specification v0.4, 2.3.3), None where none has it.
@@ -357,7 +356,7 @@ impl FlatTree {
         requires { node < length self.now.slots }
         ensures { option_map (λ value. value.now) result ≡ value_of (properties self.now.slots node) name.now }
     {
-        self.places.get(node).properties.get(name)
+        self.places.value(node, name)
     }
 
     /// The properties of a node in order, as names and values.
@@ -365,7 +364,7 @@ impl FlatTree {
         requires { node < length self.now.slots }
         ensures { result ≡ properties self.now.slots node }
     {
-        self.places.get(node).properties.iter()
+        self.places.props(node)
     }
 
     /// The children of a node in order. Each has a higher number than the node.
@@ -374,6 +373,6 @@ impl FlatTree {
         ensures rest { result ≡ children self.now.slots node }
         ensures below { All (λ child. (node < child) × (child < length self.now.slots)) (children self.now.slots node) }
     {
-        self.places.get(node).children.iter()
+        self.places.children(node)
     }
 }

@@ -29,7 +29,7 @@ fn gather(places: &Places, node: NodeId, way: &mut [NodeId]) -> usize
     while at != 0 {
         first -= 1;
         way[first] = at;
-        at = places.get(at).parent;
+        at = places.parent(at);
     }
     first
 }
@@ -43,7 +43,7 @@ fn push_name(path: &mut Path, places: &Places, node: NodeId) -> Result<(), Fault
     ensures ok { OnOk result (path.new ≡ path.old ++ name_of places.now node ∷ []) }
     ensures refused { IfErr result IsNoMemory }
 {
-    let Ok(name) = NodeName::new(&places.get(node).name) else {
+    let Ok(name) = NodeName::new(places.name(node)) else {
         unreachable!();
     };
     path.push(&name)

@@ -1,33 +1,41 @@
-use Rattle.std.proofs.Common.{◌∷◌, ◌∙◌, sym, ap, subst, List, length, arith}
+use Rattle.std.proofs.Common.{◌≡◌, ◌<◌, ◌∙◌, sym, ap, ℕ, suc, List, length, Some, None, arith}
 use Rattle.dt_model.specs.Applied.{with_cell}
-use Rattle.dt_model.specs.Tree.{Property, value_of}
-use Rattle.dt_flat.specs.declared.places.Place.{Place}
+use Rattle.dt_model.specs.Tree.{value_of}
 use Rattle.dt_flat.specs.Arena.{Slot, properties, with_property}
-use Rattle.dt_flat.specs.Linked.{slots_kept, AreLinked}
-use Rattle.dt_flat.proofs.Linking.{length-kept, linked-value, kept-value, properties_at-kept}
+use Rattle.dt_flat.specs.Rows.{owned, slots_kept, AreRows}
+use Rattle.dt_flat.proofs.PlaceLemmas.{length-slots, held-value, value-unknown, noted-known, put-noted}
 use Rattle.dt_flat.proofs.places.Places.patch.Goals as goal
 
-pub patch-requires-clause-node : goal.patch-requires-clause-node
-patch-requires-clause-node c = omega (arith, length-kept c.self.inside.others.items, ap (λ (slots : List Slot). length slots) c.self.view_is, c.requires.node)
+pub unreachable-requires : goal.unreachable-requires
+unreachable-requires c =
+    let names = c.self.inside.names in
+    let hs = c.self.inside.properties in
+    let bs = c.self.inside.nodes in
+    let there : c.args.node < suc (length bs) = omega (arith, c.requires.node, length-slots names (owned names hs) bs, ap (λ (slots : List Slot). length slots) c.self.view_is) in
+    let none : value_of (properties c.args.self.now c.args.node) c.args.name.now ≡ None =
+    ap (λ (slots : List Slot). value_of (properties slots c.args.node) c.args.name.now) (sym c.self.view_is) ∙ value-unknown names bs hs c.args.node c.args.name.now c.self.invariant there c.in_default.ensures in
+    let some = c.requires.cell.1 in
+    cc
 
-pub patch-requires-clause-cell : goal.patch-requires-clause-cell
-patch-requires-clause-cell c =
-    let ns = c.self.inside.root ∷ c.self.inside.others.items in
-    let here = properties_at-kept ns c.args.node ∙ ap (λ (slots : List Slot). properties slots c.args.node) c.self.view_is in
-    (c.requires.cell.0, ap (λ (ps : List Property). value_of ps c.args.name.now) here ∙ c.requires.cell.1, c.requires.cell.2)
+pub patch-requires : goal.patch-requires
+patch-requires c =
+    let value = c.requires.cell.0 in
+    let held = held-value c.self.inside.names c.self.inside.nodes c.self.inside.properties c.args.node c.in-Some.name c.args.name.now c.args.self.now value c.self.view_is c.validity.ensures c.self.invariant c.requires.node c.in-Some.ensures.0
+    c.in-Some.ensures.1 c.requires.cell.1 in
+    (value, held, c.requires.cell.2)
+
+-- the tables with the number in the value
+patched : (c : goal.After-patch) (value : List ℕ) → value_of (properties c.args.self.now c.args.node) c.args.name.now ≡ Some value
+    → (slots_kept c.self.inside.names (owned c.self.inside.names c.patch.new.self) c.self.inside.nodes ≡ with_property c.args.self.now c.args.node c.args.name.now (with_cell value c.args.offset c.args.number))
+    × AreRows c.self.inside.names c.self.inside.nodes c.patch.new.self
+patched c value is =
+    let names = c.self.inside.names in
+    let held = held-value names c.self.inside.nodes c.self.inside.properties c.args.node c.in-Some.name c.args.name.now c.args.self.now value c.self.view_is c.validity.ensures c.self.invariant c.requires.node c.in-Some.ensures.0 c.in-Some.ensures.1 is in
+    put-noted names names c.self.inside.nodes c.self.inside.properties c.patch.new.self c.args.node c.in-Some.name (with_cell value c.args.offset c.args.number) c.args.name.now c.args.self.now c.self.view_is
+    (noted-known names c.args.name.now c.in-Some.name c.in-Some.ensures.0 c.in-Some.ensures.1) c.validity.ensures c.self.invariant c.requires.node (c.patch.ensures value held)
 
 pub invariant_of-self : goal.invariant_of-self
-invariant_of-self c =
-    let ns = c.self.inside.root ∷ c.self.inside.others.items in
-    let value = c.requires.cell.0 in
-    let here = properties_at-kept ns c.args.node ∙ ap (λ (slots : List Slot). properties slots c.args.node) c.self.view_is in
-    let changed = c.patch.ensures value (ap (λ (ps : List Property). value_of ps c.args.name.now) here ∙ c.requires.cell.1) in
-    subst (λ (ms : List Place). AreLinked (slots_kept ms) 0 ms) (sym changed) (linked-value ns c.args.node c.args.name.now (with_cell value c.args.offset c.args.number) c.self.invariant)
+invariant_of-self c = (patched c c.requires.cell.0 c.requires.cell.1).1
 
 pub returns : goal.returns
-returns c value e =
-    let ns = c.self.inside.root ∷ c.self.inside.others.items in
-    let here = properties_at-kept ns c.args.node ∙ ap (λ (slots : List Slot). properties slots c.args.node) c.self.view_is in
-    let changed = c.patch.ensures value (ap (λ (ps : List Property). value_of ps c.args.name.now) here ∙ e) in
-    let set = with_cell value c.args.offset c.args.number in
-    ap slots_kept changed ∙ kept-value ns c.args.node c.args.name.now set ∙ ap (λ (slots : List Slot). with_property slots c.args.node c.args.name.now set) c.self.view_is
+returns c value is = (patched c value is).0

@@ -1,25 +1,23 @@
-use Rattle.std.proofs.Common.{◌≡◌, ◌∷◌, ◌∙◌, sym, ap, subst, List, length, arith}
-use Rattle.dt_flat.specs.declared.places.Place.{Place}
-use Rattle.dt_flat.specs.Arena.{Slot, with_property}
-use Rattle.dt_flat.specs.Linked.{slots_kept, AreLinked}
-use Rattle.dt_flat.proofs.Linking.{length-kept, linked-value, kept-value}
+use Rattle.std.proofs.Common.{◌≡◌, ◌∙◌, ap, List}
+use Rattle.dt_flat.specs.Arena.{with_property}
+use Rattle.dt_flat.specs.Rows.{Held, owned, put, slots_kept, AreRows}
+use Rattle.dt_flat.proofs.PlaceLemmas.{on_err, noted, put-noted}
 use Rattle.dt_flat.proofs.places.Places.set.Goals as goal
 
-pub set_value-requires : goal.set_value-requires
-set_value-requires c = omega (arith, length-kept c.self.inside.others.items, ap (λ (slots : List Slot). length slots) c.self.view_is, c.requires)
+pub returns-in_err-set-clause-err : goal.returns-in_err-set-clause-err
+returns-in_err-set-clause-err c =
+    on_err c.from_residual-in_err-set.result _
+    (ap (λ (hs : List Held). slots_kept c.add.new.self (owned c.add.new.self hs) c.self.inside.nodes) c.in_err-set.ensures.err
+    ∙ (noted c.self.inside.names c.add.new.self c.self.inside.nodes c.self.inside.properties c.args.name.now c.in_ok-name.name c.in_ok-name.ensures.noted c.self.invariant).0 ∙ c.self.view_is)
+
+-- the tables with the property
+set : (c : goal.In_ok-set) → (slots_kept c.add.new.self (owned c.add.new.self c.set.new.self) c.self.inside.nodes ≡ with_property c.args.self.now c.args.node c.args.name.now c.args.value.now) × AreRows c.add.new.self c.self.inside.nodes c.set.new.self
+set c =
+    put-noted c.self.inside.names c.add.new.self c.self.inside.nodes c.self.inside.properties c.set.new.self c.args.node c.in_ok-name.name c.args.value.now c.args.name.now c.args.self.now c.self.view_is c.in_ok-name.ensures.noted
+    c.validity.ensures c.self.invariant c.requires (c.in_ok-set.ensures.ok ∙ ap (put c.self.inside.properties c.args.node c.in_ok-name.name) c.in_ok-value.ensures.items)
 
 pub invariant_of-self-2 : goal.invariant_of-self-2
-invariant_of-self-2 c =
-    let ns = c.self.inside.root ∷ c.self.inside.others.items in
-    subst (λ (ms : List Place). AreLinked (slots_kept ms) 0 ms) (sym c.in_ok-set_value.ensures.ok) (linked-value ns c.args.node c.args.name.now c.args.value.now c.self.invariant)
-
-pub invariant_of-self : goal.invariant_of-self
-invariant_of-self c =
-    let ns = c.self.inside.root ∷ c.self.inside.others.items in
-    let same : c.set_value.new.root ∷ c.set_value.new.others.items ≡ ns = λ i. c.in_err-set_value.ensures.root i ∷ c.in_err-set_value.ensures.others i in
-    subst (λ (ms : List Place). AreLinked (slots_kept ms) 0 ms) (sym same) c.self.invariant
+invariant_of-self-2 c = (set c).1
 
 pub returns-clause-ok : goal.returns-clause-ok
-returns-clause-ok c =
-    let ns = c.self.inside.root ∷ c.self.inside.others.items in
-    ap slots_kept c.in_ok-set_value.ensures.ok ∙ kept-value ns c.args.node c.args.name.now c.args.value.now ∙ ap (λ (slots : List Slot). with_property slots c.args.node c.args.name.now c.args.value.now) c.self.view_is
+returns-clause-ok c = (set c).0

@@ -1,10 +1,20 @@
-use Rattle.std.proofs.Common.{◌∙◌, sym, ap, ℕ, Option, option_map}
-use Rattle.std.specs.Global.{Vec}
-use Rattle.dt_flat.proofs.KeptLemmas.{get-kept}
+use Rattle.std.proofs.Common.{◌∙◌, sym, ap, ℕ, List, Option, Some, option_map, arith}
+use Rattle.std.specs.Borrow.{Bor}
+use Rattle.dt_flat.specs.Rows.{value_held}
+use Rattle.dt_flat.proofs.TableLemmas.{place-within, value-none, value-place}
 use Rattle.dt_flat.proofs.properties.PropertyTable.get.Goals as goal
 
-pub returns-in-Some : goal.returns-in-Some
-returns-in-Some c = rw (c.as_slice.ensures.value, ← c.self.view_is) (ap (λ (o : Option (Vec ℕ)). option_map (λ v. v.items) o) c.in-Some.ensures.value ∙ sym (get-kept c.self.inside.values.entries c.args.name.now))
+pub returns-in_err-place : goal.returns-in_err-place
+returns-in_err-place c =
+    ap (λ (o : Option (Bor (List ℕ))). option_map (λ v. v.now) o) c.from_residual.ensures
+    ∙ sym (value-none c.args.node c.args.name c.self.inside.rows c.self.inside.values.items c.self.invariant (sym c.in_err-place.ensures))
+    ∙ ap (value_held c.args.node c.args.name) c.self.view_is
 
-pub returns-in-None : goal.returns-in-None
-returns-in-None c = rw (← c.self.view_is) (ap (λ (o : Option (Vec ℕ)). option_map (λ v. v.items) o) c.in-None.ensures.value ∙ sym (get-kept c.self.inside.values.entries c.args.name.now))
+pub index-requires : goal.index-requires
+index-requires c = omega (arith, place-within c.args.node c.args.name c.in_ok-place.place c.self.inside.rows (sym c.in_ok-place.ensures), c.self.invariant)
+
+pub returns : goal.returns
+returns c =
+    ap (λ (v : List ℕ). Some v) c.as_slice.ensures.value
+    ∙ sym (value-place c.args.node c.args.name c.in_ok-place.place c.self.inside.rows c.self.inside.values.items c.index.result.now c.self.invariant (sym c.in_ok-place.ensures) c.index.ensures)
+    ∙ ap (value_held c.args.node c.args.name) c.self.view_is

@@ -2,7 +2,7 @@ use Rattle.std.proofs.Common.{◌≡◌, ℕ, ◌∷◌, List, Option, Some, sym
 use Rattle.std.specs.Option.{option_and_then}
 use Rattle.dt_model.specs.Names.{Name}
 use Rattle.dt_model.specs.Path.{Path}
-use Rattle.dt_flat.specs.Arena.{Arena, Slot, Child, node_from, child_of, named_children}
+use Rattle.dt_flat.specs.Arena.{Arena, Slot, node_from, child_of, named_children}
 use Rattle.dt_flat.proofs.Edges.{edge}
 use Rattle.dt_flat.proofs.tree.FlatTree.node.Goals as goal
 
@@ -16,8 +16,7 @@ loop-name-preserved c =
     let p = c.loop-name.node in
     let i = c.in_ok-node.node in
     let x = c.in-Some.name.now in
-    let children = c.get.ensures.children ∙ ap (λ (a : Arena). named_children a.slots p) c.self.view_is in
-    let found : child_of (named_children slots p) x ≡ Some i = ap (λ (cs : List Child). child_of cs x) (sym children) ∙ sym c.in_ok-node.ensures in
+    let found : child_of (named_children slots p) x ≡ Some i = ap (λ (a : Arena). child_of (named_children a.slots p) x) (sym c.self.view_is) ∙ sym c.in_ok-node.ensures in
     record {
       next = tt;
       ends = tt;

@@ -1,0 +1,115 @@
+-- Names and their numbers, as the set of names has them.
+use Rattle.std.proofs.Common.{◌≡◌, ℕ, zero, suc, ◌+◌, ◌<◌, Bool, true, false, not, cond, ◌||◌, List, [], ◌∷◌, ◌++◌, length, map, slice_get, position, Option, Some, None, refl, sym, ap, ◌∙◌, true≢false, inl, inr, arith}
+use Rattle.std.specs.Global.{Vec}
+use Rattle.std.specs.List.{list_any, prefix_len}
+use Rattle.std.specs.Str.{bytes_eq}
+use Rattle.std.specs.Prelude.{nat_lt, MatchOption, if◌then◌else◌}
+use Rattle.std.proofs.lemmas.Bool.{cases_eq, ltb-true, lt-ltb}
+use Rattle.dt_model.specs.Names.{Name}
+use Rattle.dt_model.proofs.Tests.{bytes_eq_true, bytes_eq_differ, bytes_eq_other}
+use Rattle.dt_flat.specs.Names.{text, AreOwn, IsUnknown}
+
+-- the names that a set keeps
+abbrev pub names_kept : List (Vec ℕ) → List Name
+names_kept ks = map (λ name. name.items) ks
+
+pub text-get : (ks : List (Vec ℕ)) (k : ℕ) (v : Vec ℕ) → slice_get ks k ≡ Some v → text (names_kept ks) k ≡ v.items
+text-get [] k v e = cc
+text-get (x ∷ xs) zero v e = let same : x ≡ v = cc in ap (λ (y : Vec ℕ). y.items) same
+text-get (x ∷ xs) (suc k) v e = text-get xs k v e
+
+pub length-names : (ks : List (Vec ℕ)) → length (names_kept ks) ≡ length ks
+length-names [] = refl
+length-names (x ∷ xs) = ap suc (length-names xs)
+
+-- ---- a name is looked for
+
+-- how many names stand before it
+abbrev before : List (Vec ℕ) → Name → ℕ
+before ks name = prefix_len (λ v. not (bytes_eq name v.items)) ks
+
+text-before : (ks : List (Vec ℕ)) (name : Name) → before ks name < length ks → text (names_kept ks) (before ks name) ≡ name
+text-before [] name lt = absurd (omega arith)
+text-before (x ∷ xs) name lt = by (bytes_eq name x.items) refl (before xs name) (text-before xs name) lt
+  where
+    by : (b : Bool) → bytes_eq name x.items ≡ b → (n : ℕ) → (n < length xs → text (names_kept xs) n ≡ name)
+        → cond (not b) (1 + n) 0 < suc (length xs) → text (x.items ∷ names_kept xs) (cond (not b) (1 + n) 0) ≡ name
+    by true e n rec l = sym (bytes_eq_true name x.items e)
+    by false e n rec l = let s : 1 + n ≡ suc n = omega arith in ap (text (x.items ∷ names_kept xs)) s ∙ rec (omega (arith, l))
+
+unknown-before : (ks : List (Vec ℕ)) (name : Name) → (before ks name < length ks → ⊥) → IsUnknown (names_kept ks) name
+unknown-before [] name none = λ i lt. absurd (omega (arith, lt))
+unknown-before (x ∷ xs) name none = by (bytes_eq name x.items) refl (before xs name) (unknown-before xs name) none
+  where
+    by : (b : Bool) → bytes_eq name x.items ≡ b → (n : ℕ) → ((n < length xs → ⊥) → IsUnknown (names_kept xs) name)
+        → (cond (not b) (1 + n) 0 < suc (length xs) → ⊥) → IsUnknown (x.items ∷ names_kept xs) name
+    by true e n rec l i lt = absurd (l (omega arith))
+    by false e n rec l zero lt = λ same. bytes_eq_differ name x.items e (sym same)
+    by false e n rec l (suc i) lt = rec (λ h. l (omega (arith, h))) i (omega (arith, lt))
+
+pub found : (ks : List (Vec ℕ)) (name : Name) (r : Option ℕ) → r ≡ position (λ (v : Vec ℕ). bytes_eq name v.items) ks
+    → MatchOption r (IsUnknown (names_kept ks) name) (λ id. (id < length (names_kept ks)) × (text (names_kept ks) id ≡ name))
+found ks name r is = by (nat_lt (before ks name) (length ks)) refl r is
+  where
+    by : (b : Bool) → nat_lt (before ks name) (length ks) ≡ b → (r : Option ℕ) → r ≡ cond b (Some (before ks name)) None
+        → MatchOption r (IsUnknown (names_kept ks) name) (λ id. (id < length (names_kept ks)) × (text (names_kept ks) id ≡ name))
+    by true e None is = cc
+    by true e (Some id) is =
+        let at : id ≡ before ks name = cc in
+        let lt : before ks name < length ks = ltb-true (before ks name) (length ks) e in
+        (omega (arith, at, lt, length-names ks), ap (text (names_kept ks)) at ∙ text-before ks name lt)
+    by false e (Some id) is = cc
+    by false e None is = unknown-before ks name (λ lt. true≢false (sym (lt-ltb (before ks name) (length ks) lt) ∙ e))
+
+-- ---- one more name
+
+any-unknown : (ks : List (Vec ℕ)) (v : Vec ℕ) → IsUnknown (names_kept ks) v.items → list_any (λ (k : Vec ℕ). bytes_eq v.items k.items) ks ≡ false
+any-unknown [] v none = refl
+any-unknown (x ∷ xs) v none =
+    let head : bytes_eq v.items x.items ≡ false = bytes_eq_other v.items x.items (λ e. none 0 (omega arith) (sym e)) in
+    ap (λ (b : Bool). b || list_any (λ (k : Vec ℕ). bytes_eq v.items k.items) xs) head ∙ any-unknown xs v (λ i lt. none (suc i) (omega (arith, lt)))
+
+pub names-push : (ks : List (Vec ℕ)) (v : Vec ℕ) → names_kept (ks ++ v ∷ []) ≡ names_kept ks ++ v.items ∷ []
+names-push [] v = refl
+names-push (x ∷ xs) v = ap (λ (ns : List Name). x.items ∷ ns) (names-push xs v)
+
+-- the names that are kept once an unknown one is inserted
+pub names-insert : (ks new : List (Vec ℕ)) (v : Vec ℕ) → IsUnknown (names_kept ks) v.items
+    → new ≡ (if list_any (λ (k : Vec ℕ). bytes_eq v.items k.items) ks then ks else ks ++ v ∷ []) → names_kept new ≡ names_kept ks ++ v.items ∷ []
+names-insert ks new v none is =
+    ap names_kept (is ∙ ap (λ (b : Bool). cond b ks (ks ++ v ∷ [])) (any-unknown ks v none)) ∙ names-push ks v
+
+pub text-append : (names more : List Name) (i : ℕ) → i < length names → text (names ++ more) i ≡ text names i
+text-append [] more i lt = absurd (omega arith)
+text-append (x ∷ xs) more zero lt = refl
+text-append (x ∷ xs) more (suc i) lt = text-append xs more i (omega arith)
+
+text-last : (names : List Name) (x : Name) → text (names ++ x ∷ []) (length names) ≡ x
+text-last [] x = refl
+text-last (n ∷ ns) x = text-last ns x
+
+length-push : (names : List Name) (x : Name) → length (names ++ x ∷ []) ≡ suc (length names)
+length-push [] x = refl
+length-push (n ∷ ns) x = ap suc (length-push ns x)
+
+pub AreOwn-push : (names : List Name) (x : Name) → AreOwn names → IsUnknown names x → AreOwn (names ++ x ∷ [])
+AreOwn-push names x own none i j li lj e =
+    let n = length names in
+    let size = length-push names x in
+    elim (cases_eq i n) [
+      | inl at ↦
+          elim (cases_eq j n) [
+            | inl bt ↦ at ∙ sym bt
+            | inr other ↦
+                let before : j < n = omega (arith, size, lj, other) in
+                absurd (none j before (sym (text-append names (x ∷ []) j before) ∙ sym e ∙ ap (text (names ++ x ∷ [])) at ∙ text-last names x))
+          ]
+      | inr before_n ↦
+          let li' : i < n = omega (arith, size, li, before_n) in
+          elim (cases_eq j n) [
+            | inl bt ↦ absurd (none i li' (sym (text-append names (x ∷ []) i li') ∙ e ∙ ap (text (names ++ x ∷ [])) bt ∙ text-last names x))
+            | inr other ↦
+                let lj' : j < n = omega (arith, size, lj, other) in
+                own i j li' lj' (sym (text-append names (x ∷ []) i li') ∙ e ∙ text-append names (x ∷ []) j lj')
+          ]
+    ]

@@ -1,6 +1,0 @@
-use Rattle.std.proofs.Common.{◌∙◌, sym, ap, length}
-use Rattle.dt_flat.proofs.KeptLemmas.{length-kept}
-use Rattle.dt_flat.proofs.properties.PropertyTable.len.Goals as goal
-
-pub returns : goal.returns
-returns c = c.len.ensures.len ∙ sym (length-kept c.self.inside.values.entries) ∙ ap length c.self.view_is

@@ -1,0 +1,87 @@
+//! The names of a tree, each once.
+
+ghost use Rattle.std.specs.Prelude.{◌≡◌, ◌<◌, ◌++◌, ◌∷◌, [], length, IfOk, OnErr, MatchOption};
+ghost use Rattle.dt_flat.specs.Names.{text, AreOwn, IsUnknown, IsNoted};
+
+use dt_names::Seed;
+use indexmap::IndexSet;
+use std::alloc::{AllocError, Global};
+use std::marker::Model;
+
+/// The number of a name, in the order in which names came.
+pub(crate) type NameId = usize;
+
+/// Names of nodes and of properties.
+#[derive(Drop)]
+pub(crate) struct NameTable {
+    names: IndexSet<Vec<u8>, Seed>,
+}
+
+impl Model for NameTable {
+    ghost use Rattle.std.specs.Prelude.{List, map};
+    ghost use Rattle.dt_model.specs.Names.{Name};
+    ghost use Rattle.dt_flat.specs.Names.{AreOwn};
+
+    ghost Value = { List Name };
+
+    ghost view = { λ t. map (λ name. name.items) t.names.keys };
+
+    ghost invariant = { λ t. AreOwn (map (λ name. name.items) t.names.keys) };
+}
+
+impl NameTable {
+    /// No names yet, which will be hashed behind a seed. Takes no memory.
+    pub fn new(alloc: Global, seed: Seed) -> Self
+        ensures { result ≡ [] }
+    {
+        NameTable {
+            names: IndexSet::with_hasher(alloc, seed),
+        }
+    }
+
+    /// A number is that of one name. Does nothing.
+    pub fn validity(&self)
+        ensures { AreOwn self.now }
+    {
+        let _ = &self.names;
+    }
+
+    /// The name of a number.
+    pub fn at(&self, id: NameId) -> &[u8]
+        requires { id < length self.now }
+        ensures { result.now ≡ text self.now id }
+    {
+        match self.names.get_index(id) {
+            Some(name) => name.as_slice(),
+            None => unreachable!(),
+        }
+    }
+
+    /// The number of a name, None where it has none.
+    pub fn find(&self, name: &[u8]) -> Option<NameId>
+        ensures { MatchOption result (IsUnknown self.now name.now) (λ id. (id < length self.now) × (text self.now id ≡ name.now)) }
+    {
+        self.names.get_index_of(name)
+    }
+
+    fn put(&mut self, alloc: Global, name: &[u8]) -> Result<NameId, AllocError>
+        requires { IsUnknown self.old name.now }
+        ensures noted { IfOk result (λ id. IsNoted self.old self.new name.now id) }
+        ensures err { OnErr result (self.new ≡ self.old) }
+    {
+        let name = Vec::from_slice(alloc, name)?;
+        let (id, _) = self.names.insert_full(name)?;
+        Ok(id)
+    }
+
+    /// The number of a name, which gets one where it has none.
+    pub fn add(&mut self, alloc: Global, name: &[u8]) -> Result<NameId, AllocError>
+        ensures noted { IfOk result (λ id. IsNoted self.old self.new name.now id) }
+        ensures err { OnErr result (self.new ≡ self.old) }
+    {
+        match self.find(name) {
+            Some(id) => Ok(id),
+            None => self.put(alloc, name),
+        }
+    }
+}
