@@ -2,6 +2,7 @@ pub mod ByPath
 pub mod AfterChild
 pub mod AfterProperty
 pub mod Edges
+pub mod Linking
 pub mod ChainLemmas
 pub mod NameLemmas
 pub mod RowLemmas

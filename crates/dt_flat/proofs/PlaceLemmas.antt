@@ -15,6 +15,7 @@ use Rattle.dt_flat.specs.Chain.{ranks, first_rank}
 use Rattle.dt_flat.specs.Names.{text, AreOwn, IsUnknown, IsNoted}
 use Rattle.dt_flat.specs.Rows.{Held, is_row, value_held, put, property_of, owned, parents_of, child_from, slots_from, slots_kept, AreBehind, AreRows}
 use Rattle.dt_flat.proofs.AfterChild.{tested, differs}
+use Rattle.dt_flat.proofs.Linking.{named-among}
 use Rattle.dt_flat.proofs.NameLemmas.{text-append}
 
 pub none_found : (o : Option ℕ) → false ≡ is_some o → o ≡ None
@@ -94,16 +95,6 @@ skip-before names has p (suc m) i (b ∷ bs) behind e =
 named-kept : (names : List Name) (has : ℕ → List Property) (p : ℕ) (bs : List Branch) → AreBehind 1 bs
     → named_children (slots_kept names has bs) p ≡ named_among 1 (slots_from names has 1 bs) p
 named-kept names has p bs behind = let s : 1 + p ≡ suc p = omega arith in sym (skip-before names has p p 1 bs behind s)
-
--- with and without names, the children are the same slots
-named-among : (i : ℕ) (ns : List Slot) (p : ℕ) → map (λ c. c.node) (named_among i ns p) ≡ children_among i ns p
-named-among i [] p = refl
-named-among i (n ∷ ns) p = by (eqb n.parent p) (named-among (suc i) ns p)
-  where
-    by : (b : Bool) → map (λ c. c.node) (named_among (suc i) ns p) ≡ children_among (suc i) ns p
-        → map (λ c. c.node) (cond b (record { name = n.name; node = i } ∷ named_among (suc i) ns p) (named_among (suc i) ns p)) ≡ cond b (i ∷ children_among (suc i) ns p) (children_among (suc i) ns p)
-    by true h = ap (λ (cs : List ℕ). i ∷ cs) h
-    by false h = h
 
 ranks-among : (names : List Name) (has : ℕ → List Property) (i : ℕ) (bs : List Branch) (p : ℕ) → children_among i (slots_from names has i bs) p ≡ ranks i (parents_of bs) p
 ranks-among names has i [] p = refl
@@ -439,25 +430,6 @@ put-within n m p k v (h ∷ hs) there named ok = by (is_row p k (h.node, h.name)
 pub AreRows-put : (names : List Name) (bs : List Branch) (hs : List Held) (p k : ℕ) (v : List ℕ) → p < suc (length bs) → k < length names → AreRows names bs hs → AreRows names bs (put hs p k v)
 AreRows-put names bs hs p k v there named rows =
     record { behind = rows.behind; named = rows.named; properties = put-within (suc (length bs)) (length names) p k v hs there named rows.properties }
-
--- ---- where children stand
-
--- a child stands after its parent, and is a node
-among_after : (i : ℕ) (ns : List Slot) (p k d : ℕ) → k < length (children_among i ns p) → (i ≤ get_or (children_among i ns p) k d) × (get_or (children_among i ns p) k d < i + length ns)
-among_after i [] p k d h = absurd (omega arith)
-among_after i (n ∷ ns) p k d h = by (eqb n.parent p) k (λ j g. among_after (suc i) ns p j d g) h
-  where
-    by : (b : Bool) (k : ℕ) → ((j : ℕ) → j < length (children_among (suc i) ns p) → (suc i ≤ get_or (children_among (suc i) ns p) j d) × (get_or (children_among (suc i) ns p) j d < suc i + length ns))
-        → k < length (cond b (i ∷ children_among (suc i) ns p) (children_among (suc i) ns p))
-        → (i ≤ get_or (cond b (i ∷ children_among (suc i) ns p) (children_among (suc i) ns p)) k d) × (get_or (cond b (i ∷ children_among (suc i) ns p) (children_among (suc i) ns p)) k d < i + suc (length ns))
-    by true zero f h = (omega arith, omega arith)
-    by true (suc k) f h = let r = f k (omega arith) in (omega (arith, r.0), omega (arith, r.1))
-    by false k f h = let r = f k h in (omega (arith, r.0), omega (arith, r.1))
-
-pub children_after : (slots : List Slot) (p : ℕ) → p < length slots → All (λ child. (p < child) × (child < length slots)) (children slots p)
-children_after slots p lt k d h =
-    let r = among_after (suc p) (drop (suc p) slots) p k d h in
-    (omega (arith, r.0), omega (arith, r.1, length-drop (suc p) slots))
 
 pub named-at : (names : List Name) (bs : List Branch) (k : ℕ) (b : Branch) → slice_get bs k ≡ Some b → AllByRecursion (λ x. x.name < length names) bs → b.name < length names
 named-at names [] k b e ok = cc

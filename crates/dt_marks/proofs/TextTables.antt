@@ -1,13 +1,21 @@
 -- What a table of texts stands for, after one more text.
-use Rattle.std.proofs.Common.{◌≡◌, ℕ, zero, suc, ◌+◌, Bool, true, false, cond, not, List, [], ◌∷◌, ◌++◌, slice_get, Some, None, Result, Ok, Err, OnOk, is_ok, if◌then◌else◌, sym, ap, ◌∙◌, arith}
+use Rattle.std.proofs.Common.{◌≡◌, ℕ, zero, suc, ◌+◌, Bool, true, false, cond, not, List, [], ◌∷◌, ◌++◌, length, slice_get, option_map, refl, Some, None, Result, Ok, Err, OnOk, is_ok, if◌then◌else◌, sym, ap, ◌∙◌, arith}
 use Rattle.std.specs.Global.{Vec}
 use Rattle.std.specs.List.{position_or_len}
 use Rattle.std.specs.Map.{lookup, keys_of}
 use Rattle.std.specs.Str.{bytes_eq}
 use Rattle.indexmap.specs.IndexMap.{insert_entry, set_value_at}
 use Rattle.dt_model.specs.Tree.{Property}
-use Rattle.dt_flat.specs.Kept.{properties_kept}
-use Rattle.dt_marks.specs.Waiting.{with_text}
+use Rattle.dt_marks.specs.Waiting.{properties_kept, with_text}
+
+pub length-kept : (es : List (Vec ℕ × Vec ℕ)) → length (properties_kept es) ≡ length es
+length-kept [] = refl
+length-kept (e ∷ es) = ap suc (length-kept es)
+
+pub at-kept : (es : List (Vec ℕ × Vec ℕ)) (i : ℕ) → slice_get (properties_kept es) i ≡ option_map (λ e. record { name = e.0.items; value = e.1.items }) (slice_get es i)
+at-kept [] i = refl
+at-kept (e ∷ es) zero = refl
+at-kept (e ∷ es) (suc i) = at-kept es i
 
 -- it goes behind those of its label
 pub text_behind_others : (es : List (Vec ℕ × Vec ℕ)) (i : ℕ) (k w v : Vec ℕ) (label text : List ℕ) → position_or_len (λ (x : Vec ℕ). bytes_eq label x.items) (keys_of es) ≡ i

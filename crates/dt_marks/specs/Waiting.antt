@@ -1,5 +1,6 @@
 -- The cells that wait for nodes of some other tree, as texts under the labels of those nodes.
 use Rattle.std.specs.Prelude.{ℕ, List, [], ◌∷◌, ◌++◌, if◌then◌else◌, codes, decimal}
+use Rattle.std.specs.Global.{Vec}
 use Rattle.std.specs.List.{AllByRecursion, flat_map}
 use Rattle.std.specs.Str.{bytes_eq}
 use Rattle.dt_model.specs.Names.{Name, IsLabel}
@@ -13,6 +14,11 @@ use Rattle.dt_flat.specs.Planted.{planted}
 use Rattle.dt_marks.specs.Paths.{behind}
 
 -- ---- a table of texts
+
+-- the properties that the entries of the table stand for, in order
+abbrev pub properties_kept : List (Vec ℕ × Vec ℕ) → List Property
+properties_kept [] = []
+properties_kept (e ∷ es) = record { name = e.0.items; value = e.1.items } ∷ properties_kept es
 
 -- one more text: it goes behind those of its label; a label that isn't there goes last
 abbrev pub with_text : List Property → Name → List ℕ → List Property

@@ -1,8 +1,7 @@
 //! The cells that wait for nodes of some other tree.
 
 ghost use Rattle.std.specs.Prelude.{◌≡◌, ◌<◌, ◌+◌, ◌++◌, [], length, nat_eq, slice_get, Some, OnOk, IfOk, decimal, codes};
-ghost use Rattle.dt_flat.specs.Kept.{properties_kept};
-ghost use Rattle.dt_marks.specs.Waiting.{with_text, place_text};
+ghost use Rattle.dt_marks.specs.Waiting.{properties_kept, with_text, place_text};
 
 use dt_names::Seed;
 use indexmap::IndexMap;
@@ -26,7 +25,7 @@ pub(crate) struct Waiting {
 impl Model for Waiting {
     ghost use Rattle.std.specs.Prelude.{List};
     ghost use Rattle.dt_model.specs.Tree.{Property};
-    ghost use Rattle.dt_flat.specs.Kept.{properties_kept};
+    ghost use Rattle.dt_marks.specs.Waiting.{properties_kept};
 
     ghost Value = { List Property };
 

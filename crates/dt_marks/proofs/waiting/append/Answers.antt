@@ -3,7 +3,7 @@ use Rattle.std.specs.Global.{Vec}
 use Rattle.std.specs.Str.{bytes_eq}
 use Rattle.std.proofs.lemmas.Result.{on_ok_weaker}
 use Rattle.indexmap.proofs.MapLemmas.{Found-position, Missing-position}
-use Rattle.dt_flat.specs.Kept.{properties_kept}
+use Rattle.dt_marks.specs.Waiting.{properties_kept}
 use Rattle.dt_marks.proofs.TextTables.{text_behind_others, text_of_new, where_ok}
 use Rattle.dt_marks.proofs.waiting.append.Goals as goal
 

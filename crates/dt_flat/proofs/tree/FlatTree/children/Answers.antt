@@ -1,6 +1,6 @@
 use Rattle.std.proofs.Common.{◌∙◌, ap}
 use Rattle.dt_flat.specs.Arena.{Arena, children}
-use Rattle.dt_flat.proofs.PlaceLemmas.{children_after}
+use Rattle.dt_flat.proofs.Linking.{children_after}
 use Rattle.dt_flat.proofs.tree.FlatTree.children.Goals as goal
 
 pub returns-clause-rest : goal.returns-clause-rest

@@ -1,7 +1,7 @@
 use Rattle.std.proofs.Common.{◌<◌, ◌∙◌, sym, ap, ℕ, Option, option_map, length, arith}
 use Rattle.std.specs.Global.{Vec}
 use Rattle.dt_model.specs.Tree.{Property}
-use Rattle.dt_flat.proofs.KeptLemmas.{length-kept, at-kept}
+use Rattle.dt_marks.proofs.TextTables.{length-kept, at-kept}
 use Rattle.dt_marks.proofs.waiting.Waiting.at.Goals as goal
 
 pub unreachable-requires : goal.unreachable-requires

@@ -1,5 +1,5 @@
 use Rattle.std.proofs.Common.{◌∙◌, sym, ap, length}
-use Rattle.dt_flat.proofs.KeptLemmas.{length-kept}
+use Rattle.dt_marks.proofs.TextTables.{length-kept}
 use Rattle.dt_marks.proofs.waiting.Waiting.len.Goals as goal
 
 pub returns : goal.returns
