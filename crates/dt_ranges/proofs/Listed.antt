@@ -76,6 +76,7 @@ pub left_behind : (t : PlacedTree) (p : Path) (i n : ℕ) (r new : RegionsLeft) 
     → quads_of new.bytes ≡ drop (r.own.address + r.own.size) (quads_of r.bytes) → AreFrom t p (i + 1) new
 left_behind t p i n r new left count bus own fewer shorter cells = record {
   bus = subst (IsNode t) (sym bus) left.bus;
+  cells = ap (λ q. bus_cells world (path_at t q)) bus ∙ left.cells ∙ ap (λ (c : BusCells). answer c) (sym own);
   address = subst (λ (c : BusCells). c.address ≤ 4) (sym own) left.address;
   size = subst (λ (c : BusCells). c.size ≤ 4) (sym own) left.size;
   long = subst (λ (c : BusCells). length new.bytes ≡ new.count * (4 * (c.address + c.size))) (sym own) long;

@@ -5,9 +5,9 @@ use Rattle.dt_names.specs.declared.fault.FaultKind.TheVariants.{NoReg}
 use Rattle.dt_read.specs.Placed.{PlacedTree, path_at, IsNode}
 use Rattle.dt_resolve_model.specs.declared.regions.BusCells.{BusCells}
 use Rattle.dt_resolve_model.specs.declared.regions.Region.{Region}
-use Rattle.dt_resolve_model.specs.Answers.{Answer, ◌>>=◌}
+use Rattle.dt_resolve_model.specs.Answers.{Answer, answer, ◌>>=◌}
 use Rattle.dt_resolve_model.specs.World.{Quad, World, quads_of}
-use Rattle.dt_resolve_model.specs.Regions.{joined, cells_at, entries, entry_at, region_at, region}
+use Rattle.dt_resolve_model.specs.Regions.{joined, cells_at, bus_cells, entries, entry_at, region_at, region}
 use Rattle.dt_ranges.specs.declared.listing.Regions.{Regions}
 use Rattle.dt_view.specs.Views.{world_of}
 
@@ -19,7 +19,7 @@ pub record RegionsLeft : Type 0 where
   pub bytes : List ℕ
 
 abbrev pub regions_left : Regions → RegionsLeft
-regions_left r = record { bus = r.bus; own = r.own; count = r.count; bytes = r.rest.now }
+regions_left r = record { bus = r.bus.node; own = r.bus.cells; count = r.count; bytes = r.rest.now }
 
 -- the region of an entry, on a bus with these cells
 abbrev pub region_of : World → Path → BusCells → List Quad → Answer Region
@@ -29,6 +29,7 @@ region_of w q own e = joined (cells_at 0 own.address e) >>= λ address. joined (
 -- they are those of a node from an index on
 pub record AreFrom (t : PlacedTree) (p : Path) (i : ℕ) (r : RegionsLeft) : Type 0 where
   pub bus : IsNode t r.bus
+  pub cells : bus_cells (world_of t) (path_at t r.bus) ≡ answer r.own
   pub address : r.own.address ≤ 4
   pub size : r.own.size ≤ 4
   pub long : length r.bytes ≡ r.count * (4 * (r.own.address + r.own.size))

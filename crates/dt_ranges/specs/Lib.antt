@@ -1,2 +1,3 @@
 -- what callers read, in this order
+pub mod Buses
 pub mod Left

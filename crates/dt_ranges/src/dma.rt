@@ -6,7 +6,7 @@ ghost use Rattle.dt_resolve_model.specs.Answers.{told};
 ghost use Rattle.dt_resolve_model.specs.Regions.{dma_region};
 ghost use Rattle.dt_view.specs.Views.{world_of};
 
-use crate::translating::{fits, region_at};
+use crate::translating::{Bus, fits, region_at};
 use dt_names::{Fault, FaultKind, NodeId};
 use dt_resolve_model::Region;
 use dt_view::{TreeView, cells};
@@ -36,5 +36,9 @@ pub fn dma_region<V: TreeView>(
     if !fits(address, own.address) {
         return Err(Fault::of(FaultKind::Overflow));
     }
+    let bus = Bus {
+        node: bus,
+        cells: own,
+    };
     region_at(view, b"dma-ranges", bus, address, size)
 }

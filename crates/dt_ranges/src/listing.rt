@@ -10,16 +10,15 @@ ghost use Rattle.dt_ranges.specs.Left.{AreLeft, IsLeft, entries_left};
 ghost use Rattle.dt_view.specs.Views.{world_of};
 
 use crate::cells::part_at;
-use crate::translating::region_at;
+use crate::translating::{Bus, region_at};
 use dt_names::{Fault, FaultKind, NodeId};
-use dt_resolve_model::{BusCells, Region};
+use dt_resolve_model::Region;
 use dt_view::{TreeView, cells, cells_after};
 
 /// The regions of a node's `reg` that are left. What a node and its bus have is looked up once, so that all entries are told in one pass.
 #[derive(Clone, Copy)]
 pub struct Regions<'v> {
-    bus: NodeId,
-    own: BusCells,
+    bus: Bus,
     rest: &'v [u8],
     count: usize,
 }
@@ -49,9 +48,12 @@ impl<'v> Regions<'v> {
         if width == 0 || reg.len() % width != 0 {
             return Err(Fault::of(FaultKind::BadCells));
         }
+        let bus = Bus {
+            node: bus,
+            cells: own,
+        };
         Ok(Regions {
             bus,
-            own,
             rest: reg,
             count: reg.len() / width,
         })
@@ -68,10 +70,10 @@ impl<'v> Regions<'v> {
         if index >= self.count as u64 {
             return None;
         }
-        let width = (self.own.address + self.own.size) as usize;
+        let width = (self.bus.cells.address + self.bus.cells.size) as usize;
         let entry = cells_after(self.rest, index as usize * width);
-        let address = part_at(entry, 0, self.own.address);
-        let size = part_at(entry, self.own.address, self.own.size);
+        let address = part_at(entry, 0, self.bus.cells.address);
+        let size = part_at(entry, self.bus.cells.address, self.bus.cells.size);
         Some(region_at(view, b"ranges", self.bus, address, size))
     }
 
@@ -86,7 +88,7 @@ impl<'v> Regions<'v> {
         let Some(region) = self.nth(view, 0) else {
             return None;
         };
-        let width = (self.own.address + self.own.size) as usize;
+        let width = (self.bus.cells.address + self.bus.cells.size) as usize;
         self.rest = cells_after(self.rest, width);
         self.count -= 1;
         Some(region)

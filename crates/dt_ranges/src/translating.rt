@@ -1,15 +1,16 @@
 //! Addresses through the buses above a node (Devicetree Specification v0.4, 2.3).
 
-ghost use Rattle.std.specs.Prelude.{◌≡◌, ℕ, ◌+◌, ◌*◌, ◌^◌, ◌≤◌, ◌&&◌, nat_le, nat_lt, true, length};
+ghost use Rattle.std.specs.Prelude.{◌≡◌, ℕ, ◌+◌, ◌*◌, ◌^◌, ◌≤◌, ◌&&◌, nat_le, nat_lt, true, length, MatchResult};
 ghost use Rattle.dt_read.specs.Placed.{path_at, IsNode};
-ghost use Rattle.dt_resolve_model.specs.Answers.{Answer, told};
+ghost use Rattle.dt_resolve_model.specs.Answers.{Answer, answer, refused, told};
 ghost use Rattle.dt_resolve_model.specs.World.{value_of_bytes, quads_of};
 ghost use Rattle.dt_resolve_model.specs.Regions.{entries, fitting, fitted, mapped_by, mapped, risen, finished, translated, region_at};
+ghost use Rattle.dt_ranges.specs.Buses.{IsBus};
 ghost use Rattle.dt_view.specs.Views.{world_of};
 
 use crate::cells::part_at;
 use dt_names::{Fault, FaultKind, NodeId};
-use dt_resolve_model::{BusAddress, RangeCells, Region};
+use dt_resolve_model::{BusAddress, BusCells, RangeCells, Region};
 use dt_view::{TreeView, cells, cells_after, is_pci};
 
 /// Whether an address is one of that many cells.
@@ -102,56 +103,70 @@ fn mapped(
     by_ranges(widths, size, at, ranges, ranges.len() / width)
 }
 
-/// Maps an address of a bus to one of the bus above.
+/// A bus, and the cells of an address and of a size on it.
+#[derive(Clone, Copy)]
+pub(crate) struct Bus {
+    pub node: NodeId,
+    pub cells: BusCells,
+}
+
+/// The cells of the bus above, and an address of a bus as an address of that one.
 fn risen<V: TreeView>(
     view: &V,
     name: &[u8],
     above: NodeId,
-    bus: NodeId,
+    bus: Bus,
     size: u128,
     at: BusAddress,
-) -> Result<BusAddress, Fault>
+) -> Result<(Bus, BusAddress), Fault>
     requires upper { IsNode (V.tree view.now) above }
-    requires lower { IsNode (V.tree view.now) bus }
-    ensures { told result ≡ risen (world_of (V.tree view.now)) name.now (path_at (V.tree view.now) above) (path_at (V.tree view.now) bus) size at }
+    requires lower { IsBus (V.tree view.now) bus }
+    ensures { MatchResult result
+        (λ up. IsBus (V.tree view.now) up.0 × (up.0.node ≡ above) × (risen (world_of (V.tree view.now)) name.now
+        (path_at (V.tree view.now) above) (path_at (V.tree view.now) bus.node) size at ≡ answer up.1))
+        (λ fault. risen (world_of (V.tree view.now)) name.now
+        (path_at (V.tree view.now) above) (path_at (V.tree view.now) bus.node) size at ≡ refused fault) }
 {
-    if is_pci(view, bus) {
+    if is_pci(view, bus.node) {
         return Err(Fault::of(FaultKind::PciBus));
     }
-    let Some(ranges) = view.value(bus, name) else {
+    let Some(ranges) = view.value(bus.node, name) else {
         return Err(Fault::of(FaultKind::NoRanges));
     };
-    let own = cells(view, bus)?;
     let up = cells(view, above)?;
     let widths = RangeCells {
-        child: own.address,
+        child: bus.cells.address,
         above: up.address,
-        length: own.size,
+        length: bus.cells.size,
     };
-    mapped(widths, size, at, ranges)
+    let to = mapped(widths, size, at, ranges)?;
+    let bus = Bus {
+        node: above,
+        cells: up,
+    };
+    Ok((bus, to))
 }
 
 /// The region of an address and a size on a bus.
 pub(crate) fn region_at<V: TreeView>(
     view: &V,
     name: &[u8],
-    bus: NodeId,
+    bus: Bus,
     address: u128,
     size: u128,
 ) -> Result<Region, Fault>
-    requires { IsNode (V.tree view.now) bus }
-    ensures { told result ≡ region_at (world_of (V.tree view.now)) name.now (path_at (V.tree view.now) bus) address size }
+    requires { IsBus (V.tree view.now) bus }
+    ensures { told result ≡ region_at (world_of (V.tree view.now)) name.now (path_at (V.tree view.now) bus.node) address size }
 {
     let mut at = BusAddress {
         address,
         whole: true,
     };
     let mut here = bus;
-    while let Some(above) = view.parent(here) {
-        at = risen(view, name, above, here, size, at)?;
-        here = above;
+    while let Some(above) = view.parent(here.node) {
+        (here, at) = risen(view, name, above, here, size, at)?;
     }
-    if is_pci(view, here) {
+    if is_pci(view, here.node) {
         return Err(Fault::of(FaultKind::PciBus));
     }
     Ok(Region {

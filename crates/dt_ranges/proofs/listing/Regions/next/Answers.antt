@@ -14,7 +14,7 @@ returns-in_default-clause-is g c = λ p i left.
 pub cells_after-self-requires : goal.cells_after-self-requires
 cells_after-self-requires g c =
     let left = c.requires.2 in
-    let room = one_entry c.args.self.now.count (4 * (c.args.self.now.own.address + c.args.self.now.own.size)) c.in-Some.ensures.there in
+    let room = one_entry c.args.self.now.count (4 * (c.args.self.now.bus.cells.address + c.args.self.now.bus.cells.size)) c.in-Some.ensures.there in
     omega (arith, room, left.long)
 
 pub overflow_sub-self : goal.overflow_sub-self
@@ -24,7 +24,7 @@ pub returns-clause-is : goal.returns-clause-is
 returns-clause-is g c = λ p i left.
     let some = c.in-Some.ensures.there in (
       ap (region (tree_world (reading_of (g.V.TreeView.tree c.args.view.now))) p) (let e : i ≡ i + 0 = omega arith in e) ∙ c.in-Some.ensures.is p i left,
-      left_behind (g.V.TreeView.tree c.args.view.now) p i (c.args.self.now.count - 1) _ _ left (omega arith) refl refl refl (ap length c.cells_after-self.ensures.bytes ∙ length-drop (4 * (c.args.self.now.own.address + c.args.self.now.own.size)) c.args.self.now.rest.now) c.cells_after-self.ensures.cells,
+      left_behind (g.V.TreeView.tree c.args.view.now) p i (c.args.self.now.count - 1) _ _ left (omega arith) refl refl refl (ap length c.cells_after-self.ensures.bytes ∙ length-drop (4 * (c.args.self.now.bus.cells.address + c.args.self.now.bus.cells.size)) c.args.self.now.rest.now) c.cells_after-self.ensures.cells,
     )
 
 pub returns-clause-fewer : goal.returns-clause-fewer

@@ -24,6 +24,7 @@ returns-clause-left g c =
     let few = c.in_ok-own.ensures.few in
     record {
       bus = c.in-Some-parent.ensures.0;
+      cells = sym c.in_ok-own.ensures.is;
       address = few.0;
       size = few.1;
       long = search arith;
