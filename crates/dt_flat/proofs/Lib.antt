@@ -3,6 +3,7 @@ pub mod AfterChild
 pub mod AfterProperty
 pub mod Edges
 pub mod Linking
+pub mod ValueLemmas
 pub mod ChainLemmas
 pub mod NameLemmas
 pub mod RowLemmas

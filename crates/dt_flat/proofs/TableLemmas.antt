@@ -1,6 +1,5 @@
 -- The tables of nodes and of properties, as their rows have them.
 use Rattle.std.proofs.Common.{◌≡◌, ℕ, zero, suc, ◌+◌, ◌-◌, ◌<◌, ◌≤◌, Bool, true, false, cond, eqb, List, [], ◌∷◌, ◌++◌, length, drop, map, get_or, set, slice_get, Option, Some, None, option_map, refl, sym, ap, ◌∙◌, arith}
-use Rattle.std.specs.Global.{Vec}
 use Rattle.std.specs.List.{AllByRecursion}
 use Rattle.dt_model.specs.Names.{Name}
 use Rattle.dt_flat.specs.declared.nodes.Branch.{Branch}
@@ -57,80 +56,86 @@ branches-push (r ∷ rs) (x ∷ xs) p k d e = ap (λ (bs : List Branch). record 
 
 -- ---- properties
 
-pub length-held : (rs : List Row) (vs : List (Vec ℕ)) → length vs ≡ length rs → length (held rs vs) ≡ length rs
+pub length-held : (rs : List Row) (vs : List (List ℕ)) → length vs ≡ length rs → length (held rs vs) ≡ length rs
 length-held [] vs e = refl
 length-held (r ∷ rs) [] e = absurd (omega (arith, e))
 length-held (r ∷ rs) (v ∷ vs) e = ap suc (length-held rs vs (omega (arith, e)))
 
-pub rows-held : (rs : List Row) (vs : List (Vec ℕ)) → length vs ≡ length rs → rows_of (held rs vs) ≡ rs
+pub rows-held : (rs : List Row) (vs : List (List ℕ)) → length vs ≡ length rs → rows_of (held rs vs) ≡ rs
 rows-held [] vs e = refl
 rows-held (r ∷ rs) [] e = absurd (omega (arith, e))
 rows-held (r ∷ rs) (v ∷ vs) e = ap (λ (xs : List Row). r ∷ xs) (rows-held rs vs (omega (arith, e)))
 
-pub held-at : (rs : List Row) (vs : List (Vec ℕ)) (k : ℕ) (r : Row) (v : Vec ℕ) → k < length vs → slice_get rs k ≡ Some r → v ≡ get_or vs k v
-    → slice_get (held rs vs) k ≡ Some (record { node = r.0; name = r.1; value = v.items })
-held-at [] vs k r v lt at is = cc
-held-at (x ∷ xs) [] k r v lt at is = absurd (omega (arith, lt))
-held-at (x ∷ xs) (w ∷ ws) zero r v lt at is =
-    let same : x ≡ r = cc in
-    λ i. Some (record { node = (same i).0; name = (same i).1; value = (sym is i).items })
-held-at (x ∷ xs) (w ∷ ws) (suc k) r v lt at is = held-at xs ws k r v (omega (arith, lt)) at is
+pub held-at : (rs : List Row) (vs : List (List ℕ)) (k : ℕ) (r : Row) (v : List ℕ) → slice_get rs k ≡ Some r → slice_get vs k ≡ Some v
+    → slice_get (held rs vs) k ≡ Some (record { node = r.0; name = r.1; value = v })
+held-at [] vs k r v at is = cc
+held-at (x ∷ xs) [] k r v at is = cc
+held-at (x ∷ xs) (w ∷ ws) zero r v at is =
+    let row : x ≡ r = cc in
+    let value : w ≡ v = cc in
+    λ i. Some (record { node = (row i).0; name = (row i).1; value = value i })
+held-at (x ∷ xs) (w ∷ ws) (suc k) r v at is = held-at xs ws k r v at is
 
-pub value-none : (p k : ℕ) (rs : List Row) (vs : List (Vec ℕ)) → length vs ≡ length rs → place_of p k rs ≡ None → value_held p k (held rs vs) ≡ None
+pub value-none : (p k : ℕ) (rs : List Row) (vs : List (List ℕ)) → length vs ≡ length rs → place_of p k rs ≡ None → value_held p k (held rs vs) ≡ None
 value-none p k [] vs e none = refl
 value-none p k (r ∷ rs) [] e none = absurd (omega (arith, e))
 value-none p k (r ∷ rs) (v ∷ vs) e none = by (is_row p k r) (place_of p k rs) (value-none p k rs vs (omega (arith, e))) none
   where
     by : (b : Bool) (o : Option ℕ) → (o ≡ None → value_held p k (held rs vs) ≡ None) → cond b (Some 0) (option_map suc o) ≡ None
-        → cond b (Some v.items) (value_held p k (held rs vs)) ≡ None
+        → cond b (Some v) (value_held p k (held rs vs)) ≡ None
     by true o rec h = cc
     by false None rec h = rec refl
     by false (Some i) rec h = cc
 
-pub value-place : (p k j : ℕ) (rs : List Row) (vs : List (Vec ℕ)) (v : Vec ℕ) → length vs ≡ length rs → place_of p k rs ≡ Some j → v ≡ get_or vs j v
-    → value_held p k (held rs vs) ≡ Some v.items
-value-place p k j [] vs v e at is = cc
-value-place p k j (r ∷ rs) [] v e at is = absurd (omega (arith, e))
-value-place p k j (r ∷ rs) (w ∷ ws) v e at is = by (is_row p k r) (place_of p k rs) (λ i h. value-place p k i rs ws v (omega (arith, e)) h) at
+pub value-place : (p k j : ℕ) (rs : List Row) (vs : List (List ℕ)) (v : List ℕ) → place_of p k rs ≡ Some j → slice_get vs j ≡ Some v → value_held p k (held rs vs) ≡ Some v
+value-place p k j [] vs v at is = cc
+value-place p k j (r ∷ rs) [] v at is = cc
+value-place p k j (r ∷ rs) (w ∷ ws) v at is = by (is_row p k r) (place_of p k rs) (λ i h. value-place p k i rs ws v h) at
   where
-    by : (b : Bool) (o : Option ℕ) → ((i : ℕ) → o ≡ Some i → v ≡ get_or ws i v → value_held p k (held rs ws) ≡ Some v.items) → cond b (Some 0) (option_map suc o) ≡ Some j
-        → cond b (Some w.items) (value_held p k (held rs ws)) ≡ Some v.items
+    by : (b : Bool) (o : Option ℕ) → ((i : ℕ) → o ≡ Some i → slice_get ws i ≡ Some v → value_held p k (held rs ws) ≡ Some v) → cond b (Some 0) (option_map suc o) ≡ Some j
+        → cond b (Some w) (value_held p k (held rs ws)) ≡ Some v
     by true o rec h =
-        let z : j ≡ 0 = cc in
-        ap (λ (x : Vec ℕ). Some x.items) (sym (is ∙ ap (λ (n : ℕ). get_or (w ∷ ws) n v) z))
+        let z : 0 ≡ j = cc in
+        ap (λ (n : ℕ). slice_get (w ∷ ws) n) z ∙ is
     by false None rec h = cc
     by false (Some i) rec h =
-        let s : j ≡ suc i = cc in
-        rec i refl (is ∙ ap (λ (n : ℕ). get_or (w ∷ ws) n v) s)
+        let s : suc i ≡ j = cc in
+        rec i refl (ap (λ (n : ℕ). slice_get (w ∷ ws) n) s ∙ is)
 
-pub put-place : (p k j : ℕ) (rs : List Row) (vs : List (Vec ℕ)) (v : Vec ℕ) → length vs ≡ length rs → place_of p k rs ≡ Some j → held rs (set vs j v) ≡ put (held rs vs) p k v.items
+-- where a row is there is a value
+pub value-there : (k : ℕ) (vs : List (List ℕ)) → k < length vs → (v : List ℕ) × (slice_get vs k ≡ Some v)
+value-there k [] lt = absurd (omega (arith, lt))
+value-there zero (v ∷ vs) lt = (v, refl)
+value-there (suc k) (v ∷ vs) lt = value-there k vs (omega (arith, lt))
+
+pub put-place : (p k j : ℕ) (rs : List Row) (vs : List (List ℕ)) (v : List ℕ) → length vs ≡ length rs → place_of p k rs ≡ Some j → held rs (set vs j v) ≡ put (held rs vs) p k v
 put-place p k j [] vs v e at = cc
 put-place p k j (r ∷ rs) [] v e at = absurd (omega (arith, e))
 put-place p k j (r ∷ rs) (w ∷ ws) v e at = by (is_row p k r) (place_of p k rs) (λ i h. put-place p k i rs ws v (omega (arith, e)) h) at
   where
-    by : (b : Bool) (o : Option ℕ) → ((i : ℕ) → o ≡ Some i → held rs (set ws i v) ≡ put (held rs ws) p k v.items) → cond b (Some 0) (option_map suc o) ≡ Some j
+    by : (b : Bool) (o : Option ℕ) → ((i : ℕ) → o ≡ Some i → held rs (set ws i v) ≡ put (held rs ws) p k v) → cond b (Some 0) (option_map suc o) ≡ Some j
         → held (r ∷ rs) (set (w ∷ ws) j v)
-        ≡ cond b (record { node = r.0; name = r.1; value = v.items } ∷ held rs ws) (record { node = r.0; name = r.1; value = w.items } ∷ put (held rs ws) p k v.items)
+        ≡ cond b (record { node = r.0; name = r.1; value = v } ∷ held rs ws) (record { node = r.0; name = r.1; value = w } ∷ put (held rs ws) p k v)
     by true o rec h =
         let z : j ≡ 0 = cc in
         ap (λ (n : ℕ). held (r ∷ rs) (set (w ∷ ws) n v)) z
     by false None rec h = cc
     by false (Some i) rec h =
         let s : j ≡ suc i = cc in
-        ap (λ (n : ℕ). held (r ∷ rs) (set (w ∷ ws) n v)) s ∙ ap (λ (hs : List Held). record { node = r.0; name = r.1; value = w.items } ∷ hs) (rec i refl)
+        ap (λ (n : ℕ). held (r ∷ rs) (set (w ∷ ws) n v)) s ∙ ap (λ (hs : List Held). record { node = r.0; name = r.1; value = w } ∷ hs) (rec i refl)
 
-pub put-push : (p k : ℕ) (rs : List Row) (vs : List (Vec ℕ)) (v : Vec ℕ) → length vs ≡ length rs → place_of p k rs ≡ None
-    → held (rs ++ (p, k) ∷ []) (vs ++ v ∷ []) ≡ put (held rs vs) p k v.items
+pub put-push : (p k : ℕ) (rs : List Row) (vs : List (List ℕ)) (v : List ℕ) → length vs ≡ length rs → place_of p k rs ≡ None
+    → held (rs ++ (p, k) ∷ []) (vs ++ v ∷ []) ≡ put (held rs vs) p k v
 put-push p k [] [] v e none = refl
 put-push p k [] (x ∷ xs) v e none = absurd (omega (arith, e))
 put-push p k (r ∷ rs) [] v e none = absurd (omega (arith, e))
 put-push p k (r ∷ rs) (w ∷ ws) v e none = by (is_row p k r) (place_of p k rs) (put-push p k rs ws v (omega (arith, e))) none
   where
-    by : (b : Bool) (o : Option ℕ) → (o ≡ None → held (rs ++ (p, k) ∷ []) (ws ++ v ∷ []) ≡ put (held rs ws) p k v.items) → cond b (Some 0) (option_map suc o) ≡ None
-        → record { node = r.0; name = r.1; value = w.items } ∷ held (rs ++ (p, k) ∷ []) (ws ++ v ∷ [])
-        ≡ cond b (record { node = r.0; name = r.1; value = v.items } ∷ held rs ws) (record { node = r.0; name = r.1; value = w.items } ∷ put (held rs ws) p k v.items)
+    by : (b : Bool) (o : Option ℕ) → (o ≡ None → held (rs ++ (p, k) ∷ []) (ws ++ v ∷ []) ≡ put (held rs ws) p k v) → cond b (Some 0) (option_map suc o) ≡ None
+        → record { node = r.0; name = r.1; value = w } ∷ held (rs ++ (p, k) ∷ []) (ws ++ v ∷ [])
+        ≡ cond b (record { node = r.0; name = r.1; value = v } ∷ held rs ws) (record { node = r.0; name = r.1; value = w } ∷ put (held rs ws) p k v)
     by true o rec h = cc
-    by false None rec h = ap (λ (hs : List Held). record { node = r.0; name = r.1; value = w.items } ∷ hs) (rec refl)
+    by false None rec h = ap (λ (hs : List Held). record { node = r.0; name = r.1; value = w } ∷ hs) (rec refl)
     by false (Some i) rec h = cc
 
 -- ---- the properties of one node

@@ -8,3 +8,4 @@ pub mod Sound
 pub mod Chain
 pub mod Names
 pub mod Rows
+pub mod Values

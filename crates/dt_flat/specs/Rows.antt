@@ -1,6 +1,5 @@
 -- What the rows of a tree stand for: a row is the number of a node and the number of a name.
 use Rattle.std.specs.Prelude.{ℕ, suc, ◌<◌, ◌≤◌, ◌-◌, ◌==◌, ◌&&◌, nat_eq, Bool, if◌then◌else◌, List, [], ◌∷◌, length, Option, Some, None, option_map}
-use Rattle.std.specs.Global.{Vec}
 use Rattle.std.specs.List.{AllByRecursion, slice_index_or}
 use Rattle.dt_model.specs.Names.{Name}
 use Rattle.dt_model.specs.Tree.{Property}
@@ -32,10 +31,10 @@ pub record Held : Type 0 where
   pub value : List ℕ
 
 -- rows with values
-abbrev pub held : List Row → List (Vec ℕ) → List Held
+abbrev pub held : List Row → List (List ℕ) → List Held
 held [] vs = []
 held (r ∷ rs) [] = []
-held (r ∷ rs) (v ∷ vs) = record { node = r.0; name = r.1; value = v.items } ∷ held rs vs
+held (r ∷ rs) (v ∷ vs) = record { node = r.0; name = r.1; value = v } ∷ held rs vs
 
 abbrev pub rows_of : List Held → List Row
 rows_of [] = []

@@ -24,6 +24,7 @@ mod places;
 mod planting;
 mod properties;
 mod tree;
+mod values;
 mod ways;
 
 pub use children::Children;

@@ -183,7 +183,6 @@ impl Places {
         ensures ok { OnOk result (self.new ≡ with_property self.old node name.now value.now) }
         ensures err { OnErr result (self.new ≡ self.old) }
     {
-        let value = Vec::from_slice(alloc, value)?;
         let name = self.names.add(alloc, name)?;
         self.names.validity();
         self.properties.set(node, name, value)?;

@@ -10,6 +10,7 @@ use crate::NodeId;
 use crate::chain::Ranks;
 use crate::keys::Keys;
 use crate::names::{NameId, NameTable};
+use crate::values::Values;
 use dt_names::Seed;
 use std::alloc::{AllocError, Global};
 use std::marker::Model;
@@ -18,7 +19,7 @@ use std::marker::Model;
 #[derive(Drop)]
 pub(crate) struct PropertyTable {
     rows: Keys,
-    values: Vec<Vec<u8>>,
+    values: Values,
 }
 
 impl Model for PropertyTable {
@@ -27,17 +28,9 @@ impl Model for PropertyTable {
 
     ghost Value = { List Held };
 
-    ghost view = { λ t. held t.rows t.values.items };
+    ghost view = { λ t. held t.rows t.values };
 
-    ghost invariant = { λ t. length t.values.items ≡ length t.rows };
-}
-
-/// Writes a number, the highest byte first, at an offset.
-fn write_cell(bytes: &mut [u8], offset: usize, number: u32)
-    requires { offset + 4 ≤ length bytes.old }
-    ensures { bytes.new ≡ with_cell bytes.old offset number }
-{
-    bytes[offset..offset + 4].copy_from_slice(&number.to_be_bytes());
+    ghost invariant = { λ t. length t.values ≡ length t.rows };
 }
 
 impl PropertyTable {
@@ -47,7 +40,7 @@ impl PropertyTable {
     {
         PropertyTable {
             rows: Keys::new(alloc, seed),
-            values: Vec::new(alloc),
+            values: Values::new(alloc),
         }
     }
 
@@ -58,7 +51,7 @@ impl PropertyTable {
         ensures value { option_map (λ property. property.value) (slice_get self.now place) ≡ Some result.1.now }
     {
         let (_, name) = self.rows.at(place);
-        (name, self.values[place].as_slice())
+        (name, self.values.at(place))
     }
 
     /// The value of the property of a node and a name.
@@ -66,30 +59,32 @@ impl PropertyTable {
         ensures { option_map (λ value. value.now) result ≡ value_held node name self.now }
     {
         let place = self.rows.find(node, name)?;
-        Some(self.values[place].as_slice())
+        Some(self.values.at(place))
     }
 
     /// Adds a property at the end.
-    fn push(&mut self, node: NodeId, name: NameId, value: Vec<u8>) -> Result<(), AllocError>
+    fn push(&mut self, node: NodeId, name: NameId, value: &[u8]) -> Result<(), AllocError>
         requires { place_of node name (rows_of self.old) ≡ None }
-        ensures ok { OnOk result (self.new ≡ put self.old node name value.items) }
+        ensures ok { OnOk result (self.new ≡ put self.old node name value.now) }
         ensures err { OnErr result (self.new ≡ self.old) }
     {
-        self.values.reserve(1)?;
-        self.rows.add(node, name)?;
-        self.values.push_reserved(value);
+        self.values.push(value)?;
+        if let Err(refused) = self.rows.add(node, name) {
+            self.values.pop();
+            return Err(refused);
+        }
         Ok(())
     }
 
     /// Gives the property of a node and a name this value: one that is there keeps its place, a new one goes last.
-    pub fn set(&mut self, node: NodeId, name: NameId, value: Vec<u8>) -> Result<(), AllocError>
-        ensures ok { OnOk result (self.new ≡ put self.old node name value.items) }
+    pub fn set(&mut self, node: NodeId, name: NameId, value: &[u8]) -> Result<(), AllocError>
+        ensures ok { OnOk result (self.new ≡ put self.old node name value.now) }
         ensures err { OnErr result (self.new ≡ self.old) }
     {
         let Some(place) = self.rows.find(node, name) else {
             return self.push(node, name, value);
         };
-        self.values[place] = value;
+        self.values.set(place, value)?;
         Ok(())
     }
 
@@ -102,7 +97,7 @@ impl PropertyTable {
         let Some(place) = self.rows.find(node, name) else {
             unreachable!();
         };
-        write_cell(&mut self.values[place], offset, number);
+        self.values.patch(place, offset, number);
     }
 
     /// The properties of a node in order, as names and values.

@@ -1,6 +1,6 @@
 use Rattle.std.proofs.Common.{◌≡◌, ◌∙◌, ap, List}
 use Rattle.dt_flat.specs.Arena.{with_property}
-use Rattle.dt_flat.specs.Rows.{Held, owned, put, slots_kept, AreRows}
+use Rattle.dt_flat.specs.Rows.{Held, owned, slots_kept, AreRows}
 use Rattle.dt_flat.proofs.PlaceLemmas.{on_err, noted, put-noted}
 use Rattle.dt_flat.proofs.places.Places.set.Goals as goal
 
@@ -14,7 +14,7 @@ returns-in_err-set-clause-err c =
 set : (c : goal.In_ok-set) → (slots_kept c.add.new.self (owned c.add.new.self c.set.new.self) c.self.inside.nodes ≡ with_property c.args.self.now c.args.node c.args.name.now c.args.value.now) × AreRows c.add.new.self c.self.inside.nodes c.set.new.self
 set c =
     put-noted c.self.inside.names c.add.new.self c.self.inside.nodes c.self.inside.properties c.set.new.self c.args.node c.in_ok-name.name c.args.value.now c.args.name.now c.args.self.now c.self.view_is c.in_ok-name.ensures.noted
-    c.validity.ensures c.self.invariant c.requires (c.in_ok-set.ensures.ok ∙ ap (put c.self.inside.properties c.args.node c.in_ok-name.name) c.in_ok-value.ensures.items)
+    c.validity.ensures c.self.invariant c.requires c.in_ok-set.ensures.ok
 
 pub invariant_of-self-2 : goal.invariant_of-self-2
 invariant_of-self-2 c = (set c).1

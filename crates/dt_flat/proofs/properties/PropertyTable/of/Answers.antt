@@ -10,7 +10,7 @@ pub invariant_of-result : goal.invariant_of-result
 invariant_of-result c =
     let rows = c.self.inside.rows in
     let n = length c.args.self.now in
-    let size : 0 + length (nodes_of rows) ≤ n = omega (arith, length-nodes rows, length-held rows c.self.inside.values.items c.self.invariant, ap (λ (hs : List Held). length hs) c.self.view_is) in
+    let size : 0 + length (nodes_of rows) ≤ n = omega (arith, length-nodes rows, length-held rows c.self.inside.values c.self.invariant, ap (λ (hs : List Held). length hs) c.self.view_is) in
     record {
       ranks = subst (AllByRecursion (λ rank. (0 < rank) × (rank ≤ n))) (sym c.of.ensures) (ranks-within 0 (nodes_of rows) c.args.node n size);
       named = c.requires;
@@ -20,5 +20,5 @@ pub returns : goal.returns
 returns c =
     let names = c.args.names.now in
     let hs = c.args.self.now in
-    let rows : c.self.inside.rows ≡ rows_of hs = sym (rows-held c.self.inside.rows c.self.inside.values.items c.self.invariant) ∙ ap rows_of c.self.view_is in
+    let rows : c.self.inside.rows ≡ rows_of hs = sym (rows-held c.self.inside.rows c.self.inside.values c.self.invariant) ∙ ap rows_of c.self.view_is in
     ap (λ (rs : List ℕ). map (property_at names hs) rs) (c.of.ensures ∙ ap (λ (rs : List Row). ranks 1 (nodes_of rs) c.args.node) rows) ∙ owned-ranks names hs 0 hs c.args.node refl
