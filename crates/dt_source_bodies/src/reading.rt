@@ -231,10 +231,12 @@ impl<'s, 'a> Reading<'s, 'a> {
         ensures grown { OnOk result (length self.old.growing.nodes.items ≤ length self.new.growing.nodes.items) }
     {
         let body = self.innermost()?;
-        if is_later(body.item, self.growing.defined(body.node, name)) {
+        let (property, last) = self.growing.property_and_item(body.node, name);
+        if is_later(body.item, last) {
             return Err(Fault::of(FaultKind::DuplicateProperty));
         }
-        self.growing.define(body.node, name, value, item)?;
+        self.growing
+            .define_known(body.node, name, value, item, property)?;
         Ok(())
     }
 

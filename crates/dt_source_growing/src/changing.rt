@@ -52,16 +52,25 @@ impl<'s, 'a> Growing<'s, 'a> {
         }
     }
 
+    /// The property of a name, where one stands, and the item that last defined one.
+    pub fn property_and_item(&self, node: usize, name: &[u8]) -> (Option<usize>, Option<usize>)
+        ensures property { result.0 ≡ (shape self.now).property node name.now }
+        ensures item { result.1 ≡ (shape self.now).defined node name.now }
+    {
+        let Some(last) = self.indices.get(node, name) else {
+            return (None, None);
+        };
+        if self.properties[last.index].stands {
+            return (Some(last.index), Some(last.item));
+        }
+        (None, Some(last.item))
+    }
+
     /// The property of a name, where one stands.
     pub fn property(&self, node: usize, name: &[u8]) -> Option<usize>
         ensures { result ≡ (shape self.now).property node name.now }
     {
-        let last = self.indices.get(node, name)?;
-        if self.properties[last.index].stands {
-            Some(last.index)
-        } else {
-            None
-        }
+        self.property_and_item(node, name).0
     }
 
     /// The item that last opened a child of the name.
@@ -69,13 +78,6 @@ impl<'s, 'a> Growing<'s, 'a> {
         ensures { result ≡ (shape self.now).opened parent name.now }
     {
         Some(self.children.get(parent, name)?.item)
-    }
-
-    /// The item that last defined a property of the name.
-    pub fn defined(&self, node: usize, name: &[u8]) -> Option<usize>
-        ensures { result ≡ (shape self.now).defined node name.now }
-    {
-        Some(self.indices.get(node, name)?.item)
     }
 
     fn make_root(&mut self) -> Result<(), AllocError>
@@ -227,6 +229,25 @@ impl<'s, 'a> Growing<'s, 'a> {
         Ok(())
     }
 
+    /// Defines a property by an item, where `property` is the one that stands: that keeps its place, a new one goes last.
+    pub fn define_known(
+        &mut self,
+        node: usize,
+        name: &'a [u8],
+        value: &'s Value<'a>,
+        item: usize,
+        property: Option<usize>,
+    ) -> Result<(), AllocError>
+        requires inside { node < length self.old.nodes.items }
+        requires known { property ≡ (shape self.old).property node name.now }
+        ensures defined { OnOk result (Defines (shape self.old) (shape self.new) node name.now (value_said value.now) item) }
+    {
+        match property {
+            Some(index) => self.define_again(node, name, index, value, item),
+            None => self.add_property(node, name, value, item),
+        }
+    }
+
     /// Defines a property by an item: one that stands keeps its place, a new one goes last.
     pub fn define(
         &mut self,
@@ -238,10 +259,8 @@ impl<'s, 'a> Growing<'s, 'a> {
         requires inside { node < length self.old.nodes.items }
         ensures defined { OnOk result (Defines (shape self.old) (shape self.new) node name.now (value_said value.now) item) }
     {
-        match self.property(node, name) {
-            Some(index) => self.define_again(node, name, index, value, item),
-            None => self.add_property(node, name, value, item),
-        }
+        let property = self.property(node, name);
+        self.define_known(node, name, value, item, property)
     }
 
     fn drop_property(&mut self, index: usize)
