@@ -41,13 +41,6 @@ impl Keys {
         }
     }
 
-    /// How many there are.
-    pub fn len(&self) -> usize
-        ensures { result ≡ length self.now }
-    {
-        self.rows.len()
-    }
-
     /// The row at a place.
     pub fn at(&self, place: usize) -> (NodeId, NameId)
         requires { place < length self.now }
