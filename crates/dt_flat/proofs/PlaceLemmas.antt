@@ -472,7 +472,7 @@ put-noted names new bs hs hs' p k v name slots view known own rows there is =
 
 -- a name that is known is noted
 pub noted-known : (names : List Name) (name : Name) (k : ℕ) → k < length names → text names k ≡ name → IsNoted names names name k
-noted-known names name k lt is = record { more = []; kept = sym (append-nil names); there = lt; text = is }
+noted-known names name k lt is = record { more = []; few = inl refl; kept = sym (append-nil names); there = lt; text = is }
 
 -- ---- the child behind another
 

@@ -1,5 +1,5 @@
 -- The names of a tree, each once, and their numbers.
-use Rattle.std.specs.Prelude.{◌≡◌, ◌≢◌, ℕ, zero, suc, ◌<◌, List, [], ◌∷◌, ◌++◌, length}
+use Rattle.std.specs.Prelude.{◌≡◌, ◌≢◌, ◌⊎◌, ℕ, zero, suc, ◌<◌, List, [], ◌∷◌, ◌++◌, length}
 use Rattle.dt_model.specs.Names.{Name}
 
 -- the name of a number
@@ -16,9 +16,10 @@ AreOwn names = (i j : ℕ) → i < length names → j < length names → text na
 abbrev pub IsUnknown : List Name → Name → Type 0
 IsUnknown names name = (i : ℕ) → i < length names → text names i ≢ name
 
--- the names after a name is looked for, and is one of them if it was not; its number is id
+-- the names after a name is looked for, and is one of them if it was not; its number is id, and no other name came
 pub record IsNoted (old new : List Name) (name : Name) (id : ℕ) : Type 0 where
   pub more : List Name
+  pub few : (more ≡ []) ⊎ (more ≡ name ∷ [])
   pub kept : new ≡ old ++ more
   pub there : id < length new
   pub text : text new id ≡ name

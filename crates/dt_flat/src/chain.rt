@@ -1,6 +1,7 @@
 //! Things that belong to owners, in the order in which they came.
 
-ghost use Rattle.std.specs.Prelude.{◌≡◌, ◌↔◌, ◌==◌, ◌<◌, ◌≤◌, ◌+◌, ◌-◌, ◌++◌, ◌∷◌, ℕ, [], length, vec_len, vec_capacity, slice_index, drop, if◌then◌else◌, OnOk, OnErr, MatchOption};
+ghost use Rattle.std.specs.Prelude.{◌≡◌, ◌↔◌, ◌==◌, ◌<◌, ◌≤◌, ◌+◌, ◌-◌, ◌++◌, ◌∷◌, ℕ};
+ghost use Rattle.std.specs.Prelude.{[], length, vec_len, vec_capacity, slice_index, drop, if◌then◌else◌, OnOk, OnErr, MatchOption};
 ghost use Rattle.dt_flat.specs.Chain.{ranks, first_rank, ends_at, ends_with, mark};
 
 use std::alloc::{AllocError, Global};

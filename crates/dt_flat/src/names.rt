@@ -14,6 +14,7 @@ pub(crate) type NameId = usize;
 /// Names of nodes and of properties.
 #[derive(Drop)]
 pub(crate) struct NameTable {
+    alloc: Global,
     names: IndexSet<Vec<u8>, Seed>,
 }
 
@@ -35,6 +36,7 @@ impl NameTable {
         ensures { result ≡ [] }
     {
         NameTable {
+            alloc,
             names: IndexSet::with_hasher(alloc, seed),
         }
     }
@@ -64,24 +66,24 @@ impl NameTable {
         self.names.get_index_of(name)
     }
 
-    fn put(&mut self, alloc: Global, name: &[u8]) -> Result<NameId, AllocError>
+    fn put(&mut self, name: &[u8]) -> Result<NameId, AllocError>
         requires { IsUnknown self.old name.now }
         ensures noted { IfOk result (λ id. IsNoted self.old self.new name.now id) }
         ensures err { OnErr result (self.new ≡ self.old) }
     {
-        let name = Vec::from_slice(alloc, name)?;
+        let name = Vec::from_slice(self.alloc, name)?;
         let (id, _) = self.names.insert_full(name)?;
         Ok(id)
     }
 
     /// The number of a name, which gets one where it has none.
-    pub fn add(&mut self, alloc: Global, name: &[u8]) -> Result<NameId, AllocError>
+    pub fn add(&mut self, name: &[u8]) -> Result<NameId, AllocError>
         ensures noted { IfOk result (λ id. IsNoted self.old self.new name.now id) }
         ensures err { OnErr result (self.new ≡ self.old) }
     {
         match self.find(name) {
             Some(id) => Ok(id),
-            None => self.put(alloc, name),
+            None => self.put(name),
         }
     }
 }

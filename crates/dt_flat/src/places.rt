@@ -4,7 +4,8 @@ ghost use Rattle.std.specs.Prelude.{◌≡◌, ◌<◌, ◌≤◌, ◌+◌, ◌�
 ghost use Rattle.dt_model.specs.Applied.{with_cell};
 ghost use Rattle.dt_model.specs.Limits.{most_names};
 ghost use Rattle.dt_model.specs.Tree.{value_of};
-ghost use Rattle.dt_flat.specs.Arena.{Slot, named_children, children, child_of, children_behind, first_node, with_child, with_property, properties, name_of, depth_of, parent_of};
+ghost use Rattle.dt_flat.specs.Arena.{Slot, named_children, children, child_of, children_behind, first_node};
+ghost use Rattle.dt_flat.specs.Arena.{with_child, with_property, properties, name_of, depth_of, parent_of};
 
 use crate::NodeId;
 use crate::children::Children;
@@ -153,7 +154,7 @@ impl Places {
     }
 
     /// Adds a child at the end, to a parent that has none of this name and isn't too deep.
-    pub fn add(&mut self, alloc: Global, parent: NodeId, name: &[u8]) -> Result<(), AllocError>
+    pub fn add(&mut self, parent: NodeId, name: &[u8]) -> Result<(), AllocError>
         requires parent { parent < length self.old }
         requires absent { child_of (named_children self.old parent) name.now ≡ None }
         requires shallow { depth_of self.old parent < most_names }
@@ -161,7 +162,7 @@ impl Places {
         ensures err { OnErr result (self.new ≡ self.old) }
     {
         let depth = self.depth(parent) + 1;
-        let name = self.names.add(alloc, name)?;
+        let name = self.names.add(name)?;
         self.names.validity();
         self.nodes.add(Branch {
             parent,
@@ -172,18 +173,12 @@ impl Places {
     }
 
     /// Sets a property of a node.
-    pub fn set(
-        &mut self,
-        alloc: Global,
-        node: NodeId,
-        name: &[u8],
-        value: &[u8],
-    ) -> Result<(), AllocError>
+    pub fn set(&mut self, node: NodeId, name: &[u8], value: &[u8]) -> Result<(), AllocError>
         requires { node < length self.old }
         ensures ok { OnOk result (self.new ≡ with_property self.old node name.now value.now) }
         ensures err { OnErr result (self.new ≡ self.old) }
     {
-        let name = self.names.add(alloc, name)?;
+        let name = self.names.add(name)?;
         self.names.validity();
         self.properties.set(node, name, value)?;
         Ok(())

@@ -1,13 +1,15 @@
 //! Ordered trees with byte values.
 
-ghost use Rattle.std.specs.Prelude.{◌≡◌, ◌↔◌, ◌<◌, ◌≤◌, ◌+◌, ◌++◌, ◌∷◌, [], ℕ, List, None, Some, length, map, All, IsOk, OnOk, OnErr, IfOk, IfErr, IfSome, option_map, codes};
+ghost use Rattle.std.specs.Prelude.{◌≡◌, ◌↔◌, ◌<◌, ◌≤◌, ◌+◌, ◌++◌, ◌∷◌, [], ℕ, List, None, Some};
+ghost use Rattle.std.specs.Prelude.{length, map, All, IsOk, OnOk, OnErr, IfOk, IfErr, IfSome, option_map, codes};
 ghost use Rattle.dt_model.specs.Applied.{with_cell};
 ghost use Rattle.dt_model.specs.Path.{Path as Names};
 ghost use Rattle.dt_model.specs.Tree.{value_of};
 ghost use Rattle.dt_model.specs.Valid.{AreDistinct, IsValid, IsWithinLimits};
 ghost use Rattle.dt_flat.specs.Numbers.{holder, given};
 ghost use Rattle.dt_flat.specs.Refusals.{WhyNoNode, WhyNotReserved, WhyNotSet, MayAdd, MaySet};
-ghost use Rattle.dt_flat.specs.Arena.{Arena, IsRooted, root_alone, children, named_children, child_of, children_behind, first_node, with_child, with_property, properties, name_of, parent_of, node_from, phandle_at, reading};
+ghost use Rattle.dt_flat.specs.Arena.{Arena, IsRooted, root_alone, children, named_children, child_of, children_behind, first_node};
+ghost use Rattle.dt_flat.specs.Arena.{with_child, with_property, properties, name_of, parent_of, node_from, phandle_at, reading};
 ghost use Rattle.dt_flat.specs.Sound.{AreCells};
 ghost use Rattle.dt_names.specs.declared.fault.FaultKind.TheVariants.{NoMemory};
 ghost use Rattle.dt_names.specs.Fault.{IsNoMemory};
@@ -27,7 +29,6 @@ use std::marker::Model;
 /// were made, each with its parent, its depth, its name and its properties.
 #[derive(Drop)]
 pub struct FlatTree {
-    alloc: Global,
     boot_cpu: u32,
     reservations: Vec<(u64, u64)>,
     places: Places,
@@ -62,7 +63,6 @@ fn number_at(places: &Places, node: NodeId) -> Option<u32>
 fn put_number(
     places: &mut Places,
     phandles: &mut Phandles,
-    alloc: Global,
     node: NodeId,
     number: u32,
     value: &[u8],
@@ -75,7 +75,7 @@ fn put_number(
 {
     let before = number_at(places, node);
     phandles.reserve(1)?;
-    places.set(alloc, node, b"phandle".as_slice(), value)?;
+    places.set(node, b"phandle".as_slice(), value)?;
     give(phandles, before, number, node);
     Ok(())
 }
@@ -94,7 +94,6 @@ impl FlatTree {
         ensures { result ≡ root_alone boot_cpu }
     {
         FlatTree {
-            alloc,
             boot_cpu,
             reservations: Vec::new(alloc),
             places: Places::new(alloc, seed),
@@ -150,7 +149,7 @@ impl FlatTree {
         if node >= MOST_NODES || self.places.depth(parent) >= MOST_NAMES {
             return Err(Fault::of(FaultKind::Limit));
         }
-        self.places.add(self.alloc, parent, name)?;
+        self.places.add(parent, name)?;
         Ok(node)
     }
 
@@ -171,7 +170,7 @@ impl FlatTree {
     {
         let name = name.as_bytes();
         if name != b"phandle".as_slice() {
-            self.places.set(self.alloc, node, name, value)?;
+            self.places.set(node, name, value)?;
             return Ok(());
         }
         self.set_phandle(node, value)
@@ -190,14 +189,7 @@ impl FlatTree {
         let Some(number) = free_number(&self.phandles, node, value) else {
             return Err(Fault::of(FaultKind::BlobPhandle));
         };
-        put_number(
-            &mut self.places,
-            &mut self.phandles,
-            self.alloc,
-            node,
-            number,
-            value,
-        )?;
+        put_number(&mut self.places, &mut self.phandles, node, number, value)?;
         Ok(())
     }
 

@@ -110,23 +110,30 @@ pub(crate) struct Bus {
     pub cells: BusCells,
 }
 
-/// The cells of the bus above, and an address of a bus as an address of that one.
+/// An address on a bus.
+#[derive(Clone, Copy)]
+struct OnBus {
+    bus: Bus,
+    at: BusAddress,
+}
+
+/// Maps an address of a bus to one of the bus above.
 fn risen<V: TreeView>(
     view: &V,
     name: &[u8],
     above: NodeId,
-    bus: Bus,
     size: u128,
-    at: BusAddress,
-) -> Result<(Bus, BusAddress), Fault>
+    from: OnBus,
+) -> Result<OnBus, Fault>
     requires upper { IsNode (V.tree view.now) above }
-    requires lower { IsBus (V.tree view.now) bus }
+    requires lower { IsBus (V.tree view.now) from.bus }
     ensures { MatchResult result
-        (λ up. IsBus (V.tree view.now) up.0 × (up.0.node ≡ above) × (risen (world_of (V.tree view.now)) name.now
-        (path_at (V.tree view.now) above) (path_at (V.tree view.now) bus.node) size at ≡ answer up.1))
+        (λ to. IsBus (V.tree view.now) to.bus × (to.bus.node ≡ above) × (risen (world_of (V.tree view.now)) name.now
+        (path_at (V.tree view.now) above) (path_at (V.tree view.now) from.bus.node) size from.at ≡ answer to.at))
         (λ fault. risen (world_of (V.tree view.now)) name.now
-        (path_at (V.tree view.now) above) (path_at (V.tree view.now) bus.node) size at ≡ refused fault) }
+        (path_at (V.tree view.now) above) (path_at (V.tree view.now) from.bus.node) size from.at ≡ refused fault) }
 {
+    let OnBus { bus, at } = from;
     if is_pci(view, bus.node) {
         return Err(Fault::of(FaultKind::PciBus));
     }
@@ -139,12 +146,12 @@ fn risen<V: TreeView>(
         above: up.address,
         length: bus.cells.size,
     };
-    let to = mapped(widths, size, at, ranges)?;
+    let at = mapped(widths, size, at, ranges)?;
     let bus = Bus {
         node: above,
         cells: up,
     };
-    Ok((bus, to))
+    Ok(OnBus { bus, at })
 }
 
 /// The region of an address and a size on a bus.
@@ -158,20 +165,20 @@ pub(crate) fn region_at<V: TreeView>(
     requires { IsBus (V.tree view.now) bus }
     ensures { told result ≡ region_at (world_of (V.tree view.now)) name.now (path_at (V.tree view.now) bus.node) address size }
 {
-    let mut at = BusAddress {
+    let at = BusAddress {
         address,
         whole: true,
     };
-    let mut here = bus;
-    while let Some(above) = view.parent(here.node) {
-        (here, at) = risen(view, name, above, here, size, at)?;
+    let mut here = OnBus { bus, at };
+    while let Some(above) = view.parent(here.bus.node) {
+        here = risen(view, name, above, size, here)?;
     }
-    if is_pci(view, here.node) {
+    if is_pci(view, here.bus.node) {
         return Err(Fault::of(FaultKind::PciBus));
     }
     Ok(Region {
-        address: at.address,
+        address: here.at.address,
         size,
-        whole: at.whole,
+        whole: here.at.whole,
     })
 }

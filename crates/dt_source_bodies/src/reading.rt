@@ -2,7 +2,8 @@
 
 ghost use Rattle.std.specs.Prelude.{◌≡◌, ◌<◌, ◌≤◌, ◌-◌, ◌++◌, ◌∷◌, [], ℕ, false, Some, None, Ok, IfOk, OnOk, MatchResult, slice_get, length, map};
 ghost use Rattle.dt_model.specs.Event.{Stack};
-ghost use Rattle.dt_model.specs.Source.{SoFar, root, block, delete_node, child, property, delete_property, delete_child, close, is_reserved, nothing, read, read_all};
+ghost use Rattle.dt_model.specs.Source.{SoFar, root, block, delete_node, child, property, delete_property};
+ghost use Rattle.dt_model.specs.Source.{delete_child, close, is_reserved, nothing, read, read_all};
 ghost use Rattle.dt_model.specs.Source as model;
 ghost use Rattle.dt_names.specs.declared.fault.FaultKind.TheVariants.{Syntax};
 ghost use Rattle.dt_source_items.specs.Said.{place_said, reference_of, value_said};

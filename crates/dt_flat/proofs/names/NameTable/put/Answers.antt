@@ -1,4 +1,4 @@
-use Rattle.std.proofs.Common.{◌++◌, ◌∷◌, [], ◌∙◌, sym, ap, subst, List, arith}
+use Rattle.std.proofs.Common.{◌++◌, ◌∷◌, [], ◌∙◌, sym, ap, subst, inr, List, arith}
 use Rattle.dt_model.specs.Names.{Name}
 use Rattle.dt_model.proofs.Tests.{bytes_eq_true}
 use Rattle.dt_flat.specs.Names.{AreOwn, IsUnknown}
@@ -21,6 +21,7 @@ returns-clause-noted c =
     let stored = c.in_ok-id.ensures.stored in
     record {
       more = v.items ∷ [];
+      few = inr (ap (λ (w : Name). w ∷ []) c.in_ok-name.ensures.items);
       kept = names-insert ks new v none c.in_ok-id.ensures.keys ∙ ap (λ (names : List Name). names ++ v.items ∷ []) c.self.view_is;
       there = omega (arith, length-names new, c.in_ok-id.ensures.within);
       text = text-get new c.in_ok-id.id stored.0 stored.1 ∙ sym (bytes_eq_true v.items stored.0.items stored.2) ∙ c.in_ok-name.ensures.items;
