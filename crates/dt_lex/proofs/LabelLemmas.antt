@@ -16,7 +16,7 @@ each_behind p [] w h = h
 each_behind p (b ∷ u) w h = each_behind p u w h.1
 
 -- a run with no `:` behind it begins no label
-no_label : (w t : List ℕ) → Each (is_in class.Label) w → Stops (is_in class.Label) t → NoneFits (Word (58 ∷ [])) t → NoneFits LabelWord (w ++ t)
+pub no_label : (w t : List ℕ) → Each (is_in class.Label) w → Stops (is_in class.Label) t → NoneFits (Word (58 ∷ [])) t → NoneFits LabelWord (w ++ t)
 no_label w t a b none v more e (x, y, f, g, h) =
     then_each (is_in class.Label) (Word (58 ∷ [])) (stops_word (is_in class.Label) (58 ∷ []) refl) (w ++ t) t (w, refl, a, b) None none v more e (x, y, f, g.1, h)
 

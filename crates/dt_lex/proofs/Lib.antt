@@ -7,5 +7,6 @@ pub mod ValueLemmas
 pub mod NumberLemmas
 pub mod LeaderLemmas
 pub mod Cuts
+pub mod Decided
 pub mod Lexed
 pub mod OneOutcome

@@ -125,7 +125,7 @@ begins_front p s [] rest e l h = let f = ap length e in absurd (omega arith)
 begins_front p [] (b ∷ w) rest e l h = absurd h
 begins_front p (c ∷ s) (b ∷ w) rest e l h = let same : c ≡ b = cc in subst (λ (x : ℕ). p x ≡ true) same h
 
-begins_of : (p : ℕ → Bool) (s w rest : List ℕ) → s ≡ w ++ rest → Begins p w → Begins p s
+pub begins_of : (p : ℕ → Bool) (s w rest : List ℕ) → s ≡ w ++ rest → Begins p w → Begins p s
 begins_of p s [] rest e h = absurd h
 begins_of p [] (b ∷ w) rest e h = cc
 begins_of p (c ∷ s) (b ∷ w) rest e h = let same : b ≡ c = cc in subst (λ (x : ℕ). p x ≡ true) same h
@@ -149,7 +149,7 @@ not_starting p P s b v more e f = b (begins_of p s v more e f.0)
 abbrev pub Closed : ℕ → ℕ → List ℕ → Type 0
 Closed p q = Then (Without (p ∷ q ∷ [])) (Word (p ∷ q ∷ []))
 
-same_tail : (b c : ℕ) (u v : List ℕ) → b ∷ u ≡ c ∷ v → u ≡ v
+pub same_tail : (b c : ℕ) (u v : List ℕ) → b ∷ u ≡ c ∷ v → u ≡ v
 same_tail b c u v e = cc
 
 pub same_head : (b c : ℕ) (u v : List ℕ) → b ∷ u ≡ c ∷ v → b ≡ c

@@ -1,5 +1,6 @@
 -- What the functions of the lexer answer.
-use Rattle.std.specs.Prelude.{◌≡◌, ◌⊎◌, ℕ, ◌+◌, Bool, List, [], ◌∷◌, length, Option, Some, None, Result, Ok, Err}
+use Rattle.std.specs.Prelude.{◌≡◌, ◌≢◌, ◌⊎◌, ℕ, ◌+◌, ◌<◌, Bool, List, [], ◌∷◌, ◌++◌, length, Option, Some, None, Result, Ok, Err}
+use Rattle.std.specs.List.{filter}
 use Rattle.std.specs.Borrow.{Bor}
 use Rattle.dt_lex.specs.declared.token.Mode.{Mode}
 use Rattle.dt_lex.specs.declared.token.TokenKind.{TokenKind}
@@ -8,9 +9,12 @@ use Rattle.dt_lex.specs.declared.token.Flaw.{Flaw}
 use Rattle.dt_lex.specs.declared.token.Flaw.TheVariants as flaw
 use Rattle.dt_lex.specs.declared.rule.Rule.{Rule}
 use Rattle.dt_lex.specs.declared.rule.Rule.TheVariants as rule
-use Rattle.dt_lex.specs.declared.lexer.Piece.{Piece}
+use Rattle.dt_lex.specs.declared.piece.Piece.{Piece}
 use Rattle.dt_lex.specs.Modes as modes
-use Rattle.dt_lex.specs.Rules.{words}
+use Rattle.dt_lex.specs.declared.token.Mark.{Mark}
+use Rattle.dt_lex.specs.Rules.{words, rules}
+use Rattle.dt_lex.specs.Modes.{mark_bytes}
+use Rattle.dt_lex.specs.Leaders.{leader_of, leads}
 use Rattle.dt_lex.specs.Outcomes.{outcome}
 use Rattle.dt_lex.specs.Lexing.{IsCut, HasNoCut, ends_line}
 
@@ -39,3 +43,30 @@ tokens_of (Some k) at count = record { kind = k; start = at; «end» = at + coun
 abbrev pub mode_after : Option TokenKind → Mode → Mode
 mode_after None m = m
 mode_after (Some k) m = modes.mode_behind k m
+
+-- ---- words that their first bytes decide
+
+-- the piece is a front of the text
+abbrev pub IsFront : List ℕ → Piece → Type 0
+IsFront s p = (p.length + length p.rest.now ≡ length s) × (0 < p.length)
+
+-- the piece is the next cut in this mode, at the first byte of a line and elsewhere
+abbrev pub IsDecided : Mode → List ℕ → Piece → Type 0
+IsDecided m s p = (fresh : Bool) → IsPiece m fresh s (Ok p)
+
+-- the mark is the byte b, and of the rules whose words may begin so its own comes behind that of names alone
+abbrev pub IsBehindNames : ℕ → Mark → Type 0
+IsBehindNames b m = (mark_bytes m ≡ b ∷ []) × (rule.Name ∷ rule.Mark m ∷ [] ≡ filter (leads (leader_of b)) rules)
+
+-- each of these rules is of a mark of two bytes: b, and another than c
+abbrev pub ArePairs : (b c : ℕ) → List Rule → Type 0
+ArePairs b c [] = Unit {0}
+ArePairs b c (q ∷ qs) = ((n : Mark) × (d : ℕ) × (q ≡ rule.Mark n) × (mark_bytes n ≡ b ∷ d ∷ []) × (c ≢ d)) × ArePairs b c qs
+
+-- the mark is the byte b, and no rule before its own has a word that begins with b and c
+pub record IsSole (b c : ℕ) (m : Mark) : Type 0 where
+  pub bytes : mark_bytes m ≡ b ∷ []
+  pub before : List Rule
+  pub behind : List Rule
+  pub tried : before ++ rule.Mark m ∷ behind ≡ filter (leads (leader_of b)) rules
+  pub pairs : ArePairs b c before

@@ -1,14 +1,13 @@
 //! The first rule that has a word at the front of a text, and the text after its longest word.
 
-ghost use Rattle.std.specs.Prelude.{◌≡◌, ◌<◌, Bool, Some, IfSome, length};
-ghost use Rattle.dt_lex.specs.declared.token.Mode.{Mode};
+ghost use Rattle.std.specs.Prelude.{◌≡◌, ◌<◌, IfSome, length};
 ghost use Rattle.dt_lex.specs.Words.{Skips};
 ghost use Rattle.dt_lex.specs.Rules.{words, allowed, In, directive_bytes};
 ghost use Rattle.dt_lex.specs.Labels.{IsUnlabelled};
 ghost use Rattle.dt_lex.specs.Pieces.{CutsTo};
 
 use crate::byte::Class;
-use crate::leader::{candidates, leader_of, lone_mark};
+use crate::leader::{candidates, leader_of};
 use crate::quoted::{after_character, after_text};
 use crate::rule::{Directive, Rule};
 use crate::token::{Mode, keyword_bytes, mark_bytes};
@@ -90,29 +89,12 @@ fn after(rule: Rule, mode: Mode, fresh: bool, unlabelled: usize, text: &[u8]) ->
     }
 }
 
-/// The first rule that has a word at the front, and the text after its longest word, where the first byte alone decides: blanks, and marks that begin
-/// like nothing else. They are half of the words of a text.
-fn cut_at_once(text: &[u8]) -> Option<(Rule, &[u8])>
-    ensures exact { IfSome result (λ found. (m : Mode) (fresh : Bool) → CutsTo m fresh text.now (Some found)) }
-    ensures shorter { IfSome result (λ found. length found.1.now < length text.now) }
-{
-    if let Some(rest) = after_run(text, Class::Blank) {
-        return Some((Rule::Blanks, rest));
-    }
-    let mark = lone_mark(leader_of(text))?;
-    let rest = after_rule(Rule::Mark(mark), text)?;
-    Some((Rule::Mark(mark), rest))
-}
-
 /// The first rule that has a word at the front, and the text after its longest word, where so many bytes begin no label.
 pub(crate) fn cut(mode: Mode, fresh: bool, unlabelled: usize, text: &[u8]) -> Option<(Rule, &[u8])>
     requires { IsUnlabelled unlabelled text.now }
     ensures exact { CutsTo mode fresh text.now result }
     ensures shorter { IfSome result (λ found. length found.1.now < length text.now) }
 {
-    if let Some(found) = cut_at_once(text) {
-        return Some(found);
-    }
     let tried = candidates(leader_of(text));
     for rule in tried {
         if let Some(rest) = after(*rule, mode, fresh, unlabelled, text) {

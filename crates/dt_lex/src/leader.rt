@@ -1,9 +1,8 @@
 //! Which rules the first byte of a text leaves to be tried.
 
-ghost use Rattle.std.specs.Prelude.{◌≡◌, ◌∷◌, [], slice_index, IfSome};
+ghost use Rattle.std.specs.Prelude.{◌≡◌, slice_index};
 ghost use Rattle.std.specs.List.{filter};
 ghost use Rattle.dt_lex.specs.declared.leader.Leader.TheVariants as leader;
-ghost use Rattle.dt_lex.specs.declared.rule.Rule.TheVariants as rule;
 ghost use Rattle.dt_lex.specs.Rules.{rules};
 ghost use Rattle.dt_lex.specs.Leaders.{leader_of, leads};
 
@@ -162,22 +161,5 @@ pub(crate) fn candidates(leader: Leader) -> &'static [Rule]
             Rule::Byte,
             Rule::Decimal,
         ],
-    }
-}
-
-/// The mark whose rule is the only one that a first byte leaves, where there is one.
-pub(crate) fn lone_mark(leader: Leader) -> Option<Mark>
-    ensures { IfSome result (λ mark. filter (leads leader) rules ≡ rule.Mark mark ∷ []) }
-{
-    match leader {
-        Leader::OpenBrace => Some(Mark::OpenBrace),
-        Leader::CloseBrace => Some(Mark::CloseBrace),
-        Leader::OpenBracket => Some(Mark::OpenBracket),
-        Leader::CloseBracket => Some(Mark::CloseBracket),
-        Leader::OpenParenthesis => Some(Mark::OpenParenthesis),
-        Leader::CloseParenthesis => Some(Mark::CloseParenthesis),
-        Leader::Semicolon => Some(Mark::Semicolon),
-        Leader::Colon => Some(Mark::Colon),
-        _ => None,
     }
 }

@@ -4,46 +4,48 @@ ghost use Rattle.std.specs.Prelude.{◌≡◌, ◌<◌, ◌≤◌, ◌+◌, ◌^
 ghost use Rattle.dt_model.specs.Limits.{most_bytes};
 ghost use Rattle.dt_lex.specs.Lexing.{IsLexed, WhyNotLexed};
 ghost use Rattle.dt_lex.specs.Labels.{IsUnlabelled};
-ghost use Rattle.dt_lex.specs.Pieces.{IsPiece, mode_after, tokens_of};
+ghost use Rattle.dt_lex.specs.Pieces.{IsPiece, IsFront, mode_after, tokens_of};
 ghost use Rattle.dt_lex.specs.Spans.{AreSpans, fault_of, no_memory};
 
 use crate::cut::cut;
 use crate::label::unlabelled;
-use crate::outcome::{byte_at, outcome};
+use crate::outcome::outcome;
+use crate::piece::{Piece, decided, piece_of};
 use crate::token::{Flaw, Mode, Token, TokenKind, mode_behind};
 use dt_names::limits::MOST_BYTES;
 use dt_names::{Fault, FaultKind};
 use std::alloc::Global;
 
-/// A word that was cut off: the token that it gives, its length, whether it ends a line, and the text after it.
-#[derive(Clone, Copy)]
-struct Piece<'a> {
-    kind: Option<TokenKind>,
-    length: usize,
-    fresh: bool,
-    rest: &'a [u8],
-}
-
-/// The word at the front, where so many bytes begin no label.
-fn next_piece(mode: Mode, fresh: bool, unlabelled: usize, text: &[u8]) -> Result<Piece<'_>, Flaw>
+/// The word at the front by the rules in their order, where so many bytes begin no label.
+fn ruled_piece(mode: Mode, fresh: bool, unlabelled: usize, text: &[u8]) -> Result<Piece<'_>, Flaw>
     requires { IsUnlabelled unlabelled text.now }
     ensures exact { IsPiece mode fresh text.now result }
-    ensures shorter { IfOk result (λ p. p.length + length p.rest.now ≡ length text.now) }
-    ensures some { IfOk result (λ p. 0 < p.length) }
+    ensures front { IfOk result (IsFront text.now) }
 {
     let Some((rule, rest)) = cut(mode, fresh, unlabelled, text) else {
         return Err(Flaw::BadToken);
     };
-    let length = text.len() - rest.len();
-    let word = &text[..length];
-    let kind = outcome(rule, word)?;
-    let fresh = byte_at(word, length - 1) == b'\n';
-    Ok(Piece {
-        kind,
-        length,
-        fresh,
-        rest,
-    })
+    let kind = outcome(rule, &text[..text.len() - rest.len()])?;
+    Ok(piece_of(kind, text, rest))
+}
+
+/// The word at the front, where so many bytes are known to begin no label; how many of them do is known then.
+fn next_piece<'a>(
+    mode: Mode,
+    fresh: bool,
+    known: &mut usize,
+    text: &'a [u8],
+) -> Result<Piece<'a>, Flaw>
+    requires { IsUnlabelled known.old text.now }
+    ensures exact { IsPiece mode fresh text.now result }
+    ensures front { IfOk result (IsFront text.now) }
+    ensures known { IsUnlabelled known.new text.now }
+{
+    if let Some(found) = decided(mode, fresh, text) {
+        return Ok(found);
+    }
+    *known = unlabelled(text, *known);
+    ruled_piece(mode, fresh, *known, text)
 }
 
 /// Appends the token that a word gives, if it gives one, and answers the mode behind it.
@@ -107,8 +109,7 @@ pub fn tokens(alloc: Global, text: &[u8]) -> Result<Vec<Token>, Fault>
     let mut known = 0;
     let mut rest = text;
     while !rest.is_empty() {
-        known = unlabelled(rest, known);
-        let next = match next_piece(mode, fresh, known, rest) {
+        let next = match next_piece(mode, fresh, &mut known, rest) {
             Ok(next) => next,
             Err(flaw) => return Err(fault_at(flaw, start)),
         };

@@ -23,6 +23,7 @@ mod letter;
 mod lexer;
 mod number;
 mod outcome;
+mod piece;
 mod quoted;
 mod rule;
 mod token;

@@ -13,7 +13,7 @@ use crate::rule::Rule;
 use crate::token::{Flaw, TokenKind};
 
 /// A word without its first two bytes.
-fn behind_prefix(word: &[u8]) -> &[u8]
+pub(crate) fn behind_prefix(word: &[u8]) -> &[u8]
     ensures { result.now ≡ drop 2 word.now }
 {
     if word.len() < 2 {
@@ -31,7 +31,7 @@ pub(crate) fn byte_at(word: &[u8], place: usize) -> u8
 }
 
 /// The byte that two hexadecimal digits spell.
-fn byte_of(word: &[u8]) -> u8
+pub(crate) fn byte_of(word: &[u8]) -> u8
     requires { ByteWord word.now }
     ensures { result ≡ 16 * digit_of (slice_index word.now 0) + digit_of (slice_index word.now 1) }
 {

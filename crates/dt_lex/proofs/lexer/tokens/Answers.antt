@@ -43,8 +43,8 @@ loop-rest-preserved c =
     let given = c.in_ok-mode.ensures in
     record {
       short = kept.short;
-      free = subst (λ (n : ℕ). IsUnlabelled n next.rest.now) (sym c.saturating_sub-known.ensures) (unlabelled_behind c.unlabelled-known.result l.rest.now cut.1 next.rest.now next.length cut.2.longest.split cut.4 c.unlabelled-known.ensures);
-      place = omega (arith, kept.place, c.in-Ok.ensures.shorter);
+      free = subst (λ (n : ℕ). IsUnlabelled n next.rest.now) (sym c.saturating_sub-known.ensures) (unlabelled_behind _ l.rest.now cut.1 next.rest.now next.length cut.2.longest.split cut.4 c.in-Ok.ensures.known);
+      place = omega (arith, kept.place, c.in-Ok.ensures.front.0);
       follows = λ a d.
           let word = later given.mode (sym cut.5) (ap (λ (n : ℕ). l.start + n) (sym cut.4)) refl d in
           let one = goes_on cut.0 cut.1 next.rest.now next.kind cut.2 cut.3 word in

@@ -1,10 +1,10 @@
-use Rattle.std.proofs.Common.{◌≡◌, ℕ, ◌-◌, length, Err, inr, sym, ◌∙◌, ap, subst, arith, length-append}
+use Rattle.std.proofs.Common.{ℕ, List, Ok, Err, inr, sym, ◌∙◌, ap, subst}
 use Rattle.std.proofs.lemmas.Result.{err_from_is_err_and}
-use Rattle.std.specs.Prelude.{◌==◌, slice_index}
+use Rattle.dt_lex.specs.Lexing.{IsCut}
 use Rattle.dt_lex.specs.Outcomes.{outcome}
 use Rattle.dt_lex.specs.Pieces.{IsWordOf}
 use Rattle.dt_lex.proofs.Cuts.{front_of, word_of}
-use Rattle.dt_lex.proofs.lexer.next_piece.Goals as goal
+use Rattle.dt_lex.proofs.lexer.ruled_piece.Goals as goal
 
 pub outcome-requires : goal.outcome-requires
 outcome-requires c =
@@ -26,14 +26,12 @@ pub returns-clause-exact : goal.returns-clause-exact
 returns-clause-exact c =
     let s = c.args.text.now in
     let cut = c.in-Some.ensures.exact in
-    let rest = c.in-Some.rest.now in
-    let same = front_of s cut.0 rest cut.1.longest.split in
-    let size : length cut.0 ≡ length s - length rest = omega (arith, ap length cut.1.longest.split, length-append cut.0 rest) in
-    let last : c.byte_at-fresh.result ≡ slice_index cut.0 (length cut.0 - 1) = c.byte_at-fresh.ensures ∙ (λ i. slice_index (same i) (sym size i - 1)) in (
+    let word = c.piece_of.ensures.word cut.0 cut.1.longest.split in
+    let rest = sym c.piece_of.ensures.rest in (
       c.in-Some.rule,
       cut.0,
-      cut.1,
-      ap (outcome c.in-Some.rule) (sym same) ∙ sym c.in_ok-kind.ensures,
-      size,
-      ap (λ (b : ℕ). b == 10) (sym last),
+      subst (λ (x : List ℕ). IsCut c.args.mode c.args.fresh s c.in-Some.rule cut.0 x) rest cut.1,
+      ap (outcome c.in-Some.rule) (sym (front_of s cut.0 c.in-Some.rest.now cut.1.longest.split)) ∙ sym c.in_ok-kind.ensures ∙ ap Ok (sym c.piece_of.ensures.kind),
+      word.0,
+      word.1,
     )
