@@ -1,9 +1,10 @@
 -- A text has one token list or one first fault, and what a word adds to it.
-use Rattle.std.proofs.Common.{◌≡◌, ℕ, ◌+◌, ◌<◌, ◌≤◌, Bool, List, [], ◌∷◌, ◌++◌, length, Option, Some, None, Ok, Err, ◌⊎◌, inl, inr, ⊎_elim, refl, sym, ◌∙◌, ap, subst, append_assoc, arith, length-append}
+use Rattle.std.proofs.Common.{◌≡◌, ℕ, ◌+◌, ◌-◌, ◌<◌, ◌≤◌, Bool, true, List, [], ◌∷◌, ◌++◌, length, Option, Some, None, Ok, Err, ◌⊎◌, inl, inr, ⊎_elim, refl, sym, ◌∙◌, ap, subst, append_assoc, arith, length-append}
 use Rattle.std.specs.Prelude.{slice_get}
 use Rattle.std.proofs.str.Laws.{order}
 use Rattle.dt_model.specs.Limits.{most_bytes}
 use Rattle.dt_lex.specs.declared.token.Mode.{Mode}
+use Rattle.dt_lex.specs.declared.token.Mode.TheVariants as mode
 use Rattle.dt_lex.specs.declared.token.TokenKind.{TokenKind}
 use Rattle.dt_lex.specs.declared.token.Token.{Token}
 use Rattle.dt_lex.specs.declared.token.Flaw.{Flaw}
@@ -118,6 +119,14 @@ fault_here m fresh at (b ∷ s) f e (inr h) = faulty h.0 h.1 h.2 h.3 h.4
 pub end_here : (m : Mode) (fresh : Bool) (at : ℕ) (s : List ℕ) → length s ≡ 0 → Lexes m fresh at s (Ok [])
 end_here m fresh at [] e = done
 end_here m fresh at (b ∷ s) e = absurd (omega arith)
+
+-- what holds behind blanks holds of the text
+pub behind : (m : Mode) {fresh before : Bool} (text rest front : List ℕ) (ts : List Token) → length rest ≤ length text → length front ≤ length rest
+    → ((a : Lexed) → Lexes m before (length text - length rest) rest a → Lexes mode.Name true 0 text (with_tokens ts a))
+    → ((n : Mode) (a : Lexed) (at to : ℕ) → at + length rest ≡ to + length front → Lexes n fresh to front a → Lexes n before at rest a)
+    → (a : Lexed) → Lexes m fresh (length text - length front) front a → Lexes mode.Name true 0 text (with_tokens ts a)
+behind m text rest front ts within shorter follows goes a d =
+    follows a (goes m a (length text - length rest) (length text - length front) (omega (arith, within, shorter)) d)
 
 -- ---- the places of tokens
 

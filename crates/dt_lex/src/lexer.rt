@@ -1,17 +1,20 @@
 //! A text, cut into tokens from its first byte to its last.
 
-ghost use Rattle.std.specs.Prelude.{◌≡◌, ◌<◌, ◌≤◌, ◌+◌, ◌^◌, ◌++◌, Ok, IfOk, IfErr, OnOk, length};
+ghost use Rattle.std.specs.Prelude.{◌≡◌, ℕ, ◌<◌, ◌≤◌, ◌+◌, ◌-◌, ◌^◌, ◌++◌, Ok, IfOk, IfErr, OnOk, length};
 ghost use Rattle.dt_model.specs.Limits.{most_bytes};
-ghost use Rattle.dt_lex.specs.Lexing.{IsLexed, WhyNotLexed};
+ghost use Rattle.dt_lex.specs.declared.token.Mode.{Mode};
+ghost use Rattle.dt_lex.specs.Lexing.{Lexed, Lexes, IsLexed, WhyNotLexed};
 ghost use Rattle.dt_lex.specs.Labels.{IsUnlabelled};
 ghost use Rattle.dt_lex.specs.Pieces.{IsPiece, IsFront, mode_after, tokens_of};
 ghost use Rattle.dt_lex.specs.Spans.{AreSpans, fault_of, no_memory};
 
+use crate::byte::Class;
 use crate::cut::cut;
 use crate::label::unlabelled;
 use crate::outcome::outcome;
 use crate::piece::{Piece, decided, piece_of};
 use crate::token::{Flaw, Mode, Token, TokenKind, mode_behind};
+use crate::word::after_run;
 use dt_names::limits::MOST_BYTES;
 use dt_names::{Fault, FaultKind};
 use std::alloc::Global;
@@ -29,23 +32,41 @@ fn ruled_piece(mode: Mode, fresh: bool, unlabelled: usize, text: &[u8]) -> Resul
     Ok(piece_of(kind, text, rest))
 }
 
-/// The word at the front, where so many bytes are known to begin no label; how many of them do is known then.
+/// Behind the blanks at the front: whether a line begins there, and the text.
+fn behind_blanks(fresh: bool, text: &[u8]) -> (bool, &[u8])
+    ensures goes_on { (m : Mode) (a : Lexed) (at to : ℕ) → at + length text.now ≡ to + length result.1.now →
+        Lexes m result.0 to result.1.now a → Lexes m fresh at text.now a }
+    ensures shorter { length result.1.now ≤ length text.now }
+    ensures labels { (unknown : ℕ) → IsUnlabelled (length text.now - unknown) text.now →
+        IsUnlabelled (length result.1.now - unknown) result.1.now }
+{
+    match after_run(text, Class::Blank) {
+        Some(rest) => {
+            let blanks = piece_of(None, text, rest);
+            (blanks.fresh, blanks.rest)
+        }
+        None => (fresh, text),
+    }
+}
+
+/// The word at the front, where no label begins but in the last so many bytes.
 fn next_piece<'a>(
     mode: Mode,
     fresh: bool,
-    known: &mut usize,
+    unknown: &mut usize,
     text: &'a [u8],
 ) -> Result<Piece<'a>, Flaw>
-    requires { IsUnlabelled known.old text.now }
+    requires { IsUnlabelled (length text.now - unknown.old) text.now }
     ensures exact { IsPiece mode fresh text.now result }
     ensures front { IfOk result (IsFront text.now) }
-    ensures known { IsUnlabelled known.new text.now }
+    ensures labels { IsUnlabelled (length text.now - unknown.new) text.now }
 {
     if let Some(found) = decided(mode, fresh, text) {
         return Ok(found);
     }
-    *known = unlabelled(text, *known);
-    ruled_piece(mode, fresh, *known, text)
+    let known = unlabelled(text, text.len().saturating_sub(*unknown));
+    *unknown = text.len().saturating_sub(known);
+    ruled_piece(mode, fresh, known, text)
 }
 
 /// Appends the token that a word gives, if it gives one, and answers the mode behind it.
@@ -105,19 +126,20 @@ pub fn tokens(alloc: Global, text: &[u8]) -> Result<Vec<Token>, Fault>
     let mut out = Vec::new(alloc);
     let mut mode = Mode::Name;
     let mut fresh = true;
-    let mut start = 0;
-    let mut known = 0;
+    let mut unknown = text.len();
     let mut rest = text;
-    while !rest.is_empty() {
-        let next = match next_piece(mode, fresh, &mut known, rest) {
+    loop {
+        (fresh, rest) = behind_blanks(fresh, rest);
+        if rest.is_empty() {
+            return Ok(out);
+        }
+        let start = text.len() - rest.len();
+        let next = match next_piece(mode, fresh, &mut unknown, rest) {
             Ok(next) => next,
             Err(flaw) => return Err(fault_at(flaw, start)),
         };
         mode = give(&mut out, mode, next.kind, start, next.length)?;
-        start += next.length;
-        known = known.saturating_sub(next.length);
         fresh = next.fresh;
         rest = next.rest;
     }
-    Ok(out)
 }

@@ -65,14 +65,11 @@ fn sole_mark(first: u8, second: u8) -> Option<Mark>
     }
 }
 
-/// Blanks, or a mark of one byte.
-fn blanks_or_mark(text: &[u8]) -> Option<Piece<'_>>
+/// A mark of one byte.
+fn lone_mark(text: &[u8]) -> Option<Piece<'_>>
     ensures exact { IfSome result (λ p. (m : Mode) → IsDecided m text.now p) }
     ensures front { IfSome result (IsFront text.now) }
 {
-    if let Some(rest) = after_run(text, Class::Blank) {
-        return Some(piece_of(None, text, rest));
-    }
     let (first, rest) = split(text)?;
     let mark = sole_mark(first, byte_at(rest, 0))?;
     Some(piece_of(Some(TokenKind::Mark(mark)), text, rest))
@@ -209,7 +206,7 @@ pub(crate) fn decided(mode: Mode, fresh: bool, text: &[u8]) -> Option<Piece<'_>>
     ensures exact { IfSome result (λ p. IsPiece mode fresh text.now (Ok p)) }
     ensures front { IfSome result (IsFront text.now) }
 {
-    if let Some(found) = blanks_or_mark(text) {
+    if let Some(found) = lone_mark(text) {
         return Some(found);
     }
     match mode {

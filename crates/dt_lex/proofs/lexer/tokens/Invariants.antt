@@ -1,4 +1,4 @@
-use Rattle.std.proofs.Common.{◌≡◌, ◌+◌, ◌≤◌, length, true}
+use Rattle.std.proofs.Common.{◌-◌, ◌≤◌, length, true}
 use Rattle.dt_model.specs.Limits.{most_bytes}
 use Rattle.dt_lex.specs.declared.token.Mode.TheVariants as mode
 use Rattle.dt_lex.specs.Lexing.{Lexed, Lexes, with_tokens}
@@ -9,9 +9,9 @@ use Rattle.dt_lex.proofs.lexer.tokens.Given as goal
 abbrev pub invariant-loop-rest : goal.invariant-loop-rest
 invariant-loop-rest l = record {
   short : length l.text ≤ most_bytes;
-  free : IsUnlabelled l.known l.rest;
-  place : l.start + length l.rest ≡ length l.text;
-  follows : (a : Lexed) → Lexes l.mode l.fresh l.start l.rest a → Lexes mode.Name true 0 l.text (with_tokens l.out.items a);
+  within : length l.rest ≤ length l.text;
+  free : IsUnlabelled (length l.rest - l.unknown) l.rest;
+  follows : (a : Lexed) → Lexes l.mode l.fresh (length l.text - length l.rest) l.rest a → Lexes mode.Name true 0 l.text (with_tokens l.out.items a);
 }
 
 abbrev pub decreases-loop-rest : goal.decreases-loop-rest
