@@ -1,9 +1,11 @@
 -- Words that their first bytes decide.
-use Rattle.std.proofs.Common.{◌≡◌, ◌≢◌, ℕ, zero, suc, ◌<◌, Bool, true, false, List, [], ◌∷◌, ◌++◌, length, Option, Some, None, Ok, refl, sym, ◌∙◌, ap, subst, append_assoc, arith}
+use Rattle.std.proofs.Common.{◌≡◌, ◌≢◌, ℕ, zero, suc, ◌<◌, ◌≤◌, Bool, true, false, List, [], ◌∷◌, ◌++◌, length, Option, Some, None, Ok, refl, sym, ◌∙◌, ap, subst, append_assoc, arith, length-append, drop}
 use Rattle.std.specs.Prelude.{IfSome, ◌==◌, ◌&&◌, not, if◌then◌else◌, slice_get, slice_index}
 use Rattle.std.specs.List.{filter}
 use Rattle.std.proofs.lemmas.Bool.{eqb-true}
 use Rattle.std.proofs.lemmas.Bool.Decides.{nat_tests}
+use Rattle.std.specs.Borrow.{Bor}
+use Rattle.dt_lex.specs.declared.byte.Class.{Class}
 use Rattle.dt_lex.specs.declared.byte.Class.TheVariants as class
 use Rattle.dt_lex.specs.declared.token.Mode.{Mode}
 use Rattle.dt_lex.specs.declared.token.Mode.TheVariants as mode
@@ -18,7 +20,8 @@ use Rattle.dt_lex.specs.declared.rule.Rule.TheVariants as rule
 use Rattle.dt_lex.specs.Bytes.{is_in}
 use Rattle.dt_lex.specs.Modes.{mark_bytes}
 use Rattle.dt_lex.specs.Words.{Each, Word, One, Begins, Starting, Then, Stops, RunsTo, IsLongestWord, NoneFits}
-use Rattle.dt_lex.specs.Vocabulary.{Digits, LabelWord}
+use Rattle.dt_lex.specs.Numbers.{digit_of, digits, base_of}
+use Rattle.dt_lex.specs.Vocabulary.{Digits, IsDigits, IntegerSuffix, Hexadecimal, LabelWord}
 use Rattle.dt_lex.specs.Rules.{words, allowed, In, rules}
 use Rattle.dt_lex.specs.Outcomes.{outcome}
 use Rattle.dt_lex.specs.Leaders.{leaders, leader_in, leader_of, leads}
@@ -26,7 +29,8 @@ use Rattle.dt_lex.specs.Lexing.{IsCut, ends_line}
 use Rattle.dt_lex.specs.Pieces.{IsPiece, IsDecided, IsSole, ArePairs}
 use Rattle.dt_lex.proofs.Cuts.{cut_here}
 use Rattle.dt_lex.proofs.LabelLemmas.{no_label}
-use Rattle.dt_lex.proofs.WordLemmas.{begins_of, word_some, no_first, not_starting, same_tail}
+use Rattle.dt_lex.proofs.QuotedLemmas.{same_front}
+use Rattle.dt_lex.proofs.WordLemmas.{begins_of, word_some, no_first, not_starting, same_tail, starting, then_each, digits_stop, runs_shorter, word_then, word_split}
 
 -- a piece of a cut
 pub piece_is : (m : Mode) (fresh : Bool) (s : List ℕ) (r : Rule) (w rest : List ℕ) (k : Option TokenKind) (p : Piece) → IsCut m fresh s r w rest → outcome r w ≡ Ok k → p.kind ≡ k → p.rest.now ≡ rest
@@ -286,3 +290,47 @@ byte_cut s w rest ends no_colon l short fresh = by (slice_index s 0 == 48) refl
 pub decided_here : (m here : Mode) (fresh : Bool) (s : List ℕ) (r : Option Piece) → here ≡ m → IfSome r (IsDecided m s) → IfSome r (λ p. IsPiece here fresh s (Ok p))
 decided_here m here fresh s None is h = tt
 decided_here m here fresh s (Some p) is h = subst (λ (x : Mode). IsPiece x fresh s (Ok p)) (sym is) (h fresh)
+
+-- ---- the digits of an integer
+
+-- a front of a text is known by the rest
+front_is : (s w v rest : List ℕ) → s ≡ w ++ rest → s ≡ v ++ rest → w ≡ v
+front_is s w v rest e f = (same_front w v rest rest (sym e ∙ f) (omega (arith, ap length (sym e ∙ f), length-append w rest, length-append v rest))).0
+
+digits_front : (p : ℕ → Bool) (u z : List ℕ) → Each p u → Stops p z → digits p (u ++ z) ≡ digits p u
+digits_front p [] [] each stops = refl
+digits_front p [] (b ∷ z) each stops = rw stops refl
+digits_front p (b ∷ u) z (is, each) stops = rw is (ap (λ (ds : List ℕ). digit_of b ∷ ds) (digits_front p u z each stops))
+
+-- a run of digits and a suffix are an integer's digits, which are those of the text
+pub integer_word : (c : Class) → IsDigits c → (s : List ℕ) (suffix rest : Bor (List ℕ)) → Begins (is_in c) s → RunsTo (is_in c) s suffix.now → length rest.now ≤ length suffix.now → (z : List ℕ) × IsLongestWord IntegerSuffix suffix.now z rest.now
+    → (w : List ℕ) × IsLongestWord (Digits c) s w rest.now × (digits (is_in c) w ≡ digits (is_in c) s)
+integer_word c h s suffix rest b runs within ending =
+    let p = is_in c in
+    let short = runs_shorter p p (λ x k. k) s suffix.now b runs in
+    let less : length rest.now < length s = omega (arith, short, within) in
+    let word = starting p (Then (Each p) IntegerSuffix) s b (Some rest) less (then_each p IntegerSuffix (digits_stop c h) s suffix.now runs (Some rest) ending) in
+    let same = front_is s word.0 (runs.0 ++ ending.0) rest.now word.1.split (runs.1 ∙ ap (λ (x : List ℕ). runs.0 ++ x) ending.1.split ∙ sym (append_assoc runs.0 ending.0 rest.now)) in
+    (word.0, word.1, ap (digits p) same ∙ digits_front p runs.0 ending.0 runs.2 (digits_stop c h ending.0 ending.1.fits) ∙ sym (ap (digits p) runs.1 ∙ digits_front p runs.0 suffix.now runs.2 runs.3))
+
+-- the same behind a prefix of two bytes
+pub prefixed_word : (a b : ℕ) (s t : List ℕ) (rest : Bor (List ℕ)) → (k : List ℕ) × IsLongestWord (Word (a ∷ b ∷ [])) s k t → (n : List ℕ) → IsLongestWord (Digits class.Hex) t n rest.now
+    → (w : List ℕ) × IsLongestWord (Hexadecimal (a ∷ b ∷ [])) s w rest.now × (drop 2 w ≡ n)
+prefixed_word a b s t rest prefix n l =
+    let word = word_then (Digits class.Hex) (a ∷ b ∷ []) s t prefix (Some rest) (n, l) in
+    let same = front_is s word.0 (a ∷ b ∷ n) rest.now word.1.split (word_split (a ∷ b ∷ []) s t prefix ∙ ap (λ (x : List ℕ). a ∷ b ∷ x) l.split) in
+    (word.0, word.1, ap (drop 2) same)
+
+pub base_front : (s w rest : List ℕ) → s ≡ w ++ rest → 0 < length w → base_of w ≡ base_of s
+base_front s [] rest e some = absurd (omega (arith, some))
+base_front s (b ∷ w) rest e some = sym (ap base_of e)
+
+pub some_digit : (p : ℕ → Bool) (w : List ℕ) → Begins p w → 0 < length w
+some_digit p [] h = absurd h
+some_digit p (b ∷ w) h = omega arith
+
+pub some_prefixed : (a : ℕ) (k : List ℕ) (Q : List ℕ → Type 0) (w : List ℕ) → Then (Word (a ∷ k)) Q w → 0 < length w
+some_prefixed a k Q w (u, v, e, f, g) = omega (arith, ap length e, ap length f, length-append u v)
+
+pub shorter_rest : (s w rest : List ℕ) → s ≡ w ++ rest → 0 < length w → length rest < length s
+shorter_rest s w rest e some = omega (arith, some, ap length e, length-append w rest)

@@ -1,5 +1,6 @@
 pub mod Tables
 pub mod WordLemmas
+pub mod LineLemmas
 pub mod QuotedLemmas
 pub mod LetterLemmas
 pub mod LabelLemmas

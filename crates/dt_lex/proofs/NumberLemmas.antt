@@ -55,3 +55,15 @@ none_if false n e = refl
 
 pub scaled_none : (v b d e : ℕ) → d ≡ e → None ≡ (if nat_lt (v * b + d) (2 ^ 64) then Some (v * b + d) else None) → nat_lt (v * b + e) (2 ^ 64) ≡ false
 scaled_none v b d e h n = ap (λ (x : ℕ). nat_lt (v * b + x) (2 ^ 64)) (sym h) ∙ none_if _ _ n
+
+some_if : (b : Bool) (m n : ℕ) → Some m ≡ (if b then Some n else None) → (b ≡ true) × (m ≡ n)
+some_if true m n e = (refl, cc)
+some_if false m n e = cc
+
+pub scaled_some : (v b d e m : ℕ) → d ≡ e → Some m ≡ (if nat_lt (v * b + d) (2 ^ 64) then Some (v * b + d) else None) → (nat_lt (v * b + e) (2 ^ 64) ≡ true) × (m ≡ v * b + e)
+scaled_some v b d e m h n =
+    let is = some_if _ _ _ n in
+    (ap (λ (x : ℕ). nat_lt (v * b + x) (2 ^ 64)) (sym h) ∙ is.0, is.1 ∙ ap (λ (x : ℕ). v * b + x) h)
+
+pub value_next : (base n d m : ℕ) (ds : List ℕ) → d < base → (nat_lt (n * base + d) (2 ^ 64) ≡ true) × (m ≡ n * base + d) → value_at base n (d ∷ ds) ≡ value_at base m ds
+value_next base n d m ds h is = rw (lt-ltb d base h, is.0) (ap (λ (x : ℕ). value_at base x ds) (sym is.1))

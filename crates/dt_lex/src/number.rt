@@ -1,10 +1,11 @@
 //! The numbers that digits spell.
 
-ghost use Rattle.std.specs.Prelude.{◌≡◌, ◌<◌, ◌≤◌, ◌+◌, ◌*◌, ◌^◌, true, Some, None, if◌then◌else◌, nat_lt};
+ghost use Rattle.std.specs.Prelude.{◌≡◌, ◌<◌, ◌≤◌, ◌+◌, ◌*◌, ◌^◌, true, Some, None, IfSome, option_map, if◌then◌else◌, nat_lt};
 ghost use Rattle.dt_lex.specs.declared.byte.Class.TheVariants as class;
 ghost use Rattle.dt_lex.specs.Bytes.{is_in};
 ghost use Rattle.dt_lex.specs.Numbers.{digit_of, digits, integer_of, base_of};
 ghost use Rattle.dt_lex.specs.Vocabulary.{IsDigits};
+ghost use Rattle.dt_lex.specs.Words.{RunsTo};
 
 use crate::byte::{Class, is_in};
 use crate::word::split;
@@ -31,17 +32,19 @@ fn scaled(value: u64, base: u64, digit: u64) -> Option<u64>
     value.checked_mul(base)?.checked_add(digit)
 }
 
-/// The number that the digits of a class at the front spell.
-pub(crate) fn integer(word: &[u8], class: Class, base: u64) -> Option<u64>
+/// The number that the digits of a class at the front spell, and the text after them; None where one isn't of the base, or 64 bits don't hold
+/// the number.
+pub(crate) fn read_integer(text: &[u8], class: Class, base: u64) -> Option<(u64, &[u8])>
     requires class { IsDigits class }
     requires base { 2 ≤ base }
-    ensures { result ≡ integer_of base (digits (is_in class) word.now) }
+    ensures value { option_map (λ read. read.0) result ≡ integer_of base (digits (is_in class) text.now) }
+    ensures rest { IfSome result (λ read. RunsTo (is_in class) text.now read.1.now) }
 {
-    let mut rest = word;
+    let mut rest = text;
     let mut value = 0;
     while let Some((first, later)) = split(rest) {
         if !is_in(class, first) {
-            return Some(value);
+            return Some((value, rest));
         }
         let digit = digit_of(first);
         if digit >= base {
@@ -53,6 +56,16 @@ pub(crate) fn integer(word: &[u8], class: Class, base: u64) -> Option<u64>
         value = more;
         rest = later;
     }
+    Some((value, rest))
+}
+
+/// The number that the digits of a class at the front spell.
+pub(crate) fn integer(word: &[u8], class: Class, base: u64) -> Option<u64>
+    requires class { IsDigits class }
+    requires base { 2 ≤ base }
+    ensures { result ≡ integer_of base (digits (is_in class) word.now) }
+{
+    let (value, _) = read_integer(word, class, base)?;
     Some(value)
 }
 

@@ -13,7 +13,7 @@ use crate::rule::Rule;
 use crate::token::{Flaw, TokenKind};
 
 /// A word without its first two bytes.
-pub(crate) fn behind_prefix(word: &[u8]) -> &[u8]
+fn behind_prefix(word: &[u8]) -> &[u8]
     ensures { result.now ≡ drop 2 word.now }
 {
     if word.len() < 2 {

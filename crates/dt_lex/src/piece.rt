@@ -1,18 +1,18 @@
 //! Words that their first bytes decide, whatever other rules there are: almost all words of a source. Each function answers None where it isn't so.
 
-ghost use Rattle.std.specs.Prelude.{◌≡◌, ℕ, List, ◌++◌, ◌+◌, ◌<◌, false, Ok, IfSome, length};
+ghost use Rattle.std.specs.Prelude.{◌≡◌, ℕ, List, ◌++◌, ◌+◌, ◌<◌, false, true, Ok, IfSome, length};
 ghost use Rattle.dt_lex.specs.declared.token.Mode.{Mode};
 ghost use Rattle.dt_lex.specs.declared.token.Mode.TheVariants as mode;
 ghost use Rattle.dt_lex.specs.Lexing.{ends_line};
 ghost use Rattle.dt_lex.specs.Pieces.{IsBehindNames, IsDecided, IsFront, IsPiece, IsSole};
 
 use crate::byte::Class;
-use crate::number::{base_of, integer};
-use crate::outcome::{behind_prefix, byte_at, byte_of};
+use crate::number::{base_of, read_integer};
+use crate::outcome::{byte_at, byte_of};
 use crate::quoted::after_text;
 use crate::token::{Mark, Mode, TokenKind};
 use crate::word::{
-    after_all, after_byte, after_digits, after_hexadecimal, after_label_reference, after_run,
+    after_all, after_byte, after_label_reference, after_line_marker, after_run, after_suffix,
     after_word, begins, split,
 };
 
@@ -104,9 +104,12 @@ fn hexadecimal(text: &[u8]) -> Option<Piece<'_>>
     ensures exact { IfSome result (IsDecided mode.Plain text.now) }
     ensures front { IfSome result (IsFront text.now) }
 {
-    let rest = after_hexadecimal(text, b"0x")?;
-    let word = &text[..text.len() - rest.len()];
-    let value = integer(behind_prefix(word), Class::Hex, 16)?;
+    let digits = after_word(text, b"0x")?;
+    if !begins(digits, Class::Hex) {
+        return None;
+    }
+    let (value, suffix) = read_integer(digits, Class::Hex, 16)?;
+    let rest = after_suffix(suffix)?;
     Some(piece_of(Some(TokenKind::Integer(value)), text, rest))
 }
 
@@ -120,9 +123,11 @@ fn decimal(text: &[u8]) -> Option<Piece<'_>>
     if second == b'x' || second == b'X' {
         return None;
     }
-    let rest = after_digits(text, Class::Digit)?;
-    let word = &text[..text.len() - rest.len()];
-    let value = integer(word, Class::Digit, base_of(word))?;
+    if !begins(text, Class::Digit) {
+        return None;
+    }
+    let (value, suffix) = read_integer(text, Class::Digit, base_of(text))?;
+    let rest = after_suffix(suffix)?;
     Some(piece_of(Some(TokenKind::Integer(value)), text, rest))
 }
 
@@ -201,6 +206,15 @@ fn hashed_name(text: &[u8]) -> Option<Piece<'_>>
     Some(piece_of(Some(TokenKind::Name), text, rest))
 }
 
+/// A line marker, in the mode of names, where a line begins.
+fn line_marker(text: &[u8]) -> Option<Piece<'_>>
+    ensures exact { IfSome result (λ p. IsPiece mode.Name true text.now (Ok p)) }
+    ensures front { IfSome result (IsFront text.now) }
+{
+    let rest = after_line_marker(text, b"#")?;
+    Some(piece_of(None, text, rest))
+}
+
 /// The word at the front, where its first bytes decide it.
 pub(crate) fn decided(mode: Mode, fresh: bool, text: &[u8]) -> Option<Piece<'_>>
     ensures exact { IfSome result (λ p. IsPiece mode fresh text.now (Ok p)) }
@@ -211,7 +225,8 @@ pub(crate) fn decided(mode: Mode, fresh: bool, text: &[u8]) -> Option<Piece<'_>>
     }
     match mode {
         Mode::Name => match label_or_name(text) {
-            None if !fresh => hashed_name(text),
+            None if fresh => line_marker(text),
+            None => hashed_name(text),
             found => found,
         },
         Mode::Bytes => byte(text),

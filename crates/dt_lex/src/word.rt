@@ -1,11 +1,13 @@
 //! The longest front of a text that is in a set of words. Each function answers the text after it.
 
 ghost use Rattle.std.specs.Prelude.{◌≡◌, ◌<◌, ◌≤◌, ◌+◌, ◌∷◌, [], ◌↔◌, IsTrue, IfSome, IfNone, length};
+ghost use Rattle.dt_lex.specs.declared.byte.Class.TheVariants as class;
 ghost use Rattle.dt_lex.specs.Bytes.{is_in};
 ghost use Rattle.dt_lex.specs.Words.{Word, Begins, Skips, RunsTo};
 ghost use Rattle.dt_lex.specs.Vocabulary.{Run, Closing, IntegerSuffix, Digits, IsDigits, Hexadecimal, BlockComment, LineComment, LineMarker, Identifier, LabelWord, LabelReference, PathReference, ByteWord};
 
 use crate::byte::{Class, is_in};
+use memchr::memchr;
 
 /// The first byte, and the text after it.
 pub(crate) fn split(text: &[u8]) -> Option<(u8, &[u8])>
@@ -51,6 +53,17 @@ pub(crate) fn after_all(text: &[u8], class: Class) -> &[u8]
     rest
 }
 
+/// After the rest of a line.
+pub(crate) fn after_line(text: &[u8]) -> &[u8]
+    ensures exact { RunsTo (is_in class.Line) text.now result.now }
+    ensures shorter { length result.now ≤ length text.now }
+{
+    match memchr(b'\n', text) {
+        Some(place) => &text[place..],
+        None => &text[text.len()..],
+    }
+}
+
 /// After one or more bytes of a class.
 pub(crate) fn after_run(text: &[u8], class: Class) -> Option<&[u8]>
     ensures exact { Skips (Run class) text.now result }
@@ -90,7 +103,7 @@ pub(crate) fn after_line_comment(text: &[u8]) -> Option<&[u8]>
     ensures exact { Skips LineComment text.now result }
     ensures shorter { IfSome result (λ rest. length rest.now < length text.now) }
 {
-    Some(after_all(after_word(text, b"//")?, Class::Line))
+    Some(after_line(after_word(text, b"//")?))
 }
 
 /// After the suffix of an integer, which may be empty.
@@ -163,7 +176,7 @@ pub(crate) fn after_line_marker<'a>(text: &'a [u8], opening: &[u8]) -> Option<&'
     if !begins(number, Class::Digit) {
         return None;
     }
-    Some(after_all(number, Class::Line))
+    Some(after_line(number))
 }
 
 /// After letters, digits and `_`, of which the first is no digit.

@@ -32,11 +32,11 @@ pub returns-clause-exact : goal.returns-clause-exact
 returns-clause-exact c =
     let t = c.in_ok-blanks.blanks.now in
     let number = c.after_all-number.result.now in
-    let rest = c.after_all.result in
+    let rest = c.after_line.result in
     let b = c.begins.ensures.0 c.if-not-begins.false in
     let d = c.begins-2.ensures.0 c.if-not-begins-2.false in
     let blank = is_in class.LineBlank in
-    let short = runs_shorter (is_in class.Line) (is_in class.Digit) digit_in_line number rest.now d c.after_all.ensures.exact in
+    let short = runs_shorter (is_in class.Line) (is_in class.Digit) digit_in_line number rest.now d c.after_line.ensures.exact in
     word_then marked c.args.opening.now c.args.text.now t c.in_ok-blanks.ensures.exact (Some rest)
     (then_run blank blank (λ x h. h) numbered blanks_stop t number b c.after_all-number.ensures.exact (Some rest)
-    (starting (is_in class.Digit) (Each (is_in class.Line)) number d (Some rest) short (all_some (is_in class.Line) number rest c.after_all.ensures.exact)))
+    (starting (is_in class.Digit) (Each (is_in class.Line)) number d (Some rest) short (all_some (is_in class.Line) number rest c.after_line.ensures.exact)))
