@@ -1,6 +1,6 @@
 -- Words that their first bytes decide.
 use Rattle.std.proofs.Common.{◌≡◌, ◌≢◌, ℕ, zero, suc, ◌<◌, ◌≤◌, Bool, true, false, List, [], ◌∷◌, ◌++◌, length, Option, Some, None, Ok, refl, sym, ◌∙◌, ap, subst, append_assoc, arith, length-append, drop}
-use Rattle.std.specs.Prelude.{IfSome, ◌==◌, ◌&&◌, not, if◌then◌else◌, slice_get, slice_index}
+use Rattle.std.specs.Prelude.{codes, IfSome, ◌==◌, ◌&&◌, not, if◌then◌else◌, slice_get, slice_index}
 use Rattle.std.specs.List.{filter}
 use Rattle.std.proofs.lemmas.Bool.{eqb-true}
 use Rattle.std.proofs.lemmas.Bool.Decides.{nat_tests}
@@ -10,6 +10,9 @@ use Rattle.dt_lex.specs.declared.byte.Class.TheVariants as class
 use Rattle.dt_lex.specs.declared.token.Mode.{Mode}
 use Rattle.dt_lex.specs.declared.token.Mode.TheVariants as mode
 use Rattle.dt_lex.specs.declared.token.Mark.{Mark}
+use Rattle.dt_lex.specs.declared.token.Keyword.{Keyword}
+use Rattle.dt_lex.specs.declared.token.Keyword.TheVariants as keyword
+use Rattle.dt_lex.specs.declared.rule.Directive.TheVariants as directive
 use Rattle.dt_lex.specs.declared.token.Mark.TheVariants as mark
 use Rattle.dt_lex.specs.declared.token.TokenKind.{TokenKind}
 use Rattle.dt_lex.specs.declared.leader.Leader.{Leader}
@@ -18,7 +21,7 @@ use Rattle.dt_lex.specs.declared.piece.Piece.{Piece}
 use Rattle.dt_lex.specs.declared.rule.Rule.{Rule}
 use Rattle.dt_lex.specs.declared.rule.Rule.TheVariants as rule
 use Rattle.dt_lex.specs.Bytes.{is_in}
-use Rattle.dt_lex.specs.Modes.{mark_bytes}
+use Rattle.dt_lex.specs.Modes.{mark_bytes, keyword_bytes}
 use Rattle.dt_lex.specs.Words.{Each, Word, One, Begins, Starting, Then, Stops, RunsTo, IsLongestWord, NoneFits}
 use Rattle.dt_lex.specs.Numbers.{digit_of, digits, base_of}
 use Rattle.dt_lex.specs.Vocabulary.{Digits, IsDigits, IntegerSuffix, Hexadecimal, LabelWord}
@@ -26,7 +29,7 @@ use Rattle.dt_lex.specs.Rules.{words, allowed, In, rules}
 use Rattle.dt_lex.specs.Outcomes.{outcome}
 use Rattle.dt_lex.specs.Leaders.{leaders, leader_in, leader_of, leads}
 use Rattle.dt_lex.specs.Lexing.{IsCut, ends_line}
-use Rattle.dt_lex.specs.Pieces.{IsPiece, IsDecided, IsSole, ArePairs}
+use Rattle.dt_lex.specs.Pieces.{IsPiece, IsDecided, IsSole, ArePairs, BeginsBy, AreApart, IsLedBy}
 use Rattle.dt_lex.proofs.Cuts.{cut_here}
 use Rattle.dt_lex.proofs.LabelLemmas.{no_label}
 use Rattle.dt_lex.proofs.QuotedLemmas.{same_front}
@@ -334,3 +337,73 @@ some_prefixed a k Q w (u, v, e, f, g) = omega (arith, ap length e, ap length f, 
 
 pub shorter_rest : (s w rest : List ℕ) → s ≡ w ++ rest → 0 < length w → length rest < length s
 shorter_rest s w rest e some = omega (arith, some, ap length e, length-append w rest)
+
+-- ---- keywords
+
+block_comment : BeginsBy 42 rule.BlockComment
+block_comment w (u, v, e, f, g) = (v, e ∙ ap (λ (x : List ℕ). x ++ v) f)
+
+open_comment : BeginsBy 42 rule.OpenComment
+open_comment w f = ([], f)
+
+line_comment : BeginsBy 47 rule.LineComment
+line_comment w (u, v, e, f, g) = (v, e ∙ ap (λ (x : List ℕ). x ++ v) f)
+
+by_keyword : (k : Keyword) (d : ℕ) (t : List ℕ) → keyword_bytes k ≡ 47 ∷ d ∷ t → BeginsBy d (rule.Keyword k)
+by_keyword k d t bytes w f = (t, f ∙ bytes)
+
+pub memreserve : (c : ℕ) → c ≡ 109 → IsLedBy c keyword.Memreserve
+memreserve c is = record {
+  before = rule.BlockComment ∷ rule.OpenComment ∷ rule.LineComment ∷ rule.Keyword keyword.Version ∷ rule.Keyword keyword.Plugin ∷ [];
+  behind = rule.Keyword keyword.Bits ∷ rule.Keyword keyword.DeleteNode ∷ rule.Keyword keyword.DeleteProperty ∷ rule.Directive directive.Include ∷ rule.Directive directive.Incbin ∷ rule.Directive directive.OmitIfNoRef ∷ rule.Mark mark.Slash ∷ [];
+  tried = refl;
+  apart = (
+    (42, block_comment, λ e. omega (arith, is, e)),
+    (
+      (42, open_comment, λ e. omega (arith, is, e)),
+      (
+        (47, line_comment, λ e. omega (arith, is, e)),
+        ((100, by_keyword keyword.Version 100 (codes "ts-v1/") refl, λ e. omega (arith, is, e)), ((112, by_keyword keyword.Plugin 112 (codes "lugin/") refl, λ e. omega (arith, is, e)), tt)),
+      ),
+    ),
+  );
+}
+
+pub bits : (c : ℕ) → c ≡ 98 → IsLedBy c keyword.Bits
+bits c is = record {
+  before = rule.BlockComment ∷ rule.OpenComment ∷ rule.LineComment ∷ rule.Keyword keyword.Version ∷ rule.Keyword keyword.Plugin ∷ rule.Keyword keyword.Memreserve ∷ [];
+  behind = rule.Keyword keyword.DeleteNode ∷ rule.Keyword keyword.DeleteProperty ∷ rule.Directive directive.Include ∷ rule.Directive directive.Incbin ∷ rule.Directive directive.OmitIfNoRef ∷ rule.Mark mark.Slash ∷ [];
+  tried = refl;
+  apart = (
+    (42, block_comment, λ e. omega (arith, is, e)),
+    (
+      (42, open_comment, λ e. omega (arith, is, e)),
+      (
+        (47, line_comment, λ e. omega (arith, is, e)),
+        (
+          (100, by_keyword keyword.Version 100 (codes "ts-v1/") refl, λ e. omega (arith, is, e)),
+          (
+            (112, by_keyword keyword.Plugin 112 (codes "lugin/") refl, λ e. omega (arith, is, e)),
+            ((109, by_keyword keyword.Memreserve 109 (codes "emreserve/") refl, λ e. omega (arith, is, e)), tt),
+          ),
+        ),
+      ),
+    ),
+  );
+}
+
+none_apart : (m : Mode) (fresh : Bool) (s behind : List ℕ) (c : ℕ) → s ≡ 47 ∷ behind → slice_index behind 0 ≡ c → (qs : List Rule) → AreApart c qs → NoneOf m fresh s qs
+none_apart m fresh s behind c e at [] apart = tt
+none_apart m fresh s behind c e at (q ∷ qs) ((d, begins, other), apart) = (not_here m fresh s q none, none_apart m fresh s behind c e at qs apart)
+  where
+    none : NoneFits (words q) s
+    none v more f g =
+        let front = begins v g in
+        let whole : 47 ∷ behind ≡ 47 ∷ d ∷ (front.0 ++ more) = sym e ∙ f ∙ ap (λ (x : List ℕ). x ++ more) front.1 in
+        other (sym at ∙ ap (λ (x : List ℕ). slice_index x 0) (same_tail 47 47 behind (d ∷ (front.0 ++ more)) whole))
+
+pub keyword_cut : (m : Mode) (fresh : Bool) (s behind : List ℕ) (first c : ℕ) (k : Keyword) → s ≡ first ∷ behind → first ≡ 47 → slice_index behind 0 ≡ c → IsLedBy c k → (w rest : List ℕ) → IsLongestWord (words (rule.Keyword k)) s w rest → length rest < length s
+    → IsCut m fresh s (rule.Keyword k) w rest
+keyword_cut m fresh s behind first c k e slash at led w rest l short =
+    let starts = e ∙ ap (λ (b : ℕ). b ∷ behind) slash in
+    cut_behind m fresh s led.before (rule.Keyword k) led.behind (led.tried ∙ ap (λ (x : List ℕ). filter (leads (leader_of (slice_index x 0))) rules) (sym starts)) (none_apart m fresh s behind c starts at led.before led.apart) refl w rest l short

@@ -12,6 +12,8 @@ use Rattle.dt_lex.specs.declared.rule.Rule.TheVariants as rule
 use Rattle.dt_lex.specs.declared.piece.Piece.{Piece}
 use Rattle.dt_lex.specs.Modes as modes
 use Rattle.dt_lex.specs.declared.token.Mark.{Mark}
+use Rattle.dt_lex.specs.declared.token.Keyword.{Keyword}
+use Rattle.dt_lex.specs.declared.leader.Leader.TheVariants as leader
 use Rattle.dt_lex.specs.Rules.{words, rules}
 use Rattle.dt_lex.specs.Modes.{mark_bytes}
 use Rattle.dt_lex.specs.Leaders.{leader_of, leads}
@@ -53,6 +55,22 @@ IsFront s p = (p.length + length p.rest.now ≡ length s) × (0 < p.length)
 -- the piece is the next cut in this mode, at the first byte of a line and elsewhere
 abbrev pub IsDecided : Mode → List ℕ → Piece → Type 0
 IsDecided m s p = (fresh : Bool) → IsPiece m fresh s (Ok p)
+
+-- the words of a rule begin with `/` and this byte
+abbrev pub BeginsBy : ℕ → Rule → Type 0
+BeginsBy d q = (w : List ℕ) → words q w → (t : List ℕ) × (w ≡ 47 ∷ d ∷ t)
+
+-- the words of each of these rules begin with `/` and another byte than c
+abbrev pub AreApart : ℕ → List Rule → Type 0
+AreApart c [] = Unit {0}
+AreApart c (q ∷ qs) = ((d : ℕ) × BeginsBy d q × (c ≢ d)) × AreApart c qs
+
+-- of the rules whose words may begin with `/`, those before the keyword's have no word that begins with `/` and c
+pub record IsLedBy (c : ℕ) (k : Keyword) : Type 0 where
+  pub before : List Rule
+  pub behind : List Rule
+  pub tried : before ++ rule.Keyword k ∷ behind ≡ filter (leads leader.Slash) rules
+  pub apart : AreApart c before
 
 -- the mark is the byte b, and of the rules whose words may begin so its own comes behind that of names alone
 abbrev pub IsBehindNames : ℕ → Mark → Type 0

@@ -4,13 +4,13 @@ ghost use Rattle.std.specs.Prelude.{◌≡◌, ℕ, List, ◌++◌, ◌+◌, ◌
 ghost use Rattle.dt_lex.specs.declared.token.Mode.{Mode};
 ghost use Rattle.dt_lex.specs.declared.token.Mode.TheVariants as mode;
 ghost use Rattle.dt_lex.specs.Lexing.{ends_line};
-ghost use Rattle.dt_lex.specs.Pieces.{IsBehindNames, IsDecided, IsFront, IsPiece, IsSole};
+ghost use Rattle.dt_lex.specs.Pieces.{IsBehindNames, IsDecided, IsFront, IsLedBy, IsPiece, IsSole};
 
 use crate::byte::Class;
 use crate::number::{base_of, read_integer};
 use crate::outcome::{byte_at, byte_of};
 use crate::quoted::after_text;
-use crate::token::{Mark, Mode, TokenKind};
+use crate::token::{Keyword, Mark, Mode, TokenKind, keyword_bytes};
 use crate::word::{
     after_all, after_byte, after_label_reference, after_line_marker, after_run, after_suffix,
     after_word, begins, split,
@@ -177,7 +177,32 @@ fn operator(text: &[u8]) -> Option<Piece<'_>>
     Some(piece_of(Some(TokenKind::Mark(mark)), text, rest))
 }
 
-/// An integer, a text, a reference to a label or a mark, in the mode of values.
+/// The keyword that a `/` and this byte begin, where no other rule has such words.
+fn keyword_by(second: u8) -> Option<Keyword>
+    ensures { IfSome result (λ keyword. IsLedBy second keyword) }
+{
+    match second {
+        b'm' => Some(Keyword::Memreserve),
+        b'b' => Some(Keyword::Bits),
+        _ => None,
+    }
+}
+
+/// A keyword.
+fn keyword(text: &[u8]) -> Option<Piece<'_>>
+    ensures exact { IfSome result (λ p. (m : Mode) → IsDecided m text.now p) }
+    ensures front { IfSome result (IsFront text.now) }
+{
+    let (first, behind) = split(text)?;
+    if first != b'/' {
+        return None;
+    }
+    let keyword = keyword_by(byte_at(behind, 0))?;
+    let rest = after_word(text, keyword_bytes(keyword))?;
+    Some(piece_of(Some(TokenKind::Keyword(keyword)), text, rest))
+}
+
+/// An integer, a text, a reference to a label, a keyword or a mark, in the mode of values.
 fn value(text: &[u8]) -> Option<Piece<'_>>
     ensures exact { IfSome result (IsDecided mode.Plain text.now) }
     ensures front { IfSome result (IsFront text.now) }
@@ -190,6 +215,7 @@ fn value(text: &[u8]) -> Option<Piece<'_>>
         },
         b'"' => quoted(text),
         b'&' => reference(text),
+        b'/' => keyword(text),
         _ => operator(text),
     }
 }
@@ -215,6 +241,19 @@ fn line_marker(text: &[u8]) -> Option<Piece<'_>>
     Some(piece_of(None, text, rest))
 }
 
+/// A label, a name, a keyword or a line marker, in the mode of names.
+fn named(fresh: bool, text: &[u8]) -> Option<Piece<'_>>
+    ensures exact { IfSome result (λ p. IsPiece mode.Name fresh text.now (Ok p)) }
+    ensures front { IfSome result (IsFront text.now) }
+{
+    match byte_at(text, 0) {
+        b'#' if fresh => line_marker(text),
+        b'#' => hashed_name(text),
+        b'/' => keyword(text),
+        _ => label_or_name(text),
+    }
+}
+
 /// The word at the front, where its first bytes decide it.
 pub(crate) fn decided(mode: Mode, fresh: bool, text: &[u8]) -> Option<Piece<'_>>
     ensures exact { IfSome result (λ p. IsPiece mode fresh text.now (Ok p)) }
@@ -224,11 +263,7 @@ pub(crate) fn decided(mode: Mode, fresh: bool, text: &[u8]) -> Option<Piece<'_>>
         return Some(found);
     }
     match mode {
-        Mode::Name => match label_or_name(text) {
-            None if fresh => line_marker(text),
-            None => hashed_name(text),
-            found => found,
-        },
+        Mode::Name => named(fresh, text),
         Mode::Bytes => byte(text),
         Mode::Plain => value(text),
     }

@@ -1,9 +1,13 @@
+use Rattle.std.proofs.Common.{Ok, sym, subst}
+use Rattle.std.specs.Prelude.{IfSome}
+use Rattle.dt_lex.specs.declared.token.Mode.{Mode}
+use Rattle.dt_lex.specs.Pieces.{IsPiece}
 use Rattle.dt_lex.specs.declared.token.Mode.TheVariants as mode
 use Rattle.dt_lex.proofs.Decided.{decided_here}
 use Rattle.dt_lex.proofs.piece.decided.Goals as goal
 
-pub returns-in_default-label_or_name-clause-exact : goal.returns-in_default-label_or_name-clause-exact
-returns-in_default-label_or_name-clause-exact c = decided_here mode.Name c.args.mode c.args.fresh c.args.text.now c.label_or_name.result c.in-Name.is c.label_or_name.ensures.exact
+pub returns-in-Name-clause-exact : goal.returns-in-Name-clause-exact
+returns-in-Name-clause-exact c = subst (λ (m : Mode). IfSome c.named.result (λ p. IsPiece m c.args.fresh c.args.text.now (Ok p))) (sym c.in-Name.is) c.named.ensures.exact
 
 pub returns-in-Bytes-clause-exact : goal.returns-in-Bytes-clause-exact
 returns-in-Bytes-clause-exact c = decided_here mode.Bytes c.args.mode c.args.fresh c.args.text.now c.byte.result c.in-Bytes.is c.byte.ensures.exact
