@@ -233,6 +233,18 @@ pub(crate) fn labels<'a>(alloc: Global, cursor: &mut Cursor<'a, '_>) -> Result<V
     Ok(names)
 }
 
+/// Steps over labels, as many as stand there.
+fn skip_labels(cursor: &mut Cursor<'_, '_>) -> Result<(), Stop>
+    ensures ok { OnOk result ((ls : List (List ℕ)) × ((a : Around) → IsRead a SomeLabels cursor.old (made_labels ls) cursor.new)) }
+    ensures err { IfErr result (λ stop. (a : Around) → IsBroken a SomeLabels cursor.old stop) }
+{
+    while is_label(cursor.kind()) {
+        label(cursor)?;
+        cursor.advance();
+    }
+    Ok(())
+}
+
 /// Reads what stands between `<` and `>`, in elements of so many bits.
 fn cells<'a>(
     alloc: Global,
@@ -407,9 +419,9 @@ fn components<'a>(
     ensures err { IfErr result (λ stop. (a : Around) → IsBroken a OneValue cursor.old stop) }
 {
     'components: loop {
-        labels(alloc, cursor)?;
+        skip_labels(cursor)?;
         item(alloc, cursor, value)?;
-        labels(alloc, cursor)?;
+        skip_labels(cursor)?;
         if cursor.kind() != Some(TokenKind::Mark(Mark::Comma)) {
             return Ok(());
         }
