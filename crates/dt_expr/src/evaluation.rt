@@ -15,12 +15,12 @@ use std::marker::Model;
 
 /// The numbers that wait for their operators, the last one first: never more than an expression has tokens.
 #[derive(Drop)]
-struct Stack {
-    numbers: [u64; MOST_TOKENS],
+struct Stack<const N: usize> {
+    numbers: [u64; N],
     top: usize,
 }
 
-impl Model for Stack {
+impl<const N: usize> Model for Stack<N> {
     ghost use Rattle.std.specs.Prelude.{ℕ, ◌≤◌, List, drop};
     ghost use Rattle.dt_model.specs.Limits.{most_tokens};
 
@@ -28,7 +28,7 @@ impl Model for Stack {
 
     ghost view = { λ s. drop s.top s.numbers };
 
-    ghost invariant = { λ s. s.top ≤ most_tokens };
+    ghost invariant = { λ s. s.top ≤ N };
 }
 
 /// The number shifted to the left, modulo 2^64.
@@ -84,18 +84,18 @@ fn of_two(operator: Binary, left: u64, right: u64) -> Option<u64>
     }
 }
 
-impl Stack {
-    fn new() -> Stack
+impl<const N: usize> Stack<N> {
+    fn new() -> Stack<N>
         ensures { result ≡ [] }
     {
         Stack {
-            numbers: [0; MOST_TOKENS],
-            top: MOST_TOKENS,
+            numbers: [0; N],
+            top: N,
         }
     }
 
     fn push(&mut self, number: u64)
-        requires { length self.old < most_tokens }
+        requires { length self.old < N }
         ensures { self.new ≡ number ∷ self.old }
     {
         self.top -= 1;
@@ -134,6 +134,26 @@ impl Stack {
     }
 }
 
+/// So many steps most expressions have at most; a stack for them is made faster.
+const FEW: usize = 64;
+
+/// The value of an expression of at most so many steps.
+fn value_by<const N: usize>(expression: &Expr) -> Result<u64, Fault>
+    requires fits { length expression.now ≤ N }
+    requires small { N ≤ most_tokens }
+    ensures { (e : Expression) → steps e ≡ expression.now →
+        MatchResult result (λ n. value e ≡ Some n) (λ fault. (value e ≡ None) × (fault.kind ≡ DivideByZero) × (fault.at ≡ None)) }
+{
+    let mut stack = Stack::<N>::new();
+    for step in expression.steps() {
+        let Some(number) = stack.take(*step) else {
+            return Err(Fault::of(FaultKind::DivideByZero));
+        };
+        stack.push(number);
+    }
+    Ok(stack.pop())
+}
+
 /// The value of an expression, as C gives it over unsigned 64-bit numbers: sums, differences, products and shifts wrap, a
 /// shift by 64 or more gives 0, and comparisons, `!`, `&&` and `||` give 0 or 1 (Devicetree Specification v0.4, 6.3). Each
 /// part is evaluated, also one that `&&`, `||` or `?` doesn't choose. It takes no memory.
@@ -145,12 +165,9 @@ pub fn eval(expression: &Expr) -> Result<u64, Fault>
     ensures exact { (e : Expression) → steps e ≡ expression.now →
         MatchResult result (λ n. value e ≡ Some n) (λ fault. (value e ≡ None) × (fault.kind ≡ DivideByZero) × (fault.at ≡ None)) }
 {
-    let mut stack = Stack::new();
-    for step in expression.steps() {
-        let Some(number) = stack.take(*step) else {
-            return Err(Fault::of(FaultKind::DivideByZero));
-        };
-        stack.push(number);
+    if expression.steps().len() <= FEW {
+        value_by::<FEW>(expression)
+    } else {
+        value_by::<MOST_TOKENS>(expression)
     }
-    Ok(stack.pop())
 }
