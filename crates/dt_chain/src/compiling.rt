@@ -9,7 +9,8 @@ ghost use Rattle.dt_names.specs.declared.fault.FaultKind.TheVariants.{NoMemory};
 ghost use Rattle.dt_source_bodies.specs.Refusals.{mode_said};
 ghost use Rattle.dt_source.specs.Refusals.{WhyNotNamed, fault_place};
 ghost use Rattle.dt_chain_promises.specs.Apply.{IsRead};
-ghost use Rattle.dt_chain_promises.specs.Compile.{IsBlobOf, WhyNoBlob, IsCompiled, WhyNoTree, WhyNotCompiled, IsCompilerFault, IsCompiledOverlay, WhyNotCompiledOverlay, TextHasTree, OverlayTextHasTree};
+ghost use Rattle.dt_chain_promises.specs.Compile.{IsBlobOf, WhyNoBlob, IsCompiled, WhyNoTree, WhyNotCompiled};
+ghost use Rattle.dt_chain_promises.specs.Compile.{IsCompilerFault, IsCompiledOverlay, WhyNotCompiledOverlay, TextHasTree, OverlayTextHasTree};
 ghost use Rattle.dt_chain_promises.specs.Build.{HasObject};
 ghost use Rattle.dt_chain.specs.Steps.{OfEachText, HasNamed, IsNumbered, HasRoom, WhyNotLabelled, HasRooms, IsMarked, WhyNotMarked};
 ghost use Rattle.dt_names.specs.Fault.{IsNoMemory};
@@ -94,7 +95,7 @@ pub(crate) fn overlay_blob(alloc: Global, source: &Source<'_>) -> Result<Vec<u8>
 }
 
 /// The tree that a source means.
-fn named_tree<'a>(alloc: Global, source: &Source<'a>, mode: Mode) -> Result<NamedTree<'a>, Fault>
+fn named_tree<'a>(alloc: Global, source: &'a Source<'a>, mode: Mode) -> Result<NamedTree<'a>, Fault>
     ensures named { IfOk result (λ t. HasNamed (mode_said mode) source.now (tree_of t)) }
     ensures refused { IfErr result (λ fault. WhyNotNamed (mode_said mode) fault.kind source.now × (fault.at ≡ fault_place fault.kind)) }
 {

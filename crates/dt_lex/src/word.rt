@@ -4,7 +4,8 @@ ghost use Rattle.std.specs.Prelude.{◌≡◌, ◌<◌, ◌≤◌, ◌+◌, ◌�
 ghost use Rattle.dt_lex.specs.declared.byte.Class.TheVariants as class;
 ghost use Rattle.dt_lex.specs.Bytes.{is_in};
 ghost use Rattle.dt_lex.specs.Words.{Word, Begins, Skips, RunsTo};
-ghost use Rattle.dt_lex.specs.Vocabulary.{Run, Closing, IntegerSuffix, Digits, IsDigits, Hexadecimal, BlockComment, LineComment, LineMarker, Identifier, LabelWord, LabelReference, PathReference, ByteWord};
+ghost use Rattle.dt_lex.specs.Vocabulary.{Run, Closing, IntegerSuffix, Digits, IsDigits, Hexadecimal, BlockComment};
+ghost use Rattle.dt_lex.specs.Vocabulary.{LineComment, LineMarker, Identifier, LabelWord, LabelReference, PathReference, ByteWord};
 
 use crate::byte::{Class, is_in};
 use memchr::memchr;

@@ -3,6 +3,7 @@ use Rattle.std.proofs.Common.{◌≡◌, ℕ, suc, ◌+◌, ◌<◌, List, [], �
 use Rattle.std.specs.List.{flat_map}
 use Rattle.std.specs.Cow.{cow_slice_items}
 use Rattle.std.proofs.lemmas.List.{append-nil, drop_more}
+use Rattle.std.specs.Cow.{cow_slice_items}
 use Rattle.dt_model.specs.Fixups.{inside_offset}
 use Rattle.dt_model.specs.Meaning.{Item, byte, reference}
 use Rattle.dt_model.specs.Names.{Name}
@@ -39,13 +40,13 @@ pub none_left : (k : ℕ) (bytes : List ℕ) → references_left k [] bytes ≡ 
 none_left k bytes = ap (references_from k) (sym (append-nil (map byte bytes))) ∙ behind_bytes k bytes []
 
 pub first_left : (k : ℕ) (pieces : List NamedPiece) (bytes : List ℕ) (i : ℕ) (p : NamedPiece) → i < length pieces → p ≡ get_or pieces i p
-    → references_left k (drop i pieces) bytes ≡ (k + length p.before.items, reference_said p.reference) ∷ references_left (k + length p.before.items + 4) (drop (i + 1) pieces) bytes
+    → references_left k (drop i pieces) bytes ≡ (k + length (cow_slice_items p.before), reference_said p.reference) ∷ references_left (k + length (cow_slice_items p.before) + 4) (drop (i + 1) pieces) bytes
 first_left k pieces bytes i p lt is =
     let rest = drop (i + 1) pieces in
     let next : drop i pieces ≡ p ∷ rest = drop_more pieces i p lt ∙ ap (λ (m : NamedPiece). m ∷ rest) (sym is) in
     ap (λ (ps : List NamedPiece). references_left k ps bytes) next
-    ∙ ap (references_from k) (regrouped (map byte p.before.items) (reference (reference_said p.reference)) (pieces_said rest) (map byte bytes))
-    ∙ behind_bytes k p.before.items (reference (reference_said p.reference) ∷ (pieces_said rest ++ map byte bytes))
+    ∙ ap (references_from k) (regrouped (map byte (cow_slice_items p.before)) (reference (reference_said p.reference)) (pieces_said rest) (map byte bytes))
+    ∙ behind_bytes k (cow_slice_items p.before) (reference (reference_said p.reference) ∷ (pieces_said rest ++ map byte bytes))
   where
     regrouped : (xs : List (Item NodeReference)) (y : Item NodeReference) (ys zs : List (Item NodeReference)) → (xs ++ y ∷ ys) ++ zs ≡ xs ++ y ∷ (ys ++ zs)
     regrouped [] y ys zs = refl
@@ -55,15 +56,15 @@ first_left k pieces bytes i p lt is =
 
 -- one more reference is listed
 pub reference_turn : (old new : List Property) (path : List ℕ) (name : Name) (k cell next : ℕ) (pieces : List NamedPiece) (bytes : List ℕ) (i : ℕ) (p : NamedPiece) (goal : List Property)
-    → i < length pieces → p ≡ get_or pieces i p → cell ≡ k + length p.before.items → next ≡ cell + 4
+    → i < length pieces → p ≡ get_or pieces i p → cell ≡ k + length (cow_slice_items p.before) → next ≡ cell + 4
     → new ≡ with_texts old (reference_text path name (cell, reference_said p.reference))
     → with_texts old (flat_map (reference_text path name) (references_left k (drop i pieces) bytes)) ≡ goal
     → with_texts new (flat_map (reference_text path name) (references_left next (drop (i + 1) pieces) bytes)) ≡ goal
 reference_turn old new path name k cell next pieces bytes i p goal lt is at later listed so_far =
-    let here : ℕ × NodeReference = (k + length p.before.items, reference_said p.reference) in
-    let left = references_left (k + length p.before.items + 4) (drop (i + 1) pieces) bytes in
+    let here : ℕ × NodeReference = (k + length (cow_slice_items p.before), reference_said p.reference) in
+    let left = references_left (k + length (cow_slice_items p.before) + 4) (drop (i + 1) pieces) bytes in
     let text = reference_text path name in
-    let after : next ≡ k + length p.before.items + 4 = omega arith in
+    let after : next ≡ k + length (cow_slice_items p.before) + 4 = omega arith in
     (λ j. with_texts (listed j) (flat_map text (references_left (after j) (drop (i + 1) pieces) bytes)))
     ∙ ap (λ (m : ℕ). with_texts (with_texts old (text (m, reference_said p.reference))) (flat_map text left)) at
     ∙ sym (texts-append old (text here) (flat_map text left))
@@ -102,14 +103,14 @@ texts_turn left rest n name value lengths here after path properties old new goa
 
 -- one more offset is put
 pub offset_turn : (old new : List ℕ) (k cell next : ℕ) (pieces : List NamedPiece) (bytes : List ℕ) (i : ℕ) (p : NamedPiece) (goal : List ℕ)
-    → i < length pieces → p ≡ get_or pieces i p → cell ≡ k + length p.before.items → next ≡ cell + 4
+    → i < length pieces → p ≡ get_or pieces i p → cell ≡ k + length (cow_slice_items p.before) → next ≡ cell + 4
     → new ≡ old ++ inside_offset (cell, reference_said p.reference)
     → old ++ flat_map inside_offset (references_left k (drop i pieces) bytes) ≡ goal
     → new ++ flat_map inside_offset (references_left next (drop (i + 1) pieces) bytes) ≡ goal
 offset_turn old new k cell next pieces bytes i p goal lt is at later put so_far =
-    let here : ℕ × NodeReference = (k + length p.before.items, reference_said p.reference) in
-    let left = references_left (k + length p.before.items + 4) (drop (i + 1) pieces) bytes in
-    let after : next ≡ k + length p.before.items + 4 = omega arith in
+    let here : ℕ × NodeReference = (k + length (cow_slice_items p.before), reference_said p.reference) in
+    let left = references_left (k + length (cow_slice_items p.before) + 4) (drop (i + 1) pieces) bytes in
+    let after : next ≡ k + length (cow_slice_items p.before) + 4 = omega arith in
     (λ j. put j ++ flat_map inside_offset (references_left (after j) (drop (i + 1) pieces) bytes))
     ∙ ap (λ (m : ℕ). (old ++ inside_offset (m, reference_said p.reference)) ++ flat_map inside_offset left) at
     ∙ append_assoc old (inside_offset here) (flat_map inside_offset left)

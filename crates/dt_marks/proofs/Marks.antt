@@ -3,6 +3,7 @@ use Rattle.std.proofs.Common.{◌≡◌, ℕ, zero, suc, ◌+◌, ◌<◌, Bool,
 use Rattle.std.specs.Prelude.{nat_eq}
 use Rattle.std.specs.List.{flat_map, list_any}
 use Rattle.std.proofs.lemmas.List.{drop_more}
+use Rattle.std.specs.Cow.{cow_slice_items}
 use Rattle.dt_model.specs.Fixups.{inside_offset, offsets_as, local_properties}
 use Rattle.dt_model.specs.Names.{Name}
 use Rattle.dt_model.specs.Named.{NodeReference}
@@ -30,7 +31,7 @@ some_offset k (outside l) = refl
 some_offsets : (ps : List NamedPiece) (bytes : List ℕ) (k : ℕ) → list_any (λ (p : NamedPiece). is_inside (reference_said p.reference)) ps ≡ has_some (flat_map inside_offset (references_left k ps bytes))
 some_offsets [] bytes k = ap (λ (rs : List (ℕ × NodeReference)). has_some (flat_map inside_offset rs)) (sym (none_left k bytes))
 some_offsets (p ∷ ps) bytes k =
-    let at = k + length p.before.items in
+    let at = k + length (cow_slice_items p.before) in
     (λ i. sym (some_offset at (reference_said p.reference)) i || some_offsets ps bytes (at + 4) i)
     ∙ sym (some_of_both (inside_offset (at, reference_said p.reference)) (flat_map inside_offset (references_left (at + 4) ps bytes)))
     ∙ ap (λ (rs : List (ℕ × NodeReference)). has_some (flat_map inside_offset rs)) (sym (first_left k (p ∷ ps) bytes 0 p (omega arith) refl))
@@ -43,7 +44,7 @@ some_cells : (ps : List NamedProperty) → has_cells ps ≡ has_some (cells_of (
 some_cells [] = refl
 some_cells (p ∷ ps) =
     let offsets = flat_map inside_offset (references_from 0 (value_said p.value)) in
-    (λ i. (some_offsets p.value.pieces.items p.value.bytes.items 0 ∙ sym (some_property p.name.now offsets)) i || some_cells ps i)
+    (λ i. (some_offsets p.value.pieces.items (cow_slice_items p.value.bytes) 0 ∙ sym (some_property p.name.now offsets)) i || some_cells ps i)
     ∙ sym (some_of_both (offsets_as p.name.now offsets) (cells_of (map property_said ps)))
 
 pub holds_local : (n : NamedNode) → has_cells n.properties.items ≡ has_some (local_properties (node_said n).content)

@@ -1,6 +1,7 @@
 //! The node `__local_fixups__`.
 
-ghost use Rattle.std.specs.Prelude.{◌≡◌, ◌<◌, ◌+◌, ◌||◌, ◌&&◌, ◌++◌, ◌∷◌, [], ℕ, true, false, None, map, length, nat_eq, codes, slice_index, slice_index_or, if◌then◌else◌, OnOk, IfOk, IfErr};
+ghost use Rattle.std.specs.Prelude.{◌≡◌, ◌<◌, ◌+◌, ◌||◌, ◌&&◌, ◌++◌, ◌∷◌, [], ℕ, true, false};
+ghost use Rattle.std.specs.Prelude.{None, map, length, nat_eq, codes, slice_index, slice_index_or, if◌then◌else◌, OnOk, IfOk, IfErr};
 ghost use Rattle.std.specs.List.{AllByRecursion};
 ghost use Rattle.dt_model.specs.Fixups.{local_properties};
 ghost use Rattle.dt_model.specs.Named.{tree_of};

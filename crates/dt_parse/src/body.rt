@@ -1,6 +1,7 @@
 //! Bodies: properties and children, and deletions of both.
 
-ghost use Rattle.std.specs.Prelude.{◌≡◌, ◌≢◌, ◌⊎◌, ◌++◌, ◌∷◌, ◌<◌, ◌≤◌, ◌+◌, [], true, false, List, ℕ, Bool, Some, map, length, OnOk, IfOk, IfErr, MatchResult, IsTrue, ◌↔◌};
+ghost use Rattle.std.specs.Prelude.{◌≡◌, ◌≢◌, ◌⊎◌, ◌++◌, ◌∷◌, ◌<◌, ◌≤◌, ◌+◌, [], true, false, List};
+ghost use Rattle.std.specs.Prelude.{ℕ, Bool, Some, map, length, OnOk, IfOk, IfErr, MatchResult, IsTrue, ◌↔◌};
 ghost use Rattle.std.specs.List.{AllByRecursion};
 ghost use Rattle.dt_model.specs.Limits.{most_bodies};
 ghost use Rattle.dt_names.specs.declared.fault.FaultKind.TheVariants as fault;

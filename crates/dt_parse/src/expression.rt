@@ -3,7 +3,8 @@
 ghost use Rattle.std.specs.Prelude.{◌≡◌, ◌++◌, ◌∷◌, [], List, drop, OnOk};
 ghost use Rattle.dt_grammar.specs.Words.{unary_of, binary_of, level_of};
 ghost use Rattle.dt_parse.specs.Standing.{Answers};
-ghost use Rattle.dt_parse.specs.Turns.{turn_at, operand_turn, whole_turn, wanted_turn, at_question, at_operand, behind_binary, behind_operand, at_else, at_close, unary_in, binary_in, kind_in};
+ghost use Rattle.dt_parse.specs.Turns.{turn_at, operand_turn, whole_turn, wanted_turn, at_question, at_operand, behind_binary};
+ghost use Rattle.dt_parse.specs.Turns.{behind_operand, at_else, at_close, unary_in, binary_in, kind_in};
 
 use dt_expr::{Binary, Step, Unary};
 use dt_lex::{Mark, Token, TokenKind};

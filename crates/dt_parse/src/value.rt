@@ -1,16 +1,19 @@
 //! The values of properties.
 
-ghost use Rattle.std.specs.Prelude.{true, ◌≡◌, ◌++◌, ◌∷◌, [], ◌-◌, ◌<◌, ◌^◌, IfOk, IfErr, OnOk, Some, List, ℕ, map, drop, MatchOption, MatchResult, length, IsTrue, ◌↔◌};
+ghost use Rattle.std.specs.Prelude.{true, ◌≡◌, ◌++◌, ◌∷◌, [], ◌-◌, ◌<◌, ◌^◌, IfOk, IfErr, OnOk};
+ghost use Rattle.std.specs.Prelude.{Some, List, ℕ, map, drop, MatchOption, MatchResult, length, IsTrue, ◌↔◌};
 ghost use Rattle.std.specs.Int.{to_be_bytes};
 ghost use Rattle.dt_names.specs.declared.fault.FaultKind.TheVariants.{BadName, Syntax};
 ghost use Rattle.dt_model.specs.Source.{one};
 ghost use Rattle.dt_lex.specs.declared.token.TokenKind.TheVariants as kind;
 ghost use Rattle.dt_lex.specs.Texts.{text_bytes};
 ghost use Rattle.dt_expr.specs.Fits.{IsWidth};
-ghost use Rattle.dt_grammar.specs.Unchecked.{Target, a_label, RawCell, RawItem, cell_item, RawComponent, all_but_last, width_of, reference_in, cells_parts, item_parts, value_parts};
+ghost use Rattle.dt_grammar.specs.Unchecked.{Target, a_label, RawCell, RawItem, cell_item, RawComponent};
+ghost use Rattle.dt_grammar.specs.Unchecked.{all_but_last, width_of, reference_in, cells_parts, item_parts, value_parts};
 ghost use Rattle.dt_grammar.specs.Relaxed.{reference_kind};
 ghost use Rattle.dt_grammar.specs.Strict.{IsLabelText, IsReferenceText};
-ghost use Rattle.dt_grammar.specs.Wanted.{SomeLabels, SomeCells, SomeBytes, OneItem, BitsNumber, BitsOpen, OneValue, Done, refuse, want, made_labels, made_cells, made_item, made_value, kind_at, bytes_at};
+ghost use Rattle.dt_grammar.specs.Wanted.{SomeLabels, SomeCells, SomeBytes, OneItem, BitsNumber, BitsOpen, OneValue, Done};
+ghost use Rattle.dt_grammar.specs.Wanted.{refuse, want, made_labels, made_cells, made_item, made_value, kind_at, bytes_at};
 ghost use Rattle.dt_grammar.specs.Descent.{first, move_at};
 ghost use Rattle.dt_parse.specs.declared.value.Opening.TheVariants as opening;
 ghost use Rattle.dt_parse.specs.Openings.{opening_of, cell_opening, byte_opening};

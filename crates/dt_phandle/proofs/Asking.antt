@@ -7,6 +7,7 @@ use Rattle.std.proofs.lemmas.Slice.Eq.{bytes_eq-Decides}
 use Rattle.std.proofs.Math.Bool.{or_assoc}
 use Rattle.std.proofs.lemmas.Bool.{or_right, ne_eqb, eq-eqb, leb-true, le-leb}
 use Rattle.std.proofs.lemmas.List.{append-nil, drop_all, drop_more, nil_from_length, take_at}
+use Rattle.std.specs.Cow.{cow_slice_items}
 use Rattle.dt_model.specs.Meaning.{Item, byte, reference, EachReference}
 use Rattle.dt_model.specs.Overlay.{inside, outside}
 use Rattle.dt_model.specs.Named.{NodeReference, Content, number_of, value_of}
@@ -36,8 +37,8 @@ no_number (a ∷ b ∷ c ∷ d ∷ e ∷ before) k rest = refl
 pub no_number_behind : (pieces : List NamedPiece) (bytes : List ℕ) → 0 < length pieces → number_of (pieces_said pieces ++ map byte bytes) ≡ None
 no_number_behind [] bytes some = absurd (omega arith)
 no_number_behind (p ∷ ps) bytes some =
-    ap number_of (append_assoc (map byte p.before.items) (reference (reference_said p.reference) ∷ pieces_said ps) (map byte bytes))
-    ∙ no_number p.before.items (reference_said p.reference) (pieces_said ps ++ map byte bytes)
+    ap number_of (append_assoc (map byte (cow_slice_items p.before)) (reference (reference_said p.reference) ∷ pieces_said ps) (map byte bytes))
+    ∙ no_number (cow_slice_items p.before) (reference_said p.reference) (pieces_said ps ++ map byte bytes)
 
 in_range_is : (n : ℕ) → 1 ≤ n → n ≤ 0xfffffffe → in_range n ≡ Some n
 in_range_is n low high = λ i. cond (le-leb 1 n low i && le-leb n 0xfffffffe high i) (Some n) None
@@ -72,12 +73,12 @@ number_found bytes None is same = sym (unwritten_number bytes (λ h. cc (is.1 h)
 number_found bytes (Some n) is same = ap (λ (m : ℕ). Some m) same ∙ sym (written_number bytes (is.0 refl))
 
 -- the same of a value without references
-pub number_alone : (v : NamedValue) (bytes : List ℕ) (r : Option ℕ) → length v.pieces.items ≡ 0 → bytes ≡ v.bytes.items
+pub number_alone : (v : NamedValue) (bytes : List ℕ) (r : Option ℕ) → length v.pieces.items ≡ 0 → bytes ≡ (cow_slice_items v.bytes)
     → IsSome r ↔ IsPhandle bytes → IfSome r (λ n. n ≡ from_be_bytes w32 bytes) → r ≡ number_of (value_said v)
 number_alone v bytes r none are is same =
     number_found bytes r is same
     ∙ ap (λ (bs : List ℕ). number_of {R = NodeReference} (map byte bs)) are
-    ∙ ap (λ (ps : List NamedPiece). number_of (pieces_said ps ++ map byte v.bytes.items)) (sym (nil_from_length v.pieces.items none))
+    ∙ ap (λ (ps : List NamedPiece). number_of (pieces_said ps ++ map byte (cow_slice_items v.bytes))) (sym (nil_from_length v.pieces.items none))
 
 -- ---- the property of a name
 
@@ -118,10 +119,10 @@ next_item {X = X} xs i x lt is = drop_more xs i x lt ∙ ap (λ (y : X). y ∷ d
 
 -- what is left of a value whose next piece this is
 pub piece_next : (items : List NamedPiece) (bytes : List ℕ) (i : ℕ) (p : NamedPiece) → drop i items ≡ p ∷ drop (i + 1) items
-    → pieces_said (drop i items) ++ map byte bytes ≡ map byte p.before.items ++ reference (reference_said p.reference) ∷ (pieces_said (drop (i + 1) items) ++ map byte bytes)
+    → pieces_said (drop i items) ++ map byte bytes ≡ map byte (cow_slice_items p.before) ++ reference (reference_said p.reference) ∷ (pieces_said (drop (i + 1) items) ++ map byte bytes)
 piece_next items bytes i p next =
     ap (λ (ps : List NamedPiece). pieces_said ps ++ map byte bytes) next
-    ∙ append_assoc (map byte p.before.items) (reference (reference_said p.reference) ∷ pieces_said (drop (i + 1) items)) (map byte bytes)
+    ∙ append_assoc (map byte (cow_slice_items p.before)) (reference (reference_said p.reference) ∷ pieces_said (drop (i + 1) items)) (map byte bytes)
 
 -- ---- which nodes are keyed
 

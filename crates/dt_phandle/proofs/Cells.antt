@@ -11,7 +11,7 @@ bytes_behind : (number : NodeReference → ℕ) (before : List ℕ) (n : NodeRef
 bytes_behind number [] n rest = refl
 bytes_behind number (b ∷ before) n rest = ap (λ (bs : List ℕ). b ∷ bs) (bytes_behind number before n rest)
 
-bytes_alone : (number : NodeReference → ℕ) (bytes : List ℕ) → value_bytes number (map byte bytes) ≡ bytes
+pub bytes_alone : (number : NodeReference → ℕ) (bytes : List ℕ) → value_bytes number (map byte bytes) ≡ bytes
 bytes_alone number [] = refl
 bytes_alone number (b ∷ bytes) = ap (λ (bs : List ℕ). b ∷ bs) (bytes_alone number bytes)
 

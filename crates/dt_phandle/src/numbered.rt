@@ -52,6 +52,21 @@ fn write_value(
     Ok(())
 }
 
+/// The same: of a value without references its own, else written into these.
+fn value_in<'b>(
+    bytes: &'b mut Vec<u8>,
+    value: &'b NamedValue<'_>,
+    numbering: &Numbering,
+) -> Result<&'b [u8], AllocError>
+    ensures { IfOk result (λ written. written.now ≡ value_bytes (number_for numbering.now) (value_said value.now)) }
+{
+    if value.pieces.is_empty() {
+        return Ok(value.bytes.as_slice());
+    }
+    write_value(bytes, value, numbering)?;
+    Ok(bytes.as_slice())
+}
+
 /// A node's properties, but for a number that isn't written. The bytes are for its values, one after another.
 fn set_properties(
     tree: &mut FlatTree,
@@ -66,9 +81,9 @@ fn set_properties(
     ensures refused { IfErr result IsNoMemory }
 {
     for property in properties {
-        write_value(bytes, &property.value, numbering)?;
+        let value = value_in(bytes, &property.value, numbering)?;
         let name = PropName::new(property.name)?;
-        tree.set_prop(id, &name, bytes)?;
+        tree.set_prop(id, &name, value)?;
     }
     Ok(())
 }

@@ -27,7 +27,7 @@ fn nodes_of<'a>(
     alloc: Global,
     seed: Seed,
     mode: Mode,
-    items: &[Item<'a>],
+    items: &'a [Item<'a>],
 ) -> Result<Vec<NamedNode<'a>>, Fault>
     requires { 0 < length items.now }
     ensures { MatchResult result
@@ -79,7 +79,7 @@ pub(crate) fn whole<'a>(
 /// then `Limit`: more than 65,536 nodes that stand. `NoMemory` may be met at any time.
 pub fn build_base<'a>(
     alloc: Global,
-    source: &Source<'a>,
+    source: &'a Source<'a>,
     mode: Mode,
 ) -> Result<NamedTree<'a>, Fault>
     ensures tree { IfOk result (λ t. HasTree (mode_said mode) source.now (tree_of t)) }

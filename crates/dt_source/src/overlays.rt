@@ -64,7 +64,11 @@ impl<'a> NamedOverlay<'a> {
 }
 
 /// The nodes of an overlay's items.
-fn nodes_of<'a>(alloc: Global, seed: Seed, items: &[Item<'a>]) -> Result<Vec<NamedNode<'a>>, Fault>
+fn nodes_of<'a>(
+    alloc: Global,
+    seed: Seed,
+    items: &'a [Item<'a>],
+) -> Result<Vec<NamedNode<'a>>, Fault>
     requires { AllByRecursion IsPlace (map place_said items.now) }
     ensures { MatchResult result
         (λ nodes. AreOverlayNodes (map place_said items.now) (map node_said nodes.items))
@@ -106,7 +110,7 @@ fn whole_overlay<'a>(
 /// more than 64 names); then what is wrong at the end: `BadFragment` where a fragment holds no target, then
 /// `OutsideContent` where a reference of a target, or of what a fragment brings, names a node of the overlay that no
 /// fragment brings; then `Limit`: more than 65,536 nodes. `NoMemory` may be met at any time.
-pub fn build_overlay<'a>(alloc: Global, source: &Source<'a>) -> Result<NamedOverlay<'a>, Fault>
+pub fn build_overlay<'a>(alloc: Global, source: &'a Source<'a>) -> Result<NamedOverlay<'a>, Fault>
     ensures overlay { IsOk result → (source.now.plugin ≡ true) × (source.now.reservations ≡ []) }
     ensures meant { IfOk result (λ o. IsNamedOverlayOf source.now.places (tree_of o.tree) o.fragments) }
     ensures refused { IfErr result (λ fault. WhyNoOverlay fault.kind source.now × (fault.at ≡ fault_place fault.kind)) }

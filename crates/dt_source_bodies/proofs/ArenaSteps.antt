@@ -1,18 +1,14 @@
--- What is left of the names and the values for new fragments.
+-- What is left of the names for new fragments.
 use Rattle.std.proofs.Common.{◌≡◌, ℕ, zero, suc, ◌+◌, Bool, true, false, cond, List, [], ◌∷◌, map, length, drop, None, Some, slice_get, Result, Ok, Err, inl, inr, refl, sym, ◌∙◌, ap, subst, arith}
 use Rattle.std.specs.Global.{Vec}
-use Rattle.std.proofs.lemmas.List.{length-map}
 use Rattle.dt_model.specs.Names.{Name}
 use Rattle.dt_model.specs.Source.{Reference, Place, root, block, delete_node, child, label, property, delete_property, delete_child, close}
 use Rattle.dt_model.specs.OverlaySource.{root_children, fragment_name, free_from, OverlayRefusal, OverlaySoFar, read_overlay, and_if_read, read_overlays}
 use Rattle.dt_names.specs.declared.fault.Fault.{Fault}
-use Rattle.dt_source_items.specs.Said.{value_said}
-use Rattle.dt_source_items.specs.declared.source.Value.{Value}
 use Rattle.dt_source_bodies.specs.declared.arena.Arena.{Arena}
-use Rattle.dt_source_bodies.specs.declared.arena.Used.{Used}
 use Rattle.dt_source_bodies.specs.declared.reading.Reading.{Reading}
 use Rattle.dt_source_bodies.specs.Reading.{Holds}
-use Rattle.dt_source_bodies.specs.OverlayReading.{TellsOverlayRefusal, OverlayGoesOn, IsNoBlock, free_number, target_value}
+use Rattle.dt_source_bodies.specs.OverlayReading.{TellsOverlayRefusal, OverlayGoesOn, IsNoBlock, free_number}
 use Rattle.dt_source_fragments.specs.FragmentNames.{made_names}
 use Rattle.dt_source_bodies.specs.Arena.{block_references, IsArena, IsLeft, GoesOnWith}
 
@@ -41,71 +37,63 @@ no_references (delete_property n) rest h = refl
 no_references (delete_child n) rest h = refl
 no_references close rest h = refl
 
-pub left_behind : (written : List Name) (arena : Arena) (used : Used) (next : ℕ) (place : Place) (rest : List Place) → IsNoBlock place → IsLeft written arena used next (place ∷ rest) → IsLeft written arena used next rest
+pub left_behind : (written : List Name) (arena : Arena) (used : ℕ) (next : ℕ) (place : Place) (rest : List Place) → IsNoBlock place → IsLeft written arena used next (place ∷ rest) → IsLeft written arena used next rest
 left_behind written arena used next place rest none left =
     let same = no_references place rest none in record {
       spare = left.spare;
       names = left.names ∙ ap (λ (rs : List Reference). made_names written (length rs + left.spare) next) same;
-      values = left.values ∙ ap (map target_value) same;
     }
 
 -- one name for the block, and those for the places behind it
-names_left : (written : List Name) (arena : Arena) (used : Used) (next : ℕ) (r : Reference) (rest : List Place) → (left : IsLeft written arena used next (block r ∷ rest)) →
-    drop used.fragments (map (λ (v : Vec ℕ). v.items) arena.names.items)
+names_left : (written : List Name) (arena : Arena) (used : ℕ) (next : ℕ) (r : Reference) (rest : List Place) → (left : IsLeft written arena used next (block r ∷ rest)) →
+    drop used (map (λ (v : Vec ℕ). v.items) arena.names.items)
     ≡ fragment_name (free_from written (length written) next) ∷ made_names written (length (block_references rest) + left.spare) (free_from written (length written) next + 1)
 names_left written arena used next r rest left =
     left.names ∙ ap (λ (k : ℕ). made_names written k next) (let e : length (block_references (block r ∷ rest)) + left.spare ≡ suc (length (block_references rest) + left.spare) = omega arith in e)
 
--- the next name and the next value
-pub record NextMade (written : List Name) (arena : Arena) (used : Used) (next : ℕ) (r : Reference) (rest : List Place) : Type 0 where
+-- the next name
+pub record NextMade (written : List Name) (arena : Arena) (used : ℕ) (next : ℕ) (r : Reference) (rest : List Place) : Type 0 where
   pub name : Vec ℕ
-  pub named : slice_get arena.names.items used.fragments ≡ Some name
-  pub value : Value
-  pub there : slice_get arena.values.items used.blocks ≡ Some value
-  pub target : value_said value ≡ target_value r
+  pub named : slice_get arena.names.items used ≡ Some name
 
-pub next_made : (written : List Name) (arena : Arena) (used : Used) (next : ℕ) (r : Reference) (rest : List Place) → IsLeft written arena used next (block r ∷ rest) → NextMade written arena used next r rest
+pub next_made : (written : List Name) (arena : Arena) (used : ℕ) (next : ℕ) (r : Reference) (rest : List Place) → IsLeft written arena used next (block r ∷ rest) → NextMade written arena used next r rest
 next_made written arena used next r rest left =
-    let n = head_there (λ (v : Vec ℕ). v.items) arena.names.items used.fragments _ _ (names_left written arena used next r rest left) in
-    let v = head_there value_said arena.values.items used.blocks _ _ left.values in
-    record { name = n.0; named = n.1; value = v.0; there = v.1; target = v.2 }
+    let n = head_there (λ (v : Vec ℕ). v.items) arena.names.items used _ _ (names_left written arena used next r rest left) in
+    record { name = n.0; named = n.1 }
 
 -- the name is that of the first free number
-pub next_name : (written : List Name) (arena : Arena) (used : Used) (s : OverlaySoFar) (r : Reference) (rest : List Place) (name : Vec ℕ) → IsLeft written arena used s.next (block r ∷ rest) →
-    slice_get arena.names.items used.fragments ≡ Some name → name.items ≡ fragment_name (free_number written s)
+pub next_name : (written : List Name) (arena : Arena) (used : ℕ) (s : OverlaySoFar) (r : Reference) (rest : List Place) (name : Vec ℕ) → IsLeft written arena used s.next (block r ∷ rest) →
+    slice_get arena.names.items used ≡ Some name → name.items ≡ fragment_name (free_number written s)
 next_name written arena used s r rest name left there =
-    let n = head_there (λ (v : Vec ℕ). v.items) arena.names.items used.fragments _ _ (names_left written arena used s.next r rest left) in
+    let n = head_there (λ (v : Vec ℕ). v.items) arena.names.items used _ _ (names_left written arena used s.next r rest left) in
     let at = n.1 in
     let same : n.0 ≡ name = cc in
     ap (λ (v : Vec ℕ). v.items) (sym same) ∙ n.2
 
 -- what is left behind a block
-pub left_after : (written : List Name) (arena : Arena) (used : Used) (s : OverlaySoFar) (r : Reference) (rest : List Place) (made : Bool) → IsLeft written arena used s.next (block r ∷ rest) →
-    IsLeft written arena (record { blocks = used.blocks + 1; fragments = cond made (used.fragments + 1) used.fragments }) (cond made (free_number written s + 1) s.next) rest
+pub left_after : (written : List Name) (arena : Arena) (used : ℕ) (s : OverlaySoFar) (r : Reference) (rest : List Place) (made : Bool) → IsLeft written arena used s.next (block r ∷ rest) →
+    IsLeft written arena (cond made (used + 1) used) (cond made (free_number written s + 1) s.next) rest
 left_after written arena used s r rest true left =
-    let n = head_there (λ (v : Vec ℕ). v.items) arena.names.items used.fragments _ _ (names_left written arena used s.next r rest left) in
-    let v = head_there value_said arena.values.items used.blocks _ _ left.values in
-    record { spare = left.spare; names = past (λ (w : Vec ℕ). w.items) arena.names.items used.fragments _ n.3; values = past value_said arena.values.items used.blocks _ v.3 }
+    let n = head_there (λ (v : Vec ℕ). v.items) arena.names.items used _ _ (names_left written arena used s.next r rest left) in
+    record { spare = left.spare; names = past (λ (w : Vec ℕ). w.items) arena.names.items used _ n.3 }
 left_after written arena used s r rest false left =
-    let v = head_there value_said arena.values.items used.blocks _ _ left.values in
     record {
       spare = left.spare + 1;
       names = left.names ∙ ap (λ (k : ℕ). made_names written k s.next) (omega arith);
-      values = past value_said arena.values.items used.blocks _ v.3;
     }
 
 -- ---- one item
 
 -- after a block
-pub block_goes : (written : List Name) (o : Result OverlaySoFar OverlayRefusal) (s : OverlaySoFar) (r : Reference) (rest : List Place) (new : Reading) (n : ℕ) (arena : Arena) (used : Used) (made : Bool) →
+pub block_goes : (written : List Name) (o : Result OverlaySoFar OverlayRefusal) (s : OverlaySoFar) (r : Reference) (rest : List Place) (new : Reading) (n : ℕ) (arena : Arena) (used : ℕ) (made : Bool) →
     IsLeft written arena used s.next (block r ∷ rest) → OverlayGoesOn o new n (cond made (free_number written s + 1) s.next) →
-    GoesOnWith written o new n arena (record { blocks = used.blocks + 1; fragments = cond made (used.fragments + 1) used.fragments }) rest
+    GoesOnWith written o new n arena (cond made (used + 1) used) rest
 block_goes written (Ok t) s r rest new n arena used made left g =
-    (g.0, subst (λ (k : ℕ). IsLeft written arena (record { blocks = used.blocks + 1; fragments = cond made (used.fragments + 1) used.fragments }) k rest) (sym g.1) (left_after written arena used s r rest made left))
+    (g.0, subst (λ (k : ℕ). IsLeft written arena (cond made (used + 1) used) k rest) (sym g.1) (left_after written arena used s r rest made left))
 block_goes written (Err e) s r rest new n arena used made left g = absurd g
 
 -- after any other place
-pub other_goes : (written : List Name) (o : Result OverlaySoFar OverlayRefusal) (s : OverlaySoFar) (place : Place) (rest : List Place) (new : Reading) (n : ℕ) (arena : Arena) (used : Used) →
+pub other_goes : (written : List Name) (o : Result OverlaySoFar OverlayRefusal) (s : OverlaySoFar) (place : Place) (rest : List Place) (new : Reading) (n : ℕ) (arena : Arena) (used : ℕ) →
     IsNoBlock place → IsLeft written arena used s.next (place ∷ rest) → OverlayGoesOn o new n s.next → GoesOnWith written o new n arena used rest
 other_goes written (Ok t) s place rest new n arena used none left g =
     (g.0, subst (λ (k : ℕ). IsLeft written arena used k rest) (sym g.1) (left_behind written arena used s.next place rest none left))
@@ -114,7 +102,7 @@ other_goes written (Err e) s place rest new n arena used none left g = absurd g
 -- ---- all items
 
 -- where what is left decides as the whole does
-pub goes_with : (written : List Name) (o : Result OverlaySoFar OverlayRefusal) (r : Reading) (n : ℕ) (arena : Arena) (used : Used) (rest : List Place) → GoesOnWith written o r n arena used rest →
+pub goes_with : (written : List Name) (o : Result OverlaySoFar OverlayRefusal) (r : Reading) (n : ℕ) (arena : Arena) (used : ℕ) (rest : List Place) → GoesOnWith written o r n arena used rest →
     (t : OverlaySoFar) × (o ≡ Ok t) × Holds r n t.source × IsLeft written arena used t.next rest
 goes_with written (Ok t) r n arena used rest g = (t, refl, g.0, g.1)
 goes_with written (Err e) r n arena used rest g = absurd g
@@ -127,13 +115,8 @@ pub read_on : (written : List Name) (s t : OverlaySoFar) (place : Place) (rest :
 read_on written s t place rest e = ap (λ (o : Result OverlaySoFar OverlayRefusal). and_if_read o (λ t. read_overlays written t rest)) e
 
 -- before the first item all is left
-pub all_left : (places : List Place) (arena : Arena) → IsArena places arena → IsLeft (root_children None places) arena (record { blocks = 0; fragments = 0 }) 0 places
+pub all_left : (places : List Place) (arena : Arena) → IsArena places arena → IsLeft (root_children None places) arena 0 0 places
 all_left places arena h = record {
   spare = 0;
-  names = h.names ∙ ap (λ (k : ℕ). made_names (root_children None places) k 0) (let e : length (block_references places) ≡ length (block_references places) + 0 = omega arith in e);
-  values = h.values;
+  names = h ∙ ap (λ (k : ℕ). made_names (root_children None places) k 0) (let e : length (block_references places) ≡ length (block_references places) + 0 = omega arith in e);
 }
-
--- there are as many values as blocks
-pub as_many : (values : List Value) (references : List Reference) → map value_said values ≡ map target_value references → length values ≡ length references
-as_many values references same = sym (length-map values value_said) ∙ (ap length same ∙ length-map references target_value)

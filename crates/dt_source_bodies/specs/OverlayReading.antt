@@ -1,8 +1,7 @@
 -- What reading an overlay's items has to do with the definition.
-use Rattle.std.specs.Prelude.{◌≡◌, ◌⊎◌, ℕ, ◌+◌, Bool, cond, List, [], ◌∷◌, map, length, None, Result, Ok, Err, MatchResult}
+use Rattle.std.specs.Prelude.{◌≡◌, ◌⊎◌, ℕ, ◌+◌, Bool, cond, List, length, None, Result, Ok, Err, MatchResult}
 use Rattle.dt_model.specs.Names.{Name}
-use Rattle.dt_model.specs.Path.{path_value}
-use Rattle.dt_model.specs.Source.{by_label, by_path, Part, one, number_of, Reference, Place, block, root, delete_node, child, label, property, delete_property, delete_child, close}
+use Rattle.dt_model.specs.Source.{Reference, Place, block, root, delete_node, child, label, property, delete_property, delete_child, close}
 use Rattle.dt_model.specs.OverlaySource.{fragment_name, free_from, OverlayRefusal, OverlaySoFar, read_overlay}
 use Rattle.dt_names.specs.declared.fault.Fault.{Fault}
 use Rattle.dt_names.specs.declared.fault.FaultKind.TheVariants.{NoMemory}
@@ -26,11 +25,6 @@ OverlayFollows old new item place result =
     (written : List Name) (s : OverlaySoFar) → Holds old item s.source → MatchResult result
     (λ _. OverlayGoesOn (read_overlay written s place) new (item + 1) s.next)
     (TellsOverlayRefusal (read_overlay written s place))
-
--- what the property of a new fragment holds
-abbrev pub target_value : Reference → List Part
-target_value (by_label l) = number_of (by_label l) ∷ []
-target_value (by_path p) = map one (path_value p)
 
 -- the first number that a new fragment may have
 abbrev pub free_number : List Name → OverlaySoFar → ℕ

@@ -8,12 +8,12 @@ ghost use Rattle.dt_source_items.specs.Said.{place_said, reference_of, referring
 ghost use Rattle.dt_source_bodies.specs.Arena.{IsArena, IsSomeLeft, ItemFollows, all_overlay};
 ghost use Rattle.dt_source_growing.specs.Grown.{IsGrown};
 ghost use Rattle.dt_source_bodies.specs.Reading.{Holds, IsWhole};
-ghost use Rattle.dt_source_bodies.specs.OverlayReading.{OverlayFollows, TellsOverlayRefusal, BlockFollows, IsNoBlock, target_value};
+ghost use Rattle.dt_source_bodies.specs.OverlayReading.{OverlayFollows, TellsOverlayRefusal, BlockFollows, IsNoBlock};
 
-use crate::arena::{Arena, Used};
+use crate::arena::Arena;
 use crate::reading::{Mode, Reading};
 use dt_names::{Fault, FaultKind, Seed};
-use dt_source_growing::Growing;
+use dt_source_growing::{Growing, PropertyValue};
 use dt_source_items::{Form, Item, Piece, Reference, Value};
 use std::alloc::{AllocError, Global};
 
@@ -42,7 +42,7 @@ fn is_overlay_value(value: &Value<'_>) -> bool
     true
 }
 
-impl<'s, 'a> Reading<'s, 'a> {
+impl<'s, 'a: 's> Reading<'s, 'a> {
     /// The root stands from the start.
     fn begin(&mut self) -> Result<(), AllocError>
         requires whole { IsWhole self.old }
@@ -59,15 +59,13 @@ impl<'s, 'a> Reading<'s, 'a> {
     fn labelled_block(
         &mut self,
         item: usize,
-        reference: &Reference<'a>,
+        reference: &'a Reference<'a>,
         label: &[u8],
         name: &'s [u8],
-        value: &'s Value<'a>,
     ) -> Result<bool, Fault>
         requires whole { IsWhole self.old }
         requires rooted { 0 < length self.old.growing.nodes.items }
         requires labelled { reference_of reference.now ≡ by_label label.now }
-        requires target { value_said value.now ≡ target_value (reference_of reference.now) }
         ensures meaning { BlockFollows self.old self.new item (reference_of reference.now) name.now result }
         ensures whole { OnOk result (IsWhole self.new) }
         ensures rooted { OnOk result (0 < length self.new.growing.nodes.items) }
@@ -78,7 +76,7 @@ impl<'s, 'a> Reading<'s, 'a> {
                 Ok(false)
             }
             None => {
-                self.open_fragment(item, name, b"target", value)?;
+                self.open_fragment(item, name, b"target", PropertyValue::Target(reference))?;
                 Ok(true)
             }
         }
@@ -88,23 +86,21 @@ impl<'s, 'a> Reading<'s, 'a> {
     pub fn overlay_block(
         &mut self,
         item: usize,
-        reference: &Reference<'a>,
+        reference: &'a Reference<'a>,
         name: &'s [u8],
-        value: &'s Value<'a>,
     ) -> Result<bool, Fault>
         requires whole { IsWhole self.old }
         requires rooted { 0 < length self.old.growing.nodes.items }
-        requires target { value_said value.now ≡ target_value (reference_of reference.now) }
         ensures meaning { BlockFollows self.old self.new item (reference_of reference.now) name.now result }
         ensures whole { OnOk result (IsWhole self.new) }
         ensures rooted { OnOk result (0 < length self.new.growing.nodes.items) }
     {
         match reference {
             Reference::Label(label) => {
-                self.labelled_block(item, reference, label.as_bytes(), name, value)
+                self.labelled_block(item, reference, label.as_bytes(), name)
             }
             Reference::Path(_) => {
-                self.open_fragment(item, name, b"target-path", value)?;
+                self.open_fragment(item, name, b"target-path", PropertyValue::Target(reference))?;
                 Ok(true)
             }
         }
@@ -114,7 +110,7 @@ impl<'s, 'a> Reading<'s, 'a> {
         &mut self,
         item: usize,
         name: &'a [u8],
-        value: &'s Value<'a>,
+        value: &'a Value<'a>,
     ) -> Result<(), Fault>
         requires { IsWhole self.old }
         ensures meaning { OverlayFollows self.old self.new item (property name.now (value_said value.now)) result }
@@ -127,11 +123,11 @@ impl<'s, 'a> Reading<'s, 'a> {
         if !is_overlay_value(value) {
             return Err(Fault::of(FaultKind::OverlayPathReference));
         }
-        self.define(item, name, value)
+        self.define(item, name, PropertyValue::Written(value))
     }
 
     /// An item that isn't a block by a reference.
-    pub fn overlay_step(&mut self, item: usize, next: &'s Item<'a>) -> Result<(), Fault>
+    pub fn overlay_step(&mut self, item: usize, next: &'a Item<'a>) -> Result<(), Fault>
         requires whole { IsWhole self.old }
         requires no_block { IsNoBlock (place_said next.now) }
         ensures meaning { OverlayFollows self.old self.new item (place_said next.now) result }
@@ -148,14 +144,14 @@ impl<'s, 'a> Reading<'s, 'a> {
         }
     }
 
-    /// A block, with the next name and the next value.
+    /// A block, with the next name.
     fn block_item(
         &mut self,
         item: usize,
-        reference: &Reference<'a>,
-        arena: &'s Arena<'a>,
-        used: Used,
-    ) -> Result<Used, Fault>
+        reference: &'a Reference<'a>,
+        arena: &'s Arena,
+        used: usize,
+    ) -> Result<usize, Fault>
         requires whole { IsWhole self.old }
         requires rooted { 0 < length self.old.growing.nodes.items }
         requires left { IsSomeLeft arena.now used (block (reference_of reference.now)) }
@@ -163,9 +159,8 @@ impl<'s, 'a> Reading<'s, 'a> {
         ensures whole { OnOk result (IsWhole self.new) }
         ensures rooted { OnOk result (0 < length self.new.growing.nodes.items) }
     {
-        let name = &arena.names[used.fragments];
-        let value = &arena.values[used.blocks];
-        let made = self.overlay_block(item, reference, name, value)?;
+        let name = &arena.names[used];
+        let made = self.overlay_block(item, reference, name)?;
         Ok(used_more(used, made))
     }
 
@@ -173,10 +168,10 @@ impl<'s, 'a> Reading<'s, 'a> {
     fn overlay_item(
         &mut self,
         item: usize,
-        next: &'s Item<'a>,
-        arena: &'s Arena<'a>,
-        used: Used,
-    ) -> Result<Used, Fault>
+        next: &'a Item<'a>,
+        arena: &'s Arena,
+        used: usize,
+    ) -> Result<usize, Fault>
         requires whole { IsWhole self.old }
         requires rooted { 0 < length self.old.growing.nodes.items }
         requires left { IsSomeLeft arena.now used (place_said next.now) }
@@ -194,27 +189,19 @@ impl<'s, 'a> Reading<'s, 'a> {
     }
 }
 
-/// One more block was read, and perhaps a new fragment opened.
-fn used_more(used: Used, made: bool) -> Used
-    requires { (used.blocks + 1 < 2 ^ 64) × (used.fragments + 1 < 2 ^ 64) }
-    ensures { result ≡ record { blocks = used.blocks + 1; fragments = cond made (used.fragments + 1) used.fragments } }
+/// Perhaps one more fragment was opened.
+fn used_more(used: usize, made: bool) -> usize
+    requires { used + 1 < 2 ^ 64 }
+    ensures { result ≡ cond made (used + 1) used }
 {
-    let fragments = if made {
-        used.fragments + 1
-    } else {
-        used.fragments
-    };
-    Used {
-        blocks: used.blocks + 1,
-        fragments,
-    }
+    if made { used + 1 } else { used }
 }
 
 /// Reads items from the first on.
-fn read_overlay_items<'s, 'a>(
+fn read_overlay_items<'s, 'a: 's>(
     reading: &mut Reading<'s, 'a>,
-    items: &'s [Item<'a>],
-    arena: &'s Arena<'a>,
+    items: &'a [Item<'a>],
+    arena: &'s Arena,
 ) -> Result<(), Fault>
     requires whole { IsWhole reading.old }
     requires rooted { 0 < length reading.old.growing.nodes.items }
@@ -224,10 +211,7 @@ fn read_overlay_items<'s, 'a>(
         (λ _. IsWhole reading.new × (s : OverlaySoFar) × (all_overlay (map place_said items.now) ≡ Ok s) × Holds reading.new (length items.now) s.source)
         (TellsOverlayRefusal (all_overlay (map place_said items.now))) }
 {
-    let mut used = Used {
-        blocks: 0,
-        fragments: 0,
-    };
+    let mut used = 0;
     for (item, next) in items.iter().enumerate() {
         used = reading.overlay_item(item, next, arena, used)?;
     }
@@ -237,11 +221,11 @@ fn read_overlay_items<'s, 'a>(
 /// The tree that the items of an overlay's source grow; or the first refusal: what a base's item may be refused for; a deletion
 /// (OverlayDelete), a property `phandle` (OverlayPhandle), a reference by a path or outside a cell list (OverlayPathReference);
 /// or want of memory (NoMemory). No fault has a place.
-pub fn grow_overlay<'s, 'a>(
+pub fn grow_overlay<'s, 'a: 's>(
     alloc: Global,
     seed: Seed,
-    items: &'s [Item<'a>],
-    arena: &'s Arena<'a>,
+    items: &'a [Item<'a>],
+    arena: &'s Arena,
 ) -> Result<Growing<'s, 'a>, Fault>
     requires { IsArena (map place_said items.now) arena.now }
     ensures { MatchResult result

@@ -6,16 +6,16 @@ ghost use Rattle.dt_model.specs.Source.{SoFar, root, block, delete_node, child, 
 ghost use Rattle.dt_model.specs.Source.{delete_child, close, is_reserved, nothing, read, read_all};
 ghost use Rattle.dt_model.specs.Source as model;
 ghost use Rattle.dt_names.specs.declared.fault.FaultKind.TheVariants.{Syntax};
-ghost use Rattle.dt_source_items.specs.Said.{place_said, reference_of, value_said};
-ghost use Rattle.dt_source_growing.specs.Grown.{StandsUnder, IsGrown};
+ghost use Rattle.dt_source_items.specs.Said.{place_said, reference_of};
+ghost use Rattle.dt_source_growing.specs.Grown.{StandsUnder, IsGrown, value_held};
 ghost use Rattle.dt_model.specs.OverlaySource.{open_fragment};
 ghost use Rattle.dt_source_bodies.specs.Reading.{is_behind, Does, ReadsItem, GoesOn, HasTarget, Holds, IsWhole, MayOpen};
 ghost use Rattle.dt_source_bodies.specs.Refusals.{mode_said, TellsRefusal, WhyNotGrown};
 
 use dt_names::limits::MOST_NAMES;
 use dt_names::{Fault, FaultKind, Seed, is_bookkeeping_name};
-use dt_source_growing::{Growing, NameText};
-use dt_source_items::{Item, Reference, Value};
+use dt_source_growing::{Growing, NameText, PropertyValue};
+use dt_source_items::{Item, Reference};
 use std::alloc::{AllocError, Global};
 
 /// Of what kind a source is.
@@ -70,7 +70,7 @@ fn enter(bodies: &mut Vec<OpenBody>, body: OpenBody) -> Result<(), AllocError>
     Ok(())
 }
 
-impl<'s, 'a> Reading<'s, 'a> {
+impl<'s, 'a: 's> Reading<'s, 'a> {
     pub fn new(alloc: Global, seed: Seed) -> Self
         ensures whole { IsWhole result }
         ensures meaning { Holds result 0 nothing }
@@ -225,9 +225,14 @@ impl<'s, 'a> Reading<'s, 'a> {
         }
     }
 
-    pub fn define(&mut self, item: usize, name: &'a [u8], value: &'s Value<'a>) -> Result<(), Fault>
+    pub fn define(
+        &mut self,
+        item: usize,
+        name: &'a [u8],
+        value: PropertyValue<'a>,
+    ) -> Result<(), Fault>
         requires { IsWhole self.old }
-        ensures meaning { (mode : model.Mode) → ReadsItem mode self.old self.new item (property name.now (value_said value.now)) result }
+        ensures meaning { (mode : model.Mode) → ReadsItem mode self.old self.new item (property name.now (value_held value.entry)) result }
         ensures whole { OnOk result (IsWhole self.new) }
         ensures grown { OnOk result (length self.old.growing.nodes.items ≤ length self.new.growing.nodes.items) }
     {
@@ -279,12 +284,12 @@ impl<'s, 'a> Reading<'s, 'a> {
         item: usize,
         name: &'s [u8],
         property: &'a [u8],
-        value: &'s Value<'a>,
+        value: PropertyValue<'a>,
     ) -> Result<(), Fault>
         requires whole { IsWhole self.old }
         requires rooted { 0 < length self.old.growing.nodes.items }
         ensures meaning { Does (λ so_far. model.outside so_far.bodies
-            (Ok (open_fragment name.now property.now (value_said value.now) so_far))) self.old self.new item result }
+            (Ok (open_fragment name.now property.now (value_held value.entry) so_far))) self.old self.new item result }
         ensures whole { OnOk result (IsWhole self.new) }
         ensures rooted { OnOk result (0 < length self.new.growing.nodes.items) }
     {
@@ -306,7 +311,7 @@ impl<'s, 'a> Reading<'s, 'a> {
     }
 
     /// The next item, which has this number.
-    fn step(&mut self, mode: Mode, item: usize, next: &'s Item<'a>) -> Result<(), Fault>
+    fn step(&mut self, mode: Mode, item: usize, next: &'a Item<'a>) -> Result<(), Fault>
         requires { IsWhole self.old }
         ensures meaning { ReadsItem (mode_said mode) self.old self.new item (place_said next.now) result }
         ensures whole { OnOk result (IsWhole self.new) }
@@ -317,7 +322,9 @@ impl<'s, 'a> Reading<'s, 'a> {
             Item::DeleteNode(reference) => self.delete_node(item, reference),
             Item::Child(name) => self.child(mode, item, name.as_bytes()),
             Item::Label(label) => self.label(label.as_bytes()),
-            Item::Property(name, value) => self.define(item, name.as_bytes(), value),
+            Item::Property(name, value) => {
+                self.define(item, name.as_bytes(), PropertyValue::Written(value))
+            }
             Item::DeleteProperty(name) => self.undefine(name.as_bytes()),
             Item::DeleteChild(name) => self.delete_child(name.as_bytes()),
             Item::Close => self.close(),
@@ -326,10 +333,10 @@ impl<'s, 'a> Reading<'s, 'a> {
 }
 
 /// Reads items from the first on.
-fn read_items<'s, 'a>(
+fn read_items<'s, 'a: 's>(
     reading: &mut Reading<'s, 'a>,
     mode: Mode,
-    items: &'s [Item<'a>],
+    items: &'a [Item<'a>],
 ) -> Result<(), Fault>
     requires whole { IsWhole reading.old }
     requires nothing { Holds reading.old 0 nothing }
@@ -349,11 +356,11 @@ fn read_items<'s, 'a>(
 /// reference of a block or a deletion that names no node (NoSuchTarget), a bookkeeping node in a base (ReservedName), a path
 /// of more than 64 names (Limit), a body that is open where none may be, or none where one must be (Syntax), or want of
 /// memory (NoMemory). No fault has a place (Devicetree Specification v0.4, 6.3).
-pub fn grow<'s, 'a>(
+pub fn grow<'s, 'a: 's>(
     alloc: Global,
     seed: Seed,
     mode: Mode,
-    items: &'s [Item<'a>],
+    items: &'a [Item<'a>],
 ) -> Result<Growing<'s, 'a>, Fault>
     ensures { MatchResult result
         (λ g. (so_far : SoFar) × (read_all (mode_said mode) nothing (map place_said items.now) ≡ Ok so_far)

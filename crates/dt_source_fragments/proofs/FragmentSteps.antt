@@ -7,6 +7,7 @@ use Rattle.std.specs.Option.{option_map, option_map_or}
 use Rattle.std.proofs.lemmas.List.{append-nil, drop_all, drop_more, length-map, map-append}
 use Rattle.std.proofs.lemmas.Bool.Decides.{eqb_tells}
 use Rattle.std.proofs.lemmas.Option.{slice_get-map, slice_get-get_or, slice_get_within}
+use Rattle.std.specs.Cow.{cow_slice_items}
 use Rattle.dt_model.specs.Lists.{IsIn}
 use Rattle.dt_model.specs.Meaning.{Item, byte, reference}
 use Rattle.dt_model.specs.Path.{Path}
@@ -41,35 +42,35 @@ no_references (b ∷ bs) = no_references bs
 references_said : (ps : List NamedPiece) → references (pieces_said ps) ≡ length ps
 references_said [] = refl
 references_said (p ∷ ps) =
-    let e = references-append (map byte p.before.items) (reference (reference_said p.reference) ∷ pieces_said ps) in
+    let e = references-append (map byte (cow_slice_items p.before)) (reference (reference_said p.reference) ∷ pieces_said ps) in
     let rest = references_said ps in
-    let none = no_references p.before.items in
+    let none = no_references (cow_slice_items p.before) in
     omega (arith, e, rest, none)
 
 value_references : (v : NamedValue) → references (value_said v) ≡ length v.pieces.items
 value_references v =
-    let e = references-append (pieces_said v.pieces.items) (map byte v.bytes.items) in
+    let e = references-append (pieces_said v.pieces.items) (map byte (cow_slice_items v.bytes)) in
     let n = references_said v.pieces.items in
-    let none = no_references v.bytes.items in
+    let none = no_references (cow_slice_items v.bytes) in
     omega (arith, e, n, none)
 
 length_said : (ps : List NamedPiece) → length ps ≤ length (pieces_said ps)
 length_said [] = omega arith
 length_said (p ∷ ps) =
-    let e = length-append (map byte p.before.items) (reference (reference_said p.reference) ∷ pieces_said ps) in
+    let e = length-append (map byte (cow_slice_items p.before)) (reference (reference_said p.reference) ∷ pieces_said ps) in
     let rest = length_said ps in
     omega (arith, e, rest)
 
 pub one_piece : (v : NamedValue) (r : NodeReference) → value_said v ≡ reference r ∷ [] → length v.pieces.items ≡ 1
 one_piece v r e = sym (value_references v) ∙ ap references e
 
-pub no_bytes : (v : NamedValue) (r : NodeReference) → value_said v ≡ reference r ∷ [] → length v.bytes.items ≡ 0
+pub no_bytes : (v : NamedValue) (r : NodeReference) → value_said v ≡ reference r ∷ [] → length (cow_slice_items v.bytes) ≡ 0
 no_bytes v r e =
     let one = one_piece v r e in
-    let l = length-append (pieces_said v.pieces.items) (map byte v.bytes.items) in
+    let l = length-append (pieces_said v.pieces.items) (map byte (cow_slice_items v.bytes)) in
     let whole : length (value_said v) ≡ 1 = ap length e in
     let more = length_said v.pieces.items in
-    let bytes : length (map {B = Item NodeReference} byte v.bytes.items) ≡ length v.bytes.items = length-map v.bytes.items byte in
+    let bytes : length (map {B = Item NodeReference} byte (cow_slice_items v.bytes)) ≡ length (cow_slice_items v.bytes) = length-map (cow_slice_items v.bytes) byte in
     omega (arith, one, l, whole, more, bytes)
 
 pub no_pieces : (v : NamedValue) (bs : List ℕ) → value_said v ≡ map byte bs → length v.pieces.items ≡ 0
@@ -96,11 +97,11 @@ last_back (a ∷ xs) (b ∷ ys) x y e =
     λ i. head i ∷ tail i
 
 -- a value without references, whose bytes end with this one, is no path's text with its NUL where the rest is none
-pub no_path_text : (v : NamedValue) (text own : List ℕ) (last : ℕ) → v.pieces.items ≡ [] → v.bytes.items ≡ own ++ last ∷ [] → ((p : Path) → IsPathOf own p → ⊥)
+pub no_path_text : (v : NamedValue) (text own : List ℕ) (last : ℕ) → v.pieces.items ≡ [] → (cow_slice_items v.bytes) ≡ own ++ last ∷ [] → ((p : Path) → IsPathOf own p → ⊥)
     → IsPathText text → value_said v ≡ map byte (text ++ 0 ∷ []) → ⊥
 no_path_text v text own last none ends other is e =
     let bytes : map {B = Item NodeReference} byte (own ++ last ∷ []) ≡ map byte (text ++ 0 ∷ []) =
-    ap (λ bs. map byte bs) (sym ends) ∙ ap (λ ps. pieces_said ps ++ map byte v.bytes.items) (sym none) ∙ e in
+    ap (λ bs. map byte bs) (sym ends) ∙ ap (λ ps. pieces_said ps ++ map byte (cow_slice_items v.bytes)) (sym none) ∙ e in
     let same : own ≡ text = last_back own text last 0 (bytes_back (own ++ last ∷ []) (text ++ 0 ∷ []) bytes) in
     other is.0 (record { written = same ∙ is.1; named = is.2 })
 
@@ -142,13 +143,13 @@ first_left nodes k n l is = ap (λ ms. fragments_among (map node_said nodes) (ma
 
 -- what is left of a value refers to marked nodes alone, by its first piece
 pub left_within : (marks : List Bool) (v : NamedValue) (i : ℕ) (p : NamedPiece) → i < length v.pieces.items → p ≡ get_or v.pieces.items i p
-    → refers_within marks (pieces_said (drop i v.pieces.items) ++ map byte v.bytes.items)
-    ≡ (is_within marks (reference_said p.reference) && refers_within marks (pieces_said (drop (i + 1) v.pieces.items) ++ map byte v.bytes.items))
+    → refers_within marks (pieces_said (drop i v.pieces.items) ++ map byte (cow_slice_items v.bytes))
+    ≡ (is_within marks (reference_said p.reference) && refers_within marks (pieces_said (drop (i + 1) v.pieces.items) ++ map byte (cow_slice_items v.bytes)))
 left_within marks v i p l is =
     let split : drop i v.pieces.items ≡ p ∷ drop (i + 1) v.pieces.items = drop_more v.pieces.items i p l ∙ ap (λ (q : NamedPiece). q ∷ drop (i + 1) v.pieces.items) (sym is) in
-    ap (λ (qs : List NamedPiece). refers_within marks (pieces_said qs ++ map byte v.bytes.items)) split
-    ∙ ap (refers_within marks) (append_assoc (map byte p.before.items) (reference (reference_said p.reference) ∷ pieces_said (drop (i + 1) v.pieces.items)) (map byte v.bytes.items))
-    ∙ passed p.before.items (reference (reference_said p.reference) ∷ (pieces_said (drop (i + 1) v.pieces.items) ++ map byte v.bytes.items))
+    ap (λ (qs : List NamedPiece). refers_within marks (pieces_said qs ++ map byte (cow_slice_items v.bytes))) split
+    ∙ ap (refers_within marks) (append_assoc (map byte (cow_slice_items p.before)) (reference (reference_said p.reference) ∷ pieces_said (drop (i + 1) v.pieces.items)) (map byte (cow_slice_items v.bytes)))
+    ∙ passed (cow_slice_items p.before) (reference (reference_said p.reference) ∷ (pieces_said (drop (i + 1) v.pieces.items) ++ map byte (cow_slice_items v.bytes)))
   where
     passed : (bs : List ℕ) (w : List (Item NodeReference)) → refers_within marks (map byte bs ++ w) ≡ refers_within marks w
     passed [] w = refl

@@ -52,11 +52,11 @@ fn one_reference<'a>(value: &NamedValue<'a>) -> Option<NamedReference<'a>>
     if value.pieces.len() != 1 {
         return None;
     }
-    if !value.bytes.is_empty() {
+    if value.bytes.len() > 0 {
         return None;
     }
     let piece = &value.pieces[0];
-    if piece.before.is_empty() {
+    if piece.before.len() == 0 {
         Some(piece.reference)
     } else {
         None
@@ -72,7 +72,7 @@ fn path_text<'v>(value: &'v NamedValue<'_>) -> Option<&'v [u8]>
     if !value.pieces.is_empty() {
         return None;
     }
-    let (last, text) = value.bytes.split_last()?;
+    let (last, text) = value.bytes.as_slice().split_last()?;
     if *last != 0 {
         return None;
     }

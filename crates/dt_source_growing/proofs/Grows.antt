@@ -6,9 +6,8 @@ use Rattle.dt_model.specs.Limits.{most_names}
 use Rattle.dt_model.specs.Names.{Name}
 use Rattle.dt_model.specs.Event.{Stack, stands}
 use Rattle.dt_model.specs.Source.{Part, Events}
-use Rattle.dt_source_items.specs.Said.{value_said}
 use Rattle.dt_source_growing.specs.Shape.{node_at, property_at, given_at, Shows}
-use Rattle.dt_source_growing.specs.Grown.{HasValue, HasLabel, IsGrown}
+use Rattle.dt_source_growing.specs.Grown.{HasValue, HasLabel, IsGrown, value_held}
 use Rattle.dt_source_growing.specs.Growing.{properties_listed, shape, IsSoundGrowing}
 use Rattle.dt_source_growing.specs.Table.{name_entry}
 use Rattle.dt_source_growing.specs.declared.growing.Property.{Property}
@@ -33,7 +32,7 @@ module _ (g : Growing) (h : IsSoundGrowing g) where
       let here : l.last e.property.node x ≡ Some i = rw (owner, named) at last in
       let at : node_at (shape g) p ≡ Some e.property.node = leads_to g h p e.property.node e.node in (
         ap (option_and_then (λ k. (shape g).property k x)) at ∙ found_stands l e.property.node x i here stood,
-        ap (option_map (λ (q : Property). value_said q.value.now)) e.there ∙ ap Some e.value,
+        ap (option_map (λ (q : Property). value_held q.value)) e.there ∙ ap Some e.value,
       )
 
   pub value_from : (p : Stack) (x : Name) (v : List Part) (i : ℕ) → property_at (shape g) (p, x) ≡ Some i → (shape g).value i ≡ Some v → HasValue g.nodes.items g.properties.items p x v i
@@ -41,7 +40,7 @@ module _ (g : Growing) (h : IsSoundGrowing g) where
       option_and_then_some (λ k. (shape g).property k x) (node_at (shape g) p) i e
       (λ k e1 e2.
       let q = is_property (length g.nodes.items) g.properties.items g.indices.map.entries h.has_properties k x i e2 in
-      let same : Some (value_said q.property.value.now) ≡ Some v = sym (ap (option_map (λ (q : Property). value_said q.value.now)) q.there) ∙ w in
+      let same : Some (value_held q.property.value) ≡ Some v = sym (ap (option_map (λ (q : Property). value_held q.value)) q.there) ∙ w in
       record {
         property = q.property;
         there = q.there;

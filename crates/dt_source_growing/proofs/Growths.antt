@@ -6,8 +6,7 @@ use Rattle.std.proofs.lemmas.Option.{slice_get_within}
 use Rattle.std.proofs.lemmas.Bool.{eqb-true, eq-eqb}
 use Rattle.dt_model.specs.Names.{Name}
 use Rattle.dt_model.specs.Source.{Part}
-use Rattle.dt_source_items.specs.Said.{value_said}
-use Rattle.dt_source_growing.specs.Grown.{name_said}
+use Rattle.dt_source_growing.specs.Grown.{name_said, value_held}
 use Rattle.dt_source_growing.specs.Table.{Key, entry, Puts, name_entry, PutsName}
 use Rattle.dt_source_growing.specs.Shape.{Shape, begun, MakesRoot, AddsChild, OpensChild, Cuts, Defines, Undefines, Gives}
 use Rattle.dt_source_growing.specs.Growing.{found, nodes_listed, properties_listed, item_of, to_node, shape_of, HasNodes, HasProperties, HasLabels}
@@ -105,13 +104,13 @@ module _ (nodes : List Node) (children : List (Key × Last)) (givings : List Giv
   pub defines_again : (properties : List Property) (indices found' : List (Key × Last)) (k : ℕ) (q r : Property) (i : ℕ) (x : Name) (w : Last) → slice_get properties k ≡ Some q
       → r.node ≡ q.node → r.name.now ≡ q.name.now → r.stands ≡ q.stands → Puts indices found' i x w → w.index ≡ k → found (properties_listed properties indices) i x ≡ Some k
       → (new : List Property) → new ≡ slice_set properties k r
-      → Defines (shape_of nodes children properties indices givings labels) (shape_of nodes children new found' givings labels) i x (value_said r.value.now) w.item
+      → Defines (shape_of nodes children properties indices givings labels) (shape_of nodes children new found' givings labels) i x (value_held r.value) w.item
   defines_again properties indices found' k q r i x w there node name stands puts index here new e =
       let l = properties_listed properties indices in
       let m = properties_listed (slice_set properties k r) found' in
       let same : (j : ℕ) (y : Name) → found m j y ≡ found l j y = found-kept l m
       (listed-written (λ (m : Property). m.node) (λ (m : Property). m.name.now) (λ (m : Property). m.stands) properties k q r indices found' i x w there node name stands puts (here ∙ ap Some (sym index))) in
-      subst (λ xs. Defines (shape_of nodes children properties indices givings labels) (shape_of nodes children xs found' givings labels) i x (value_said r.value.now) w.item) (sym e)
+      subst (λ xs. Defines (shape_of nodes children properties indices givings labels) (shape_of nodes children xs found' givings labels) i x (value_held r.value) w.item) (sym e)
       record {
         nodes = record { size = refl; child = refl; opened = refl };
         property = λ j y. same j y ∙ bool_cases (nat_eq i j && bytes_eq x y) (found l j y ≡ begun (nat_eq i j && bytes_eq x y) (length properties) (found l j y))
@@ -120,9 +119,9 @@ module _ (nodes : List Node) (children : List (Key × Last)) (givings : List Giv
             at ∙ sym (begun-keeps (nat_eq i j && bytes_eq x y) (length properties) k (found l j y) at))
             (λ f. rw f (sym (begun-not (length properties) (found l j y))));
         value = λ j e. let s : Some k ≡ Some j = sym (same i x ∙ here) ∙ e in let kj : k ≡ j = cc in
-            subst (λ j. option_map (λ (q : Property). value_said q.value.now) (slice_get (slice_set properties k r) j) ≡ Some (value_said r.value.now)) kj
-            (ap (option_map (λ (q : Property). value_said q.value.now)) (slice_get-set_same properties k r q there));
-        others = λ j below other. ap (option_map (λ (q : Property). value_said q.value.now))
+            subst (λ j. option_map (λ (q : Property). value_held q.value) (slice_get (slice_set properties k r) j) ≡ Some (value_held r.value)) kj
+            (ap (option_map (λ (q : Property). value_held q.value)) (slice_get-set_same properties k r q there));
+        others = λ j below other. ap (option_map (λ (q : Property). value_held q.value))
             (slice_get-set_other properties k j r (λ kj. other (same i x ∙ here ∙ ap Some kj)));
         defined = item_of_put indices found' i x w puts;
         labels = record { givings = refl; given = refl };
@@ -130,14 +129,14 @@ module _ (nodes : List Node) (children : List (Key × Last)) (givings : List Giv
 
   pub defines_new : (properties new : List Property) (indices found' : List (Key × Last)) (size : ℕ) (q : Property) (w : Last) → HasProperties size properties indices → new ≡ properties ++ q ∷ []
       → Puts indices found' q.node q.name.now w → w.index ≡ length properties → q.stands ≡ true → found (properties_listed properties indices) q.node q.name.now ≡ None
-      → Defines (shape_of nodes children properties indices givings labels) (shape_of nodes children new found' givings labels) q.node q.name.now (value_said q.value.now) w.item
+      → Defines (shape_of nodes children properties indices givings labels) (shape_of nodes children new found' givings labels) q.node q.name.now (value_held q.value) w.item
   defines_new properties new indices found' size q w h e puts index here none =
       let l = properties_listed properties indices in
       let m = properties_listed (properties ++ q ∷ []) found' in
       let more : (j : ℕ) (y : Name) → found m j y ≡ cond (nat_eq q.node j && bytes_eq q.name.now y) (Some (length properties)) (found l j y) = found-added 0 l m q.node q.name.now h.indexed
       (listed-push (λ (m : Property). m.node) (λ (m : Property). m.name.now) (λ (m : Property). m.stands) properties q indices found' w puts index here) in
       let put : found m q.node q.name.now ≡ Some (length properties) = more q.node q.name.now ∙ ap (λ b. cond b (Some (length properties)) (found l q.node q.name.now)) (key-refl q.node q.name.now) in
-      subst (λ xs. Defines (shape_of nodes children properties indices givings labels) (shape_of nodes children xs found' givings labels) q.node q.name.now (value_said q.value.now) w.item) (sym e)
+      subst (λ xs. Defines (shape_of nodes children properties indices givings labels) (shape_of nodes children xs found' givings labels) q.node q.name.now (value_held q.value) w.item) (sym e)
       record {
         nodes = record { size = refl; child = refl; opened = refl };
         property = λ j y. more j y ∙ bool_cases (nat_eq q.node j && bytes_eq q.name.now y)
@@ -147,15 +146,15 @@ module _ (nodes : List Node) (children : List (Key × Last)) (givings : List Giv
             rw (t, was) refl)
             (λ f. rw f (sym (begun-not (length properties) (found l j y))));
         value = λ j e. let s : Some (length properties) ≡ Some j = sym put ∙ e in let kj : length properties ≡ j = cc in
-            ap (option_map (λ (q : Property). value_said q.value.now)) (slice_get-push_new properties q j (sym kj));
-        others = λ j below other. ap (option_map (λ (q : Property). value_said q.value.now)) (slice_get-push_old properties q j below);
+            ap (option_map (λ (q : Property). value_held q.value)) (slice_get-push_new properties q j (sym kj));
+        others = λ j below other. ap (option_map (λ (q : Property). value_held q.value)) (slice_get-push_old properties q j below);
         defined = item_of_put indices found' q.node q.name.now w puts;
         labels = record { givings = refl; given = refl };
       }
 
   -- a property that stands doesn't any more
   pub undefines : (properties : List Property) (indices : List (Key × Last)) (size k : ℕ) (q r : Property) → HasProperties size properties indices → slice_get properties k ≡ Some q → q.stands ≡ true
-      → r.node ≡ q.node → r.name.now ≡ q.name.now → r.stands ≡ false → r.value.now ≡ q.value.now
+      → r.node ≡ q.node → r.name.now ≡ q.name.now → r.stands ≡ false → r.value ≡ q.value
       → (new : List Property) → new ≡ slice_set properties k r
       → Undefines (shape_of nodes children properties indices givings labels) (shape_of nodes children new indices givings labels)
       ((properties_listed properties indices).owner k) ((properties_listed properties indices).name k)
@@ -171,10 +170,10 @@ module _ (nodes : List Node) (children : List (Key × Last)) (givings : List Giv
         count = length-set properties k r;
         property = fewer;
         value = λ j. bool_cases (nat_eq k j)
-            (option_map (λ (q : Property). value_said q.value.now) (slice_get (slice_set properties k r) j) ≡ option_map (λ (q : Property). value_said q.value.now) (slice_get properties j))
+            (option_map (λ (q : Property). value_held q.value) (slice_get (slice_set properties k r) j) ≡ option_map (λ (q : Property). value_held q.value) (slice_get properties j))
             (λ t. let kj : k ≡ j = eqb-true k j t in
-            rw (← kj) (ap (option_map (λ (q : Property). value_said q.value.now)) (slice_get-set_same properties k r q there) ∙ ap (λ v. Some (value_said v)) value ∙ sym (ap (option_map (λ (q : Property). value_said q.value.now)) there)))
-            (λ f. ap (option_map (λ (q : Property). value_said q.value.now)) (slice_get-set_other properties k j r (λ kj. let t : nat_eq k j ≡ true = eq-eqb k j kj in cc)));
+            rw (← kj) (ap (option_map (λ (q : Property). value_held q.value)) (slice_get-set_same properties k r q there) ∙ ap (λ v. Some (value_held v)) value ∙ sym (ap (option_map (λ (q : Property). value_held q.value)) there)))
+            (λ f. ap (option_map (λ (q : Property). value_held q.value)) (slice_get-set_other properties k j r (λ kj. let t : nat_eq k j ≡ true = eq-eqb k j kj in cc)));
         defined = refl;
         labels = record { givings = refl; given = refl };
       }

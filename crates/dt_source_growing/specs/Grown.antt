@@ -1,15 +1,28 @@
 -- What a tree under construction stands for: the nodes, properties and labels that stand after some events.
-use Rattle.std.specs.Prelude.{◌≡◌, ℕ, ◌<◌, ◌≤◌, true, List, [], ◌∷◌, length, Some, slice_get}
+use Rattle.std.specs.Prelude.{◌≡◌, ℕ, ◌<◌, ◌≤◌, true, List, [], ◌∷◌, map, length, Some, slice_get}
 use Rattle.dt_model.specs.Limits.{most_names}
 use Rattle.dt_model.specs.Names.{Name}
 use Rattle.dt_model.specs.Event.{Stack, stands, value_at, names, age, property_age, label_age}
-use Rattle.dt_model.specs.Source.{Part, Events}
-use Rattle.dt_source_items.specs.Said.{value_said}
+use Rattle.dt_model.specs.Path.{path_value}
+use Rattle.dt_model.specs.Source.{Part, Events, Reference, by_label, by_path, one, number_of}
+use Rattle.dt_source_items.specs.Said.{value_said, reference_of}
+use Rattle.dt_source_growing.specs.declared.growing.PropertyValue.{PropertyValue}
+use Rattle.dt_source_growing.specs.declared.growing.PropertyValue.TheVariants as value
 use Rattle.dt_source_growing.specs.declared.growing.NameText.{NameText}
 use Rattle.dt_source_growing.specs.declared.growing.NameText.TheVariants.{Written, Made}
 use Rattle.dt_source_growing.specs.declared.growing.Node.{Node}
 use Rattle.dt_source_growing.specs.declared.growing.Property.{Property}
 use Rattle.dt_source_growing.specs.declared.growing.Giving.{Giving}
+
+-- what the target of a new fragment holds
+abbrev pub target_value : Reference → List Part
+target_value (by_label l) = number_of (by_label l) ∷ []
+target_value (by_path p) = map one (path_value p)
+
+-- what a property holds
+abbrev pub value_held : PropertyValue → List Part
+value_held (value.Written v) = value_said v.now
+value_held (value.Target r) = target_value (reference_of r.now)
 
 -- a node below the root comes after its parent
 abbrev pub AreAbove : List Node → Type 0
@@ -31,7 +44,7 @@ pub record HasValue (nodes : List Node) (properties : List Property) (p : Stack)
   pub there : slice_get properties i ≡ Some property
   pub stands : property.stands ≡ true
   pub named : property.name.now ≡ x
-  pub value : value_said property.value.now ≡ v
+  pub value : value_held property.value ≡ v
   pub node : StandsUnder nodes p property.node
 
 -- entry i gives the label to the node that stands under these names

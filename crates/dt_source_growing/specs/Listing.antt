@@ -6,8 +6,7 @@ use Rattle.std.specs.Str.{bytes_eq}
 use Rattle.dt_model.specs.Names.{Name}
 use Rattle.dt_model.specs.Event.{Stack}
 use Rattle.dt_model.specs.Source.{Part}
-use Rattle.dt_source_items.specs.Said.{value_said}
-use Rattle.dt_source_growing.specs.Grown.{AreAbove, name_said}
+use Rattle.dt_source_growing.specs.Grown.{AreAbove, name_said, value_held}
 use Rattle.dt_source_growing.specs.Shape.{Shape, node_at}
 use Rattle.dt_source_growing.specs.Table.{Key, entry, name_entry}
 use Rattle.dt_source_growing.specs.declared.table.Last.{Last}
@@ -102,7 +101,7 @@ shape_of nodes children properties indices givings labels = record {
   opened = item_of children;
   count = length properties;
   property = found (properties_listed properties indices);
-  value = λ k. option_map (λ q. value_said q.value.now) (slice_get properties k);
+  value = λ k. option_map (λ q. value_held q.value) (slice_get properties k);
   defined = item_of indices;
   givings = length givings;
   given = given_to givings labels;

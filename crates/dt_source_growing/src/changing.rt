@@ -2,15 +2,13 @@
 
 ghost use Rattle.std.specs.Prelude.{◌≡◌, ◌<◌, ◌⊎◌, [], true, length, slice_set, Some, None, IfOk, OnOk};
 ghost use Rattle.dt_model.specs.Event.{Stack};
-ghost use Rattle.dt_source_items.specs.Said.{value_said};
 ghost use Rattle.dt_source_growing.specs.Shape.{given_at, MakesRoot, AddsChild, OpensChild, Cuts, Defines, Undefines, Gives};
-ghost use Rattle.dt_source_growing.specs.Grown.{name_said};
+ghost use Rattle.dt_source_growing.specs.Grown.{name_said, value_held};
 ghost use Rattle.dt_source_growing.specs.Growing.{shape, nodes_listed, properties_listed};
 
-use crate::growing::{Giving, Growing, NameText, Node, Property};
+use crate::growing::{Giving, Growing, NameText, Node, Property, PropertyValue};
 use crate::table::{Last, NameTable, Table};
 use dt_names::Seed;
-use dt_source_items::Value;
 use std::alloc::{AllocError, Global};
 
 /// Puts a thing in the place of another.
@@ -21,7 +19,7 @@ fn write<T: Drop>(things: &mut Vec<T>, index: usize, thing: T)
     things[index] = thing;
 }
 
-impl<'s, 'a> Growing<'s, 'a> {
+impl<'s, 'a: 's> Growing<'s, 'a> {
     /// No tree yet. Names will be hashed behind the seed.
     pub fn new(alloc: Global, seed: Seed) -> Self
         ensures nodes { result.nodes.items ≡ [] }
@@ -189,11 +187,11 @@ impl<'s, 'a> Growing<'s, 'a> {
         node: usize,
         name: &'a [u8],
         index: usize,
-        value: &'s Value<'a>,
+        value: PropertyValue<'a>,
         item: usize,
     ) -> Result<(), AllocError>
         requires there { (shape self.old).property node name.now ≡ Some index }
-        ensures defined { OnOk result (Defines (shape self.old) (shape self.new) node name.now (value_said value.now) item) }
+        ensures defined { OnOk result (Defines (shape self.old) (shape self.new) node name.now (value_held value.entry) item) }
     {
         self.indices.put(node, name, Last { index, item })?;
         let property = Property {
@@ -210,12 +208,12 @@ impl<'s, 'a> Growing<'s, 'a> {
         &mut self,
         node: usize,
         name: &'a [u8],
-        value: &'s Value<'a>,
+        value: PropertyValue<'a>,
         item: usize,
     ) -> Result<(), AllocError>
         requires inside { node < length self.old.nodes.items }
         requires absent { (shape self.old).property node name.now ≡ None }
-        ensures defined { OnOk result (Defines (shape self.old) (shape self.new) node name.now (value_said value.now) item) }
+        ensures defined { OnOk result (Defines (shape self.old) (shape self.new) node name.now (value_held value.entry) item) }
     {
         let index = self.properties.len();
         self.properties.reserve(1)?;
@@ -234,13 +232,13 @@ impl<'s, 'a> Growing<'s, 'a> {
         &mut self,
         node: usize,
         name: &'a [u8],
-        value: &'s Value<'a>,
+        value: PropertyValue<'a>,
         item: usize,
         property: Option<usize>,
     ) -> Result<(), AllocError>
         requires inside { node < length self.old.nodes.items }
         requires known { property ≡ (shape self.old).property node name.now }
-        ensures defined { OnOk result (Defines (shape self.old) (shape self.new) node name.now (value_said value.now) item) }
+        ensures defined { OnOk result (Defines (shape self.old) (shape self.new) node name.now (value_held value.entry) item) }
     {
         match property {
             Some(index) => self.define_again(node, name, index, value, item),
@@ -253,11 +251,11 @@ impl<'s, 'a> Growing<'s, 'a> {
         &mut self,
         node: usize,
         name: &'a [u8],
-        value: &'s Value<'a>,
+        value: PropertyValue<'a>,
         item: usize,
     ) -> Result<(), AllocError>
         requires inside { node < length self.old.nodes.items }
-        ensures defined { OnOk result (Defines (shape self.old) (shape self.new) node name.now (value_said value.now) item) }
+        ensures defined { OnOk result (Defines (shape self.old) (shape self.new) node name.now (value_held value.entry) item) }
     {
         let property = self.property(node, name);
         self.define_known(node, name, value, item, property)

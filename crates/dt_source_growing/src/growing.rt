@@ -5,7 +5,7 @@ ghost use Rattle.dt_source_growing.specs.Grown.{name_said};
 ghost use Rattle.dt_source_growing.specs.Listing.{IsSound};
 
 use crate::table::{NameTable, Table};
-use dt_source_items::Value;
+use dt_source_items::{Reference, Value};
 
 /// The name of a node: as it is written in the text, or made for a new fragment.
 #[derive(Clone, Copy)]
@@ -34,12 +34,21 @@ pub struct Node<'s, 'a> {
     pub stands: bool,
 }
 
+/// What a property holds.
+#[derive(Clone, Copy)]
+pub enum PropertyValue<'a> {
+    /// A value that the source writes.
+    Written(&'a Value<'a>),
+    /// The target of a new fragment: a cell by its label, or the text of its path and a NUL.
+    Target(&'a Reference<'a>),
+}
+
 /// A property of a node.
 #[derive(Drop)]
-pub struct Property<'s, 'a> {
+pub struct Property<'a> {
     pub node: usize,
     pub name: &'a [u8],
-    pub value: &'s Value<'a>,
+    pub value: PropertyValue<'a>,
     /// Whether it wasn't deleted by itself.
     pub stands: bool,
 }
@@ -56,7 +65,7 @@ pub struct Giving<'a> {
 #[derive(Drop)]
 pub struct Growing<'s, 'a> {
     pub nodes: Vec<Node<'s, 'a>>,
-    pub properties: Vec<Property<'s, 'a>>,
+    pub properties: Vec<Property<'a>>,
     pub givings: Vec<Giving<'a>>,
     pub children: Table<'s>,
     pub indices: Table<'a>,

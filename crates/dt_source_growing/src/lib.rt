@@ -20,6 +20,6 @@ mod growing;
 mod referring;
 mod table;
 
-pub use growing::{Giving, Growing, NameText, Node, Property};
+pub use growing::{Giving, Growing, NameText, Node, Property, PropertyValue};
 pub use referring::Unnamed;
 pub use table::{Last, NameTable, Table};

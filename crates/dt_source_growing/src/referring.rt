@@ -21,7 +21,7 @@ pub enum Unnamed {
     Kept,
 }
 
-impl<'s, 'a> Growing<'s, 'a> {
+impl<'s, 'a: 's> Growing<'s, 'a> {
     /// How many names the path of a node has; none where the node is gone.
     pub fn depth(&self, node: usize) -> Option<usize>
         requires inside { node < length self.now.nodes.items }

@@ -19,10 +19,10 @@ reference_said (Label l) = outside l.now
 
 abbrev pub pieces_said : List NamedPiece → List (Item NodeReference)
 pieces_said [] = []
-pieces_said (p ∷ ps) = map byte p.before.items ++ reference (reference_said p.reference) ∷ pieces_said ps
+pieces_said (p ∷ ps) = map byte (cow_slice_items p.before) ++ reference (reference_said p.reference) ∷ pieces_said ps
 
 abbrev pub value_said : NamedValue → List (Item NodeReference)
-value_said v = pieces_said v.pieces.items ++ map byte v.bytes.items
+value_said v = pieces_said v.pieces.items ++ map byte (cow_slice_items v.bytes)
 
 abbrev pub property_said : NamedProperty → model.NamedProperty NodeReference
 property_said p = record { name = p.name.now; value = value_said p.value }

@@ -18,10 +18,10 @@ pub enum NamedReference<'a> {
     Label(&'a [u8]),
 }
 
-/// Bytes of a value, and the reference that the cell behind them stands for.
+/// Bytes of a value, and the reference that the cell behind them stands for. What a source writes is borrowed from it.
 #[derive(Drop)]
 pub struct NamedPiece<'a> {
-    pub before: Vec<u8>,
+    pub before: CowSlice<'a, u8>,
     pub reference: NamedReference<'a>,
 }
 
@@ -29,7 +29,7 @@ pub struct NamedPiece<'a> {
 #[derive(Drop)]
 pub struct NamedValue<'a> {
     pub pieces: Vec<NamedPiece<'a>>,
-    pub bytes: Vec<u8>,
+    pub bytes: CowSlice<'a, u8>,
 }
 
 /// A property, whose name is borrowed from the source's text.

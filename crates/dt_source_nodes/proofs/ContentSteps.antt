@@ -13,7 +13,6 @@ use Rattle.dt_model.proofs.Tests.{in_append}
 use Rattle.dt_names.specs.declared.fault.Fault.{Fault}
 use Rattle.dt_names.specs.declared.fault.FaultKind.{FaultKind}
 use Rattle.dt_names.specs.declared.fault.FaultKind.TheVariants as fault
-use Rattle.dt_source_items.specs.Said as source
 use Rattle.dt_source_growing.specs.declared.growing.Property.{Property}
 use Rattle.dt_source_growing.specs.declared.growing.Growing.{Growing}
 use Rattle.dt_source_named_tree.specs.declared.named.NamedProperty.{NamedProperty}
@@ -27,6 +26,7 @@ use Rattle.dt_source_nodes.specs.Listing.{name_of, listed_row}
 use Rattle.dt_source_growing.specs.declared.referring.Unnamed.{Unnamed}
 use Rattle.dt_source_nodes.specs.Contents.{property_owner, label_owner, label_at, named_parts, all_read, named_property, property_at}
 use Rattle.dt_source_nodes.specs.Resolving.{EachNaming, WhyUnread, IsUnread, AreRead, WhyUnreadAmong, IsUnreadAmong, IsPropertyRead, ArePropertiesRead, IsRowRead, content_by, AreRowsRead, IsUnreadRow, Belong}
+use Rattle.dt_source_growing.specs.Grown.{value_held}
 use Rattle.dt_source_nodes.proofs.Binding.{parts_some}
 
 -- ---- lists
@@ -49,11 +49,11 @@ in_more xs i j d h k = step (in_append j (take i xs) (get_or xs i d ∷ []) (sub
 
 -- a property whose value is read
 pub property_read : (unnamed : Unnamed) (g : Growing) (places : List (Option ℕ)) (i : ℕ) (q : Property) (v : NamedValue) → slice_get g.properties.items i ≡ Some q →
-    EachNaming g places (λ es place. named_parts unnamed es place (source.value_said q.value.now) ≡ Some (value_said v)) →
+    EachNaming g places (λ es place. named_parts unnamed es place (value_held q.value) ≡ Some (value_said v)) →
     EachNaming g places (λ es place. IsPropertyRead unnamed es place g.properties.items i (property_said (record { name = q.name; value = v })))
 property_read unnamed g places i q v there h es place limit of by = (made, read)
   where
-    parts_named : named_parts unnamed es place (source.value_said q.value.now) ≡ Some (value_said v)
+    parts_named : named_parts unnamed es place (value_held q.value) ≡ Some (value_said v)
     parts_named = h es place limit of by
 
     made : property_said (record { name = q.name; value = v }) ≡ property_at unnamed es place g.properties.items i
@@ -65,18 +65,18 @@ property_read unnamed g places i q v there h es place limit of by = (made, read)
     read j p (inl e) at =
         let here : slice_get g.properties.items i ≡ Some p = ap (slice_get g.properties.items) (sym e) ∙ at in
         let same : q ≡ p = cc in
-        subst (λ (r : Property). is_some (all_read unnamed es (source.value_said r.value.now)) ≡ true) same
-        (sym (parts_some unnamed es place (source.value_said q.value.now)) ∙ ap is_some parts_named)
+        subst (λ (r : Property). is_some (all_read unnamed es (value_held r.value)) ≡ true) same
+        (sym (parts_some unnamed es place (value_held q.value)) ∙ ap is_some parts_named)
     read j p (inr none) at = absurd none
 
-why_among : (unnamed : Unnamed) (es : Events) (properties : List Property) (i : ℕ) (q : Property) (kind : FaultKind) → slice_get properties i ≡ Some q → WhyUnread unnamed es (source.value_said q.value.now) kind →
+why_among : (unnamed : Unnamed) (es : Events) (properties : List Property) (i : ℕ) (q : Property) (kind : FaultKind) → slice_get properties i ≡ Some q → WhyUnread unnamed es (value_held q.value) kind →
     WhyUnreadAmong unnamed es properties (i ∷ []) kind
 why_among unnamed es properties i q fault.NoMemory there h = tt
 why_among unnamed es properties i q fault.UnresolvedReference there h = (i, q, inl refl, there, h)
 why_among unnamed es properties i q kind there h = absurd h
 
 -- and one whose value isn't read
-pub unread_property : (unnamed : Unnamed) (g : Growing) (i : ℕ) (q : Property) (e : Fault) → slice_get g.properties.items i ≡ Some q → IsUnread unnamed g (source.value_said q.value.now) e → IsUnreadAmong unnamed g (i ∷ []) e
+pub unread_property : (unnamed : Unnamed) (g : Growing) (i : ℕ) (q : Property) (e : Fault) → slice_get g.properties.items i ≡ Some q → IsUnread unnamed g (value_held q.value) e → IsUnreadAmong unnamed g (i ∷ []) e
 unread_property unnamed g i q e there h = (h.0, λ es of. why_among unnamed es g.properties.items i q e.kind there (h.1 es of))
 
 why_more : (unnamed : Unnamed) (es : Events) (properties : List Property) (xs ys : List ℕ) (kind : FaultKind) → ((i : ℕ) → IsIn i xs → IsIn i ys) → WhyUnreadAmong unnamed es properties xs kind → WhyUnreadAmong unnamed es properties ys kind
@@ -109,7 +109,7 @@ properties_more unnamed g places indices k d old new p near e before one es plac
     )
   where
     step : (es : Events) → AreRead unnamed es g.properties.items (take k indices) → AreRead unnamed es g.properties.items (get_or indices k d ∷ []) → (i : ℕ) (q : Property) → slice_get g.properties.items i ≡ Some q →
-        IsIn i (take k indices) ⊎ (i ≡ get_or indices k d) → is_some (all_read unnamed es (source.value_said q.value.now)) ≡ true
+        IsIn i (take k indices) ⊎ (i ≡ get_or indices k d) → is_some (all_read unnamed es (value_held q.value)) ≡ true
     step es first last i q there (inl among) = first i q among there
     step es first last i q there (inr same) = last i q (inl same) there
 

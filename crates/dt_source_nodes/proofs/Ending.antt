@@ -19,13 +19,12 @@ use Rattle.dt_model.proofs.Cases.{map_some, then_some, some_there}
 use Rattle.dt_names.specs.declared.fault.Fault.{Fault}
 use Rattle.dt_names.specs.declared.fault.FaultKind.{FaultKind}
 use Rattle.dt_names.specs.declared.fault.FaultKind.TheVariants as fault
-use Rattle.dt_source_items.specs.Said.{value_said}
 use Rattle.dt_source_growing.specs.declared.growing.Node.{Node}
 use Rattle.dt_source_growing.specs.declared.growing.Property.{Property}
 use Rattle.dt_source_growing.specs.declared.growing.Growing.{Growing}
 use Rattle.dt_source_nodes.specs.declared.belongings.Belongings.{Belongings}
 use Rattle.dt_source_nodes.specs.declared.listing.Row.{Row}
-use Rattle.dt_source_growing.specs.Grown.{StandsUnder, HasValue}
+use Rattle.dt_source_growing.specs.Grown.{StandsUnder, HasValue, value_held}
 use Rattle.dt_source_nodes.specs.Owned.{group_of}
 use Rattle.dt_source_nodes.specs.Listing.{name_of, AreRows, ArePlaces, tree_with, listed_row}
 use Rattle.dt_source_growing.specs.declared.referring.Unnamed.{Unnamed}
@@ -155,7 +154,7 @@ module _ (g : Growing) (b : Belongings) (rows : List Row) (are : AreRows g.nodes
 
   -- a property at an index that belongs to a node that stands
   value_in : (p : Stack) (k i : ℕ) (q : Property) → StandsUnder g.nodes.items p k → IsIn i (group_of b.properties k) → slice_get g.properties.items i ≡ Some q →
-      HasValue g.nodes.items g.properties.items p q.name.now (value_said q.value.now) i
+      HasValue g.nodes.items g.properties.items p q.name.now (value_held q.value) i
   value_in p k i q h among there =
       let found = map_some property_owner (slice_get properties i) (Some k) (sym (slice_get-map property_owner properties i) ∙ belong.properties.sound k i among) in
       let at = found.1 in
@@ -186,7 +185,7 @@ module _ (g : Growing) (b : Belongings) (rows : List Row) (are : AreRows g.nodes
 
   -- and what the test finds is one of a node that stands
   phandle_found : (i : ℕ) (q : Property) → slice_get g.properties.items i ≡ Some q → is_phandle b.places.items q ≡ true →
-      (p : Stack) × HasValue g.nodes.items g.properties.items p (codes "phandle") (value_said q.value.now) i × StandsUnder g.nodes.items p q.node
+      (p : Stack) × HasValue g.nodes.items g.properties.items p (codes "phandle") (value_held q.value) i × StandsUnder g.nodes.items p q.node
   phandle_found i q there h =
       let name_is = and_right (q.stands && has_place places q.node) (bytes_eq q.name.now phandle) h in
       let rest = and_left (q.stands && has_place places q.node) (bytes_eq q.name.now phandle) h in
@@ -211,8 +210,8 @@ module _ (g : Growing) (b : Belongings) (rows : List Row) (are : AreRows g.nodes
   no_unresolved all h =
       let value = grown.values_are h.0 h.1 h.2 h.3 in
       let w = value.1 in
-      let some : is_some (all_bound es (value_said w.property.value.now)) ≡ true =
-      bound_some es (value_said w.property.value.now) ∙ all value.0 w.property h.0 w.there w.stands w.node in
+      let some : is_some (all_bound es (value_held w.property.value)) ≡ true =
+      bound_some es (value_held w.property.value) ∙ all value.0 w.property h.0 w.there w.stands w.node in
       not_none (all_bound es h.2) (ap (λ (v : List Part). is_some (all_bound es v)) (sym w.value) ∙ some) h.4
 
   written_there : AreWritten b.places.items g.properties.items → (p : Stack) (v : List Part) → value_at es p (codes "phandle") ≡ Some v → is_some (number_of_parts v) ≡ true
@@ -220,8 +219,8 @@ module _ (g : Growing) (b : Belongings) (rows : List Row) (are : AreRows g.nodes
       let value = grown.values_are p phandle v e in
       let w = value.1 in
       let here = phandle_there p v value.0 w in
-      let some : not (is_some (number_of_parts (value_said w.property.value.now))) ≡ false = and_false (is_phandle places w.property) (not (is_some (number_of_parts (value_said w.property.value.now)))) here (all value.0 w.property w.there) in
-      ap (λ (u : List Part). is_some (number_of_parts u)) (sym w.value) ∙ not_false (is_some (number_of_parts (value_said w.property.value.now))) some
+      let some : not (is_some (number_of_parts (value_held w.property.value))) ≡ false = and_false (is_phandle places w.property) (not (is_some (number_of_parts (value_held w.property.value)))) here (all value.0 w.property w.there) in
+      ap (λ (u : List Part). is_some (number_of_parts u)) (sym w.value) ∙ not_false (is_some (number_of_parts (value_held w.property.value))) some
 
   written_here : (p : Stack) (n : ℕ) → written_number es p ≡ Some n → (i : ℕ) × (q : Property) × (slice_get g.properties.items i ≡ Some q) × (phandle_written b.places.items q ≡ Some n) × StandsUnder g.nodes.items p q.node
   written_here p n e =
@@ -232,7 +231,7 @@ module _ (g : Growing) (b : Belongings) (rows : List Row) (are : AreRows g.nodes
         value.0,
         w.property,
         w.there,
-        ap (λ (t : Bool). cond t (number_of_parts (value_said w.property.value.now)) None) here ∙ (ap number_of_parts w.value ∙ v.2),
+        ap (λ (t : Bool). cond t (number_of_parts (value_held w.property.value)) None) here ∙ (ap number_of_parts w.value ∙ v.2),
         w.node,
       )
 
@@ -241,7 +240,7 @@ module _ (g : Growing) (b : Belongings) (rows : List Row) (are : AreRows g.nodes
     bound_to = λ p x v e.
         let value = grown.values_are p x v e in
         let w = value.1 in
-        subst (λ (u : List Part). IsSome (all_bound es u)) w.value (bound_some es (value_said w.property.value.now) ∙ all value.0 w.property p w.there w.stands w.node);
+        subst (λ (u : List Part). IsSome (all_bound es u)) w.value (bound_some es (value_held w.property.value) ∙ all value.0 w.property p w.there w.stands w.node);
     numbered = λ p v e. written_there written_all p v e;
     own = λ p q n e f.
         let first = written_here p n e in
@@ -262,7 +261,7 @@ module _ (g : Growing) (b : Belongings) (rows : List Row) (are : AreRows g.nodes
       let led = led_to r among in
       let q = h.1 in
       let value = value_in led.0 r.node h.0 q led.1 h.2 h.3 in
-      (led.0, q.name.now, value_said q.value.now, grown.values_stand led.0 q.name.now (value_said q.value.now) h.0 value, unbound es (value_said q.value.now) h.4)
+      (led.0, q.name.now, value_held q.value, grown.values_stand led.0 q.name.now (value_held q.value) h.0 value, unbound es (value_held q.value) h.4)
   unread_refused r among kind h = absurd h
 
   pub unread_there : (unnamed : Unnamed) (r : Row) → IsIn r rows → (kind : FaultKind) → WhyUnreadAmong unnamed es g.properties.items (group_of b.properties r.node) kind →
@@ -272,17 +271,17 @@ module _ (g : Growing) (b : Belongings) (rows : List Row) (are : AreRows g.nodes
       let led = led_to r among in
       let q = h.1 in
       let value = value_in led.0 r.node h.0 q led.1 h.2 h.3 in
-      inr (led.0, q.name.now, value_said q.value.now, grown.values_stand led.0 q.name.now (value_said q.value.now) h.0 value, h.4)
+      inr (led.0, q.name.now, value_held q.value, grown.values_stand led.0 q.name.now (value_held q.value) h.0 value, h.4)
   unread_there unnamed r among kind h = absurd h
 
   -- a `phandle` that writes none
   bad_there : HasUnwritten b.places.items g.properties.items → HasBadPhandle es
   bad_there h =
       let q = h.1 in
-      let here = and_left (is_phandle places q) (not (is_some (number_of_parts (value_said q.value.now)))) h.3 in
-      let none = not_true (is_some (number_of_parts (value_said q.value.now))) (and_right (is_phandle places q) (not (is_some (number_of_parts (value_said q.value.now)))) h.3) in
+      let here = and_left (is_phandle places q) (not (is_some (number_of_parts (value_held q.value)))) h.3 in
+      let none = not_true (is_some (number_of_parts (value_held q.value))) (and_right (is_phandle places q) (not (is_some (number_of_parts (value_held q.value)))) h.3) in
       let found = phandle_found h.0 q h.2 here in
-      (found.0, value_said q.value.now, grown.values_stand found.0 phandle (value_said q.value.now) h.0 found.1, some_or_none (number_of_parts (value_said q.value.now)) none)
+      (found.0, value_held q.value, grown.values_stand found.0 phandle (value_held q.value) h.0 found.1, some_or_none (number_of_parts (value_held q.value)) none)
 
   no_bad : AreWritten b.places.items g.properties.items → HasBadPhandle es → ⊥
   no_bad all h = not_none (number_of_parts h.1) (written_there all h.0 h.1 h.2) h.3
@@ -295,16 +294,16 @@ module _ (g : Growing) (b : Belongings) (rows : List Row) (are : AreRows g.nodes
       let p = h.2 in
       let q = h.3 in
       let n = h.4 in
-      let first = cond_some (is_phandle places p) (number_of_parts (value_said p.value.now)) n h.8 in
-      let second = cond_some (is_phandle places q) (number_of_parts (value_said q.value.now)) n h.9 in
+      let first = cond_some (is_phandle places p) (number_of_parts (value_held p.value)) n h.8 in
+      let second = cond_some (is_phandle places q) (number_of_parts (value_held q.value)) n h.9 in
       let here = phandle_found i p h.6 first.0 in
       let there = phandle_found j q h.7 second.0 in (
         here.0,
         there.0,
         n,
-        differ i j here.0 there.0 (value_said p.value.now) (value_said q.value.now) h.5 here.1 there.1,
-        ap (option_and_then number_of_parts) (grown.values_stand here.0 phandle (value_said p.value.now) i here.1) ∙ first.1,
-        ap (option_and_then number_of_parts) (grown.values_stand there.0 phandle (value_said q.value.now) j there.1) ∙ second.1,
+        differ i j here.0 there.0 (value_held p.value) (value_held q.value) h.5 here.1 there.1,
+        ap (option_and_then number_of_parts) (grown.values_stand here.0 phandle (value_held p.value) i here.1) ∙ first.1,
+        ap (option_and_then number_of_parts) (grown.values_stand there.0 phandle (value_held q.value) j there.1) ∙ second.1,
       )
     where
       differ : (i j : ℕ) (p q : Stack) (v w : List Part) → i < j → HasValue g.nodes.items g.properties.items p (codes "phandle") v i →

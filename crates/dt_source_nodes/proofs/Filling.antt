@@ -15,11 +15,10 @@ use Rattle.dt_model.specs.Named.{NodeReference, Content, NamedProperty, value_of
 use Rattle.dt_model.specs.Ordered.{ArePropertiesInOrder, AreLabelsInOrder}
 use Rattle.dt_model.proofs.Tests.{bytes_eq_true, bytes_eq_differ, each_from, in_map, in_map_from}
 use Rattle.dt_model.proofs.Cases.{map_some, some_there}
-use Rattle.dt_source_items.specs.Said.{value_said}
 use Rattle.dt_source_growing.specs.declared.growing.Node.{Node}
 use Rattle.dt_source_growing.specs.declared.growing.Property.{Property}
 use Rattle.dt_source_growing.specs.declared.growing.Giving.{Giving}
-use Rattle.dt_source_growing.specs.Grown.{StandsUnder, HasValue, HasLabel, IsGrown}
+use Rattle.dt_source_growing.specs.Grown.{StandsUnder, HasValue, HasLabel, IsGrown, value_held}
 use Rattle.dt_source_nodes.specs.Owned.{AreOwned}
 use Rattle.dt_source_growing.specs.declared.referring.Unnamed.{Unnamed}
 use Rattle.dt_source_nodes.specs.Contents.{property_owner, label_owner, named_parts, AreLabelled, all_read, named_property, property_at, label_at, content_of, AreResolved}
@@ -81,7 +80,7 @@ module _ (nodes : List Node) (properties : List Property) (givings : List Giving
 
   -- it is a value of the node
   has_value : (p : Stack) (k i : ℕ) (h : StandsUnder nodes p k) (among : IsIn i (property_indices k)) →
-      (q : Property) × (slice_get properties i ≡ Some q) × HasValue nodes properties p (property_at unnamed es place properties i).name (value_said q.value.now) i
+      (q : Property) × (slice_get properties i ≡ Some q) × HasValue nodes properties p (property_at unnamed es place properties i).name (value_held q.value) i
   has_value p k i h among =
       let w = owned_property p k i h among in
       let named : w.0.name.now ≡ (property_at unnamed es place properties i).name =
@@ -119,7 +118,7 @@ module _ (nodes : List Node) (properties : List Property) (givings : List Giving
             (λ x among. let w = in_map_from (λ (i : ℕ). (property_at unnamed es place properties i).name) (property_indices k) x among in
             let value = has_value (reverse path) k w.0 h w.1 in
             subst (λ (y : Name). is_some (value_at es (reverse path) y) ≡ true) (sym w.2)
-            (ap is_some (grown.values_stand (reverse path) (property_at unnamed es place properties w.0).name (value_said value.0.value.now) w.0 value.2)));
+            (ap is_some (grown.values_stand (reverse path) (property_at unnamed es place properties w.0).name (value_held value.0.value) w.0 value.2)));
         complete = λ x there.
             let v = some_there (value_at es (reverse path) x) there in
             let value = grown.values_are (reverse path) x v.0 v.1 in
@@ -131,7 +130,7 @@ module _ (nodes : List Node) (properties : List Property) (givings : List Giving
             let first = has_value (reverse path) k i h a in
             let second = has_value (reverse path) k j h b in
             grown.values_in_order (reverse path) (property_at unnamed es place properties i).name (property_at unnamed es place properties j).name
-            (value_said first.0.value.now) (value_said second.0.value.now) i j first.2 second.2 below)
+            (value_held first.0.value) (value_held second.0.value) i j first.2 second.2 below)
             (own_properties.rising k);
       }
 
@@ -204,7 +203,7 @@ module _ (nodes : List Node) (properties : List Property) (givings : List Giving
             let index = in_map_from (property_at unnamed es place properties) (property_indices k) found.0 found.1 in
             let i = index.0 in
             let w = owned_property p k i h index.1 in
-            let parts = value_said w.0.value.now in
+            let parts = value_held w.0.value in
             let items = named_there parts (resolved i w.0 p w.1 w.2 w.3) in
             let at : found.0 ≡ named_property unnamed es place w.0 = index.2 ∙ property_there unnamed es place properties i w.0 w.1 in
             let name : w.0.name.now ≡ x = sym (ap (λ (q : NamedProperty NodeReference). q.name) at) ∙ found.2 in
@@ -225,7 +224,7 @@ module _ (nodes : List Node) (properties : List Property) (givings : List Giving
         refers q index =
             let i = index.0 in
             let w = owned_property p k i h index.1 in
-            let parts = value_said w.0.value.now in
+            let parts = value_held w.0.value in
             let items = named_there parts (resolved i w.0 p w.1 w.2 w.3) in
             let at : q ≡ named_property unnamed es place w.0 = index.2 ∙ property_there unnamed es place properties i w.0 w.1 in
             let value : items.0 ≡ q.value = sym (ap (λ (o : Option (List (Item NodeReference))). unwrap_or o []) items.1) ∙ sym (ap (λ (r : NamedProperty NodeReference). r.value) at) in

@@ -9,13 +9,12 @@ use Rattle.dt_model.specs.Event.{Stack, value_at}
 use Rattle.dt_model.specs.Overlay.{ReferenceBy, inside, outside, OverlayReference}
 use Rattle.dt_model.specs.Source.{Part, one, number_of, text_of, Reference, by_label, by_path, Events, referent}
 use Rattle.dt_model.specs.Named.{NodeReference, Content, NamedProperty}
-use Rattle.dt_source_items.specs.Said.{value_said}
 use Rattle.dt_source_growing.specs.declared.growing.Node.{Node}
 use Rattle.dt_source_growing.specs.declared.growing.Property.{Property}
 use Rattle.dt_source_growing.specs.declared.growing.Giving.{Giving}
 use Rattle.dt_source_growing.specs.declared.referring.Unnamed.{Unnamed}
 use Rattle.dt_source_growing.specs.declared.referring.Unnamed.TheVariants.{Refused, Kept}
-use Rattle.dt_source_growing.specs.Grown.{StandsUnder}
+use Rattle.dt_source_growing.specs.Grown.{StandsUnder, value_held}
 
 -- ---- what belongs to which node
 
@@ -86,7 +85,7 @@ module _ (unnamed : Unnamed) (es : Events) (place : Stack → ℕ) where
   -- ---- content
 
   abbrev pub named_property : Property → NamedProperty NodeReference
-  named_property p = record { name = p.name.now; value = unwrap_or (named_parts unnamed es place (value_said p.value.now)) [] }
+  named_property p = record { name = p.name.now; value = unwrap_or (named_parts unnamed es place (value_held p.value)) [] }
 
   -- the property of an index
   abbrev pub property_at : List Property → ℕ → NamedProperty NodeReference
@@ -101,4 +100,4 @@ module _ (unnamed : Unnamed) (es : Events) (place : Stack → ℕ) where
 abbrev pub AreResolved : Unnamed → List Node → List Property → Events → Type 0
 AreResolved unnamed nodes properties es =
     (i : ℕ) (q : Property) (p : Stack) → slice_get properties i ≡ Some q → q.stands ≡ true → StandsUnder nodes p q.node
-    → IsSome (all_read unnamed es (value_said q.value.now))
+    → IsSome (all_read unnamed es (value_held q.value))

@@ -7,7 +7,7 @@ use Rattle.dt_names.specs.declared.fault.Fault.{Fault}
 use Rattle.dt_names.specs.declared.fault.FaultKind.{FaultKind}
 use Rattle.dt_names.specs.declared.fault.FaultKind.TheVariants as fault
 use Rattle.dt_names.specs.declared.seed.Seed.{Seed}
-use Rattle.dt_source_items.specs.Said.{value_said}
+use Rattle.dt_source_growing.specs.Grown.{value_held}
 use Rattle.dt_source_growing.specs.declared.growing.Property.{Property}
 
 -- a set of phandles
@@ -27,11 +27,11 @@ is_phandle places q = q.stands && has_place places q.node && bytes_eq q.name.now
 
 -- the phandle that it writes there
 abbrev pub phandle_written : List (Option ℕ) → Property → Option ℕ
-phandle_written places q = if is_phandle places q then number_of_parts (value_said q.value.now) else None
+phandle_written places q = if is_phandle places q then number_of_parts (value_held q.value) else None
 
 -- it writes none
 abbrev pub is_unwritten : List (Option ℕ) → Property → Bool
-is_unwritten places q = is_phandle places q && not (is_some (number_of_parts (value_said q.value.now)))
+is_unwritten places q = is_phandle places q && not (is_some (number_of_parts (value_held q.value)))
 
 -- each `phandle` writes a number
 abbrev pub AreWritten : List (Option ℕ) → List Property → Type 0

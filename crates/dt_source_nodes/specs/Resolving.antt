@@ -7,10 +7,9 @@ use Rattle.dt_model.specs.Source.{Part, Events}
 use Rattle.dt_names.specs.declared.fault.Fault.{Fault}
 use Rattle.dt_names.specs.declared.fault.FaultKind.{FaultKind}
 use Rattle.dt_names.specs.declared.fault.FaultKind.TheVariants as fault
-use Rattle.dt_source_items.specs.Said.{value_said}
 use Rattle.dt_source_growing.specs.declared.growing.Property.{Property}
 use Rattle.dt_source_growing.specs.declared.growing.Growing.{Growing}
-use Rattle.dt_source_growing.specs.Grown.{IsGrown}
+use Rattle.dt_source_growing.specs.Grown.{IsGrown, value_held}
 use Rattle.dt_model.specs.Named.{NodeReference, NamedProperty, Content, Listed}
 use Rattle.dt_source_nodes.specs.declared.belongings.Belongings.{Belongings}
 use Rattle.dt_source_nodes.specs.declared.listing.Row.{Row}
@@ -53,13 +52,13 @@ EachEvents g P = (es : Events) → IsGrownBy g es → P es
 -- the references of the properties at some indices are read
 abbrev pub AreRead : Unnamed → Events → List Property → List ℕ → Type 0
 AreRead unnamed es properties indices = (i : ℕ) (q : Property) → IsIn i indices → slice_get properties i ≡ Some q
-    → IsSome (all_read unnamed es (value_said q.value.now))
+    → IsSome (all_read unnamed es (value_held q.value))
 
 -- why the properties at some indices aren't read
 abbrev pub WhyUnreadAmong : Unnamed → Events → List Property → List ℕ → FaultKind → Type 0
 WhyUnreadAmong unnamed es properties indices fault.NoMemory = Unit {0}
 WhyUnreadAmong unnamed es properties indices fault.UnresolvedReference =
-    (i : ℕ) × (q : Property) × IsIn i indices × (slice_get properties i ≡ Some q) × (all_read unnamed es (value_said q.value.now) ≡ None)
+    (i : ℕ) × (q : Property) × IsIn i indices × (slice_get properties i ≡ Some q) × (all_read unnamed es (value_held q.value) ≡ None)
 WhyUnreadAmong unnamed es properties indices kind = ⊥
 
 abbrev pub IsUnreadAmong : Unnamed → Growing → List ℕ → Fault → Type 0

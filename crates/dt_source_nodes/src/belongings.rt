@@ -22,7 +22,7 @@ pub(crate) struct Belongings {
 /// The node to which each property belongs; none for those that were deleted.
 fn property_owners(
     alloc: Global,
-    properties: &[Property<'_, '_>],
+    properties: &[Property<'_>],
 ) -> Result<Vec<Option<usize>>, AllocError>
     ensures { IfOk result (λ v. v.items ≡ map property_owner properties.now) }
 {
@@ -52,7 +52,7 @@ fn label_owners(alloc: Global, givings: &[Giving<'_>]) -> Result<Vec<Option<usiz
 /// The properties of each of so many nodes.
 fn properties_by_node(
     alloc: Global,
-    properties: &[Property<'_, '_>],
+    properties: &[Property<'_>],
     count: usize,
 ) -> Result<Groups, AllocError>
     ensures { IfOk result (λ groups. AreOwned (map property_owner properties.now) count (group_of groups)) }

@@ -79,7 +79,7 @@ impl<'a> Resolver<'_, '_, 'a> {
             (λ fault. IsUnreadAmong self.now.unnamed self.now.growing.now (index ∷ []) fault) }
     {
         let property = &self.growing.properties[index];
-        let value = self.named_value(alloc, property.value)?;
+        let value = self.held_value(alloc, property.value)?;
         Ok(NamedProperty {
             name: property.name,
             value,

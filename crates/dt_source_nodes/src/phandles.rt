@@ -3,12 +3,14 @@
 ghost use Rattle.std.specs.Prelude.{◌≡◌, ℕ, false, OnOk, IfOk, MatchResult, not, nat_eq, ◌||◌};
 ghost use Rattle.std.specs.Option.{option_map_or};
 ghost use Rattle.dt_model.specs.Source.{number_of_parts};
-ghost use Rattle.dt_source_items.specs.Said.{value_said};
-ghost use Rattle.dt_source_nodes.specs.Phandles.{has_place, is_phandle, is_unwritten, phandle_written, has_seen, AreWritten, AreOwn, WhyNotWritten, WhyNotOwn, WhyNotNumbered};
+ghost use Rattle.dt_source_items.specs.Said.{reference_of, value_said};
+ghost use Rattle.dt_source_growing.specs.Grown.{target_value, value_held};
+ghost use Rattle.dt_source_nodes.specs.Phandles.{has_place, is_phandle, is_unwritten, phandle_written, has_seen};
+ghost use Rattle.dt_source_nodes.specs.Phandles.{AreWritten, AreOwn, WhyNotWritten, WhyNotOwn, WhyNotNumbered};
 
 use dt_names::{Fault, FaultKind, Seed, phandle_of};
-use dt_source_growing::Property;
-use dt_source_items::Value;
+use dt_source_growing::{Property, PropertyValue};
+use dt_source_items::{Reference, Value};
 use std::alloc::{AllocError, Global};
 use std::collections::HashSet;
 
@@ -22,6 +24,32 @@ fn written_number(value: &Value<'_>) -> Option<u32>
     phandle_of(&value.bytes)
 }
 
+/// The phandle that the target of a new fragment would write: the text of a path of three bytes and its NUL are four bytes.
+fn number_of_target(reference: &Reference<'_>) -> Option<u32>
+    ensures { result ≡ number_of_parts (target_value (reference_of reference.now)) }
+{
+    match reference {
+        Reference::Label(_) => None,
+        Reference::Path(path) => {
+            let text = path.text();
+            if text.len() != 3 {
+                return None;
+            }
+            phandle_of(&[text[0], text[1], text[2], 0])
+        }
+    }
+}
+
+/// The phandle that what a property holds would write.
+fn number_held(value: PropertyValue<'_>) -> Option<u32>
+    ensures { result ≡ number_of_parts (value_held value.entry) }
+{
+    match value {
+        PropertyValue::Written(value) => written_number(value),
+        PropertyValue::Target(reference) => number_of_target(reference),
+    }
+}
+
 /// Whether a node has a place, and so stands.
 fn has_place(places: &[Option<usize>], node: usize) -> bool
     ensures { result ≡ has_place places.now node }
@@ -33,32 +61,32 @@ fn has_place(places: &[Option<usize>], node: usize) -> bool
 }
 
 /// Whether it is the property `phandle` of a node that stands.
-fn is_phandle(property: &Property<'_, '_>, places: &[Option<usize>]) -> bool
+fn is_phandle(property: &Property<'_>, places: &[Option<usize>]) -> bool
     ensures { result ≡ is_phandle places.now property.now }
 {
     property.stands && has_place(places, property.node) && property.name == b"phandle".as_slice()
 }
 
 /// The phandle that a property writes in a node that stands.
-fn phandle_written(property: &Property<'_, '_>, places: &[Option<usize>]) -> Option<u32>
+fn phandle_written(property: &Property<'_>, places: &[Option<usize>]) -> Option<u32>
     ensures { result ≡ phandle_written places.now property.now }
 {
     if is_phandle(property, places) {
-        written_number(property.value)
+        number_held(property.value)
     } else {
         None
     }
 }
 
 /// Whether it is the property `phandle` of a node that stands, and writes no number.
-fn is_unwritten(property: &Property<'_, '_>, places: &[Option<usize>]) -> bool
+fn is_unwritten(property: &Property<'_>, places: &[Option<usize>]) -> bool
     ensures { result ≡ is_unwritten places.now property.now }
 {
-    is_phandle(property, places) && written_number(property.value).is_none()
+    is_phandle(property, places) && number_held(property.value).is_none()
 }
 
 /// Each `phandle` writes a number. `BadPhandle` where one doesn't.
-fn check_written(properties: &[Property<'_, '_>], places: &[Option<usize>]) -> Result<(), Fault>
+fn check_written(properties: &[Property<'_>], places: &[Option<usize>]) -> Result<(), Fault>
     ensures { MatchResult result
         (λ _. AreWritten places.now properties.now)
         (λ fault. WhyNotWritten places.now properties.now fault) }
@@ -83,7 +111,7 @@ fn add_phandle(seen: &mut HashSet<u32, Seed>, phandle: u32) -> Result<bool, Allo
 /// Adds the phandle that a property writes, if any; whether it was seen before.
 fn meet(
     seen: &mut HashSet<u32, Seed>,
-    property: &Property<'_, '_>,
+    property: &Property<'_>,
     places: &[Option<usize>],
 ) -> Result<bool, AllocError>
     ensures before { IfOk result (λ before. before ≡ option_map_or (has_seen seen.old) (phandle_written places.now property.now) false) }
@@ -99,7 +127,7 @@ fn meet(
 /// Finds no phandle that is written twice, where none was seen.
 fn find_twice(
     seen: &mut HashSet<u32, Seed>,
-    properties: &[Property<'_, '_>],
+    properties: &[Property<'_>],
     places: &[Option<usize>],
 ) -> Result<(), Fault>
     requires { (n : ℕ) → has_seen seen.old n ≡ false }
@@ -120,7 +148,7 @@ fn find_twice(
 pub(crate) fn check_phandles(
     alloc: Global,
     seed: Seed,
-    properties: &[Property<'_, '_>],
+    properties: &[Property<'_>],
     places: &[Option<usize>],
 ) -> Result<(), Fault>
     ensures { MatchResult result

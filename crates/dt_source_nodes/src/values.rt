@@ -1,6 +1,8 @@
 //! The values of properties with their references read.
 
-ghost use Rattle.std.specs.Prelude.{◌≡◌, ◌∷◌, [], ◌++◌, ℕ, Some, None, map, reverse, OnOk, MatchResult, MatchOption, option_map, option_and_then, unwrap_or, slice_get};
+ghost use Rattle.std.specs.Prelude.{◌≡◌, ◌∷◌, [], ◌++◌, ℕ, Some, None, map, reverse};
+ghost use Rattle.std.specs.Prelude.{OnOk, IfOk, MatchResult, MatchOption, option_map, option_and_then, unwrap_or, slice_get};
+ghost use Rattle.std.specs.Cow.{cow_slice_items};
 ghost use Rattle.dt_model.specs.Path.{path_text, path_value};
 ghost use Rattle.dt_model.specs.Meaning.{byte, reference};
 ghost use Rattle.dt_model.specs.Event.{Stack};
@@ -8,16 +10,17 @@ ghost use Rattle.dt_model.specs.Source.{Events, number_of, text_of};
 ghost use Rattle.dt_source_items.specs.Said.{reference_of, referring, piece_parts};
 ghost use Rattle.dt_source_items.specs.Said as source_said;
 ghost use Rattle.dt_source_named_tree.specs.Said.{reference_said, value_said};
-ghost use Rattle.dt_source_growing.specs.Grown.{AreAbove, StandsUnder};
+ghost use Rattle.dt_source_growing.specs.Grown.{target_value, value_held, AreAbove, StandsUnder};
 ghost use Rattle.dt_source_nodes.specs.Contents.{names_text, kept_label, named_cell, named_part, named_parts};
 ghost use Rattle.dt_source_nodes.specs.Resolving.{IsGrownBy, EachReading, IsAdded, IsUnread};
 
 use crate::belongings::Belongings;
-use dt_names::{Fault, FaultKind};
-use dt_source_growing::{Growing, Node, Unnamed};
+use dt_names::{Fault, FaultKind, PathRef};
+use dt_source_growing::{Growing, Node, PropertyValue, Unnamed};
 use dt_source_items::{Form, Piece, Reference, Value};
 use dt_source_named_tree::{NamedPiece, NamedReference, NamedValue};
 use std::alloc::{AllocError, Global};
+use std::borrow::CowSlice;
 use std::mem;
 
 /// Adds a `/` and a name.
@@ -67,6 +70,18 @@ fn add_path_value(text: &mut Vec<u8>, nodes: &[Node<'_, '_>], node: usize) -> Re
     Ok(())
 }
 
+/// The text of a path and a NUL, as a value.
+fn path_value<'a>(alloc: Global, path: &PathRef<'_>) -> Result<NamedValue<'a>, AllocError>
+    ensures { IfOk result (λ value. value_said value ≡ map byte (path_value path.now)) }
+{
+    let mut bytes = path.text().to_vec(alloc)?;
+    bytes.push(0)?;
+    Ok(NamedValue {
+        pieces: Vec::new(alloc),
+        bytes: CowSlice::Owned(bytes),
+    })
+}
+
 /// The place that a node has; 0 where it has none.
 fn place_of(places: &[Option<usize>], node: usize) -> usize
     ensures { result ≡ unwrap_or (option_and_then (λ place. place) (slice_get places.now node)) 0 }
@@ -75,14 +90,10 @@ fn place_of(places: &[Option<usize>], node: usize) -> usize
 }
 
 /// Ends a piece with a reference.
-fn end_piece<'a>(
-    alloc: Global,
-    value: &mut NamedValue<'a>,
-    named: NamedReference<'a>,
-) -> Result<(), AllocError>
+fn end_piece<'a>(value: &mut NamedValue<'a>, named: NamedReference<'a>) -> Result<(), AllocError>
     ensures { OnOk result (value_said value.new ≡ value_said value.old ++ reference (reference_said named.entry) ∷ []) }
 {
-    let before = mem::replace(&mut value.bytes, Vec::new(alloc));
+    let before = mem::replace(&mut value.bytes, CowSlice::Borrowed(b""));
     value.pieces.push(NamedPiece {
         before,
         reference: named,
@@ -90,16 +101,35 @@ fn end_piece<'a>(
     Ok(())
 }
 
-/// Adds bytes at the end.
-fn add_bytes(value: &mut NamedValue<'_>, bytes: &[u8]) -> Result<(), AllocError>
+/// The bytes behind the last reference, taken out of a value.
+fn taken(alloc: Global, value: &mut NamedValue<'_>) -> Result<Vec<u8>, AllocError>
+    ensures bytes { IfOk result (λ bytes. bytes.items ≡ cow_slice_items value.old.bytes) }
+    ensures pieces { value.new.pieces ≡ value.old.pieces }
+{
+    mem::replace(&mut value.bytes, CowSlice::Borrowed(b"")).into_owned(alloc)
+}
+
+/// Adds bytes of the source at the end: borrowed where they are the first.
+fn add_bytes<'a>(
+    alloc: Global,
+    value: &mut NamedValue<'a>,
+    bytes: &'a [u8],
+) -> Result<(), AllocError>
     ensures { OnOk result (value_said value.new ≡ value_said value.old ++ map byte bytes.now) }
 {
-    value.bytes.extend_from_slice(bytes)?;
+    if value.bytes.len() == 0 {
+        value.bytes = CowSlice::Borrowed(bytes);
+        return Ok(());
+    }
+    let mut all = taken(alloc, value)?;
+    all.extend_from_slice(bytes)?;
+    value.bytes = CowSlice::Owned(all);
     Ok(())
 }
 
 /// Adds the text of a node's path, and a NUL.
 fn add_path_bytes(
+    alloc: Global,
     value: &mut NamedValue<'_>,
     nodes: &[Node<'_, '_>],
     node: usize,
@@ -107,7 +137,9 @@ fn add_path_bytes(
     requires { AreAbove nodes.now }
     ensures { OnOk result ((p : Stack) → StandsUnder nodes.now p node → value_said value.new ≡ value_said value.old ++ map byte (path_value (reverse p))) }
 {
-    add_path_value(&mut value.bytes, nodes, node)?;
+    let mut all = taken(alloc, value)?;
+    add_path_value(&mut all, nodes, node)?;
+    value.bytes = CowSlice::Owned(all);
     Ok(())
 }
 
@@ -149,7 +181,6 @@ impl Resolver<'_, '_, '_> {
     /// Adds a reference in a cell list.
     fn add_cell<'a>(
         &self,
-        alloc: Global,
         reference: &Reference<'a>,
         value: &mut NamedValue<'a>,
     ) -> Result<(), Fault>
@@ -161,12 +192,17 @@ impl Resolver<'_, '_, '_> {
         let Some(named) = self.named_cell(reference) else {
             return Err(Fault::of(FaultKind::UnresolvedReference));
         };
-        end_piece(alloc, value, named)?;
+        end_piece(value, named)?;
         Ok(())
     }
 
     /// Adds a reference outside a cell list.
-    fn add_text(&self, reference: &Reference<'_>, value: &mut NamedValue<'_>) -> Result<(), Fault>
+    fn add_text(
+        &self,
+        alloc: Global,
+        reference: &Reference<'_>,
+        value: &mut NamedValue<'_>,
+    ) -> Result<(), Fault>
         ensures { MatchResult result
             (λ _. (es : Events) (place : Stack → ℕ) → IsGrownBy self.now.growing.now es →
             IsAdded (value_said value.old) (named_part self.now.unnamed es place (text_of (reference_of reference.now))) (value_said value.new))
@@ -175,7 +211,7 @@ impl Resolver<'_, '_, '_> {
         let Some(node) = self.growing.referent(reference) else {
             return Err(Fault::of(FaultKind::UnresolvedReference));
         };
-        add_path_bytes(value, &self.growing.nodes, node)?;
+        add_path_bytes(alloc, value, &self.growing.nodes, node)?;
         Ok(())
     }
 
@@ -193,8 +229,8 @@ impl Resolver<'_, '_, '_> {
             (λ fault. IsUnread self.now.unnamed self.now.growing.now (referring piece.now.form (reference_of piece.now.reference) ∷ []) fault) }
     {
         match piece.form {
-            Form::Text => self.add_text(&piece.reference, value),
-            Form::Cell => self.add_cell(alloc, &piece.reference, value),
+            Form::Text => self.add_text(alloc, &piece.reference, value),
+            Form::Cell => self.add_cell(&piece.reference, value),
         }
     }
 
@@ -202,7 +238,7 @@ impl Resolver<'_, '_, '_> {
     fn add_piece<'a>(
         &self,
         alloc: Global,
-        piece: &Piece<'a>,
+        piece: &'a Piece<'a>,
         value: &mut NamedValue<'a>,
     ) -> Result<(), Fault>
         ensures { MatchResult result
@@ -210,7 +246,7 @@ impl Resolver<'_, '_, '_> {
             IsAdded (value_said value.old) (named_parts self.now.unnamed es place (piece_parts piece.now)) (value_said value.new)))
             (λ fault. IsUnread self.now.unnamed self.now.growing.now (piece_parts piece.now) fault) }
     {
-        add_bytes(value, &piece.before)?;
+        add_bytes(alloc, value, &piece.before)?;
         self.add_reference(alloc, piece, value)
     }
 
@@ -218,7 +254,7 @@ impl Resolver<'_, '_, '_> {
     fn add_value<'a>(
         &self,
         alloc: Global,
-        source: &Value<'a>,
+        source: &'a Value<'a>,
         value: &mut NamedValue<'a>,
     ) -> Result<(), Fault>
         requires empty { value_said value.old ≡ [] }
@@ -230,18 +266,14 @@ impl Resolver<'_, '_, '_> {
         for piece in &source.pieces {
             self.add_piece(alloc, piece, value)?;
         }
-        add_bytes(value, &source.bytes)?;
+        add_bytes(alloc, value, &source.bytes)?;
         Ok(())
     }
 
     /// A value with its references read: a reference in a cell list is the place of its node, or its label where it names no node
     /// and such labels are kept; one outside a cell list is the text of its node's path and a NUL. `UnresolvedReference` where
     /// one isn't read.
-    pub fn named_value<'a>(
-        &self,
-        alloc: Global,
-        source: &Value<'a>,
-    ) -> Result<NamedValue<'a>, Fault>
+    fn named_value<'a>(&self, alloc: Global, source: &'a Value<'a>) -> Result<NamedValue<'a>, Fault>
         ensures { MatchResult result
             (λ value. EachReading self.now (λ es place.
             named_parts self.now.unnamed es place (source_said.value_said source.now) ≡ Some (value_said value)))
@@ -249,9 +281,62 @@ impl Resolver<'_, '_, '_> {
     {
         let mut value = NamedValue {
             pieces: Vec::new(alloc),
-            bytes: Vec::new(alloc),
+            bytes: CowSlice::Borrowed(b""),
         };
         self.add_value(alloc, source, &mut value)?;
         Ok(value)
+    }
+
+    /// The value of a cell's reference by a label.
+    fn named_label<'a>(
+        &self,
+        alloc: Global,
+        reference: &Reference<'a>,
+    ) -> Result<NamedValue<'a>, Fault>
+        ensures { MatchResult result
+            (λ value. EachReading self.now (λ es place.
+            named_parts self.now.unnamed es place (number_of (reference_of reference.now) ∷ []) ≡ Some (value_said value)))
+            (λ fault. IsUnread self.now.unnamed self.now.growing.now (number_of (reference_of reference.now) ∷ []) fault) }
+    {
+        let mut value = NamedValue {
+            pieces: Vec::new(alloc),
+            bytes: CowSlice::Borrowed(b""),
+        };
+        self.add_cell(reference, &mut value)?;
+        Ok(value)
+    }
+
+    /// What tells the target of a new fragment: a cell by its label, or the text of its path and a NUL.
+    fn named_target<'a>(
+        &self,
+        alloc: Global,
+        reference: &Reference<'a>,
+    ) -> Result<NamedValue<'a>, Fault>
+        ensures { MatchResult result
+            (λ value. EachReading self.now (λ es place.
+            named_parts self.now.unnamed es place (target_value (reference_of reference.now)) ≡ Some (value_said value)))
+            (λ fault. IsUnread self.now.unnamed self.now.growing.now (target_value (reference_of reference.now)) fault) }
+    {
+        match reference {
+            Reference::Label(_) => self.named_label(alloc, reference),
+            Reference::Path(path) => Ok(path_value(alloc, path)?),
+        }
+    }
+
+    /// What a property holds, with its references read. `UnresolvedReference` where one isn't read.
+    pub fn held_value<'a>(
+        &self,
+        alloc: Global,
+        value: PropertyValue<'a>,
+    ) -> Result<NamedValue<'a>, Fault>
+        ensures { MatchResult result
+            (λ named. EachReading self.now (λ es place.
+            named_parts self.now.unnamed es place (value_held value.entry) ≡ Some (value_said named)))
+            (λ fault. IsUnread self.now.unnamed self.now.growing.now (value_held value.entry) fault) }
+    {
+        match value {
+            PropertyValue::Written(value) => self.named_value(alloc, value),
+            PropertyValue::Target(reference) => self.named_target(alloc, reference),
+        }
     }
 }

@@ -1,4 +1,5 @@
 use Rattle.std.proofs.Common.{◌≡◌, ◌∷◌, ◌+◌, ◌<◌, ◌≤◌, ◌++◌, ℕ, List, length, map, drop, get_or, sym, ap, ◌∙◌, subst, arith}
+use Rattle.std.specs.Cow.{cow_slice_items}
 use Rattle.dt_model.specs.Meaning.{Item, byte, reference, EachReference}
 use Rattle.dt_model.specs.Named.{NodeReference}
 use Rattle.dt_model.specs.NamedOf.{IsBelow}
@@ -12,26 +13,26 @@ use Rattle.dt_phandle.proofs.asked.key_value.Goals.{After-piece-item}
 -- the value that is left, and the one behind its next piece
 left : (c : After-piece-item) →
     let items = c.args.value.now.pieces.items in
-    let bytes = c.args.value.now.bytes.items in
+    let bytes = cow_slice_items c.args.value.now.bytes in
     let i = c.loop-piece.piece-index in
     pieces_said (drop i items) ++ map byte bytes
-    ≡ map byte c.piece-item.result.before.items ++ reference (reference_said c.piece-item.result.reference) ∷ (pieces_said (drop (i + 1) items) ++ map byte bytes)
+    ≡ map byte (cow_slice_items c.piece-item.result.before) ++ reference (reference_said c.piece-item.result.reference) ∷ (pieces_said (drop (i + 1) items) ++ map byte bytes)
 left c =
     let items = c.args.value.now.pieces.items in
     let i = c.loop-piece.piece-index in
     let p = c.piece-item.result in
     let lt : i < length items = omega (arith, ap length c.deref-piece-items.ensures.value) in
-    piece_next items c.args.value.now.bytes.items i p
+    piece_next items (cow_slice_items c.args.value.now.bytes) i p
     (next_item items i p lt (c.piece-item.is ∙ ap (λ (xs : List NamedPiece). get_or xs i p) c.deref-piece-items.ensures.value))
 
 -- its reference, and those behind it, are to nodes
 below : (c : After-piece-item) →
-    let rest = pieces_said (drop (c.loop-piece.piece-index + 1) c.args.value.now.pieces.items) ++ map byte c.args.value.now.bytes.items in
+    let rest = pieces_said (drop (c.loop-piece.piece-index + 1) c.args.value.now.pieces.items) ++ map byte (cow_slice_items c.args.value.now.bytes) in
     IsBelow (length c.args.asked.now) (reference_said c.piece-item.result.reference) × EachReference (IsBelow (length c.args.asked.now)) rest
 below c =
-    let rest = pieces_said (drop (c.loop-piece.piece-index + 1) c.args.value.now.pieces.items) ++ map byte c.args.value.now.bytes.items in
+    let rest = pieces_said (drop (c.loop-piece.piece-index + 1) c.args.value.now.pieces.items) ++ map byte (cow_slice_items c.args.value.now.bytes) in
     let P = IsBelow (length c.args.asked.now) in
-    each_behind P c.piece-item.result.before.items (reference_said c.piece-item.result.reference) rest (subst (EachReference P) (left c) c.loop-piece.invariant.referred)
+    each_behind P (cow_slice_items c.piece-item.result.before) (reference_said c.piece-item.result.reference) rest (subst (EachReference P) (left c) c.loop-piece.invariant.referred)
 
 pub key-requires : goal.key-requires
 key-requires c =
@@ -42,7 +43,7 @@ pub loop-piece-preserved : goal.loop-piece-preserved
 loop-piece-preserved c =
     let now = (goal.at.loop-piece-preserved c).After-piece-item in
     let items = c.args.value.now.pieces.items in
-    let bytes = c.args.value.now.bytes.items in
+    let bytes = cow_slice_items c.args.value.now.bytes in
     let i = c.loop-piece.piece-index in
     let r = reference_said c.piece-item.result.reference in
     let rest = pieces_said (drop (i + 1) items) ++ map byte bytes in
@@ -50,7 +51,7 @@ loop-piece-preserved c =
       referred = (below now).1;
       same = several_turn (is_to r) (is_in_value rest) (is_in_value (pieces_said (drop i items) ++ map byte bytes)) c.loop-piece.asked c.key.new.asked
           (keyed_too (is_in_value (value_said c.args.value.now)) 0 (map asked_said c.args.asked.now))
-          (λ k. ap (λ (u : List (Item NodeReference)). is_in_value u k) (left now) ∙ in_value_behind c.piece-item.result.before.items r rest k)
+          (λ k. ap (λ (u : List (Item NodeReference)). is_in_value u k) (left now) ∙ in_value_behind (cow_slice_items c.piece-item.result.before) r rest k)
           c.key.ensures c.loop-piece.invariant.same;
     }
 
@@ -58,5 +59,5 @@ pub returns : goal.returns
 returns c =
     let items = c.args.value.now.pieces.items in
     let past : length items ≤ c.loop-piece.piece-index = omega (arith, ap length c.deref-piece-items.ensures.value) in
-    value_over c.args.value.now.bytes.items items c.loop-piece.piece-index (map asked_said c.loop-piece.asked)
+    value_over (cow_slice_items c.args.value.now.bytes) items c.loop-piece.piece-index (map asked_said c.loop-piece.asked)
     (keyed_too (is_in_value (value_said c.args.value.now)) 0 (map asked_said c.args.asked.now)) past c.loop-piece.invariant.same

@@ -9,4 +9,4 @@ pub returns-in_err-new : goal.returns-in_err-new
 returns-in_err-new c =
     rw c.from_residual-in_err-new.ensures (λ text is e.
     no_path_text c.args.value.now text c.in_ok-last.text.now c.in_ok-last.last.now (no_items c.args.value.now.pieces (sym c.is_empty.ensures ∙ c.if-not-is_empty.false))
-    (sym c.deref.ensures.value ∙ c.in_ok-last.ensures.cases.0) (λ p of. c.in_err-new.ensures p of) is e)
+    (sym c.as_slice.ensures.value ∙ c.in_ok-last.ensures.cases.0) (λ p of. c.in_err-new.ensures p of) is e)

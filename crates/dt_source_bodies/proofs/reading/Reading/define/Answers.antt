@@ -1,6 +1,6 @@
 use Rattle.std.proofs.Common.{◌≡◌, ◌+◌, true, false, refl, sym, ◌∙◌, ap, arith}
 use Rattle.dt_model.specs.Source.{read, property, duplicate_property}
-use Rattle.dt_source_items.specs.Said.{value_said}
+use Rattle.dt_source_growing.specs.Grown.{value_held}
 use Rattle.dt_source_growing.specs.Growing.{shape}
 use Rattle.dt_source_bodies.specs.Reading.{is_behind}
 use Rattle.dt_source_bodies.specs.declared.reading.Reading.{Reading}
@@ -15,8 +15,8 @@ returns-then-is_later-clause-meaning c = λ m u h.
     let b = c.in_ok-body.body in
     let i = inner_of (shape r.growing) r.bodies.items c.args.item u b h c.in_ok-body.ensures.0 in
     let twice : is_behind b.item ((shape r.growing).defined b.node c.args.name.now) ≡ true = ap (is_behind b.item) (sym c.property_and_item-property.ensures.item) ∙ sym c.if-is_later.ensures in
-    tells (read m u (property c.args.name.now (value_said c.args.value.now))) duplicate_property c.of.result
-    (define-twice m (shape r.growing) r.bodies.items c.args.item u b c.args.name.now (value_said c.args.value.now) i twice) c.of.ensures.kind c.of.ensures.at
+    tells (read m u (property c.args.name.now (value_held c.args.value))) duplicate_property c.of.result
+    (define-twice m (shape r.growing) r.bodies.items c.args.item u b c.args.name.now (value_held c.args.value) i twice) c.of.ensures.kind c.of.ensures.at
 
 pub returns-clause-meaning : goal.returns-clause-meaning
 returns-clause-meaning c = λ m u h.
@@ -25,8 +25,8 @@ returns-clause-meaning c = λ m u h.
     let b = c.in_ok-body.body in
     let i = inner_of (shape old.growing) old.bodies.items c.args.item u b h c.in_ok-body.ensures.0 in
     let once : is_behind b.item ((shape old.growing).defined b.node c.args.name.now) ≡ false = ap (is_behind b.item) (sym c.property_and_item-property.ensures.item) ∙ sym c.if-is_later.ensures in
-    goes_on (read m u (property c.args.name.now (value_said c.args.value.now))) new (c.args.item + 1)
-    (define-goes m (shape old.growing) (shape new.growing) old.bodies.items c.args.item u b c.args.name.now (value_said c.args.value.now) (forest old.growing c.args.self.now.growing.sound) h i once c.in_ok-define_known.ensures.defined)
+    goes_on (read m u (property c.args.name.now (value_held c.args.value))) new (c.args.item + 1)
+    (define-goes m (shape old.growing) (shape new.growing) old.bodies.items c.args.item u b c.args.name.now (value_held c.args.value) (forest old.growing c.args.self.now.growing.sound) h i once c.in_ok-define_known.ensures.defined)
 
 pub returns-clause-whole : goal.returns-clause-whole
 returns-clause-whole c =

@@ -2,8 +2,9 @@ use Rattle.std.proofs.Common.{◌≡◌, ◌+◌, ◌∷◌, [], Ok, Result, cod
 use Rattle.std.proofs.lemmas.Result.{err_from_is_err_and}
 use Rattle.dt_model.specs.Source.{base, block, by_label, number_of, read, outside, Reference}
 use Rattle.dt_model.specs.OverlaySource.{open_fragment, fragment_name, read_overlay, with_next, OverlaySoFar, OverlayRefusal}
-use Rattle.dt_source_items.specs.Said.{reference_of, value_said}
-use Rattle.dt_source_bodies.specs.OverlayReading.{TellsOverlayRefusal, OverlayGoesOn, free_number, target_value}
+use Rattle.dt_source_items.specs.Said.{reference_of}
+use Rattle.dt_source_growing.specs.Grown.{target_value}
+use Rattle.dt_source_bodies.specs.OverlayReading.{TellsOverlayRefusal, OverlayGoesOn, free_number}
 use Rattle.dt_source_bodies.specs.Reading.{GoesOn}
 use Rattle.dt_source_bodies.specs.Refusals.{TellsRefusal}
 use Rattle.dt_source_bodies.specs.declared.reading.Reading.{Reading}
@@ -40,9 +41,9 @@ returns-in_err-open_fragment-in-None-clause-meaning c = λ written s h name.
     let none = c.in-None.ensures.named s.source.events (grown_so_far r c.args.item s.source c.requires.whole h) in
     let q = err_from_is_err_and c.from_residual-in_err-open_fragment-in-None.result c.from_residual-in_err-open_fragment-in-None.ensures.1 in
     let fault = c.in_err-open_fragment-in-None.field-0.0 in
-    let value : value_said c.args.value.now ≡ number_of (by_label l) ∷ [] = c.requires.target ∙ ap target_value c.requires.labelled in
+    let value : target_value (reference_of c.args.reference.now) ≡ number_of (by_label l) ∷ [] = ap target_value c.requires.labelled in
     let made = outside s.source.bodies (Ok (open_fragment (fragment_name (free_number written s)) (codes "target") (number_of (by_label l) ∷ []) s.source)) in
-    let tells : TellsRefusal made fault = fragment_step s c.args.name.now (fragment_name (free_number written s)) (codes "target") (value_said c.args.value.now) (number_of (by_label l) ∷ [])
+    let tells : TellsRefusal made fault = fragment_step s c.args.name.now (fragment_name (free_number written s)) (codes "target") (target_value (reference_of c.args.reference.now)) (number_of (by_label l) ∷ [])
     (λ o. TellsRefusal o fault) name value (c.in_err-open_fragment-in-None.ensures.meaning s.source h) in
     let unknown : read_overlay written s (block (reference_of c.args.reference.now)) ≡ with_next (free_number written s + 1) made =
     ap (λ (f : Reference). read_overlay written s (block f)) c.requires.labelled ∙ unknown_block written s l none in
@@ -54,9 +55,9 @@ returns-in_ok-open_fragment-in-None-clause-meaning c = λ written s h name.
     let l = c.args.label.now in
     let none = c.in-None.ensures.named s.source.events (grown_so_far r c.args.item s.source c.requires.whole h) in
     let new : Reading = c.open_fragment.new.self in
-    let value : value_said c.args.value.now ≡ number_of (by_label l) ∷ [] = c.requires.target ∙ ap target_value c.requires.labelled in
+    let value : target_value (reference_of c.args.reference.now) ≡ number_of (by_label l) ∷ [] = ap target_value c.requires.labelled in
     let made = outside s.source.bodies (Ok (open_fragment (fragment_name (free_number written s)) (codes "target") (number_of (by_label l) ∷ []) s.source)) in
-    let goes : GoesOn made new (c.args.item + 1) = fragment_step s c.args.name.now (fragment_name (free_number written s)) (codes "target") (value_said c.args.value.now) (number_of (by_label l) ∷ [])
+    let goes : GoesOn made new (c.args.item + 1) = fragment_step s c.args.name.now (fragment_name (free_number written s)) (codes "target") (target_value (reference_of c.args.reference.now)) (number_of (by_label l) ∷ [])
     (λ o. GoesOn o new (c.args.item + 1)) name value (c.in_ok-open_fragment-in-None.ensures.meaning s.source h) in
     let unknown : read_overlay written s (block (reference_of c.args.reference.now)) ≡ with_next (free_number written s + 1) made =
     ap (λ (f : Reference). read_overlay written s (block f)) c.requires.labelled ∙ unknown_block written s l none in

@@ -1,7 +1,7 @@
 use Rattle.std.proofs.Common.{◌≡◌, ◌+◌, ◌≤◌, Ok, codes, length, arith}
 use Rattle.dt_model.specs.OverlaySource.{open_fragment}
 use Rattle.dt_model.specs.Source.{outside}
-use Rattle.dt_source_items.specs.Said.{value_said}
+use Rattle.dt_source_growing.specs.Grown.{value_held}
 use Rattle.dt_source_growing.specs.Growing.{shape}
 use Rattle.dt_source_growing.specs.declared.growing.Growing.{Growing}
 use Rattle.dt_source_bodies.specs.declared.reading.Reading.{Reading}
@@ -16,7 +16,7 @@ returns-clause-meaning c = λ u h.
     let new : Reading = record { growing = c.open_child-2.new.self; bodies = c.enter.new.bodies } in
     let f = c.args.name.now in
     let m = c.args.property.now in
-    let v = value_said c.args.value.now in
+    let v = value_held c.args.value in
     goes_on_more (outside u.bodies (Ok (open_fragment f m v u))) new (c.args.item + 1) _ c.in_ok-enter.ensures
     (fragment-goes (shape old.growing) (shape c.open_child.new.self) (shape c.define.new.self) (shape new.growing) old.bodies.items c.args.item u
     (forest old.growing c.args.self.now.growing.sound) (forest c.open_child.new.self c.open_child.new.self.sound) (forest c.define.new.self c.define.new.self.sound)
