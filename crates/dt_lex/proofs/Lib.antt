@@ -1,4 +1,3 @@
-pub mod Tables
 pub mod WordLemmas
 pub mod LineLemmas
 pub mod QuotedLemmas

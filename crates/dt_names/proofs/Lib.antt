@@ -1,3 +1,4 @@
+pub mod Tables
 mod Names
 pub mod Faults
 mod PathTexts

@@ -71,10 +71,25 @@ pub fn is_bookkeeping_name(name: &[u8]) -> bool
         || name == b"__local_fixups__".as_slice()
 }
 
+const NAME: u8 = 1;
+
+const LABEL: u8 = 2;
+
+/// What each byte may stand in: the low two bits of its letter are the flags above.
+static CLASSES: [u8; 256] = *b"\
+    @@@@@@@@@@@@@@@@@@@@@@@@@@@@@@@@\
+    @@@A@@@@@@AAAAA@CCCCCCCCCC@@@@@A\
+    @CCCCCCCCCCCCCCCCCCCCCCCCCC@@@@C\
+    @CCCCCCCCCCCCCCCCCCCCCCCCCC@@@@@\
+    @@@@@@@@@@@@@@@@@@@@@@@@@@@@@@@@\
+    @@@@@@@@@@@@@@@@@@@@@@@@@@@@@@@@\
+    @@@@@@@@@@@@@@@@@@@@@@@@@@@@@@@@\
+    @@@@@@@@@@@@@@@@@@@@@@@@@@@@@@@@";
+
 fn may_stand_in_a_name(byte: u8) -> bool
     ensures { result ≡ is_name_byte byte }
 {
-    matches!(byte, b'a'..=b'z' | b'A'..=b'Z' | b'0'..=b'9' | b',' | b'.' | b'_' | b'+' | b'-' | b'*' | b'#' | b'?')
+    CLASSES[byte as usize] & NAME != 0
 }
 
 pub(crate) fn is_node_name(bytes: &[u8]) -> bool
@@ -108,7 +123,7 @@ fn is_property_name(bytes: &[u8]) -> bool
 fn may_stand_in_a_label(byte: u8) -> bool
     ensures { result ≡ (is_letter byte || is_digit byte || (byte == 95)) }
 {
-    matches!(byte, b'a'..=b'z' | b'A'..=b'Z' | b'0'..=b'9' | b'_')
+    CLASSES[byte as usize] & LABEL != 0
 }
 
 fn is_a_digit(byte: u8) -> bool

@@ -3,7 +3,7 @@ use Rattle.dt_lex.specs.Bytes.{is_in}
 use Rattle.dt_lex.specs.declared.byte.TheConstants.{CLASSES}
 use Rattle.dt_lex.specs.declared.byte.Class.{Class}
 use Rattle.dt_lex.specs.declared.byte.Class.TheVariants as class
-use Rattle.dt_lex.proofs.Tables.{agree_below, from_table}
+use Rattle.dt_names.proofs.Tables.{agree_below, from_table}
 use Rattle.dt_lex.proofs.byte.is_in.Goals as goal
 
 pub returns-in-Name : goal.returns-in-Name
