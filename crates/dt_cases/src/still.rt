@@ -12,7 +12,7 @@ use dt_edit::{BlobBuf, open_into};
 use dt_expr::eval;
 use dt_flat::FlatTree;
 use dt_names::{Fault, NodeId};
-use dt_parse::parse;
+use dt_parse::{Source, parse};
 use dt_phandle::{Numbering, number};
 use dt_read::Blob;
 use dt_source::{Mode, build_base};
@@ -69,7 +69,11 @@ fn of_expression(alloc: Global, input: &[u8]) -> Result<usize, Stop> {
 
 fn of_source(alloc: Global, input: &[u8]) -> Result<usize, Stop> {
     let source = parse(alloc, input)?;
-    let tree = build_base(alloc, &source, Mode::Base)?;
+    of_parsed(alloc, &source)
+}
+
+fn of_parsed(alloc: Global, source: &Source<'_>) -> Result<usize, Stop> {
+    let tree = build_base(alloc, source, Mode::Base)?;
     let numbering = number(alloc, &tree)?;
     let begun = ask_for(alloc, BEGIN);
     let answered = numbers_of(&numbering, tree.nodes().len());
