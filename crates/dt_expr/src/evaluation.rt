@@ -13,7 +13,7 @@ use dt_names::limits::MOST_TOKENS;
 use dt_names::{Fault, FaultKind};
 use std::marker::Model;
 
-/// The numbers that wait for their operators, the last one first: never more than an expression has tokens.
+/// The numbers that wait for their operators, the last one first: at most N.
 #[derive(Drop)]
 struct Stack<const N: usize> {
     numbers: [u64; N],
@@ -134,7 +134,7 @@ impl<const N: usize> Stack<N> {
     }
 }
 
-/// So many steps most expressions have at most; a stack for them is made faster.
+/// Most expressions have at most this many steps. A stack of this size is quick to clear.
 const FEW: usize = 64;
 
 /// The value of an expression of at most so many steps.

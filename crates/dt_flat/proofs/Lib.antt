@@ -9,6 +9,7 @@ pub mod NameLemmas
 pub mod RowLemmas
 pub mod TableLemmas
 pub mod PlaceLemmas
+pub mod FirstFree
 pub mod Numbering
 pub mod Distinctness
 pub mod Validity

@@ -5,7 +5,6 @@ use Rattle.std.specs.List.{AllByRecursion}
 use Rattle.std.specs.Option.{option_to_list}
 use Rattle.std.specs.Str.{bytes_eq}
 use Rattle.std.specs.Int.{w32, from_be_bytes}
-use Rattle.std.specs.Map.{lookup}
 use Rattle.std.proofs.lemmas.Bool.{cases_eq, cases_lt, eqb-true}
 use Rattle.std.proofs.lemmas.List.{append-nil, drop_all}
 use Rattle.std.proofs.lemmas.Slice.Eq.{bytes_eq-Decides}
@@ -20,6 +19,7 @@ use Rattle.dt_flat.specs.Refusals.{MaySet}
 use Rattle.dt_flat.specs.Sound.{AreCells}
 use Rattle.dt_flat.proofs.AfterChild.{tested, differs, properties-push, properties-past}
 use Rattle.dt_flat.proofs.AfterProperty.{properties-same, properties-other}
+use Rattle.dt_flat.proofs.FirstFree.{holder-same}
 
 -- the number that some properties give
 abbrev pub phandle_of : List Property → Option ℕ
@@ -149,9 +149,6 @@ has_number ps a value e v four =
     sym (ap number_of_value (ap (value_of ps) (sym e) ∙ sym v) ∙ ap (λ (b : Bool). cond b (Some (from_be_bytes w32 value)) None) (tested (length value) 4 four))
 
 -- a table of the same entries
-holder-same : (old new : Table) (n : ℕ) → new.entries ≡ old.entries → holder new n ≡ holder old n
-holder-same old new n e = ap (lookup (eqb n)) e
-
 pub IsNumbered-same : (slots : List Slot) (old new : Table) → new.entries ≡ old.entries → IsNumbered slots old → IsNumbered slots new
 IsNumbered-same slots old new e h = record { sound = λ n i g. h.sound n i (sym (holder-same old new n e) ∙ g); whole = λ n i g. holder-same old new n e ∙ h.whole n i g }
 

@@ -1,6 +1,6 @@
 //! Ordered trees with byte values.
 
-ghost use Rattle.std.specs.Prelude.{◌≡◌, ◌↔◌, ◌<◌, ◌≤◌, ◌+◌, ◌++◌, ◌∷◌, [], ℕ, List, None, Some};
+ghost use Rattle.std.specs.Prelude.{◌≡◌, ◌↔◌, ◌<◌, ◌≤◌, ◌+◌, ◌-◌, ◌^◌, ◌++◌, ◌∷◌, [], ℕ, List, None, Some};
 ghost use Rattle.std.specs.Prelude.{length, map, All, IsOk, OnOk, OnErr, IfOk, IfErr, IfSome, option_map, codes};
 ghost use Rattle.dt_model.specs.Applied.{with_cell};
 ghost use Rattle.dt_model.specs.Path.{Path as Names};
@@ -16,7 +16,7 @@ ghost use Rattle.dt_names.specs.Fault.{IsNoMemory};
 
 use crate::NodeId;
 use crate::children::Children;
-use crate::phandles::{Phandles, find_number, free_number, give};
+use crate::phandles::Phandles;
 use crate::places::Places;
 use crate::properties::Props;
 use crate::ways::path_of;
@@ -67,16 +67,17 @@ fn put_number(
     number: u32,
     value: &[u8],
 ) -> Result<(), AllocError>
-    requires { node < length places.old }
+    requires node { node < length places.old }
+    requires small { number < 2 ^ 32 - 1 }
     ensures ok { OnOk result (places.new ≡ with_property places.old node (codes "phandle") value.now) }
     ensures given { OnOk result ((n : ℕ) → holder phandles.new n ≡ given phandles.old (phandle_at places.old node) number node n) }
     ensures places { OnErr result (places.new ≡ places.old) }
     ensures phandles { OnErr result (phandles.new.entries ≡ phandles.old.entries) }
 {
     let before = number_at(places, node);
-    phandles.reserve(1)?;
+    phandles.reserve()?;
     places.set(node, b"phandle".as_slice(), value)?;
-    give(phandles, before, number, node);
+    phandles.give(before, number, node);
     Ok(())
 }
 
@@ -97,7 +98,7 @@ impl FlatTree {
             boot_cpu,
             reservations: Vec::new(alloc),
             places: Places::new(alloc, seed),
-            phandles: Phandles::with_hasher(alloc, seed),
+            phandles: Phandles::new(alloc, seed),
         }
     }
 
@@ -186,7 +187,7 @@ impl FlatTree {
         ensures refused { IfErr result
             (λ fault. WhyNotSet fault.kind self.old.slots node (codes "phandle") value.now × (fault.at ≡ None)) }
     {
-        let Some(number) = free_number(&self.phandles, node, value) else {
+        let Some(number) = self.phandles.free_number(node, value) else {
             return Err(Fault::of(FaultKind::BlobPhandle));
         };
         put_number(&mut self.places, &mut self.phandles, node, number, value)?;
@@ -327,7 +328,17 @@ impl FlatTree {
         ensures value { (node : ℕ) → (result ≡ Some node) ↔ (phandle_at self.now.slots node ≡ Some number) }
         ensures there { IfSome result (λ node. node < length self.now.slots) }
     {
-        find_number(&self.phandles, number)
+        self.phandles.holder(number)
+    }
+
+    /// The least number from 1 on that no node has as its `phandle`.
+    pub fn first_free_phandle(&self) -> u32
+        ensures above { 0 < result }
+        ensures free { (node : ℕ) → ¬ (phandle_at self.now.slots node ≡ Some result) }
+        ensures taken { (n : ℕ) → 0 < n → n < result →
+            (node : ℕ) × (node < length self.now.slots) × (phandle_at self.now.slots node ≡ Some n) }
+    {
+        self.phandles.first_free()
     }
 
     /// The path of a node.

@@ -1,4 +1,4 @@
-//! Words that their first bytes decide, whatever other rules there are: almost all words of a source. Each function answers None where it isn't so.
+//! Words that their first bytes decide: almost all words of a source. A function answers None where they don't decide; the rules then do.
 
 ghost use Rattle.std.specs.Prelude.{◌≡◌, ℕ, List, ◌++◌, ◌+◌, ◌<◌, false, true, Ok, IfSome, length};
 ghost use Rattle.dt_lex.specs.declared.token.Mode.{Mode};

@@ -1,19 +1,21 @@
 -- What is read of a tree in memory by path and by number.
-use Rattle.std.proofs.Common.{◌≡◌, ℕ, ◌<◌, ◌^◌, Bool, true, false, cond, eqb, List, length, Option, Some, None, is_some, refl, sym, ap, ◌∙◌}
-use Rattle.std.specs.Prelude.{◌↔◌, codes, option_map, option_and_then, IfSome, MatchOption}
+use Rattle.std.proofs.Common.{◌≡◌, ℕ, ◌<◌, ◌≤◌, ◌^◌, Bool, true, false, cond, eqb, List, length, Option, Some, None, is_some, refl, sym, ap, ◌∙◌}
+use Rattle.std.specs.Prelude.{◌↔◌, codes, nat_eq, option_map, option_and_then, IfSome, MatchOption}
+use Rattle.std.specs.List.{list_any}
 use Rattle.std.specs.Int.{w32, from_be_bytes}
 use Rattle.std.proofs.lemmas.Bool.{eqb-true}
 use Rattle.std.proofs.lemmas.Nat.{from_be_bytes-to_be_bytes_4}
 use Rattle.dt_model.specs.Meaning.{cell}
 use Rattle.dt_model.specs.Names.{Name}
+use Rattle.dt_model.specs.Numbers.{numbers_of}
 use Rattle.dt_model.specs.Path.{Path}
 use Rattle.dt_model.specs.Tree.{Node, stands_in, value_in, value_of}
 use Rattle.dt_flat.specs.Arena.{Arena, Slot, reading, properties, node_from, number_of_value, phandle_at}
 use Rattle.dt_flat.specs.Sound.{AreCells}
 use Rattle.dt_flat.proofs.AfterChild.{tested}
 use Rattle.dt_flat.proofs.ByPath.{has, reading_at}
-use Rattle.dt_overlay_laws.specs.Objects.{HasNumber}
-use Rattle.dt_overlay_laws.specs.Objects.{HasCells}
+use Rattle.dt_model_laws.proofs.Numbered.{taken_all}
+use Rattle.dt_overlay_laws.specs.Objects.{HasNumber, HasCells}
 
 -- there is something of what is there
 is_some-map : {X Y : Type 0} (f : X → Y) (o : Option X) → is_some (option_map f o) ≡ is_some o
@@ -73,6 +75,13 @@ pub number-had : (a : Arena) (p : Path) (n : ℕ) → n < 2 ^ 32 → HasNumber (
 number-had a p n fits has =
     let at = value-place a p (codes "phandle") (cell n) has in
     (at.0, value-numbered a.slots at.0 (cell n) at.2 refl ∙ ap (λ (k : ℕ). Some k) (from_be_bytes-to_be_bytes_4 n fits))
+
+-- the number of a node is taken
+pub number-taken : (a : Arena) (n i : ℕ) → AreCells a.slots → ((i : ℕ) → i < length a.slots → (p : Path) × (node_from a.slots 0 p ≡ Some i)) → n ≤ 0xfffffffe
+    → i < length a.slots → phandle_at a.slots i ≡ Some n → list_any (nat_eq n) (numbers_of (reading a)) ≡ true
+number-taken a n i cells paths small lt number =
+    let path = paths i lt in
+    taken_all (reading a) path.0 n small (has-number a path.0 i n path.1 cells number)
 
 -- the node that a number is looked for by, as a path
 pub found-by : (a : Arena) (n : ℕ) (r : Option ℕ) → AreCells a.slots → ((i : ℕ) → i < length a.slots → (p : Path) × (node_from a.slots 0 p ≡ Some i)) → n < 2 ^ 32

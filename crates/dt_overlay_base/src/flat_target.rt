@@ -25,13 +25,14 @@ fn node_at(tree: &FlatTree, path: &Path) -> NodeId
     }
 }
 
-/// The least number above another that no node has: a tree has too few nodes for it to be far above.
+/// The least number above another that no node has: a tree has too few nodes for it to be far above. The numbers below the first free one aren't
+/// looked at: an object whose numbers go behind those of a large tree would look at all of these.
 fn free_number(tree: &FlatTree, last: u32) -> u32
     requires { last ≤ 2 * most_nodes }
     ensures { IsNext (numbers_of (arena_reading tree.now)) last result }
 {
     tree.validity();
-    let mut number = last + 1;
+    let mut number = tree.first_free_phandle().max(last + 1);
     while tree.by_phandle(number).is_some() {
         number += 1;
     }

@@ -52,7 +52,7 @@ fn write_value(
     Ok(())
 }
 
-/// The same: of a value without references its own, else written into these.
+/// The bytes of a value: its own where it has no references, else written into `bytes`, over what was there.
 fn value_in<'b>(
     bytes: &'b mut Vec<u8>,
     value: &'b NamedValue<'_>,

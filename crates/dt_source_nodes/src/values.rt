@@ -306,7 +306,7 @@ impl Resolver<'_, '_, '_> {
         Ok(value)
     }
 
-    /// What tells the target of a new fragment: a cell by its label, or the text of its path and a NUL.
+    /// The value of a new fragment's target: a cell for a label, or the text of a path and a NUL.
     fn named_target<'a>(
         &self,
         alloc: Global,

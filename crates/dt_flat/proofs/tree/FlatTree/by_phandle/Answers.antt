@@ -6,4 +6,4 @@ use Rattle.dt_flat.proofs.tree.FlatTree.by_phandle.Goals as goal
 
 pub returns-clause-there : goal.returns-clause-there
 returns-clause-there c =
-    subst (λ (a : Arena). IfSome c.find_number.result (λ i. i < length a.slots)) c.self.view_is (found-within c.self.inside.places c.self.inside.phandles c.args.number c.find_number.result c.self.invariant.numbered c.find_number.ensures)
+    subst (λ (a : Arena). IfSome c.holder.result (λ i. i < length a.slots)) c.self.view_is (found-within c.self.inside.places c.self.inside.phandles c.args.number c.holder.result c.self.invariant.numbered c.holder.ensures)
