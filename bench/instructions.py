@@ -217,9 +217,13 @@ def of_memory(bench):
 
 
 def pages(command):
-    """The pages that a command touches first."""
-    process = subprocess.Popen(command, stdout=subprocess.DEVNULL)
-    return float(os.wait4(process.pid, 0)[2].ru_minflt)
+    """The pages that a command touches first: the median of some runs, since where the system puts a program makes a difference of some pages."""
+
+    def one():
+        process = subprocess.Popen(command, stdout=subprocess.DEVNULL)
+        return os.wait4(process.pid, 0)[2].ru_minflt
+
+    return float(statistics.median(one() for _ in range(25)))
 
 
 def of_numbers(bench):

@@ -92,6 +92,7 @@ fn hex_byte(text: &[u8]) -> (u8, &[u8])
 }
 
 /// The byte that the first letter of a text's inside stands for, and the text after it.
+#[inline(always)]
 fn letter(text: &[u8]) -> Option<(u8, &[u8])>
     ensures some { IfSome result (λ found. unescaped plain text.now ≡ found.0 ∷ unescaped plain found.1.now) }
     ensures shorter { IfSome result (λ found. length found.1.now < length text.now) }

@@ -110,9 +110,11 @@ fn node_name<'a>(cursor: &Cursor<'a, '_>) -> Result<NodeName<'a>, Stop>
 /// Reads what stands behind a property's name: `;`, or `=`, a value and `;`.
 fn assigned<'a>(alloc: Global, cursor: &mut Cursor<'a, '_>) -> Result<Value<'a>, Stop>
     requires { (behind_of (kind_at (first cursor.old)) ≡ behind.End) ⊎ (behind_of (kind_at (first cursor.old)) ≡ behind.Value) }
-    ensures ok { IfOk result (λ v. (cs : List RawComponent) × AllByRecursion IsComponent cs × (value_said v ≡ value_parts cs) × (length cursor.new < length cursor.old)
+    ensures ok { IfOk result (λ v. (cs : List RawComponent) × AllByRecursion IsComponent cs × (value_said v ≡ value_parts cs)
+        × (length cursor.new < length cursor.old)
         × ((ls : List (List ℕ)) (n : List ℕ) → Descends (AfterName ls n) cursor.old (found (made_places (raw_property ls n cs ∷ [])) cursor.new))) }
-    ensures err { IfErr result (λ stop. (ls : List (List ℕ)) (n : List ℕ) (outer : List Bool) → IsBroken (in_body false outer) (AfterName ls n) cursor.old stop) }
+    ensures err { IfErr result (λ stop. (ls : List (List ℕ)) (n : List ℕ) (outer : List Bool)
+        → IsBroken (in_body false outer) (AfterName ls n) cursor.old stop) }
 {
     match behind_of(cursor.kind()) {
         Behind::End => {
@@ -136,7 +138,8 @@ fn property<'a>(
     items: &mut Vec<Item<'a>>,
 ) -> Result<(), Stop>
     requires named { kind_at (first cursor.old) ≡ Some kind.Name }
-    requires assigned { (behind_of (kind_at (first (after true cursor.old))) ≡ behind.End) ⊎ (behind_of (kind_at (first (after true cursor.old))) ≡ behind.Value) }
+    requires assigned { (behind_of (kind_at (first (after true cursor.old))) ≡ behind.End)
+        ⊎ (behind_of (kind_at (first (after true cursor.old))) ≡ behind.Value) }
     ensures ok { (ls : List (List ℕ)) → AreLabelTexts ls → OnOk result ((p : RawPlace) × IsMember ls late cursor.old p late cursor.new
         × (places_said items.new.items ≡ places_said items.old.items ++ place_meant p ∷ [])) }
     ensures err { IfErr result (λ stop. (ls : List (List ℕ)) (outer : List Bool) → IsBroken (in_body late outer) (AfterMemberLabels ls) cursor.old stop) }
@@ -151,6 +154,7 @@ fn property<'a>(
 }
 
 /// Appends an item.
+#[inline(always)]
 pub(crate) fn push_item<'a>(item: Item<'a>, items: &mut Vec<Item<'a>>) -> Result<(), Stop>
     ensures ok { OnOk result (items.new.items ≡ items.old.items ++ item.entry ∷ []) }
     ensures err { IfErr result (λ stop. stop.kind ≡ fault.NoMemory) }
@@ -170,7 +174,8 @@ fn open_child<'a>(
     ensures ok { OnOk result (IsNodeName (bytes_at (first cursor.old)) × (bodies < most_bodies)
         × (cursor.new ≡ after true (after true cursor.old))
         × (places_said items.new.items ≡ places_said items.old.items ++ place_meant (raw_child (bytes_at (first cursor.old))) ∷ [])) }
-    ensures err { IfErr result (λ stop. (ls : List (List ℕ)) (late : Bool) (outer : List Bool) → length outer + 1 ≡ bodies → IsBroken (in_body late outer) (AfterMemberLabels ls) cursor.old stop) }
+    ensures err { IfErr result (λ stop. (ls : List (List ℕ)) (late : Bool) (outer : List Bool) → length outer + 1 ≡ bodies
+        → IsBroken (in_body late outer) (AfterMemberLabels ls) cursor.old stop) }
 {
     let name = node_name(cursor)?;
     cursor.advance();
@@ -193,7 +198,8 @@ fn child<'a>(
     ensures ok { (ls : List (List ℕ)) → names.entry.items ≡ map all_but_last ls → OnOk result (IsNodeName (bytes_at (first cursor.old)) × (bodies < most_bodies)
         × (cursor.new ≡ after true (after true cursor.old))
         × (places_said items.new.items ≡ places_said items.old.items ++ map place_meant (raw_child (bytes_at (first cursor.old)) ∷ map raw_label ls))) }
-    ensures err { IfErr result (λ stop. (ls : List (List ℕ)) (late : Bool) (outer : List Bool) → length outer + 1 ≡ bodies → IsBroken (in_body late outer) (AfterMemberLabels ls) cursor.old stop) }
+    ensures err { IfErr result (λ stop. (ls : List (List ℕ)) (late : Bool) (outer : List Bool) → length outer + 1 ≡ bodies
+        → IsBroken (in_body late outer) (AfterMemberLabels ls) cursor.old stop) }
 {
     open_child(bodies, cursor, items)?;
     push_labels(names, items)
@@ -201,7 +207,8 @@ fn child<'a>(
 
 /// Appends labels.
 pub(crate) fn push_labels<'a>(names: Vec<Label<'a>>, items: &mut Vec<Item<'a>>) -> Result<(), Stop>
-    ensures ok { (ls : List (List ℕ)) → names.entry.items ≡ map all_but_last ls → OnOk result (places_said items.new.items ≡ places_said items.old.items ++ map place_meant (map raw_label ls)) }
+    ensures ok { (ls : List (List ℕ)) → names.entry.items ≡ map all_but_last ls
+        → OnOk result (places_said items.new.items ≡ places_said items.old.items ++ map place_meant (map raw_label ls)) }
     ensures err { IfErr result (λ stop. stop.kind ≡ fault.NoMemory) }
 {
     for name in names {
@@ -216,7 +223,8 @@ fn name_ends(cursor: &mut Cursor<'_, '_>) -> Result<(), Stop>
         × (kind_at (first (after true cursor.old)) ≡ Some (kind.Mark mark.Semicolon)) × (cursor.new ≡ cursor.old)) }
     ensures err { IfErr result (λ stop. (stop.kind ≡ fault.Syntax)
         × (((kind_at (first cursor.old) ≢ Some kind.Name) × (stop.left ≡ length cursor.old))
-        ⊎ ((kind_at (first cursor.old) ≡ Some kind.Name) × (kind_at (first (after true cursor.old)) ≢ Some (kind.Mark mark.Semicolon)) × (stop.left ≡ length (after true cursor.old))))) }
+        ⊎ ((kind_at (first cursor.old) ≡ Some kind.Name) × (kind_at (first (after true cursor.old)) ≢ Some (kind.Mark mark.Semicolon))
+        × (stop.left ≡ length (after true cursor.old))))) }
 {
     if cursor.kind() != Some(TokenKind::Name) {
         return Err(cursor.stop(FaultKind::Syntax));
@@ -255,7 +263,8 @@ fn delete_child<'a>(cursor: &mut Cursor<'a, '_>, items: &mut Vec<Item<'a>>) -> R
     requires { kind_at (first cursor.old) ≡ Some (kind.Keyword keyword.DeleteNode) }
     ensures ok { (ls : List (List ℕ)) → AreLabelTexts ls → OnOk result ((p : RawPlace) × ((late : Bool) → IsMember ls late cursor.old p true cursor.new)
         × (places_said items.new.items ≡ places_said items.old.items ++ place_meant p ∷ [])) }
-    ensures err { IfErr result (λ stop. (ls : List (List ℕ)) (late : Bool) (outer : List Bool) → IsBroken (in_body late outer) (AfterMemberLabels ls) cursor.old stop) }
+    ensures err { IfErr result (λ stop. (ls : List (List ℕ)) (late : Bool) (outer : List Bool)
+        → IsBroken (in_body late outer) (AfterMemberLabels ls) cursor.old stop) }
 {
     cursor.advance();
     name_ends(cursor)?;
@@ -327,7 +336,8 @@ fn member_behind<'a>(
     ensures ok { (ls : List (List ℕ)) (ws : Words) → IsRead outside SomeLabels ws (made_labels ls) cursor.old → (labelled ≡ false → ls ≡ []) → IfOk result
         (λ next. (ps : List RawPlace) × Goes depth.open depth.late ws ps next.open next.late cursor.new
         × (length cursor.new < length ws) × (places_said items.new.items ≡ places_said items.old.items ++ map place_meant ps)) }
-    ensures err { (ls : List (List ℕ)) (ws : Words) → IsRead outside SomeLabels ws (made_labels ls) cursor.old → (labelled ≡ false → ls ≡ []) → (labelled ≡ true → ls ≢ []) →
+    ensures err { (ls : List (List ℕ)) (ws : Words) → IsRead outside SomeLabels ws (made_labels ls) cursor.old → (labelled ≡ false → ls ≡ [])
+        → (labelled ≡ true → ls ≢ []) →
         IfErr result (λ stop. BreaksIn depth.open depth.late ws stop) }
 {
     match front_of(cursor.kind()) {

@@ -69,6 +69,7 @@ fn refused(tokens: &[Token], refusal: Refusal) -> Stop
 }
 
 /// The steps of the expression that the tokens begin with, and of how many tokens it is.
+#[inline(never)]
 fn measured(alloc: Global, tokens: &[Token]) -> Result<(Vec<Step>, usize), Stop>
     ensures ok { IfOk result (λ r. (text : List ℕ) → IsMeasured (words_of text tokens.now) r.0.items r.1) }
     ensures err { IfErr result (λ stop. (text : List ℕ) (a : Around) → IsBroken a Prim (words_of text tokens.now) stop) }
@@ -87,6 +88,7 @@ fn measured(alloc: Global, tokens: &[Token]) -> Result<(Vec<Step>, usize), Stop>
 }
 
 /// The value of an expression; none where it divides by 0.
+#[inline(never)]
 fn value_of(found: Vec<Step>) -> Option<u64>
     ensures { (e : Expression) → found.items ≡ steps e → length found.items ≤ most_tokens → result ≡ value e }
 {
@@ -99,6 +101,7 @@ fn value_of(found: Vec<Step>) -> Option<u64>
 }
 
 /// The value of the number that is next, and of how many tokens it is. A number that is one token takes no memory.
+#[inline(always)]
 fn valued(alloc: Global, cursor: &Cursor<'_, '_>) -> Result<(u64, usize), Stop>
     ensures ok { IfOk result (λ r. IsValued cursor.now r.0 r.1) }
     ensures err { IfErr result (λ stop. (a : Around) → IsBroken a Prim cursor.now stop) }
@@ -115,9 +118,11 @@ fn valued(alloc: Global, cursor: &Cursor<'_, '_>) -> Result<(u64, usize), Stop>
 
 /// Reads a number: an integer, a character or an expression in parentheses (Devicetree Specification v0.4, 6.3), as an
 /// element of so many bits. Answers its low bits.
+#[inline(always)]
 pub(crate) fn number(alloc: Global, bits: u32, cursor: &mut Cursor<'_, '_>) -> Result<u64, Stop>
     requires { IsWidth bits }
-    ensures ok { IfOk result (λ n. (a : Around) → (m : Made) × IsRead (in_elements bits a) Prim cursor.old m cursor.new × (n ≡ element bits (value_or_zero (expression_in m)))) }
+    ensures ok { IfOk result (λ n. (a : Around) → (m : Made) × IsRead (in_elements bits a) Prim cursor.old m cursor.new
+        × (n ≡ element bits (value_or_zero (expression_in m)))) }
     ensures err { IfErr result (λ stop. (a : Around) → IsBroken (in_elements bits a) Prim cursor.old stop) }
 {
     let (value, used) = valued(alloc, cursor)?;

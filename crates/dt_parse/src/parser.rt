@@ -71,7 +71,8 @@ fn next_header(plugin: bool, cursor: &mut Cursor<'_, '_>) -> Result<(), Stop>
 
 /// Reads the headers: `/dts-v1/;`, and `/plugin/;` behind each of them or behind none. Whether it stands there.
 fn headers(cursor: &mut Cursor<'_, '_>) -> Result<bool, Stop>
-    ensures found { IfOk result (λ plugin. (m : Made) (left : Words) → Descends Top cursor.new (found m left) → Descends Whole cursor.old (found (source_with plugin m) left)) }
+    ensures found { IfOk result (λ plugin. (m : Made) (left : Words) → Descends Top cursor.new (found m left)
+        → Descends Whole cursor.old (found (source_with plugin m) left)) }
     ensures breaks { IfOk result (λ _. (k : FaultKind) (left : Words) → Breaks outside Top cursor.new k left → Breaks outside Whole cursor.old k left) }
     ensures err { IfErr result (λ stop. IsBroken outside Whole cursor.old stop) }
 {
@@ -118,7 +119,8 @@ fn reservations<'a>(
 ) -> Result<(Vec<Reservation>, Vec<Label<'a>>), Stop>
     ensures ok { IfOk result (λ r. (rs : List RawReserve) × (ls : List (List ℕ)) × AllByRecursion IsReserve rs × AreLabelTexts ls
         × (map reservation_said r.0.items ≡ map reserve_of rs) × (r.1.items ≡ map all_but_last ls)
-        × ((ps : List RawPlace) (left : Words) → Descends (StatementThen ls) cursor.new (found (made_places ps) left) → Descends Top cursor.old (found (made_behind rs ps) left))
+        × ((ps : List RawPlace) (left : Words) → Descends (StatementThen ls) cursor.new (found (made_places ps) left)
+        → Descends Top cursor.old (found (made_behind rs ps) left))
         × ((k : FaultKind) (left : Words) → Breaks outside (StatementThen ls) cursor.new k left → Breaks outside Top cursor.old k left)) }
     ensures err { IfErr result (λ stop. IsBroken outside Top cursor.old stop) }
 {
@@ -143,13 +145,15 @@ fn source<'a>(alloc: Global, seed: Seed, cursor: &mut Cursor<'a, '_>) -> Result<
     let (reservations, names) = reservations(alloc, cursor)?;
     let mut items = Vec::new(alloc);
     statements(alloc, names, cursor, &mut items)?;
+    items.shrink_to_fit();
     Ok(Source::of(seed, plugin, reservations, items))
 }
 
 /// The fault of a stop, at the first byte of the token at which it shows.
 fn fault_of(stop: Stop, text: &[u8], tokens: &[Token]) -> Fault
     ensures memory { stop.kind ≡ NoMemory → result ≡ record { kind = NoMemory; at = None } }
-    ensures told { ¬ stop.kind ≡ NoMemory → result ≡ record { kind = stop.kind; at = told_at stop.kind (token_place text.now (drop (length tokens.now - stop.left) tokens.now)) } }
+    ensures told { ¬ stop.kind ≡ NoMemory
+        → result ≡ record { kind = stop.kind; at = told_at stop.kind (token_place text.now (drop (length tokens.now - stop.left) tokens.now)) } }
 {
     let place = match tokens.get(tokens.len().saturating_sub(stop.left)) {
         Some(token) => token.start as usize,

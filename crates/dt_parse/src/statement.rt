@@ -55,7 +55,8 @@ fn root<'a>(
     requires { start_of (kind_at (first cursor.old)) ≡ start.Root }
     ensures ok { OnOk result ((labelled ≡ false) × ((ps : List RawPlace) × IsRead outside (OneStatement []) cursor.old (made_places ps) cursor.new
         × (places_said items.new.items ≡ places_said items.old.items ++ map place_meant ps))) }
-    ensures err { IfErr result (λ stop. (ls : List (List ℕ)) → (labelled ≡ false → ls ≡ []) → (labelled ≡ true → ls ≢ []) → IsBroken outside (OneStatement ls) cursor.old stop) }
+    ensures err { IfErr result (λ stop. (ls : List (List ℕ)) → (labelled ≡ false → ls ≡ []) → (labelled ≡ true → ls ≢ [])
+        → IsBroken outside (OneStatement ls) cursor.old stop) }
 {
     if labelled {
         return Err(cursor.stop(FaultKind::Syntax));
@@ -105,7 +106,8 @@ fn delete_node<'a>(
     requires { start_of (kind_at (first cursor.old)) ≡ start.Deletion }
     ensures ok { OnOk result ((labelled ≡ false) × ((ps : List RawPlace) × IsRead outside (OneStatement []) cursor.old (made_places ps) cursor.new
         × (places_said items.new.items ≡ places_said items.old.items ++ map place_meant ps))) }
-    ensures err { IfErr result (λ stop. (ls : List (List ℕ)) → (labelled ≡ false → ls ≡ []) → (labelled ≡ true → ls ≢ []) → IsBroken outside (OneStatement ls) cursor.old stop) }
+    ensures err { IfErr result (λ stop. (ls : List (List ℕ)) → (labelled ≡ false → ls ≡ []) → (labelled ≡ true → ls ≢ [])
+        → IsBroken outside (OneStatement ls) cursor.old stop) }
 {
     if labelled {
         return Err(cursor.stop(FaultKind::Syntax));
@@ -152,7 +154,8 @@ pub(crate) fn statements<'a>(
     ensures ok { (ls : List (List ℕ)) → names.entry.items ≡ map all_but_last ls → AreLabelTexts ls → OnOk result
         ((ps : List RawPlace) × IsRead outside (StatementThen ls) cursor.old (made_places ps) []
         × (places_said items.new.items ≡ places_said items.old.items ++ map place_meant ps)) }
-    ensures err { (ls : List (List ℕ)) → names.entry.items ≡ map all_but_last ls → AreLabelTexts ls → IfErr result (λ stop. IsBroken outside (StatementThen ls) cursor.old stop) }
+    ensures err { (ls : List (List ℕ)) → names.entry.items ≡ map all_but_last ls → AreLabelTexts ls → IfErr result
+        (λ stop. IsBroken outside (StatementThen ls) cursor.old stop) }
 {
     statement(alloc, names, cursor, items)?;
     'statements: while cursor.left() > 0 {

@@ -110,12 +110,26 @@ pub(crate) fn empty<'a>(alloc: Global) -> Value<'a>
     }
 }
 
+/// Most values are short: room for so many bytes is had at once.
+const SHORT: usize = 24;
+
+/// Makes room for an element, and for more where it is the first.
+fn reserve_element(bytes: &mut Vec<u8>) -> Result<(), AllocError>
+    ensures { bytes.new.items ≡ bytes.old.items }
+{
+    if bytes.capacity() == 0 {
+        bytes.reserve(SHORT)?;
+    }
+    Ok(())
+}
+
 /// Appends an element of so many bits, big-endian.
 fn push_element(value: &mut Value<'_>, bits: u32, element: u64) -> Result<(), AllocError>
     requires width { IsWidth bits }
     requires fits { element < 2 ^ bits }
     ensures { OnOk result (value_said value.new ≡ value_said value.old ++ map one (to_be_bytes (width_of bits) element)) }
 {
+    reserve_element(&mut value.bytes)?;
     match bits {
         8 => value.bytes.push(element as u8)?,
         16 => value
@@ -141,8 +155,21 @@ fn push_byte(value: &mut Value<'_>, byte: u8) -> Result<(), AllocError>
 fn push_string(value: &mut Value<'_>, token: &[u8]) -> Result<(), AllocError>
     ensures { OnOk result (value_said value.new ≡ value_said value.old ++ map one (text_bytes token.now ++ 0 ∷ [])) }
 {
+    // The token is longer than what it says by its two quotes.
+    value.bytes.reserve(token.len())?;
     push_text(token, &mut value.bytes)?;
     value.bytes.push(0)?;
+    Ok(())
+}
+
+/// Appends a piece. Most values have no other one, so the first has room for itself alone.
+fn push_piece<'a>(pieces: &mut Vec<Piece<'a>>, piece: Piece<'a>) -> Result<(), AllocError>
+    ensures { OnOk result (pieces.new.items ≡ pieces.old.items ++ piece.entry ∷ []) }
+{
+    if pieces.is_empty() {
+        pieces.reserve_exact(1)?;
+    }
+    pieces.push(piece)?;
     Ok(())
 }
 
@@ -156,15 +183,19 @@ fn push_reference<'a>(
     ensures { OnOk result (value_said value.new ≡ value_said value.old ++ referring form (reference_of reference.entry) ∷ []) }
 {
     let before = std::mem::replace(&mut value.bytes, Vec::new(alloc));
-    value.pieces.push(Piece {
-        before,
-        form,
-        reference,
-    })?;
+    push_piece(
+        &mut value.pieces,
+        Piece {
+            before,
+            form,
+            reference,
+        },
+    )?;
     Ok(())
 }
 
 /// The label that the next token is; `BadName` where it isn't one.
+#[inline(never)]
 pub(crate) fn label<'a>(cursor: &Cursor<'a, '_>) -> Result<Label<'a>, Stop>
     ensures { MatchResult result
         (λ l. IsLabelText (bytes_at (first cursor.now)) × (l ≡ all_but_last (bytes_at (first cursor.now))))
@@ -224,8 +255,10 @@ fn is_label(next: Option<TokenKind>) -> bool
 }
 
 /// Reads labels, as many as stand there.
+#[inline(always)]
 pub(crate) fn labels<'a>(alloc: Global, cursor: &mut Cursor<'a, '_>) -> Result<Vec<Label<'a>>, Stop>
-    ensures ok { IfOk result (λ names. (ls : List (List ℕ)) × ((a : Around) → IsRead a SomeLabels cursor.old (made_labels ls) cursor.new) × (names.items ≡ map all_but_last ls)) }
+    ensures ok { IfOk result (λ names. (ls : List (List ℕ)) × ((a : Around) → IsRead a SomeLabels cursor.old (made_labels ls) cursor.new)
+        × (names.items ≡ map all_but_last ls)) }
     ensures err { IfErr result (λ stop. (a : Around) → IsBroken a SomeLabels cursor.old stop) }
 {
     let mut names = Vec::new(alloc);
@@ -237,6 +270,7 @@ pub(crate) fn labels<'a>(alloc: Global, cursor: &mut Cursor<'a, '_>) -> Result<V
 }
 
 /// Steps over labels, as many as stand there.
+#[inline(always)]
 fn skip_labels(cursor: &mut Cursor<'_, '_>) -> Result<(), Stop>
     ensures ok { OnOk result ((ls : List (List ℕ)) × ((a : Around) → IsRead a SomeLabels cursor.old (made_labels ls) cursor.new)) }
     ensures err { IfErr result (λ stop. (a : Around) → IsBroken a SomeLabels cursor.old stop) }
@@ -418,7 +452,8 @@ fn components<'a>(
     value: &mut Value<'a>,
 ) -> Result<(), Stop>
     requires { value_said value.old ≡ [] }
-    ensures ok { OnOk result ((cs : List RawComponent) × ((a : Around) → IsRead a OneValue cursor.old (made_value cs) cursor.new) × (value_said value.new ≡ value_parts cs)) }
+    ensures ok { OnOk result ((cs : List RawComponent) × ((a : Around) → IsRead a OneValue cursor.old (made_value cs) cursor.new)
+        × (value_said value.new ≡ value_parts cs)) }
     ensures err { IfErr result (λ stop. (a : Around) → IsBroken a OneValue cursor.old stop) }
 {
     'components: loop {
@@ -434,7 +469,8 @@ fn components<'a>(
 
 /// Reads a value: components with commas between them, labels before and behind each (Devicetree Specification v0.4, 6.3).
 pub(crate) fn value<'a>(alloc: Global, cursor: &mut Cursor<'a, '_>) -> Result<Value<'a>, Stop>
-    ensures ok { IfOk result (λ v. (cs : List RawComponent) × ((a : Around) → IsRead a OneValue cursor.old (made_value cs) cursor.new) × (value_said v ≡ value_parts cs)) }
+    ensures ok { IfOk result (λ v. (cs : List RawComponent) × ((a : Around) → IsRead a OneValue cursor.old (made_value cs) cursor.new)
+        × (value_said v ≡ value_parts cs)) }
     ensures err { IfErr result (λ stop. (a : Around) → IsBroken a OneValue cursor.old stop) }
 {
     let mut value = empty(alloc);

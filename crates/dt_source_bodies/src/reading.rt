@@ -8,6 +8,7 @@ ghost use Rattle.dt_model.specs.Source as model;
 ghost use Rattle.dt_names.specs.declared.fault.FaultKind.TheVariants.{Syntax};
 ghost use Rattle.dt_source_items.specs.Said.{place_said, reference_of};
 ghost use Rattle.dt_source_growing.specs.Grown.{StandsUnder, IsGrown, value_held};
+ghost use Rattle.dt_source_growing.specs.Growing.{shape};
 ghost use Rattle.dt_model.specs.OverlaySource.{open_fragment};
 ghost use Rattle.dt_source_bodies.specs.Reading.{is_behind, Does, ReadsItem, GoesOn, HasTarget, Holds, IsWhole, MayOpen};
 ghost use Rattle.dt_source_bodies.specs.Refusals.{mode_said, TellsRefusal, WhyNotGrown};
@@ -167,10 +168,11 @@ impl<'s, 'a: 's> Reading<'s, 'a> {
         Ok(())
     }
 
-    /// The innermost body, where a child of the name may be opened in it.
-    fn parent(&self, mode: Mode, name: &[u8]) -> Result<OpenBody, Fault>
+    /// The innermost body, where a child of the name may be opened in it, and the child that stands there.
+    fn parent(&self, mode: Mode, name: &[u8]) -> Result<(OpenBody, Option<usize>), Fault>
         requires { IsWhole self.now }
-        ensures may { IfOk result (MayOpen self.now name.now) }
+        ensures child { IfOk result (λ found. found.1 ≡ (shape self.now.growing).child found.0.node name.now) }
+        ensures may { IfOk result (λ found. MayOpen self.now name.now found.0) }
         ensures meaning { (so_far : SoFar) (items : ℕ) → Holds self.now items so_far → MatchResult result
             (λ _. is_reserved (mode_said mode) so_far.node name.now ≡ false)
             (TellsRefusal (read (mode_said mode) so_far (child name.now))) }
@@ -179,13 +181,14 @@ impl<'s, 'a: 's> Reading<'s, 'a> {
         if is_kept_back(mode, body.depth, name) {
             return Err(Fault::of(FaultKind::ReservedName));
         }
-        if is_later(body.item, self.growing.opened(body.node, name)) {
+        let (child, last) = self.growing.child_and_item(body.node, name);
+        if is_later(body.item, last) {
             return Err(Fault::of(FaultKind::DuplicateNode));
         }
         if body.depth >= MOST_NAMES {
             return Err(Fault::of(FaultKind::Limit));
         }
-        Ok(body)
+        Ok((body, child))
     }
 
     pub fn child(&mut self, mode: Mode, item: usize, name: &'a [u8]) -> Result<(), Fault>
@@ -194,10 +197,10 @@ impl<'s, 'a: 's> Reading<'s, 'a> {
         ensures whole { OnOk result (IsWhole self.new) }
         ensures grown { OnOk result (length self.old.growing.nodes.items ≤ length self.new.growing.nodes.items) }
     {
-        let body = self.parent(mode, name)?;
+        let (body, child) = self.parent(mode, name)?;
         let node = self
             .growing
-            .open_child(body.node, NameText::Written(name), item)?;
+            .open_known(body.node, NameText::Written(name), item, child)?;
         let depth = body.depth + 1;
         enter(&mut self.bodies, OpenBody { node, depth, item })?;
         Ok(())

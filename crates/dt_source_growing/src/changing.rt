@@ -38,16 +38,25 @@ impl<'s, 'a: 's> Growing<'s, 'a> {
         }
     }
 
+    /// The child of a name, where one stands, and the item that last opened one.
+    pub fn child_and_item(&self, parent: usize, name: &[u8]) -> (Option<usize>, Option<usize>)
+        ensures child { result.0 ≡ (shape self.now).child parent name.now }
+        ensures item { result.1 ≡ (shape self.now).opened parent name.now }
+    {
+        let Some(last) = self.children.get(parent, name) else {
+            return (None, None);
+        };
+        if self.nodes[last.index].stands {
+            return (Some(last.index), Some(last.item));
+        }
+        (None, Some(last.item))
+    }
+
     /// The child of a name, where one stands.
     pub fn child(&self, parent: usize, name: &[u8]) -> Option<usize>
         ensures { result ≡ (shape self.now).child parent name.now }
     {
-        let last = self.children.get(parent, name)?;
-        if self.nodes[last.index].stands {
-            Some(last.index)
-        } else {
-            None
-        }
+        self.child_and_item(parent, name).0
     }
 
     /// The property of a name, where one stands, and the item that last defined one.
@@ -69,13 +78,6 @@ impl<'s, 'a: 's> Growing<'s, 'a> {
         ensures { result ≡ (shape self.now).property node name.now }
     {
         self.property_and_item(node, name).0
-    }
-
-    /// The item that last opened a child of the name.
-    pub fn opened(&self, parent: usize, name: &[u8]) -> Option<usize>
-        ensures { result ≡ (shape self.now).opened parent name.now }
-    {
-        Some(self.children.get(parent, name)?.item)
     }
 
     fn make_root(&mut self) -> Result<(), AllocError>
@@ -141,6 +143,28 @@ impl<'s, 'a: 's> Growing<'s, 'a> {
         Ok(node)
     }
 
+    /// Opens a child by an item, where `child` is the one that stands, and makes it where none does.
+    pub fn open_known(
+        &mut self,
+        parent: usize,
+        name: NameText<'s, 'a>,
+        item: usize,
+        child: Option<usize>,
+    ) -> Result<usize, AllocError>
+        requires inside { parent < length self.old.nodes.items }
+        requires known { child ≡ (shape self.old).child parent (name_said name) }
+        ensures opened { IfOk result (λ node.
+            (((shape self.old).child parent (name_said name.entry) ≡ None) × AddsChild (shape self.old) (shape self.new) parent (name_said name.entry) item
+            × (node ≡ length self.old.nodes.items))
+            ⊎ (((shape self.old).child parent (name_said name.entry) ≡ Some node)
+            × OpensChild (shape self.old) (shape self.new) parent (name_said name.entry) item)) }
+    {
+        match child {
+            Some(node) => self.open_again(parent, name, node, item),
+            None => self.add_child(parent, name, item),
+        }
+    }
+
     /// Opens a child by an item, and makes it where none stands.
     pub fn open_child(
         &mut self,
@@ -155,10 +179,8 @@ impl<'s, 'a: 's> Growing<'s, 'a> {
             ⊎ (((shape self.old).child parent (name_said name.entry) ≡ Some node)
             × OpensChild (shape self.old) (shape self.new) parent (name_said name.entry) item)) }
     {
-        match self.child(parent, name.bytes()) {
-            Some(node) => self.open_again(parent, name, node, item),
-            None => self.add_child(parent, name, item),
-        }
+        let child = self.child(parent, name.bytes());
+        self.open_known(parent, name, item, child)
     }
 
     /// Deletes a node that stands, and isn't the root.

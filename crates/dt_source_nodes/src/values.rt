@@ -280,7 +280,7 @@ impl Resolver<'_, '_, '_> {
             (λ fault. IsUnread self.now.unnamed self.now.growing.now (source_said.value_said source.now) fault) }
     {
         let mut value = NamedValue {
-            pieces: Vec::new(alloc),
+            pieces: Vec::with_capacity(alloc, source.pieces.len())?,
             bytes: CowSlice::Borrowed(b""),
         };
         self.add_value(alloc, source, &mut value)?;

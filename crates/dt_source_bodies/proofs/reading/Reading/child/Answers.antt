@@ -17,7 +17,7 @@ returns-in_err-body-clause-meaning c = λ u h.
 pub returns-clause-meaning : goal.returns-clause-meaning
 returns-clause-meaning c = λ u h.
     let old : Reading = c.args.self.now in
-    let new : Reading = record { growing = c.open_child.new.self; bodies = c.enter.new.bodies } in
+    let new : Reading = record { growing = c.open_known.new.self; bodies = c.enter.new.bodies } in
     let m = mode_said c.args.mode in
     let b = c.in_ok-body.body in
     let may = c.in_ok-body.ensures.may in
@@ -33,7 +33,7 @@ returns-clause-meaning c = λ u h.
 pub returns-clause-whole : goal.returns-clause-whole
 returns-clause-whole c =
     let old : Reading = c.args.self.now in
-    let new : Reading = record { growing = c.open_child.new.self; bodies = c.enter.new.bodies } in
+    let new : Reading = record { growing = c.open_known.new.self; bodies = c.enter.new.bodies } in
     let f = forest old.growing c.args.self.now.growing.sound in
     (elim c.in_ok-node.ensures.opened [
       | inl made ↦ (let z : length new.growing.nodes.items ≡ length old.growing.nodes.items + 1 = made.1.size in

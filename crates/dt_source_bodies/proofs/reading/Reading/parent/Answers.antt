@@ -23,7 +23,7 @@ returns-then-is_later-clause-meaning c = λ u n h.
     let i = inner_of (shape r.growing) r.bodies.items n u c.in_ok-body.body h c.in_ok-body.ensures.0 in
     let free : is_reserved m u.node c.args.name.now ≡ false = sym (c.if-is_kept_back.ensures u.node i.its.depth) in
     let twice : is_behind c.in_ok-body.body.item ((shape r.growing).opened c.in_ok-body.body.node c.args.name.now) ≡ true =
-    ap (is_behind c.in_ok-body.body.item) (sym c.opened.ensures) ∙ sym c.if-is_later.ensures in
+    ap (is_behind c.in_ok-body.body.item) (sym c.child_and_item-child.ensures.item) ∙ sym c.if-is_later.ensures in
     tells (read m u (child c.args.name.now)) duplicate_node c.of-then-is_later.result (child-twice m (shape r.growing) r.bodies.items n u c.in_ok-body.body c.args.name.now i free twice)
     c.of-then-is_later.ensures.kind c.of-then-is_later.ensures.at
 
@@ -34,7 +34,7 @@ returns-then-body-ge-MOST_NAMES-clause-meaning c = λ u n h.
     let i = inner_of (shape r.growing) r.bodies.items n u c.in_ok-body.body h c.in_ok-body.ensures.0 in
     let free : is_reserved m u.node c.args.name.now ≡ false = sym (c.if-is_kept_back.ensures u.node i.its.depth) in
     let once : is_behind c.in_ok-body.body.item ((shape r.growing).opened c.in_ok-body.body.node c.args.name.now) ≡ false =
-    ap (is_behind c.in_ok-body.body.item) (sym c.opened.ensures) ∙ sym c.if-is_later.ensures in
+    ap (is_behind c.in_ok-body.body.item) (sym c.child_and_item-child.ensures.item) ∙ sym c.if-is_later.ensures in
     tells (read m u (child c.args.name.now)) too_deep c.of-then-body-ge-MOST_NAMES.result
     (child-deep m (shape r.growing) r.bodies.items n u c.in_ok-body.body c.args.name.now i free once c.if-body-ge-MOST_NAMES.true)
     c.of-then-body-ge-MOST_NAMES.ensures.kind c.of-then-body-ge-MOST_NAMES.ensures.at
