@@ -70,7 +70,7 @@ fn first_text(bytes: &[u8]) -> Option<&[u8]>
     Some(&bytes[..len])
 }
 
-/// The bytes from a place of some bytes up to the first NUL; None where no NUL stands there or behind.
+/// The bytes from a place of some bytes up to the first NUL; None if there is no NUL from there on.
 pub fn text_at(bytes: &[u8], at: usize) -> Option<&[u8]>
     ensures text { option_copied result ≡ text_in (drop at bytes.now) }
     ensures within { IfSome result (λ text. at + length text.now < length bytes.now) }

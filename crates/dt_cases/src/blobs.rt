@@ -14,9 +14,9 @@ use dt_read::Blob;
 use dt_write::write_blob;
 use std::alloc::{AllocError, Global};
 
-/// `compile` gives a source's blob, `compile-raw` that of a raw source; `check` tells what a blob holds, in a line, `read` its
+/// `compile` gives a source's blob, `compile-raw` that of a raw source; `check` prints what a blob holds, in a line, `read` its
 /// tree and `root` its root; `rewrite`
-/// gives the blob of its tree. Of any bytes, `size` tells how many they are, `first N` gives the first ones, and
+/// gives the blob of its tree. Of any bytes, `size` prints how many they are, `first N` gives the first ones, and
 /// `change AT HEX` gives them with others at a place. `structure HEX` gives a blob with the bytes as its structure block, and with
 /// these ones as its strings block.
 pub fn call(
@@ -88,7 +88,7 @@ fn tell_counts(blob: &Blob<'_>, out: &mut Outcome) {
     out.tell(format_args!("{nodes} nodes, {properties} properties, {reservations} reservations"));
 }
 
-/// Puts what the calls of a blob tell of it and of its root.
+/// Puts what the calls of a blob answer of it and of its root.
 pub fn put_blob(lines: &mut Lines, blob: &Blob<'_>) {
     let boot_cpu = blob.boot_cpu();
     writeln!(lines, "boot {boot_cpu}");

@@ -7,7 +7,7 @@ use crate::input::{Other, input_of, others_of};
 use crate::outcome::{Outcome, Stop};
 use std::alloc::{AllocError, Global};
 
-/// A case's lines, and the lines of the table in which it stands.
+/// A case's lines, and the lines of its table.
 #[derive(Clone, Copy)]
 pub struct Case<'a> {
     pub lines: &'a [&'a str],

@@ -7,7 +7,7 @@ use dt_names::{Fault, FaultKind};
 use dt_write::write_blob;
 use std::alloc::Global;
 
-/// `damage` tries each proper front of a blob, and the blob with each byte changed to each other one, and tells how many it tried, and how many
+/// `damage` tries each proper front of a blob, and the blob with each byte changed to each other one, and prints how many it tried, and how many
 /// of them aren't as they have to be: a front is refused for its size; a changed blob is refused with a fault of blobs, or is
 /// written and read as the same tree.
 pub fn call(alloc: Global, input: &[u8], out: &mut Outcome) -> Result<(), Stop> {
@@ -37,7 +37,7 @@ fn try_fronts(alloc: Global, input: &[u8]) -> (usize, usize) {
     (input.len(), bad)
 }
 
-/// How many changes of a byte there are, and how many of them aren't told or kept.
+/// How many changes of a byte there are, and how many of them are neither reported nor kept.
 fn try_changes(alloc: Global, bytes: &mut [u8]) -> Result<(usize, usize), Fault> {
     let mut all = 0usize;
     let mut bad = 0usize;

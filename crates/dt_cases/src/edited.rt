@@ -14,7 +14,7 @@ use dt_write::write_blob;
 use std::alloc::Global;
 use std::marker::Model;
 
-/// What steps change. A node is told by its path, which is looked up for each step.
+/// What steps change. A step names its node by a path, which is looked up anew.
 pub trait Edited {
     /// Sets a property of a node.
     fn set(&mut self, path: &[u8], name: &[u8], value: &[u8]) -> Result<(), Stop>;

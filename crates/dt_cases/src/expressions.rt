@@ -5,7 +5,7 @@ use crate::outcome::{Outcome, Stop};
 use dt_expr::{Binary, Expr, Step, Unary, eval};
 use std::alloc::Global;
 
-/// `expression` tells the value of the expression whose steps are given, or `none` where they are no expression's.
+/// `expression` prints the value of the expression whose steps are given, or `none` where they are no expression's.
 pub fn call(alloc: Global, input: &[u8], out: &mut Outcome) -> Result<(), Stop> {
     let steps = steps_of(alloc, input)?;
     let size = steps.len();

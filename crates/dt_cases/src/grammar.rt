@@ -4,7 +4,7 @@ use crate::outcome::{Lines, Outcome, Stop};
 use dt_parse::{Form, Item, Reference, Source, Value, parse};
 use std::alloc::Global;
 
-/// `parse` tells whether a source is an overlay's, its reservations and its items, nearly as a source writes them, with
+/// `parse` prints whether a source is an overlay's, its reservations and its items, nearly as a source writes them, with
 /// the bytes of values in hexadecimal; `item-count` how many items there are.
 pub fn call(alloc: Global, name: &str, input: &[u8], out: &mut Outcome) -> Result<(), Stop> {
     let source = parse(alloc, input)?;

@@ -185,7 +185,7 @@ fn without_blanks(alloc: Global, digits: &str) -> Result<String, AllocError> {
     Ok(joined)
 }
 
-/// Appends a text once for each number, which stands in the place of each `{}`.
+/// Appends a text once for each number, which replaces each `{}`.
 fn push_numbered(input: &mut Vec<u8>, first: u64, end: u64, piece: &str) -> Result<(), AllocError> {
     for count in first..end {
         let mut buffer = Buffer::new();

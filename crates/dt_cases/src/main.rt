@@ -1,7 +1,7 @@
-//! `dt_cases FOLDER` tries the cases of a folder's tables, the files `*.cases`, and tells how many hold. docs/CASES.md has the
+//! `dt_cases FOLDER` tries the cases of a folder's tables, the files `*.cases`, and prints how many hold. docs/CASES.md has the
 //! format, and the calls that a case can name.
 //!
-//! It writes a line for each table, in the order of their names, and tells each case that fails on standard error, with
+//! It writes a line for each table, in the order of their names, and reports each case that fails on standard error, with
 //! its file and line. The exit status is 0 where each case holds, 1 where one doesn't, and 2 where the tables can't be read.
 #![tactic(auto)]
 
@@ -73,7 +73,7 @@ fn push_name(alloc: Global, names: &mut Vec<String>, name: &str) -> Result<(), A
     Ok(())
 }
 
-/// Tries the cases of one table, and tells how many hold.
+/// Tries the cases of one table, and prints how many hold.
 fn run_table<R: Files + Print + Eprint + AllocGlobal>(
     rt: &R,
     folder: &str,

@@ -6,7 +6,7 @@ use dt_names::NodeId;
 use dt_read::{Blob, Step};
 use std::alloc::{AllocError, Global};
 
-/// `fixups` tells the cells of an object that wait for labels, each behind its label, and `local-fixups` those that hold
+/// `fixups` prints the cells of an object that wait for labels, each behind its label, and `local-fixups` those that hold
 /// numbers of the object's own nodes: the path of the node, the property and the offset, in order, and last the fault where
 /// the list is off.
 pub fn call(alloc: Global, name: &str, input: &[u8], out: &mut Outcome) -> Result<(), Stop> {

@@ -4,8 +4,8 @@ use crate::outcome::{Lines, Outcome, Stop};
 use dt_names::{Fault, Label, NodeName, Out, Path, PathRef, PropName};
 use std::alloc::Global;
 
-/// `node-name`, `property-name` and `label` tell whether bytes are one; `path` tells how many names a path has, and each of
-/// them; `path-text` gives its text, and `push NAME` that of the path with a name more; `node-path` tells whether bytes are the
+/// `node-name`, `property-name` and `label` print whether bytes are one; `path` prints how many names a path has, and each of
+/// them; `path-text` gives its text, and `push NAME` that of the path with a name more; `node-path` prints whether bytes are the
 /// text of a path of any length.
 pub fn call(
     alloc: Global,

@@ -34,8 +34,8 @@ pub fn index(word: &str) -> Option<usize> {
     usize::try_from(number(word)?).ok()
 }
 
-/// `be32 AT`, `be64 AT` and `text-at AT` tell what stands at a place; `put32 AT NUMBER` gives the bytes with the number there;
-/// `fit NUMBER BITS` tells what an element of so many bits has for a number.
+/// `be32 AT`, `be64 AT` and `text-at AT` print what is at a place; `put32 AT NUMBER` gives the bytes with the number there;
+/// `fit NUMBER BITS` prints what an element of so many bits holds for a number.
 pub fn call(
     alloc: Global,
     name: &str,

@@ -6,8 +6,8 @@ use dt_chain::{compile, compile_raw, decompile};
 use dt_names::{Fault, FaultKind};
 use std::alloc::{AllocError, Global};
 
-/// `print` tells the text of a blob. A source is compiled as it stands, or to its object where it is an overlay's; then
-/// `printed` tells the text of the blob, and `again` whether that text is compiled to the same blob. `values SIZE` gives a
+/// `print` prints the text of a blob. A source is compiled as it is, or to its object if it is an overlay's; then
+/// `printed` prints the text of the blob, and `again` whether that text is compiled to the same blob. `values SIZE` gives a
 /// source that has each value of up to so many of the input's bytes.
 pub fn call(
     alloc: Global,
@@ -28,7 +28,7 @@ pub fn call(
     Ok(())
 }
 
-/// The blob of a source as it stands, of an overlay's source its object.
+/// The blob of a source as it is, or the object of an overlay's source.
 fn blob_of(alloc: Global, source: &[u8]) -> Result<Vec<u8>, Fault> {
     match compile_raw(alloc, source) {
         Err(fault) if fault.kind == FaultKind::BadVersionTag => compile(alloc, source),

@@ -17,7 +17,7 @@ use dt_resolve_model::Region;
 use dt_view::{Index, TreeView, address_cells, cells, is_pci, node_at, one_cell};
 use std::alloc::Global;
 
-/// `regs` tells the regions of a blob, and `irqs` its routes.
+/// `regs` prints the regions of a blob, and `irqs` its routes.
 pub fn call(alloc: Global, name: &str, blob: &[u8], out: &mut Outcome) -> Result<(), Stop> {
     let mut lines = Out::new(Vec::new(alloc));
     match name {
@@ -28,7 +28,7 @@ pub fn call(alloc: Global, name: &str, blob: &[u8], out: &mut Outcome) -> Result
     Ok(())
 }
 
-/// `dma PATH ADDRESS SIZE` and `spec PATH PROP KIND INDEX` tell what the node of a path answers.
+/// `dma PATH ADDRESS SIZE` and `spec PATH PROP KIND INDEX` print what the node of a path answers.
 pub fn ask_node(
     alloc: Global,
     name: &str,
@@ -120,7 +120,7 @@ pub fn node(path: &str, blob: &[u8], out: &mut Outcome) -> Result<(), Stop> {
     Ok(())
 }
 
-/// Tells of which nodes a blob's index, or its tree as one that can be changed, answers otherwise than the blob; `the same` where of none.
+/// Prints the nodes of which a blob's index or its `FlatTree` answers otherwise than the blob; `the same` if there are none.
 pub fn views(alloc: Global, blob: &[u8], out: &mut Outcome) -> Result<(), Stop> {
     let blob = Blob::check(blob)?;
     let index = Index::new(alloc, &blob)?;
@@ -134,7 +134,7 @@ pub fn views(alloc: Global, blob: &[u8], out: &mut Outcome) -> Result<(), Stop> 
     Ok(())
 }
 
-/// Tells how many nodes a blob has, each of which its index finds by its path.
+/// Prints how many nodes a blob has. Its index finds each by its path.
 pub fn paths(alloc: Global, blob: &[u8], out: &mut Outcome) -> Result<(), Stop> {
     let blob = Blob::check(blob)?;
     let index = Index::new(alloc, &blob)?;
@@ -154,7 +154,7 @@ fn find(alloc: Global, index: &Index<'_>, tree: &FlatTree, node: NodeId) -> Resu
     Ok(index.node_at(&text)?)
 }
 
-/// Tells a node of which the three views answer differently, or which the index finds by another path.
+/// Prints a node if the three views answer differently of it, or the index finds it by another path.
 fn compare_at(
     alloc: Global,
     blob: &Blob<'_>,
@@ -184,7 +184,7 @@ fn told_by<V: TreeView>(alloc: Global, view: &V, path: &[u8]) -> Result<String, 
     lines.into_text()
 }
 
-/// Puts what a view tells of the node of a path: what stands around it, the node of its number, what it says of its children's addresses, its first
+/// Puts what a view answers of the node of a path: the nodes around it, the node of its number, what it says of its children's addresses, its first
 /// regions and routes, also those for DMA and of GPIOs.
 pub fn put_told<V: TreeView>(view: &V, path: &[u8], lines: &mut Lines) -> Result<(), Fault> {
     let node = node_at(view, path)?;
@@ -205,7 +205,7 @@ pub fn put_told<V: TreeView>(view: &V, path: &[u8], lines: &mut Lines) -> Result
     Ok(())
 }
 
-/// Puts a node, and what stands above it, first below it and behind it.
+/// Puts a node, its parent, its first child and its next sibling.
 fn put_around<V: TreeView>(view: &V, node: NodeId, lines: &mut Lines)
     requires { IsNode (V.tree view.now) node }
 {

@@ -137,7 +137,7 @@ fn of_tree(alloc: Global, blob: &Blob<'_>, tree: &FlatTree) -> Result<usize, Sto
     put_all(alloc, blob, &index, tree, &mut lines)
 }
 
-/// Puts what is told of a blob, its index and its tree. Answers how much that was.
+/// Puts what a blob, its index and its tree answer. Answers how much that was.
 fn put_all(
     alloc: Global,
     blob: &Blob<'_>,
@@ -154,7 +154,7 @@ fn put_all(
     Ok(count)
 }
 
-/// Puts what is told of a node.
+/// Puts what the views answer of a node.
 fn put_at(
     alloc: Global,
     index: &Index<'_>,

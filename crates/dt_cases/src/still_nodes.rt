@@ -50,7 +50,7 @@ fn put_listed(blob: &Blob<'_>, lines: &mut Lines) {
     }
 }
 
-/// Puts what all views tell of a node, that of a blob more.
+/// Puts what each view answers of a node; a blob answers more.
 pub fn put_views(
     blob: &Blob<'_>,
     index: &Index<'_>,
@@ -72,7 +72,7 @@ pub fn put_views(
     }
 }
 
-/// Puts what a blob's own calls tell of a node.
+/// Puts what a blob's own calls answer of a node.
 fn put_node(blob: &Blob<'_>, node: NodeId, lines: &mut Lines)
     requires { IsNode blob.now node }
 {
@@ -83,7 +83,7 @@ fn put_node(blob: &Blob<'_>, node: NodeId, lines: &mut Lines)
     }
 }
 
-/// Puts what a tree's own calls tell of a node, and what its path has.
+/// Puts what a tree's own calls answer of a node, and the names of its path.
 pub fn put_slot(tree: &FlatTree, node: NodeId, path: &Path, lines: &mut Lines)
     requires { node < length tree.now.slots }
 {

@@ -11,7 +11,7 @@ pub struct Tally {
     pub held: usize,
 }
 
-/// Tries the cases of a table, which are parted by empty lines, and tells each that fails.
+/// Tries the cases of a table, which empty lines separate, and reports each that fails.
 pub fn try_table<R: Eprint + AllocGlobal>(rt: &R, name: &str, text: &str) -> IoResult<Tally> {
     let lines: Vec<&str> = text.lines().collect(rt.alloc())?;
     try_lines(rt, name, &lines)
@@ -34,7 +34,7 @@ fn try_lines<R: Eprint + AllocGlobal>(rt: &R, name: &str, lines: &[&str]) -> IoR
     Ok(tally)
 }
 
-/// Tries the case that stands in some lines of a table, if there is one.
+/// Tries the case in some lines of a table, if there is one.
 fn try_block<R: Eprint + AllocGlobal>(
     rt: &R,
     tally: &mut Tally,
@@ -58,7 +58,7 @@ fn try_block<R: Eprint + AllocGlobal>(
     Ok(())
 }
 
-/// Tries a case, and tells it where it fails.
+/// Tries a case, and reports it if it fails.
 fn try_case<R: Eprint + AllocGlobal>(
     rt: &R,
     name: &str,
@@ -70,7 +70,7 @@ fn try_case<R: Eprint + AllocGlobal>(
     compare(rt, name, first, answer.as_str(), wanted.as_str())
 }
 
-/// Whether an answer is the wanted one; it is told where it isn't.
+/// Whether an answer is the wanted one. Reports one that isn't.
 fn compare<R: Eprint>(
     rt: &R,
     name: &str,

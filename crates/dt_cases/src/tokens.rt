@@ -4,7 +4,7 @@ use crate::outcome::{Lines, Outcome, Stop};
 use dt_lex::{Token, TokenKind, keyword_bytes, mark_bytes, push_text, tokens};
 use std::alloc::Global;
 
-/// `tokens` tells each token, its first byte and the byte behind it; `token-count` how many there are; `text` gives the bytes
+/// `tokens` prints each token, its first byte and the byte behind it; `token-count` how many there are; `text` gives the bytes
 /// of a text, behind a `>` that was there.
 pub fn call(alloc: Global, name: &str, input: &[u8], out: &mut Outcome) -> Result<(), Stop> {
     match name {

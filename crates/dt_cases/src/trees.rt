@@ -9,7 +9,7 @@ use dt_names::{FaultKind, NodeName, PropName};
 use dt_write::write_blob;
 use std::alloc::Global;
 
-/// `tree [CPU]` tells what the steps on a new tree tell: each that is refused its fault, one that speaks of a node that isn't there `no node`, `read`
+/// `tree [CPU]` prints what the steps on a new tree answer: a step that is refused its fault, one that names a missing node `no node`, `read`
 /// the tree's lines, `count` how many nodes there are, and `value NODE NAME` a value. `tree-blob [CPU]` gives the blob of the tree behind the last
 /// step, if memory was refused to none. Steps end with `;`. They are `reserve ADDRESS SIZE`,
 /// `node PARENT NAME`, `set NODE NAME [HEX]`, `set-number NODE NAME NUMBER` and `set-size NODE NAME SIZE`, of a value of so many
@@ -56,7 +56,7 @@ fn take_all(
     }
 }
 
-/// Takes the steps, and puts what they tell; also behind one to which memory was refused, where it is to go on there.
+/// Takes the steps, and puts what they answer. Where `goes_on` holds, a step to which memory was refused doesn't end them.
 fn tell_all(
     tree: &mut FlatTree,
     lines: &mut Lines,

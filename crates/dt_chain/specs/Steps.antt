@@ -53,7 +53,7 @@ WhyNotLabelled Limit t =
     (0 < length (symbols_of t)) × (most_nodes ≤ length (list_of t)) × (numbers : List (Option ℕ)) × IsNumbering (asked_in t) numbers
 WhyNotLabelled _ t = ⊥
 
--- the root has no child in which an overlay's labels and cells are told
+-- the root has no child that lists an overlay's labels or cells
 pub record HasRooms (t : Named NodeReference) : Type 0 where
   pub symbols : HasRoom t
   pub fixups : sibling t.children (codes "__fixups__") ≡ None

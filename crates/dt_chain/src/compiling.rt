@@ -33,8 +33,8 @@ use std::alloc::Global;
 ///
 /// Of an overlay's source (`/plugin/;`), the object that a boot loader applies to a blob with `__symbols__` (dtc's notes on
 /// overlay objects). A block by a label that the source has given before opens that node; each other block by a label or a path
-/// opens the content of a new fragment. A cell by a label that the source gives holds its node's number, and `__local_fixups__` tells
-/// where; a cell by any other label is all ones, and `__fixups__` tells where.
+/// opens the content of a new fragment. A cell by a label that the source gives holds its node's number, and `__local_fixups__` lists
+/// it; a cell by any other label is all ones, and `__fixups__` lists it.
 ///
 /// # Errors
 ///
@@ -58,7 +58,7 @@ pub fn compile(alloc: Global, text: &[u8]) -> Result<Vec<u8>, Fault>
     }
 }
 
-/// The blob of a source as it stands: as `compile` of a base, but the bookkeeping nodes may be written, and nothing is added.
+/// The blob of a source as it is: as `compile` of a base, but the bookkeeping nodes may be written, and nothing is added.
 ///
 /// # Errors
 ///

@@ -99,7 +99,7 @@ pub data WhyNotCompiledOverlay (text : List ℕ) : Fault → Type 0 where
   -- it has reservations, or it means nothing, or too much
   refused : (s : Says) (kind : FaultKind) → IsParsed text s → WhyNoOverlay kind s →
       WhyNotCompiledOverlay text (record { kind = kind; at = fault_place kind })
-  -- with the nodes that tell its labels and its cells its tree has more than 65,536 nodes, or a path of more than 64 names
+  -- with the nodes that list its labels and its cells its tree has more than 65,536 nodes, or a path of more than 64 names
   large : (t : Reading) → OverlayTextHasTree text t → ¬ IsWithinLimits t → WhyNotCompiledOverlay text (placeless fault.Limit)
   -- the blob of its tree would be longer than 16 MiB
   big : (t : Reading) → OverlayTextHasTree text t → most_bytes < length (written t) → WhyNotCompiledOverlay text (placeless fault.Limit)
@@ -121,7 +121,7 @@ pub data WhyNoBlob (text : List ℕ) : Fault → Type 0 where
   -- it is an overlay's, and isn't compiled as one
   as_overlay : (s : Says) (e : Fault) → IsParsed text s → s.plugin ≡ true → WhyNotCompiledOverlay text e → WhyNoBlob text e
 
--- a fault that the compiler tells
+-- a fault that the compiler reports
 abbrev pub IsCompilerFault : FaultKind → Type 0
 IsCompilerFault fault.DuplicateProperty = Unit {0}
 IsCompilerFault fault.DuplicateNode = Unit {0}

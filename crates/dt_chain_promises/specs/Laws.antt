@@ -163,7 +163,7 @@ abbrev pub NotCompiledIsNoMeaning : Type 0
 NotCompiledIsNoMeaning = (text : List ℕ) (e : Fault) → WhyNoBlob text e → e.kind ≢ NoMemory → e.kind ≢ Limit
     → ((m : Meaning) → ¬ TextMeans base text m) × ((o : Overlay) → ¬ OverlayTextMeans text o)
 
--- and as it stands only where it means nothing so
+-- and as it is only where it means nothing so
 abbrev pub RawNotCompiledIsNoMeaning : Type 0
 RawNotCompiledIsNoMeaning = (text : List ℕ) (e : Fault) (m : Meaning) → WhyNotCompiled raw text e → e.kind ≢ NoMemory → e.kind ≢ Limit → ¬ TextMeans raw text m
 
@@ -204,7 +204,7 @@ abbrev pub OneMergedMeaning : Type 0
 OneMergedMeaning = (text : List ℕ) (texts : List (List ℕ)) (m n : Meaning) → TextsAreMerged text texts m → TextsAreMerged text texts n → m ≡ n
 
 -- What building answers is a blob of the meaning of the base's text with those of the overlays' texts merged into it one after
--- another, each keyed node having one number of its own that stands in every reference to it, with boot CPU 0. These numbers extend those of
+-- another, each keyed node having one number of its own that every reference to it holds, with boot CPU 0. These numbers extend those of
 -- the tree that the base's text is compiled to.
 pub record BlobIsOfTexts (text : List ℕ) (texts : List (List ℕ)) (blob : List ℕ) : Type 0 where
   pub result : Meaning
@@ -255,7 +255,7 @@ CompilingIsResolved = (text blob : List ℕ) → IsOfBytes text → IsCompiled b
 abbrev pub without_boot_cpu : Reading → Reading
 without_boot_cpu t = record t { boot_cpu = 0 }
 
--- The text, taken as it stands, has the tree, with boot CPU 0. Its blob is read as that tree; and it has one, memory aside, unless
+-- The text, taken as it is, has the tree, with boot CPU 0. Its blob is read as that tree; and it has one, memory aside, unless
 -- that would be longer than 16 MiB, which it may be only where the names of the blob that was printed share their bytes.
 pub record IsCompiledAgain (t : Reading) (text : List ℕ) : Type 0 where
   pub has_tree : TextHasTree raw text (without_boot_cpu t)

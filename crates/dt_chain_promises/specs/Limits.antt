@@ -1,4 +1,4 @@
--- Exactly when a limit is told. The limits are this project's: dt_model's Limits has them.
+-- Exactly when a limit is reported. The limits are this project's: dt_model's Limits has them.
 use Rattle.std.specs.Prelude.{◌≡◌, ◌⊎◌, ◌↔◌, ◌<◌, ◌+◌, ℕ, suc, List, [], ◌∷◌, ◌++◌, length, true, false, Option}
 use Rattle.dt_model.specs.Checks.{over_limit, IsFirstFault}
 use Rattle.dt_model.specs.Limits.{most_bytes, most_nodes}
@@ -19,7 +19,7 @@ use Rattle.dt_chain_promises.specs.Compile.{TextHasTree, OverlayTextHasTree, Why
 
 -- ---- texts
 
--- What is first wrong with a text, taken as a base or as it stands, is that it is beyond a limit, or its tree would be.
+-- What is first wrong with a text, taken as a base or as it is, is that it is beyond a limit, or its tree would be.
 pub data IsTreeBeyond (mode : Mode) (text : List ℕ) : Type 0 where
   -- it is longer than 16 MiB, or a number of it has more than 1,024 tokens, or more than 65 bodies are open at once
   spelled : (e : Fault) → WhyNotParsed text e → e.kind ≡ Limit → IsTreeBeyond mode text
@@ -39,11 +39,11 @@ pub data IsOverlayBeyond (text : List ℕ) : Type 0 where
   spelled : (e : Fault) → WhyNotParsed text e → e.kind ≡ Limit → IsOverlayBeyond text
   deep : (s : Says) → IsParsed text s → s.plugin ≡ true → s.reservations ≡ [] → IsOverlayRefusedFor s.places (at_place (as_any too_deep)) → IsOverlayBeyond text
   many : (s : Says) → IsParsed text s → s.plugin ≡ true → s.reservations ≡ [] → IsOverlayRefusedFor s.places too_many → IsOverlayBeyond text
-  -- its object has too many nodes, or a path that is too long, with those that tell its labels and its cells
+  -- its object has too many nodes, or a path that is too long, with those that list its labels and its cells
   marked : (t : Reading) → OverlayTextHasTree text t → ¬ IsWithinLimits t → IsOverlayBeyond text
   long : (t : Reading) → OverlayTextHasTree text t → most_bytes < length (written t) → IsOverlayBeyond text
 
--- `compile` tells a limit exactly of these
+-- `compile` reports a limit for exactly these
 abbrev pub CompilingIsLimited : Type 0
 CompilingIsLimited = (text : List ℕ) → ((e : Fault) × WhyNoBlob text e × (e.kind ≡ Limit)) ↔ (IsBeyond base text ⊎ IsOverlayBeyond text)
 
@@ -75,7 +75,7 @@ pub data IsLimited (has_base has_object : List ℕ → Reading → Type 0) (base
 abbrev pub IsBlobBeyond : List ℕ → Type 0
 IsBlobBeyond bytes = (at : Option ℕ) × IsFirstFault bytes over_limit at
 
--- `apply_list` tells a limit of an input exactly so
+-- `apply_list` reports a limit of an input exactly so
 abbrev pub ApplyingIsLimited : Type 0
 ApplyingIsLimited = (bytes : List ℕ) (objects : List (List ℕ)) (k : ℕ)
     → ((e : Fault) × WhyNoBlobApplied bytes objects k e × (e.kind ≡ Limit)) ↔ IsLimited IsRead IsRead IsBlobBeyond IsBlobBeyond bytes objects k

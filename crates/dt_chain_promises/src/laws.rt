@@ -126,7 +126,7 @@ pub fn one_blob()
     object_is_one();
 }
 
-/// Exactly when a limit is told: by `compile` and `compile_raw` of a text that is too long, or whose expressions, bodies, paths, nodes or blob
+/// Exactly when a limit is reported: by `compile` and `compile_raw` of a text that is too long, or whose expressions, bodies, paths, nodes or blob
 /// are; by `apply_list` and `build` of the first input that is so itself, or with which those before it have too many nodes, a path that is
 /// too long, or a blob that is.
 pub fn what_limits_mean()
@@ -154,7 +154,7 @@ pub fn what_applying_means()
 }
 
 /// What building answers is read as a tree that represents the one thing that the base's text followed by the overlays' texts means, each
-/// keyed node having one number of its own that stands in every reference to it, by numbers that extend those of the tree that the base's
+/// keyed node having one number of its own that every reference to it holds, by numbers that extend those of the tree that the base's
 /// text is compiled to; and memory and limits aside, it is refused only where one of the texts means nothing, or one of the merges isn't
 /// defined.
 pub fn what_building_means()
@@ -204,7 +204,7 @@ pub fn one_text()
     first_fault_is_one();
 }
 
-/// What a blob is printed as is compiled again, taken as it stands, where it is no longer than a source may be: to a blob that is
+/// The text that a blob is printed as, if it is no longer than a source may be, is compiled again as it is: to a blob that is
 /// read as the same tree, its reservations, nodes and properties in their order, with boot CPU 0.
 pub fn what_printing_means()
     ensures again { PrintedIsCompiledAgain }

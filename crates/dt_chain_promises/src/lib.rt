@@ -1,5 +1,5 @@
 //! What the calls of `dt_chain` answer, whatever their code is, as definitions; and theorems of them: that there is one answer or one
-//! refusal, that what is answered is of what the texts mean, and what it tells of addresses and interrupts. No code.
+//! refusal, that an answer is what the texts mean, and which addresses and interrupts it has. No code.
 #![tactic(auto)]
 
 mod applied_bytes;

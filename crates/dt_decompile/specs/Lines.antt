@@ -23,7 +23,7 @@ line_of depth (opens place name) = open_line depth name
 line_of depth (holds p) = property_line depth p
 line_of depth closes = close_line (pred depth)
 
--- inside how many nodes the next step stands
+-- how many nodes are open at the next step
 abbrev pub depth_after : ℕ → Step → ℕ
 depth_after depth (opens place name) = suc depth
 depth_after depth (holds p) = depth

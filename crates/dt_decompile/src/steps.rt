@@ -22,7 +22,7 @@ fn put_step<S: Sink>(writer: &mut Writer<'_, S>, depth: usize, step: Step) -> Re
     }
 }
 
-/// Inside how many nodes the next step stands.
+/// How many nodes are open at the next step.
 fn depth_behind(depth: usize, step: Step) -> usize
     requires { depth + 1 < 2 ^ 64 }
     ensures { result ≡ depth_after depth (step_view step.entry) }

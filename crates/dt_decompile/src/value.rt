@@ -9,7 +9,7 @@ use crate::texts::{are_texts, put_texts};
 use dt_names::{Fault, Sink};
 use dt_text_writer::Writer;
 
-/// Writes what stands behind a property's name: nothing for no bytes, else texts, cells or bytes, the first of these that fits.
+/// Writes what follows a property's name: nothing for no bytes, else texts, cells or bytes, the first of these that fits.
 pub(crate) fn put_value<S: Sink>(writer: &mut Writer<'_, S>, value: &[u8]) -> Result<(), Fault>
     ensures written { OnOk result (Puts S.taken (value_text value.now) writer.old writer.new) }
     ensures refused { IfErr result (λ fault. FailsAt S.taken fault (value_text value.now) writer.old writer.new) }

@@ -29,7 +29,7 @@ TokensAreSource = (t : Reading) → IsValid t → HasBytes t → IsWithinLimits 
 abbrev pub TextIsParsed : Type 0
 TextIsParsed = (t : Reading) → IsValid t → HasBytes t → IsWithinLimits t → length (printed t) ≤ most_bytes → IsParsed (printed t) (said t)
 
--- and what it says, taken as it stands, is the tree, with boot CPU 0
+-- and what it says, taken as it is, is the tree, with boot CPU 0
 abbrev pub TextIsTree : Type 0
 TextIsTree = (t : Reading) → IsValid t → HasBytes t → IsWithinLimits t → IsTreeOf raw t.reservations (places_of t) (record t { boot_cpu = 0 })
 

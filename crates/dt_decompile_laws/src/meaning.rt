@@ -7,7 +7,7 @@ pub fn tokens_are_source()
     ensures { TokensAreSource }
 {}
 
-/// What the text says, taken as it stands, is compiled to the tree, with boot CPU 0.
+/// The text, compiled as it is, gives the tree, with boot CPU 0.
 pub fn text_is_tree()
     ensures { TextIsTree }
 {}

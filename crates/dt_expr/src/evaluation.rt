@@ -111,7 +111,7 @@ impl<const N: usize> Stack<N> {
         number
     }
 
-    /// Takes the operands of a step: the number that stands for it, none at a division by 0.
+    /// Takes the operands of a step, and answers its number; none at a division by 0.
     fn take(&mut self, step: Step) -> Option<u64>
         requires { operands step ≤ length self.old }
         ensures { MatchOption result (after step self.old ≡ None) (λ n. after step self.old ≡ Some (n ∷ self.new)) }

@@ -44,7 +44,7 @@ fn are_steps(steps: &[Step]) -> bool
 }
 
 impl Expr {
-    /// The expression of these steps; none where they are no expression's, or more than 1,024. Each operator stands behind its
+    /// The expression of these steps; none where they are no expression's, or more than 1,024. Each operator comes after its
     /// operands, and one number is left over at the end (Devicetree Specification v0.4, 6.3).
     pub fn new(steps: Vec<Step>) -> Option<Expr>
         ensures valid { IsSome result ↔ AreSteps steps.items }

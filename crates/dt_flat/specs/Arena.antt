@@ -15,7 +15,7 @@ pub record Slot : Type 0 where
   pub name : Name
   pub properties : List Property
 
--- the root is node 0, and each other node stands after its parent
+-- the root is node 0, and each other node comes after its parent
 pub record Arena : Type 0 where
   pub boot_cpu : ℕ
   pub reservations : List (ℕ × ℕ)
@@ -122,7 +122,7 @@ forest_among i (n ∷ ns) p =
     then branch n.name n.properties (forest_among (suc i) ns i) (forest_among (suc i) ns p)
     else forest_among (suc i) ns p
 
--- what stands below p
+-- what is below p
 abbrev pub below : List Slot → ℕ → Forest
 below slots p = forest_among (suc p) (drop (suc p) slots) p
 

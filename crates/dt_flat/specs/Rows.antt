@@ -90,7 +90,7 @@ slots_kept names has bs = record { parent = 0; depth = 0; name = []; properties 
 
 -- ---- both
 
--- each node stands behind its parent, where the first of these nodes has number i
+-- each node comes after its parent, where the first of these nodes has number i
 abbrev pub AreBehind : ℕ → List Branch → Type 0
 AreBehind i [] = Unit {0}
 AreBehind i (b ∷ bs) = (b.parent < i) × AreBehind (suc i) bs

@@ -101,7 +101,7 @@ IsFaultNamed _ ws = Unit {0}
 
 -- ---- what else holds there
 
--- a reference stands among elements of 32 bits only
+-- a reference is allowed among elements of 32 bits only
 abbrev pub cell_placed : ℕ → Option TokenKind → Type 0
 cell_placed bits (Some kind.LabelReference) = bits ≡ 32
 cell_placed bits (Some kind.PathReference) = bits ≡ 32
@@ -126,7 +126,7 @@ abbrev pub body_placed : List Bool → Option TokenKind → Type 0
 body_placed bodies (Some (kind.Mark mark.OpenBrace)) = length bodies < most_bodies
 body_placed bodies _ = Unit {0}
 
--- two numbers, of which the second stands at the front, are a reservation's: one of them isn't 0
+-- two numbers, the second at the front, are a reservation's: one of them isn't 0
 abbrev pub IsReservedWith : Made → Words → Type 0
 IsReservedWith x ws = (y : Made) (left : Words) → Descends Prim ws (found y left) → IsNumber (size_in y) (expression_in y) →
     IsReservation (value_or_zero (expression_in x), value_or_zero (expression_in y))
@@ -184,7 +184,7 @@ IsFine a (made_places ps) = AllByRecursion IsSoundPlace ps × IsOrdered a.bodies
 IsFine a (made_behind rs ps) = AllByRecursion IsReserve rs × AllByRecursion IsSoundPlace ps × IsOrdered a.bodies ps
 IsFine a (made_source s) = IsStrict s
 
--- anything but a number, whose faults are told of the whole
+-- anything but a number, whose faults are those of the whole
 abbrev pub IsNoNumber : Wanted → Type 0
 IsNoNumber Prim = ⊥
 IsNoNumber _ = Unit {0}

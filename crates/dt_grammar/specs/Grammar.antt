@@ -129,7 +129,7 @@ pub data SpellsProperties : Words → List Place → Type 0 where
       SpellsLabels us ls → IsKeyword keyword.DeleteProperty k → IsPropertyWord w n → IsMark mark.Semicolon semicolon → SpellsProperties ws places →
       SpellsProperties (us ++ k ∷ w ∷ semicolon ∷ ws) (delete_property n ∷ places)
 
--- {child}: children, inside so many bodies, of which there may be 65, and deletions of children; a child's labels are given to it
+-- {child}: children, inside so many bodies, 65 at most, and deletions of children; a child's labels are given to it
 pub data SpellsChildren : ℕ → Words → List Place → Type 0 where
   no_children : (around : ℕ) → SpellsChildren around [] []
   opened : (around : ℕ) (us properties children ws : Words) (w opening closing semicolon : Word) (n : Name) (ls : List Name) (ps cs places : List Place) →

@@ -180,7 +180,7 @@ abbrev pub at_reserve_end : RawReserve → Option TokenKind → Move
 at_reserve_end r (Some (kind.Mark mark.Semicolon)) = want true Top (λ x. Done (made_behind (r ∷ reserves_in x) (places_in x)))
 at_reserve_end r _ = refuse
 
--- ---- headers: the first says whether `/plugin/;` stands behind each
+-- ---- headers: the first says whether `/plugin/;` follows each
 
 abbrev pub at_version : Wanted → Option TokenKind → Move
 at_version g (Some (kind.Keyword keyword.Version)) = want true g Done

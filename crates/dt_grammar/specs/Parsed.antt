@@ -24,7 +24,7 @@ abbrev pub token_place : List ℕ → List Token → ℕ
 token_place text [] = length text
 token_place text (t ∷ ts) = t.start
 
--- a limit tells no place
+-- a limit has no place
 abbrev pub told_at : FaultKind → ℕ → Option ℕ
 told_at fault.Limit place = None
 told_at _ place = Some place
@@ -37,7 +37,7 @@ pub record IsParsed (text : List ℕ) (s : Says) : Type 0 where
   pub spelled : SpellsSource (words_of text tokens) s
 
 -- Why a text is no source, or memory is wanted: it has no token list, or is too long; its tokens don't begin with the version
--- tag, which is told at its start; or they break, at the first of these that are left.
+-- tag, which is reported at its start; or they break, at the first of these that are left.
 pub data WhyNotParsed (text : List ℕ) : Fault → Type 0 where
   unlexed : (e : Fault) → WhyNotLexed text e → WhyNotParsed text e
   untagged : (tokens : List Token) → length text ≤ most_bytes → IsLexed text (Ok tokens) → ¬ IsTagged (words_of text tokens) →

@@ -54,7 +54,7 @@ IsSoundPlace (raw_delete_property ls bytes) = AreLabelTexts ls × IsPropertyName
 IsSoundPlace (raw_delete_child ls bytes) = AreLabelTexts ls × IsNodeName bytes
 IsSoundPlace raw_close = Unit {0}
 
--- Of each open body, the innermost first, whether a child stood in it: behind a child stands no property, and a child's body is
+-- Of each open body, the innermost first, whether a child stood in it: no property comes after a child, and a child's body is
 -- inside 64 others at most
 abbrev pub IsOrdered : List Bool → List RawPlace → Type 0
 IsOrdered bodies [] = Unit {0}

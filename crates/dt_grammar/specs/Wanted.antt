@@ -51,7 +51,7 @@ abbrev pub reserves_in : Made → List RawReserve
 reserves_in (made_behind rs ps) = rs
 reserves_in _ = []
 
--- what is wanted next: a whole of a kind, or the rest of one of which a part was read
+-- what is wanted next: a whole of a kind, or the rest of one that was read in part
 pub data Wanted : Type 0 where
   Any : Wanted
   AfterCondition : (c : Made) → Wanted

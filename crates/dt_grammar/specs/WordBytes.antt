@@ -1,4 +1,4 @@
--- Words that a text may have: what they are made of are bytes, and so is what stands for one.
+-- Words that a text may have: they are made of bytes, and so is what means one.
 use Rattle.std.specs.Prelude.{◌≡◌, ℕ, ◌<◌, List}
 use Rattle.std.specs.List.{AllByRecursion}
 use Rattle.dt_lex.specs.declared.token.TokenKind.TheVariants as kind

@@ -60,7 +60,7 @@ fn unit_of<V: TreeView>(view: &V, node: NodeId) -> &[u8]
 }
 
 /// The interrupts of a node that are left, as routes. What the node and its interrupt parent have is looked up once, so that all entries are
-/// told in one pass.
+/// read in one pass.
 #[derive(Clone, Copy)]
 pub struct Routes<'v> {
     entries: Entries<'v>,

@@ -26,7 +26,7 @@ pub(crate) struct MapRow<'v> {
     pub size: usize,
 }
 
-/// The row that some cells begin with, of which so many are compared.
+/// The row that some cells begin with; so many of them are compared.
 fn map_row<'v, V: TreeView>(
     view: &V,
     space: Space<'_>,
@@ -88,7 +88,7 @@ fn are_equal(compared: &[u8], key: &[u32], mask: &[u8]) -> bool
     true
 }
 
-/// The first row of a map, of which so many cells are compared, that is equal to a key under a mask.
+/// The first row of a map that is equal to a key under a mask; so many cells are compared.
 pub(crate) fn first_match<'v, V: TreeView>(
     view: &V,
     space: Space<'_>,

@@ -68,7 +68,7 @@ pub(crate) fn value_named<'v, V: TreeView>(
     view.value(node, name.as_slice())
 }
 
-/// The number of a specifier's cells that a value tells. `BadCells` where it tells none from the least one to 8, or is absent.
+/// The number of a specifier's cells that a value holds. `BadCells` if it holds none from the least one to 8, or is absent.
 fn counted(value: Option<&[u8]>, least: usize) -> Result<usize, Fault>
     ensures is { told result ≡ size_told least (option_map value_of_bytes (option_copied value.entry)) }
     ensures some { IfOk result (λ n. least ≤ n) }

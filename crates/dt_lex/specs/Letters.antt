@@ -5,7 +5,7 @@ use Rattle.dt_lex.specs.Bytes.{is_in}
 use Rattle.dt_lex.specs.Words.{Each, Word, One, Either, Then, Stops}
 use Rattle.dt_lex.specs.Vocabulary.{Escape, IsInside}
 
--- a byte of a class that stands for itself, or an escape
+-- a byte of a class that means itself, or an escape
 abbrev pub Letter : Class → List ℕ → Type 0
 Letter c = Either (One (is_in c)) Escape
 

@@ -1,7 +1,7 @@
 -- The numbers that digits spell.
 use Rattle.std.specs.Prelude.{ℕ, ◌+◌, ◌-◌, ◌*◌, ◌^◌, ◌&&◌, Bool, true, List, [], ◌∷◌, Option, Some, None, if◌then◌else◌, ◌==◌, nat_lt, nat_le}
 
--- the digit that a byte stands for
+-- the digit that a byte means
 abbrev pub digit_of : ℕ → ℕ
 digit_of b = if nat_le b 57 then b - 48 else (if nat_le b 70 then b - 55 else b - 87)
 

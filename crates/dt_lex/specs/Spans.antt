@@ -17,7 +17,7 @@ abbrev pub kind_of : Flaw → FaultKind
 kind_of BadToken = fault.BadToken
 kind_of BadInteger = fault.BadInteger
 
--- the fault that tells of a text's first flaw
+-- the fault for a text's first flaw
 abbrev pub fault_of : FirstFlaw → Fault
 fault_of f = record { kind = kind_of f.flaw; at = Some f.at }
 

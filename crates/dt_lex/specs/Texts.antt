@@ -17,7 +17,7 @@ pub data Within : Type 0 where
 abbrev pub or_escape : ℕ → (escaped itself : List ℕ) → List ℕ
 or_escape b escaped itself = if b == 92 then escaped else b ∷ itself
 
--- the bytes that the rest of a text's inside stands for
+-- the bytes that the rest of a text's inside means
 abbrev pub unescaped : Within → List ℕ → List ℕ
 unescaped plain [] = []
 unescaped plain (b ∷ w) = or_escape b (unescaped behind_backslash w) (unescaped plain w)
@@ -39,7 +39,7 @@ unescaped (hex value count) (b ∷ w) =
 abbrev pub inner : List ℕ → List ℕ
 inner w = slice_range w 1 (length w - 1)
 
--- the bytes that a text between quotes stands for, without a NUL at their end
+-- the bytes that a text between quotes means, without a NUL at their end
 abbrev pub text_bytes : List ℕ → List ℕ
 text_bytes w = unescaped plain (inner w)
 

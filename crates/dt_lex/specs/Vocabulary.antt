@@ -10,7 +10,7 @@ use Rattle.dt_lex.specs.Words.{Each, Word, One, Either, Without, Starting, Then,
 abbrev pub Run : Class → List ℕ → Type 0
 Run c = Starting (is_in c) (Each (is_in c))
 
--- bytes in which no `*/` stands, and `*/`
+-- bytes without a `*/`, and `*/`
 abbrev pub Closing : List ℕ → Type 0
 Closing = Then (Without (codes "*/")) (Word (codes "*/"))
 
@@ -96,11 +96,11 @@ OctalEscape =
 abbrev pub HexEscape : List ℕ → Type 0
 HexEscape = Then (Word (codes "\\x")) (Either (OneDigit class.Hex) (Then (OneDigit class.Hex) (OneDigit class.Hex)))
 
--- a byte that stands for another behind `\`: neither an octal digit nor `x`
+-- a byte that means another behind `\`: neither an octal digit nor `x`
 abbrev pub IsSimple : ℕ → Type 0
 IsSimple b = (is_in class.Octal b ≡ false) × (b == 120 ≡ false)
 
--- An escape, and the byte that it stands for: octal ones modulo 256.
+-- An escape, and the byte that it means: octal ones modulo 256.
 pub data IsEscape : List ℕ → ℕ → Type 0 where
   simple : (b : ℕ) → IsSimple b → IsEscape (92 ∷ b ∷ []) (simple_value b)
   octal : (w : List ℕ) → OctalEscape w → IsEscape w (number_behind 8 0 (digits (is_in class.Octal) (drop 1 w)) % 256)
@@ -109,7 +109,7 @@ pub data IsEscape : List ℕ → ℕ → Type 0 where
 abbrev pub Escape : List ℕ → Type 0
 Escape w = (b : ℕ) × IsEscape w b
 
--- What stands between the quotes of a text, and its bytes: bytes that stand for themselves, and escapes, each as long as it
+-- What is between the quotes of a text, and its bytes: bytes that mean themselves, and escapes, each as long as it
 -- can be.
 pub data IsInside : List ℕ → List ℕ → Type 0 where
   nothing : IsInside [] []

@@ -19,7 +19,7 @@ One p w = (b : ℕ) × (w ≡ b ∷ []) × (p b ≡ true)
 abbrev pub Either : (P Q : List ℕ → Type 0) → List ℕ → Type 0
 Either P Q w = P w ⊎ Q w
 
--- this word stands nowhere in it
+-- this word is nowhere in it
 abbrev pub Without : List ℕ → List ℕ → Type 0
 Without k w = (u v : List ℕ) → w ≡ u ++ (k ++ v) → ⊥
 

@@ -20,9 +20,9 @@ pub enum Class {
     Label,
     /// The same without digits.
     LabelStart,
-    /// What stands for itself in a text: any byte but `"` and `\`.
+    /// What means itself in a text: any byte but `"` and `\`.
     Quoted,
-    /// What stands for itself as a character: any byte but `'`, `\` and a line feed.
+    /// What means itself as a character: any byte but `'`, `\` and a line feed.
     Single,
     /// A decimal digit.
     Digit,

@@ -91,7 +91,7 @@ fn hex_byte(text: &[u8]) -> (u8, &[u8])
     (value as u8, rest)
 }
 
-/// The byte that the first letter of a text's inside stands for, and the text after it.
+/// The byte that the first letter of a text's inside means, and the text after it.
 #[inline(always)]
 fn letter(text: &[u8]) -> Option<(u8, &[u8])>
     ensures some { IfSome result (λ found. unescaped plain text.now ≡ found.0 ∷ unescaped plain found.1.now) }
@@ -133,7 +133,7 @@ pub(crate) fn character_value(word: &[u8]) -> u8
     }
 }
 
-/// Appends the bytes that a text stands for (Devicetree Specification v0.4, 6.3), escapes worked out as in C: an octal one
+/// Appends the bytes that a text means (Devicetree Specification v0.4, 6.3), escapes worked out as in C: an octal one
 /// modulo 256, and `\` before another byte as that byte. The NUL that ends a text's value isn't among them. `token` is the
 /// bytes of a `TokenKind::Text`, with their quotes.
 ///

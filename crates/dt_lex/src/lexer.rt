@@ -95,7 +95,7 @@ fn give(
     }
 }
 
-/// The fault that tells of a flaw at a place.
+/// The fault for a flaw at a place.
 fn fault_at(flaw: Flaw, place: usize) -> Fault
     ensures { result ≡ fault_of (record { flaw = flaw; at = place }) }
 {

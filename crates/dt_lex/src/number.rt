@@ -10,7 +10,7 @@ ghost use Rattle.dt_lex.specs.Words.{RunsTo};
 use crate::byte::{Class, is_in};
 use crate::word::split;
 
-/// The digit that a byte stands for.
+/// The digit that a byte means.
 pub(crate) fn digit_of(b: u8) -> u64
     requires { is_in class.Hex b ≡ true }
     ensures value { result ≡ digit_of b }

@@ -54,7 +54,7 @@ fn after_escape(text: &[u8]) -> Option<&[u8]>
     Some(after_up_to(digits, Class::Hex, 2))
 }
 
-/// After a byte of a class, which stands for itself, or an escape.
+/// After a byte of a class, which means itself, or an escape.
 fn after_letter(text: &[u8], class: Class) -> Option<&[u8]>
     requires { is_in class 92 ≡ false }
     ensures exact { Skips (Letter class) text.now result }
@@ -66,7 +66,7 @@ fn after_letter(text: &[u8], class: Class) -> Option<&[u8]>
     }
 }
 
-/// After what stands between the quotes of a text, and the closing quote.
+/// After the inside of a text and its closing quote.
 fn after_inside(text: &[u8]) -> Option<&[u8]>
     ensures exact { Skips ClosedText text.now result }
     ensures shorter { IfSome result (λ rest. length rest.now < length text.now) }

@@ -180,7 +180,7 @@ pub(crate) fn after_line_marker<'a>(text: &'a [u8], opening: &[u8]) -> Option<&'
     Some(after_line(number))
 }
 
-/// After letters, digits and `_`, of which the first is no digit.
+/// After letters, digits and `_`; the first is no digit.
 pub(crate) fn after_identifier(text: &[u8]) -> Option<&[u8]>
     ensures exact { Skips Identifier text.now result }
     ensures shorter { IfSome result (λ rest. length rest.now < length text.now) }

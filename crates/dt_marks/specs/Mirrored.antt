@@ -15,7 +15,7 @@ has_some (x ∷ xs) = true
 
 -- ---- which nodes are made again
 
--- the node of number j holds such cells, or one below it does that is one of these nodes, the first of which has number i
+-- the node of number j holds such cells, or one below it does that is one of these nodes; the first has number i
 abbrev pub needed_by : ℕ → List (Listed NodeReference) → ℕ → Bool
 needed_by i [] j = false
 needed_by i (n ∷ ns) j =

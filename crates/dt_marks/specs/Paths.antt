@@ -28,12 +28,12 @@ labels_at text c = map (label_property (text ++ 0 ∷ [])) c.labels
 abbrev pub symbols_behind : (value lengths : List ℕ) → List (Listed NodeReference) → List Property
 symbols_behind value lengths ns = behind labels_at value lengths ns
 
--- those of all nodes, the first of which is the root
+-- those of all nodes; the first is the root
 abbrev pub all_symbols : List (Listed NodeReference) → List Property
 all_symbols [] = []
 all_symbols (root ∷ ns) = map (label_property (codes "/" ++ 0 ∷ [])) root.content.labels ++ symbols_behind [] (0 ∷ []) ns
 
--- each of these nodes stands behind its parent, where the first of them has number k, and its labels are labels
+-- each of these nodes comes after its parent, where the first of them has number k, and its labels are labels
 abbrev pub MayFollow : ℕ → List (Listed NodeReference) → Type 0
 MayFollow k [] = Unit {0}
 MayFollow k (n ∷ ns) = (n.parent < k) × AllByRecursion IsLabel n.content.labels × MayFollow (suc k) ns

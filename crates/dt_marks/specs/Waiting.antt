@@ -58,7 +58,7 @@ content_texts path c = flat_map (property_texts path) c.properties
 abbrev pub texts_behind : (value lengths : List ℕ) → List (Listed NodeReference) → List (Name × List ℕ)
 texts_behind value lengths ns = behind content_texts value lengths ns
 
--- those of all nodes, the first of which is the root
+-- those of all nodes; the first is the root
 abbrev pub all_texts : List (Listed NodeReference) → List (Name × List ℕ)
 all_texts [] = []
 all_texts (root ∷ ns) = content_texts (codes "/") root.content ++ texts_behind [] (0 ∷ []) ns

@@ -41,7 +41,7 @@ pub(crate) fn holds_cells(node: &NamedNode<'_>) -> bool
     node.properties.iter().any(|property| refers(property))
 }
 
-/// Puts the offset of a reference as a cell, of which it is the lowest 32 bits, if the reference is to a node.
+/// Puts the lowest 32 bits of a reference's offset as a cell, if the reference is to a node.
 fn put_offset(
     out: &mut Vec<u8>,
     offset: usize,

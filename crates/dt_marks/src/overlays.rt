@@ -1,4 +1,4 @@
-//! The nodes by which the object of an overlay tells where its cells stand.
+//! The nodes that list where the cells of an overlay's object are.
 
 ghost use Rattle.std.specs.Prelude.{◌≡◌, None, codes, OnOk, IfErr};
 ghost use Rattle.dt_model.specs.Fixups.{with_fixups};

@@ -111,7 +111,7 @@ fn add_node(tree: &mut FlatTree, path: &mut LastPath, nodes: &[NamedNode<'_>]) -
 
 /// Adds the labels of a tree to a tree without a child `__symbols__` of the root: as the properties of such a child, the
 /// last one, each with the path of its node as a text, in preorder and in the order in which they were given (dtc's notes
-/// on overlay objects). Where no label stands, nothing is added.
+/// on overlay objects). Without a label, nothing is added.
 ///
 /// # Errors
 ///

@@ -1,4 +1,4 @@
--- What a reader of `__fixups__` still tells, as a function of what it has still to read.
+-- What a reader of `__fixups__` still lists, as a function of what it has still to read.
 use Rattle.std.specs.Prelude.{ℕ, ◌+◌, ◌==◌, Bool, false, nat_le, nat_lt, List, [], ◌∷◌, ◌++◌, length, Option, Some, None, option_and_then, Ok, Err, if◌then◌else◌}
 use Rattle.std.specs.List.{list_all}
 use Rattle.std.specs.Char.{digit_value}
@@ -51,14 +51,14 @@ cell_of_parts t front property digits =
     then option_and_then (λ p. cell_at t p property (number_of_digits digits)) (node_named (nodes_of (reading_of t)) (front ++ 0 ∷ []))
     else None
 
--- the cell of which a text tells, where the tree has it
+-- the cell that a text names, where the tree has it
 abbrev pub cell_in : PlacedTree → List ℕ → Option ListedCell
 cell_in t text =
     option_and_then (λ first. option_and_then (λ second. cell_of_parts t first.0 second.0 second.1) (cut_in 58 first.1)) (cut_in 58 text)
 
--- ---- what is told
+-- ---- what is listed
 
--- a cell, and what is told behind it, or a fault, behind which nothing is told
+-- a cell, and what is listed behind it, or a fault, behind which nothing is
 abbrev pub told_next : Name → Option ListedCell → List Fixup → List Fixup
 told_next label None rest = Err (placeless BadFixup) ∷ []
 told_next label (Some x) rest = Ok (label, x) ∷ rest

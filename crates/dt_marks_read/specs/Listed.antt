@@ -30,14 +30,14 @@ pub record IsListed (t : PlacedTree) (c : Cell) (x : ListedCell) : Type 0 where
 abbrev pub Fixup : Type 0
 Fixup = Result (Name × ListedCell) Fault
 
--- what is told of a label's texts, and then more
+-- what is listed for a label's texts, and then more
 abbrev pub AreTold : PlacedTree → Name → List (List ℕ) → (List Fixup → Type 0) → List Fixup → Type 0
 AreTold t label [] more told = more told
 AreTold t label (text ∷ texts) more told =
     ((c : Cell) × (x : ListedCell) × (rest : List Fixup) × (told ≡ Ok (label, x) ∷ rest) × IsCellText text c × IsListed t c x × AreTold t label texts more rest)
     ⊎ (((c : Cell) → IsCellText text c → ¬ HasCell (reading_of t) c) × (told ≡ Err (placeless BadFixup) ∷ []))
 
--- what is told of properties: each is one or more texts of cells
+-- what is listed for properties: each is one or more texts of cells
 abbrev pub AreFixups : PlacedTree → List Property → List Fixup → Type 0
 AreFixups t [] told = told ≡ []
 AreFixups t (p ∷ ps) told =
@@ -54,7 +54,7 @@ AreFixupsOf t told = AreFixups t (properties_of (node_at (reading_of t) (codes "
 abbrev pub LocalFixup : Type 0
 LocalFixup = Result ListedCell Fault
 
--- what is told of some offsets of a value, and then more
+-- what is listed for some offsets of a value, and then more
 abbrev pub AreOffsets : ℕ → Name → List ℕ → List ℕ → (List LocalFixup → Type 0) → List LocalFixup → Type 0
 AreOffsets node property value [] more told = more told
 AreOffsets node property value (offset ∷ offsets) more told =
@@ -66,14 +66,14 @@ AreOffsets node property value (offset ∷ offsets) more told =
 abbrev pub HasCounterpart : PlacedTree → Path → Property → Type 0
 HasCounterpart t p x = (value : List ℕ) × (value_in (reading_of t) p x.name ≡ Some value) × (length x.value % 4 ≡ 0)
 
--- what is told of the properties of a node's mirror, and then more
+-- what is listed for the properties of a node's mirror, and then more
 abbrev pub AreLocalProperties : PlacedTree → Path → ℕ → List Property → (List LocalFixup → Type 0) → List LocalFixup → Type 0
 AreLocalProperties t p node [] more told = more told
 AreLocalProperties t p node (x ∷ xs) more told =
     ((c : HasCounterpart t p x) × AreOffsets node x.name c.0 (words_of x.value) (AreLocalProperties t p node xs more) told)
     ⊎ ((¬ HasCounterpart t p x) × (told ≡ Err (placeless BadLocalFixup) ∷ []))
 
--- what is told of mirrors: each has its counterpart
+-- what is listed for mirrors: each has its counterpart
 abbrev pub AreLocalNodes : PlacedTree → List Placed → List LocalFixup → Type 0
 AreLocalNodes t [] told = told ≡ []
 AreLocalNodes t (n ∷ ns) told =

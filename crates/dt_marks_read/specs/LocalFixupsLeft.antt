@@ -1,4 +1,4 @@
--- What a reader of `__local_fixups__` still tells, as a function of what it has still to read.
+-- What a reader of `__local_fixups__` still lists, as a function of what it has still to read.
 use Rattle.std.specs.Prelude.{ℕ, suc, zero, ◌+◌, ◌<◌, ◌%◌, ◌==◌, nat_le, List, [], ◌∷◌, ◌++◌, length, Option, Some, None, Ok, Err, if◌then◌else◌}
 use Rattle.std.specs.List.{AllByRecursion}
 use Rattle.dt_model.specs.Limits.{most_bodies}
@@ -12,7 +12,7 @@ use Rattle.dt_read.specs.Placed.{PlacedTree, reading_of, place_of, path_at, IsAt
 use Rattle.dt_read.specs.Walked.{Step, opens, holds, closes}
 use Rattle.dt_marks_read.specs.Listed.{LocalFixup}
 
--- ---- what is told
+-- ---- what is listed
 
 -- of some offsets of a value, and then more
 unfoldable pub offsets_told : ℕ → Name → List ℕ → List ℕ → List LocalFixup → List LocalFixup

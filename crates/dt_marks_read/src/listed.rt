@@ -66,7 +66,7 @@ fn cell_at<'a>(
     cell_within(node, property, value, digits)
 }
 
-/// The cell of which a text tells; None where it is no such text, or the blob has no such cell. Takes no memory.
+/// The cell that a text names; None if it is no such text, or the blob has no such cell. Takes no memory.
 pub(crate) fn told_cell<'a>(blob: &Blob<'_>, text: &'a [u8]) -> Option<ListedCell<'a>>
     ensures { option_map listed_view result ≡ cell_in blob.now text.now }
 {

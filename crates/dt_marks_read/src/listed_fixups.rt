@@ -38,7 +38,7 @@ impl<'a> Labels<'a> {
         }
     }
 
-    /// Goes on to the next label, and tells the cell of its first text.
+    /// Goes on to the next label, and answers the cell of its first text.
     fn next_label(&mut self) -> Option<Result<(&'a [u8], ListedCell<'a>), Fault>>
         requires { self.old.texts ≡ [] }
         ensures { MatchOption result

@@ -36,7 +36,7 @@ struct Mirror<'a> {
     offsets: &'a [u8],
 }
 
-/// The first 32-bit number of some bytes, and what stands behind it.
+/// The first 32-bit number of some bytes, and what follows it.
 fn next_word(bytes: &[u8]) -> Option<(usize, &[u8])>
     ensures { MatchOption result (words_of bytes.now ≡ []) (λ found. words_of bytes.now ≡ found.0 ∷ words_of found.1.now) }
 {

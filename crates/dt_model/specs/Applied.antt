@@ -96,7 +96,7 @@ abbrev pub if_named : List ℕ → Option Path → Option Path
 if_named value None = None
 if_named value (Some q) = if bytes_eq (path_value q) value then Some q else None
 
--- where a node lands on the path of which this is the text, if one does
+-- where a node lands on the path of this text, if one does
 abbrev pub landed_named : List Placed → List Site → List ℕ → Option Path
 landed_named [] earlier value = None
 landed_named (x ∷ nodes) earlier value = option_or (if_named value (landing earlier x.path)) (landed_named nodes earlier value)

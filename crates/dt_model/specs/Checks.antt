@@ -80,7 +80,7 @@ HasReservations bytes =
 
 -- ---- the tokens
 
--- Where a token stands: how many nodes are open; whether the innermost of them has a child already, or with none open
+-- Where a token is: how many nodes are open; whether the innermost of them has a child already, or with none open
 -- whether the root has ended; and how many nodes have begun.
 pub record Position : Type 0 where
   pub depth : ℕ
@@ -102,7 +102,7 @@ has_room p = nat_le p.depth most_names && nat_lt p.nodes most_nodes
 abbrev pub is_behind : Position → Bool
 is_behind p = (p.depth == 0) && p.late
 
--- where the next token stands, if this one may stand there
+-- where the next token is, if this one is allowed there
 abbrev pub lead : Token → Position → Option Position
 lead (begin_node name) p =
     if is_behind p || not (may_be_called p name && has_room p) then None
@@ -112,7 +112,7 @@ lead (prop x) p = if (p.depth == 0) || p.late || not (is_property_name x.name) t
 lead nop p = Some p
 lead end_tree p = None
 
--- the tokens may stand there one after another, and the next one stands where they lead
+-- the tokens are allowed there one after another, and the next one is where they lead
 abbrev pub lead_all : List Token → Position → Option Position
 lead_all [] p = Some p
 lead_all (token ∷ tokens) p = option_and_then (lead_all tokens) (lead token p)
@@ -123,7 +123,7 @@ lead_all (token ∷ tokens) p = option_and_then (lead_all tokens) (lead token p)
 abbrev pub fits : List ℕ → ℕ → Bool
 fits rest size = nat_le (padded size) (length rest)
 
--- BEGIN_NODE: its name or its padding passes the end; it stands behind the root; its name is none; it is one node too many
+-- BEGIN_NODE: its name or its padding passes the end; it comes after the root; its name is none; it is one node too many
 abbrev pub begin_fault : Position → List ℕ → Option Name → Option BlobFault
 begin_fault p rest None = Some structure_cut
 begin_fault p rest (Some name) =
@@ -138,7 +138,7 @@ abbrev pub name_fault : Option Name → Option BlobFault
 name_fault None = Some bad_name_offset
 name_fault (Some name) = if is_property_name name then None else Some bad_name
 
--- PROP: its numbers, its value or its padding pass the end; it stands outside a node, or behind a child; its name
+-- PROP: its numbers, its value or its padding pass the end; it is outside a node, or behind a child; its name
 abbrev pub property_fault : List ℕ → Position → List ℕ → Option ℕ → Option ℕ → Option BlobFault
 property_fault strings p rest None offset = Some structure_cut
 property_fault strings p rest (Some size) None = Some structure_cut

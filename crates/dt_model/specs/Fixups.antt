@@ -1,4 +1,4 @@
--- The object of a named overlay: its tree under numbers, and the nodes with which it tells where they stand, so that they
+-- The object of a named overlay: its tree under numbers, and the nodes that list where these are, so that they
 -- can follow where it is applied (dtc's notes on overlay objects).
 use Rattle.std.specs.Prelude.{◌≡◌, ℕ, not, List, [], ◌∷◌, ◌++◌, map, filter, Option, if◌then◌else◌, codes, decimal}
 use Rattle.std.specs.List.{flat_map}

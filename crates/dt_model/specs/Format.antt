@@ -1,4 +1,4 @@
--- The flattened devicetree format (Devicetree Specification v0.4, chapter 5): which bytes are a blob of which tree.
+-- The flattened devicetree format (Devicetree Specification v0.4, chapter 5): which bytes are a blob, and of what tree.
 -- It is a grammar in two levels: bytes are tokens, and tokens, without NOPs, are those of a tree.
 use Rattle.std.specs.Prelude.{◌≡◌, ◌≢◌, ℕ, ◌+◌, ◌%◌, ◌<◌, ◌≤◌, ◌^◌, List, [], ◌∷◌, ◌++◌, length, take, drop, map, Option, Some, None, nat_le, if◌then◌else◌}
 use Rattle.std.specs.List.{AllByRecursion, flat_map}
@@ -22,7 +22,7 @@ pub data Token : Type 0 where
   nop : Token
   end_tree : Token
 
--- bytes none of which is NUL
+-- bytes without a NUL
 abbrev pub IsText : List ℕ → Type 0
 IsText bytes = AllByRecursion (λ b. b ≢ 0) bytes
 

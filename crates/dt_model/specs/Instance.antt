@@ -21,7 +21,7 @@ number_at [] k = None
 number_at (number ∷ numbers) zero = number
 number_at (number ∷ numbers) (suc k) = number_at numbers k
 
--- the number that stands for a reference: its node's, or all ones where the node is of some other tree
+-- the number of a reference: its node's, or all ones if the node is of some other tree
 abbrev pub number_for : List (Option ℕ) → NodeReference → ℕ
 number_for numbers r = object_number (λ k. unwrap_or (number_at numbers k) 0) r
 
@@ -35,7 +35,7 @@ phandle_of c None = []
 phandle_of c (Some n) =
     if is_some (value_of c.properties (codes "phandle")) then [] else record { name = codes "phandle"; value = cell n } ∷ []
 
--- the properties of node k: a number that isn't written stands last
+-- the properties of node k: a number that isn't written comes last
 abbrev pub numbered_properties : List (Option ℕ) → ℕ → Content NodeReference → List Property
 numbered_properties numbers k c = map (numbered numbers) c.properties ++ phandle_of c (number_at numbers k)
 

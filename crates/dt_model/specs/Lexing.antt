@@ -1,4 +1,4 @@
--- Which token stands at the front of some bytes, and how many bytes it takes (Devicetree Specification v0.4, chapter 5.4).
+-- Which token is at the front of some bytes, and how many bytes it takes (Devicetree Specification v0.4, chapter 5.4).
 use Rattle.std.specs.Prelude.{ℕ, zero, suc, ◌+◌, ◌*◌, ◌/◌, List, [], ◌∷◌, length, take, drop, Option, Some, None, nat_le, ◌==◌, if◌then◌else◌}
 use Rattle.std.specs.Option.{option_map}
 use Rattle.dt_model.specs.Format.{Token, begin_node, end_node, prop, nop, end_tree, word_at}

@@ -68,7 +68,7 @@ pub record IsMeaning (m : Meaning) : Type 0 where
   pub values_stand : (p : Path) (name : Name) → IsSome (m.value p name) → m.stands p ≡ true
   pub values_named : (p : Path) (name : Name) → IsSome (m.value p name) → IsPropertyName name × (bytes_eq name (codes "phandle") ≡ false)
   pub bytes : (p : Path) (name : Name) (items : List (Item Path)) → m.value p name ≡ Some items → AreBytes items
-  -- the keyed nodes are nodes, and what a label, a reference or a written number stands for is one of them
+  -- the keyed nodes are nodes, and a label, a reference and a written number mean one of them
   pub keyed_stand : (p : Path) → m.keyed p ≡ true → m.stands p ≡ true
   pub labelled : (l : Name) (p : Path) → m.label l ≡ Some p → IsLabel l × (m.keyed p ≡ true)
   pub referred : (p : Path) (name : Name) (items : List (Item Path)) → m.value p name ≡ Some items → EachReference (λ q. m.keyed q ≡ true) items

@@ -13,7 +13,7 @@ pub record Site : Type 0 where
   pub fragment : Name
   pub at : Path
 
--- the path that stands below `to` as p stands below `from`
+-- the path that is below `to` as p is below `from`
 abbrev pub moved : Path → Path → Path → Option Path
 moved from to p = option_map (λ rest. to ++ rest) (below from p)
 
@@ -80,7 +80,7 @@ pub record IsDefined (m : Meaning) (o : Overlay) (sites : List Site) : Type 0 wh
   pub placed : AreSites m o [] o.fragments sites
   pub plain : (p q : Path) → o.stands p ≡ true → landing sites p ≡ Some q → is_bookkeeping q ≡ false
 
--- the meaning of a tree into which overlays are merged one after the other, each of which can be
+-- the meaning of a tree into which overlays are merged one after the other, where each can be
 abbrev pub IsFold : Meaning → List Overlay → Meaning → Type 0
 IsFold m [] result = result ≡ m
 IsFold m (o ∷ overlays) result = (sites : List Site) × IsDefined m o sites × IsFold (merged m o sites) overlays result

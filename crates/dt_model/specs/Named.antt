@@ -35,7 +35,7 @@ pub record Named (R : Type 0) : Type 0 where
   pub content : Content R
   pub children : NamedForest R
 
--- a node with what stands below it
+-- a node with what is below it
 pub record NamedNode (R : Type 0) : Type 0 where
   pub content : Content R
   pub children : NamedForest R
@@ -121,7 +121,7 @@ module _ {R : Type 0} where
       record { parent = parent; name = name; content = content }
       ∷ (listed (suc number) number children ++ listed (suc number + node_count children) parent siblings)
 
-  -- all nodes in preorder: the root, which is number 0 and stands as its own parent, has no name
+  -- all nodes in preorder: the root, which is number 0 and its own parent, has no name
   abbrev pub list_of : Named R → List (Listed R)
   list_of t = record { parent = 0; name = []; content = t.content } ∷ listed 1 0 t.children
 

@@ -104,7 +104,7 @@ pub record IsNamedBy (es : Events) (value : Path → Name → Option (List (Item
   pub referred : AllByRecursion (RefersBelow (1 + node_count t.children)) (contents_of t)
   pub order : IsNamedInOrder es t
 
--- the values that stand after a base's events, each reference read by what stands then
+-- the values that are left after a base's events, each reference read by what is left then
 abbrev pub bound_values : Events → Path → Name → Option (List (Item OverlayReference))
 bound_values es p x = option_map (map (item_renamed inside)) (option_and_then (all_bound es) (value_at es (reverse p) x))
 

@@ -1,4 +1,4 @@
--- Places that are well nested (Devicetree Specification v0.4, chapter 6): each stands at top level or in a body, as it has to,
+-- Places that are well nested (Devicetree Specification v0.4, chapter 6): each is at top level or in a body, as it has to be,
 -- and each body that they open is closed.
 use Rattle.std.specs.Prelude.{ℕ, zero, suc, List, [], ◌∷◌}
 use Rattle.dt_model.specs.Source.{Place, root, block, delete_node, child, label, property, delete_property, delete_child, close}

@@ -29,7 +29,7 @@ AreLabelsInOrder es p ls = AreInOrder (λ l. label_age es l (reverse p)) (λ l. 
 abbrev pub unwritten : Meaning → Path → List Name
 unwritten m p = if m.keyed p && not (is_some (m.number p)) then codes "phandle" ∷ [] else []
 
--- At each node the children and the properties stand in the order of the text; a number that isn't written stands last.
+-- At each node the children and the properties are in the order of the text; a number that isn't written comes last.
 pub record IsInOrder (es : Events) (m : Meaning) (t : Reading) : Type 0 where
   pub children : (p : Path) (n : tree.Node) → tree.node_at t p ≡ Some n → AreChildrenInOrder es p (valid.names n.children)
   pub properties : (p : Path) (n : tree.Node) → tree.node_at t p ≡ Some n →

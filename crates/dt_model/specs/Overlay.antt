@@ -8,7 +8,7 @@ use Rattle.dt_model.specs.Meaning.{Item, byte, reference, EachReference, AreByte
 use Rattle.dt_model.specs.Lists.{IsIn}
 use Rattle.dt_model.specs.Valid.{AreDistinct}
 
--- a reference of an overlay: to one of its own nodes, which an N tells, or by a label that it doesn't give
+-- a reference of an overlay: to one of its own nodes, which an N names, or by a label that it doesn't give
 pub data ReferenceBy (N : Type 0) : Type 0 where
   inside : N → ReferenceBy N
   outside : Name → ReferenceBy N
@@ -18,7 +18,7 @@ abbrev pub OverlayReference : Type 0
 OverlayReference = ReferenceBy Path
 
 module _ {N M : Type 0} where
-  -- the same reference, its node told in another way
+  -- the same reference, its node named in another way
   abbrev pub reference_renamed : (N → M) → ReferenceBy N → ReferenceBy M
   reference_renamed f (inside n) = inside (f n)
   reference_renamed f (outside l) = outside l
@@ -33,7 +33,7 @@ pub data Target : Type 0 where
   at_reference : OverlayReference → Target
   at_path : Path → Target
 
--- a child of the root, by its name, and the target of what stands below its child `__overlay__`
+-- a child of the root, by its name, and the target of what is below its child `__overlay__`
 pub record Fragment : Type 0 where
   pub name : Name
   pub target : Target

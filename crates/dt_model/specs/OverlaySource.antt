@@ -57,7 +57,7 @@ pub record OverlaySoFar : Type 0 where
   pub source : SoFar
   pub next : ℕ
 
--- the root stands from the start
+-- the root is there from the start
 abbrev pub overlay_start : OverlaySoFar
 overlay_start = record { source = record { events = opening [] ∷ []; node = []; bodies = [] }; next = 0 }
 

@@ -18,7 +18,7 @@ significant (d ∷ e ∷ digits) = if d == 48 then significant (e ∷ digits) el
 
 -- ---- values
 
--- The bytes are the rest of texts: printable bytes and single NULs, of which the last byte is one. A text begins here or doesn't.
+-- The bytes are the rest of texts: printable bytes and single NULs; the last byte is a NUL. A text begins here or doesn't.
 abbrev pub ends_texts : (begins : Bool) → List ℕ → Bool
 ends_texts begins [] = begins
 ends_texts begins (zero ∷ bytes) = not begins && ends_texts true bytes
@@ -52,7 +52,7 @@ bytes_text [] = []
 bytes_text (b ∷ []) = hexadecimal (b ∷ [])
 bytes_text (b ∷ c ∷ bytes) = hexadecimal (b ∷ []) ++ (codes " " ++ bytes_text (c ∷ bytes))
 
--- what stands behind a property's name: nothing for no bytes, else texts, cells or bytes, the first of these that fits
+-- what follows a property's name: nothing for no bytes, else texts, cells or bytes, the first of these that fits
 abbrev pub value_text : List ℕ → List ℕ
 value_text [] = []
 value_text (b ∷ bytes) =

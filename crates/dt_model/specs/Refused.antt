@@ -1,4 +1,4 @@
--- Why a source means nothing that is within the limits, in the order in which it is told.
+-- Why a source means nothing that is within the limits, in the order in which it is reported.
 use Rattle.std.specs.Prelude.{◌≡◌, ℕ, ◌<◌, true, List, length, reverse, None, Ok, Err}
 use Rattle.std.specs.List.{AllByRecursion}
 use Rattle.dt_model.specs.Limits.{most_nodes}
@@ -16,7 +16,7 @@ pub record StandMany (limit : ℕ) (es : Events) : Type 0 where
   pub standing : AllByRecursion (λ p. stands es (reverse p) ≡ true) paths
   pub many : limit < length paths
 
--- P tells why a place is refused, and L what is wrong after the last place
+-- P says why a place is refused, and L what is wrong after the last place
 pub data RefusalBy (P L : Type 0) : Type 0 where
   -- the first place that is refused
   at_place : P → RefusalBy P L

@@ -1,4 +1,4 @@
--- When a tree stands for a meaning.
+-- When a tree represents a meaning.
 use Rattle.std.specs.Prelude.{◌≡◌, ℕ, false, [], ◌∷◌, option_map, codes}
 use Rattle.dt_model.specs.Names.{Name}
 use Rattle.dt_model.specs.Path.{Path, path_value, is_bookkeeping}

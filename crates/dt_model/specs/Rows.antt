@@ -1,4 +1,4 @@
--- Some sources, trees and objects by which the definitions can be tried. The text of each stands above it.
+-- Some sources, trees and objects by which the definitions can be tried. The text of each is above it.
 use Rattle.std.specs.Prelude.{ℕ, zero, suc, ◌+◌, List, [], ◌∷◌, ◌++◌, Option, Some, None, Result, Ok, Err, map, codes}
 use Rattle.dt_model.specs.Names.{Name}
 use Rattle.dt_model.specs.Path.{Path, path_value}

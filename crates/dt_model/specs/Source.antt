@@ -236,7 +236,7 @@ refers es p (one b ∷ xs) = refers es p xs
 refers es p (number_of r ∷ xs) = option_map_or (path_eq p) (referent es r) false || refers es p xs
 refers es p (text_of r ∷ xs) = refers es p xs
 
--- the property of this event, as it stands after all events, refers to the node
+-- the property of this event, as it is after all events, refers to the node
 abbrev pub refers_there : Events → Stack → Event (List Part) → Bool
 refers_there es p (opening q) = false
 refers_there es p (giving l q) = false

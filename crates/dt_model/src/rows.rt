@@ -257,7 +257,7 @@ pub(crate) fn refused_overlays()
     ensures label { overlay_refusal label_twice ≡ Some (as_any duplicate_label) }
 {}
 
-/// Of what is wrong after the last place of an overlay, a fragment that holds no target is told first, then a reference to a
+/// Of what is wrong after the last place of an overlay, a fragment that holds no target is reported first, then a reference to a
 /// node that no fragment brings.
 pub(crate) fn late_overlay_refusals()
     ensures target { IsOverlayRefusedFor no_target_source (at_end bad_fragment) }

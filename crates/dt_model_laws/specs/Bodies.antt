@@ -1,4 +1,4 @@
--- What is told once in one body: a property is defined, and a child opened, at most once between a body's opening and its
+-- What is said once in one body: a property is defined, and a child opened, at most once between a body's opening and its
 -- close, whatever is deleted in between.
 use Rattle.std.specs.Prelude.{◌≡◌, ◌↔◌, List, [], ◌∷◌, ◌++◌, Ok, Err}
 use Rattle.dt_model.specs.Names.{Name}
@@ -17,7 +17,7 @@ IsOpener (delete_property n) = ⊥
 IsOpener (delete_child n) = ⊥
 IsOpener close = ⊥
 
--- the place stands in a body, and neither opens nor closes one
+-- the place is in a body, and neither opens nor closes one
 abbrev pub IsSimple : Place → Type 0
 IsSimple root = ⊥
 IsSimple (block r) = ⊥

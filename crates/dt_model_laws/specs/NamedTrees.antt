@@ -13,12 +13,12 @@ use Rattle.dt_model.specs.NamedOf.{IsNamed, IsNamedOf, asked_in}
 use Rattle.dt_model.specs.Instance.{instance_of, symbols_of, added, IsInstanceOf, IsTreeOf}
 use Rattle.dt_model.specs.Refused.{StandMany, SourceRefusal, IsRefusedFor}
 
--- no node with more than 64 names in its path stands
+-- no node has more than 64 names in its path
 abbrev pub NodesAreShallow : Type 0
 NodesAreShallow = (mode : Mode) (places : List Place) (s : SoFar) → read_all mode nothing places ≡ Ok s
     → (p : Stack) → stands s.events p ≡ true → length p ≤ most_names
 
--- after the places of a source, of which there is one at least, the root stands
+-- after the places of a source, which has one at least, there is a root
 abbrev pub RootStands : Type 0
 RootStands = (mode : Mode) (places : List Place) (s : SoFar) → 0 < length places → read_all mode nothing places ≡ Ok s → stands s.events [] ≡ true
 

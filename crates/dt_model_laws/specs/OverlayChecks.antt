@@ -126,21 +126,21 @@ pub record AreUncontained (ns : List (Listed NodeReference)) : Type 0 where
   pub brought : AreBrought ns marks
   pub uncontained : HasUncontained ns marks fs
 
--- ---- what it tells
+-- ---- what it shows
 
--- the tree has what stands after the places of an overlay's source
+-- the tree has what is left after the places of an overlay's source
 pub record IsTreeAfter (places : List Place) (t : Named NodeReference) : Type 0 where
   pub so_far : OverlaySoFar
   pub all_read : read_overlays (root_children None places) overlay_start places ≡ Ok so_far
   pub named : IsNamedBy so_far.source.events (overlay_of so_far.source.events []).value t
 
--- each value that stands is of bytes and of references by labels in cell lists
+-- each value that is left is of bytes and of references by labels in cell lists
 abbrev pub OverlayValuesArePlain : Type 0
 OverlayValuesArePlain = (places : List Place) (s : OverlaySoFar) → AllByRecursion IsPlace places
     → read_overlays (root_children None places) overlay_start places ≡ Ok s
     → (p : Stack) (x : Name) (v : List Part) → value_at s.source.events p x ≡ Some v → AllByRecursion (λ (y : Part). IsPart y × (is_overlay_part y ≡ true)) v
 
--- a node of a list whose parent isn't the root stands behind its parent
+-- a node of a list whose parent isn't the root comes after its parent
 abbrev pub AreBehind : List (Listed NodeReference) → Type 0
 AreBehind ns = (k : ℕ) (n : Listed NodeReference) → slice_get ns k ≡ Some n → n.parent ≢ 0 → n.parent < k
 

@@ -29,12 +29,12 @@ abbrev pub OverlayIsClosed : Type 0
 OverlayIsClosed = (places : List Place) (s : OverlaySoFar) → AreNested 0 places → read_overlays (root_children None places) overlay_start places ≡ Ok s
     → s.source.bodies ≡ []
 
--- no node with more than 64 names in its path stands
+-- no node has more than 64 names in its path
 abbrev pub OverlayNodesAreShallow : Type 0
 OverlayNodesAreShallow = (places : List Place) (s : OverlaySoFar) → read_overlays (root_children None places) overlay_start places ≡ Ok s
     → (p : Stack) → stands s.source.events p ≡ true → length p ≤ most_names
 
--- the root stands
+-- there is a root
 abbrev pub OverlayRootStands : Type 0
 OverlayRootStands = (places : List Place) (s : OverlaySoFar) → read_overlays (root_children None places) overlay_start places ≡ Ok s
     → stands s.source.events [] ≡ true

@@ -102,7 +102,7 @@ label_taken_numbers = (content_of 0 ++ codes "b" ∷ [], 1) ∷ []
 abbrev pub label_taken_object : Object
 label_taken_object = record { places = label_taken_source; fragments = two_cells_fragments; tree = label_taken; numbers = label_taken_numbers; fixups = [] }
 
--- ---- the object of which a node lands on one that has a number
+-- ---- the object with a node that lands on one that has a number
 
 -- &{/} { m: ic { }; k { r = <&m>; }; };
 abbrev pub joined_node_source : List Place

@@ -34,7 +34,7 @@ pub fn list_is_of_its_tree()
     ensures { ListIsOfItsTree }
 {}
 
-/// After the places of a source no node with more than 64 names in its path stands.
+/// After the places of a source, no node has more than 64 names in its path.
 pub fn nodes_are_shallow()
     ensures { NodesAreShallow }
 {}
@@ -65,14 +65,14 @@ pub fn tree_is_meant()
 {}
 
 /// A small source's named tree, its nodes' numbers, and the tree that it is compiled to: a node with a label gets a number, and
-/// one to which a value refers, and a number that isn't written stands behind the node's properties.
+/// one to which a value refers, and a number that isn't written comes after the node's properties.
 pub(crate) fn named_sample()
     ensures named { IsNamedOf base [] named_source named_tree }
     ensures numbered { IsNumbering (asked_in named_tree) named_numbers }
     ensures compiled { added base (symbols_of named_tree) (instance_of named_numbers named_tree) ≡ named_compiled }
 {}
 
-/// After the places of a source, of which there is one at least, the root stands.
+/// After the places of a source, which has one at least, there is a root.
 pub fn root_stands()
     ensures { RootStands }
 {}

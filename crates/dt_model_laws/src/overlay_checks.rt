@@ -1,4 +1,4 @@
-//! What looking at the list of an overlay's nodes tells.
+//! What the list of an overlay's nodes shows.
 
 ghost use Rattle.dt_model_laws.specs.OverlayChecks.{
   OverlayValuesArePlain,
@@ -8,17 +8,17 @@ ghost use Rattle.dt_model_laws.specs.OverlayChecks.{
   UncontainedIsRefused,
 };
 
-/// Each value that stands after the places of an overlay's source is made of bytes and of references by labels in cell lists.
+/// After the places of an overlay's source, each value is made of bytes and of references by labels in cell lists.
 pub fn overlay_values_are_plain()
     ensures { OverlayValuesArePlain }
 {}
 
-/// In the list of a tree a node whose parent isn't the root stands behind its parent.
+/// In the list of a tree, a node whose parent isn't the root comes after its parent.
 pub fn nodes_are_behind()
     ensures { ListedAreBehind }
 {}
 
-/// A tree that has what stands after the places of an overlay's source, with the fragments of its list, is what the source
+/// A tree that has what is there after the places of an overlay's source, with the fragments of its list, is what the source
 /// means, where these hold targets, and neither the targets nor what the fragments bring refer to a node of the overlay that
 /// none of them brings. Else the source is refused for that.
 pub fn checked_overlay_is_meant()

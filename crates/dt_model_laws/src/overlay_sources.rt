@@ -33,7 +33,7 @@ pub fn overlay_is_placed()
     ensures closed { OverlayIsClosed }
 {}
 
-/// No node with more than 64 names in its path stands after the places of an overlay's source, and the root stands.
+/// After the places of an overlay's source, no node has more than 64 names in its path, and there is a root.
 pub fn overlay_nodes_are_shallow()
     ensures shallow { OverlayNodesAreShallow }
     ensures rooted { OverlayRootStands }

@@ -93,7 +93,7 @@ pub(crate) fn gap_of_numbers_is_represented()
     ensures represented { Represents with_gap_of_numbers (meaning gap_of_numbers) (numbering gap_of_numbers_numbers) }
 {}
 
-/// A tree whose nodes and properties stand in the order of its text; its labels' node stands behind them.
+/// A tree with its nodes and properties in the order of its text, and the labels' node behind them.
 pub(crate) fn written_phandle_is_in_order()
     ensures { IsInOrder (events written_phandle) (meaning written_phandle) instance_written_phandle }
 {}
@@ -104,7 +104,7 @@ pub(crate) fn written_numbers_are_compiled()
     ensures gap { IsTreeOf base [] gap_of_numbers with_gap_of_numbers }
 {}
 
-/// Of what is wrong after the last place, a reference that names no node is told first, then a phandle that writes no number.
+/// Of what is wrong after the last place, a reference that names no node is reported first, then a phandle that writes no number.
 pub(crate) fn late_refusals_are_told_in_turn()
     ensures unresolved { IsRefusedFor base unresolved_and_bad (at_end unresolved) }
     ensures not_bad { IsRefusedFor base unresolved_and_bad (at_end bad_phandle) → ⊥ }

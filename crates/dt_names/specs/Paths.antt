@@ -29,7 +29,7 @@ WhyNotPushed _ p = ⊥
 
 -- ---- how a path is kept: each name with a `/` before it, and nothing for the root
 
--- what stands between the slashes of a text
+-- what is between the slashes of a text
 unfoldable pub parts : List ℕ → List Name
 parts text = slice_split (λ b. b == 47) text
 

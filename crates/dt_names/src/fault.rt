@@ -79,7 +79,7 @@ pub enum FaultKind {
     StructureCut,
     /// Bytes that aren't such a name.
     BadName,
-    /// An offset in the strings block at which no name stands.
+    /// An offset in the strings block at which there is no name.
     BadNameOffset,
     /// A token of a structure block where none of its kind may stand.
     BadNesting,
@@ -303,7 +303,7 @@ impl fmt::Display for FaultKind {
 
 impl Error for FaultKind {}
 
-/// A refusal, and the place in the input, in bytes from its start, where one is told.
+/// A refusal, and its place in the input, in bytes from the start, if it has one.
 #[derive(Clone, Copy, Debug, PartialEq, Eq)]
 pub struct Fault {
     pub kind: FaultKind,

@@ -41,7 +41,7 @@ pub trait Feed {
         ensures for_good { has_failed self.old ≡ true → result ≡ None };
 }
 
-/// A sink over a writer of std. An error of the writer is a failure, and so is a piece of which it takes no byte; a
+/// A sink over a writer of std. An error of the writer is a failure, and so is a piece from which it takes no byte; a
 /// call that a signal interrupted is made again.
 #[derive(Drop)]
 pub struct Out<W> {

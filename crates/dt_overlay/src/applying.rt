@@ -42,7 +42,7 @@ fn land<T: Target>(
     set_symbols(target, object, landing)
 }
 
-/// Applies an object of which nothing is read, and nothing has landed.
+/// Applies an object before anything of it is read or has landed.
 fn carry_out<T: Target>(
     alloc: Global,
     target: &mut T,
@@ -66,7 +66,7 @@ fn carry_out<T: Target>(
     land(alloc, target, object, landing)
 }
 
-/// Applies an object of which nothing is read.
+/// Applies an object before anything of it is read.
 fn apply_object<T: Target>(alloc: Global, target: &mut T, object: &mut Object) -> Result<(), Fault>
     requires unread { IsUnread object.old.tree object.old }
     ensures applied { OnOk result (IsApplied (T.reading target.old) (reading object.old.tree) (T.reading target.new)) }

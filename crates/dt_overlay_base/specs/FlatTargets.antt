@@ -10,7 +10,7 @@ use Rattle.dt_flat.specs.Arena.{Arena, IsRooted, node_from, reading}
 use Rattle.dt_flat.specs.Sound.{AreCells}
 use Rattle.dt_overlay_base.specs.Targets.{HasNoRoom}
 
--- a path leads to the node of this number, in a tree in memory, of which the rest is known
+-- a path leads to the node of this number, in a tree in memory whose rest is known
 pub record IsPlaced (a : Arena) (p : Path) (i : ℕ) : Type 0 where
   pub leads : node_from a.slots 0 p ≡ Some i
   pub there : i < length a.slots

@@ -1,4 +1,4 @@
--- What is kept of the places on which an object's nodes land, and what it stands for.
+-- What is kept of the places on which an object's nodes land, and what it means.
 use Rattle.std.specs.Prelude.{◌≡◌, ◌↔◌, ℕ, ◌<◌, ◌≤◌, true, false, List, [], ◌∷◌, ◌++◌, length, map, Option, is_some, option_and_then, nat_eq}
 use Rattle.std.specs.Global.{Vec}
 use Rattle.std.specs.List.{AllByRecursion, list_any, flat_map}

@@ -13,7 +13,7 @@ use dt_flat::{FlatTree, NodeId};
 use dt_names::{Fault, NodeName, Path, PropName, Seed};
 use std::alloc::Global;
 
-/// The node of a path that stands in the tree.
+/// The node of a path that the tree has.
 fn node_at(tree: &FlatTree, path: &Path) -> NodeId
     requires { stands_in (arena_reading tree.now) path.now ≡ true }
     ensures { IsPlaced tree.now path.now result }
@@ -105,7 +105,7 @@ impl Target for FlatTree {
     }
 }
 
-/// What there is room for in a `FlatTree` is told by the number of nodes: an object isn't applied to one for want of room only where more than
+/// The number of nodes decides what a `FlatTree` has room for: an object isn't applied to one for want of room only where more than
 /// 65,536 nodes would come of it. There it is refused for that, memory aside, as `dt_overlay_laws`'s `room_is_counted` and `one_refusal` say.
 pub fn tree_room_is_counted()
     ensures { TreeRoomIsCounted }

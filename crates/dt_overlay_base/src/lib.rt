@@ -3,7 +3,7 @@
 //! the number that it got.
 //!
 //! ```text
-//! target.find(&path);                                         // whether a node of the path stands
+//! target.find(&path);                                         // whether there is a node of the path
 //! note_content(&tree, &object, node, &path, &mut places)?;       // what a fragment brings lands: each place once, and gets its number
 //! ```
 //!

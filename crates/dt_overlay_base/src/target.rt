@@ -23,8 +23,8 @@ pub trait Target {
     /// The tree.
     ghost reading: { Self → Reading };
 
-    /// What there is room for: trees that this one may become by a change. Of a `FlatTree` it is told by the number of nodes; of another
-    /// target it may hang on more than its reading.
+    /// What there is room for: trees that this one may become by a change. For a `FlatTree` the number of nodes decides it; for another
+    /// target it may depend on more than its reading.
     ghost has_room: { Self → Reading → Type 0 };
 
     /// What changes keep: whether a tree may come of another by changes. Where an object has no room is said of such trees alone, since any tree of

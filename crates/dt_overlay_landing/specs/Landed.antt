@@ -37,7 +37,7 @@ land_each numbers slots [] sites t = t
 land_each numbers slots (k ∷ ks) [] t = t
 land_each numbers slots (k ∷ ks) (q ∷ sites) t = land_each numbers slots ks sites (land_node q (landed_at numbers slots k) t)
 
--- each site stands, and nothing but memory and the number of nodes is in the way
+-- each site is there, and nothing but memory and the number of nodes is in the way
 abbrev pub MayLandEach : List (Option ℕ) → List Slot → List ℕ → List Path → Reading → Type 0
 MayLandEach numbers slots [] sites t = Unit {0}
 MayLandEach numbers slots (k ∷ ks) [] t = Unit {0}

@@ -32,7 +32,7 @@ abbrev pub with_labels : List Write → List TargetMark → List TargetMark
 with_labels [] marks = marks
 with_labels (w ∷ ws) marks = with_labels ws (marked_label w marks)
 
--- what the lists of an object tell of a fragment's target
+-- what the lists of an object say of a fragment's target
 abbrev pub IsMark : Reading → Reading → List (Name × Cell) → Name → TargetMark → Type 0
 IsMark base object fixups f (Label n) = (l : Name) × (target_label f fixups ≡ Some l) × SymbolHasNumber base l n
 IsMark base object fixups f Own = (target_label f fixups ≡ None) × (list_any (is_target f) (local_cells object) ≡ true)

@@ -111,6 +111,6 @@ WhereNoted base a P = (object : Reading) (sites : List Site) (given : List (Path
 abbrev pub IsTooDeep : FaultKind → List Site → Path → Type 0
 IsTooDeep kind found path = (kind ≡ Limit) × ((q : Path) × (merged.landing found path ≡ Some q) × (most_names < length q))
 
--- the node that the number in a fragment's target names, by what the object's lists tell of it
+-- the node that the number in a fragment's target names, according to the object's lists
 abbrev pub node_marked : Reading → Reading → Turn → Name → ℕ → Option Path
 node_marked base object t f number = named_node base object t.walked (target_label f t.fixups) (list_any (is_target f) (local_cells object)) number

@@ -5,7 +5,7 @@
 //! find_sites(alloc, &tree, &object, &mut landing)?; // of `/plugin/; &{/} { d { }; };`: the root
 //! number_all(&tree, &landing, &mut object)?;
 //! renumber(&mut object);
-//! land_all(alloc, &mut tree, &object, &landing)?;   // /d stands
+//! land_all(alloc, &mut tree, &object, &landing)?;   // /d is there
 //! set_symbols(&mut tree, &object, &mut landing)?;
 //! ```
 //!

@@ -1,4 +1,4 @@
-//! What an object's lists tell of its fragments' targets.
+//! What an object's lists say of its fragments' targets.
 
 ghost use Rattle.std.specs.Prelude.{◌≡◌, ◌<◌, length, replicate, IfOk};
 ghost use Rattle.std.specs.List.{AllByRecursion};
@@ -15,7 +15,7 @@ pub(crate) enum TargetMark {
     Bare,
     /// As that of a node of the object, which is listed among its own.
     Own,
-    /// It isn't: the target waits for a label, the last of which has this number in the base.
+    /// It isn't: the target waits for labels. The last one has this number in the base.
     Label(u32),
 }
 
@@ -43,7 +43,7 @@ fn mark_labels(writes: &[Write], marks: &mut Vec<TargetMark>)
     }
 }
 
-/// The marks of an object's targets, by the numbers of its nodes: a label's stands before one of the object's own.
+/// The marks of an object's targets, by the numbers of its nodes: a label's comes before one of the object's own.
 ///
 /// # Errors
 ///

@@ -155,7 +155,7 @@ fn target_number(object: &FlatTree, node: NodeId) -> Option<u32>
     Some(u32::from_be_bytes([value[0], value[1], value[2], value[3]]))
 }
 
-/// The node of the tree so far that a number in `target` names, by what the object's lists tell of it.
+/// The node of the tree so far that a number in `target` names, according to the object's lists.
 fn marked<T: Target>(
     target: &T,
     object: &Object,

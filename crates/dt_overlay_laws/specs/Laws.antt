@@ -45,11 +45,11 @@ ChildIsCounted = (q : Path) (name : Name) (t : Reading) → stands_in t q ≡ tr
 abbrev pub ChildIsThere : Type 0
 ChildIsThere = (q : Path) (name : Name) (t : Reading) → stands_in t (q ++ name ∷ []) ≡ true → with_child_at q name t ≡ t
 
--- where a child is added it stands
+-- a child that is added is there
 abbrev pub ChildStands : Type 0
 ChildStands = (q : Path) (name : Name) (t : Reading) → stands_in t q ≡ true → stands_in (with_child_at q name t) (q ++ name ∷ []) ≡ true
 
--- what stands goes on standing, whatever lands
+-- a node that is there stays, whatever lands
 pub record PlacesAreKept : Type 0 where
   pub child : (q : Path) (name : Name) (t : Reading) (p : Path) → stands_in t p ≡ true → stands_in (with_child_at q name t) p ≡ true
   pub property : (q : Path) (name : Name) (value : List ℕ) (t : Reading) (p : Path) → stands_in t p ≡ true

@@ -45,12 +45,12 @@ SitedIsApplied = (base object : Reading) (fixups : List (Name × Cell)) (w : Wal
     → AreSited base object fixups nothing_walked (fragment_names object.children) w
     → MayBeApplied base object fixups w
 
--- a limit is told only where what would come of it exceeds it, if the number of nodes tells what there is room for
+-- a limit is reported only where what would come of it exceeds it, if the number of nodes decides what there is room for
 abbrev pub LimitIsExceeded : Type 0
 LimitIsExceeded = (base object t : Reading) → IsValid base → IsValid object → IsApplied base object t
     → WhyNotApplied has_many Limit base object → IsWithinLimits t → ⊥
 
--- ---- where the number of nodes tells what there is room for
+-- ---- where the number of nodes decides what there is room for
 
 -- there is no room on the way exactly where what would come of the object has more than 65,536 nodes
 pub record RoomIsCounted : Type 0 where
@@ -59,7 +59,7 @@ pub record RoomIsCounted : Type 0 where
 
 -- ---- one outcome
 
--- memory aside an object is refused for one reason, if the number of nodes tells what there is room for
+-- memory aside an object is refused for one reason, if the number of nodes decides what there is room for
 abbrev pub OneRefusal : Type 0
 OneRefusal = (base object : Reading) (kind other : FaultKind) → IsValid object → WhyNotApplied has_many kind base object
     → WhyNotApplied has_many other base object

@@ -70,7 +70,7 @@ pub record IsCrowded (full : Reading → Reading → Type 0) (base object : Read
   pub walked : walk base object fixups nothing_walked (fragment_names object.children) ≡ Some end
   pub change : FullAtLanding full base object fixups (new_numbers base object end) end.sites (symbols_in object)
 
--- where what tells is the number of nodes alone
+-- where the number of nodes alone decides
 abbrev pub has_many : Reading → Reading → Type 0
 has_many t next = most_nodes < 1 + node_count next.children
 
@@ -83,7 +83,7 @@ pub record IsOverfull (base object : Reading) : Type 0 where
 
 -- ---- all of them
 
--- Why an object isn't applied to a base: memory may be refused at any time; or else this is its first fault, of which want of room is the
+-- Why an object isn't applied to a base: memory may be refused at any time; or else this is its first fault, where want of room is the
 -- last.
 abbrev pub WhyNotApplied : (Reading → Reading → Type 0) → FaultKind → Reading → Reading → Type 0
 WhyNotApplied full NoMemory base object = Unit {0}

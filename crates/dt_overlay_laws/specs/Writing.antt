@@ -39,7 +39,7 @@ landed numbers f (Some n) =
 
 -- ---- laws
 
--- what a fragment brings is what stands in the tree with the cells written, under the new numbers
+-- what a fragment brings is what the tree with the cells written has, under the new numbers
 abbrev pub LandedIsBrought : Type 0
 LandedIsBrought = (object : Reading) (ws : List Write) (numbers : List (Path × ℕ)) (f : Name)
     → landed numbers f (node_at (with_cells ws object) (content f)) ≡ brought ws numbers f (node_at object (content f))

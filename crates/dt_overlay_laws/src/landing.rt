@@ -22,14 +22,14 @@ pub fn nodes_are_kept()
     ensures { NodesAreKept }
 {}
 
-/// A child that is added stands; one that is new is one more, and one that is there changes nothing.
+/// A child that is added is there; a new one is one node more, and one that was there changes nothing.
 pub fn child_is_added()
     ensures stands { ChildStands }
     ensures new { ChildIsCounted }
     ensures there { ChildIsThere }
 {}
 
-/// What stands goes on standing, whatever lands.
+/// A node that is there stays, whatever lands.
 pub fn places_are_kept()
     ensures { PlacesAreKept }
 {}

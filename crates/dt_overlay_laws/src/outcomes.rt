@@ -25,13 +25,13 @@ pub fn sited_is_applied()
     allowed_may_land();
 }
 
-/// Where the number of nodes tells what there is room for, there is none on the way exactly where the tree that would come of the object
+/// Where the number of nodes decides what there is room for, there is none on the way exactly where the tree that would come of the object
 /// has too many.
 pub fn room_is_counted()
     ensures { RoomIsCounted }
 {}
 
-/// A limit is told only where the tree that would come of the object exceeds it.
+/// A limit is reported only where the tree that would come of the object exceeds it.
 pub fn limit_is_exceeded()
     ensures { LimitIsExceeded }
 {}

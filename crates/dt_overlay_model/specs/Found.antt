@@ -27,7 +27,7 @@ abbrev pub symbols_path : Path
 symbols_path = codes "__symbols__" ∷ []
 
 pub record IsFound (base object : Reading) (fixups : List (Name × Cell)) (w : Walked) (t : Reading) : Type 0 where
-  -- a node stands where one of the base does, or one of the object lands
+  -- there is a node where the base has one, or one of the object lands
   pub stands : (q : Path) → q ≢ symbols_path → (stands_in t q ≡ true) ↔ ((stands_in base q ≡ true)
       ⊎ ((p : Path) × (stands_in object p ≡ true) × (landing w.sites p ≡ Some q)))
   -- and the node of the labels where the base has it, or a label lands

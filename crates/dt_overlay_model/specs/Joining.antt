@@ -1,5 +1,5 @@
 -- Applying an object of an overlay to a tree of a meaning gives a tree of the merged meaning, exactly where that is defined: nodes
--- that land on one path are one node with one number, which stands in each reference to any of them.
+-- that land on one path are one node with one number, which each reference to any of them holds.
 use Rattle.std.specs.Prelude.{◌≡◌, ℕ, List, MatchOption}
 use Rattle.dt_model.specs.Names.{Name}
 use Rattle.dt_model.specs.Path.{Path}

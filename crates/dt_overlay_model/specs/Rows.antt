@@ -58,7 +58,7 @@ on_a_numbered_node = tree
     (at_root (codes "f") [] (leaf (codes "ic") (phandle 1 ∷ []) (leaf (codes "k") (property (codes "r") (small 1) ∷ []) no_nodes))
     (symbols (label (codes "m") (codes "/f/__overlay__/ic") ∷ []) (mirror (codes "f") (codes "k") (codes "r") (small 0))))
 
--- it keeps the base's number, which stands in the reference
+-- it keeps the base's number, which the reference holds
 abbrev pub on_a_numbered_node_result : Reading
 on_a_numbered_node_result = tree
     (leaf (codes "ic") (phandle 1 ∷ [])

@@ -1,6 +1,6 @@
 -- Applying an object to a tree, where a node that lands on one with a phandle, or on one that landed before, is joined to it: the two
 -- are one node with one number (dtc's notes on overlay objects; Devicetree Specification v0.4, 2.3.3). One walk over the fragments
--- tells on which node each lands, and the numbers of all that they bring.
+-- says on which node each lands, and the numbers of all that they bring.
 use Rattle.std.specs.Prelude.{ℕ, zero, suc, ◌+◌, Bool, true, false, ◌&&◌, List, [], ◌∷◌, ◌++◌, length, map, Option, Some, None, is_some, option_map, option_and_then, unwrap_or, if◌then◌else◌, nat_eq, codes}
 use Rattle.std.specs.List.{list_any, list_all}
 use Rattle.std.specs.Option.{option_or}

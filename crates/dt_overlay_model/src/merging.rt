@@ -10,7 +10,7 @@ pub fn least_is_free()
 {}
 
 /// There is a result exactly where the meanings can be merged, and it represents the merged meaning, by numbers that extend
-/// the base's: nodes that land on one path have one number, which stands in each reference to any of them.
+/// the base's: nodes that land on one path have one number, which each reference to any of them holds.
 pub fn applying_is_merging()
     ensures { ApplyingIsMerging }
 {}
@@ -25,7 +25,7 @@ pub fn applied_is_one()
     ensures { AppliedIsOne }
 {}
 
-/// What is found after an application, by paths, whoever wrote the two trees: a node stands where one of the base does or one of
+/// What is found after an application, by paths, whoever wrote the two trees: there is a node where the base has one or one of
 /// the object lands; a property is that of the last node that lands with one, with the numbers of their nodes in its cells, a
 /// `phandle` its node's, or else the base's; a label is the path of the node that lands with it, or else the base's; reservations
 /// and boot CPU are the base's.

@@ -1,4 +1,4 @@
--- What the code keeps of an object while it is applied, and what that stands for.
+-- What the code keeps of an object while it is applied, and what that means.
 use Rattle.std.specs.Prelude.{◌≡◌, Bool, ◌↔◌, ℕ, List, [], ◌∷◌, ◌++◌, length, map, replicate, slice_get, Option, Some, None, true, is_some, option_and_then, unwrap_or, if◌then◌else◌, codes}
 use Rattle.std.specs.List.{AllByRecursion, flat_map}
 use Rattle.dt_model.specs.Names.{Name}
@@ -29,7 +29,7 @@ IsTargetOf object f (TargetPath value) =
     (value_in object (f ∷ []) (codes "target") ≡ None) × (value_in object (f ∷ []) (codes "target-path") ≡ Some value.items)
     × ((p : Path) × IsPathValue value.items p)
 
--- a fragment is kept by the numbers of its nodes among these, and by what the object tells of its target
+-- a fragment is kept by the numbers of its nodes among these, and by what the object says of its target
 pub record IsFragmentOf (slots : List Slot) (object : Reading) (x : ObjectFragment) (f : Name) : Type 0 where
   pub node : node_from slots 0 (f ∷ []) ≡ Some x.node
   pub content : node_from slots 0 (content f) ≡ Some x.content
@@ -86,7 +86,7 @@ pub record ListsLocalFixups (object : Arena) (numbers : List (Path × ℕ)) (old
 abbrev pub IsBroughtAt : List Name → ℕ → Path → Type 0
 IsBroughtAt names i p = (f : Name) × (slice_get names i ≡ Some f) × (is_some (below (content f) p) ≡ true)
 
--- what is kept of nodes tells which fragments bring them
+-- what is kept of nodes says which fragments bring them
 abbrev pub IsKeptFor : List Slot → List Name → List (Option ℕ) → Type 0
 IsKeptFor slots names kept = (p : Path) (k i : ℕ) → node_from slots 0 p ≡ Some k → (slice_get kept k ≡ Some (Some i)) ↔ IsBroughtAt names i p
 
@@ -100,7 +100,7 @@ pub record AreBrought (slots : List Slot) (names : List Name) (numbers : List (P
 abbrev pub AreBroughtBy : Arena → List (Path × ℕ) → Brought → Type 0
 AreBroughtBy object numbers b = AreBrought object.slots (fragment_names (reading object).children) numbers b
 
--- the four bytes at an offset name a node, of which the cell gets this number
+-- the four bytes at an offset name a node, and the cell gets this number of it
 pub record IsLocalNumber (object : Reading) (numbers : List (Path × ℕ)) (p : Path) (value : List ℕ) (offset number : ℕ) : Type 0 where
   pub cell : IsLocalCell object p value offset
   pub is : number ≡ unwrap_or (option_and_then (number_in numbers) (node_numbered (nodes_of object) (number_at value offset))) (number_at value offset)

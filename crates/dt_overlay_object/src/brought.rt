@@ -21,7 +21,7 @@ pub struct Brought {
 }
 
 impl Brought {
-    /// Of an object of so many nodes, none of which is brought so far.
+    /// For an object of so many nodes, with none brought so far.
     ///
     /// # Errors
     ///

@@ -2,7 +2,7 @@
 
 use dt_names::NodeId;
 
-/// What a fragment tells of its target.
+/// What a fragment says of its target.
 #[derive(Drop)]
 pub enum ObjectTarget {
     /// Its number, in the property `target`.
@@ -11,7 +11,7 @@ pub enum ObjectTarget {
     Path(Vec<u8>),
 }
 
-/// A fragment: the root's child that tells its target, and the node whose properties and children it brings.
+/// A fragment: the root's child that names its target, and the node whose properties and children it brings.
 #[derive(Drop)]
 pub struct ObjectFragment {
     pub node: NodeId,

@@ -27,7 +27,7 @@ pub struct Object {
 }
 
 impl Object {
-    /// An object of which nothing is read so far.
+    /// An object before anything of it is read.
     ///
     /// # Errors
     ///

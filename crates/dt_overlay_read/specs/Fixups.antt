@@ -14,11 +14,11 @@ use Rattle.dt_overlay_laws.specs.Objects.{AreCellsOf, SymbolHasNumber, IsFixup}
 use Rattle.dt_overlay_object.specs.declared.kept.Write.{Write as KeptWrite}
 use Rattle.dt_overlay_object.specs.Plans.{AreWritesOf}
 
--- the cell of which a text tells
+-- the cell that a text names
 abbrev pub cell_told : CellText → Cell
 cell_told x = record { path = x.path; property = x.property.now; offset = x.offset }
 
--- the object has the cell of which the text tells
+-- the object has the cell that the text names
 abbrev pub HasTold : Reading → List ℕ → Cell → Type 0
 HasTold object text c = IsCellText text c × HasCell object c
 
@@ -26,7 +26,7 @@ HasTold object text c = IsCellText text c × HasCell object c
 abbrev pub numbered : ℕ → Cell → Write
 numbered n c = record { cell = c; number = n }
 
--- the cells of which the texts tell are listed behind what was
+-- the cells that the texts name are listed behind what was
 pub record ListsTold (object : Arena) (texts : List (List ℕ)) (n : ℕ) (old new : List KeptWrite) : Type 0 where
   pub more : List KeptWrite
   pub appended : new ≡ old ++ more

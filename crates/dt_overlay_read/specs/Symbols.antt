@@ -12,7 +12,7 @@ use Rattle.dt_overlay_read.specs.declared.symbols.SymbolNames.{SymbolNames}
 use Rattle.dt_overlay_read.specs.declared.symbols.SymbolNames.TheVariants.{Nothing, Missing, Node}
 use Rattle.dt_overlay_object.specs.Plans.{AreSymbolsOf, symbol_brought}
 
--- the name is what stands before the first slash, or all where there is none
+-- the name is what comes before the first slash, or all if there is none
 pub record IsFirstName (bytes name : List ℕ) : Type 0 where
   pub lacks : Lacks 47 name
   pub whole : (bytes ≡ name) ⊎ ((rest : List ℕ) × (bytes ≡ name ++ 47 ∷ rest))

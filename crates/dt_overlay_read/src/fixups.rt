@@ -26,7 +26,7 @@ use dt_overlay_texts::{
 };
 use std::alloc::Global;
 
-/// The value of the property of whose cell a text tells, wherever in it the cell is.
+/// The value of the property whose cell a text names, wherever in it the cell is.
 fn value_of<'a>(object: &'a FlatTree, text: &[u8]) -> Option<&'a [u8]>
     ensures { (c : Cell) → IsCellText text.now c → option_copied result ≡ value_in (reading object.now) c.path c.property }
 {
@@ -38,7 +38,7 @@ fn value_of<'a>(object: &'a FlatTree, text: &[u8]) -> Option<&'a [u8]>
     object.value(node, property)
 }
 
-/// The node of the cell of which a text tells, and the cell.
+/// The node of the cell that a text names, and the cell.
 fn cell_at<'a>(object: &FlatTree, text: &'a [u8]) -> Option<(NodeId, CellText<'a>)>
     ensures { MatchOption result ((c : Cell) → ¬ HasTold (reading object.now) text.now c)
         (λ found. HasTold (reading object.now) text.now (cell_told found.1)
@@ -133,7 +133,7 @@ fn path_of_symbol(alloc: Global, value: &[u8]) -> Result<Path, Fault>
     }
 }
 
-/// The number of which a value is the cell, where a node may have it.
+/// The number whose cell a value is, if a node may have it.
 fn cell_number(value: &[u8]) -> Option<u32>
     ensures { MatchOption result (¬ IsPhandle value.now) (λ number. value.now ≡ cell number) }
 {

@@ -29,7 +29,7 @@ pub(crate) fn content_of(object: &FlatTree, node: NodeId) -> Option<NodeId>
     object.child(node, b"__overlay__".as_slice())
 }
 
-/// What a fragment's node tells of its target: four bytes as `target`, or else a path's text with its NUL as `target-path`.
+/// What a fragment's node says of its target: four bytes as `target`, or else a path's text with its NUL as `target-path`.
 fn target_of(alloc: Global, object: &FlatTree, node: NodeId) -> Result<ObjectTarget, Fault>
     requires { node < length object.now.slots }
     ensures value { (f : Name) → node_from object.now.slots 0 (f ∷ []) ≡ Some node → IfOk result (IsTargetOf (reading object.now) f) }

@@ -1,4 +1,4 @@
--- The texts with which an object's bookkeeping nodes tell of nodes and cells (dtc's notes on overlay objects).
+-- The texts with which an object's bookkeeping nodes name nodes and cells (dtc's notes on overlay objects).
 use Rattle.std.specs.Prelude.{◌≡◌, ◌≢◌, ℕ, ◌<◌, ◌≤◌, List, [], ◌∷◌, ◌++◌, length}
 use Rattle.std.specs.List.{AllByRecursion}
 use Rattle.dt_model.specs.Limits.{most_names}
@@ -24,11 +24,11 @@ TellCells (x ∷ xs) (c ∷ cells) = IsCellText x c × TellCells xs cells
 abbrev pub TextsAreOne : Type 0
 TextsAreOne = (value : List ℕ) (xs ys : List (List ℕ)) → AreTexts value xs → AreTexts value ys → xs ≡ ys
 
--- a text tells one cell
+-- a text names one cell
 abbrev pub CellIsOne : Type 0
 CellIsOne = (x : List ℕ) (c d : Cell) → IsCellText x c → IsCellText x d → c ≡ d
 
--- the texts of cells are texts, and texts that tell cells are theirs
+-- the texts of cells are texts, and texts that name cells are theirs
 pub record CellTextsAreTexts : Type 0 where
   pub told : (value : List ℕ) (cells : List Cell) → AreCellTexts value cells → (xs : List (List ℕ)) × AreTexts value xs × TellCells xs cells
   pub tell : (value : List ℕ) (xs : List (List ℕ)) (cells : List Cell) → AreTexts value xs → TellCells xs cells → AreCellTexts value cells

@@ -8,7 +8,7 @@ ghost use Rattle.dt_overlay_texts.specs.Texts.{TextsAreOne, CellIsOne, CellTexts
 
 use dt_names::one_path;
 
-/// A value is cut into texts in one way, and a text tells one cell.
+/// A value is cut into texts in one way, and a text names one cell.
 pub fn texts_are_one()
     ensures texts { TextsAreOne }
     ensures cells { CellIsOne }
@@ -16,7 +16,7 @@ pub fn texts_are_one()
     one_path();
 }
 
-/// The texts of cells are texts, and texts that tell cells are theirs.
+/// The texts of cells are texts, and texts that name cells are theirs.
 pub fn cell_texts_are_texts()
     ensures { CellTextsAreTexts }
 {}

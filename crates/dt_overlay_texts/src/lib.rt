@@ -1,4 +1,4 @@
-//! The texts with which the bookkeeping nodes of an object tell of nodes and cells (dtc's notes on overlay objects): a value cut into texts, a cell's
+//! The texts with which the bookkeeping nodes of an object name nodes and cells (dtc's notes on overlay objects): a value cut into texts, a cell's
 //! `path:property:offset`, and a path's text with its NUL. All but `symbol_path` takes no memory.
 //!
 //! ```text

@@ -1,4 +1,4 @@
-//! Reads the values with which an object's bookkeeping nodes tell of nodes and cells (dtc's notes on overlay objects).
+//! Reads the values with which an object's bookkeeping nodes name nodes and cells (dtc's notes on overlay objects).
 
 ghost use Rattle.std.specs.Prelude.{◌≡◌, ◌≢◌, ◌≤◌, ◌<◌, ◌+◌, ◌^◌, ◌↔◌, ℕ, List, [], None, IsTrue, length, MatchOption, IfOk, IfErr};
 ghost use Rattle.dt_model.specs.Limits.{most_names};
@@ -21,7 +21,7 @@ pub fn texts(value: &[u8]) -> Option<Texts<'_>>
     Some(Texts { rest: value })
 }
 
-/// The cell of which an object tells by a text `path:property:offset`, the offset in decimal digits (dtc's notes on
+/// The cell that an object names by a text `path:property:offset`, the offset in decimal digits (dtc's notes on
 /// overlay objects).
 #[derive(Drop)]
 pub struct CellText<'a> {

@@ -13,7 +13,7 @@ pub record ReadsOn (a : Around) (g : Wanted) (ws : Words) (b : Around) (h : Want
   pub follows : (o : Outcome) → Descends h vs o → Descends g ws o
   pub breaks : (k : FaultKind) (left : Words) → Breaks b h vs k left → Breaks a g ws k left
 
--- a reservation with these labels stands between the two places, and says this
+-- a reservation with these labels is between the two places, and says this
 pub record Reserves (ls : List (List ℕ)) (ws : Words) (says : ℕ × ℕ) (vs : Words) : Type 0 where
   pub reserve : RawReserve
   pub sound : IsReserve reserve

@@ -26,7 +26,7 @@ front_of (Some (kind.Keyword keyword.DeleteProperty)) = front.DeleteProperty
 front_of (Some (kind.Keyword keyword.DeleteNode)) = front.DeleteNode
 front_of _ = front.Other
 
--- what stands behind a name
+-- what follows a name
 abbrev pub behind_of : Option TokenKind → Behind
 behind_of (Some (kind.Mark mark.Semicolon)) = behind.End
 behind_of (Some (kind.Mark mark.Equals)) = behind.Value

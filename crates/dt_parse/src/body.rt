@@ -40,7 +40,7 @@ pub(crate) enum Front {
     Other,
 }
 
-/// What stands behind a name.
+/// What follows a name.
 #[derive(Clone, Copy)]
 pub(crate) enum Behind {
     /// `;`
@@ -107,7 +107,7 @@ fn node_name<'a>(cursor: &Cursor<'a, '_>) -> Result<NodeName<'a>, Stop>
     }
 }
 
-/// Reads what stands behind a property's name: `;`, or `=`, a value and `;`.
+/// Reads what follows a property's name: `;`, or `=`, a value and `;`.
 fn assigned<'a>(alloc: Global, cursor: &mut Cursor<'a, '_>) -> Result<Value<'a>, Stop>
     requires { (behind_of (kind_at (first cursor.old)) ≡ behind.End) ⊎ (behind_of (kind_at (first cursor.old)) ≡ behind.Value) }
     ensures ok { IfOk result (λ v. (cs : List RawComponent) × AllByRecursion IsComponent cs × (value_said v ≡ value_parts cs)
@@ -366,7 +366,7 @@ fn member_behind<'a>(
     }
 }
 
-/// Reads a member, or what stands in front of a child's members, or the end of a body. Answers what is around the next.
+/// Reads a member, or what comes before a child's members, or the end of a body. Answers what is around the next.
 fn member<'a>(
     alloc: Global,
     depth: Depth,

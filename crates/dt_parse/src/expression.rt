@@ -23,7 +23,7 @@ pub(crate) enum Pending {
     Colon,
 }
 
-/// What stands in front of a token.
+/// What comes before a token.
 #[derive(Clone, Copy)]
 pub(crate) enum Stage {
     /// An operand is wanted.

@@ -1,5 +1,5 @@
-//! Sources of devicetree: the grammar of DTS version 1 (Devicetree Specification v0.4, chapter 6). It answers a `Source`, which dt_source_items
-//! tells of, or the first fault and its place.
+//! Sources of devicetree: the grammar of DTS version 1 (Devicetree Specification v0.4, chapter 6). It answers a `Source`
+//! (dt_source_items), or the first fault and its place.
 //!
 //! ```text
 //! let source = parse(alloc, b"/dts-v1/; / { a: b { c = <(1 + 2) &a>; }; };")?;

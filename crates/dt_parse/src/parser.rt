@@ -40,7 +40,7 @@ fn is_tagged(cursor: &Cursor<'_, '_>) -> bool
         && cursor.second() == Some(TokenKind::Mark(Mark::Semicolon))
 }
 
-/// Reads the first header: `/dts-v1/;`, and `/plugin/;` where it stands behind it. Whether it does.
+/// Reads the first header: `/dts-v1/;`, and `/plugin/;` if it follows. Whether it does.
 fn first_header(cursor: &mut Cursor<'_, '_>) -> Result<bool, Stop>
     ensures ok { IfOk result (λ plugin. ReadsOn outside Whole cursor.old outside (MoreHeaders plugin) cursor.new) }
     ensures err { IfErr result (λ stop. IsBroken outside Whole cursor.old stop) }
@@ -69,7 +69,7 @@ fn next_header(plugin: bool, cursor: &mut Cursor<'_, '_>) -> Result<(), Stop>
     cursor.expect(TokenKind::Mark(Mark::Semicolon))
 }
 
-/// Reads the headers: `/dts-v1/;`, and `/plugin/;` behind each of them or behind none. Whether it stands there.
+/// Reads the headers: `/dts-v1/;`, and `/plugin/;` behind each of them or behind none. Whether it is there.
 fn headers(cursor: &mut Cursor<'_, '_>) -> Result<bool, Stop>
     ensures found { IfOk result (λ plugin. (m : Made) (left : Words) → Descends Top cursor.new (found m left)
         → Descends Whole cursor.old (found (source_with plugin m) left)) }

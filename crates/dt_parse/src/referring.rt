@@ -7,7 +7,7 @@ ghost use Rattle.dt_grammar.specs.Paths.{braced};
 
 use dt_names::PathRef;
 
-/// What stands between `&{` and `}`; none where the bytes begin or end in another way.
+/// What is between `&{` and `}`; none where the bytes begin or end in another way.
 fn between_braces(bytes: &[u8]) -> Option<&[u8]>
     ensures { MatchOption result ((text : List ℕ) → bytes.now ≢ braced text) (λ text. bytes.now ≡ braced text.now) }
 {

@@ -30,7 +30,7 @@ use dt_names::{FaultKind, Label};
 use dt_source_items::{Form, Piece, Reference, Value};
 use std::alloc::{AllocError, Global};
 
-/// The width of elements where none is told, in bits.
+/// The width of elements where `/bits/` gives none, in bits.
 const CELL: u32 = 32;
 
 /// What a token begins in a value.
@@ -282,7 +282,7 @@ fn skip_labels(cursor: &mut Cursor<'_, '_>) -> Result<(), Stop>
     Ok(())
 }
 
-/// Reads what stands between `<` and `>`, in elements of so many bits.
+/// Reads what is between `<` and `>`, in elements of so many bits.
 fn cells<'a>(
     alloc: Global,
     bits: u32,
@@ -317,7 +317,7 @@ fn cells<'a>(
     }
 }
 
-/// Reads what stands between `[` and `]`.
+/// Reads what is between `[` and `]`.
 fn bytes<'a>(cursor: &mut Cursor<'a, '_>, value: &mut Value<'a>) -> Result<(), Stop>
     ensures ok { OnOk result ((cs : List RawCell) × ((a : Around) → IsRead a SomeBytes cursor.old (made_cells cs) cursor.new)
         × (value_said value.new ≡ value_said value.old ++ cells_parts 8 cs)) }

@@ -35,7 +35,7 @@ abbrev pub MayGrow : List (Option ℕ) → List Slot → List (Listed NodeRefere
 MayGrow numbers slots [] = Unit {0}
 MayGrow numbers slots (n ∷ ns) = MayCome numbers slots n × MayGrow numbers (with_node numbers slots n) ns
 
--- the same of all nodes, the first of which is the root
+-- the same of all nodes; the first is the root
 abbrev pub grown_all : List (Option ℕ) → List Slot → List (Listed NodeReference) → List Slot
 grown_all numbers slots [] = slots
 grown_all numbers slots (root ∷ ns) = grown numbers (with_properties slots 0 (numbered_properties numbers 0 root.content)) ns

@@ -24,7 +24,7 @@ use dt_names::{Fault, NodeId, NodeName, PropName};
 use dt_source_named_tree::{NamedNode, NamedProperty, NamedReference, NamedTree, NamedValue};
 use std::alloc::{AllocError, Global};
 
-/// The number that stands for a reference: its node's, or all ones where the node is of some other tree.
+/// The number of a reference: its node's, or all ones if the node is of some other tree.
 fn number_for(reference: &NamedReference<'_>, numbering: &Numbering) -> u32
     ensures { result ≡ number_for numbering.now (reference_said reference.now) }
 {

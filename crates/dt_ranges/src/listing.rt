@@ -15,7 +15,7 @@ use dt_names::{Fault, FaultKind, NodeId};
 use dt_resolve_model::Region;
 use dt_view::{TreeView, cells, cells_after};
 
-/// The regions of a node's `reg` that are left. What a node and its bus have is looked up once, so that all entries are told in one pass.
+/// The regions of a node's `reg` that are left. What a node and its bus have is looked up once, so that all entries are read in one pass.
 #[derive(Clone, Copy)]
 pub struct Regions<'v> {
     bus: Bus,

@@ -94,7 +94,7 @@ pub record IsBehindNode (bytes : List ℕ) (node cut size : ℕ) : Type 0 where
   pub begun : node < number bytes 8 + cut
   pub inside : cut + size ≤ length (structure_of bytes)
 
--- how many bytes the token of a property takes, of which the value may not be there
+-- how many bytes the token of a property takes; the value may be missing
 abbrev pub property_size : Option (List ℕ) → ℕ
 property_size None = 0
 property_size (Some value) = padded (12 + length value)

@@ -3,7 +3,7 @@ use Rattle.std.specs.Prelude.{◌≡◌, ◌≢◌, ℕ, ◌<◌, true, List, dr
 use Rattle.dt_model.specs.Lexing.{text_in}
 use Rattle.dt_model.specs.Names.{Name, is_property_name}
 
--- a name of a property stands there
+-- a property's name is there
 abbrev pub HasNameAt : List ℕ → ℕ → Type 0
 HasNameAt strings offset = (name : Name) × (text_in (drop offset strings) ≡ Some name) × (is_property_name name ≡ true)
 

@@ -27,7 +27,7 @@ pub record IsLater (at : ℕ) (bytes : List ℕ) (here : ℕ) (left : List ℕ) 
   pub within : here - at ≤ length bytes
   pub is : left ≡ drop (here - at) bytes
 
--- of bytes that begin at an offset, a token begins at another, and the rest stands behind it at the next
+-- of bytes that begin at an offset, a token begins at another, and the rest follows it at the next
 pub record TokenLies (strings : List ℕ) (at : ℕ) (bytes : List ℕ) (here : ℕ) (token : Token) (next : ℕ) (rest : List ℕ) : Type 0 where
   pub own : List ℕ
   pub later : IsLater at bytes here own

@@ -28,7 +28,7 @@ mark_at at (prop p) = prop_mark p
 mark_at at nop = nop_mark
 mark_at at end_tree = last_mark
 
--- own is the token, which stands at that place
+-- own is the token, which is at that place
 pub record SpellsMark (strings : List ℕ) (at : ℕ) (mark : Mark) (own : List ℕ) : Type 0 where
   pub placed : mark_at at (token_of mark) ≡ mark
   pub token : Spells strings (token_of mark) own

@@ -5,7 +5,7 @@ use Rattle.dt_model.specs.Lexing.{token_in}
 use Rattle.dt_model.specs.Checks.{Position, front, lead, lead_all}
 use Rattle.dt_read.specs.Marks.{Takes}
 
--- no token that may stand there stands at the front of the bytes
+-- no token that is allowed there is at the front of the bytes
 abbrev pub IsStuck : List ℕ → Position → List ℕ → Type 0
 IsStuck strings p rest = (token : Token) (n : ℕ) → token_in strings rest ≡ Some (token, n) → lead token p ≡ None
 

@@ -86,7 +86,7 @@ abbrev pub head_named : List (ℕ × List ℕ) → List ℕ → Option ℕ
 head_named [] name = None
 head_named (head ∷ heads) name = if bytes_eq name head.1 then Some head.0 else head_named heads name
 
--- what stands behind the END_NODEs of that many open nodes
+-- what follows the END_NODEs of that many open nodes
 abbrev pub past : List Mark → ℕ → List Mark
 past [] open_nodes = []
 past (begin_mark place name ∷ marks) zero = begin_mark place name ∷ marks
@@ -100,12 +100,12 @@ past (nop_mark ∷ marks) (suc open_nodes) = past marks (suc open_nodes)
 past (last_mark ∷ marks) zero = last_mark ∷ marks
 past (last_mark ∷ marks) (suc open_nodes) = past marks (suc open_nodes)
 
--- what stands behind the properties at the front
+-- what follows the properties at the front
 abbrev pub past_properties : List Mark → List Mark
 past_properties (prop_mark p ∷ marks) = past_properties marks
 past_properties marks = marks
 
--- what stands behind the properties of other names at the front
+-- what follows the properties of other names at the front
 abbrev pub past_others : List ℕ → List Mark → List Mark
 past_others name (prop_mark p ∷ marks) = if bytes_eq name p.name then prop_mark p ∷ marks else past_others name marks
 past_others name marks = marks

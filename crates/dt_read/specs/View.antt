@@ -21,7 +21,7 @@ view (code.Property name value) = model.prop (record { name = name.now; value = 
 view code.Nop = model.nop
 view code.End = model.end_tree
 
--- where a token stands
+-- where a token is
 abbrev pub position_of : ScanState → checks.Position
 position_of p = record { depth = p.depth; late = p.late; nodes = p.nodes }
 

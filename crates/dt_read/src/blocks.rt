@@ -21,7 +21,7 @@ pub(crate) struct Blocks<'a> {
     pub boot_cpu: u32,
 }
 
-/// The blocks that a header tells of, where the header is right and the reservations end.
+/// The blocks that a header places, if the header is right and the reservations end.
 pub(crate) fn blocks_of(bytes: &[u8]) -> Result<Blocks<'_>, Fault>
     ensures blocks { IfOk result (AreBlocks bytes.now) }
     ensures fault { IfErr result (λ e. (f : BlobFault) × (e.kind ≡ kind_of f) × IsFirstFault bytes.now f e.at) }

@@ -13,7 +13,7 @@ use crate::property::{Sought, look_for};
 use crate::token::{Tag, Token, tag_at, token_at};
 use std::marker::Model;
 
-/// A token, its place, and what stands behind it.
+/// A token, its place, and what follows it.
 #[derive(Drop)]
 pub(crate) struct Found<'a> {
     pub at: usize,

@@ -1,5 +1,5 @@
-//! Keys that differ, found with no memory: a table of bits tells most keys that are new, and an exact walk the others. Few names of a tree
-//! are compared all at once; of many, first those of children, of which there are at most as many as nodes, and then the properties of one
+//! Keys that differ, found with no memory: a table of bits finds most keys that are new, and an exact walk the others. Few names of a tree
+//! are compared all at once; of many, first those of children, at most as many as nodes, and then the properties of one
 //! node after another. A table holds two keys a word; more keys are compared class by class. So with 16,384 words the tokens are read again only
 //! for more than 32,768 children, or properties of one node.
 
@@ -132,7 +132,7 @@ pub(crate) fn are_distinct(
     true
 }
 
-/// Whether the names of the properties differ of the node of a place, behind whose BEGIN_NODE the cursor stands.
+/// Whether the names of a node's properties differ. The cursor is behind the node's BEGIN_NODE.
 fn has_distinct_properties(
     cursor: &Cursor<'_>,
     place: NodeId,

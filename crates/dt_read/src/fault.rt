@@ -87,7 +87,7 @@ fn fault_of_end(place: ScanState, rest: &[u8]) -> Option<FaultKind>
     }
 }
 
-/// What is wrong with the token at the front of some bytes, which stands at that place.
+/// What is wrong with the token at the front of some bytes, which is at that place.
 pub(crate) fn fault_at(strings: &[u8], place: ScanState, rest: &[u8]) -> Option<FaultKind>
     requires { length rest.now < 2 ^ 32 }
     ensures { result ≡ option_map kind_of (token_fault strings.now (position_of place) rest.now) }

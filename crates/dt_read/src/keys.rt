@@ -29,7 +29,7 @@ pub(crate) enum Sort {
 #[derive(Clone, Copy, PartialEq, Eq)]
 pub(crate) struct Key<'a> {
     pub sort: Sort,
-    /// The node in which a name stands. Phandles have one owner, 0.
+    /// The node that a name belongs to. Phandles have one owner, 0.
     pub owner: NodeId,
     pub bytes: &'a [u8],
 }
@@ -145,7 +145,7 @@ impl<'a> Keys<'a> {
         }
     }
 
-    /// Those of the properties of the node of a place, behind whose BEGIN_NODE the cursor stands.
+    /// Those of the properties of a node. The cursor is behind the node's BEGIN_NODE.
     pub fn own(cursor: Cursor<'a>, place: NodeId) -> Keys<'a>
         ensures { result ≡ keys_in Own (place ∷ []) cursor.entry }
     {

@@ -43,7 +43,7 @@ impl<'a> KnownNames<'a> {
         }
     }
 
-    /// Whether a name of a property stands at an offset of the strings. Where it does, the offset is remembered.
+    /// Whether a property's name is at an offset of the strings. If so, the offset is remembered.
     pub fn is_at(&mut self, offset: u32) -> bool
         ensures strings { self.new ≡ self.old }
         ensures name { IsTrue result ↔ HasNameAt self.old offset }

@@ -18,7 +18,7 @@ use dt_bytes::be32;
 use dt_names::FaultKind;
 use dt_names::limits::{MOST_NAMES, MOST_NODES};
 
-/// Where a scan stands between two tokens.
+/// Where a scan is between two tokens.
 #[derive(Clone, Copy)]
 pub(crate) struct ScanState {
     /// How many nodes are open.
@@ -55,7 +55,7 @@ impl ScanState {
         self.depth <= MOST_NAMES && self.nodes < MOST_NODES
     }
 
-    /// Where the next token stands, if this one may stand here.
+    /// Where the next token is, if this one is allowed here.
     fn after(self, token: &Token) -> Option<ScanState>
         ensures { option_map position_of result ≡ lead (view token.now) (position_of self) }
     {
@@ -110,8 +110,8 @@ fn known_property(names: &mut KnownNames<'_>, place: ScanState, rest: &[u8]) -> 
     Some(len)
 }
 
-/// Reads the token at the front of some bytes: where the next one stands, and how many bytes it takes. None where no token
-/// that may stand there does.
+/// Reads the token at the front of some bytes: where the next one is, and how many bytes it takes. None if it begins with no token
+/// that is allowed there.
 fn step(
     strings: &[u8],
     names: &mut KnownNames<'_>,

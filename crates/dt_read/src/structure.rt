@@ -46,7 +46,7 @@ impl<'a> Structure<'a> {
     ghost use Rattle.dt_read.specs.Parsing.{tree_in};
     ghost use Rattle.dt_read.specs.TreeTokens.{HasTree, IsStructure, node_of, heads_of, head_named, first_place, BeginsNode};
 
-    /// The tree that a structure block spells, or its first wrong token. The block stands at that place of the blob.
+    /// The tree that a structure block spells, or its first wrong token. The block is at that place of the blob.
     pub fn check(strings: &'a [u8], at: usize, block: &'a [u8]) -> Result<Structure<'a>, BadTagAt>
         requires { at + length block.now < 2 ^ 32 }
         ensures tree { IfOk result (λ tree. HasTree strings.now at block.now tree) }

@@ -11,7 +11,7 @@ use Rattle.dt_resolve_model.specs.Regions.{region}
 use Rattle.dt_resolve_model.specs.Interrupts.{Route, IsRoute}
 use Rattle.dt_resolve_lines.specs.Lines.{line, region_words, route_words}
 
--- how a node's lines are told: which answer is at an index, its line, and which answers end the lines, without one or behind theirs
+-- how a node's lines are made: which answer is at an index, its line, and which answers end the lines, without one or behind theirs
 pub record Telling (A : Type 0) : Type 1 where
   pub rule : ℕ → Answer A → Type 0
   pub line : ℕ → Answer A → List ℕ

@@ -1,4 +1,4 @@
--- What is told of one node of a blob.
+-- What one node of a blob answers.
 use Rattle.std.specs.Prelude.{◌≡◌, ℕ, List, None, true, false}
 use Rattle.dt_model.specs.Names.{Name}
 use Rattle.dt_model.specs.Path.{Path}

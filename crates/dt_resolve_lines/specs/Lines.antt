@@ -1,4 +1,4 @@
--- The lines that tell a region, a route, or why there is none.
+-- The lines with a region, a route, or why there is none.
 use Rattle.std.specs.Prelude.{ℕ, List, [], ◌∷◌, ◌++◌, codes, decimal, if◌then◌else◌}
 use Rattle.std.specs.Int.{w32, w128, to_be_bytes}
 use Rattle.dt_model.specs.Path.{Path, path_text}
@@ -9,7 +9,7 @@ use Rattle.dt_resolve_model.specs.declared.regions.Region.{Region}
 use Rattle.dt_resolve_model.specs.Answers.{Answer, undetermined, refused, answer}
 use Rattle.dt_resolve_model.specs.Interrupts.{Route}
 
--- an index, between a path and what is told of it
+-- an index, between a path and what is said of it
 abbrev pub index_words : ℕ → List ℕ
 index_words i = codes " " ++ (decimal i ++ codes " ")
 

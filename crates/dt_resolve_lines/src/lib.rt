@@ -1,4 +1,4 @@
-//! The lines that tell the regions and the routes of a blob's nodes, and what one node answers to one question. A node is named by its path.
+//! The lines with the regions and the routes of a blob's nodes, and what one node answers to one question. A node is named by its path.
 //!
 //! ```text
 //! regs(alloc, bytes, &mut out)?;      // /soc/bus/u@1f00 0 0x40001f00 0x100 whole

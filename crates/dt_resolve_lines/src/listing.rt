@@ -16,7 +16,7 @@ use dt_text_writer::Writer;
 use dt_view::{Index, TreeView};
 use std::alloc::Global;
 
-/// What the lines tell.
+/// What the lines hold.
 #[derive(Clone, Copy)]
 pub enum Listing {
     /// The regions of `reg`.

@@ -53,7 +53,7 @@ IsInterruptParent w p r = ((n : ℕ) × (ended w n p ≡ Some r)) ⊎ ((r ≡ re
 abbrev pub specifier_size : ℕ → ℕ → Answer ℕ
 specifier_size least n = if nat_le least n && nat_le n 8 then answer n else refuse BadCells
 
--- the number that a value tells, which has to be there
+-- the number that a value holds, which has to be there
 abbrev pub size_told : ℕ → Option Value → Answer ℕ
 size_told least None = refuse BadCells
 size_told least (Some v) = only_cell v >>= figure_of >>= specifier_size least
@@ -76,7 +76,7 @@ pub record Entry : Type 0 where
   pub sent : Sent
   pub rest : List Quad
 
--- what an entry is, of which the phandle was read
+-- what an entry is, once its phandle was read
 abbrev pub entry_of : List Quad → Path → ℕ → Answer Entry
 entry_of cells q n = if nat_lt (length cells) n then refuse BadCells else answer
     (record { sent = record { node = q; specifier = take n cells }; rest = drop n cells })
@@ -164,7 +164,7 @@ map_row_of compared cells q widths =
       size = length compared + 1 + (widths.address + widths.specifier);
     })
 
--- a row of which what is compared was read
+-- a row, once what is compared was read
 abbrev pub map_row_at_parent : World → (Path → Answer RowCells) → List Quad → List Quad → Answer MapRow
 map_row_at_parent w widths compared [] = refuse BadMap
 map_row_at_parent w widths compared (cell ∷ cells) = w.node cell >>= λ q. widths q >>= map_row_of compared cells q

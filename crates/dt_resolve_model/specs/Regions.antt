@@ -44,11 +44,11 @@ only_cell v = if v.size == 4 then first_cell v.cells else refuse BadCells
 abbrev pub only_number : Value → Answer ℕ
 only_number v = only_cell v >>= figure_of
 
--- a count of cells: at most four, with the number that stands for an absent one (2.3.5)
+-- a count of cells: at most four, with the number of an absent one (2.3.5)
 abbrev pub few : ℕ → Answer ℕ
 few n = if nat_le n 4 then answer n else refuse BadCells
 
--- the count that a bus writes, or the one that stands for an absent one
+-- the count that a bus writes, or the one of an absent one
 abbrev pub count_of : ℕ → Option Value → Answer ℕ
 count_of default None = answer default
 count_of default (Some v) = only_number v >>= few

@@ -1,4 +1,4 @@
--- Some sources and their trees by which the rules can be tried. The text of each stands above it; in its tree the keyed nodes have the numbers
+-- Some sources and their trees by which the rules can be tried. The text of each is above it; in its tree the keyed nodes have the numbers
 -- that compiling gives them.
 use Rattle.std.specs.Prelude.{ℕ, List, [], ◌∷◌, ◌++◌, codes, map}
 use Rattle.std.specs.List.{flat_map}
@@ -190,7 +190,7 @@ raw_parent_tree =
     (branch (codes "d") (set (codes "interrupts") (cell 7) ∷ []) no_nodes no_nodes))
 
 -- / { n: nx { #address-cells = <0>; #interrupt-cells = <1>; interrupt-map = <1 ROW>; }; d { interrupts-extended = <&n &n>; }; };
--- where ROW is what stands behind the first cell of the map
+-- where ROW is what follows the first cell of the map
 abbrev pub named_specifier : List Part → List Place
 named_specifier row =
     root ∷ child (codes "nx") ∷ label (codes "n") ∷ property address_cells (number 0) ∷ property interrupt_cells (number 1)

@@ -106,7 +106,7 @@ node_of_cell m nodes (figure n) = written_node n (node_written m nodes n)
 node_of_cell m nodes (pointer p) = answer p
 node_of_cell m nodes torn = undetermined
 
--- The world of a meaning, with some of its nodes, in which written numbers are looked for: it tells nothing of a property `phandle`, nor
+-- The world of a meaning, with some of its nodes, in which written numbers are looked for: it says nothing of a property `phandle`, nor
 -- of what is no node of it.
 abbrev pub meaning_world : Meaning → List Path → World
 meaning_world m nodes = record {

@@ -25,7 +25,7 @@ pub fn route_is_one()
     ensures { RouteIsOne }
 {}
 
-/// A tree refuses a region, also one for DMA, the route of an interrupt and that of a specifier for faults that their rules name, none of which has a
+/// A tree refuses a region, also one for DMA, the route of an interrupt and that of a specifier for faults that their rules name. None has a
 /// place.
 pub fn faults_are_named()
     ensures { (t : Reading) → AreNamed t }

@@ -11,7 +11,7 @@ use Rattle.dt_run_words.specs.declared.command_line.Job.{Job}
 abbrev pub IsWritten : Job → Bool → List (List ℕ) → List ℕ → Type 0
 IsWritten job hex inputs bytes = (t : Task) × IsTaskOf job t × IsWrittenBy t hex inputs bytes
 
--- Why a task's output wasn't written, and of which input: memory was refused at one, to a task that takes some, or while hexadecimal is
+-- Why a task's output wasn't written, and for which input: memory was refused at one, to a task that takes some, or while hexadecimal is
 -- made, which is of input 0, and nothing was written; or the sink failed, and took a front of it, which is of input 0; or an input is
 -- refused, and nothing was written. Only the last of these may have a place.
 abbrev pub WhyNotDoneBy : Task → ℕ → FaultKind → Option ℕ → Bool → List (List ℕ) → (old new : Taken) → Type 0

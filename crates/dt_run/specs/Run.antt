@@ -74,7 +74,7 @@ Ends loads before behind line old new (no_command error) = (line ≡ Err (Words 
 abbrev pub IsSaid : List ℕ → (old new : Taken) → Type 0
 IsSaid text old new = Takes text old new ⊎ IsCutShort text old new
 
--- What is told of an ending: nothing where all was done; the line of a fault; or a text, which is that of clap's error where that is
+-- What is printed at an ending: nothing where all was done; the line of a fault; or a text, which is that of clap's error where that is
 -- known, unless memory is refused for it.
 abbrev pub IsReported : (Error → Option (List ℕ)) → Ending → (old new : Taken) → Type 0
 IsReported text_of done old new = IsUntouched old new

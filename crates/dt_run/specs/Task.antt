@@ -51,7 +51,7 @@ IsTaskOf (job.Spec path property kind index) t = Asks path.now (IsOfSpecifier pr
 
 -- ---- inputs
 
--- there is one input, of which this holds
+-- there is one input, and this holds of it
 abbrev pub OfOne : (List ℕ → Type 0) → List (List ℕ) → Type 0
 OfOne P (x ∷ []) = P x
 OfOne P _ = ⊥
@@ -67,7 +67,7 @@ OfFirst P (x ∷ xs) = P x xs
 abbrev pub encoded : Bool → List ℕ → List ℕ
 encoded hex blob = if hex then encode_lower blob ++ 10 ∷ [] else blob
 
--- The blob that is made of the inputs: that of a base or of an overlay; that of a source as it stands; that of a base with objects applied, or
+-- The blob that is made of the inputs: that of a base or of an overlay; that of a source as it is; that of a base with objects applied, or
 -- with the overlays of sources.
 abbrev pub IsMade : Making → List (List ℕ) → (blob : List ℕ) → Type 0
 IsMade Compile inputs blob = OfOne (λ text. compile.IsBlobOf text blob) inputs

@@ -1,9 +1,9 @@
 //! A run of the tool, from the words of its command line on: the line that they ask for, the files that it names, the job that is done on
-//! them, and how a fault is told. It is proved over any [`Files`] and any sinks; `dtool` gives it the system's.
+//! them, and how a fault is reported. It is proved over any [`Files`] and any sinks; `dtool` gives it the system's.
 //!
 //! ```text
 //! run(alloc, line(alloc, words), &mut files, &mut out, &mut err)
-//! // the exit status: 0; 1 at a fault, which err is told as `dtool: input 0: fault 24 UnresolvedReference`; 2 where the words are no command
+//! // the exit status: 0; 1 at a fault, which err gets as `dtool: input 0: fault 24 UnresolvedReference`; 2 where the words are no command
 //! ```
 //!
 //! Such runs are tests of dtool.

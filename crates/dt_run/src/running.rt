@@ -13,7 +13,7 @@ use std::alloc::{AllocError, Global};
 use std::fmt::Display;
 
 /// Loads the files of a line in order, before anything else, and does its job on them. Answers the exit status: 0; 1 at a fault, which
-/// is told on `err` in a line of its own; 2 where the words are no command or ask for help or the version, and then `err` gets clap's text. An
+/// is reported on `err` in a line of its own; 2 where the words are no command or ask for help or the version, and then `err` gets clap's text. An
 /// `err` that fails doesn't change the status.
 pub fn run<'a, F: Files, O: Sink, E: Sink>(
     alloc: Global,

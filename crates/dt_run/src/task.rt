@@ -10,7 +10,7 @@ use dt_run_words::Job;
 pub enum Making {
     /// Of a source: of a base, or of an overlay, which is its object.
     Compile,
-    /// Of a source as it stands.
+    /// Of a source as it is.
     CompileRaw,
     /// Of a base, which is the first input, with the objects of overlays applied, which are the others.
     Apply,

@@ -1,4 +1,4 @@
--- The line that tells a fault.
+-- The line that reports a fault.
 use Rattle.std.specs.Prelude.{◌++◌, ◌∷◌, [], ℕ, List, codes, decimal}
 use Rattle.dt_names.specs.Fault.{fault_text}
 use Rattle.dt_names.specs.declared.fault.Fault.{Fault}

@@ -1,4 +1,4 @@
--- What is told of a blob, and why it isn't.
+-- What is printed of a blob, and why it isn't.
 use Rattle.std.specs.Prelude.{◌≡◌, ◌++◌, ◌∷◌, [], ℕ, List, Option, length, codes, decimal}
 use Rattle.std.specs.List.{sum_by}
 use Rattle.dt_model.specs.Checks.{BlobFault, IsFirstFault}
@@ -41,7 +41,7 @@ line_of c =
 abbrev pub HasBlobFault : FaultKind → Option ℕ → List ℕ → Type 0
 HasBlobFault kind at bytes = (f : BlobFault) × (kind ≡ kind_of f) × IsFirstFault bytes f at
 
--- The bytes are no blob, and nothing was written; or the sink failed, and took a front of the text that tells it.
+-- The bytes are no blob, and nothing was written; or the sink failed, and took a front of that text.
 pub data WhyNotTold (fault : Fault) (bytes : List ℕ) (Is : List ℕ → Type 0) (old new : Taken) : Type 0 where
   no_blob : HasBlobFault fault.kind fault.at bytes → IsUntouched old new → WhyNotTold fault bytes Is old new
   cut : (text : List ℕ) → Is text → IsRefused fault text old new → WhyNotTold fault bytes Is old new

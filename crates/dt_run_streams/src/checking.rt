@@ -9,7 +9,7 @@ use dt_names::{Fault, Sink};
 use dt_read::{Blob, Counts};
 use itoa::Buffer;
 
-/// Checks a blob, and tells how many nodes, properties and reservations it has, in a line of its own. Takes no memory.
+/// Checks a blob, and prints how many nodes, properties and reservations it has, in a line of its own. Takes no memory.
 ///
 /// # Errors
 ///

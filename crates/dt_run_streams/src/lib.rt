@@ -1,5 +1,5 @@
-//! The edges of a run, over any files and any sinks: the files that it loads, what it tells of a blob or of a fault, and all bytes of an
-//! input. Files are named by texts, and [`Files`] tells what asking for one answers; [`SystemFiles`] are the system's.
+//! The edges of a run, over any files and any sinks: the files that it loads, what it prints of a blob or of a fault, and all bytes of an
+//! input. Files are named by texts, and [`Files`] says what asking for one answers; [`SystemFiles`] are the system's.
 //!
 //! ```text
 //! let texts = load_all(alloc, &mut files, &["base.dtb", "stdin"])?;   // in this order; a second `stdin` is empty

@@ -1,8 +1,8 @@
-//! Standard output, of which a failure shows at once.
+//! Standard output, whose failures show at once.
 
 use std::io::{ErrorKind, Result, Write};
 
-/// A writer that is flushed after each write, so that a byte that was taken has arrived: what a full disk refuses is told by the
+/// A writer that is flushed after each write, so that a byte that was taken has arrived: what a full disk refuses is reported by the
 /// write, and not when the program ends.
 #[derive(Drop)]
 pub struct Prompt<W> {

@@ -1,4 +1,4 @@
-//! How a fault is told.
+//! How a fault is reported.
 
 ghost use Rattle.std.specs.Prelude.{◌≡◌, codes, ◌++◌, ◌∷◌, [], OnOk, IfErr};
 ghost use Rattle.dt_names.specs.Sink.{Takes, IsRefused, joined};

@@ -18,7 +18,7 @@ IsAsked Irqs count = count ≡ 1
 IsAsked (Dma path address size) count = count ≡ 1
 IsAsked (Spec path property kind index) count = count ≡ 1
 
--- that is a fact, of which there is one
+-- that is a fact, and there is one
 pub IsAsked-prop : (job : Job) (count : ℕ) → IsProp (IsAsked job count)
 IsAsked-prop Compile count = ℕ_set count 1
 IsAsked-prop CompileRaw count = ℕ_set count 1

@@ -30,7 +30,7 @@ number_word id = record (new_rule id) { required = true; parser = Some (Unsigned
 abbrev pub each_word : Text → Rule
 each_word id = record (new_rule id) { action = Some Append }
 
--- a command of this shape, of which no word is one of the commands below it too
+-- a command of this shape; no word of it is one of the commands below it too
 abbrev pub IsCommand : App → Command → Type 0
 IsCommand app command = (app_of command ≡ app) × ((out-Command command).has_globals ≡ false)
 
@@ -73,7 +73,7 @@ bare = let new = new_app (codes "dtool") in record new { top = record new.top { 
 abbrev pub with_makers : App
 with_makers = with_subcommand (with_subcommand (with_subcommand bare compile_command.top) apply_command.top) build_command.top
 
--- and with those that tell of a whole blob
+-- and with those that print of a whole blob
 abbrev pub with_tellers : App
 with_tellers =
     with_subcommand (with_subcommand (with_subcommand (with_subcommand with_makers (blob_command (codes "print")).top)

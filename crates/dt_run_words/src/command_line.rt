@@ -8,7 +8,7 @@ ghost use Rattle.dt_run_words.specs.Asked.{IsAsked, IsAsked-prop};
 pub enum Job<'a> {
     /// A blob of one devicetree source: of a base, or of an overlay, which is its object.
     Compile,
-    /// A blob of a source that is no overlay's, as it stands: bookkeeping nodes may be written, and nothing is added.
+    /// A blob of a source that is no overlay's, as it is: bookkeeping nodes may be written, and nothing is added.
     CompileRaw,
     /// The blob of a base, which is the first input, with the objects of overlays applied, which are the others.
     Apply,
@@ -16,7 +16,7 @@ pub enum Job<'a> {
     Build,
     /// The source of a blob.
     Print,
-    /// A line that tells how many nodes, properties and reservations a blob has.
+    /// A line with the numbers of nodes, properties and reservations of a blob.
     Check,
     /// The regions of a blob's nodes, in lines.
     Regs,

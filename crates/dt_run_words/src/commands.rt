@@ -9,7 +9,7 @@ ghost use Rattle.dt_run_words.specs.Words.{IsCommand, dtool};
 use clap::{Arg, ArgAction, Command, value_parser};
 use std::alloc::{AllocError, Global};
 
-/// What the exit status tells, at the end of each help.
+/// What the exit status means, at the end of each help.
 const STATUSES: &str = "\
 Each FILE, BASE and OVERLAY is the name of a file; the word stdin is standard input, which is read once.
 A fault is told on standard error, as `dtool: input K: fault N Name at P`: inputs are counted from 0, and P is a byte's place.

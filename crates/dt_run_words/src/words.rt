@@ -61,7 +61,7 @@ impl From<clap::Error> for LineFault {
     }
 }
 
-/// What the words of a command line ask for, of which the first is the program's name.
+/// What the words of a command line ask for. The first is the program's name.
 ///
 /// # Errors
 ///

@@ -6,7 +6,7 @@ use Rattle.dt_model.specs.Source.{Place, Mode, SoFar, nothing, read_all}
 use Rattle.dt_source_nodes.specs.Nodes.{AreNodesAfter}
 use Rattle.dt_source_named_tree.specs.Said.{IsTree}
 
--- the places are all read, and the nodes are those of a tree that has what stands after them
+-- the places are all read, and the nodes are those of a tree that has what is left after them
 pub record AreNodesOf (mode : Mode) (places : List Place) (ns : List (Listed NodeReference)) : Type 0 where
   pub so_far : SoFar
   pub all_read : read_all mode nothing places ≡ Ok so_far

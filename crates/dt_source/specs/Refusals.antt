@@ -12,7 +12,7 @@ use Rattle.dt_source_bodies.specs.Refusals.{refusal_kind, overlay_kind}
 
 -- ---- of a whole source
 
--- the kind of fault that tells why places mean nothing, or too much
+-- the kind of fault for places that mean nothing, or too much
 abbrev pub fault_kind : SourceRefusal → FaultKind
 fault_kind (at_place r) = refusal_kind r
 fault_kind (at_end unresolved) = UnresolvedReference
@@ -20,7 +20,7 @@ fault_kind (at_end bad_phandle) = BadPhandle
 fault_kind (at_end duplicate_phandle) = DuplicatePhandle
 fault_kind too_many = Limit
 
--- a fault without a place: memory was refused, or it tells why places mean nothing, or too much
+-- a fault without a place: memory was refused, or it is why places mean nothing, or too much
 abbrev pub WhyNotRead : model.Mode → List Place → Fault → Type 0
 WhyNotRead mode places fault =
     (fault.at ≡ None) × ((fault.kind ≡ NoMemory) ⊎ ((r : SourceRefusal) × IsRefusedFor mode places r × (fault.kind ≡ fault_kind r)))
@@ -40,14 +40,14 @@ WhyNotNamed mode kind s = IsFaultOf mode s kind
 
 -- ---- of a whole overlay's source
 
--- the kind of fault that tells why its places mean nothing, or too much
+-- the kind of fault for its places that mean nothing, or too much
 abbrev pub overlay_fault_kind : OverlaySourceRefusal → FaultKind
 overlay_fault_kind (at_place r) = overlay_kind r
 overlay_fault_kind (at_end bad_fragment) = BadFragment
 overlay_fault_kind (at_end outside_content) = OutsideContent
 overlay_fault_kind too_many = Limit
 
--- a fault without a place: memory was refused, or it tells why the places mean nothing, or too much
+-- a fault without a place: memory was refused, or it is why the places mean nothing, or too much
 abbrev pub WhyNoOverlayRead : List Place → Fault → Type 0
 WhyNoOverlayRead places fault =
     (fault.at ≡ None) × ((fault.kind ≡ NoMemory) ⊎ ((r : OverlaySourceRefusal) × IsOverlayRefusedFor places r × (fault.kind ≡ overlay_fault_kind r)))
@@ -67,7 +67,7 @@ WhyNoOverlay BadVersionTag s = s.plugin ≡ false
 WhyNoOverlay OverlayReserve s = (s.plugin ≡ true) × (s.reservations ≢ [])
 WhyNoOverlay kind s = IsOverlayFaultOf s kind
 
--- a source of the other kind is told at its start, any other fault without a place
+-- a source of the other kind is reported at its start, any other fault without a place
 abbrev pub fault_place : FaultKind → Option ℕ
 fault_place BadVersionTag = Some 0
 fault_place _ = None

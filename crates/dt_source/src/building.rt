@@ -68,7 +68,7 @@ pub(crate) fn whole<'a>(
 }
 
 /// The tree that a source means (Devicetree Specification v0.4, chapter 6): its bodies merged in the order of the text, its
-/// deletions done, its references read by what stands at the end. Children, properties and labels stand in the order in
+/// deletions done, its references read by what is left at the end. Children, properties and labels are in the order in
 /// which they were first opened, defined and given, after the last deletion that took them.
 ///
 /// # Errors

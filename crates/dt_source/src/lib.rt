@@ -1,5 +1,5 @@
 //! What a source of a devicetree means, as one tree: its bodies merged, its deletions done, its references read
-//! (Devicetree Specification v0.4, chapter 6). It is a `NamedTree`, which dt_source_named_tree tells of; of an overlay's source with its fragments.
+//! (Devicetree Specification v0.4, chapter 6). It is a `NamedTree` (dt_source_named_tree), for an overlay's source with its fragments.
 //!
 //! ```text
 //! let source = parse(alloc, b"/dts-v1/; / { a = <1>; n { p; }; }; / { c; n { q; }; };")?;
@@ -7,7 +7,7 @@
 //! ```
 //!
 //! Such a source is a case of meanings.cases (docs/CASES.md). A source's items grow into a tree (dt_source_growing,
-//! dt_source_bodies), of which named nodes are made
+//! dt_source_bodies), from which named nodes are made
 //! (dt_source_nodes); here they become a tree, or why not.
 #![tactic(auto)]
 

@@ -9,7 +9,7 @@ use Rattle.dt_source_bodies.specs.Reading.{Holds}
 use Rattle.dt_source_bodies.specs.Refusals.{overlay_kind}
 use Rattle.dt_source_bodies.specs.declared.reading.Reading.{Reading}
 
--- a fault without a place: memory was refused, or it tells the refusal
+-- a fault without a place: memory was refused, or it is the refusal
 abbrev pub TellsOverlayRefusal : Result OverlaySoFar OverlayRefusal → Fault → Type 0
 TellsOverlayRefusal outcome fault =
     (fault.at ≡ None) × ((fault.kind ≡ NoMemory) ⊎ ((r : OverlayRefusal) × (outcome ≡ Err r) × (fault.kind ≡ overlay_kind r)))

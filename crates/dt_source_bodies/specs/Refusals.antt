@@ -13,7 +13,7 @@ abbrev pub mode_said : Mode → model.Mode
 mode_said Base = model.base
 mode_said Raw = model.raw
 
--- the kind of fault that tells a refusal; nothing that the grammar spells is misplaced
+-- the kind of fault for a refusal; nothing that the grammar spells is misplaced
 abbrev pub refusal_kind : Refusal → FaultKind
 refusal_kind duplicate_property = DuplicateProperty
 refusal_kind duplicate_node = DuplicateNode
@@ -23,7 +23,7 @@ refusal_kind reserved_name = ReservedName
 refusal_kind too_deep = Limit
 refusal_kind misplaced = Syntax
 
--- a fault without a place: memory was refused, or it tells the refusal
+-- a fault without a place: memory was refused, or it is the refusal
 abbrev pub TellsRefusal : Result SoFar Refusal → Fault → Type 0
 TellsRefusal outcome fault = (fault.at ≡ None) × ((fault.kind ≡ NoMemory) ⊎ ((r : Refusal) × (outcome ≡ Err r) × (fault.kind ≡ refusal_kind r)))
 
@@ -31,7 +31,7 @@ TellsRefusal outcome fault = (fault.at ≡ None) × ((fault.kind ≡ NoMemory) �
 abbrev pub WhyNotGrown : model.Mode → List Place → Fault → Type 0
 WhyNotGrown mode places fault = TellsRefusal (read_all mode nothing places) fault
 
--- the kind of fault that tells a refusal of one of the places of an overlay's source
+-- the kind of fault for a refusal of one of the places of an overlay's source
 abbrev pub overlay_kind : OverlayRefusal → FaultKind
 overlay_kind (as_any r) = refusal_kind r
 overlay_kind overlay_delete = OverlayDelete

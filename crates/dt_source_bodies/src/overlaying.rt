@@ -43,7 +43,7 @@ fn is_overlay_value(value: &Value<'_>) -> bool
 }
 
 impl<'s, 'a: 's> Reading<'s, 'a> {
-    /// The root stands from the start.
+    /// The root is there from the start.
     fn begin(&mut self) -> Result<(), AllocError>
         requires whole { IsWhole self.old }
         requires nothing { Holds self.old 0 nothing }

@@ -53,7 +53,7 @@ fn is_kept_back(mode: Mode, depth: usize, name: &[u8]) -> bool
     }
 }
 
-/// Whether an item is known, and stands behind another.
+/// Whether an item is known, and comes after another.
 fn is_later(item: usize, last: Option<usize>) -> bool
     ensures { result ≡ is_behind item last }
 {
@@ -281,7 +281,7 @@ impl<'s, 'a: 's> Reading<'s, 'a> {
         }
     }
 
-    /// Opens a new fragment, with a property that tells its target.
+    /// Opens a new fragment, with a property that holds its target.
     pub fn open_fragment(
         &mut self,
         item: usize,

@@ -154,7 +154,7 @@ impl<'a> Written<'a> {
         Ok(last)
     }
 
-    /// Adds the name of the next new fragment, and tells the number behind its own.
+    /// Adds the name of the next new fragment, and answers the number behind its own.
     fn add_next(
         &self,
         alloc: Global,

@@ -10,7 +10,7 @@
 //!
 //! A node is named by its index, in the order in which nodes were opened; nothing is walked but a path. dt_source_bodies makes
 //! such a tree of a source's items, and
-//! dt_source_nodes the named nodes that it stands for.
+//! dt_source_nodes its named nodes.
 //!
 //! A source with these items is a case of meanings.cases, compiled (docs/CASES.md).
 #![tactic(auto)]

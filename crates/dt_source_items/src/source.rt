@@ -21,7 +21,7 @@ pub enum Reference<'a> {
     Path(PathRef<'a>),
 }
 
-/// How a reference stands in a value.
+/// How a reference is written in a value.
 #[derive(Clone, Copy, Debug, PartialEq, Eq)]
 pub enum Form {
     /// In a cell list: the number of its node, as one cell.
@@ -144,7 +144,7 @@ impl<'a> Source<'a> {
         source_has_places();
     }
 
-    /// Whether it is an overlay's: `/plugin/;` stands behind `/dts-v1/;`.
+    /// Whether it is an overlay's: `/plugin/;` follows `/dts-v1/;`.
     pub fn is_overlay(&self) -> bool
         ensures { result ≡ self.now.plugin }
     {

@@ -18,7 +18,7 @@ pub enum NamedReference<'a> {
     Label(&'a [u8]),
 }
 
-/// Bytes of a value, and the reference that the cell behind them stands for. What a source writes is borrowed from it.
+/// Bytes of a value, and the reference in the cell behind them. What a source writes is borrowed from it.
 #[derive(Drop)]
 pub struct NamedPiece<'a> {
     pub before: CowSlice<'a, u8>,
@@ -39,7 +39,7 @@ pub struct NamedProperty<'a> {
     pub value: NamedValue<'a>,
 }
 
-/// A node by the number of its parent, with its name, its labels and its properties in order. The root stands as its own
+/// A node by the number of its parent, with its name, its labels and its properties in order. The root is its own
 /// parent, and has no name. Names are borrowed from the source's text, but for those that are made for new fragments.
 #[derive(Drop)]
 pub struct NamedNode<'a> {

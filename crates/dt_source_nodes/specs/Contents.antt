@@ -31,7 +31,7 @@ label_at givings i = option_map_or (λ (g : Giving). g.label.now) (slice_get giv
 
 -- ---- values
 
--- each name from the root down, with a `/` before it, where the node's own stands first
+-- each name from the root down, with a `/` before it, where the node's own comes first
 abbrev pub names_text : Stack → List ℕ
 names_text [] = []
 names_text (x ∷ p) = names_text p ++ 47 ∷ x

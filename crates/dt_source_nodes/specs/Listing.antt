@@ -15,7 +15,7 @@ use Rattle.dt_source_nodes.specs.Owned.{AreOwned}
 abbrev pub parent_of : Node → Option ℕ
 parent_of n = if n.stands then Some n.parent else None
 
--- the same of some nodes in order, the first of which is the root
+-- the same of some nodes in order; the first is the root
 abbrev pub parents_of : List Node → List (Option ℕ)
 parents_of [] = []
 parents_of (root ∷ ns) = None ∷ map parent_of ns
@@ -27,18 +27,18 @@ name_of nodes (suc k) = option_map_or (λ (n : Node). name_said n.name) (slice_g
 
 -- ---- rows
 
--- a node and what stands below it, for each of some children of the parent, where the first of them gets this place
+-- a node and what is below it, for each of some children of the parent, where the first of them gets this place
 abbrev pub rows_each : (ℕ → ℕ → List Row) → (place parent : ℕ) → List ℕ → List Row
 rows_each below place parent [] = []
 rows_each below place parent (k ∷ ks) =
     record { node = k; parent = parent } ∷ (below k place ++ rows_each below (suc place + length (below k place)) parent ks)
 
--- what stands below node k, which has this place, as deep as the depth
+-- what is below node k, which has this place, as deep as the depth
 unfoldable pub rows_below : (children : ℕ → List ℕ) → (depth k place : ℕ) → List Row
 rows_below children zero k place = []
 rows_below children (suc depth) k place = rows_each (rows_below children depth) (suc place) place (children k)
 
--- a row with its place, and what stands below its node
+-- a row with its place, and what is below its node
 abbrev pub rows_of : (children : ℕ → List ℕ) → (depth : ℕ) → Row → (place : ℕ) → List Row
 rows_of children depth r place = r ∷ rows_below children depth r.node place
 
@@ -56,12 +56,12 @@ pub record ArePlaces (rows : List Row) (count : ℕ) (places : List (Option ℕ)
 
 -- ---- the named tree
 
--- some siblings with what stands below them
+-- some siblings with what is below them
 abbrev pub trees_of : (ℕ → Name) → (ℕ → Content NodeReference) → (ℕ → NamedForest NodeReference) → List ℕ → NamedForest NodeReference
 trees_of name content below [] = no_nodes
 trees_of name content below (k ∷ ks) = branch (name k) (content k) (below k) (trees_of name content below ks)
 
--- what stands below node k, as deep as the depth
+-- what is below node k, as deep as the depth
 unfoldable pub forest_below : (ℕ → Name) → (ℕ → Content NodeReference) → (children : ℕ → List ℕ) → (depth k : ℕ) → NamedForest NodeReference
 forest_below name content children zero k = no_nodes
 forest_below name content children (suc depth) k = trees_of name content (forest_below name content children depth) (children k)

@@ -1,4 +1,4 @@
-//! The named nodes that a grown tree stands for: those that weren't deleted, in preorder, each with its properties and labels in the order of the text; in
+//! The named nodes of a grown tree: those that weren't deleted, in preorder, each with its properties and labels in the order of the text; in
 //! their values references are read, to places among these nodes, and the phandles that are written differ (Devicetree Specification v0.4, 2.3.3).
 //!
 //! ```text

@@ -10,7 +10,7 @@ use dt_names::limits::MOST_NAMES;
 use dt_source_growing::Node;
 use std::alloc::{AllocError, Global};
 
-/// A node of the tree under construction, and the place of its parent in the preorder. The root stands as its own parent.
+/// A node of the tree under construction, and the place of its parent in the preorder. The root is its own parent.
 #[derive(Clone, Copy)]
 pub(crate) struct Row {
     pub node: usize,
@@ -25,7 +25,7 @@ fn push(rows: &mut Vec<Row>, row: Row) -> Result<(), AllocError>
     Ok(())
 }
 
-/// Adds a node and what stands below it, as deep as `depth`.
+/// Adds a node and what is below it, as deep as `depth`.
 fn add(rows: &mut Vec<Row>, children: &Groups, row: Row, depth: usize) -> Result<(), AllocError>
     ensures { OnOk result
         (rows.new.items ≡ rows.old.items ++ rows_of (group_of children.now) depth row (length rows.old.items)) }

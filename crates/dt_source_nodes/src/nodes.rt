@@ -1,4 +1,4 @@
-//! The nodes of the named tree that a tree under construction stands for.
+//! The nodes of the named tree of a tree under construction.
 
 ghost use Rattle.std.specs.Prelude.{◌≡◌, [], length, map, MatchResult};
 ghost use Rattle.dt_source_named_tree.specs.Said.{node_said};

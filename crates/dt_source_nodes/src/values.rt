@@ -215,7 +215,7 @@ impl Resolver<'_, '_, '_> {
         Ok(())
     }
 
-    /// Adds a reference as it stands in a value.
+    /// Adds a reference in the form that it has in a value.
     fn add_reference<'a>(
         &self,
         alloc: Global,

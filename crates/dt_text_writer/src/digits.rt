@@ -13,7 +13,7 @@ pub fn write_digits(bytes: &[u8], digits: &mut [u8])
     let _ = hex::encode_to_slice(bytes, digits);
 }
 
-/// Whether a zero stands before another digit.
+/// Whether a zero comes before another digit.
 fn has_idle_zero(digits: &[u8]) -> bool
     ensures idle { OnTrue result ((0 < length digits.now) × (significant digits.now ≡ significant (drop 1 digits.now))) }
     ensures none { OnFalse result (significant digits.now ≡ digits.now) }

@@ -11,7 +11,7 @@ nodes_among i (n ∷ ns) p =
     then node i n.name n.properties (nodes_among (suc i) ns i) (nodes_among (suc i) ns p)
     else nodes_among (suc i) ns p
 
--- what stands below p
+-- what is below p
 abbrev pub nodes_below : List Slot → ℕ → Nodes
 nodes_below slots p = nodes_among (suc p) (drop (suc p) slots) p
 

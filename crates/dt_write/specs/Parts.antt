@@ -13,7 +13,7 @@ abbrev pub trees_at : List Slot → List ℕ → Forest
 trees_at slots [] = no_nodes
 trees_at slots (p ∷ ps) = branch (name_of slots p) (properties slots p) (below slots p) (trees_at slots ps)
 
--- node p with what stands below it
+-- node p with what is below it
 abbrev pub tree_at : List Slot → ℕ → Forest
 tree_at slots p = branch (name_of slots p) (properties slots p) (below slots p) no_nodes
 

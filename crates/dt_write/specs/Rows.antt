@@ -21,7 +21,7 @@ leading bytes (suc count) = leading bytes count * 256 + slice_index_or bytes cou
 abbrev pub tail_of : Name → ℕ
 tail_of name = leading (reverse name) 8
 
--- names with their numbers, of which the first is given
+-- names with their numbers; the first is given
 abbrev pub rows_from : ℕ → List (Bor (List ℕ)) → List Row
 rows_from number [] = []
 rows_from number (name ∷ names) = record { name = name; number = number; tail = tail_of name.now } ∷ rows_from (suc number) names
@@ -31,7 +31,7 @@ pub record AreRows (names : List (Bor (List ℕ))) (rows : List Row) : Type 0 wh
   pub numbered : IsPermutation (rows_from 0 names) rows
   pub fall : IsSortedBy (λ (a b : Row). is_lt (slice_cmp nat_cmp (reverse b.name.now) (reverse a.name.now))) rows
 
--- the lesser of two numbers, of which one may not be there
+-- the lesser of two numbers; one may be missing
 abbrev pub lesser : Option ℕ → ℕ → ℕ
 lesser None n = n
 lesser (Some a) n = if nat_lt a n then a else n

@@ -68,7 +68,7 @@ nodes_block names no_nodes = []
 nodes_block names (branch name ps cs ss) =
     begin_block name ++ flat_map (property_block names) ps ++ nodes_block names cs ++ word 2 ++ nodes_block names ss
 
--- the root and its name, which is empty, with all that stands below it
+-- the root and its name, which is empty, with all that is below it
 abbrev pub root_node : Reading → Forest
 root_node t = branch [] t.properties t.children no_nodes
 

@@ -72,7 +72,7 @@ impl<'t> Names<'t> {
         Ok(())
     }
 
-    /// Notes the names of a node's properties, and then those of all that stands below it.
+    /// Notes the names of a node's properties, and then those of all that is below it.
     pub fn note_node(&mut self, tree: &'t FlatTree, node: NodeId) -> Result<(), AllocError>
         requires { node < length tree.now.slots }
         ensures { OnOk result (self.new ≡ used_below self.old (tree_at tree.now.slots node)) }

@@ -78,7 +78,7 @@ fn rows_of<'t>(alloc: Global, names: &[&'t [u8]]) -> Result<Vec<Row<'t>>, AllocE
     Ok(rows)
 }
 
-/// The lesser of two numbers, of which the first may not be there.
+/// The lesser of two numbers; the first may be missing.
 fn lesser(least: Option<usize>, number: usize) -> usize
     ensures { result ≡ lesser least number }
 {

@@ -72,7 +72,7 @@ fn put_properties(props: Props<'_>, strings: &Strings<'_>, out: &mut Vec<u8>) ->
     Ok(())
 }
 
-/// Puts a node with all that stands below it at the end of the structure block.
+/// Puts a node with all that is below it at the end of the structure block.
 pub(crate) fn put_node(
     tree: &FlatTree,
     node: NodeId,

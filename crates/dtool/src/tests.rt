@@ -259,7 +259,7 @@ fn texts_into_a_sink_that_fails(rt: HostRuntime) -> Result<(), Fail> {
     Ok(())
 }
 
-/// Whether a sink tells how much it took, and fails for good.
+/// Whether a sink reports how much it took, and fails for good.
 fn fails_for_good(alloc: Global) -> bool {
     let mut out = Out::new(make_narrow(alloc, 1, 7, End::Fails));
     let is_taken = put_all(&mut out, b"").is_ok()
@@ -506,7 +506,7 @@ fn words_that_are_none(rt: HostRuntime) {
     }
 }
 
-/// Whether a file of the system is read, and one that isn't there is told.
+/// Whether a file of the system is read, and one that isn't there is reported.
 fn is_read_until_removed(rt: &HostRuntime) -> Result<bool, Fail> {
     fs::write(rt, "input-of-a-test.dts", SOURCE)?;
     let mut files = SystemFiles::new(rt);
@@ -601,7 +601,7 @@ fn is_done(alloc: Global, text: &str, out: &[u8]) -> bool {
     ends(alloc, text, Some(usize::MAX), &ending)
 }
 
-/// Whether a run on files that fail so many bytes on or have no end tells this fault, asks for so many files, and writes nothing.
+/// Whether a run on files that fail so many bytes on or have no end reports this fault, asks for so many files, and writes nothing.
 fn is_faulty(alloc: Global, text: &str, until: Option<usize>, asked: usize, err: &[u8]) -> bool {
     let ending = Ending {
         status: 1,
@@ -645,7 +645,7 @@ const RUNS: [&str; 9] = [
     "dtool spec a.dts / p k 0",
 ];
 
-/// Whether each command tells a file that fails, whichever byte it fails at, and one that has no end.
+/// Whether each command reports a file that fails, whichever byte it fails at, and one that has no end.
 fn are_bad_files_told(alloc: Global) -> bool {
     RUNS.into_iter().all(|words| {
         is_faulty(alloc, words, None, 1, TOO_LONG)
@@ -691,7 +691,7 @@ fn statuses(rt: HostRuntime) {
     }
 }
 
-/// Takes all bytes, and tells only where it is flushed that they didn't arrive.
+/// Takes all bytes, and reports only when it is flushed that they didn't arrive.
 #[derive(Drop)]
 struct Full;
 
