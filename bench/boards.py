@@ -1,5 +1,5 @@
 #!/usr/bin/env python3
-"""Compiles every source below a folder with dtool and with dtc, compares what the blobs say, and tells the ratios of time
+"""Compiles every source below a folder with dtool and with dtc, compares what the blobs say, and prints the ratios of time
 and of memory, and how long the blobs are.
 
     python3 bench/boards.py crates/dtool/out/dtool FOLDER [RUNS]
@@ -48,7 +48,7 @@ def make(linux, folder):
 
 
 def run(command, seconds=60):
-    """The bytes that a command writes, its status, the last line that it tells, and its wall time."""
+    """The bytes that a command writes, its status, the last line of its standard error, and its wall time."""
     with tempfile.TemporaryFile() as out, tempfile.TemporaryFile() as told:
         status, took = timed(command, out, told, seconds)
         out.seek(0)

@@ -1,5 +1,5 @@
 #!/usr/bin/env python3
-"""Builds all blobs of an architecture of a Linux source tree with tools/dtc in place of dtc, compares what they say, and tells the time of both builds.
+"""Builds all blobs of an architecture of a Linux source tree with tools/dtc in place of dtc, compares what they say, and prints the time of both builds.
 
     python3 bench/builds.py crates/dtool/out/dtool LINUX FOLDER [ARCH] [JOBS] [CONFIG]
 

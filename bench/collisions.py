@@ -30,7 +30,7 @@ static inline uint64_t with_bytes(uint64_t state, uint64_t bytes, uint64_t count
     unsigned __int128 product = (unsigned __int128)(state ^ bytes) * (MULTIPLIER ^ 2 * count);
     return (uint64_t)product ^ (uint64_t)(product >> 64);
 }
-/* the class is hash % 2; the five bits are told by 20 bits of the hash each, from each tenth on */
+/* the class is hash % 2; 20 bits of the hash each give the five bits, from each tenth on */
 static const uint64_t FIXED = 1 | 7ull << 17 | 7ull << 27 | 7ull << 37 | 7ull << 47 | 7ull << 57;
 int main(int argc, char **argv) {
     long left = atol(argv[1]);

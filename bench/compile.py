@@ -1,5 +1,5 @@
 #!/usr/bin/env python3
-"""Times `dtool compile` beside dtc on a made-up source, tells the memory of both, and compares what they make.
+"""Times `dtool compile` beside dtc on a made-up source, prints the memory of both, and compares what they make.
 
     python3 bench/compile.py crates/dtool/out/dtool
 

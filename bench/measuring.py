@@ -1,6 +1,6 @@
 """The time and the memory that a command takes.
 
-Memory is told by GNU's `time` (`apt-get install time`): what `os.wait4` tells of a child is at least what this process had when
+GNU's `time` (`apt-get install time`) reports memory: what `os.wait4` reports of a child is at least what this process had when
 it started the child, which is more than a small compiler takes; `time` is small itself."""
 import subprocess
 import tempfile

@@ -1,6 +1,6 @@
 #!/usr/bin/env python3
 """Applies the overlays of a Linux source tree to their boards with dtool and with fdtoverlay, compares what the results say, and
-tells the ratios of time.
+prints the ratios of time.
 
     python3 bench/pairs.py crates/dtool/out/dtool LINUX FOLDER
 

@@ -1,15 +1,15 @@
 #!/usr/bin/env python3
-"""Refuses each allocation of the programs in turn, and looks whether it is told as it has to be.
+"""Refuses each allocation of the programs in turn, and checks that the refusal is reported as it has to be.
 
     python3 bench/refused_memory.py [--step N] [--only WORD] crates/dtool/out/dtool crates/dt_cases/out/dt_cases
 
 Each command of `dtool`, on small sources of a base and of two overlays and on their blobs, has to end with status 1, fault 1 of one of its
 inputs, and nothing written; first while they are loaded, one after another, and then while they are worked on, one after another.
 
-Each case of `dt_cases` runs by itself, but for those that repeat something a thousand times, which are named. It has to answer fault 1 in the
-place of what is right (90 where the sink is memory that grows), or to end with status 2 where its own table couldn't be read. Where it tells the
+Each case of `dt_cases` runs by itself, but for those that repeat something a thousand times, which the script names. It has to answer fault 1 in the
+place of what is right (90 where the sink is memory that grows), or to end with status 2 where its own table couldn't be read. Where it names the
 input, the number never falls from one refused allocation to the next, and each input's occurs. A script of `tree` goes on behind the step to
-which memory was refused, and tells of the tree what it would tell without that step.
+which memory was refused, and prints of the tree what it would print without that step.
 
 The right answer may come all the same only where the toolchain's library asked again, at once and for no more: `collect` asks for as much as
 its iterator hints at, and where that is refused for what it needs.

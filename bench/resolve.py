@@ -4,7 +4,7 @@ blobs of a folder.
 
     python3 bench/resolve.py crates/dtool/out/dtool [FOLDER]
 
-Of a folder it also counts the lines by what they tell: `whole`, `cut`, `hops N`, or the name of the fault. There it asks each node directly below a bus
+Of a folder it also counts the lines by what they hold: `whole`, `cut`, `hops N`, or the name of the fault. There it asks each node directly below a bus
 with `dma-ranges` for the address 0 and for the first one that a range holds, and each entry of each property `Xs` or `Y-Xs`, but for interrupts, whose first
 cell is the phandle of a node with `#X-cells`."""
 import collections
@@ -197,7 +197,7 @@ BLOBS = [
 
 
 def told(line):
-    """What a line tells, in a word or two."""
+    """What a line says, in a word or two."""
     words = line.split()
     if b"fault" in words:
         return words[-1].decode()
@@ -237,7 +237,7 @@ def dma_questions(tree):
 
 
 def specifier_questions(tree):
-    """Of each list of phandles with specifiers: each entry, as long as providers tell how many cells they want."""
+    """Of each list of phandles with specifiers: each entry, as long as providers say how many cells they want."""
     by_number = {int.from_bytes(number, "big"): dict(tree.nodes)[path] for number, path in tree.numbers.items()}
     for path, properties in tree.nodes:
         for name, value in properties.items():

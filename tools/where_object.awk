@@ -62,7 +62,7 @@ function texts_of(printed, texts,    n, i, c, part) {
     return n - 1
 }
 
-# ---- what is told
+# ---- what is printed
 
 function is_reserved(path) { return path ~ /^\/(__symbols__|__fixups__|__local_fixups__)(\/|$)/ }
 
