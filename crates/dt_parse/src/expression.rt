@@ -279,9 +279,15 @@ fn behind<'a>(tokens: &'a [Token]) -> &'a [Token]
     }
 }
 
+/// Most expressions have at most this many steps, and room for so many is had at once.
+const FEW: usize = 16;
+
 fn push_step(out: &mut Vec<Step>, step: Step) -> Result<(), AllocError>
     ensures { OnOk result (out.new.items ≡ out.old.items ++ step ∷ []) }
 {
+    if out.capacity() == 0 {
+        out.reserve(FEW)?;
+    }
     out.push(step)?;
     Ok(())
 }

@@ -1,6 +1,6 @@
 //! Sources: headers, reservations and statements.
 
-ghost use Rattle.std.specs.Prelude.{◌≡◌, ◌↔◌, ◌-◌, ◌<◌, ◌≤◌, [], Some, None, List, ℕ, map, drop, length, OnOk, IfOk, IfErr, IsTrue};
+ghost use Rattle.std.specs.Prelude.{◌≡◌, ◌≢◌, ◌↔◌, ◌-◌, ◌<◌, ◌≤◌, [], Some, None, List, ℕ, map, drop, length, OnOk, IfOk, IfErr, MatchOption, IsTrue};
 ghost use Rattle.std.specs.List.{AllByRecursion};
 ghost use Rattle.dt_names.specs.declared.fault.FaultKind.{FaultKind};
 ghost use Rattle.dt_names.specs.declared.fault.FaultKind.TheVariants.{NoMemory};
@@ -11,11 +11,11 @@ ghost use Rattle.dt_grammar.specs.Words.{Words};
 ghost use Rattle.dt_grammar.specs.WordBytes.{HaveBytes};
 ghost use Rattle.dt_grammar.specs.Unchecked.{RawPlace, RawReserve, RawSource, reserve_of, all_but_last, says_of};
 ghost use Rattle.dt_grammar.specs.Strict.{AreLabelTexts, IsReserve};
-ghost use Rattle.dt_grammar.specs.Wanted.{Made, kind_at, made_places, made_behind, made_source, Whole};
+ghost use Rattle.dt_grammar.specs.Wanted.{Made, kind_at, made_labels, made_places, made_behind, made_source, SomeLabels, Whole};
 ghost use Rattle.dt_grammar.specs.Wanted.{MoreHeaders, NextVersion, Top, AfterTopLabels, StatementThen};
 ghost use Rattle.dt_grammar.specs.Moves.{source_with};
 ghost use Rattle.dt_grammar.specs.Descent.{first, found, Descends};
-ghost use Rattle.dt_grammar.specs.Faults.{outside, Breaks};
+ghost use Rattle.dt_grammar.specs.Faults.{Around, outside, Breaks};
 ghost use Rattle.dt_parse.specs.Reading.{IsRead, IsBroken, IsSourceFault};
 ghost use Rattle.dt_grammar.specs.Parsed.{IsTagged, token_place, told_at, IsParsed, WhyNotParsed};
 ghost use Rattle.dt_parse.specs.Leading.{ReadsOn, Reserves};
@@ -112,6 +112,34 @@ fn reservation(alloc: Global, cursor: &mut Cursor<'_, '_>) -> Result<Reservation
     Ok(Reservation { address, size })
 }
 
+/// Whether a reservation is next.
+fn at_reservation(cursor: &Cursor<'_, '_>) -> bool
+    ensures { IsTrue result ↔ (kind_at (first cursor.now) ≡ Some (kind.Keyword keyword.Memreserve)) }
+{
+    matches!(cursor.kind(), Some(TokenKind::Keyword(Keyword::Memreserve)))
+}
+
+/// The labels of the first statement. None where a reservation is next, whose labels are passed.
+#[inline(always)]
+fn statement_labels<'a>(
+    alloc: Global,
+    cursor: &mut Cursor<'a, '_>,
+) -> Result<Option<Vec<Label<'a>>>, Stop>
+    ensures ok { IfOk result (λ found. (ls : List (List ℕ)) × ((a : Around) → IsRead a SomeLabels cursor.old (made_labels ls) cursor.new)
+        × MatchOption found (kind_at (first cursor.new) ≡ Some (kind.Keyword keyword.Memreserve))
+        (λ names. (names.items ≡ map all_but_last ls) × (kind_at (first cursor.new) ≢ Some (kind.Keyword keyword.Memreserve)))) }
+    ensures err { IfErr result (λ stop. (a : Around) → IsBroken a SomeLabels cursor.old stop) }
+{
+    if at_reservation(cursor) {
+        return Ok(None);
+    }
+    let names = labels(alloc, cursor)?;
+    if at_reservation(cursor) {
+        return Ok(None);
+    }
+    Ok(Some(names))
+}
+
 /// Reads the reservations, and the labels of the first statement behind them.
 fn reservations<'a>(
     alloc: Global,
@@ -126,8 +154,7 @@ fn reservations<'a>(
 {
     let mut list = Vec::new(alloc);
     'reservations: loop {
-        let names = labels(alloc, cursor)?;
-        if cursor.kind() != Some(TokenKind::Keyword(Keyword::Memreserve)) {
+        if let Some(names) = statement_labels(alloc, cursor)? {
             return Ok((list, names));
         }
         let next = reservation(alloc, cursor)?;

@@ -1,13 +1,8 @@
-use Rattle.std.proofs.Common.{◌≢◌, Some, sym, ◌∙◌, ap, ◌++◌, ◌∷◌, [], map, arith}
-use Rattle.std.proofs.lemmas.Bool.{not-true}
-use Rattle.dt_lex.specs.declared.token.TokenKind.TheVariants as kind
-use Rattle.dt_lex.specs.declared.token.Keyword.TheVariants as keyword
-use Rattle.dt_grammar.specs.Descent.{first}
+use Rattle.std.proofs.Common.{ap, ◌++◌, ◌∷◌, [], map, arith}
 use Rattle.dt_grammar.specs.Faults.{outside}
 use Rattle.dt_parse.specs.Reading.{IsBroken}
 use Rattle.dt_source_items.specs.Said.{reservation_said}
-use Rattle.dt_grammar.specs.Wanted.{Top, kind_at}
-use Rattle.dt_grammar.proofs.SameKinds.{other_next}
+use Rattle.dt_grammar.specs.Wanted.{Top}
 use Rattle.dt_parse.proofs.Leading.{handed_on}
 use Rattle.dt_parse.proofs.ReadCells.{no_more}
 use Rattle.dt_parse.proofs.ReadReserves.{none_read, top_stop, reserve_stop, another_read, statements_follow, statements_break, said_more}
@@ -22,19 +17,19 @@ returns-in_err-names-clause-err c =
     handed_on c.from_residual.result c.in_err-names.field-0.0 (λ stop. IsBroken outside Top c.args.cursor.now stop) c.from_residual.ensures.1
     (top_stop c.args.cursor.now c.reservations.cursor i.0 _ i.1 c.in_err-names.ensures.err)
 
-pub returns-then-ne-clause-ok : goal.returns-then-ne-clause-ok
-returns-then-ne-clause-ok c =
+pub returns-in-Some-clause-ok : goal.returns-in-Some-clause-ok
+returns-in-Some-clause-ok c =
     let i = c.reservations.invariant in
     let r = c.in_ok-names.ensures.ok in
-    let n : kind_at (first c.labels.new.cursor) ≢ Some (kind.Keyword keyword.Memreserve) = λ e. other_next c.kind.result _ (not-true _ (sym c.if-ne.ensures)) (c.kind.ensures ∙ e) in
-    (i.0, r.0, i.1.sound, (r.1 outside).fine, i.2, r.2, statements_follow _ _ c.labels.new.cursor i.0 r.0 i.1 r.1 n, statements_break _ _ c.labels.new.cursor i.0 r.0 i.1 r.1 n)
+    let named = rw c.in-Some.is at r.2 in
+    (i.0, r.0, i.1.sound, (r.1 outside).fine, i.2, named.0, statements_follow _ _ c.statement_labels.new.cursor i.0 r.0 i.1 r.1 named.1, statements_break _ _ c.statement_labels.new.cursor i.0 r.0 i.1 r.1 named.1)
 
 pub returns-in_err-next-clause-err : goal.returns-in_err-next-clause-err
 returns-in_err-next-clause-err c =
     let i = c.reservations.invariant in
     let r = c.in_ok-names.ensures.ok in
     handed_on c.from_residual-in_err-next.result c.in_err-next.field-0.0 (λ stop. IsBroken outside Top c.args.cursor.now stop) c.from_residual-in_err-next.ensures.1
-    (reserve_stop c.args.cursor.now c.reservations.cursor c.labels.new.cursor i.0 r.0 _ i.1 r.1 c.in_err-next.ensures.err)
+    (reserve_stop c.args.cursor.now c.reservations.cursor c.statement_labels.new.cursor i.0 r.0 _ i.1 r.1 c.in_err-next.ensures.err)
 
 pub reservations-smaller : goal.reservations-smaller
 reservations-smaller c =
@@ -49,6 +44,6 @@ reservations-preserved c =
     let r = c.in_ok-names.ensures.ok in
     let q = c.in_ok-next.ensures.ok r.0 (r.1 outside).fine in (
       i.0 ++ q.reserve ∷ [],
-      another_read c.args.cursor.now c.reservations.cursor c.labels.new.cursor c.reservation.new.cursor i.0 r.0 _ i.1 r.1 q,
+      another_read c.args.cursor.now c.reservations.cursor c.statement_labels.new.cursor c.reservation.new.cursor i.0 r.0 _ i.1 r.1 q,
       said_more c.reservations.list.items c.push.new.self.items i.0 c.in_ok-next.next q.reserve i.2 c.in_ok-push.ensures.items q.said,
     )
