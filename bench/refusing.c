@@ -10,11 +10,12 @@
 #include <errno.h>
 #include <execinfo.h>
 #include <fcntl.h>
+#include <malloc.h>
 #include <stdio.h>
 #include <stdlib.h>
 #include <unistd.h>
 
-enum { BEGIN = 65521, END = 65519, DEEPEST = 8 };
+enum { BEGIN = 65521, END = 65519, DEEPEST = 8, SLACK = 64 };
 
 static long count, refused = -1, begun, refused_still;
 static int is_own, is_still, tell = -1;
@@ -73,7 +74,11 @@ static int is_refused(size_t size) {
 #define NEXT(name) (__typeof__(&name))dlsym(RTLD_NEXT, #name)
 void *malloc(size_t size) { return is_refused(size) ? NULL : (NEXT(malloc))(size); }
 void *calloc(size_t many, size_t size) { return is_refused(many * size) ? NULL : (NEXT(calloc))(many, size); }
-void *realloc(void *p, size_t size) { return is_refused(size) ? NULL : (NEXT(realloc))(p, size); }
+/* A block that shrinks asks for no memory, so that can't be refused. malloc rounds sizes up, by less than the slack. */
+static int shrinks(void *p, size_t size) { return p && size + SLACK <= malloc_usable_size(p); }
+void *realloc(void *p, size_t size) {
+    return !shrinks(p, size) && is_refused(size) ? NULL : (NEXT(realloc))(p, size);
+}
 void *aligned_alloc(size_t align, size_t size) {
     return is_refused(size) ? NULL : (NEXT(aligned_alloc))(align, size);
 }
