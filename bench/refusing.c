@@ -74,7 +74,8 @@ static int is_refused(size_t size) {
 #define NEXT(name) (__typeof__(&name))dlsym(RTLD_NEXT, #name)
 void *malloc(size_t size) { return is_refused(size) ? NULL : (NEXT(malloc))(size); }
 void *calloc(size_t many, size_t size) { return is_refused(many * size) ? NULL : (NEXT(calloc))(many, size); }
-/* A block that shrinks asks for no memory, so that can't be refused. malloc rounds sizes up, by less than the slack. */
+/* A block that shrinks asks for no memory, so that can't be refused. malloc rounds a size up by less than the slack, or to whole pages: there a block
+   that grows inside of its last page isn't refused either. */
 static int shrinks(void *p, size_t size) { return p && size + SLACK <= malloc_usable_size(p); }
 void *realloc(void *p, size_t size) {
     return !shrinks(p, size) && is_refused(size) ? NULL : (NEXT(realloc))(p, size);
