@@ -26,7 +26,8 @@ const TEXT: &[u8] = b"/dts-v1/;\n/ {\n};\n";
 const COUNTS: &[u8] = b"ok nodes 1 properties 0 reservations 0\n";
 
 const BOARD: &[u8] =
-    b"/dts-v1/; / { #address-cells = <1>; #size-cells = <1>; i: ic { interrupt-controller; #interrupt-cells = <1>; }; d { reg = <16 2>, <32 1>; interrupt-parent = <&i>; interrupts = <5>; links = <&i 5>; }; };";
+    b"/dts-v1/; / { #address-cells = <1>; #size-cells = <1>; i: ic { interrupt-controller; #interrupt-cells = <1>; }; \
+        d { reg = <16 2>, <32 1>; interrupt-parent = <&i>; interrupts = <5>; links = <&i 5>; }; };";
 
 const REGIONS: &[u8] = b"/d 0 0x10 0x2 whole\n/d 1 0x20 0x1 whole\n";
 
@@ -134,7 +135,8 @@ fn are_jobs_cut(alloc: Global, blob: &[u8]) -> bool {
             Job::Build,
             true,
             SOURCE,
-            b"d00dfeed0000004800000038000000480000002800000011000000100000000000000000000000100000000000000000000000000000000000000001000000000000000200000009\n",
+            b"d00dfeed000000480000003800000048000000280000001100000010000000000000000000000010\
+                0000000000000000000000000000000000000001000000000000000200000009\n",
         )
         && is_cut_anywhere(alloc, Job::Apply, false, blob, blob)
         && is_cut_anywhere(alloc, Job::Print, true, blob, TEXT)
