@@ -1,12 +1,14 @@
 -- Letters at the front of a text, and what they make between quotes.
-use Rattle.std.proofs.Common.{◌≡◌, ℕ, ◌<◌, ◌≤◌, true, false, List, [], ◌∷◌, ◌++◌, length, Option, Some, None, inl, inr, ⊎_elim, refl, sym, ◌∙◌, ap, subst, append_assoc, arith, length-append}
-use Rattle.std.specs.Prelude.{slice_index}
+use Rattle.std.proofs.Common.{◌≡◌, ℕ, suc, ◌<◌, ◌≤◌, Bool, true, false, List, [], ◌∷◌, ◌++◌, length, Option, Some, None, inl, inr, ⊎_elim, refl, sym, ◌∙◌, ap, subst, append_assoc, arith, length-append}
+use Rattle.std.specs.Prelude.{slice_index, ◌==◌, if◌then◌else◌}
 use Rattle.std.specs.Borrow.{Bor}
 use Rattle.std.proofs.str.Laws.{order}
 use Rattle.dt_lex.specs.declared.byte.Class.{Class}
 use Rattle.dt_lex.specs.declared.byte.Class.TheVariants as class
 use Rattle.dt_lex.specs.Bytes.{is_in}
-use Rattle.dt_lex.specs.Words.{Word, Then, IsLongestWord, NoneFits, Skips}
+use Rattle.memchr.specs.Find.{Passes, Nowhere, is_byte}
+use Rattle.dt_lex.specs.Words.{Each, Word, Then, IsLongestWord, NoneFits, Skips}
+use Rattle.dt_lex.specs.Texts.{plain, behind_backslash, unescaped}
 use Rattle.dt_lex.specs.Vocabulary.{Escape, IsInside, nothing, itself, escaped, TextWord, IsCharacter, itself_alone, escaped_alone, CharacterWord}
 use Rattle.dt_lex.specs.Letters.{Letter, ClosedText, ClosedCharacter}
 use Rattle.dt_lex.proofs.WordLemmas.{same_head}
@@ -212,6 +214,26 @@ closed_stuck s not_here none x more e (u, v, f, i) = at i (e ∙ ap (λ (y : Lis
     at (itself b y z h k) g = none (b ∷ []) ((y ++ 34 ∷ []) ++ more) g (inl (b, refl, h))
     at (escaped a y z b h k j) g =
         none a ((y ++ 34 ∷ []) ++ more) (g ∙ ap (λ (x : List ℕ). x ++ more) (append_assoc a y (34 ∷ [])) ∙ append_assoc a (y ++ 34 ∷ []) more) (inr (b, h))
+
+-- bytes that mean themselves in front
+pub closed_run : (w s t : List ℕ) → s ≡ w ++ t → Each (is_in class.Quoted) w → (r : Option (Bor (List ℕ))) → Skips ClosedText t r → Skips ClosedText s r
+closed_run [] s t e each r h = subst (λ (x : List ℕ). Skips ClosedText x r) (sym e) h
+closed_run (b ∷ w) s t e each r h =
+    closed_go s (b ∷ []) (w ++ t) not_here (letter_itself class.Quoted refl s b (w ++ t) e each.0) r (closed_run w (w ++ t) t refl each.1 r h)
+  where
+    not_here : NoneFits (Word (34 ∷ [])) s
+    not_here v more f g =
+        let whole : b ∷ (w ++ t) ≡ 34 ∷ more = sym e ∙ f ∙ ap (λ (x : List ℕ). x ++ more) g in
+        quote_not b each.0 (sym (same_head b 34 (w ++ t) more whole))
+
+-- bytes without a backslash mean themselves
+pub plain_letters : (w : List ℕ) → Nowhere (Passes (is_byte 92) w) 0 (length w) → unescaped plain w ≡ w
+plain_letters [] none = refl
+plain_letters (b ∷ w) none = by (plain_letters w (λ i low high. none (suc i) (omega arith) (omega (arith, high)))) (b == 92) (none 0 (omega arith) (omega arith))
+  where
+    by : unescaped plain w ≡ w → (t : Bool) → (t ≡ true → ⊥) → (if t then unescaped behind_backslash w else b ∷ unescaped plain w) ≡ b ∷ w
+    by rest true h = absurd (h refl)
+    by rest false h = ap (λ (x : List ℕ). b ∷ x) rest
 
 pub text_to : (w : List ℕ) → Then (Word (34 ∷ [])) ClosedText w → TextWord w
 text_to w (u, v, e, f, (x, y, g, i)) =

@@ -1,8 +1,13 @@
 -- A number that is read digit by digit, and stops where it leaves 64 bits.
-use Rattle.std.proofs.Common.{◌≡◌, ℕ, ◌+◌, ◌*◌, ◌<◌, ◌≤◌, ◌^◌, Bool, true, false, List, [], ◌∷◌, Option, Some, None, refl, sym, ◌∙◌, ap, arith, le-ltb}
+use Rattle.std.proofs.Common.{◌≡◌, ℕ, zero, suc, nat_eq, bit_and, get_or, inl, inr, ◌+◌, ◌*◌, ◌<◌, ◌≤◌, ◌^◌, Bool, true, false, List, [], ◌∷◌, Option, Some, None, refl, sym, ◌∙◌, ap, arith, le-ltb}
 use Rattle.std.specs.Prelude.{◌&&◌, ◌||◌, nat_lt, if◌then◌else◌}
-use Rattle.std.proofs.lemmas.Bool.{ltb-true, ltb-false, lt-ltb}
+use Rattle.std.proofs.lemmas.Bool.{ltb-true, ltb-false, lt-ltb, eqb-true, cases_eq}
+use Rattle.std.proofs.lemmas.Bool.Decides.{nat_tests}
 use Rattle.std.proofs.Math.Nat.{mul-le-mul_left}
+use Rattle.dt_lex.specs.declared.byte.Class.{Class}
+use Rattle.dt_lex.specs.declared.byte.Class.TheVariants as class
+use Rattle.dt_lex.specs.Bytes.{is_in}
+use Rattle.dt_lex.specs.Vocabulary.{IsDigits}
 use Rattle.dt_lex.specs.Numbers.{digit_of, digits, number_behind, all_below, integer_of}
 
 abbrev pub value_at : ℕ → ℕ → List ℕ → Option ℕ
@@ -67,3 +72,48 @@ scaled_some v b d e m h n =
 
 pub value_next : (base n d m : ℕ) (ds : List ℕ) → d < base → (nat_lt (n * base + d) (2 ^ 64) ≡ true) × (m ≡ n * base + d) → value_at base n (d ∷ ds) ≡ value_at base m ds
 value_next base n d m ds h is = rw (lt-ltb d base h, is.0) (ap (λ (x : ℕ). value_at base x ds) (sym is.1))
+
+-- ---- the values of digits
+
+both_true : (a b : Bool) → (a && b) ≡ true → (a ≡ true) × (b ≡ true)
+both_true true b h = (refl, h)
+both_true false b h = cc
+
+-- the two functions agree below n
+unfoldable pub same_below : (ℕ → ℕ) → (ℕ → ℕ) → ℕ → Bool
+same_below f g zero = true
+same_below f g (suc n) = nat_eq (f n) (g n) && same_below f g n
+
+same_at : (f g : ℕ → ℕ) (n : ℕ) → same_below f g n ≡ true → (b : ℕ) → b < n → f b ≡ g b
+unfolding same_below
+same_at f g zero h b lt = absurd (omega arith)
+same_at f g (suc n) h b lt =
+    let both = both_true (nat_eq (f n) (g n)) (same_below f g n) h in
+    elim (cases_eq b n) [ inl same ↦ rw same (eqb-true (f n) (g n) both.0) | inr other ↦ same_at f g n both.1 b (omega arith) ]
+
+abbrev pub kept_digit : List ℕ → ℕ → ℕ
+kept_digit table b = bit_and (get_or table b 0) 31
+
+abbrev pub digit_or_none : ℕ → ℕ
+digit_or_none b = if is_in class.Hex b then digit_of b else 31
+
+-- a table of 256 bytes has the values of all digits
+pub from_digits : (table : List ℕ) (b : ℕ) → b < 256 → same_below (kept_digit table) digit_or_none 256 ≡ true → kept_digit table b ≡ digit_or_none b
+from_digits table b lt h = same_at (kept_digit table) digit_or_none 256 h b lt
+
+pub digit_is : (b : ℕ) → is_in class.Hex b ≡ true → digit_or_none b ≡ digit_of b
+digit_is b h = rw h refl
+
+-- a byte whose value is below 17 is a digit
+pub digit_below : (b base d : ℕ) → base ≤ 16 → d ≡ digit_or_none b → d < base → (is_in class.Hex b ≡ true) × (d ≡ digit_of b)
+digit_below b base d most e lt = by (is_in class.Hex b) refl e
+  where
+    by : (t : Bool) → is_in class.Hex b ≡ t → d ≡ (if t then digit_of b else 31) → (is_in class.Hex b ≡ true) × (d ≡ digit_of b)
+    by true h f = (h, f)
+    by false h f = absurd (omega (arith, f, lt))
+
+-- a digit of a class is hexadecimal
+pub is_hexadecimal : (c : Class) → IsDigits c → (b : ℕ) → is_in c b ≡ true → is_in class.Hex b ≡ true
+is_hexadecimal class.Digit d b h = grind (arith, nat_tests)
+is_hexadecimal class.Hex d b h = h
+is_hexadecimal _ d b h = absurd d

@@ -253,6 +253,11 @@ runs_shorter p q sub (c ∷ s) [] b r = omega arith
 runs_shorter p q sub (c ∷ s) (d ∷ rest) b ([], e, a, f) = let same : c ≡ d = cc in let t = ap p same in let g = sub c b in absurd (let h : true ≡ false = cc in cc)
 runs_shorter p q sub (c ∷ s) (d ∷ rest) b (x ∷ w, e, a, f) = omega (arith, ap length e, length-append w (d ∷ rest))
 
+-- a run that isn't empty
+pub run_begins : (p : ℕ → Bool) (s rest : List ℕ) → RunsTo p s rest → length rest < length s → Begins p s
+run_begins p s rest ([], e, each, stops) l = absurd (omega (arith, ap length e, l))
+run_begins p s rest (b ∷ w, e, each, stops) l = begins_of p s (b ∷ w) rest e each.0
+
 pub digits_stop : (c : Class) → IsDigits c → StopsAll (is_in c) IntegerSuffix
 digits_stop class.Digit h = stops_any (is_in class.Digit) suffixes (refl, (refl, (refl, (refl, (refl, (tt, tt))))))
 digits_stop class.Hex h = stops_any (is_in class.Hex) suffixes (refl, (refl, (refl, (refl, (refl, (tt, tt))))))

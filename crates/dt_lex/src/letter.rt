@@ -11,6 +11,7 @@ ghost use Rattle.dt_lex.specs.Texts.{plain, octal, hex, unescaped, inner, text_b
 use crate::byte::{Class, is_in};
 use crate::number::digit_of;
 use crate::word::split;
+use memchr::memchr;
 use std::alloc::AllocError;
 
 /// The byte that `\` and this byte stand for.
@@ -133,6 +134,20 @@ pub(crate) fn character_value(word: &[u8]) -> u8
     }
 }
 
+/// Appends the bytes that letters mean, of which some may be escapes.
+fn push_letters(letters: &[u8], out: &mut Vec<u8>) -> Result<(), AllocError>
+    ensures ok { OnOk result (out.new.items ≡ out.old.items ++ unescaped plain letters.now) }
+    ensures err { OnErr result (out.new.items ≡ out.old.items) }
+{
+    let mut rest = letters;
+    out.reserve(rest.len())?;
+    while let Some((byte, later)) = letter(rest) {
+        out.push_reserved(byte);
+        rest = later;
+    }
+    Ok(())
+}
+
 /// Appends the bytes that a text means (Devicetree Specification v0.4, 6.3), escapes worked out as in C: an octal one
 /// modulo 256, and `\` before another byte as that byte. The NUL that ends a text's value isn't among them. `token` is the
 /// bytes of a `TokenKind::Text`, with their quotes.
@@ -144,11 +159,9 @@ pub fn push_text(token: &[u8], out: &mut Vec<u8>) -> Result<(), AllocError>
     ensures ok { OnOk result (out.new.items ≡ out.old.items ++ text_bytes token.now) }
     ensures err { OnErr result (out.new.items ≡ out.old.items) }
 {
-    let mut rest = inner(token);
-    out.reserve(rest.len())?;
-    while let Some((byte, later)) = letter(rest) {
-        out.push_reserved(byte);
-        rest = later;
+    let letters = inner(token);
+    match memchr(b'\\', letters) {
+        None => out.extend_from_slice(letters),
+        Some(_) => push_letters(letters, out),
     }
-    Ok(())
 }

@@ -14,7 +14,7 @@ use crate::label::unlabelled;
 use crate::outcome::outcome;
 use crate::piece::{Piece, decided, piece_of};
 use crate::token::{Flaw, Mode, Token, TokenKind, mode_behind};
-use crate::word::after_run;
+use crate::word::after_all;
 use dt_names::limits::MOST_BYTES;
 use dt_names::{Fault, FaultKind};
 use std::alloc::Global;
@@ -40,13 +40,12 @@ fn behind_blanks(fresh: bool, text: &[u8]) -> (bool, &[u8])
     ensures labels { (unknown : ℕ) → IsUnlabelled (length text.now - unknown) text.now →
         IsUnlabelled (length result.1.now - unknown) result.1.now }
 {
-    match after_run(text, Class::Blank) {
-        Some(rest) => {
-            let blanks = piece_of(None, text, rest);
-            (blanks.fresh, blanks.rest)
-        }
-        None => (fresh, text),
+    let rest = after_all(text, Class::Blank);
+    if rest.len() == text.len() {
+        return (fresh, text);
     }
+    let blanks = piece_of(None, text, rest);
+    (blanks.fresh, blanks.rest)
 }
 
 /// The word at the front, where no label begins but in the last so many bytes.

@@ -202,6 +202,17 @@ fn keyword(text: &[u8]) -> Option<Piece<'_>>
     Some(piece_of(Some(TokenKind::Keyword(keyword)), text, rest))
 }
 
+/// A mark of one byte, in the mode of values.
+fn mark(text: &[u8]) -> Option<Piece<'_>>
+    ensures exact { IfSome result (IsDecided mode.Plain text.now) }
+    ensures front { IfSome result (IsFront text.now) }
+{
+    match lone_mark(text) {
+        Some(found) => Some(found),
+        None => operator(text),
+    }
+}
+
 /// An integer, a text, a reference to a label, a keyword or a mark, in the mode of values.
 fn value(text: &[u8]) -> Option<Piece<'_>>
     ensures exact { IfSome result (IsDecided mode.Plain text.now) }
@@ -216,7 +227,7 @@ fn value(text: &[u8]) -> Option<Piece<'_>>
         b'"' => quoted(text),
         b'&' => reference(text),
         b'/' => keyword(text),
-        _ => operator(text),
+        _ => mark(text),
     }
 }
 
@@ -254,17 +265,36 @@ fn named(fresh: bool, text: &[u8]) -> Option<Piece<'_>>
     }
 }
 
+/// A mark of one byte, a label, a name, a keyword or a line marker, in the mode of names.
+fn mark_or_named(fresh: bool, text: &[u8]) -> Option<Piece<'_>>
+    ensures exact { IfSome result (λ p. IsPiece mode.Name fresh text.now (Ok p)) }
+    ensures front { IfSome result (IsFront text.now) }
+{
+    match lone_mark(text) {
+        Some(found) => Some(found),
+        None => named(fresh, text),
+    }
+}
+
+/// A byte or a mark of one byte, in the mode of bytes.
+fn byte_or_mark(text: &[u8]) -> Option<Piece<'_>>
+    ensures exact { IfSome result (IsDecided mode.Bytes text.now) }
+    ensures front { IfSome result (IsFront text.now) }
+{
+    match byte(text) {
+        Some(found) => Some(found),
+        None => lone_mark(text),
+    }
+}
+
 /// The word at the front, where its first bytes decide it.
 pub(crate) fn decided(mode: Mode, fresh: bool, text: &[u8]) -> Option<Piece<'_>>
     ensures exact { IfSome result (λ p. IsPiece mode fresh text.now (Ok p)) }
     ensures front { IfSome result (IsFront text.now) }
 {
-    if let Some(found) = lone_mark(text) {
-        return Some(found);
-    }
     match mode {
-        Mode::Name => named(fresh, text),
-        Mode::Bytes => byte(text),
+        Mode::Name => mark_or_named(fresh, text),
+        Mode::Bytes => byte_or_mark(text),
         Mode::Plain => value(text),
     }
 }

@@ -7,7 +7,7 @@ ghost use Rattle.dt_lex.specs.Vocabulary.{Escape, TextWord, CharacterWord};
 ghost use Rattle.dt_lex.specs.Letters.{Letter, ClosedText, RunsUpTo};
 
 use crate::byte::{Class, is_in};
-use crate::word::{after_word, begins, split};
+use crate::word::{after_all, after_word, begins, split};
 
 /// After one byte of a class.
 fn after_one(text: &[u8], class: Class) -> Option<&[u8]>
@@ -73,6 +73,7 @@ fn after_inside(text: &[u8]) -> Option<&[u8]>
 {
     let mut rest = text;
     loop {
+        rest = after_all(rest, Class::Quoted);
         if let Some(behind) = after_word(rest, b"\"") {
             return Some(behind);
         }

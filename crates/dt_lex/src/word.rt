@@ -1,6 +1,6 @@
 //! The longest front of a text that is in a set of words. Each function answers the text after it.
 
-ghost use Rattle.std.specs.Prelude.{◌≡◌, ◌<◌, ◌≤◌, ◌+◌, ◌∷◌, [], ◌↔◌, IsTrue, IfSome, IfNone, length};
+ghost use Rattle.std.specs.Prelude.{◌≡◌, ◌<◌, ◌≤◌, ◌+◌, ◌==◌, ◌||◌, ◌∷◌, [], ◌↔◌, IsTrue, IfSome, IfNone, length};
 ghost use Rattle.dt_lex.specs.declared.byte.Class.TheVariants as class;
 ghost use Rattle.dt_lex.specs.Bytes.{is_in};
 ghost use Rattle.dt_lex.specs.Words.{Word, Begins, Skips, RunsTo};
@@ -107,11 +107,24 @@ pub(crate) fn after_line_comment(text: &[u8]) -> Option<&[u8]>
     Some(after_line(after_word(text, b"//")?))
 }
 
-/// After the suffix of an integer, which may be empty.
+/// Whether the first byte begins a suffix that isn't empty.
+fn begins_suffix(text: &[u8]) -> bool
+    ensures { IsTrue result ↔ Begins (λ b. (b == 85) || (b == 76)) text.now }
+{
+    match text.split_first() {
+        Some((first, _)) => *first == b'U' || *first == b'L',
+        None => false,
+    }
+}
+
+/// After the suffix of an integer, which may be empty. Most integers have none.
 pub(crate) fn after_suffix(text: &[u8]) -> Option<&[u8]>
     ensures exact { Skips IntegerSuffix text.now result }
     ensures shorter { IfSome result (λ rest. length rest.now ≤ length text.now) }
 {
+    if !begins_suffix(text) {
+        return Some(text);
+    }
     if let Some(rest) = after_word(text, b"ULL") {
         return Some(rest);
     }
