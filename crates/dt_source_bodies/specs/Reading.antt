@@ -1,5 +1,5 @@
 -- What the tree under construction and the open bodies have to do with the places that were read.
-use Rattle.std.specs.Prelude.{◌≡◌, ℕ, ◌+◌, ◌-◌, ◌<◌, ◌≤◌, Bool, true, false, nat_lt, List, [], ◌∷◌, ◌++◌, length, drop, slice_get, Option, Some, None, Result, Ok, Err, MatchResult}
+use Rattle.std.specs.Prelude.{◌≡◌, ℕ, ◌+◌, ◌<◌, ◌≤◌, Bool, true, false, nat_lt, List, [], ◌∷◌, ◌++◌, length, drop, Option, Some, None, Result, Ok, Err, MatchResult}
 use Rattle.std.specs.List.{AllByRecursion}
 use Rattle.dt_model.specs.Limits.{most_names}
 use Rattle.dt_model.specs.Names.{Name}
@@ -68,10 +68,3 @@ HasTarget r reference result = (so_far : SoFar) (items : ℕ) → Holds r items 
     (λ target. (length r.bodies.items ≡ 0)
     × ((p : Stack) × (referent so_far.events reference ≡ Some p) × StandsUnder r.growing.nodes.items p target.0 × (target.1 ≡ length p)))
     (λ fault. (mode : Mode) → TellsRefusal (read mode so_far (block reference)) fault × TellsRefusal (read mode so_far (delete_node reference)) fault)
-
--- a child of this name may be opened in the body
-pub record MayOpen (r : Reading) (name : Name) (body : OpenBody) : Type 0 where
-  pub last : slice_get r.bodies.items (length r.bodies.items - 1) ≡ Some body
-  pub inside : body.node < length r.growing.nodes.items
-  pub once : is_behind body.item ((shape r.growing).opened body.node name) ≡ false
-  pub few : body.depth < most_names

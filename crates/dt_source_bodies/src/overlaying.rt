@@ -233,7 +233,7 @@ pub fn grow_overlay<'s, 'a: 's>(
         × IsGrown g.nodes.items g.properties.items g.givings.items s.source.events)
         (TellsOverlayRefusal (all_overlay (map place_said items.now))) }
 {
-    let mut reading = Reading::new(alloc, seed);
+    let mut reading = Reading::new(alloc, seed, items)?;
     reading.begin()?;
     read_overlay_items(&mut reading, items, arena)?;
     let Reading { growing, bodies: _ } = reading;

@@ -10,7 +10,7 @@ ghost use Rattle.dt_source_items.specs.Said.{place_said, reference_of};
 ghost use Rattle.dt_source_growing.specs.Grown.{StandsUnder, IsGrown, value_held};
 ghost use Rattle.dt_source_growing.specs.Growing.{shape};
 ghost use Rattle.dt_model.specs.OverlaySource.{open_fragment};
-ghost use Rattle.dt_source_bodies.specs.Reading.{is_behind, Does, ReadsItem, GoesOn, HasTarget, Holds, IsWhole, MayOpen};
+ghost use Rattle.dt_source_bodies.specs.Reading.{is_behind, Does, ReadsItem, GoesOn, HasTarget, Holds, IsWhole};
 ghost use Rattle.dt_source_bodies.specs.Refusals.{mode_said, TellsRefusal, WhyNotGrown};
 
 use dt_names::limits::MOST_NAMES;
@@ -72,14 +72,16 @@ fn enter(bodies: &mut Vec<OpenBody>, body: OpenBody) -> Result<(), AllocError>
 }
 
 impl<'s, 'a: 's> Reading<'s, 'a> {
-    pub fn new(alloc: Global, seed: Seed) -> Self
-        ensures whole { IsWhole result }
-        ensures meaning { Holds result 0 nothing }
+    /// Nothing was read yet of these items.
+    pub fn new(alloc: Global, seed: Seed, items: &[Item<'_>]) -> Result<Self, AllocError>
+        ensures whole { IfOk result IsWhole }
+        ensures meaning { IfOk result (λ reading. Holds reading 0 nothing) }
     {
-        Reading {
-            growing: Growing::new(alloc, seed),
+        let growing = Growing::new(alloc, seed, items)?;
+        Ok(Reading {
+            growing,
             bodies: Vec::new(alloc),
-        }
+        })
     }
 
     /// The innermost open body.
@@ -168,11 +170,11 @@ impl<'s, 'a: 's> Reading<'s, 'a> {
         Ok(())
     }
 
-    /// The innermost body, where a child of the name may be opened in it, and the child that stands there.
-    fn parent(&self, mode: Mode, name: &[u8]) -> Result<(OpenBody, Option<usize>), Fault>
+    /// The innermost body, where a child of the name isn't kept back from it.
+    fn parent(&self, mode: Mode, name: &[u8]) -> Result<OpenBody, Fault>
         requires { IsWhole self.now }
-        ensures child { IfOk result (λ found. found.1 ≡ (shape self.now.growing).child found.0.node name.now) }
-        ensures may { IfOk result (λ found. MayOpen self.now name.now found.0) }
+        ensures innermost { IfOk result (λ body. slice_get self.now.bodies.items (length self.now.bodies.items - 1) ≡ Some body) }
+        ensures inside { IfOk result (λ body. body.node < length self.now.growing.nodes.items) }
         ensures meaning { (so_far : SoFar) (items : ℕ) → Holds self.now items so_far → MatchResult result
             (λ _. is_reserved (mode_said mode) so_far.node name.now ≡ false)
             (TellsRefusal (read (mode_said mode) so_far (child name.now))) }
@@ -181,14 +183,7 @@ impl<'s, 'a: 's> Reading<'s, 'a> {
         if is_kept_back(mode, body.depth, name) {
             return Err(Fault::of(FaultKind::ReservedName));
         }
-        let (child, last) = self.growing.child_and_item(body.node, name);
-        if is_later(body.item, last) {
-            return Err(Fault::of(FaultKind::DuplicateNode));
-        }
-        if body.depth >= MOST_NAMES {
-            return Err(Fault::of(FaultKind::Limit));
-        }
-        Ok((body, child))
+        Ok(body)
     }
 
     pub fn child(&mut self, mode: Mode, item: usize, name: &'a [u8]) -> Result<(), Fault>
@@ -197,10 +192,16 @@ impl<'s, 'a: 's> Reading<'s, 'a> {
         ensures whole { OnOk result (IsWhole self.new) }
         ensures grown { OnOk result (length self.old.growing.nodes.items ≤ length self.new.growing.nodes.items) }
     {
-        let (body, child) = self.parent(mode, name)?;
-        let node = self
+        let body = self.parent(mode, name)?;
+        let (node, last) = self
             .growing
-            .open_known(body.node, NameText::Written(name), item, child)?;
+            .open_child(body.node, NameText::Written(name), item)?;
+        if is_later(body.item, last) {
+            return Err(Fault::of(FaultKind::DuplicateNode));
+        }
+        if body.depth >= MOST_NAMES {
+            return Err(Fault::of(FaultKind::Limit));
+        }
         let depth = body.depth + 1;
         enter(&mut self.bodies, OpenBody { node, depth, item })?;
         Ok(())
@@ -240,12 +241,10 @@ impl<'s, 'a: 's> Reading<'s, 'a> {
         ensures grown { OnOk result (length self.old.growing.nodes.items ≤ length self.new.growing.nodes.items) }
     {
         let body = self.innermost()?;
-        let (property, last) = self.growing.property_and_item(body.node, name);
+        let last = self.growing.define(body.node, name, value, item)?;
         if is_later(body.item, last) {
             return Err(Fault::of(FaultKind::DuplicateProperty));
         }
-        self.growing
-            .define_known(body.node, name, value, item, property)?;
         Ok(())
     }
 
@@ -297,9 +296,9 @@ impl<'s, 'a: 's> Reading<'s, 'a> {
         ensures rooted { OnOk result (0 < length self.new.growing.nodes.items) }
     {
         self.outside()?;
-        let fragment = self.growing.open_child(0, NameText::Made(name), item)?;
+        let (fragment, _) = self.growing.open_child(0, NameText::Made(name), item)?;
         self.growing.define(fragment, property, value, item)?;
-        let content = self
+        let (content, _) = self
             .growing
             .open_child(fragment, NameText::Written(b"__overlay__"), item)?;
         enter(
@@ -370,7 +369,7 @@ pub fn grow<'s, 'a: 's>(
         × IsGrown g.nodes.items g.properties.items g.givings.items so_far.events)
         (WhyNotGrown (mode_said mode) (map place_said items.now)) }
 {
-    let mut reading = Reading::new(alloc, seed);
+    let mut reading = Reading::new(alloc, seed, items)?;
     read_items(&mut reading, mode, items)?;
     let Reading { growing, bodies: _ } = reading;
     Ok(growing)

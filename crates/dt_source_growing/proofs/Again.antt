@@ -1,6 +1,6 @@
 -- What is sound after a call that memory may be refused to: the root made, a child opened again.
 use Rattle.std.proofs.Common.{◌≡◌, ℕ, Bool, List, [], ◌∷◌, ◌++◌, Some, length, sym, ap, ◌∙◌, subst, arith}
-use Rattle.std.specs.Prelude.{Result, Ok, Err, is_ok, IsOk, OnOk, OnErr, if◌then◌else◌}
+use Rattle.std.specs.Prelude.{Result, Ok, Err, is_ok, IsOk, if◌then◌else◌}
 use Rattle.dt_model.specs.Names.{Name}
 use Rattle.dt_source_growing.specs.Table.{Key, Puts}
 use Rattle.dt_source_growing.specs.Shape.{MakesRoot, OpensChild}
@@ -14,12 +14,9 @@ use Rattle.dt_source_growing.proofs.Soundness.{forest, root-pushed, child-again,
 use Rattle.dt_source_growing.proofs.Changes.{stood-root, stood-again}
 
 pub sound-again : (g : Growing) → IsSoundGrowing g → (parent : ℕ) (name : Name) (item : ℕ) (entries : List (Key × Last)) {node : ℕ}
-    → (shape g).child parent name ≡ Some node → {T E : Type 0} (r : Result T E)
-    → OnOk r (Puts g.children.map.entries entries parent name (record { index = node; item = item })) → OnErr r (entries ≡ g.children.map.entries)
+    → (shape g).child parent name ≡ Some node → Puts g.children.map.entries entries parent name (record { index = node; item = item })
     → IsSound g.nodes.items entries g.properties.items g.indices.map.entries g.givings.items g.labels.map.entries
-sound-again g h parent name item entries there (Err e) puts same =
-    subst (λ (es : List (Key × Last)). IsSound g.nodes.items es g.properties.items g.indices.map.entries g.givings.items g.labels.map.entries) (sym same) h
-sound-again g h parent name item entries there (Ok x) puts same =
+sound-again g h parent name item entries there puts =
     let s = shape g in
     let t = shape_of g.nodes.items entries g.properties.items g.indices.map.entries g.givings.items g.labels.map.entries in
     let made : OpensChild s t parent name item =

@@ -1,12 +1,13 @@
 -- A change of the hash map is a change of the table.
-use Rattle.std.proofs.Common.{◌≡◌, ℕ, Bool, true, false, List, Some, Bor, ◌&&◌, nat_eq, refl}
+use Rattle.std.proofs.Common.{◌≡◌, ℕ, Bool, true, false, List, Some, None, Result, Ok, Err, Bor, ◌&&◌, nat_eq, refl, sym, ◌∙◌, ap}
+use Rattle.std.specs.Prelude.{OnOk, OnErr, cond}
 use Rattle.std.specs.HashMap.{HashMap, UpdatesBy}
 use Rattle.std.specs.Str.{bytes_eq}
 use Rattle.std.proofs.lemmas.Bool.{eqb-true, eq-eqb}
 use Rattle.std.proofs.lemmas.Slice.Eq.{bytes_eq-Decides}
 use Rattle.dt_model.proofs.EventSteps.{bytes_eq-refl}
 use Rattle.dt_model.specs.Names.{Name}
-use Rattle.dt_source_growing.specs.Table.{Key, Puts, PutsName}
+use Rattle.dt_source_growing.specs.Table.{Key, entry, Puts, PutsName}
 use Rattle.dt_source_growing.specs.declared.table.Last.{Last}
 
 pub both : (a b : Bool) → (a && b) ≡ true → (a ≡ true) × (b ≡ true)
@@ -32,3 +33,18 @@ pub puts_name_from_updates : {S : Type 0} (m n : HashMap (Bor (List ℕ)) ℕ S)
     → UpdatesBy (λ (a b : Bor (List ℕ)). bytes_eq a.now b.now) (λ (b : Bor (List ℕ)). bytes_eq k.now b.now) m n (Some w)
     → PutsName m.entries n.entries k.now w
 puts_name_from_updates m n k w u y = u.0 (record k { now = y })
+
+module _ (old mid new : List (Key × Last)) (i : ℕ) (x : Name) (v w : Last) where
+  -- of two puts the second counts
+  put_twice : Puts old mid i x v → Puts mid new i x w → Puts old new i x w
+  put_twice p q j y = by (nat_eq i j && bytes_eq x y) (q j y) (p j y)
+    where
+      by : (t : Bool) → entry new j y ≡ cond t (Some w) (entry mid j y) → entry mid j y ≡ cond t (Some v) (entry old j y) → entry new j y ≡ cond t (Some w) (entry old j y)
+      by true e f = e
+      by false e f = e ∙ f
+
+  -- what is there is put again without memory
+  pub put_again : {A E : Type 0} (r : Result A E) → OnOk r (Puts mid new i x w) → OnErr r (entry mid i x ≡ None) → Puts old mid i x v → Puts old new i x w
+  put_again (Ok a) put none p = put_twice p put
+  put_again (Err e) put none p =
+      let there : None ≡ Some v = sym none ∙ p i x ∙ ap (λ (t : Bool). cond t (Some v) (entry old i x)) (key-refl i x) in cc

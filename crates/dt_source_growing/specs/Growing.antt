@@ -4,7 +4,7 @@ use Rattle.dt_model.specs.Source.{Part}
 use Rattle.dt_source_growing.specs.Shape.{Shape}
 use Rattle.dt_source_growing.specs.Listing.{IsSound}
 use Rattle.dt_source_growing.specs.declared.growing.Growing.{Growing}
-pub use Rattle.dt_source_growing.specs.Listing.{shape_of, Listing, kept, found, IsIndexed, Adds, Drops, Keeps, listed, nodes_listed, properties_listed, item_of, to_node, given_to, HasNodes, HasProperties, HasLabels}
+pub use Rattle.dt_source_growing.specs.Listing.{shape_of, Listing, kept, found, standing, IsIndexed, Adds, Drops, Keeps, listed, nodes_listed, properties_listed, item_of, to_node, given_to, HasNodes, HasProperties, HasLabels}
 
 abbrev pub shape : Growing → Shape (List Part)
 shape g = shape_of g.nodes.items g.children.map.entries g.properties.items g.indices.map.entries g.givings.items g.labels.map.entries

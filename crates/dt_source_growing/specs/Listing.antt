@@ -76,6 +76,10 @@ listed owner name stands xs entries = record {
   last = λ i x. option_map (λ e. e.index) (entry entries i x);
 }
 
+-- the thing that was last made, where it stands: what is found of the list's things
+abbrev pub standing : {X : Type 0} → (X → Bool) → List X → Option Last → Option ℕ
+standing stands xs last = option_and_then (λ k. kept (option_map_or stands (slice_get xs k) false) k) (option_map (λ e. e.index) last)
+
 abbrev pub nodes_listed : List Node → List (Key × Last) → Listing
 nodes_listed nodes entries = listed (λ n. n.parent) (λ n. name_said n.name) (λ n. n.stands) nodes entries
 

@@ -1,15 +1,45 @@
 //! How a tree under construction changes.
 
-ghost use Rattle.std.specs.Prelude.{◌≡◌, ◌<◌, ◌⊎◌, [], true, length, slice_set, Some, None, IfOk, OnOk};
+ghost use Rattle.std.specs.Prelude.{◌≡◌, ◌<◌, ◌≤◌, ◌⊎◌, [], true, length, slice_set, Some, None, IfOk, OnOk, option_map};
 ghost use Rattle.dt_model.specs.Event.{Stack};
 ghost use Rattle.dt_source_growing.specs.Shape.{given_at, MakesRoot, AddsChild, OpensChild, Cuts, Defines, Undefines, Gives};
 ghost use Rattle.dt_source_growing.specs.Grown.{name_said, value_held};
-ghost use Rattle.dt_source_growing.specs.Growing.{shape, nodes_listed, properties_listed};
+ghost use Rattle.dt_source_growing.specs.Growing.{shape, standing, nodes_listed, properties_listed};
 
 use crate::growing::{Giving, Growing, NameText, Node, Property, PropertyValue};
 use crate::table::{Last, NameTable, Table};
 use dt_names::Seed;
+use dt_source_items::Item;
 use std::alloc::{AllocError, Global};
+
+/// Room is made at once for no more things of a kind than this: most of a text that has more may be refused.
+const MOST_ROOM: usize = 65_536;
+
+/// For how many nodes and properties there is to be room.
+#[derive(Clone, Copy)]
+struct Room {
+    nodes: usize,
+    properties: usize,
+}
+
+/// Room for what the items make: the root, and as many nodes and properties as they open and define, but no more than the most.
+fn room_for(items: &[Item<'_>]) -> Room
+    ensures { (result.nodes ≤ 65536) × (result.properties ≤ 65536) }
+{
+    let mut nodes = 1usize;
+    let mut properties = 0usize;
+    for item in items {
+        match item {
+            Item::Child(_) => nodes += 1,
+            Item::Property(_, _) => properties += 1,
+            _ => {}
+        }
+    }
+    Room {
+        nodes: nodes.min(MOST_ROOM),
+        properties: properties.min(MOST_ROOM),
+    }
+}
 
 /// Puts a thing in the place of another.
 fn write<T: Drop>(things: &mut Vec<T>, index: usize, thing: T)
@@ -19,65 +49,71 @@ fn write<T: Drop>(things: &mut Vec<T>, index: usize, thing: T)
     things[index] = thing;
 }
 
-impl<'s, 'a: 's> Growing<'s, 'a> {
-    /// No tree yet. Names will be hashed behind the seed.
-    pub fn new(alloc: Global, seed: Seed) -> Self
-        ensures nodes { result.nodes.items ≡ [] }
-        ensures properties { result.properties.items ≡ [] }
-        ensures givings { result.givings.items ≡ [] }
-        ensures children { result.children.map.entries ≡ [] }
-        ensures indices { result.indices.map.entries ≡ [] }
-    {
-        Growing {
-            nodes: Vec::new(alloc),
-            properties: Vec::new(alloc),
-            givings: Vec::new(alloc),
-            children: Table::new(alloc, seed),
-            indices: Table::new(alloc, seed),
-            labels: NameTable::new(alloc, seed),
-        }
+/// The node that was last made, where it stands by itself.
+fn standing_node(nodes: &[Node<'_, '_>], last: Option<Last>) -> Option<usize>
+    ensures { result ≡ standing (λ node. node.stands) nodes.now last }
+{
+    let last = last?;
+    match nodes.get(last.index) {
+        Some(node) if node.stands => Some(last.index),
+        _ => None,
     }
+}
 
-    /// The child of a name, where one stands, and the item that last opened one.
-    pub fn child_and_item(&self, parent: usize, name: &[u8]) -> (Option<usize>, Option<usize>)
-        ensures child { result.0 ≡ (shape self.now).child parent name.now }
-        ensures item { result.1 ≡ (shape self.now).opened parent name.now }
+/// The property that was last made, where it stands by itself.
+fn standing_property(properties: &[Property<'_>], last: Option<Last>) -> Option<usize>
+    ensures { result ≡ standing (λ property. property.stands) properties.now last }
+{
+    let last = last?;
+    match properties.get(last.index) {
+        Some(property) if property.stands => Some(last.index),
+        _ => None,
+    }
+}
+
+/// The item that last made something, where one did.
+fn item_of(last: Option<Last>) -> Option<usize>
+    ensures { result ≡ option_map (λ last. last.item) last }
+{
+    Some(last?.item)
+}
+
+impl<'s, 'a: 's> Growing<'s, 'a> {
+    /// No tree yet, with room for what the items make. Names will be hashed behind the seed.
+    pub fn new(alloc: Global, seed: Seed, items: &[Item<'_>]) -> Result<Self, AllocError>
+        ensures nodes { IfOk result (λ growing. growing.nodes.items ≡ []) }
+        ensures properties { IfOk result (λ growing. growing.properties.items ≡ []) }
+        ensures givings { IfOk result (λ growing. growing.givings.items ≡ []) }
+        ensures children { IfOk result (λ growing. growing.children.map.entries ≡ []) }
+        ensures indices { IfOk result (λ growing. growing.indices.map.entries ≡ []) }
     {
-        let Some(last) = self.children.get(parent, name) else {
-            return (None, None);
-        };
-        if self.nodes[last.index].stands {
-            return (Some(last.index), Some(last.item));
-        }
-        (None, Some(last.item))
+        let room = room_for(items);
+        let nodes = Vec::with_capacity(alloc, room.nodes)?;
+        let properties = Vec::with_capacity(alloc, room.properties)?;
+        let children = Table::with_capacity(alloc, seed, room.nodes)?;
+        let indices = Table::with_capacity(alloc, seed, room.properties)?;
+        Ok(Growing {
+            nodes,
+            properties,
+            givings: Vec::new(alloc),
+            children,
+            indices,
+            labels: NameTable::new(alloc, seed),
+        })
     }
 
     /// The child of a name, where one stands.
     pub fn child(&self, parent: usize, name: &[u8]) -> Option<usize>
         ensures { result ≡ (shape self.now).child parent name.now }
     {
-        self.child_and_item(parent, name).0
-    }
-
-    /// The property of a name, where one stands, and the item that last defined one.
-    pub fn property_and_item(&self, node: usize, name: &[u8]) -> (Option<usize>, Option<usize>)
-        ensures property { result.0 ≡ (shape self.now).property node name.now }
-        ensures item { result.1 ≡ (shape self.now).defined node name.now }
-    {
-        let Some(last) = self.indices.get(node, name) else {
-            return (None, None);
-        };
-        if self.properties[last.index].stands {
-            return (Some(last.index), Some(last.item));
-        }
-        (None, Some(last.item))
+        standing_node(&self.nodes, self.children.get(parent, name))
     }
 
     /// The property of a name, where one stands.
     pub fn property(&self, node: usize, name: &[u8]) -> Option<usize>
         ensures { result ≡ (shape self.now).property node name.now }
     {
-        self.property_and_item(node, name).0
+        standing_property(&self.properties, self.indices.get(node, name))
     }
 
     fn make_root(&mut self) -> Result<(), AllocError>
@@ -104,83 +140,38 @@ impl<'s, 'a: 's> Growing<'s, 'a> {
         }
     }
 
-    fn add_child(
-        &mut self,
-        parent: usize,
-        name: NameText<'s, 'a>,
-        item: usize,
-    ) -> Result<usize, AllocError>
-        requires inside { parent < length self.old.nodes.items }
-        requires absent { (shape self.old).child parent (name_said name) ≡ None }
-        ensures index { IfOk result (λ node. node ≡ length self.old.nodes.items) }
-        ensures added { OnOk result (AddsChild (shape self.old) (shape self.new) parent (name_said name.entry) item) }
-    {
-        let index = self.nodes.len();
-        self.nodes.reserve(1)?;
-        self.children
-            .put(parent, name.bytes(), Last { index, item })?;
-        self.nodes.push(Node {
-            parent,
-            name,
-            stands: true,
-        })?;
-        Ok(index)
-    }
-
-    fn open_again(
-        &mut self,
-        parent: usize,
-        name: NameText<'s, 'a>,
-        node: usize,
-        item: usize,
-    ) -> Result<usize, AllocError>
-        requires there { (shape self.old).child parent (name_said name) ≡ Some node }
-        ensures index { IfOk result (λ n. n ≡ node) }
-        ensures opened { OnOk result (OpensChild (shape self.old) (shape self.new) parent (name_said name.entry) item) }
-    {
-        self.children
-            .put(parent, name.bytes(), Last { index: node, item })?;
-        Ok(node)
-    }
-
-    /// Opens a child by an item, where `child` is the one that stands, and makes it where none does.
-    pub fn open_known(
-        &mut self,
-        parent: usize,
-        name: NameText<'s, 'a>,
-        item: usize,
-        child: Option<usize>,
-    ) -> Result<usize, AllocError>
-        requires inside { parent < length self.old.nodes.items }
-        requires known { child ≡ (shape self.old).child parent (name_said name) }
-        ensures opened { IfOk result (λ node.
-            (((shape self.old).child parent (name_said name.entry) ≡ None) × AddsChild (shape self.old) (shape self.new) parent (name_said name.entry) item
-            × (node ≡ length self.old.nodes.items))
-            ⊎ (((shape self.old).child parent (name_said name.entry) ≡ Some node)
-            × OpensChild (shape self.old) (shape self.new) parent (name_said name.entry) item)) }
-    {
-        match child {
-            Some(node) => self.open_again(parent, name, node, item),
-            None => self.add_child(parent, name, item),
-        }
-    }
-
-    /// Opens a child by an item, and makes it where none stands.
+    /// Opens a child by an item, and makes it where none stands. Answers it, and the item that last opened one of the name.
     pub fn open_child(
         &mut self,
         parent: usize,
         name: NameText<'s, 'a>,
         item: usize,
-    ) -> Result<usize, AllocError>
+    ) -> Result<(usize, Option<usize>), AllocError>
         requires inside { parent < length self.old.nodes.items }
-        ensures opened { IfOk result (λ node.
+        ensures opened { IfOk result (λ opened.
             (((shape self.old).child parent (name_said name.entry) ≡ None) × AddsChild (shape self.old) (shape self.new) parent (name_said name.entry) item
-            × (node ≡ length self.old.nodes.items))
-            ⊎ (((shape self.old).child parent (name_said name.entry) ≡ Some node)
+            × (opened.0 ≡ length self.old.nodes.items))
+            ⊎ (((shape self.old).child parent (name_said name.entry) ≡ Some opened.0)
             × OpensChild (shape self.old) (shape self.new) parent (name_said name.entry) item)) }
+        ensures last { IfOk result (λ opened. opened.1 ≡ (shape self.old).opened parent (name_said name.entry)) }
     {
-        let child = self.child(parent, name.bytes());
-        self.open_known(parent, name, item, child)
+        let index = self.nodes.len();
+        self.nodes.reserve(1)?;
+        let last = self.children.replace(parent, name.bytes(), Last { index, item })?;
+        match standing_node(&self.nodes, last) {
+            Some(index) => {
+                self.children.replace(parent, name.bytes(), Last { index, item })?;
+                Ok((index, item_of(last)))
+            }
+            None => {
+                self.nodes.push(Node {
+                    parent,
+                    name,
+                    stands: true,
+                })?;
+                Ok((index, item_of(last)))
+            }
+        }
     }
 
     /// Deletes a node that stands, and isn't the root.
@@ -204,83 +195,38 @@ impl<'s, 'a: 's> Growing<'s, 'a> {
         }
     }
 
-    fn define_again(
-        &mut self,
-        node: usize,
-        name: &'a [u8],
-        index: usize,
-        value: PropertyValue<'a>,
-        item: usize,
-    ) -> Result<(), AllocError>
-        requires there { (shape self.old).property node name.now ≡ Some index }
-        ensures defined { OnOk result (Defines (shape self.old) (shape self.new) node name.now (value_held value.entry) item) }
-    {
-        self.indices.put(node, name, Last { index, item })?;
-        let property = Property {
-            node,
-            name,
-            value,
-            stands: true,
-        };
-        write(&mut self.properties, index, property);
-        Ok(())
-    }
-
-    fn add_property(
-        &mut self,
-        node: usize,
-        name: &'a [u8],
-        value: PropertyValue<'a>,
-        item: usize,
-    ) -> Result<(), AllocError>
-        requires inside { node < length self.old.nodes.items }
-        requires absent { (shape self.old).property node name.now ≡ None }
-        ensures defined { OnOk result (Defines (shape self.old) (shape self.new) node name.now (value_held value.entry) item) }
-    {
-        let index = self.properties.len();
-        self.properties.reserve(1)?;
-        self.indices.put(node, name, Last { index, item })?;
-        self.properties.push(Property {
-            node,
-            name,
-            value,
-            stands: true,
-        })?;
-        Ok(())
-    }
-
-    /// Defines a property by an item, where `property` is the one that stands: that keeps its place, a new one goes last.
-    pub fn define_known(
-        &mut self,
-        node: usize,
-        name: &'a [u8],
-        value: PropertyValue<'a>,
-        item: usize,
-        property: Option<usize>,
-    ) -> Result<(), AllocError>
-        requires inside { node < length self.old.nodes.items }
-        requires known { property ≡ (shape self.old).property node name.now }
-        ensures defined { OnOk result (Defines (shape self.old) (shape self.new) node name.now (value_held value.entry) item) }
-    {
-        match property {
-            Some(index) => self.define_again(node, name, index, value, item),
-            None => self.add_property(node, name, value, item),
-        }
-    }
-
-    /// Defines a property by an item: one that stands keeps its place, a new one goes last.
+    /// Defines a property by an item: one that stands keeps its place, a new one goes last. Answers the item that last defined one of the name.
     pub fn define(
         &mut self,
         node: usize,
         name: &'a [u8],
         value: PropertyValue<'a>,
         item: usize,
-    ) -> Result<(), AllocError>
+    ) -> Result<Option<usize>, AllocError>
         requires inside { node < length self.old.nodes.items }
         ensures defined { OnOk result (Defines (shape self.old) (shape self.new) node name.now (value_held value.entry) item) }
+        ensures last { IfOk result (λ last. last ≡ (shape self.old).defined node name.now) }
     {
-        let property = self.property(node, name);
-        self.define_known(node, name, value, item, property)
+        let property = Property {
+            node,
+            name,
+            value,
+            stands: true,
+        };
+        let index = self.properties.len();
+        self.properties.reserve(1)?;
+        let last = self.indices.replace(node, name, Last { index, item })?;
+        match standing_property(&self.properties, last) {
+            Some(index) => {
+                self.indices.replace(node, name, Last { index, item })?;
+                write(&mut self.properties, index, property);
+                Ok(item_of(last))
+            }
+            None => {
+                self.properties.push(property)?;
+                Ok(item_of(last))
+            }
+        }
     }
 
     fn drop_property(&mut self, index: usize)

@@ -2,10 +2,10 @@
 //! stands once some were deleted, and the nodes to which references refer by then (Devicetree Specification v0.4, chapter 6).
 //!
 //! ```text
-//! let mut growing = Growing::new(alloc, seed);
-//! growing.open_root()?;                                           // `/ {`, the item 0
-//! let child = growing.open_child(0, NameText::Written(b"n"), 1)?; // `n {`, the item 1
-//! growing.give(b"l", child)?;                                     // `l:`
+//! let mut growing = Growing::new(alloc, seed, items)?;
+//! growing.open_root()?;                                                // `/ {`, the item 0
+//! let (child, _) = growing.open_child(0, NameText::Written(b"n"), 1)?; // `n {`, the item 1
+//! growing.give(b"l", child)?;                                          // `l:`
 //! ```
 //!
 //! A node is named by its index, in the order in which nodes were opened; nothing is walked but a path. dt_source_bodies makes

@@ -1,6 +1,6 @@
 //! Hash tables that borrow the names that they are asked for.
 
-ghost use Rattle.std.specs.Prelude.{◌≡◌, [], OnOk, OnErr};
+ghost use Rattle.std.specs.Prelude.{◌≡◌, [], None, IfOk, OnOk, OnErr};
 ghost use Rattle.dt_source_growing.specs.Table.{entry, Puts, name_entry, PutsName};
 
 use dt_names::Seed;
@@ -27,12 +27,13 @@ pub struct NameTable<'a> {
 }
 
 impl<'a> Table<'a> {
-    pub fn new(alloc: Global, seed: Seed) -> Self
-        ensures { result.map.entries ≡ [] }
+    /// An empty table, with room for so many entries.
+    pub fn with_capacity(alloc: Global, seed: Seed, room: usize) -> Result<Self, AllocError>
+        ensures { IfOk result (λ table. table.map.entries ≡ []) }
     {
-        Table {
-            map: HashMap::with_hasher(alloc, seed),
-        }
+        Ok(Table {
+            map: HashMap::with_capacity_and_hasher(alloc, room, seed)?,
+        })
     }
 
     pub fn get(&self, owner: usize, name: &[u8]) -> Option<Last>
@@ -41,12 +42,20 @@ impl<'a> Table<'a> {
         self.map.get(&(owner, name)).copied()
     }
 
-    pub fn put(&mut self, owner: usize, name: &'a [u8], last: Last) -> Result<(), AllocError>
+    /// Puts what was last made of an owner and a name, and answers what was before it. Only a new one takes memory.
+    pub fn replace(
+        &mut self,
+        owner: usize,
+        name: &'a [u8],
+        last: Last,
+    ) -> Result<Option<Last>, AllocError>
+        ensures before { IfOk result (λ before. before ≡ entry self.old.map.entries owner name.now) }
         ensures ok { OnOk result (Puts self.old.map.entries self.new.map.entries owner name.now last) }
         ensures err { OnErr result (self.new.map.entries ≡ self.old.map.entries) }
+        ensures absent { OnErr result (entry self.old.map.entries owner name.now ≡ None) }
     {
-        self.map.insert((owner, name), last)?;
-        Ok(())
+        let before = self.map.insert((owner, name), last)?;
+        Ok(before)
     }
 }
 

@@ -14,22 +14,22 @@ returns-then-is_later-clause-meaning c = λ m u h.
     let r : Reading = c.args.self.now in
     let b = c.in_ok-body.body in
     let i = inner_of (shape r.growing) r.bodies.items c.args.item u b h c.in_ok-body.ensures.0 in
-    let twice : is_behind b.item ((shape r.growing).defined b.node c.args.name.now) ≡ true = ap (is_behind b.item) (sym c.property_and_item-property.ensures.item) ∙ sym c.if-is_later.ensures in
+    let twice : is_behind b.item ((shape r.growing).defined b.node c.args.name.now) ≡ true = ap (is_behind b.item) (sym c.in_ok-last.ensures.last) ∙ sym c.if-is_later.ensures in
     tells (read m u (property c.args.name.now (value_held c.args.value))) duplicate_property c.of.result
     (define-twice m (shape r.growing) r.bodies.items c.args.item u b c.args.name.now (value_held c.args.value) i twice) c.of.ensures.kind c.of.ensures.at
 
 pub returns-clause-meaning : goal.returns-clause-meaning
 returns-clause-meaning c = λ m u h.
     let old : Reading = c.args.self.now in
-    let new : Reading = record { growing = c.define_known.new.self; bodies = old.bodies } in
+    let new : Reading = record { growing = c.define.new.self; bodies = old.bodies } in
     let b = c.in_ok-body.body in
     let i = inner_of (shape old.growing) old.bodies.items c.args.item u b h c.in_ok-body.ensures.0 in
-    let once : is_behind b.item ((shape old.growing).defined b.node c.args.name.now) ≡ false = ap (is_behind b.item) (sym c.property_and_item-property.ensures.item) ∙ sym c.if-is_later.ensures in
+    let once : is_behind b.item ((shape old.growing).defined b.node c.args.name.now) ≡ false = ap (is_behind b.item) (sym c.in_ok-last.ensures.last) ∙ sym c.if-is_later.ensures in
     goes_on (read m u (property c.args.name.now (value_held c.args.value))) new (c.args.item + 1)
-    (define-goes m (shape old.growing) (shape new.growing) old.bodies.items c.args.item u b c.args.name.now (value_held c.args.value) (forest old.growing c.args.self.now.growing.sound) h i once c.in_ok-define_known.ensures.defined)
+    (define-goes m (shape old.growing) (shape new.growing) old.bodies.items c.args.item u b c.args.name.now (value_held c.args.value) (forest old.growing c.args.self.now.growing.sound) h i once c.in_ok-last.ensures.defined)
 
 pub returns-clause-whole : goal.returns-clause-whole
 returns-clause-whole c =
     let old : Reading = c.args.self.now in
-    let new : Reading = record { growing = c.define_known.new.self; bodies = old.bodies } in
-    whole_same old new c.requires (let z = c.in_ok-define_known.ensures.defined.nodes.size in omega (arith, z)) refl
+    let new : Reading = record { growing = c.define.new.self; bodies = old.bodies } in
+    whole_same old new c.requires (let z = c.in_ok-last.ensures.defined.nodes.size in omega (arith, z)) refl

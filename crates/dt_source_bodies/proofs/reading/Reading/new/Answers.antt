@@ -6,5 +6,5 @@ use Rattle.dt_source_bodies.proofs.reading.Reading.new.Goals as goal
 
 pub returns-clause-meaning : goal.returns-clause-meaning
 returns-clause-meaning c =
-    let r : Reading = record { growing = c.new.result; bodies = c.new-2.result } in
-    holds_nothing r c.new.ensures.nodes c.new-2.ensures.items (λ i x. ap (λ es. item_of es i x) c.new.ensures.children) (λ i x. ap (λ es. item_of es i x) c.new.ensures.indices)
+    let r : Reading = record { growing = c.in_ok-growing.growing; bodies = c.new-2.result } in
+    holds_nothing r c.in_ok-growing.ensures.nodes c.new-2.ensures.items (λ i x. ap (λ es. item_of es i x) c.in_ok-growing.ensures.children) (λ i x. ap (λ es. item_of es i x) c.in_ok-growing.ensures.indices)

@@ -1,10 +1,9 @@
-use Rattle.std.proofs.Common.{◌≡◌, true, false, sym, ◌∙◌, ap}
-use Rattle.dt_model.specs.Source.{read, child, is_reserved, reserved_name, duplicate_node, too_deep}
+use Rattle.std.proofs.Common.{◌≡◌, true, sym}
+use Rattle.dt_model.specs.Source.{read, child, is_reserved, reserved_name}
 use Rattle.dt_source_growing.specs.Growing.{shape}
-use Rattle.dt_source_bodies.specs.Reading.{is_behind}
 use Rattle.dt_source_bodies.specs.Refusals.{mode_said}
 use Rattle.dt_source_bodies.specs.declared.reading.Reading.{Reading}
-use Rattle.dt_source_bodies.proofs.Items.{inner_of, child-reserved, child-twice, child-deep}
+use Rattle.dt_source_bodies.proofs.Items.{inner_of, child-reserved}
 use Rattle.dt_source_bodies.proofs.Wholes.{tells}
 use Rattle.dt_source_bodies.proofs.reading.Reading.parent.Goals as goal
 
@@ -15,29 +14,6 @@ returns-then-is_kept_back-clause-meaning c = λ u n h.
     let i = inner_of (shape r.growing) r.bodies.items n u c.in_ok-body.body h c.in_ok-body.ensures.0 in
     let reserved : is_reserved m u.node c.args.name.now ≡ true = sym (c.if-is_kept_back.ensures u.node i.its.depth) in
     tells (read m u (child c.args.name.now)) reserved_name c.of.result (child-reserved m (shape r.growing) r.bodies.items n u c.in_ok-body.body c.args.name.now i reserved) c.of.ensures.kind c.of.ensures.at
-
-pub returns-then-is_later-clause-meaning : goal.returns-then-is_later-clause-meaning
-returns-then-is_later-clause-meaning c = λ u n h.
-    let r : Reading = c.args.self.now in
-    let m = mode_said c.args.mode in
-    let i = inner_of (shape r.growing) r.bodies.items n u c.in_ok-body.body h c.in_ok-body.ensures.0 in
-    let free : is_reserved m u.node c.args.name.now ≡ false = sym (c.if-is_kept_back.ensures u.node i.its.depth) in
-    let twice : is_behind c.in_ok-body.body.item ((shape r.growing).opened c.in_ok-body.body.node c.args.name.now) ≡ true =
-    ap (is_behind c.in_ok-body.body.item) (sym c.child_and_item-child.ensures.item) ∙ sym c.if-is_later.ensures in
-    tells (read m u (child c.args.name.now)) duplicate_node c.of-then-is_later.result (child-twice m (shape r.growing) r.bodies.items n u c.in_ok-body.body c.args.name.now i free twice)
-    c.of-then-is_later.ensures.kind c.of-then-is_later.ensures.at
-
-pub returns-then-body-ge-MOST_NAMES-clause-meaning : goal.returns-then-body-ge-MOST_NAMES-clause-meaning
-returns-then-body-ge-MOST_NAMES-clause-meaning c = λ u n h.
-    let r : Reading = c.args.self.now in
-    let m = mode_said c.args.mode in
-    let i = inner_of (shape r.growing) r.bodies.items n u c.in_ok-body.body h c.in_ok-body.ensures.0 in
-    let free : is_reserved m u.node c.args.name.now ≡ false = sym (c.if-is_kept_back.ensures u.node i.its.depth) in
-    let once : is_behind c.in_ok-body.body.item ((shape r.growing).opened c.in_ok-body.body.node c.args.name.now) ≡ false =
-    ap (is_behind c.in_ok-body.body.item) (sym c.child_and_item-child.ensures.item) ∙ sym c.if-is_later.ensures in
-    tells (read m u (child c.args.name.now)) too_deep c.of-then-body-ge-MOST_NAMES.result
-    (child-deep m (shape r.growing) r.bodies.items n u c.in_ok-body.body c.args.name.now i free once c.if-body-ge-MOST_NAMES.true)
-    c.of-then-body-ge-MOST_NAMES.ensures.kind c.of-then-body-ge-MOST_NAMES.ensures.at
 
 pub returns-clause-meaning : goal.returns-clause-meaning
 returns-clause-meaning c = λ u n h.
