@@ -84,6 +84,14 @@ impl Chain {
         }
     }
 
+    /// Makes room for so many things more, and for the ends of so many owners.
+    pub fn reserve(&mut self, owners: usize, things: usize) -> Result<(), AllocError>
+        ensures { self.new ≡ self.old }
+    {
+        self.links.reserve(things)?;
+        self.ends.reserve(owners)
+    }
+
     /// Adds a thing of an owner at the end.
     pub fn push(&mut self, owner: usize) -> Result<(), AllocError>
         ensures ok { OnOk result (self.new ≡ self.old ++ owner ∷ []) }

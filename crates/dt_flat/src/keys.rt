@@ -41,6 +41,14 @@ impl Keys {
         }
     }
 
+    /// Makes room for so many rows more, of so many nodes.
+    pub fn reserve(&mut self, nodes: usize, rows: usize) -> Result<(), AllocError>
+        ensures { self.new ≡ self.old }
+    {
+        self.rows.reserve(rows)?;
+        self.chain.reserve(nodes, rows)
+    }
+
     /// The row at a place.
     pub fn at(&self, place: usize) -> (NodeId, NameId)
         requires { place < length self.now }

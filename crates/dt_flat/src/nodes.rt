@@ -50,6 +50,14 @@ impl NodeTable {
         }
     }
 
+    /// Makes room for so many nodes more.
+    pub fn reserve(&mut self, nodes: usize) -> Result<(), AllocError>
+        ensures { self.new ≡ self.old }
+    {
+        self.depths.reserve(nodes)?;
+        self.rows.reserve(nodes, nodes)
+    }
+
     /// How many there are.
     pub fn len(&self) -> usize
         ensures len { result ≡ length self.now }

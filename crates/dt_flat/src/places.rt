@@ -55,6 +55,14 @@ impl Places {
         self.seed
     }
 
+    /// Makes room for so many nodes and properties more, but not for their names and the bytes of their values.
+    pub fn reserve(&mut self, nodes: usize, properties: usize) -> Result<(), AllocError>
+        ensures { self.new ≡ self.old }
+    {
+        self.nodes.reserve(nodes)?;
+        self.properties.reserve(nodes, properties)
+    }
+
     /// The number of the root.
     pub fn root(&self) -> NodeId
         ensures { result ≡ 0 }

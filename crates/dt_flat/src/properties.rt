@@ -44,6 +44,14 @@ impl PropertyTable {
         }
     }
 
+    /// Makes room for so many properties more, of so many nodes.
+    pub fn reserve(&mut self, nodes: usize, properties: usize) -> Result<(), AllocError>
+        ensures { self.new ≡ self.old }
+    {
+        self.rows.reserve(nodes, properties)?;
+        self.values.reserve(properties)
+    }
+
     /// The name and the value of the property at a place.
     pub fn at(&self, place: usize) -> (NameId, &[u8])
         requires { place < length self.now }

@@ -107,6 +107,19 @@ impl FlatTree {
         self.places.seed()
     }
 
+    /// Makes room at once for so many nodes and properties more, for whoever knows their count. The tree is unchanged, also at a fault.
+    ///
+    /// # Errors
+    ///
+    /// `NoMemory`, without a place.
+    pub fn make_room(&mut self, nodes: usize, properties: usize) -> Result<(), Fault>
+        ensures same { self.new ≡ self.old }
+        ensures refused { IfErr result IsNoMemory }
+    {
+        self.places.reserve(nodes, properties)?;
+        Ok(())
+    }
+
     /// Adds a memory reservation at the end (Devicetree Specification v0.4, 5.3).
     ///
     /// # Errors

@@ -59,6 +59,13 @@ impl Values {
         }
     }
 
+    /// Makes room for so many values more, but not for their bytes.
+    pub fn reserve(&mut self, values: usize) -> Result<(), AllocError>
+        ensures { self.new ≡ self.old }
+    {
+        self.spans.reserve(values)
+    }
+
     /// The value at a place.
     pub fn at(&self, place: usize) -> &[u8]
         requires { place < length self.now }

@@ -211,6 +211,17 @@ fn fill(
     grow(tree, bytes, named.nodes(), numbering)
 }
 
+/// How many properties the nodes will have at most: their own, a number each, and one for each of their labels, whose paths a later stage may keep.
+fn property_count(nodes: &[NamedNode<'_>]) -> usize {
+    let mut count = 0usize;
+    for node in nodes {
+        count = count
+            .saturating_add(node.properties.len())
+            .saturating_add(node.labels.len() + 1);
+    }
+    count
+}
+
 /// The tree of a named tree under the numbers of its nodes: a reference becomes its node's number as a cell (Devicetree
 /// Specification v0.4, 2.2.4), and a node that has a number has it as its property `phandle` (2.3.3), the last one where
 /// the number isn't written in it. The boot CPU is 0. `NoMemory`: memory was refused, and nothing else is in the way. The
@@ -225,7 +236,9 @@ pub fn instance(
     ensures count { IfOk result (λ made. length made.slots ≡ length tree.now.nodes) }
     ensures refused { IfErr result IsNoMemory }
 {
+    let nodes = tree.nodes();
     let mut made = FlatTree::seeded(alloc, tree.seed(), 0);
+    made.make_room(nodes.len(), property_count(nodes))?;
     let mut bytes = Vec::new(alloc);
     fill(&mut made, &mut bytes, tree, numbering)?;
     Ok(made)

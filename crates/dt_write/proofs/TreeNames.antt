@@ -1,5 +1,5 @@
 -- The names of a tree, each once.
-use Rattle.std.proofs.Common.{◌≡◌, ℕ, Bool, true, false, cond, ◌||◌, List, [], ◌∷◌, ◌++◌, ◌<◌, length, map, get_or, Option, Some, None, is_some, inl, inr, refl, sym, ap, subst, ◌∙◌, arith}
+use Rattle.std.proofs.Common.{◌≡◌, ℕ, zero, suc, slice_get, Bool, true, false, cond, ◌||◌, List, [], ◌∷◌, ◌++◌, ◌<◌, length, map, get_or, Option, Some, None, is_some, inl, inr, refl, sym, ap, subst, ◌∙◌, arith}
 use Rattle.std.specs.Prelude.{IfSome, IfNone}
 use Rattle.std.specs.Borrow.{Bor}
 use Rattle.std.specs.List.{AllByRecursion, list_any, position}
@@ -156,6 +156,12 @@ key_found keys key (Some i) e =
       omega (arith, p.0, length-map keys (λ (name : Bor (List ℕ)). name.now)),
       get_or-map (λ (name : Bor (List ℕ)). name.now) keys i key [] p.0 ∙ sym (bytes_eq_true key.now (get_or keys i key).now p.1),
     )
+
+pub key_at : (keys : List (Bor (List ℕ))) (i : ℕ) (key : Bor (List ℕ)) → slice_get keys i ≡ Some key
+    → (i < length (map (λ name. name.now) keys)) × (get_or (map (λ name. name.now) keys) i [] ≡ key.now)
+key_at [] i key e = cc
+key_at (k ∷ keys) zero key e = let same : k ≡ key = cc in (omega arith, ap (λ (name : Bor (List ℕ)). name.now) same)
+key_at (k ∷ keys) (suc i) key e = let at = key_at keys i key e in (omega (arith, at.0), at.1)
 
 pub key_missing : (keys : List (Bor (List ℕ))) (n : Name) (r : Option ℕ) → is_some r ≡ list_any (λ (k : Bor (List ℕ)). bytes_eq n k.now) keys → IfNone r (has (map (λ name. name.now) keys) n ≡ false)
 key_missing keys n None e = sym (e ∙ any_key keys n)

@@ -11,10 +11,12 @@ use indexmap::IndexSet;
 use std::alloc::{AllocError, Global};
 use std::marker::Model;
 
-/// Names, each once, in the order in which they came, which is that of their numbers. It is seen as the names.
+/// Names, each once, in the order in which they came, which is that of their numbers. It is seen as the names. Each use is
+/// remembered by the number of its name, so that who uses the names again in the same order asks for none by its bytes.
 #[derive(Drop)]
 pub(crate) struct Names<'t> {
     set: IndexSet<&'t [u8], Seed>,
+    uses: Vec<usize>,
 }
 
 impl<'t> Model for Names<'t> {
@@ -36,6 +38,7 @@ impl<'t> Names<'t> {
     {
         Names {
             set: IndexSet::with_hasher(alloc, seed),
+            uses: Vec::new(alloc),
         }
     }
 
@@ -43,7 +46,8 @@ impl<'t> Names<'t> {
     fn note(&mut self, name: &'t [u8]) -> Result<(), AllocError>
         ensures { OnOk result (self.new ≡ used self.old name.now) }
     {
-        self.set.insert(name)?;
+        let (number, _) = self.set.insert_full(name)?;
+        self.uses.push(number)?;
         Ok(())
     }
 
@@ -55,12 +59,24 @@ impl<'t> Names<'t> {
         self.set.as_slice()
     }
 
-    /// The number of a name.
-    pub fn number(&self, name: &[u8]) -> Option<usize>
+    /// The number of the name that was used so many uses after the first one, where it is this name.
+    fn used_number(&self, name: &[u8], place: usize) -> Option<usize>
+        ensures { IfSome result (λ number. (number < length self.now) × (slice_index_or self.now number [] ≡ name.now)) }
+    {
+        let number = *self.uses.get(place)?;
+        let used = self.set.get_index(number)?;
+        if *used == name { Some(number) } else { None }
+    }
+
+    /// The number of a name, which is found at once where it is that of the use at a place.
+    pub fn number(&self, name: &[u8], place: usize) -> Option<usize>
         ensures is { IfSome result (λ number. (number < length self.now) × (slice_index_or self.now number [] ≡ name.now)) }
         ensures none { IfNone result (has self.now name.now ≡ false) }
     {
-        self.set.get_index_of(name)
+        match self.used_number(name, place) {
+            Some(number) => Some(number),
+            None => self.set.get_index_of(name),
+        }
     }
 
     fn note_properties(&mut self, props: Props<'t>) -> Result<(), AllocError>

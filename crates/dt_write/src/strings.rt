@@ -118,13 +118,13 @@ impl<'t> Strings<'t> {
         self.size
     }
 
-    /// Where a name begins, in bytes from the start of the strings block.
-    pub fn offset(&self, name: &[u8]) -> usize
+    /// Where a name begins, in bytes from the start of the strings block. It is found at once where it is that of the use at a place.
+    pub fn offset(&self, name: &[u8], place: usize) -> usize
         requires { has self.now name.now ≡ true }
         ensures is { result ≡ offset_of self.now name.now }
         ensures within { result ≤ most_bytes }
     {
-        let Some(number) = self.names.number(name) else {
+        let Some(number) = self.names.number(name, place) else {
             return 0;
         };
         let holder = self.holders[number];

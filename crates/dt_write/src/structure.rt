@@ -41,8 +41,10 @@ fn put_value(out: &mut Vec<u8>, offset: u32, value: &[u8]) -> Result<(), AllocEr
     put_zeros(out, value.len())
 }
 
+/// Puts a property, whose name is the use at a place, and goes on to the next place.
 fn put_property(
     strings: &Strings<'_>,
+    place: &mut usize,
     out: &mut Vec<u8>,
     name: &[u8],
     value: &[u8],
@@ -56,27 +58,34 @@ fn put_property(
     if !fits(out.len(), value.len()) {
         return Err(Fault::of(FaultKind::Limit));
     }
-    put_value(out, strings.offset(name) as u32, value)?;
+    put_value(out, strings.offset(name, *place) as u32, value)?;
+    *place = place.wrapping_add(1);
     Ok(())
 }
 
-fn put_properties(props: Props<'_>, strings: &Strings<'_>, out: &mut Vec<u8>) -> Result<(), Fault>
+fn put_properties(
+    props: Props<'_>,
+    strings: &Strings<'_>,
+    place: &mut usize,
+    out: &mut Vec<u8>,
+) -> Result<(), Fault>
     requires { HasAll strings.now props }
     ensures put { OnOk result (out.new.items ≡ out.old.items ++ flat_map (property_block strings.now) props.entry) }
     ensures refused { IfErr result (λ fault. WhyNoBytes fault.kind
         (length out.old.items + length (flat_map (property_block strings.now) props.entry)) × (fault.at ≡ None)) }
 {
     for (name, value) in props {
-        put_property(strings, out, name, value)?;
+        put_property(strings, place, out, name, value)?;
     }
     Ok(())
 }
 
-/// Puts a node with all that is below it at the end of the structure block.
+/// Puts a node with all that is below it at the end of the structure block. The names of its properties are the uses from a place on.
 pub(crate) fn put_node(
     tree: &FlatTree,
     node: NodeId,
     strings: &Strings<'_>,
+    place: &mut usize,
     out: &mut Vec<u8>,
 ) -> Result<(), Fault>
     requires within { node < length tree.now.slots }
@@ -86,9 +95,9 @@ pub(crate) fn put_node(
         (length out.old.items + length (nodes_block strings.now (tree_at tree.now.slots node))) × (fault.at ≡ None)) }
 {
     put_begin(out, tree.name(node))?;
-    put_properties(tree.props(node), strings, out)?;
+    put_properties(tree.props(node), strings, place, out)?;
     for child in tree.children(node) {
-        put_node(tree, child, strings, out)?;
+        put_node(tree, child, strings, place, out)?;
     }
     put_word(out, END_NODE)?;
     Ok(())

@@ -83,7 +83,7 @@ fn put_structure(tree: &FlatTree, strings: &Strings<'_>, out: &mut Vec<u8>) -> R
     ensures body { OnOk result (out.new.items ≡ out.old.items ++ structure_block (reading tree.now)) }
     ensures refused { IfErr result (λ fault. WhyNotWritten (reading tree.now) fault.kind × (fault.at ≡ None)) }
 {
-    put_node(tree, tree.root(), strings, out)?;
+    put_node(tree, tree.root(), strings, &mut 0, out)?;
     put_word(out, END)?;
     Ok(())
 }

@@ -7,8 +7,13 @@ use Rattle.dt_write.proofs.names.Names.note.Goals as goal
 
 pub invariant_of-self-2 : goal.invariant_of-self-2
 invariant_of-self-2 c =
-    let more = one_more_key c.self.inside.set.keys c.insert.new.self.keys c.args.name c.in_ok-insert.ensures.keys in
+    let more = one_more_key c.self.inside.set.keys c.insert_full.new.self.keys c.args.name c.in_ok-number.ensures.keys in
+    subst AreDistinct (sym more) (distinct_used _ c.args.name.now c.self.invariant)
+
+pub invariant_of-self-in_err-push : goal.invariant_of-self-in_err-push
+invariant_of-self-in_err-push c =
+    let more = one_more_key c.self.inside.set.keys c.insert_full.new.self.keys c.args.name c.in_ok-number.ensures.keys in
     subst AreDistinct (sym more) (distinct_used _ c.args.name.now c.self.invariant)
 
 pub returns : goal.returns
-returns c = one_more_key c.self.inside.set.keys c.insert.new.self.keys c.args.name c.in_ok-insert.ensures.keys ∙ ap (λ (ns : List Name). used ns c.args.name.now) c.self.view_is
+returns c = one_more_key c.self.inside.set.keys c.insert_full.new.self.keys c.args.name c.in_ok-number.ensures.keys ∙ ap (λ (ns : List Name). used ns c.args.name.now) c.self.view_is

@@ -5,12 +5,12 @@ use Rattle.dt_write.specs.Written.{has}
 use Rattle.dt_write.proofs.TreeNames.{key_found, key_missing}
 use Rattle.dt_write.proofs.names.Names.number.Goals as goal
 
-pub returns-clause-is : goal.returns-clause-is
-returns-clause-is c =
+pub returns-in-None-clause-is : goal.returns-in-None-clause-is
+returns-in-None-clause-is c =
     subst (λ (ns : List Name). IfSome c.get_index_of.result (λ i. (i < length ns) × (get_or ns i [] ≡ c.args.name.now))) c.self.view_is
     (key_found c.self.inside.set.keys c.args.name c.get_index_of.result c.get_index_of.ensures.index)
 
-pub returns-clause-none : goal.returns-clause-none
-returns-clause-none c =
+pub returns-in-None-clause-none : goal.returns-in-None-clause-none
+returns-in-None-clause-none c =
     subst (λ (ns : List Name). IfNone c.get_index_of.result (has ns c.args.name.now ≡ false)) c.self.view_is
     (key_missing c.self.inside.set.keys c.args.name.now c.get_index_of.result c.get_index_of.ensures.found)
