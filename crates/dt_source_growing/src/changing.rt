@@ -157,10 +157,13 @@ impl<'s, 'a: 's> Growing<'s, 'a> {
     {
         let index = self.nodes.len();
         self.nodes.reserve(1)?;
-        let last = self.children.replace(parent, name.bytes(), Last { index, item })?;
+        let last = self
+            .children
+            .replace(parent, name.bytes(), Last { index, item })?;
         match standing_node(&self.nodes, last) {
             Some(index) => {
-                self.children.replace(parent, name.bytes(), Last { index, item })?;
+                self.children
+                    .replace(parent, name.bytes(), Last { index, item })?;
                 Ok((index, item_of(last)))
             }
             None => {
