@@ -61,10 +61,14 @@ impl<'a> Index<'a> {
         ensures is { IfOk result (λ index. index ≡ blob.now) }
         ensures refused { IfErr result IsNoMemory }
     {
-        let mut parents = HashMap::with_hasher(alloc, blob.seed());
-        let mut phandles = HashMap::with_hasher(alloc, blob.seed());
-        let mut values = HashMap::with_hasher(alloc, blob.seed());
-        let mut children = HashMap::with_hasher(alloc, blob.seed());
+        let counts = blob.counts();
+        let nodes = counts.nodes;
+        let mut parents = HashMap::with_capacity_and_hasher(alloc, nodes, blob.seed())?;
+        let mut phandles = HashMap::with_capacity_and_hasher(alloc, nodes, blob.seed())?;
+        // About a third of a board's properties have names that the rules ask for.
+        let asked = counts.properties / 3;
+        let mut values = HashMap::with_capacity_and_hasher(alloc, asked, blob.seed())?;
+        let mut children = HashMap::with_capacity_and_hasher(alloc, nodes, blob.seed())?;
         let count = fill(
             blob,
             &mut parents,
@@ -188,8 +192,11 @@ impl<'a> Index<'a> {
         requires { IsNode self.now node }
         ensures { option_copied result ≡ value_in (reading_of self.now) (path_at self.now node) name.now }
     {
+        if let Some(value) = self.values.get(&(node, name)) {
+            return Some(*value);
+        }
         if is_asked(name) {
-            return self.values.get(&(node, name)).copied();
+            return None;
         }
         value_of(self.blob, node, name)
     }
