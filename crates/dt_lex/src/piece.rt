@@ -66,6 +66,7 @@ fn sole_mark(first: u8, second: u8) -> Option<Mark>
 }
 
 /// A mark of one byte.
+#[inline(always)]
 fn lone_mark(text: &[u8]) -> Option<Piece<'_>>
     ensures exact { IfSome result (λ p. (m : Mode) → IsDecided m text.now p) }
     ensures front { IfSome result (IsFront text.now) }
