@@ -134,7 +134,7 @@ pub(crate) fn character_value(word: &[u8]) -> u8
     }
 }
 
-/// Appends the bytes that letters mean, of which some may be escapes.
+/// Appends the bytes that letters mean. Some may be escapes.
 fn push_letters(letters: &[u8], out: &mut Vec<u8>) -> Result<(), AllocError>
     ensures ok { OnOk result (out.new.items ≡ out.old.items ++ unescaped plain letters.now) }
     ensures err { OnErr result (out.new.items ≡ out.old.items) }

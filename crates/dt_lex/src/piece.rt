@@ -203,7 +203,7 @@ fn keyword(text: &[u8]) -> Option<Piece<'_>>
     Some(piece_of(Some(TokenKind::Keyword(keyword)), text, rest))
 }
 
-/// A mark of one byte, in the mode of values.
+/// A mark of one byte, in the mode of values, also where a name may begin with that byte.
 fn mark(text: &[u8]) -> Option<Piece<'_>>
     ensures exact { IfSome result (IsDecided mode.Plain text.now) }
     ensures front { IfSome result (IsFront text.now) }

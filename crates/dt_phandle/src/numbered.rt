@@ -211,7 +211,7 @@ fn fill(
     grow(tree, bytes, named.nodes(), numbering)
 }
 
-/// How many properties the nodes will have at most: their own, a number each, and one for each of their labels, whose paths a later stage may keep.
+/// For how many properties the tree gets room: those of the nodes, a number each, and one for each label, whose path a later stage may keep.
 fn property_count(nodes: &[NamedNode<'_>]) -> usize {
     let mut count = 0usize;
     for node in nodes {

@@ -52,7 +52,7 @@ impl<'a> Index<'a> {
     ghost use Rattle.dt_read.specs.Placed.{last_name, path_at, place_of, reading_of, IsAt, IsNode};
     ghost use Rattle.dt_view.specs.Views.{first_child_of, next_sibling_of, IsAbove, IsFoundBy, WhyNotFound};
 
-    /// Makes the index of a blob, in one walk through its tree.
+    /// Makes the index of a blob, in two walks through its tree: one counts its nodes and properties, so that the tables have room, one fills them.
     ///
     /// # Errors
     ///
@@ -65,7 +65,7 @@ impl<'a> Index<'a> {
         let nodes = counts.nodes;
         let mut parents = HashMap::with_capacity_and_hasher(alloc, nodes, blob.seed())?;
         let mut phandles = HashMap::with_capacity_and_hasher(alloc, nodes, blob.seed())?;
-        // About a third of a board's properties have names that the rules ask for.
+        // Of a board's properties a quarter have names that the rules ask for.
         let asked = counts.properties / 3;
         let mut values = HashMap::with_capacity_and_hasher(alloc, asked, blob.seed())?;
         let mut children = HashMap::with_capacity_and_hasher(alloc, nodes, blob.seed())?;

@@ -12,7 +12,7 @@ use std::alloc::{AllocError, Global};
 use std::marker::Model;
 
 /// Names, each once, in the order in which they came, which is that of their numbers. It is seen as the names. Each use is
-/// remembered by the number of its name, so that who uses the names again in the same order asks for none by its bytes.
+/// remembered by the number of its name, so that a second walk in the same order finds the names without a look into the table.
 #[derive(Drop)]
 pub(crate) struct Names<'t> {
     set: IndexSet<&'t [u8], Seed>,
