@@ -8,20 +8,25 @@ use std::alloc::Global;
 /// the bytes of values in hexadecimal; `item-count` how many items there are.
 pub fn call(alloc: Global, name: &str, input: &[u8], out: &mut Outcome) -> Result<(), Stop> {
     let source = parse(alloc, input)?;
-    match name {
-        "parse" => put_source(out.lines(), &source),
-        _ => out.tell(source.items().len()),
-    }
+    put(name, &source, out);
     Ok(())
 }
 
-fn put_source(lines: &mut Lines, source: &Source<'_>) {
+fn put(name: &str, source: &Source<'_>, out: &mut Outcome) {
+    match name {
+        "parse" => put_source(out.lines(), source),
+        _ => out.tell(source.items().len()),
+    }
+}
+
+fn put_source<'a>(lines: &mut Lines, source: &'a Source<'a>) {
     if source.is_overlay() {
         lines.put("/plugin/\n");
     }
     put_reservations(lines, source);
-    for item in source.items() {
-        put_item(lines, item);
+    let items = source.items();
+    for index in 0..items.len() {
+        put_item(lines, items.get(index));
         lines.put("\n");
     }
 }
@@ -34,7 +39,7 @@ fn put_reservations(lines: &mut Lines, source: &Source<'_>) {
     }
 }
 
-fn put_item(lines: &mut Lines, item: &Item<'_>) {
+fn put_item(lines: &mut Lines, item: Item<'_>) {
     match item {
         Item::Root => lines.put("/ {"),
         Item::Block(reference) => {
@@ -71,9 +76,12 @@ fn put_reference(lines: &mut Lines, reference: &Reference<'_>) {
     }
 }
 
-fn put_value(lines: &mut Lines, value: &Value<'_>) {
-    for piece in &value.pieces {
-        put_bytes(lines, &piece.before);
+fn put_value(lines: &mut Lines, value: Value<'_>) {
+    let mut rest = value.bytes;
+    for piece in value.pieces {
+        let (before, behind) = rest.split_at(piece.before.min(rest.len()));
+        rest = behind;
+        put_bytes(lines, before);
         match piece.form {
             Form::Cell => {
                 lines.put(" <");
@@ -86,7 +94,7 @@ fn put_value(lines: &mut Lines, value: &Value<'_>) {
             }
         }
     }
-    put_bytes(lines, &value.bytes);
+    put_bytes(lines, rest);
 }
 
 fn put_bytes(lines: &mut Lines, bytes: &[u8]) {

@@ -9,7 +9,6 @@ pub mod Leading
 pub mod ReadHeaders
 pub mod ReadItems
 pub mod LabelLists
-pub mod Pieces
 pub mod Numbers
 pub mod Parsing
 pub mod OneOutcome

@@ -13,12 +13,10 @@ use Rattle.dt_parse.specs.declared.body.Front.TheVariants as front
 use Rattle.dt_parse.specs.declared.body.Behind.TheVariants as behind
 use Rattle.std.proofs.lemmas.List.{map-append}
 use Rattle.std.proofs.lemmas.Bool.{eqb-true}
-use Rattle.dt_model.specs.Source.{Place, label}
+use Rattle.dt_model.specs.Source.{Part, Place, label}
 use Rattle.dt_model.specs.Source as model
-use Rattle.dt_source_items.specs.declared.source.Item.TheVariants as item
-use Rattle.dt_source_items.specs.declared.source.Item.{Item}
 use Rattle.dt_parse.specs.declared.body.Behind.{Behind}
-use Rattle.dt_source_items.specs.Said.{place_said, places_said}
+use Rattle.dt_source_items.specs.Gathered.{Gathered, with_place, with_value as valued}
 use Rattle.dt_grammar.specs.Words.{Word, Words}
 use Rattle.dt_grammar.specs.Unchecked.{RawComponent, RawPlace, raw_child, raw_label, raw_property, raw_delete_property, raw_delete_child, place_meant, all_but_last}
 use Rattle.dt_grammar.specs.Relaxed.{word, a_mark, a_keyword}
@@ -372,8 +370,8 @@ err_is {A} P r s t e f h = subst (λ (x : Result A Stop). IfErr x P) (sym e) (su
 pub ok_is_none : {A : Type 0} (P : A → Type 0) (r : Result A Stop) (t : Stop) → r ≡ Err t → IfOk r P
 ok_is_none {A} P r t e = subst (λ (x : Result A Stop). IfOk x P) (sym e) tt
 
-pub said_one : (xs ys : List Item) (i : Item) (p : RawPlace) → ys ≡ xs ++ i ∷ [] → place_said i ≡ place_meant p → places_said ys ≡ places_said xs ++ place_meant p ∷ []
-said_one xs ys i p e f = ap places_said e ∙ map-append place_said xs (i ∷ []) ∙ ap (λ (x : Place). places_said xs ++ x ∷ []) f
+pub said_one : (g h : Gathered) (x : Place) (p : RawPlace) → h ≡ with_place g x → x ≡ place_meant p → h.places ≡ g.places ++ place_meant p ∷ []
+said_one g h x p e f = ap (λ (g : Gathered). g.places) e ∙ ap (λ (x : Place). g.places ++ x ∷ []) f
 
 pub unclosed_end : (ls : List (List ℕ)) (ws vs : Words) (stop : Stop) → vs ≡ after true ws → ls ≡ [] → kind_at (first ws) ≡ Some (kind.Mark mark.CloseBrace) → kind_at (first vs) ≢ Some (kind.Mark mark.Semicolon) → stop.kind ≡ fault.Syntax → stop.left ≡ length vs → IsUnclosed ls ws stop
 unclosed_end ls ws vs stop v n e bad k l = unclosed n (λ a qs. no_semicolon a qs ws stop e (subst (λ (x : Words). kind_at (first x) ≢ Some (kind.Mark mark.Semicolon)) v bad) k (l ∙ ap length v))
@@ -441,20 +439,22 @@ pub unfollowed_at : (a : Around) (ls : List (List ℕ)) (ws vs : Words) (stop : 
 unfollowed_at a ls ws vs stop v e h k l =
     subst (λ (x : Words). IsBroken a (AfterMemberLabels ls) x stop) (sym (front_word ws kind.Name e)) (unfollowed a ls (bytes_at (first ws)) (after true ws) stop h k (l ∙ ap length v))
 
-pub said_more : (xs ys zs : List Item) (ps qs : List RawPlace) → places_said ys ≡ places_said xs ++ map place_meant ps → places_said zs ≡ places_said ys ++ map place_meant qs → places_said zs ≡ places_said xs ++ map place_meant (ps ++ qs)
+-- a value comes, and the property that holds it
+pub property_said : (g h k : Gathered) (n : List ℕ) (v : List Part) (p : RawPlace) → h ≡ valued g v → k ≡ with_place h (model.property n h.value) → model.property n v ≡ place_meant p →
+    k.places ≡ g.places ++ place_meant p ∷ []
+property_said g h k n v p e f q =
+    ap (λ (x : Gathered). x.places) f ∙ ap (λ (x : Gathered). x.places ++ model.property n x.value ∷ []) e ∙ ap (λ (x : Place). g.places ++ x ∷ []) q
+
+pub said_more : (xs ys zs : List Place) (ps qs : List RawPlace) → ys ≡ xs ++ map place_meant ps → zs ≡ ys ++ map place_meant qs → zs ≡ xs ++ map place_meant (ps ++ qs)
 said_more xs ys zs ps qs e f =
-    f ∙ ap (λ (x : List Place). x ++ map place_meant qs) e ∙ append_assoc (places_said xs) (map place_meant ps) (map place_meant qs) ∙ ap (λ (x : List Place). places_said xs ++ x) (sym (map-append place_meant ps qs))
+    f ∙ ap (λ (x : List Place). x ++ map place_meant qs) e ∙ append_assoc xs (map place_meant ps) (map place_meant qs) ∙ ap (λ (x : List Place). xs ++ x) (sym (map-append place_meant ps qs))
 
-pub label_said : (xs ys zs : List Item) (ns : List (List ℕ)) (n : List ℕ) → places_said ys ≡ places_said xs ++ map label ns → zs ≡ ys ++ item.Label n ∷ [] → places_said zs ≡ places_said xs ++ map label (ns ++ n ∷ [])
-label_said xs ys zs ns n e f =
-    ap places_said f ∙ map-append place_said ys (item.Label n ∷ []) ∙ ap (λ (x : List Place). x ++ label n ∷ []) e ∙ append_assoc (places_said xs) (map label ns) (label n ∷ []) ∙ ap (λ (x : List Place). places_said xs ++ x) (sym (map-append label ns (n ∷ [])))
+pub label_said : (xs : List Place) (g h : Gathered) (ns : List (List ℕ)) (n : List ℕ) → g.places ≡ xs ++ map label ns → h ≡ with_place g (label n) → h.places ≡ xs ++ map label (ns ++ n ∷ [])
+label_said xs g h ns n e f =
+    ap (λ (g : Gathered). g.places) f ∙ ap (λ (x : List Place). x ++ label n ∷ []) e ∙ append_assoc xs (map label ns) (label n ∷ []) ∙ ap (λ (x : List Place). xs ++ x) (sym (map-append label ns (n ∷ [])))
 
-pub labels_said : (xs zs : List Item) (ns : List (List ℕ)) (ls : List (List ℕ)) → places_said zs ≡ places_said xs ++ map label ns → ns ≡ map all_but_last ls → places_said zs ≡ places_said xs ++ map place_meant (map raw_label ls)
-labels_said xs zs ns ls e f = e ∙ ap (λ (x : List Place). places_said xs ++ x) (ap (map label) f ∙ sym (label_places ls))
-
-pub child_said : (xs ys zs : List Item) (n b : List ℕ) (ls : List (List ℕ)) → ys ≡ xs ++ item.Child n ∷ [] → n ≡ b → places_said zs ≡ places_said ys ++ map place_meant (map raw_label ls) → places_said zs ≡ places_said xs ++ map place_meant (raw_child b ∷ map raw_label ls)
-child_said xs ys zs n b ls e f g =
-    said_more xs ys zs (raw_child b ∷ []) (map raw_label ls) (said_one xs ys (item.Child n) (raw_child b) e (ap model.child f)) g
+pub labels_said : (xs zs : List Place) (ns : List (List ℕ)) (ls : List (List ℕ)) → zs ≡ xs ++ map label ns → ns ≡ map all_but_last ls → zs ≡ xs ++ map place_meant (map raw_label ls)
+labels_said xs zs ns ls e f = e ∙ ap (λ (x : List Place). xs ++ x) (ap (map label) f ∙ sym (label_places ls))
 
 pub not_open : (ps : List RawPlace) (ws : Words) (stop : Stop) → kind_at (first ws) ≢ Some (kind.Mark mark.OpenBrace) → stop.kind ≡ fault.Syntax → stop.left ≡ length ws → IsBroken outside (BlockOpen ps) ws stop
 not_open ps ws stop bad k l = stopped_as outside (BlockOpen ps) ws stop fault.Syntax k (unwanted (no_open ps (kind_at (first ws)) bad)) l

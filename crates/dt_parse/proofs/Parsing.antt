@@ -14,9 +14,9 @@ use Rattle.dt_parse.specs.declared.stop.Stop.{Stop}
 use Rattle.dt_grammar.specs.Words.{Words, word_of, words_of}
 use Rattle.dt_grammar.specs.Grammar.{SpellsSource}
 use Rattle.dt_grammar.specs.Unchecked.{RawPlace, RawReserve, RawSource, place_meant as said_at, reserve_of, says_of}
-use Rattle.dt_source_items.specs.declared.source.Item.{Item}
 use Rattle.dt_source_items.specs.declared.source.Reservation.{Reservation}
-use Rattle.dt_source_items.specs.Said.{reservation_said, places_said, said}
+use Rattle.dt_model.specs.Source.{Place}
+use Rattle.dt_source_items.specs.Said.{reservation_said, said}
 use Rattle.dt_grammar.specs.Moves.{source_with}
 use Rattle.dt_grammar.specs.Strict.{IsReserve, IsStrict}
 use Rattle.dt_grammar.specs.Wanted.{Made, made_places, made_behind, made_source, Wanted, SomeCells, AfterMemberLabels, AfterName, Prim, StatementThen, Top, AfterAddress, Whole}
@@ -45,17 +45,17 @@ whole_read ws top then plugin rs ls ps f g h s = record {
   fine = record { reserves = h; places = s.fine.0; ordered = s.fine.1 };
 }
 
-pub whole_says : (plugin : Bool) (reservations : List Reservation) (items : List Item) (rs : List RawReserve) (ps : List RawPlace) →
-    map reservation_said reservations ≡ map reserve_of rs → places_said items ≡ map said_at ps →
-    said plugin reservations items ≡ says_of (record { plugin = plugin; reserves = rs; places = ps })
-whole_says plugin reservations items rs ps e f = cc
+pub whole_says : (plugin : Bool) (reservations : List Reservation) (places : List Place) (rs : List RawReserve) (ps : List RawPlace) →
+    map reservation_said reservations ≡ map reserve_of rs → places ≡ map said_at ps →
+    said plugin reservations places ≡ says_of (record { plugin = plugin; reserves = rs; places = ps })
+whole_says plugin reservations places rs ps e f = cc
 
-pub whole_spelled : (ws : Words) (plugin : Bool) (reservations : List Reservation) (items : List Item) (rs : List RawReserve) (ps : List RawPlace) →
-    map reservation_said reservations ≡ map reserve_of rs → places_said items ≡ map said_at ps →
+pub whole_spelled : (ws : Words) (plugin : Bool) (reservations : List Reservation) (places : List Place) (rs : List RawReserve) (ps : List RawPlace) →
+    map reservation_said reservations ≡ map reserve_of rs → places ≡ map said_at ps →
     IsRead outside Whole ws (made_source (record { plugin = plugin; reserves = rs; places = ps })) [] →
-    SpellsSource ws (said plugin reservations items)
-whole_spelled ws plugin reservations items rs ps e f r =
-    subst (SpellsSource ws) (sym (whole_says plugin reservations items rs ps e f)) (source_spelled ws _ r.read r.fine)
+    SpellsSource ws (said plugin reservations places)
+whole_spelled ws plugin reservations places rs ps e f r =
+    subst (SpellsSource ws) (sym (whole_says plugin reservations places rs ps e f)) (source_spelled ws _ r.read r.fine)
 
 -- ---- where tokens break
 

@@ -8,6 +8,7 @@ use Rattle.dt_lex.specs.declared.token.TokenKind.TheVariants as kind
 use Rattle.dt_lex.specs.declared.token.Mark.TheVariants as mark
 use Rattle.dt_model.specs.Source.{Part}
 use Rattle.dt_expr.specs.Fits.{element}
+use Rattle.dt_source_items.specs.Gathered.{Gathered, with_parts, with_value}
 use Rattle.dt_parse.specs.declared.stop.Stop.{Stop}
 use Rattle.dt_parse.specs.declared.value.CellOpening.TheVariants as cell
 use Rattle.dt_parse.specs.declared.value.ByteOpening.TheVariants as byte
@@ -55,10 +56,13 @@ pub parts_more : (bits : ℕ) (cs : List RawCell) (c : RawCell) → cells_parts 
 parts_more bits [] c = append-nil (cell_parts bits c)
 parts_more bits (d ∷ cs) c = ap (λ (z : List Part). cell_parts bits d ++ z) (parts_more bits cs c) ∙ sym (append_assoc (cell_parts bits d) (cells_parts bits cs) (cell_parts bits c))
 
-pub said_more : (bits : ℕ) (old : List Part) (cs : List RawCell) (c : RawCell) (now new more : List Part) → now ≡ old ++ cells_parts bits cs → new ≡ now ++ more → more ≡ cell_parts bits c →
-    new ≡ old ++ cells_parts bits (cs ++ c ∷ [])
+pub nothing_more : (g : Gathered) → g ≡ with_parts g []
+nothing_more g = ap (with_value g) (sym (append-nil g.value))
+
+pub said_more : (bits : ℕ) (old : Gathered) (cs : List RawCell) (c : RawCell) (now new : Gathered) (more : List Part) → now ≡ with_parts old (cells_parts bits cs) →
+    new ≡ with_parts now more → more ≡ cell_parts bits c → new ≡ with_parts old (cells_parts bits (cs ++ c ∷ []))
 said_more bits old cs c now new more e f g =
-    f ∙ (λ i. e i ++ g i) ∙ append_assoc old (cells_parts bits cs) (cell_parts bits c) ∙ ap (λ (z : List Part). old ++ z) (sym (parts_more bits cs c))
+    f ∙ (λ i. with_parts (e i) (g i)) ∙ ap (with_value old) (append_assoc old.value (cells_parts bits cs) (cell_parts bits c)) ∙ ap (with_parts old) (sym (parts_more bits cs c))
 
 -- ---- one element more
 

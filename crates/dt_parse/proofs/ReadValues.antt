@@ -5,6 +5,7 @@ use Rattle.dt_lex.specs.declared.token.TokenKind.{TokenKind}
 use Rattle.dt_lex.specs.declared.token.TokenKind.TheVariants as kind
 use Rattle.dt_lex.specs.declared.token.Mark.TheVariants as mark
 use Rattle.dt_model.specs.Source.{Part}
+use Rattle.dt_source_items.specs.Gathered.{Gathered, with_parts, with_value}
 use Rattle.dt_parse.specs.declared.stop.Stop.{Stop}
 use Rattle.dt_grammar.specs.Words.{Words}
 use Rattle.dt_grammar.specs.Unchecked.{RawItem, RawComponent, item_parts, value_parts}
@@ -102,5 +103,7 @@ values_more : (cs : List RawComponent) (c : RawComponent) → value_parts (cs ++
 values_more [] c = append-nil (item_parts c.item)
 values_more (d ∷ cs) c = ap (λ (z : List Part). item_parts d.item ++ z) (values_more cs c) ∙ sym (append_assoc (item_parts d.item) (value_parts cs) (item_parts c.item))
 
-pub value_more : (cs : List RawComponent) (c : RawComponent) (now new : List Part) → now ≡ value_parts cs → new ≡ now ++ item_parts c.item → new ≡ value_parts (cs ++ c ∷ [])
-value_more cs c now new e f = f ∙ ap (λ (z : List Part). z ++ item_parts c.item) e ∙ sym (values_more cs c)
+pub value_more : (old : Gathered) (cs : List RawComponent) (c : RawComponent) (now new : Gathered) → now ≡ with_parts old (value_parts cs) → new ≡ with_parts now (item_parts c.item) →
+    new ≡ with_parts old (value_parts (cs ++ c ∷ []))
+value_more old cs c now new e f =
+    f ∙ ap (λ (g : Gathered). with_parts g (item_parts c.item)) e ∙ ap (with_value old) (append_assoc old.value (value_parts cs) (item_parts c.item)) ∙ ap (with_parts old) (sym (values_more cs c))

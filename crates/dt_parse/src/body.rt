@@ -17,18 +17,19 @@ ghost use Rattle.dt_grammar.specs.Wanted.{AfterMemberLabels, AfterName, BlockOpe
 ghost use Rattle.dt_grammar.specs.Descent.{first, after, found, Descends};
 ghost use Rattle.dt_grammar.specs.Faults.{outside};
 ghost use Rattle.dt_parse.specs.Reading.{IsRead, IsBroken};
-ghost use Rattle.dt_source_items.specs.Said.{value_said, places_said};
+ghost use Rattle.dt_source_items.specs.Gathered.{with_place, with_value};
+ghost use Rattle.dt_source_items.specs.Rows.{bare_said};
 ghost use Rattle.dt_parse.specs.declared.body.Front.TheVariants as front;
 ghost use Rattle.dt_parse.specs.declared.body.Behind.TheVariants as behind;
 ghost use Rattle.dt_parse.specs.Nested.{front_of, behind_of, in_body, Closes, IsMember, BreaksIn, Goes, IsUnclosed};
 
 use crate::cursor::Cursor;
 use crate::stop::Stop;
-use crate::value::{empty, labels, value};
+use crate::value::{labels, value};
 use dt_lex::{Keyword, Mark, TokenKind};
 use dt_names::limits::MOST_BODIES;
 use dt_names::{FaultKind, Label, NodeName, PropName};
-use dt_source_items::{Item, Value};
+use dt_source_items::{Bare, Items};
 use std::alloc::Global;
 
 /// What a member, or the end of a body, begins with.
@@ -108,9 +109,13 @@ fn node_name<'a>(cursor: &Cursor<'a, '_>) -> Result<NodeName<'a>, Stop>
 }
 
 /// Reads what follows a property's name: `;`, or `=`, a value and `;`.
-fn assigned<'a>(alloc: Global, cursor: &mut Cursor<'a, '_>) -> Result<Value<'a>, Stop>
+fn assigned<'a>(
+    alloc: Global,
+    cursor: &mut Cursor<'a, '_>,
+    items: &mut Items<'a>,
+) -> Result<(), Stop>
     requires { (behind_of (kind_at (first cursor.old)) ≡ behind.End) ⊎ (behind_of (kind_at (first cursor.old)) ≡ behind.Value) }
-    ensures ok { IfOk result (λ v. (cs : List RawComponent) × AllByRecursion IsComponent cs × (value_said v ≡ value_parts cs)
+    ensures ok { OnOk result ((cs : List RawComponent) × AllByRecursion IsComponent cs × (items.new ≡ with_value items.old (value_parts cs))
         × (length cursor.new < length cursor.old)
         × ((ls : List (List ℕ)) (n : List ℕ) → Descends (AfterName ls n) cursor.old (found (made_places (raw_property ls n cs ∷ [])) cursor.new))) }
     ensures err { IfErr result (λ stop. (ls : List (List ℕ)) (n : List ℕ) (outer : List Bool)
@@ -119,13 +124,13 @@ fn assigned<'a>(alloc: Global, cursor: &mut Cursor<'a, '_>) -> Result<Value<'a>,
     match behind_of(cursor.kind()) {
         Behind::End => {
             cursor.advance();
-            Ok(empty(alloc))
+            items.begin_value();
+            Ok(())
         }
         _ => {
             cursor.advance();
-            let value = value(alloc, cursor)?;
-            cursor.expect(TokenKind::Mark(Mark::Semicolon))?;
-            Ok(value)
+            value(alloc, cursor, items)?;
+            cursor.expect(TokenKind::Mark(Mark::Semicolon))
         }
     }
 }
@@ -135,13 +140,13 @@ fn property<'a>(
     alloc: Global,
     late: bool,
     cursor: &mut Cursor<'a, '_>,
-    items: &mut Vec<Item<'a>>,
+    items: &mut Items<'a>,
 ) -> Result<(), Stop>
     requires named { kind_at (first cursor.old) ≡ Some kind.Name }
     requires assigned { (behind_of (kind_at (first (after true cursor.old))) ≡ behind.End)
         ⊎ (behind_of (kind_at (first (after true cursor.old))) ≡ behind.Value) }
     ensures ok { (ls : List (List ℕ)) → AreLabelTexts ls → OnOk result ((p : RawPlace) × IsMember ls late cursor.old p late cursor.new
-        × (places_said items.new.items ≡ places_said items.old.items ++ place_meant p ∷ [])) }
+        × (items.new.places ≡ items.old.places ++ place_meant p ∷ [])) }
     ensures err { IfErr result (λ stop. (ls : List (List ℕ)) (outer : List Bool) → IsBroken (in_body late outer) (AfterMemberLabels ls) cursor.old stop) }
 {
     let name = property_name(cursor)?;
@@ -149,14 +154,15 @@ fn property<'a>(
     if late {
         return Err(cursor.stop(FaultKind::PropertyAfterNode));
     }
-    let value = assigned(alloc, cursor)?;
-    push_item(Item::Property(name, value), items)
+    assigned(alloc, cursor, items)?;
+    items.push_property(name)?;
+    Ok(())
 }
 
 /// Appends an item.
 #[inline(always)]
-pub(crate) fn push_item<'a>(item: Item<'a>, items: &mut Vec<Item<'a>>) -> Result<(), Stop>
-    ensures ok { OnOk result (items.new.items ≡ items.old.items ++ item.entry ∷ []) }
+pub(crate) fn push_item<'a>(item: Bare<'a>, items: &mut Items<'a>) -> Result<(), Stop>
+    ensures ok { OnOk result (items.new ≡ with_place items.old (bare_said item.entry)) }
     ensures err { IfErr result (λ stop. stop.kind ≡ fault.NoMemory) }
 {
     items.push(item)?;
@@ -167,13 +173,13 @@ pub(crate) fn push_item<'a>(item: Item<'a>, items: &mut Vec<Item<'a>>) -> Result
 fn open_child<'a>(
     bodies: usize,
     cursor: &mut Cursor<'a, '_>,
-    items: &mut Vec<Item<'a>>,
+    items: &mut Items<'a>,
 ) -> Result<(), Stop>
     requires named { kind_at (first cursor.old) ≡ Some kind.Name }
     requires opened { behind_of (kind_at (first (after true cursor.old))) ≡ behind.Body }
     ensures ok { OnOk result (IsNodeName (bytes_at (first cursor.old)) × (bodies < most_bodies)
         × (cursor.new ≡ after true (after true cursor.old))
-        × (places_said items.new.items ≡ places_said items.old.items ++ place_meant (raw_child (bytes_at (first cursor.old))) ∷ [])) }
+        × (items.new.places ≡ items.old.places ++ place_meant (raw_child (bytes_at (first cursor.old))) ∷ [])) }
     ensures err { IfErr result (λ stop. (ls : List (List ℕ)) (late : Bool) (outer : List Bool) → length outer + 1 ≡ bodies
         → IsBroken (in_body late outer) (AfterMemberLabels ls) cursor.old stop) }
 {
@@ -183,7 +189,7 @@ fn open_child<'a>(
         return Err(cursor.stop(FaultKind::Limit));
     }
     cursor.advance();
-    push_item(Item::Child(name), items)
+    push_item(Bare::Child(name), items)
 }
 
 /// Reads `name {`, and appends the labels in front of it, too.
@@ -191,13 +197,13 @@ fn child<'a>(
     names: Vec<Label<'a>>,
     bodies: usize,
     cursor: &mut Cursor<'a, '_>,
-    items: &mut Vec<Item<'a>>,
+    items: &mut Items<'a>,
 ) -> Result<(), Stop>
     requires named { kind_at (first cursor.old) ≡ Some kind.Name }
     requires opened { behind_of (kind_at (first (after true cursor.old))) ≡ behind.Body }
     ensures ok { (ls : List (List ℕ)) → names.entry.items ≡ map all_but_last ls → OnOk result (IsNodeName (bytes_at (first cursor.old)) × (bodies < most_bodies)
         × (cursor.new ≡ after true (after true cursor.old))
-        × (places_said items.new.items ≡ places_said items.old.items ++ map place_meant (raw_child (bytes_at (first cursor.old)) ∷ map raw_label ls))) }
+        × (items.new.places ≡ items.old.places ++ map place_meant (raw_child (bytes_at (first cursor.old)) ∷ map raw_label ls))) }
     ensures err { IfErr result (λ stop. (ls : List (List ℕ)) (late : Bool) (outer : List Bool) → length outer + 1 ≡ bodies
         → IsBroken (in_body late outer) (AfterMemberLabels ls) cursor.old stop) }
 {
@@ -206,13 +212,13 @@ fn child<'a>(
 }
 
 /// Appends labels.
-pub(crate) fn push_labels<'a>(names: Vec<Label<'a>>, items: &mut Vec<Item<'a>>) -> Result<(), Stop>
+pub(crate) fn push_labels<'a>(names: Vec<Label<'a>>, items: &mut Items<'a>) -> Result<(), Stop>
     ensures ok { (ls : List (List ℕ)) → names.entry.items ≡ map all_but_last ls
-        → OnOk result (places_said items.new.items ≡ places_said items.old.items ++ map place_meant (map raw_label ls)) }
+        → OnOk result (items.new.places ≡ items.old.places ++ map place_meant (map raw_label ls)) }
     ensures err { IfErr result (λ stop. stop.kind ≡ fault.NoMemory) }
 {
     for name in names {
-        push_item(Item::Label(name), items)?;
+        push_item(Bare::Label(name), items)?;
     }
     Ok(())
 }
@@ -240,11 +246,11 @@ fn name_ends(cursor: &mut Cursor<'_, '_>) -> Result<(), Stop>
 fn delete_property<'a>(
     late: bool,
     cursor: &mut Cursor<'a, '_>,
-    items: &mut Vec<Item<'a>>,
+    items: &mut Items<'a>,
 ) -> Result<(), Stop>
     requires { kind_at (first cursor.old) ≡ Some (kind.Keyword keyword.DeleteProperty) }
     ensures ok { (ls : List (List ℕ)) → AreLabelTexts ls → OnOk result ((p : RawPlace) × IsMember ls late cursor.old p late cursor.new
-        × (places_said items.new.items ≡ places_said items.old.items ++ place_meant p ∷ [])) }
+        × (items.new.places ≡ items.old.places ++ place_meant p ∷ [])) }
     ensures err { IfErr result (λ stop. (ls : List (List ℕ)) (outer : List Bool) → IsBroken (in_body late outer) (AfterMemberLabels ls) cursor.old stop) }
 {
     if late {
@@ -255,14 +261,14 @@ fn delete_property<'a>(
     let name = property_name(cursor)?;
     cursor.advance();
     cursor.advance();
-    push_item(Item::DeleteProperty(name), items)
+    push_item(Bare::DeleteProperty(name), items)
 }
 
 /// Reads `/delete-node/ name;`.
-fn delete_child<'a>(cursor: &mut Cursor<'a, '_>, items: &mut Vec<Item<'a>>) -> Result<(), Stop>
+fn delete_child<'a>(cursor: &mut Cursor<'a, '_>, items: &mut Items<'a>) -> Result<(), Stop>
     requires { kind_at (first cursor.old) ≡ Some (kind.Keyword keyword.DeleteNode) }
     ensures ok { (ls : List (List ℕ)) → AreLabelTexts ls → OnOk result ((p : RawPlace) × ((late : Bool) → IsMember ls late cursor.old p true cursor.new)
-        × (places_said items.new.items ≡ places_said items.old.items ++ place_meant p ∷ [])) }
+        × (items.new.places ≡ items.old.places ++ place_meant p ∷ [])) }
     ensures err { IfErr result (λ stop. (ls : List (List ℕ)) (late : Bool) (outer : List Bool)
         → IsBroken (in_body late outer) (AfterMemberLabels ls) cursor.old stop) }
 {
@@ -271,18 +277,14 @@ fn delete_child<'a>(cursor: &mut Cursor<'a, '_>, items: &mut Vec<Item<'a>>) -> R
     let name = node_name(cursor)?;
     cursor.advance();
     cursor.advance();
-    push_item(Item::DeleteChild(name), items)
+    push_item(Bare::DeleteChild(name), items)
 }
 
 /// Reads `};`.
-fn close<'a>(
-    labelled: bool,
-    cursor: &mut Cursor<'a, '_>,
-    items: &mut Vec<Item<'a>>,
-) -> Result<(), Stop>
+fn close<'a>(labelled: bool, cursor: &mut Cursor<'a, '_>, items: &mut Items<'a>) -> Result<(), Stop>
     requires { front_of (kind_at (first cursor.old)) ≡ front.Other }
     ensures ok { OnOk result ((labelled ≡ false) × Closes cursor.old cursor.new × (length cursor.new < length cursor.old)
-        × (places_said items.new.items ≡ places_said items.old.items ++ close ∷ [])) }
+        × (items.new.places ≡ items.old.places ++ close ∷ [])) }
     ensures err { IfErr result (λ stop. (ls : List (List ℕ)) → (labelled ≡ false → ls ≡ []) → (labelled ≡ true → ls ≢ []) → IsUnclosed ls cursor.old stop) }
 {
     if labelled {
@@ -290,7 +292,7 @@ fn close<'a>(
     }
     cursor.expect(TokenKind::Mark(Mark::CloseBrace))?;
     cursor.expect(TokenKind::Mark(Mark::Semicolon))?;
-    push_item(Item::Close, items)
+    push_item(Bare::Close, items)
 }
 
 /// Whether a name and `{` are next.
@@ -306,12 +308,12 @@ fn named<'a>(
     alloc: Global,
     late: bool,
     cursor: &mut Cursor<'a, '_>,
-    items: &mut Vec<Item<'a>>,
+    items: &mut Items<'a>,
 ) -> Result<(), Stop>
     requires named { kind_at (first cursor.old) ≡ Some kind.Name }
     requires unopened { behind_of (kind_at (first (after true cursor.old))) ≢ behind.Body }
     ensures ok { (ls : List (List ℕ)) → AreLabelTexts ls → OnOk result ((p : RawPlace) × IsMember ls late cursor.old p late cursor.new
-        × (places_said items.new.items ≡ places_said items.old.items ++ place_meant p ∷ [])) }
+        × (items.new.places ≡ items.old.places ++ place_meant p ∷ [])) }
     ensures err { IfErr result (λ stop. (ls : List (List ℕ)) (outer : List Bool) → IsBroken (in_body late outer) (AfterMemberLabels ls) cursor.old stop) }
 {
     match behind_of(cursor.second()) {
@@ -329,13 +331,13 @@ fn member_behind<'a>(
     labelled: bool,
     depth: Depth,
     cursor: &mut Cursor<'a, '_>,
-    items: &mut Vec<Item<'a>>,
+    items: &mut Items<'a>,
 ) -> Result<Depth, Stop>
     requires inside { 0 < depth.open }
     requires unopened { ¬ ((kind_at (first cursor.old) ≡ Some kind.Name) × (kind_at (first (after true cursor.old)) ≡ Some (kind.Mark mark.OpenBrace))) }
     ensures ok { (ls : List (List ℕ)) (ws : Words) → IsRead outside SomeLabels ws (made_labels ls) cursor.old → (labelled ≡ false → ls ≡ []) → IfOk result
         (λ next. (ps : List RawPlace) × Goes depth.open depth.late ws ps next.open next.late cursor.new
-        × (length cursor.new < length ws) × (places_said items.new.items ≡ places_said items.old.items ++ map place_meant ps)) }
+        × (length cursor.new < length ws) × (items.new.places ≡ items.old.places ++ map place_meant ps)) }
     ensures err { (ls : List (List ℕ)) (ws : Words) → IsRead outside SomeLabels ws (made_labels ls) cursor.old → (labelled ≡ false → ls ≡ [])
         → (labelled ≡ true → ls ≢ []) →
         IfErr result (λ stop. BreaksIn depth.open depth.late ws stop) }
@@ -371,11 +373,11 @@ fn member<'a>(
     alloc: Global,
     depth: Depth,
     cursor: &mut Cursor<'a, '_>,
-    items: &mut Vec<Item<'a>>,
+    items: &mut Items<'a>,
 ) -> Result<Depth, Stop>
     requires { 0 < depth.open }
     ensures ok { IfOk result (λ next. (ps : List RawPlace) × Goes depth.open depth.late cursor.old ps next.open next.late cursor.new
-        × (length cursor.new < length cursor.old) × (places_said items.new.items ≡ places_said items.old.items ++ map place_meant ps)) }
+        × (length cursor.new < length cursor.old) × (items.new.places ≡ items.old.places ++ map place_meant ps)) }
     ensures err { IfErr result (λ stop. BreaksIn depth.open depth.late cursor.old stop) }
 {
     let names = labels(alloc, cursor)?;
@@ -394,12 +396,12 @@ fn member<'a>(
 pub(crate) fn body<'a>(
     alloc: Global,
     cursor: &mut Cursor<'a, '_>,
-    items: &mut Vec<Item<'a>>,
+    items: &mut Items<'a>,
 ) -> Result<(), Stop>
     ensures ok { OnOk result ((qs : List RawPlace)
         × ((ps : List RawPlace) → Descends (BlockOpen ps) cursor.old (found (made_places (ps ++ qs)) cursor.new))
         × AllByRecursion IsSoundPlace qs × IsOrdered (false ∷ []) qs
-        × (places_said items.new.items ≡ places_said items.old.items ++ map place_meant qs)) }
+        × (items.new.places ≡ items.old.places ++ map place_meant qs)) }
     ensures err { IfErr result (λ stop. (ps : List RawPlace) → IsBroken outside (BlockOpen ps) cursor.old stop) }
 {
     cursor.expect(TokenKind::Mark(Mark::OpenBrace))?;

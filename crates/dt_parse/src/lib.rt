@@ -21,6 +21,6 @@ mod statement;
 mod stop;
 mod value;
 
-pub use dt_source_items::{Form, Item, Piece, Reference, Reservation, Source, Value};
+pub use dt_source_items::{Form, Item, Items, Piece, Reference, Reservation, Source, Value};
 pub use laws::{one_outcome, parsed_has_places};
 pub use parser::parse;

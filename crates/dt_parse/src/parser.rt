@@ -29,7 +29,7 @@ use crate::stop::Stop;
 use crate::value::labels;
 use dt_lex::{Keyword, Mark, Token, TokenKind, tokens};
 use dt_names::{Fault, FaultKind, Label, Seed};
-use dt_source_items::{Item, Reservation, Source};
+use dt_source_items::{Items, Reservation, Source};
 use std::alloc::Global;
 
 /// Whether the tokens begin with `/dts-v1/;`.
@@ -170,7 +170,7 @@ fn source<'a>(alloc: Global, seed: Seed, cursor: &mut Cursor<'a, '_>) -> Result<
 {
     let plugin = headers(cursor)?;
     let (reservations, names) = reservations(alloc, cursor)?;
-    let mut items = Vec::new(alloc);
+    let mut items = Items::new(alloc);
     statements(alloc, names, cursor, &mut items)?;
     items.shrink_to_fit();
     Ok(Source::of(seed, plugin, reservations, items))

@@ -8,7 +8,6 @@ ghost use Rattle.dt_grammar.specs.Wanted.{OneStatement, StatementThen, made_plac
 ghost use Rattle.dt_grammar.specs.Descent.{first, after};
 ghost use Rattle.dt_grammar.specs.Faults.{outside};
 ghost use Rattle.dt_parse.specs.Reading.{IsRead, IsBroken};
-ghost use Rattle.dt_source_items.specs.Said.{places_said};
 ghost use Rattle.dt_parse.specs.declared.statement.Start.TheVariants as start;
 ghost use Rattle.dt_parse.specs.Starts.{start_of};
 
@@ -18,7 +17,7 @@ use crate::stop::Stop;
 use crate::value::{labels, reference};
 use dt_lex::{Keyword, Mark, TokenKind};
 use dt_names::{FaultKind, Label};
-use dt_source_items::Item;
+use dt_source_items::{Bare, Items};
 use std::alloc::Global;
 
 /// What a statement begins with, behind its labels.
@@ -50,11 +49,11 @@ fn root<'a>(
     alloc: Global,
     labelled: bool,
     cursor: &mut Cursor<'a, '_>,
-    items: &mut Vec<Item<'a>>,
+    items: &mut Items<'a>,
 ) -> Result<(), Stop>
     requires { start_of (kind_at (first cursor.old)) ≡ start.Root }
     ensures ok { OnOk result ((labelled ≡ false) × ((ps : List RawPlace) × IsRead outside (OneStatement []) cursor.old (made_places ps) cursor.new
-        × (places_said items.new.items ≡ places_said items.old.items ++ map place_meant ps))) }
+        × (items.new.places ≡ items.old.places ++ map place_meant ps))) }
     ensures err { IfErr result (λ stop. (ls : List (List ℕ)) → (labelled ≡ false → ls ≡ []) → (labelled ≡ true → ls ≢ [])
         → IsBroken outside (OneStatement ls) cursor.old stop) }
 {
@@ -62,21 +61,21 @@ fn root<'a>(
         return Err(cursor.stop(FaultKind::Syntax));
     }
     cursor.advance();
-    push_item(Item::Root, items)?;
+    push_item(Bare::Root, items)?;
     body(alloc, cursor, items)
 }
 
 /// Reads the reference in front of a body.
-fn open_block<'a>(cursor: &mut Cursor<'a, '_>, items: &mut Vec<Item<'a>>) -> Result<(), Stop>
+fn open_block<'a>(cursor: &mut Cursor<'a, '_>, items: &mut Items<'a>) -> Result<(), Stop>
     requires { start_of (kind_at (first cursor.old)) ≡ start.Node }
     ensures ok { (t : Target) → kind_at (first cursor.old) ≡ Some (reference_kind t) → OnOk result
         (IsReferenceText t (bytes_at (first cursor.old)) × (cursor.new ≡ after true cursor.old)
-        × (places_said items.new.items ≡ places_said items.old.items ++ place_meant (raw_block t (bytes_at (first cursor.old))) ∷ [])) }
+        × (items.new.places ≡ items.old.places ++ place_meant (raw_block t (bytes_at (first cursor.old))) ∷ [])) }
     ensures err { IfErr result (λ stop. (ls : List (List ℕ)) → IsBroken outside (OneStatement ls) cursor.old stop) }
 {
     let node = reference(cursor)?;
     cursor.advance();
-    push_item(Item::Block(node), items)
+    push_item(Bare::Block(node), items)
 }
 
 /// Reads a reference and a body, behind labels.
@@ -84,12 +83,12 @@ fn block<'a>(
     alloc: Global,
     names: Vec<Label<'a>>,
     cursor: &mut Cursor<'a, '_>,
-    items: &mut Vec<Item<'a>>,
+    items: &mut Items<'a>,
 ) -> Result<(), Stop>
     requires { start_of (kind_at (first cursor.old)) ≡ start.Node }
     ensures ok { (ls : List (List ℕ)) → names.entry.items ≡ map all_but_last ls → AreLabelTexts ls → OnOk result
         ((ps : List RawPlace) × IsRead outside (OneStatement ls) cursor.old (made_places ps) cursor.new
-        × (places_said items.new.items ≡ places_said items.old.items ++ map place_meant ps)) }
+        × (items.new.places ≡ items.old.places ++ map place_meant ps)) }
     ensures err { IfErr result (λ stop. (ls : List (List ℕ)) → IsBroken outside (OneStatement ls) cursor.old stop) }
 {
     open_block(cursor, items)?;
@@ -101,11 +100,11 @@ fn block<'a>(
 fn delete_node<'a>(
     labelled: bool,
     cursor: &mut Cursor<'a, '_>,
-    items: &mut Vec<Item<'a>>,
+    items: &mut Items<'a>,
 ) -> Result<(), Stop>
     requires { start_of (kind_at (first cursor.old)) ≡ start.Deletion }
     ensures ok { OnOk result ((labelled ≡ false) × ((ps : List RawPlace) × IsRead outside (OneStatement []) cursor.old (made_places ps) cursor.new
-        × (places_said items.new.items ≡ places_said items.old.items ++ map place_meant ps))) }
+        × (items.new.places ≡ items.old.places ++ map place_meant ps))) }
     ensures err { IfErr result (λ stop. (ls : List (List ℕ)) → (labelled ≡ false → ls ≡ []) → (labelled ≡ true → ls ≢ [])
         → IsBroken outside (OneStatement ls) cursor.old stop) }
 {
@@ -118,7 +117,7 @@ fn delete_node<'a>(
             let node = reference(cursor)?;
             cursor.advance();
             cursor.expect(TokenKind::Mark(Mark::Semicolon))?;
-            push_item(Item::DeleteNode(node), items)
+            push_item(Bare::DeleteNode(node), items)
         }
         _ => Err(cursor.stop(FaultKind::Syntax)),
     }
@@ -129,11 +128,11 @@ fn statement<'a>(
     alloc: Global,
     names: Vec<Label<'a>>,
     cursor: &mut Cursor<'a, '_>,
-    items: &mut Vec<Item<'a>>,
+    items: &mut Items<'a>,
 ) -> Result<(), Stop>
     ensures ok { (ls : List (List ℕ)) → names.entry.items ≡ map all_but_last ls → AreLabelTexts ls → OnOk result
         ((ps : List RawPlace) × IsRead outside (OneStatement ls) cursor.old (made_places ps) cursor.new
-        × (places_said items.new.items ≡ places_said items.old.items ++ map place_meant ps)) }
+        × (items.new.places ≡ items.old.places ++ map place_meant ps)) }
     ensures err { (ls : List (List ℕ)) → names.entry.items ≡ map all_but_last ls → IfErr result (λ stop. IsBroken outside (OneStatement ls) cursor.old stop) }
 {
     match start_of(cursor.kind()) {
@@ -149,11 +148,11 @@ pub(crate) fn statements<'a>(
     alloc: Global,
     names: Vec<Label<'a>>,
     cursor: &mut Cursor<'a, '_>,
-    items: &mut Vec<Item<'a>>,
+    items: &mut Items<'a>,
 ) -> Result<(), Stop>
     ensures ok { (ls : List (List ℕ)) → names.entry.items ≡ map all_but_last ls → AreLabelTexts ls → OnOk result
         ((ps : List RawPlace) × IsRead outside (StatementThen ls) cursor.old (made_places ps) []
-        × (places_said items.new.items ≡ places_said items.old.items ++ map place_meant ps)) }
+        × (items.new.places ≡ items.old.places ++ map place_meant ps)) }
     ensures err { (ls : List (List ℕ)) → names.entry.items ≡ map all_but_last ls → AreLabelTexts ls → IfErr result
         (λ stop. IsBroken outside (StatementThen ls) cursor.old stop) }
 {

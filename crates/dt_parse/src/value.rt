@@ -19,15 +19,16 @@ ghost use Rattle.dt_parse.specs.declared.value.Opening.TheVariants as opening;
 ghost use Rattle.dt_parse.specs.Openings.{opening_of, cell_opening, byte_opening};
 ghost use Rattle.dt_grammar.specs.Faults.{Around, in_elements};
 ghost use Rattle.dt_parse.specs.Reading.{IsRead, IsBroken};
-ghost use Rattle.dt_source_items.specs.Said.{value_said, reference_of, referring};
+ghost use Rattle.dt_source_items.specs.Gathered.{with_parts, with_value};
+ghost use Rattle.dt_source_items.specs.Said.{reference_of, referring};
 
 use crate::cursor::Cursor;
 use crate::number::number;
 use crate::referring::referred_path;
 use crate::stop::Stop;
-use dt_lex::{Keyword, Mark, TokenKind, push_text};
+use dt_lex::{Keyword, Mark, TokenKind};
 use dt_names::{FaultKind, Label};
-use dt_source_items::{Form, Piece, Reference, Value};
+use dt_source_items::{Form, Items, Reference};
 use std::alloc::{AllocError, Global};
 
 /// The width of elements where `/bits/` gives none, in bits.
@@ -100,98 +101,18 @@ fn byte_opening(next: Option<TokenKind>) -> ByteOpening
     }
 }
 
-/// No bytes. Takes no memory.
-pub(crate) fn empty<'a>(alloc: Global) -> Value<'a>
-    ensures { value_said result ≡ [] }
-{
-    Value {
-        pieces: Vec::new(alloc),
-        bytes: Vec::new(alloc),
-    }
-}
-
-/// Most values are short: room for so many bytes is had at once.
-const SHORT: usize = 24;
-
-/// Makes room for an element, and for more where it is the first.
-fn reserve_element(bytes: &mut Vec<u8>) -> Result<(), AllocError>
-    ensures { bytes.new.items ≡ bytes.old.items }
-{
-    if bytes.capacity() == 0 {
-        bytes.reserve(SHORT)?;
-    }
-    Ok(())
-}
-
 /// Appends an element of so many bits, big-endian.
-fn push_element(value: &mut Value<'_>, bits: u32, element: u64) -> Result<(), AllocError>
+fn push_element(items: &mut Items<'_>, bits: u32, element: u64) -> Result<(), AllocError>
     requires width { IsWidth bits }
     requires fits { element < 2 ^ bits }
-    ensures { OnOk result (value_said value.new ≡ value_said value.old ++ map one (to_be_bytes (width_of bits) element)) }
+    ensures { OnOk result (items.new ≡ with_parts items.old (map one (to_be_bytes (width_of bits) element))) }
 {
-    reserve_element(&mut value.bytes)?;
     match bits {
-        8 => value.bytes.push(element as u8)?,
-        16 => value
-            .bytes
-            .extend_from_slice(&(element as u16).to_be_bytes())?,
-        32 => value
-            .bytes
-            .extend_from_slice(&(element as u32).to_be_bytes())?,
-        _ => value.bytes.extend_from_slice(&element.to_be_bytes())?,
+        8 => items.push_byte(element as u8),
+        16 => items.push_bytes(&(element as u16).to_be_bytes()),
+        32 => items.push_bytes(&(element as u32).to_be_bytes()),
+        _ => items.push_bytes(&element.to_be_bytes()),
     }
-    Ok(())
-}
-
-/// Appends a byte.
-fn push_byte(value: &mut Value<'_>, byte: u8) -> Result<(), AllocError>
-    ensures { OnOk result (value_said value.new ≡ value_said value.old ++ one byte ∷ []) }
-{
-    value.bytes.push(byte)?;
-    Ok(())
-}
-
-/// Appends the bytes of a text, with a NUL.
-fn push_string(value: &mut Value<'_>, token: &[u8]) -> Result<(), AllocError>
-    ensures { OnOk result (value_said value.new ≡ value_said value.old ++ map one (text_bytes token.now ++ 0 ∷ [])) }
-{
-    // The token is longer than what it says by its two quotes.
-    value.bytes.reserve(token.len())?;
-    push_text(token, &mut value.bytes)?;
-    value.bytes.push(0)?;
-    Ok(())
-}
-
-/// Appends a piece. Most values have no other one, so the first has room for itself alone.
-fn push_piece<'a>(pieces: &mut Vec<Piece<'a>>, piece: Piece<'a>) -> Result<(), AllocError>
-    ensures { OnOk result (pieces.new.items ≡ pieces.old.items ++ piece.entry ∷ []) }
-{
-    if pieces.is_empty() {
-        pieces.reserve_exact(1)?;
-    }
-    pieces.push(piece)?;
-    Ok(())
-}
-
-/// Appends a reference.
-fn push_reference<'a>(
-    value: &mut Value<'a>,
-    alloc: Global,
-    form: Form,
-    reference: Reference<'a>,
-) -> Result<(), AllocError>
-    ensures { OnOk result (value_said value.new ≡ value_said value.old ++ referring form (reference_of reference.entry) ∷ []) }
-{
-    let before = std::mem::replace(&mut value.bytes, Vec::new(alloc));
-    push_piece(
-        &mut value.pieces,
-        Piece {
-            before,
-            form,
-            reference,
-        },
-    )?;
-    Ok(())
 }
 
 /// The label that the next token is; `BadName` where it isn't one.
@@ -287,11 +208,11 @@ fn cells<'a>(
     alloc: Global,
     bits: u32,
     cursor: &mut Cursor<'a, '_>,
-    value: &mut Value<'a>,
+    items: &mut Items<'a>,
 ) -> Result<(), Stop>
     requires { IsWidth bits }
     ensures ok { OnOk result ((cs : List RawCell) × ((a : Around) → IsRead (in_elements bits a) SomeCells cursor.old (made_cells cs) cursor.new)
-        × (value_said value.new ≡ value_said value.old ++ cells_parts bits cs)) }
+        × (items.new ≡ with_parts items.old (cells_parts bits cs))) }
     ensures err { IfErr result (λ stop. (a : Around) → IsBroken (in_elements bits a) SomeCells cursor.old stop) }
 {
     'cells: loop {
@@ -306,11 +227,11 @@ fn cells<'a>(
                     return Err(cursor.stop(FaultKind::BadReferenceWidth));
                 }
                 cursor.advance();
-                push_reference(value, alloc, Form::Cell, target)?;
+                items.push_reference(Form::Cell, target)?;
             }
             CellOpening::Number => {
                 let element = number(alloc, bits, cursor)?;
-                push_element(value, bits, element)?;
+                push_element(items, bits, element)?;
             }
             CellOpening::Nothing => return Ok(()),
         }
@@ -318,9 +239,9 @@ fn cells<'a>(
 }
 
 /// Reads what is between `[` and `]`.
-fn bytes<'a>(cursor: &mut Cursor<'a, '_>, value: &mut Value<'a>) -> Result<(), Stop>
+fn bytes<'a>(cursor: &mut Cursor<'a, '_>, items: &mut Items<'a>) -> Result<(), Stop>
     ensures ok { OnOk result ((cs : List RawCell) × ((a : Around) → IsRead a SomeBytes cursor.old (made_cells cs) cursor.new)
-        × (value_said value.new ≡ value_said value.old ++ cells_parts 8 cs)) }
+        × (items.new ≡ with_parts items.old (cells_parts 8 cs))) }
     ensures err { IfErr result (λ stop. (a : Around) → IsBroken a SomeBytes cursor.old stop) }
 {
     'bytes: loop {
@@ -331,7 +252,7 @@ fn bytes<'a>(cursor: &mut Cursor<'a, '_>, value: &mut Value<'a>) -> Result<(), S
             }
             ByteOpening::Byte(byte) => {
                 cursor.advance();
-                push_byte(value, byte)?;
+                items.push_byte(byte)?;
             }
             ByteOpening::Nothing => return Ok(()),
         }
@@ -343,15 +264,15 @@ fn cell_list<'a>(
     alloc: Global,
     bits: u32,
     cursor: &mut Cursor<'a, '_>,
-    value: &mut Value<'a>,
+    items: &mut Items<'a>,
 ) -> Result<(), Stop>
     requires { IsWidth bits }
     ensures ok { OnOk result ((cs : List RawCell) × ((a : Around) → IsRead a (BitsOpen bits) cursor.old (made_item (cell_item bits cs)) cursor.new)
-        × (value_said value.new ≡ value_said value.old ++ cells_parts bits cs)) }
+        × (items.new ≡ with_parts items.old (cells_parts bits cs))) }
     ensures err { IfErr result (λ stop. (a : Around) → IsBroken a (BitsOpen bits) cursor.old stop) }
 {
     cursor.expect(TokenKind::Mark(Mark::Less))?;
-    cells(alloc, bits, cursor, value)?;
+    cells(alloc, bits, cursor, items)?;
     cursor.expect(TokenKind::Mark(Mark::Greater))
 }
 
@@ -374,73 +295,69 @@ fn width(cursor: &Cursor<'_, '_>) -> Result<u32, Stop>
 fn sized_cells<'a>(
     alloc: Global,
     cursor: &mut Cursor<'a, '_>,
-    value: &mut Value<'a>,
+    items: &mut Items<'a>,
 ) -> Result<(), Stop>
     ensures ok { OnOk result ((i : RawItem) × ((a : Around) → IsRead a BitsNumber cursor.old (made_item i) cursor.new)
-        × (value_said value.new ≡ value_said value.old ++ item_parts i)) }
+        × (items.new ≡ with_parts items.old (item_parts i))) }
     ensures err { IfErr result (λ stop. (a : Around) → IsBroken a BitsNumber cursor.old stop) }
 {
     let bits = width(cursor)?;
     cursor.advance();
-    cell_list(alloc, bits, cursor, value)
+    cell_list(alloc, bits, cursor, items)
 }
 
 /// Reads a text.
-fn text<'a>(cursor: &mut Cursor<'a, '_>, value: &mut Value<'a>) -> Result<(), Stop>
+fn text<'a>(cursor: &mut Cursor<'a, '_>, items: &mut Items<'a>) -> Result<(), Stop>
     requires { opening_of (kind_at (first cursor.old)) ≡ opening.Text }
     ensures ok { OnOk result ((i : RawItem) × ((a : Around) → IsRead a OneItem cursor.old (made_item i) cursor.new)
-        × (value_said value.new ≡ value_said value.old ++ item_parts i)) }
+        × (items.new ≡ with_parts items.old (item_parts i))) }
     ensures err { IfErr result (λ stop. (a : Around) → IsBroken a OneItem cursor.old stop) }
 {
-    push_string(value, cursor.bytes())?;
+    items.push_string(cursor.bytes())?;
     cursor.advance();
     Ok(())
 }
 
 /// Reads a list of bytes, from its `[` to its `]`.
-fn byte_list<'a>(cursor: &mut Cursor<'a, '_>, value: &mut Value<'a>) -> Result<(), Stop>
+fn byte_list<'a>(cursor: &mut Cursor<'a, '_>, items: &mut Items<'a>) -> Result<(), Stop>
     requires { opening_of (kind_at (first cursor.old)) ≡ opening.Bytes }
     ensures ok { OnOk result ((i : RawItem) × ((a : Around) → IsRead a OneItem cursor.old (made_item i) cursor.new)
-        × (value_said value.new ≡ value_said value.old ++ item_parts i)) }
+        × (items.new ≡ with_parts items.old (item_parts i))) }
     ensures err { IfErr result (λ stop. (a : Around) → IsBroken a OneItem cursor.old stop) }
 {
     cursor.advance();
-    bytes(cursor, value)?;
+    bytes(cursor, items)?;
     cursor.expect(TokenKind::Mark(Mark::CloseBracket))
 }
 
 /// Reads a reference outside a cell list.
-fn path_text<'a>(
-    alloc: Global,
-    cursor: &mut Cursor<'a, '_>,
-    value: &mut Value<'a>,
-) -> Result<(), Stop>
+fn path_text<'a>(cursor: &mut Cursor<'a, '_>, items: &mut Items<'a>) -> Result<(), Stop>
     requires { opening_of (kind_at (first cursor.old)) ≡ opening.Reference }
     ensures ok { OnOk result ((i : RawItem) × ((a : Around) → IsRead a OneItem cursor.old (made_item i) cursor.new)
-        × (value_said value.new ≡ value_said value.old ++ item_parts i)) }
+        × (items.new ≡ with_parts items.old (item_parts i))) }
     ensures err { IfErr result (λ stop. (a : Around) → IsBroken a OneItem cursor.old stop) }
 {
     let target = reference(cursor)?;
     cursor.advance();
-    push_reference(value, alloc, Form::Text, target)?;
+    items.push_reference(Form::Text, target)?;
     Ok(())
 }
 
 /// Reads one component of a value, without the labels around it.
-fn item<'a>(alloc: Global, cursor: &mut Cursor<'a, '_>, value: &mut Value<'a>) -> Result<(), Stop>
+fn item<'a>(alloc: Global, cursor: &mut Cursor<'a, '_>, items: &mut Items<'a>) -> Result<(), Stop>
     ensures ok { OnOk result ((i : RawItem) × ((a : Around) → IsRead a OneItem cursor.old (made_item i) cursor.new)
-        × (value_said value.new ≡ value_said value.old ++ item_parts i)) }
+        × (items.new ≡ with_parts items.old (item_parts i))) }
     ensures err { IfErr result (λ stop. (a : Around) → IsBroken a OneItem cursor.old stop) }
 {
     match opening_of(cursor.kind()) {
-        Opening::Cells => cell_list(alloc, CELL, cursor, value),
+        Opening::Cells => cell_list(alloc, CELL, cursor, items),
         Opening::SizedCells => {
             cursor.advance();
-            sized_cells(alloc, cursor, value)
+            sized_cells(alloc, cursor, items)
         }
-        Opening::Text => text(cursor, value),
-        Opening::Bytes => byte_list(cursor, value),
-        Opening::Reference => path_text(alloc, cursor, value),
+        Opening::Text => text(cursor, items),
+        Opening::Bytes => byte_list(cursor, items),
+        Opening::Reference => path_text(cursor, items),
         Opening::Nothing => Err(cursor.stop(FaultKind::Syntax)),
     }
 }
@@ -449,16 +366,15 @@ fn item<'a>(alloc: Global, cursor: &mut Cursor<'a, '_>, value: &mut Value<'a>) -
 fn components<'a>(
     alloc: Global,
     cursor: &mut Cursor<'a, '_>,
-    value: &mut Value<'a>,
+    items: &mut Items<'a>,
 ) -> Result<(), Stop>
-    requires { value_said value.old ≡ [] }
     ensures ok { OnOk result ((cs : List RawComponent) × ((a : Around) → IsRead a OneValue cursor.old (made_value cs) cursor.new)
-        × (value_said value.new ≡ value_parts cs)) }
+        × (items.new ≡ with_parts items.old (value_parts cs))) }
     ensures err { IfErr result (λ stop. (a : Around) → IsBroken a OneValue cursor.old stop) }
 {
     'components: loop {
         skip_labels(cursor)?;
-        item(alloc, cursor, value)?;
+        item(alloc, cursor, items)?;
         skip_labels(cursor)?;
         if cursor.kind() != Some(TokenKind::Mark(Mark::Comma)) {
             return Ok(());
@@ -468,12 +384,15 @@ fn components<'a>(
 }
 
 /// Reads a value: components with commas between them, labels before and behind each (Devicetree Specification v0.4, 6.3).
-pub(crate) fn value<'a>(alloc: Global, cursor: &mut Cursor<'a, '_>) -> Result<Value<'a>, Stop>
-    ensures ok { IfOk result (λ v. (cs : List RawComponent) × ((a : Around) → IsRead a OneValue cursor.old (made_value cs) cursor.new)
-        × (value_said v ≡ value_parts cs)) }
+pub(crate) fn value<'a>(
+    alloc: Global,
+    cursor: &mut Cursor<'a, '_>,
+    items: &mut Items<'a>,
+) -> Result<(), Stop>
+    ensures ok { OnOk result ((cs : List RawComponent) × ((a : Around) → IsRead a OneValue cursor.old (made_value cs) cursor.new)
+        × (items.new ≡ with_value items.old (value_parts cs))) }
     ensures err { IfErr result (λ stop. (a : Around) → IsBroken a OneValue cursor.old stop) }
 {
-    let mut value = empty(alloc);
-    components(alloc, cursor, &mut value)?;
-    Ok(value)
+    items.begin_value();
+    components(alloc, cursor, items)
 }

@@ -4,7 +4,7 @@ ghost use Rattle.std.specs.Prelude.{◌≡◌, ◌<◌, None, map, length, IfOk,
 ghost use Rattle.dt_model.specs.Limits.{most_nodes};
 ghost use Rattle.dt_model.specs.Named.{tree_of};
 ghost use Rattle.dt_names.specs.declared.fault.FaultKind.TheVariants.{Limit};
-ghost use Rattle.dt_source_items.specs.Said.{place_said, reservation_said};
+ghost use Rattle.dt_source_items.specs.Said.{reservation_said};
 ghost use Rattle.dt_source.specs.Building.{AreNodesOf, MayBeWhole};
 ghost use Rattle.dt_source.specs.Meant.{HasTree};
 ghost use Rattle.dt_source_bodies.specs.Refusals.{mode_said};
@@ -17,7 +17,7 @@ use dt_names::limits::MOST_NODES;
 use dt_names::{Fault, FaultKind, Seed};
 use dt_source_bodies::{Mode, grow};
 use dt_source_growing::Unnamed;
-use dt_source_items::{Item, Reservation, Source};
+use dt_source_items::{Items, Reservation, Source};
 use dt_source_named_tree::{NamedNode, NamedTree};
 use dt_source_nodes::named_nodes;
 use std::alloc::{AllocError, Global};
@@ -27,12 +27,12 @@ fn nodes_of<'a>(
     alloc: Global,
     seed: Seed,
     mode: Mode,
-    items: &'a [Item<'a>],
+    items: &'a Items<'a>,
 ) -> Result<Vec<NamedNode<'a>>, Fault>
-    requires { 0 < length items.now }
+    requires { 0 < length items.now.places }
     ensures { MatchResult result
-        (λ nodes. AreNodesOf (mode_said mode) (map place_said items.now) (map node_said nodes.items))
-        (WhyNotRead (mode_said mode) (map place_said items.now)) }
+        (λ nodes. AreNodesOf (mode_said mode) items.now.places (map node_said nodes.items))
+        (WhyNotRead (mode_said mode) items.now.places) }
 {
     root_stands();
     let growing = grow(alloc, seed, mode, items)?;

@@ -7,7 +7,6 @@ ghost use Rattle.dt_model.specs.Named.{tree_of};
 ghost use Rattle.dt_model.specs.NamedOverlay.{IsNamedOverlayOf};
 ghost use Rattle.dt_model.specs.Source.{IsPlace};
 ghost use Rattle.dt_names.specs.declared.fault.FaultKind.TheVariants.{Limit};
-ghost use Rattle.dt_source_items.specs.Said.{place_said};
 ghost use Rattle.dt_source.specs.Building.{MayBeWhole};
 ghost use Rattle.dt_source_fragments.specs.Fragments.{fragment_said};
 ghost use Rattle.dt_source.specs.Fragments.{AreOverlayNodes};
@@ -24,7 +23,7 @@ use dt_names::{Fault, FaultKind, Seed};
 use dt_source_bodies::{Arena, grow_overlay};
 use dt_source_fragments::{Fragment, checked_fragments};
 use dt_source_growing::Unnamed;
-use dt_source_items::{Item, Source};
+use dt_source_items::{Items, Source};
 use dt_source_named_tree::{NamedNode, NamedTree};
 use dt_source_nodes::named_nodes;
 use std::alloc::Global;
@@ -67,12 +66,12 @@ impl<'a> NamedOverlay<'a> {
 fn nodes_of<'a>(
     alloc: Global,
     seed: Seed,
-    items: &'a [Item<'a>],
+    items: &'a Items<'a>,
 ) -> Result<Vec<NamedNode<'a>>, Fault>
-    requires { AllByRecursion IsPlace (map place_said items.now) }
+    requires { AllByRecursion IsPlace items.now.places }
     ensures { MatchResult result
-        (λ nodes. AreOverlayNodes (map place_said items.now) (map node_said nodes.items))
-        (WhyNoOverlayRead (map place_said items.now)) }
+        (λ nodes. AreOverlayNodes items.now.places (map node_said nodes.items))
+        (WhyNoOverlayRead items.now.places) }
 {
     overlay_nodes_are_shallow();
     overlay_values_are_plain();

@@ -1,5 +1,5 @@
 -- From the steps of reading to those of an overlay's items.
-use Rattle.std.proofs.Common.{◌≡◌, ℕ, ◌+◌, Bool, false, not, ◌||◌, cond, List, [], ◌∷◌, ◌++◌, map, Option, Some, None, Result, Ok, Err, MatchResult, inl, inr, codes, refl, sym, ◌∙◌, ap, subst, append_assoc}
+use Rattle.std.proofs.Common.{◌≡◌, ℕ, ◌+◌, Bool, false, not, ◌||◌, cond, List, [], ◌∷◌, ◌++◌, drop, map, take, Option, Some, None, Result, Ok, Err, MatchResult, inl, inr, codes, refl, sym, ◌∙◌, ap, subst}
 use Rattle.std.specs.Option.{option_map_or}
 use Rattle.std.specs.List.{list_any}
 use Rattle.std.specs.Str.{bytes_eq}
@@ -9,7 +9,7 @@ use Rattle.dt_model.specs.Source.{by_label, Part, one, number_of, Place, block, 
 use Rattle.dt_model.specs.OverlaySource.{fragment_name, is_overlay_part, open_fragment, OverlayRefusal, as_any, overlay_phandle, overlay_path, OverlaySoFar, with_next, read_overlay}
 use Rattle.dt_names.specs.declared.fault.Fault.{Fault}
 use Rattle.dt_source_items.specs.declared.source.Piece.{Piece}
-use Rattle.dt_source_items.specs.Said.{reference_of, referring, piece_parts, pieces_parts}
+use Rattle.dt_source_items.specs.Said.{reference_of, referring, parts_said}
 use Rattle.dt_source_bodies.specs.Reading.{GoesOn}
 use Rattle.dt_source_bodies.specs.Refusals.{TellsRefusal}
 use Rattle.dt_source_bodies.specs.OverlayReading.{TellsOverlayRefusal, OverlayGoesOn, free_number}
@@ -80,12 +80,12 @@ pub bytes_fine : (bs : List ℕ) → list_any (λ x. not (is_overlay_part x)) (m
 bytes_fine [] = refl
 bytes_fine (b ∷ bs) = bytes_fine bs
 
--- the first piece, and the rest
-pub piece_first : (p : Piece) (ps : List Piece) (bs : List ℕ) → list_any (λ x. not (is_overlay_part x)) (pieces_parts (p ∷ ps) ++ map one bs)
-    ≡ (not (is_overlay_part (referring p.form (reference_of p.reference))) || list_any (λ x. not (is_overlay_part x)) (pieces_parts ps ++ map one bs))
-piece_first p ps bs =
-    let last = referring p.form (reference_of p.reference) in
-    let rest = pieces_parts ps ++ map one bs in
-    let same : (piece_parts p ++ pieces_parts ps) ++ map one bs ≡ map one p.before.items ++ last ∷ rest =
-    append_assoc (piece_parts p) (pieces_parts ps) (map one bs) ∙ append_assoc (map one p.before.items) (last ∷ []) rest in
-    ap (list_any (λ x. not (is_overlay_part x))) same ∙ bytes_past p.before.items (last ∷ rest)
+-- a reference that no overlay may have in a value
+abbrev pub is_refused : Piece → Bool
+is_refused p = not (is_overlay_part (referring p.form (reference_of p.reference)))
+
+-- the pieces alone decide
+pub by_pieces : (ps : List Piece) (bs : List ℕ) → list_any (λ x. not (is_overlay_part x)) (parts_said ps bs) ≡ list_any is_refused ps
+by_pieces [] bs = bytes_fine bs
+by_pieces (p ∷ ps) bs =
+    bytes_past (take p.before bs) (referring p.form (reference_of p.reference) ∷ parts_said ps (drop p.before bs)) ∙ ap (λ b. is_refused p || b) (by_pieces ps (drop p.before bs))

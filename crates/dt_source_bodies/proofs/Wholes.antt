@@ -1,13 +1,11 @@
 -- From the steps of reading to what the code says of them.
-use Rattle.std.proofs.Common.{◌≡◌, ℕ, ◌+◌, ◌<◌, ◌≤◌, Bool, List, [], ◌∷◌, ◌++◌, Option, Some, None, Result, Ok, Err, inl, inr, is_some, length, map, take, drop, get_or, refl, sym, ◌∙◌, ap, subst, arith}
+use Rattle.std.proofs.Common.{◌≡◌, ℕ, ◌+◌, ◌<◌, ◌≤◌, Bool, List, [], ◌∷◌, ◌++◌, Option, Some, None, Result, Ok, Err, inl, inr, is_some, length, take, drop, get_or, refl, sym, ◌∙◌, ap, subst, arith}
 use Rattle.std.specs.List.{AllByRecursion}
 use Rattle.std.specs.Option.{option_and_then}
 use Rattle.dt_model.specs.Names.{Name}
 use Rattle.dt_model.specs.Event.{Stack, Event, opens, takes, gives, defines, drops, age_by, age, property_age, label_age}
 use Rattle.dt_model.specs.Source.{Mode, Place, Refusal, SoFar, nothing, read, and_if_read, read_all}
-use Rattle.dt_source_items.specs.Said.{place_said}
-use Rattle.dt_source_items.specs.declared.source.Item.{Item}
-use Rattle.std.proofs.lemmas.List.{take_more, map-append, take-append-drop}
+use Rattle.std.proofs.lemmas.List.{take_more, take-append-drop}
 use Rattle.dt_names.specs.declared.fault.Fault.{Fault}
 use Rattle.dt_source_growing.specs.Shape.{AreAged, node_at, property_at, given_at, Shows}
 use Rattle.dt_source_growing.specs.Growing.{shape}
@@ -115,22 +113,21 @@ goes_on-is (Ok u) r n h = (u, refl, h)
 goes_on-is (Err f) r n h = absurd h
 
 -- after one more item of the list
-pub read_more : (m : Mode) (items : List Item) (i : ℕ) (x : Item) (u : SoFar) → i < length items → x ≡ get_or items i x → read_all m nothing (map place_said (take i items)) ≡ Ok u
-    → read_all m nothing (map place_said (take (i + 1) items)) ≡ read m u (place_said x)
-read_more m items i x u b e h =
-    let t : take (i + 1) items ≡ take i items ++ x ∷ [] = take_more items i x b ∙ ap (λ y. take i items ++ y ∷ []) (sym e) in
-    ap (λ xs. read_all m nothing (map place_said xs)) t ∙ ap (read_all m nothing) (map-append place_said (take i items) (x ∷ [])) ∙ read_one-more m (map place_said (take i items)) (place_said x) u h
+pub read_more : (m : Mode) (places : List Place) (i : ℕ) (x : Place) (u : SoFar) → i < length places → x ≡ get_or places i x → read_all m nothing (take i places) ≡ Ok u
+    → read_all m nothing (take (i + 1) places) ≡ read m u x
+read_more m places i x u b e h =
+    let t : take (i + 1) places ≡ take i places ++ x ∷ [] = take_more places i x b ∙ ap (λ y. take i places ++ y ∷ []) (sym e) in
+    ap (read_all m nothing) t ∙ read_one-more m (take i places) x u h
 
 -- a refusal in the list is the list's
-read_refused : (m : Mode) (items : List Item) (i : ℕ) (x : Item) (u : SoFar) (r : Refusal) → i < length items → x ≡ get_or items i x → read_all m nothing (map place_said (take i items)) ≡ Ok u
-    → read m u (place_said x) ≡ Err r → read_all m nothing (map place_said items) ≡ Err r
-read_refused m items i x u r b e h k =
-    let whole : take (i + 1) items ++ drop (i + 1) items ≡ items = take-append-drop (i + 1) items in
-    ap (λ xs. read_all m nothing (map place_said xs)) (sym whole) ∙ ap (read_all m nothing) (map-append place_said (take (i + 1) items) (drop (i + 1) items))
-    ∙ read_all-append m nothing (map place_said (take (i + 1) items)) (map place_said (drop (i + 1) items))
-    ∙ ap (λ o. and_if_read o (λ t. read_all m t (map place_said (drop (i + 1) items)))) (read_more m items i x u b e h ∙ k)
+read_refused : (m : Mode) (places : List Place) (i : ℕ) (x : Place) (u : SoFar) (r : Refusal) → i < length places → x ≡ get_or places i x → read_all m nothing (take i places) ≡ Ok u
+    → read m u x ≡ Err r → read_all m nothing places ≡ Err r
+read_refused m places i x u r b e h k =
+    let whole : take (i + 1) places ++ drop (i + 1) places ≡ places = take-append-drop (i + 1) places in
+    ap (read_all m nothing) (sym whole) ∙ read_all-append m nothing (take (i + 1) places) (drop (i + 1) places)
+    ∙ ap (λ o. and_if_read o (λ t. read_all m t (drop (i + 1) places))) (read_more m places i x u b e h ∙ k)
 
-pub told : (m : Mode) (items : List Item) (i : ℕ) (x : Item) (u : SoFar) (fault : Fault) → i < length items → x ≡ get_or items i x → read_all m nothing (map place_said (take i items)) ≡ Ok u
-    → TellsRefusal (read m u (place_said x)) fault → WhyNotGrown m (map place_said items) fault
-told m items i x u fault b e h (at, inl memory) = (at, inl memory)
-told m items i x u fault b e h (at, inr (r, k, kind)) = (at, inr (r, read_refused m items i x u r b e h k, kind))
+pub told : (m : Mode) (places : List Place) (i : ℕ) (x : Place) (u : SoFar) (fault : Fault) → i < length places → x ≡ get_or places i x → read_all m nothing (take i places) ≡ Ok u
+    → TellsRefusal (read m u x) fault → WhyNotGrown m places fault
+told m places i x u fault b e h (at, inl memory) = (at, inl memory)
+told m places i x u fault b e h (at, inr (r, k, kind)) = (at, inr (r, read_refused m places i x u r b e h k, kind))

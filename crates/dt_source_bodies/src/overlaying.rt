@@ -14,7 +14,7 @@ use crate::arena::Arena;
 use crate::reading::{Mode, Reading};
 use dt_names::{Fault, FaultKind, Seed};
 use dt_source_growing::{Growing, PropertyValue};
-use dt_source_items::{Form, Item, Piece, Reference, Value};
+use dt_source_items::{Form, Item, Items, Piece, Reference, Value};
 use std::alloc::{AllocError, Global};
 
 /// Whether a piece ends with a reference by a label in a cell list.
@@ -31,10 +31,10 @@ fn is_overlay_piece(piece: &Piece<'_>) -> bool
 }
 
 /// Whether each reference of a value is by a label in a cell list.
-fn is_overlay_value(value: &Value<'_>) -> bool
-    ensures { result ≡ not (list_any (λ x. not (is_overlay_part x)) (value_said value.now)) }
+fn is_overlay_value(value: Value<'_>) -> bool
+    ensures { result ≡ not (list_any (λ x. not (is_overlay_part x)) (value_said value.entry)) }
 {
-    for piece in &value.pieces {
+    for piece in value.pieces {
         if !is_overlay_piece(piece) {
             return false;
         }
@@ -106,14 +106,9 @@ impl<'s, 'a: 's> Reading<'s, 'a> {
         }
     }
 
-    fn overlay_define(
-        &mut self,
-        item: usize,
-        name: &'a [u8],
-        value: &'a Value<'a>,
-    ) -> Result<(), Fault>
+    fn overlay_define(&mut self, item: usize, name: &'a [u8], value: Value<'a>) -> Result<(), Fault>
         requires { IsWhole self.old }
-        ensures meaning { OverlayFollows self.old self.new item (property name.now (value_said value.now)) result }
+        ensures meaning { OverlayFollows self.old self.new item (property name.now (value_said value.entry)) result }
         ensures whole { OnOk result (IsWhole self.new) }
         ensures grown { OnOk result (length self.old.growing.nodes.items ≤ length self.new.growing.nodes.items) }
     {
@@ -127,10 +122,10 @@ impl<'s, 'a: 's> Reading<'s, 'a> {
     }
 
     /// An item that isn't a block by a reference.
-    pub fn overlay_step(&mut self, item: usize, next: &'a Item<'a>) -> Result<(), Fault>
+    pub fn overlay_step(&mut self, item: usize, next: Item<'a>) -> Result<(), Fault>
         requires whole { IsWhole self.old }
-        requires no_block { IsNoBlock (place_said next.now) }
-        ensures meaning { OverlayFollows self.old self.new item (place_said next.now) result }
+        requires no_block { IsNoBlock (place_said next) }
+        ensures meaning { OverlayFollows self.old self.new item (place_said next.entry) result }
         ensures whole { OnOk result (IsWhole self.new) }
         ensures grown { OnOk result (length self.old.growing.nodes.items ≤ length self.new.growing.nodes.items) }
     {
@@ -168,14 +163,14 @@ impl<'s, 'a: 's> Reading<'s, 'a> {
     fn overlay_item(
         &mut self,
         item: usize,
-        next: &'a Item<'a>,
+        next: Item<'a>,
         arena: &'s Arena,
         used: usize,
     ) -> Result<usize, Fault>
         requires whole { IsWhole self.old }
         requires rooted { 0 < length self.old.growing.nodes.items }
-        requires left { IsSomeLeft arena.now used (place_said next.now) }
-        ensures meaning { ItemFollows self.old self.new item (place_said next.now) arena.now used result }
+        requires left { IsSomeLeft arena.now used (place_said next) }
+        ensures meaning { ItemFollows self.old self.new item (place_said next.entry) arena.now used result }
         ensures whole { OnOk result (IsWhole self.new) }
         ensures rooted { OnOk result (0 < length self.new.growing.nodes.items) }
     {
@@ -200,20 +195,20 @@ fn used_more(used: usize, made: bool) -> usize
 /// Reads items from the first on.
 fn read_overlay_items<'s, 'a: 's>(
     reading: &mut Reading<'s, 'a>,
-    items: &'a [Item<'a>],
+    items: &'a Items<'a>,
     arena: &'s Arena,
 ) -> Result<(), Fault>
     requires whole { IsWhole reading.old }
     requires rooted { 0 < length reading.old.growing.nodes.items }
     requires start { Holds reading.old 0 overlay_start.source }
-    requires arena { IsArena (map place_said items.now) arena.now }
+    requires arena { IsArena items.now.places arena.now }
     ensures { MatchResult result
-        (λ _. IsWhole reading.new × (s : OverlaySoFar) × (all_overlay (map place_said items.now) ≡ Ok s) × Holds reading.new (length items.now) s.source)
-        (TellsOverlayRefusal (all_overlay (map place_said items.now))) }
+        (λ _. IsWhole reading.new × (s : OverlaySoFar) × (all_overlay items.now.places ≡ Ok s) × Holds reading.new (length items.now.places) s.source)
+        (TellsOverlayRefusal (all_overlay items.now.places)) }
 {
     let mut used = 0;
-    for (item, next) in items.iter().enumerate() {
-        used = reading.overlay_item(item, next, arena, used)?;
+    for item in 0..items.len() {
+        used = reading.overlay_item(item, items.get(item), arena, used)?;
     }
     Ok(())
 }
@@ -224,14 +219,14 @@ fn read_overlay_items<'s, 'a: 's>(
 pub fn grow_overlay<'s, 'a: 's>(
     alloc: Global,
     seed: Seed,
-    items: &'a [Item<'a>],
+    items: &'a Items<'a>,
     arena: &'s Arena,
 ) -> Result<Growing<'s, 'a>, Fault>
-    requires { IsArena (map place_said items.now) arena.now }
+    requires { IsArena items.now.places arena.now }
     ensures { MatchResult result
-        (λ g. (s : OverlaySoFar) × (all_overlay (map place_said items.now) ≡ Ok s)
+        (λ g. (s : OverlaySoFar) × (all_overlay items.now.places ≡ Ok s)
         × IsGrown g.nodes.items g.properties.items g.givings.items s.source.events)
-        (TellsOverlayRefusal (all_overlay (map place_said items.now))) }
+        (TellsOverlayRefusal (all_overlay items.now.places)) }
 {
     let mut reading = Reading::new(alloc, seed, items)?;
     reading.begin()?;

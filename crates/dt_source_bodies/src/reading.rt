@@ -16,7 +16,7 @@ ghost use Rattle.dt_source_bodies.specs.Refusals.{mode_said, TellsRefusal, WhyNo
 use dt_names::limits::MOST_NAMES;
 use dt_names::{Fault, FaultKind, Seed, is_bookkeeping_name};
 use dt_source_growing::{Growing, NameText, PropertyValue};
-use dt_source_items::{Item, Reference};
+use dt_source_items::{Item, Items, Reference};
 use std::alloc::{AllocError, Global};
 
 /// Of what kind a source is.
@@ -73,7 +73,7 @@ fn enter(bodies: &mut Vec<OpenBody>, body: OpenBody) -> Result<(), AllocError>
 
 impl<'s, 'a: 's> Reading<'s, 'a> {
     /// Nothing was read yet of these items.
-    pub fn new(alloc: Global, seed: Seed, items: &[Item<'_>]) -> Result<Self, AllocError>
+    pub fn new(alloc: Global, seed: Seed, items: &'a Items<'a>) -> Result<Self, AllocError>
         ensures whole { IfOk result IsWhole }
         ensures meaning { IfOk result (λ reading. Holds reading 0 nothing) }
     {
@@ -313,9 +313,9 @@ impl<'s, 'a: 's> Reading<'s, 'a> {
     }
 
     /// The next item, which has this number.
-    fn step(&mut self, mode: Mode, item: usize, next: &'a Item<'a>) -> Result<(), Fault>
+    fn step(&mut self, mode: Mode, item: usize, next: Item<'a>) -> Result<(), Fault>
         requires { IsWhole self.old }
-        ensures meaning { ReadsItem (mode_said mode) self.old self.new item (place_said next.now) result }
+        ensures meaning { ReadsItem (mode_said mode) self.old self.new item (place_said next.entry) result }
         ensures whole { OnOk result (IsWhole self.new) }
     {
         match next {
@@ -338,17 +338,17 @@ impl<'s, 'a: 's> Reading<'s, 'a> {
 fn read_items<'s, 'a: 's>(
     reading: &mut Reading<'s, 'a>,
     mode: Mode,
-    items: &'a [Item<'a>],
+    items: &'a Items<'a>,
 ) -> Result<(), Fault>
     requires whole { IsWhole reading.old }
     requires nothing { Holds reading.old 0 nothing }
     ensures { MatchResult result
         (λ _. IsWhole reading.new
-        × GoesOn (read_all (mode_said mode) nothing (map place_said items.now)) reading.new (length items.now))
-        (WhyNotGrown (mode_said mode) (map place_said items.now)) }
+        × GoesOn (read_all (mode_said mode) nothing items.now.places) reading.new (length items.now.places))
+        (WhyNotGrown (mode_said mode) items.now.places) }
 {
-    for (item, next) in items.iter().enumerate() {
-        reading.step(mode, item, next)?;
+    for item in 0..items.len() {
+        reading.step(mode, item, items.get(item))?;
     }
     Ok(())
 }
@@ -362,12 +362,12 @@ pub fn grow<'s, 'a: 's>(
     alloc: Global,
     seed: Seed,
     mode: Mode,
-    items: &'a [Item<'a>],
+    items: &'a Items<'a>,
 ) -> Result<Growing<'s, 'a>, Fault>
     ensures { MatchResult result
-        (λ g. (so_far : SoFar) × (read_all (mode_said mode) nothing (map place_said items.now) ≡ Ok so_far)
+        (λ g. (so_far : SoFar) × (read_all (mode_said mode) nothing items.now.places ≡ Ok so_far)
         × IsGrown g.nodes.items g.properties.items g.givings.items so_far.events)
-        (WhyNotGrown (mode_said mode) (map place_said items.now)) }
+        (WhyNotGrown (mode_said mode) items.now.places) }
 {
     let mut reading = Reading::new(alloc, seed, items)?;
     read_items(&mut reading, mode, items)?;

@@ -1,5 +1,5 @@
 -- The names that new fragments may not get, and those that they get.
-use Rattle.std.proofs.Common.{◌≡◌, ℕ, zero, suc, ◌+◌, ◌*◌, ◌^◌, ◌<◌, ◌≤◌, Bool, true, false, cond, ◌||◌, List, [], ◌∷◌, ◌++◌, map, length, drop, get_or, Option, None, Some, refl, sym, ◌∙◌, ap, arith, append_assoc}
+use Rattle.std.proofs.Common.{◌≡◌, ℕ, zero, suc, ◌+◌, ◌*◌, ◌^◌, ◌<◌, ◌≤◌, Bool, true, false, cond, ◌||◌, List, [], ◌∷◌, ◌++◌, length, drop, get_or, slice_get, Option, None, Some, refl, sym, ◌∙◌, ap, arith, append_assoc}
 use Rattle.std.specs.Borrow.{Bor}
 use Rattle.std.specs.HashSet.{HashSet, contains_by, UpdatesBy}
 use Rattle.std.specs.Option.{IfSome}
@@ -12,8 +12,7 @@ use Rattle.dt_model.proofs.EventSteps.{bytes_eq-refl, bytes_eq-is}
 use Rattle.dt_model.specs.Names.{Name}
 use Rattle.dt_model.specs.OverlaySource.{root_children, fragment_name, free_from}
 use Rattle.dt_model.specs.Source.{Place, root, block, delete_node, child, label, property, delete_property, delete_child, close, is_among}
-use Rattle.dt_source_items.specs.Said.{place_said}
-use Rattle.dt_source_items.specs.declared.source.Item.{Item}
+use Rattle.dt_source_items.proofs.PlaceLists.{places_from}
 use Rattle.dt_source_fragments.specs.FragmentNames.{borrowed, depth_behind, has_name, made_names, root_child, NameSet}
 
 -- ---- the children of the root
@@ -56,13 +55,12 @@ shallow_behind close (Some zero) i h = tt
 shallow_behind close (Some (suc d)) i h = omega arith
 
 -- the names so far and those that are left
-pub one_found : (all old new : List Name) (depth after : Option ℕ) (items : List Item) (i : ℕ) (x : Item) → i < length items → x ≡ get_or items i x →
-    old ++ root_children depth (map place_said (drop i items)) ≡ all → new ≡ old ++ root_child (place_said x) depth → after ≡ depth_behind (place_said x) depth →
-    new ++ root_children after (map place_said (drop (i + 1) items)) ≡ all
-one_found all old new depth after items i x near is before more next =
-    let place = place_said x in
-    let rest = map place_said (drop (i + 1) items) in
-    let left : map place_said (drop i items) ≡ place ∷ rest = ap (map place_said) (drop_more items i x near ∙ ap (λ (y : Item). y ∷ drop (i + 1) items) (sym is)) in
+pub one_found : (all old new : List Name) (depth after : Option ℕ) (places : List Place) (i : ℕ) (place : Place) → slice_get places i ≡ Some place →
+    old ++ root_children depth (drop i places) ≡ all → new ≡ old ++ root_child place depth → after ≡ depth_behind place depth →
+    new ++ root_children after (drop (i + 1) places) ≡ all
+one_found all old new depth after places i place is before more next =
+    let rest = drop (i + 1) places in
+    let left = places_from places i place is in
     ap (λ (ns : List Name). ns ++ root_children after rest) more
     ∙ ap (λ (o : Option ℕ). (old ++ root_child place depth) ++ root_children o rest) next
     ∙ append_assoc old (root_child place depth) (root_children (depth_behind place depth) rest)

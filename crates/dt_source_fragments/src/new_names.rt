@@ -9,7 +9,7 @@ ghost use Rattle.dt_source_items.specs.Said.{place_said};
 ghost use Rattle.dt_source_fragments.specs.FragmentNames.{borrowed, depth_behind, has_name, made_names, root_child, texts, IsSetOf};
 
 use dt_names::Seed;
-use dt_source_items::Item;
+use dt_source_items::{Item, Items};
 use itoa::Buffer;
 use std::alloc::{AllocError, Global};
 use std::collections::HashSet;
@@ -45,14 +45,15 @@ fn add_root_child<'a>(
 }
 
 /// The children of the root that `/ { }` blocks open.
-fn root_children<'a>(alloc: Global, items: &[Item<'a>]) -> Result<Vec<&'a [u8]>, AllocError>
-    ensures { IfOk result (λ names. borrowed names.items ≡ root_children None (map place_said items.now)) }
+fn root_children<'a>(alloc: Global, items: &'a Items<'a>) -> Result<Vec<&'a [u8]>, AllocError>
+    ensures { IfOk result (λ names. borrowed names.items ≡ root_children None items.now.places) }
 {
     let mut names = Vec::new(alloc);
     let mut depth = None;
-    for item in items {
-        add_root_child(&mut names, item, depth)?;
-        depth = depth_behind(item, depth);
+    for index in 0..items.len() {
+        let item = items.get(index);
+        add_root_child(&mut names, &item, depth)?;
+        depth = depth_behind(&item, depth);
     }
     Ok(names)
 }
@@ -110,8 +111,8 @@ impl<'a> Model for Written<'a> {
 }
 
 impl<'a> Written<'a> {
-    fn new(alloc: Global, seed: Seed, items: &[Item<'a>]) -> Result<Written<'a>, AllocError>
-        ensures names { IfOk result (λ written. written ≡ root_children None (map place_said items.now)) }
+    fn new(alloc: Global, seed: Seed, items: &'a Items<'a>) -> Result<Written<'a>, AllocError>
+        ensures names { IfOk result (λ written. written ≡ root_children None items.now.places) }
         ensures few { IfOk result (λ written. length written < 2 ^ 64) }
     {
         let names = root_children(alloc, items)?;
@@ -187,13 +188,13 @@ impl<'a> Written<'a> {
 }
 
 /// The names that so many new fragments get, in the order in which they get them. The names of the items are hashed behind the seed.
-pub fn fragment_names(
+pub fn fragment_names<'a>(
     alloc: Global,
     seed: Seed,
-    items: &[Item<'_>],
+    items: &'a Items<'a>,
     count: usize,
 ) -> Result<Vec<Vec<u8>>, AllocError>
-    ensures { IfOk result (λ names. texts names.items ≡ made_names (root_children None (map place_said items.now)) count 0) }
+    ensures { IfOk result (λ names. texts names.items ≡ made_names (root_children None items.now.places) count 0) }
 {
     let written = Written::new(alloc, seed, items)?;
     written.made_names(alloc, count)

@@ -21,7 +21,7 @@ target_value (by_path p) = map one (path_value p)
 
 -- what a property holds
 abbrev pub value_held : PropertyValue → List Part
-value_held (value.Written v) = value_said v.now
+value_held (value.Written v) = value_said v
 value_held (value.Target r) = target_value (reference_of r.now)
 
 -- a node below the root comes after its parent

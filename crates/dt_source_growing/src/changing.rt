@@ -9,7 +9,7 @@ ghost use Rattle.dt_source_growing.specs.Growing.{shape, standing, nodes_listed,
 use crate::growing::{Giving, Growing, NameText, Node, Property, PropertyValue};
 use crate::table::{Last, NameTable, Table};
 use dt_names::Seed;
-use dt_source_items::Item;
+use dt_source_items::{Item, Items};
 use std::alloc::{AllocError, Global};
 
 /// Room is made at once for no more things of a kind than this: most of a text that has more may be refused.
@@ -23,20 +23,20 @@ struct Room {
 }
 
 /// Room for what the items make: the root, and as many nodes and properties as they open and define, but no more than the most.
-fn room_for(items: &[Item<'_>]) -> Room
+fn room_for<'a>(items: &'a Items<'a>) -> Room
     ensures { (result.nodes ≤ 65536) × (result.properties ≤ 65536) }
 {
-    let mut nodes = 1usize;
+    let mut nodes = 0usize;
     let mut properties = 0usize;
-    for item in items {
-        match item {
+    for index in 0..items.len() {
+        match items.get(index) {
             Item::Child(_) => nodes += 1,
             Item::Property(_, _) => properties += 1,
             _ => {}
         }
     }
     Room {
-        nodes: nodes.min(MOST_ROOM),
+        nodes: nodes.min(MOST_ROOM - 1) + 1,
         properties: properties.min(MOST_ROOM),
     }
 }
@@ -80,7 +80,7 @@ fn item_of(last: Option<Last>) -> Option<usize>
 
 impl<'s, 'a: 's> Growing<'s, 'a> {
     /// No tree yet, with room for what the items make. Names will be hashed behind the seed.
-    pub fn new(alloc: Global, seed: Seed, items: &[Item<'_>]) -> Result<Self, AllocError>
+    pub fn new(alloc: Global, seed: Seed, items: &'a Items<'a>) -> Result<Self, AllocError>
         ensures nodes { IfOk result (λ growing. growing.nodes.items ≡ []) }
         ensures properties { IfOk result (λ growing. growing.properties.items ≡ []) }
         ensures givings { IfOk result (λ growing. growing.givings.items ≡ []) }

@@ -38,7 +38,7 @@ pub struct Node<'s, 'a> {
 #[derive(Clone, Copy)]
 pub enum PropertyValue<'a> {
     /// A value that the source writes.
-    Written(&'a Value<'a>),
+    Written(Value<'a>),
     /// The target of a new fragment: a cell by its label, or the text of its path and a NUL.
     Target(&'a Reference<'a>),
 }

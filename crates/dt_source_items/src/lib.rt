@@ -3,14 +3,17 @@
 //! labels, properties and deletions. Names and bytes are parts of the text.
 //!
 //! ```text
-//! for item in source.items() {            // of `/dts-v1/; / { a: b { c = <1>; }; };`
-//!     match item { .. }                   // the root opens, b opens, the label a, c, b closes, the root closes
+//! let items = source.items();             // of `/dts-v1/; / { a: b { c = <1>; }; };`
+//! for index in 0..items.len() {
+//!     match items.get(index) { .. }       // the root opens, b opens, the label a, c, b closes, the root closes
 //! }
 //! ```
 //!
 //! Such sources are cases of grammar.cases (docs/CASES.md).
 #![tactic(auto)]
 
+mod items;
 mod source;
 
+pub use items::{Bare, Items};
 pub use source::{Form, Item, Piece, Reference, Reservation, Source, Value};

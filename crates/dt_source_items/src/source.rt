@@ -7,9 +7,10 @@ ghost use Rattle.dt_model.specs.Source.{IsPlace};
 ghost use Rattle.dt_model.specs.Nested.{AreNested};
 ghost use Rattle.dt_grammar.specs.Grammar.{SpellsSource};
 ghost use Rattle.dt_grammar.specs.Words.{Words};
-ghost use Rattle.dt_source_items.specs.Said.{reservation_said, place_said, said};
+ghost use Rattle.dt_source_items.specs.Said.{reservation_said, said};
 ghost use Rattle.dt_source_items.specs.Spelled.{IsSpelled};
 
+use crate::items::Items;
 use dt_grammar::{source_has_places, source_is_nested};
 use dt_names::{Label, NodeName, PathRef, PropName, Seed};
 use std::marker::Model;
@@ -30,40 +31,40 @@ pub enum Form {
     Text,
 }
 
-/// Bytes of a value, and the reference behind them.
+/// A reference in a value, and how many bytes of the value stand between the reference before it, or the value's begin, and it.
 #[derive(Drop)]
 pub struct Piece<'a> {
-    pub before: Vec<u8>,
+    pub before: usize,
     pub form: Form,
     pub reference: Reference<'a>,
 }
 
-/// The value of a property: pieces that end with a reference each, and the bytes behind the last one.
-#[derive(Drop)]
+/// The value of a property: its bytes, and the references among them.
+#[derive(Clone, Copy)]
 pub struct Value<'a> {
-    pub pieces: Vec<Piece<'a>>,
-    pub bytes: Vec<u8>,
+    pub pieces: &'a [Piece<'a>],
+    pub bytes: &'a [u8],
 }
 
 /// A place of a source that says something of the tree (Devicetree Specification v0.4, 6.3).
-#[derive(Drop)]
+#[derive(Clone, Copy)]
 pub enum Item<'a> {
     /// `/ {`
     Root,
     /// `&label {` or `&{/path} {`
-    Block(Reference<'a>),
+    Block(&'a Reference<'a>),
     /// `/delete-node/ &label;` or `/delete-node/ &{/path};`
-    DeleteNode(Reference<'a>),
+    DeleteNode(&'a Reference<'a>),
     /// `name {`
-    Child(NodeName<'a>),
+    Child(&'a NodeName<'a>),
     /// `label:`, of the node whose body was just opened.
-    Label(Label<'a>),
+    Label(&'a Label<'a>),
     /// `name;` or `name = value;`
-    Property(PropName<'a>, Value<'a>),
+    Property(&'a PropName<'a>, Value<'a>),
     /// `/delete-property/ name;`
-    DeleteProperty(PropName<'a>),
+    DeleteProperty(&'a PropName<'a>),
     /// `/delete-node/ name;`
-    DeleteChild(NodeName<'a>),
+    DeleteChild(&'a NodeName<'a>),
     /// `};`
     Close,
 }
@@ -83,7 +84,7 @@ pub struct Source<'a> {
     seed: Seed,
     plugin: bool,
     reservations: Vec<Reservation>,
-    items: Vec<Item<'a>>,
+    items: Items<'a>,
 }
 
 impl<'a> Model for Source<'a> {
@@ -93,9 +94,9 @@ impl<'a> Model for Source<'a> {
 
     ghost Value = { Says };
 
-    ghost view = { λ s. said s.plugin s.reservations.items s.items.items };
+    ghost view = { λ s. said s.plugin s.reservations.items s.items.places };
 
-    ghost invariant = { λ s. IsSpelled (said s.plugin s.reservations.items s.items.items) };
+    ghost invariant = { λ s. IsSpelled (said s.plugin s.reservations.items s.items.places) };
 }
 
 impl<'a> Source<'a> {
@@ -104,10 +105,10 @@ impl<'a> Source<'a> {
         seed: Seed,
         plugin: bool,
         reservations: Vec<Reservation>,
-        items: Vec<Item<'a>>,
+        items: Items<'a>,
     ) -> Source<'a>
-        requires { IsSpelled (said plugin reservations.items items.items) }
-        ensures { result ≡ said plugin reservations.items items.entry.items }
+        requires { IsSpelled (said plugin reservations.items items.places) }
+        ensures { result ≡ said plugin reservations.items items.entry.places }
     {
         Source {
             seed,
@@ -159,8 +160,8 @@ impl<'a> Source<'a> {
     }
 
     /// The items, in the order of the text.
-    pub fn items(&self) -> &[Item<'a>]
-        ensures { map place_said result.now ≡ self.now.places }
+    pub fn items(&self) -> &Items<'a>
+        ensures { result.now.places ≡ self.now.places }
     {
         &self.items
     }

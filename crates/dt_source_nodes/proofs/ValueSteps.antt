@@ -1,6 +1,6 @@
 -- Reading a value piece by piece.
-use Rattle.std.proofs.Common.{◌≡◌, ℕ, ◌+◌, ◌<◌, ◌≤◌, List, [], ◌∷◌, ◌++◌, map, length, take, drop, get_or, reverse, Option, None, Some, Result, Ok, Err, MatchResult, refl, sym, ap, ◌∙◌, append_assoc, append-nil}
-use Rattle.std.proofs.lemmas.List.{take_more, take-append-drop, take_all, drop_more}
+use Rattle.std.proofs.Common.{◌≡◌, ℕ, ◌+◌, ◌<◌, List, [], ◌∷◌, ◌++◌, map, length, take, drop, get_or, reverse, Option, None, Some, Result, Ok, Err, MatchResult, sym, ap, ◌∙◌, append_assoc}
+use Rattle.std.proofs.lemmas.List.{drop_more}
 use Rattle.dt_model.specs.Meaning.{Item, byte}
 use Rattle.dt_model.specs.Source.{Part, one, Events}
 use Rattle.dt_model.specs.Named.{NodeReference}
@@ -8,11 +8,10 @@ use Rattle.dt_names.specs.declared.fault.Fault.{Fault}
 use Rattle.dt_names.specs.declared.fault.FaultKind.{FaultKind}
 use Rattle.dt_names.specs.declared.fault.FaultKind.TheVariants as fault
 use Rattle.dt_source_items.specs.declared.source.Piece.{Piece}
-use Rattle.dt_source_items.specs.declared.source.Value.{Value}
-use Rattle.dt_source_items.specs.Said.{piece_parts, pieces_parts, value_said}
+use Rattle.dt_source_items.specs.Said.{parts_said, reference_of, referring}
 use Rattle.dt_source_growing.specs.declared.growing.Growing.{Growing}
 use Rattle.dt_source_growing.specs.declared.referring.Unnamed.{Unnamed}
-use Rattle.dt_source_nodes.specs.Contents.{named_part, named_parts, all_read}
+use Rattle.dt_source_nodes.specs.Contents.{named_part, named_parts, all_read, piece_parts}
 use Rattle.dt_source_nodes.specs.Resolving.{EachNaming, IsAdded, WhyUnread, IsUnread}
 use Rattle.dt_source_nodes.proofs.Binding.{behind, named_behind, unread_before, unread_behind, bytes_named, piece_named}
 
@@ -34,69 +33,50 @@ unread_more unnamed g xs ys e more h = (h.0, λ es is. why_more unnamed es xs ys
 pub unread_piece : (unnamed : Unnamed) (g : Growing) (bs : List ℕ) (x : Part) (e : Fault) → IsUnread unnamed g (x ∷ []) e → IsUnread unnamed g (map one bs ++ x ∷ []) e
 unread_piece unnamed g bs x e h = unread_more unnamed g (x ∷ []) (map one bs ++ x ∷ []) e (λ es. unread_behind unnamed es reverse (map one bs) (x ∷ [])) h
 
-pieces_append : (ps qs : List Piece) → pieces_parts (ps ++ qs) ≡ pieces_parts ps ++ pieces_parts qs
-pieces_append [] qs = refl
-pieces_append (p ∷ ps) qs = ap (λ (xs : List Part). piece_parts p ++ xs) (pieces_append ps qs) ∙ sym (append_assoc (piece_parts p) (pieces_parts ps) (pieces_parts qs))
-
-pieces_split : (ps : List Piece) (i : ℕ) (d : Piece) → i < length ps → pieces_parts ps ≡ pieces_parts (take i ps) ++ (piece_parts (get_or ps i d) ++ pieces_parts (drop (i + 1) ps))
-pieces_split ps i d h =
-    ap pieces_parts (sym (take-append-drop i ps)) ∙ (pieces_append (take i ps) (drop i ps) ∙ ap (λ (qs : List Piece). pieces_parts (take i ps) ++ pieces_parts qs) (drop_more ps i d h))
-
 -- a piece that isn't read
-pub unread_value : (unnamed : Unnamed) (g : Growing) (v : Value) (i : ℕ) (d : Piece) (e : Fault) → i < length v.pieces.items → IsUnread unnamed g (piece_parts (get_or v.pieces.items i d)) e → IsUnread unnamed g (value_said v) e
-unread_value unnamed g v i d e near h = unread_more unnamed g (piece_parts piece) (value_said v) e unbound h
-  where
-    ps : List Piece
-    ps = v.pieces.items
+pub unread_value : (unnamed : Unnamed) (g : Growing) (whole before here rest : List Part) (e : Fault) → whole ≡ before ++ (here ++ rest) → IsUnread unnamed g here e → IsUnread unnamed g whole e
+unread_value unnamed g whole before here rest e is h =
+    unread_more unnamed g here whole e
+    (λ es none. ap (all_read unnamed es) is ∙ unread_behind unnamed es reverse before (here ++ rest) (unread_before unnamed es reverse here rest none)) h
 
-    piece : Piece
-    piece = get_or v.pieces.items i d
-
-    unbound : (es : Events) → all_read unnamed es (piece_parts (get_or v.pieces.items i d)) ≡ None → all_read unnamed es (value_said v) ≡ None
-    unbound es none =
-        let first = pieces_parts (take i v.pieces.items) in
-        let here = piece_parts (get_or v.pieces.items i d) in
-        let rest = pieces_parts (drop (i + 1) v.pieces.items) in
-        let among : all_read unnamed es (first ++ (here ++ rest)) ≡ None = unread_behind unnamed es reverse first (here ++ rest) (unread_before unnamed es reverse here rest none) in
-        unread_before unnamed es reverse (pieces_parts v.pieces.items) (map one v.bytes.items) (ap (all_read unnamed es) (pieces_split v.pieces.items i d near) ∙ among)
+-- what is left of a value is a piece and what is left behind it
+pub piece_split : (ps : List Piece) (i : ℕ) (p : Piece) (bs : List ℕ) → i < length ps → p ≡ get_or ps i p →
+    parts_said (drop i ps) bs ≡ piece_parts (take p.before bs) p ++ parts_said (drop (i + 1) ps) (drop p.before bs)
+piece_split ps i p bs near is =
+    ap (λ (qs : List Piece). parts_said qs bs) (drop_more ps i p near ∙ ap (λ (q : Piece). q ∷ drop (i + 1) ps) (sym is))
+    ∙ sym (append_assoc (map one (take p.before bs)) (referring p.form (reference_of p.reference) ∷ []) (parts_said (drop (i + 1) ps) (drop p.before bs)))
 
 -- ---- what is read
 
 -- bytes and the reference behind them
-pub piece_added : (unnamed : Unnamed) (g : Growing) (places : List (Option ℕ)) (p : Piece) (x : Part) (old mid new : List (Item NodeReference)) → piece_parts p ≡ map one p.before.items ++ x ∷ [] →
-    mid ≡ old ++ map byte p.before.items → EachNaming g places (λ es place. IsAdded mid (named_part unnamed es place x) new) →
-    EachNaming g places (λ es place. IsAdded old (named_parts unnamed es place (piece_parts p)) new)
-piece_added unnamed g places p x old mid new is e h es place limit of by =
+pub piece_added : (unnamed : Unnamed) (g : Growing) (places : List (Option ℕ)) (bs : List ℕ) (x : Part) (old mid new : List (Item NodeReference)) →
+    mid ≡ old ++ map byte bs → EachNaming g places (λ es place. IsAdded mid (named_part unnamed es place x) new) →
+    EachNaming g places (λ es place. IsAdded old (named_parts unnamed es place (map one bs ++ x ∷ [])) new)
+piece_added unnamed g places bs x old mid new e h es place limit of by =
     let added = h es place limit of by in
     let items = added.0 in (
-      map byte p.before.items ++ items,
-      ap (named_parts unnamed es place) is ∙ piece_named unnamed es place p.before.items x items added.1,
-      added.2 ∙ (ap (λ (xs : List (Item NodeReference)). xs ++ items) e ∙ append_assoc old (map byte p.before.items) items),
+      map byte bs ++ items,
+      piece_named unnamed es place bs x items added.1,
+      added.2 ∙ (ap (λ (xs : List (Item NodeReference)). xs ++ items) e ∙ append_assoc old (map byte bs) items),
     )
 
 -- one piece more
-pub pieces_more : (unnamed : Unnamed) (g : Growing) (places : List (Option ℕ)) (ps : List Piece) (i : ℕ) (d : Piece) (old new : List (Item NodeReference)) → i < length ps →
-    EachNaming g places (λ es place. named_parts unnamed es place (pieces_parts (take i ps)) ≡ Some old) →
-    EachNaming g places (λ es place. IsAdded old (named_parts unnamed es place (piece_parts (get_or ps i d))) new) →
-    EachNaming g places (λ es place. named_parts unnamed es place (pieces_parts (take (i + 1) ps)) ≡ Some new)
-pieces_more unnamed g places ps i d old new near before added es place limit of by =
+pub pieces_more : (unnamed : Unnamed) (g : Growing) (places : List (Option ℕ)) (before here : List Part) (old new : List (Item NodeReference)) →
+    EachNaming g places (λ es place. named_parts unnamed es place before ≡ Some old) →
+    EachNaming g places (λ es place. IsAdded old (named_parts unnamed es place here) new) →
+    EachNaming g places (λ es place. named_parts unnamed es place (before ++ here) ≡ Some new)
+pieces_more unnamed g places before here old new read added es place limit of by =
     let more = added es place limit of by in
-    let piece = get_or ps i d in
-    let first = pieces_parts (take i ps) in
-    let more_parts : pieces_parts (take (i + 1) ps) ≡ first ++ piece_parts piece =
-    ap pieces_parts (take_more ps i d near) ∙ (pieces_append (take i ps) (piece ∷ []) ∙ ap (λ (xs : List Part). first ++ xs) (append-nil (piece_parts piece))) in
-    ap (named_parts unnamed es place) more_parts
-    ∙ (named_behind unnamed es place first (piece_parts piece)
-    ∙ (ap (λ (o : Option (List (Item NodeReference))). behind o (named_parts unnamed es place (piece_parts piece))) (before es place limit of by)
-    ∙ (ap (behind (Some old)) more.1 ∙ ap (λ (xs : List (Item NodeReference)). Some xs) (sym more.2))))
+    named_behind unnamed es place before here
+    ∙ (ap (λ (o : Option (List (Item NodeReference))). behind o (named_parts unnamed es place here)) (read es place limit of by)
+    ∙ (ap (behind (Some old)) more.1 ∙ ap (λ (xs : List (Item NodeReference)). Some xs) (sym more.2)))
 
 -- and the bytes behind them
-pub value_read : (unnamed : Unnamed) (g : Growing) (places : List (Option ℕ)) (v : Value) (i : ℕ) (old new : List (Item NodeReference)) → length v.pieces.items ≤ i →
-    EachNaming g places (λ es place. named_parts unnamed es place (pieces_parts (take i v.pieces.items)) ≡ Some old) → new ≡ old ++ map byte v.bytes.items →
-    EachNaming g places (λ es place. named_parts unnamed es place (value_said v) ≡ Some new)
-value_read unnamed g places v i old new all before e es place limit of by =
-    let ps = v.pieces.items in
-    named_behind unnamed es place (pieces_parts ps) (map one v.bytes.items)
-    ∙ (ap (λ (qs : List Piece). behind (named_parts unnamed es place (pieces_parts qs)) (named_parts unnamed es place (map one v.bytes.items))) (sym (take_all i ps all))
-    ∙ (ap (λ (o : Option (List (Item NodeReference))). behind o (named_parts unnamed es place (map one v.bytes.items))) (before es place limit of by)
-    ∙ (ap (behind (Some old)) (bytes_named unnamed es place v.bytes.items) ∙ ap (λ (xs : List (Item NodeReference)). Some xs) (sym e))))
+pub value_read : (unnamed : Unnamed) (g : Growing) (places : List (Option ℕ)) (whole before : List Part) (bs : List ℕ) (old new : List (Item NodeReference)) → whole ≡ before ++ map one bs →
+    EachNaming g places (λ es place. named_parts unnamed es place before ≡ Some old) → new ≡ old ++ map byte bs →
+    EachNaming g places (λ es place. named_parts unnamed es place whole ≡ Some new)
+value_read unnamed g places whole before bs old new is read e es place limit of by =
+    ap (named_parts unnamed es place) is
+    ∙ (named_behind unnamed es place before (map one bs)
+    ∙ (ap (λ (o : Option (List (Item NodeReference))). behind o (named_parts unnamed es place (map one bs))) (read es place limit of by)
+    ∙ (ap (behind (Some old)) (bytes_named unnamed es place bs) ∙ ap (λ (xs : List (Item NodeReference)). Some xs) (sym e))))

@@ -9,6 +9,8 @@ use Rattle.dt_model.specs.Event.{Stack, value_at}
 use Rattle.dt_model.specs.Overlay.{ReferenceBy, inside, outside, OverlayReference}
 use Rattle.dt_model.specs.Source.{Part, one, number_of, text_of, Reference, by_label, by_path, Events, referent}
 use Rattle.dt_model.specs.Named.{NodeReference, Content, NamedProperty}
+use Rattle.dt_source_items.specs.declared.source.Piece.{Piece}
+use Rattle.dt_source_items.specs.Said.{reference_of, referring}
 use Rattle.dt_source_growing.specs.declared.growing.Node.{Node}
 use Rattle.dt_source_growing.specs.declared.growing.Property.{Property}
 use Rattle.dt_source_growing.specs.declared.growing.Giving.{Giving}
@@ -30,6 +32,10 @@ abbrev pub label_at : List Giving → ℕ → Name
 label_at givings i = option_map_or (λ (g : Giving). g.label.now) (slice_get givings i) []
 
 -- ---- values
+
+-- bytes, and a reference behind them
+abbrev pub piece_parts : List ℕ → Piece → List Part
+piece_parts bytes p = map one bytes ++ referring p.form (reference_of p.reference) ∷ []
 
 -- each name from the root down, with a `/` before it, where the node's own comes first
 abbrev pub names_text : Stack → List ℕ

@@ -15,13 +15,13 @@ use std::alloc::{AllocError, Global};
 use std::collections::HashSet;
 
 /// The phandle that a value of the property `phandle` writes: four bytes without a reference, of 1 to 0xfffffffe.
-fn written_number(value: &Value<'_>) -> Option<u32>
-    ensures { result ≡ number_of_parts (value_said value.now) }
+fn written_number(value: Value<'_>) -> Option<u32>
+    ensures { result ≡ number_of_parts (value_said value.entry) }
 {
     if !value.pieces.is_empty() {
         return None;
     }
-    phandle_of(&value.bytes)
+    phandle_of(value.bytes)
 }
 
 /// The phandle that the target of a new fragment would write: the text of a path of three bytes and its NUL are four bytes.

@@ -7,11 +7,11 @@ ghost use Rattle.dt_model.specs.Path.{path_text, path_value};
 ghost use Rattle.dt_model.specs.Meaning.{byte, reference};
 ghost use Rattle.dt_model.specs.Event.{Stack};
 ghost use Rattle.dt_model.specs.Source.{Events, number_of, text_of};
-ghost use Rattle.dt_source_items.specs.Said.{reference_of, referring, piece_parts};
+ghost use Rattle.dt_source_items.specs.Said.{reference_of, referring};
 ghost use Rattle.dt_source_items.specs.Said as source_said;
 ghost use Rattle.dt_source_named_tree.specs.Said.{reference_said, value_said};
 ghost use Rattle.dt_source_growing.specs.Grown.{target_value, value_held, AreAbove, StandsUnder};
-ghost use Rattle.dt_source_nodes.specs.Contents.{names_text, kept_label, named_cell, named_part, named_parts};
+ghost use Rattle.dt_source_nodes.specs.Contents.{names_text, kept_label, named_cell, named_part, named_parts, piece_parts};
 ghost use Rattle.dt_source_nodes.specs.Resolving.{IsGrownBy, EachReading, IsAdded, IsUnread};
 
 use crate::belongings::Belongings;
@@ -238,15 +238,16 @@ impl Resolver<'_, '_, '_> {
     fn add_piece<'a>(
         &self,
         alloc: Global,
-        piece: &'a Piece<'a>,
+        before: &'a [u8],
+        piece: &Piece<'a>,
         value: &mut NamedValue<'a>,
     ) -> Result<(), Fault>
         ensures { MatchResult result
             (λ _. EachReading self.now (λ es place.
-            IsAdded (value_said value.old) (named_parts self.now.unnamed es place (piece_parts piece.now)) (value_said value.new)))
-            (λ fault. IsUnread self.now.unnamed self.now.growing.now (piece_parts piece.now) fault) }
+            IsAdded (value_said value.old) (named_parts self.now.unnamed es place (piece_parts before.now piece.now)) (value_said value.new)))
+            (λ fault. IsUnread self.now.unnamed self.now.growing.now (piece_parts before.now piece.now) fault) }
     {
-        add_bytes(alloc, value, &piece.before)?;
+        add_bytes(alloc, value, before)?;
         self.add_reference(alloc, piece, value)
     }
 
@@ -254,30 +255,33 @@ impl Resolver<'_, '_, '_> {
     fn add_value<'a>(
         &self,
         alloc: Global,
-        source: &'a Value<'a>,
+        source: Value<'a>,
         value: &mut NamedValue<'a>,
     ) -> Result<(), Fault>
         requires empty { value_said value.old ≡ [] }
         ensures { MatchResult result
             (λ _. EachReading self.now (λ es place.
-            named_parts self.now.unnamed es place (source_said.value_said source.now) ≡ Some (value_said value.new)))
-            (λ fault. IsUnread self.now.unnamed self.now.growing.now (source_said.value_said source.now) fault) }
+            named_parts self.now.unnamed es place (source_said.value_said source.entry) ≡ Some (value_said value.new)))
+            (λ fault. IsUnread self.now.unnamed self.now.growing.now (source_said.value_said source.entry) fault) }
     {
-        for piece in &source.pieces {
-            self.add_piece(alloc, piece, value)?;
+        let mut rest = source.bytes;
+        for piece in source.pieces {
+            let (before, behind) = rest.split_at(piece.before.min(rest.len()));
+            self.add_piece(alloc, before, piece, value)?;
+            rest = behind;
         }
-        add_bytes(alloc, value, &source.bytes)?;
+        add_bytes(alloc, value, rest)?;
         Ok(())
     }
 
     /// A value with its references read: a reference in a cell list is the place of its node, or its label where it names no node
     /// and such labels are kept; one outside a cell list is the text of its node's path and a NUL. `UnresolvedReference` where
     /// one isn't read.
-    fn named_value<'a>(&self, alloc: Global, source: &'a Value<'a>) -> Result<NamedValue<'a>, Fault>
+    fn named_value<'a>(&self, alloc: Global, source: Value<'a>) -> Result<NamedValue<'a>, Fault>
         ensures { MatchResult result
             (λ value. EachReading self.now (λ es place.
-            named_parts self.now.unnamed es place (source_said.value_said source.now) ≡ Some (value_said value)))
-            (λ fault. IsUnread self.now.unnamed self.now.growing.now (source_said.value_said source.now) fault) }
+            named_parts self.now.unnamed es place (source_said.value_said source.entry) ≡ Some (value_said value)))
+            (λ fault. IsUnread self.now.unnamed self.now.growing.now (source_said.value_said source.entry) fault) }
     {
         let mut value = NamedValue {
             pieces: Vec::with_capacity(alloc, source.pieces.len())?,

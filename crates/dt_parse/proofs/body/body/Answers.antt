@@ -1,7 +1,6 @@
 use Rattle.std.proofs.Common.{arith, sym, subst, ◌≡◌, ◌++◌, [], false, ℕ}
 use Rattle.std.proofs.lemmas.Result.{err_from_is_err_and}
 use Rattle.std.proofs.lemmas.List.{append-nil}
-use Rattle.dt_source_items.specs.Said.{places_said}
 use Rattle.dt_parse.specs.Nested.{Goes}
 use Rattle.dt_parse.proofs.Members.{err_is, said_more, not_open}
 use Rattle.dt_parse.proofs.NestedBodies.{goes_on, goes_nowhere, block_reads, block_stops, block_ordered}
@@ -13,7 +12,7 @@ returns-in_err-expect-clause-err c =
 
 pub loop-depth-init : goal.loop-depth-init
 loop-depth-init c =
-    ([], goes_nowhere 1 false c.expect.new.self, sym (append-nil (places_said c.args.items.now.items)))
+    ([], goes_nowhere 1 false c.expect.new.self, sym (append-nil c.args.items.now.places))
 
 pub returns-in_err-depth-clause-err : goal.returns-in_err-depth-clause-err
 returns-in_err-depth-clause-err c =
@@ -29,7 +28,7 @@ loop-depth-preserved c =
     let h = c.in_ok-depth.ensures.ok in (
       i.0 ++ h.0,
       goes_on 1 c.loop-depth.depth.«open» c.in_ok-depth.depth.«open» false c.loop-depth.depth.late c.in_ok-depth.depth.late c.expect.new.self c.loop-depth.cursor c.member.new.cursor i.0 h.0 i.1 h.1,
-      said_more c.args.items.now.items c.loop-depth.items.items c.member.new.items.items i.0 h.0 i.2 h.3,
+      said_more c.args.items.now.places c.loop-depth.items.places c.member.new.items.places i.0 h.0 i.2 h.3,
     )
 
 pub returns-clause-ok : goal.returns-clause-ok

@@ -15,7 +15,7 @@ pub returns-clause-ok : goal.returns-clause-ok
 returns-clause-ok c =
     let r = c.in_ok-open_child.ensures.ok in
     λ ls f. on_ok_weaker c.push_labels.result
-    (λ e. (r.0, r.1, r.2, said_more c.args.items.now.items c.open_child.new.items.items c.push_labels.new.items.items (raw_child (bytes_at (first c.args.cursor.now)) ∷ []) (map raw_label ls) r.3 e))
+    (λ e. (r.0, r.1, r.2, said_more c.args.items.now.places c.open_child.new.items.places c.push_labels.new.items.places (raw_child (bytes_at (first c.args.cursor.now)) ∷ []) (map raw_label ls) r.3 e))
     (c.push_labels.ensures.ok ls f)
 
 pub returns-clause-err : goal.returns-clause-err

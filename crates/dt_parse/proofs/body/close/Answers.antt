@@ -1,7 +1,7 @@
 use Rattle.std.proofs.Common.{refl}
 use Rattle.std.proofs.lemmas.Result.{err_from_is_err_and, IfErr-weaker, on_ok_weaker}
 use Rattle.dt_grammar.specs.Unchecked.{raw_close}
-use Rattle.dt_source_items.specs.declared.source.Item.TheVariants as item
+use Rattle.dt_model.specs.Source as model
 use Rattle.dt_parse.specs.Reading.{no_memory}
 use Rattle.dt_parse.specs.Nested.{labelled, unclosed}
 use Rattle.dt_parse.proofs.Members.{err_is, said_one, unclosed_end, closed, labels_unfollowed, no_brace}
@@ -22,7 +22,7 @@ returns-in_err-expect-2-clause-err c =
 pub returns-clause-ok : goal.returns-clause-ok
 returns-clause-ok c =
     let h = closed c.args.cursor.now c.expect.new.self c.expect-2.new.self c.in_ok-expect.ensures.ok.1 c.in_ok-expect-2.ensures.ok.1 c.in_ok-expect.ensures.ok.0 c.in_ok-expect-2.ensures.ok.0 in
-    on_ok_weaker c.push_item.result (λ e. (c.if-labelled.false, h.0, h.1, said_one _ _ item.Close raw_close e refl)) c.push_item.ensures.ok
+    on_ok_weaker c.push_item.result (λ e. (c.if-labelled.false, h.0, h.1, said_one _ _ model.close raw_close e refl)) c.push_item.ensures.ok
 
 pub returns-clause-err : goal.returns-clause-err
 returns-clause-err c = IfErr-weaker c.push_item.result _ _ (λ stop k ls e f. labelled (λ a. no_memory k)) c.push_item.ensures.err

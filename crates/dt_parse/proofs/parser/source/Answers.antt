@@ -1,11 +1,10 @@
-use Rattle.std.proofs.Common.{List, sym, ◌∙◌, ap, subst, ◌++◌, map}
+use Rattle.std.proofs.Common.{sym, ◌∙◌, ap, subst, ◌++◌, map}
 use Rattle.std.proofs.lemmas.Result.{err_from_is_err_and}
-use Rattle.dt_source_items.specs.declared.source.Item.{Item}
+use Rattle.dt_source_items.specs.Gathered.{Gathered}
 use Rattle.dt_grammar.specs.Unchecked.{place_meant}
 use Rattle.dt_grammar.specs.Wanted.{StatementThen, Top, Whole}
 use Rattle.dt_grammar.specs.Faults.{outside}
 use Rattle.dt_parse.specs.Reading.{IsBroken}
-use Rattle.dt_source_items.specs.Said.{places_said}
 use Rattle.dt_parse.proofs.Stopping.{stops_too}
 use Rattle.dt_parse.proofs.Parsing.{whole_read, whole_says, whole_spelled}
 use Rattle.dt_parse.proofs.parser.source.Goals as goal
@@ -29,16 +28,16 @@ of-requires c =
     let r = c.in_ok-reservations.ensures.ok in
     let s = c.in_ok-statements.ensures.ok r.1 r.5 r.3 in
     let read = whole_read c.args.cursor.now c.headers.new.cursor c.reservations.new.cursor c.in_ok-plugin.plugin r.0 r.1 s.0 c.in_ok-plugin.ensures.found r.6 r.2 s.1 in
-    let places = ap (λ (items : List Item). places_said items) c.shrink_to_fit.ensures.items ∙ s.2 ∙ ap (λ (items : List Item). places_said items ++ map place_meant s.0) c.new-items.ensures.items in
-    (c.args.cursor.now, c.requires, whole_spelled c.args.cursor.now c.in_ok-plugin.plugin c.in_ok-reservations.reservations.items c.shrink_to_fit.new.self.items r.0 s.0 r.4 places read)
+    let places = ap (λ (g : Gathered). g.places) c.shrink_to_fit.ensures ∙ s.2 ∙ ap (λ (g : Gathered). g.places ++ map place_meant s.0) c.new-items.ensures in
+    (c.args.cursor.now, c.requires, whole_spelled c.args.cursor.now c.in_ok-plugin.plugin c.in_ok-reservations.reservations.items c.shrink_to_fit.new.self.places r.0 s.0 r.4 places read)
 
 pub returns-clause-ok : goal.returns-clause-ok
 returns-clause-ok c =
     let r = c.in_ok-reservations.ensures.ok in
     let s = c.in_ok-statements.ensures.ok r.1 r.5 r.3 in
     let read = whole_read c.args.cursor.now c.headers.new.cursor c.reservations.new.cursor c.in_ok-plugin.plugin r.0 r.1 s.0 c.in_ok-plugin.ensures.found r.6 r.2 s.1 in
-    let places = ap (λ (items : List Item). places_said items) c.shrink_to_fit.ensures.items ∙ s.2 ∙ ap (λ (items : List Item). places_said items ++ map place_meant s.0) c.new-items.ensures.items in (
+    let places = ap (λ (g : Gathered). g.places) c.shrink_to_fit.ensures ∙ s.2 ∙ ap (λ (g : Gathered). g.places ++ map place_meant s.0) c.new-items.ensures in (
       record { plugin = c.in_ok-plugin.plugin; reserves = r.0; places = s.0 },
       read,
-      c.of.ensures ∙ whole_says c.in_ok-plugin.plugin c.in_ok-reservations.reservations.items c.shrink_to_fit.new.self.items r.0 s.0 r.4 places,
+      c.of.ensures ∙ whole_says c.in_ok-plugin.plugin c.in_ok-reservations.reservations.items c.shrink_to_fit.new.self.places r.0 s.0 r.4 places,
     )

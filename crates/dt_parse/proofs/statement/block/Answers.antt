@@ -32,7 +32,7 @@ returns-clause-ok c =
     (λ h. (
       (raw_block x.0 b ∷ map raw_label ls) ++ h.0,
       block_read ls c.args.cursor.now c.open_block.new.cursor c.body.new.cursor x.0 h.0 x.1 n.0 t n.1 (h.1 (raw_block x.0 b ∷ map raw_label ls)) h.2 h.3,
-      said_more c.args.items.now.items c.push_labels.new.items.items c.body.new.items.items (raw_block x.0 b ∷ map raw_label ls) h.0
-          (said_more c.args.items.now.items c.open_block.new.items.items c.push_labels.new.items.items (raw_block x.0 b ∷ []) (map raw_label ls) n.2 (c.in_ok-push_labels.ensures.ok ls f)) h.4,
+      said_more c.args.items.now.places c.push_labels.new.items.places c.body.new.items.places (raw_block x.0 b ∷ map raw_label ls) h.0
+          (said_more c.args.items.now.places c.open_block.new.items.places c.push_labels.new.items.places (raw_block x.0 b ∷ []) (map raw_label ls) n.2 (c.in_ok-push_labels.ensures.ok ls f)) h.4,
     ))
     c.body.ensures.ok

@@ -38,7 +38,7 @@ returns-in_ok-expect-in-Node-clause-ok c =
       (
         raw_delete_node x.0 (bytes_at (first c.advance.new.self)) ∷ [],
         delete_read c.args.cursor.now c.advance.new.self c.advance-in-Node.new.self c.expect.new.self x.0 c.requires c.advance.ensures x.1 n.0 c.advance-in-Node.ensures s.0 s.1,
-        said_one c.args.items.now.items c.push_item.new.items.items _ (raw_delete_node x.0 (bytes_at (first c.advance.new.self))) e (ap model.delete_node n.1),
+        said_one c.args.items.now c.push_item.new.items _ (raw_delete_node x.0 (bytes_at (first c.advance.new.self))) e (ap model.delete_node n.1),
       ),
     ))
     c.push_item.ensures.ok

@@ -1,6 +1,6 @@
 use Rattle.std.proofs.Common.{refl, ◌∷◌, []}
 use Rattle.std.proofs.lemmas.Result.{err_from_is_err_and, IfErr-weaker, on_ok_weaker}
-use Rattle.dt_source_items.specs.declared.source.Item.TheVariants as item
+use Rattle.dt_model.specs.Source as model
 use Rattle.dt_grammar.specs.Unchecked.{raw_root}
 use Rattle.dt_parse.specs.Reading.{no_memory}
 use Rattle.dt_parse.proofs.Members.{err_is, said_one, said_more}
@@ -27,7 +27,7 @@ returns-clause-ok c =
       (
         raw_root ∷ h.0,
         root_read c.args.cursor.now c.advance.new.self c.body.new.cursor h.0 c.requires c.advance.ensures (h.1 (raw_root ∷ [])) h.2 h.3,
-        said_more c.args.items.now.items c.push_item.new.items.items c.body.new.items.items (raw_root ∷ []) h.0 (said_one c.args.items.now.items c.push_item.new.items.items item.Root raw_root c.in_ok-push_item.ensures.ok refl) h.4,
+        said_more c.args.items.now.places c.push_item.new.items.places c.body.new.items.places (raw_root ∷ []) h.0 (said_one c.args.items.now c.push_item.new.items model.root raw_root c.in_ok-push_item.ensures.ok refl) h.4,
       ),
     ))
     c.body.ensures.ok

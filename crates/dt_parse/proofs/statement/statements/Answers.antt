@@ -48,7 +48,7 @@ statements-preserved c =
       r.0,
       follows_on ls i.0 h.0 c.args.cursor.now i.1 c.labels.new.cursor i.2 i.3 i.4 (one_follows i.0 h.0 i.1 c.statements.cursor c.labels.new.cursor i.3 more i.5 (h.1 outside)),
       r.1,
-      said_more c.args.items.now.items c.statements.items.items c.statement-in-statements.new.items.items (i.2 ++ i.3) r.0 i.6 r.2,
+      said_more c.args.items.now.places c.statements.items.places c.statement-in-statements.new.items.places (i.2 ++ i.3) r.0 i.6 r.2,
     )
 
 pub returns-in_err-statement-2-clause-err : goal.returns-in_err-statement-2-clause-err

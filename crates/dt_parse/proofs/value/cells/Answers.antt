@@ -1,5 +1,4 @@
 use Rattle.std.proofs.Common.{refl, ap, sym, ◌∙◌, ◌++◌, ◌∷◌, [], map}
-use Rattle.std.proofs.lemmas.List.{append-nil}
 use Rattle.std.specs.Int.{to_be_bytes}
 use Rattle.dt_model.specs.Source.{one, number_of}
 use Rattle.dt_grammar.specs.Unchecked.{label_cell, number_cell, reference_cell, width_of}
@@ -8,9 +7,8 @@ use Rattle.dt_grammar.specs.Descent.{first}
 use Rattle.dt_grammar.specs.Faults.{Around, outside, in_elements}
 use Rattle.dt_parse.specs.Reading.{IsBroken}
 use Rattle.dt_parse.specs.Openings.{cell_opening}
-use Rattle.dt_source_items.specs.Said.{value_said}
 use Rattle.dt_parse.proofs.Leading.{handed_on, goes_on, goes_to_end, goes_stop}
-use Rattle.dt_parse.proofs.ReadCells.{cell_label, cell_reference, no_cells_read, label_goes, label_stop, reference_goes, cell_reference_stop, width_stop, number_stop, number_read, number_goes, number_shorter, said_more, element_fits}
+use Rattle.dt_parse.proofs.ReadCells.{cell_label, cell_reference, no_cells_read, label_goes, label_stop, reference_goes, cell_reference_stop, width_stop, number_stop, number_read, number_goes, number_shorter, said_more, nothing_more, element_fits}
 use Rattle.dt_parse.proofs.value.cells.Goals as goal
 
 pub returns-in_err-label-in-Label-clause-err : goal.returns-in_err-label-in-Label-clause-err
@@ -26,7 +24,7 @@ cells-preserved-in-Label c =
     let k = sym c.kind.ensures ∙ cell_label c.kind.result (sym c.cell_opening.ensures ∙ c.in-Label.is) in (
       i.0 ++ label_cell (bytes_at (first c.cells.cursor)) ∷ [],
       goes_on made_cells SomeCells (in_elements c.args.bits) c.args.cursor.now c.cells.cursor c.advance.new.self i.0 _ i.1 (label_goes c.args.bits _ _ k c.in_ok-label-in-Label.ensures.0 c.advance.ensures),
-      said_more c.args.bits (value_said c.args.value.now) i.0 (label_cell (bytes_at (first c.cells.cursor))) (value_said c.cells.value) (value_said c.cells.value) [] i.2 (sym (append-nil _)) refl,
+      said_more c.args.bits c.args.items.now i.0 (label_cell (bytes_at (first c.cells.cursor))) c.cells.items c.cells.items [] i.2 (nothing_more _) refl,
     )
 
 pub returns-in_err-target-in-Reference-clause-err :
@@ -55,7 +53,7 @@ cells-preserved-in-Continue-branch-3 c =
     let x = reference_cell t.0 (bytes_at (first c.cells.cursor)) in (
       i.0 ++ x ∷ [],
       goes_on made_cells SomeCells (in_elements c.args.bits) c.args.cursor.now c.cells.cursor c.advance-in-Reference.new.self i.0 x i.1 (reference_goes t.0 c.args.bits _ _ k c.if-bits-ne-CELL.false o.0 c.advance-in-Reference.ensures),
-      said_more c.args.bits (value_said c.args.value.now) i.0 x (value_said c.cells.value) (value_said c.push_reference.new.value) _ i.2 c.in_ok-push_reference-in-Reference.ensures (ap (λ r. number_of r ∷ []) o.1),
+      said_more c.args.bits c.args.items.now i.0 x c.cells.items c.push_reference.new.self _ i.2 c.in_ok-push_reference-in-Reference.ensures (ap (λ r. number_of r ∷ []) o.1),
     )
 
 pub returns-in_err-element-in-Number-clause-err : goal.returns-in_err-element-in-Number-clause-err
@@ -78,7 +76,7 @@ cells-preserved c =
     let x = number_cell (size_in o.0) (expression_in o.0) in (
       i.0 ++ x ∷ [],
       goes_on made_cells SomeCells (in_elements c.args.bits) c.args.cursor.now c.cells.cursor c.number.new.cursor i.0 x i.1 (number_goes c.args.bits _ _ o.0 n (number_read c.args.bits _ _ o.0 outside o.1)),
-      said_more c.args.bits (value_said c.args.value.now) i.0 x (value_said c.cells.value) (value_said c.push_element.new.value) _ i.2 c.in_ok-push_element-in-Number.ensures (ap (λ e. map one (to_be_bytes (width_of c.args.bits) e)) o.2),
+      said_more c.args.bits c.args.items.now i.0 x c.cells.items c.push_element.new.items _ i.2 c.in_ok-push_element-in-Number.ensures (ap (λ e. map one (to_be_bytes (width_of c.args.bits) e)) o.2),
     )
 
 pub returns-in-Nothing-clause-ok : goal.returns-in-Nothing-clause-ok

@@ -3,14 +3,14 @@ use Rattle.std.proofs.lemmas.Bool.{not-true, not-false}
 use Rattle.dt_grammar.specs.Wanted.{made_value, OneValue}
 use Rattle.dt_grammar.specs.Faults.{Around}
 use Rattle.dt_parse.specs.Reading.{IsBroken}
-use Rattle.dt_source_items.specs.Said.{value_said}
 use Rattle.dt_grammar.proofs.SameKinds.{same_next, other_next}
 use Rattle.dt_parse.proofs.Leading.{handed_on, goes_nowhere, goes_on, goes_stop}
 use Rattle.dt_parse.proofs.ReadValues.{labels_stop, item_breaks, behind_stop, component_read, last_read, component_goes, component_shorter, value_more}
+use Rattle.dt_parse.proofs.ReadCells.{nothing_more}
 use Rattle.dt_parse.proofs.value.components.Goals as goal
 
 pub components-init : goal.components-init
-components-init c = ([], goes_nowhere made_value OneValue (λ a. a) c.args.cursor.now, c.requires)
+components-init c = ([], goes_nowhere made_value OneValue (λ a. a) c.args.cursor.now, nothing_more c.args.items.now)
 
 pub returns-in_err-skip_labels-clause-err : goal.returns-in_err-skip_labels-clause-err
 returns-in_err-skip_labels-clause-err c =
@@ -41,7 +41,7 @@ returns-then-ne-clause-ok c =
     let s = c.in_ok-skip_labels-2.ensures.ok in
     let read = component_read c.components.cursor _ _ c.skip_labels-in-components.new.cursor r.0 q.0 s.0 r.1 q.1 s.1 in
     let last = last_read c.components.cursor c.skip_labels-in-components.new.cursor _ read (λ e. other_next c.kind.result _ (not-true _ (sym c.if-ne.ensures)) (c.kind.ensures ∙ e)) in
-    (i.0 ++ record { before = r.0; item = q.0; behind = s.0 } ∷ [], λ a. i.1.reads a _ c.skip_labels-in-components.new.cursor (last a), value_more i.0 _ (value_said c.components.value) (value_said c.item.new.value) i.2 q.2)
+    (i.0 ++ record { before = r.0; item = q.0; behind = s.0 } ∷ [], λ a. i.1.reads a _ c.skip_labels-in-components.new.cursor (last a), value_more c.args.items.now i.0 _ c.components.items c.item.new.items i.2 q.2)
 
 pub components-smaller : goal.components-smaller
 components-smaller c =
@@ -61,5 +61,5 @@ components-preserved c =
     let e = sym c.kind.ensures ∙ same_next c.kind.result _ (not-false _ (sym c.if-ne.ensures)) in (
       i.0 ++ record { before = r.0; item = q.0; behind = s.0 } ∷ [],
       goes_on made_value OneValue (λ a. a) c.args.cursor.now c.components.cursor c.advance.new.self i.0 _ i.1 (component_goes c.components.cursor c.skip_labels-in-components.new.cursor c.advance.new.self _ read e c.advance.ensures),
-      value_more i.0 _ (value_said c.components.value) (value_said c.item.new.value) i.2 q.2,
+      value_more c.args.items.now i.0 _ c.components.items c.item.new.items i.2 q.2,
     )

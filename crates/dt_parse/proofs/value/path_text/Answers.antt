@@ -1,11 +1,11 @@
-use Rattle.std.proofs.Common.{◌∙◌, ap, ◌++◌, ◌∷◌, []}
+use Rattle.std.proofs.Common.{◌∙◌, ap, ◌∷◌, []}
 use Rattle.dt_model.specs.Source.{text_of}
 use Rattle.dt_grammar.specs.Unchecked.{path_item}
 use Rattle.dt_grammar.specs.Wanted.{OneItem, kind_at, bytes_at}
 use Rattle.dt_grammar.specs.Descent.{first}
 use Rattle.dt_grammar.specs.Faults.{Around}
 use Rattle.dt_parse.specs.Reading.{IsBroken}
-use Rattle.dt_source_items.specs.Said.{value_said}
+use Rattle.dt_source_items.specs.Gathered.{with_parts}
 use Rattle.dt_parse.proofs.Leading.{handed_on}
 use Rattle.dt_parse.proofs.ReadItems.{at_reference, reference_read, reference_stop}
 use Rattle.dt_parse.proofs.value.path_text.Goals as goal
@@ -27,5 +27,5 @@ returns-clause-ok c =
     let o = c.in_ok-target.ensures t.0 k in (
       path_item t.0 (bytes_at (first c.args.cursor.now)),
       reference_read t.0 _ _ k c.advance.ensures o.0,
-      c.in_ok-push_reference.ensures ∙ ap (λ r. value_said c.args.value.now ++ text_of r ∷ []) o.1,
+      c.in_ok-push_reference.ensures ∙ ap (λ r. with_parts c.args.items.now (text_of r ∷ [])) o.1,
     )

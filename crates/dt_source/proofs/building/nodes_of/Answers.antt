@@ -1,7 +1,5 @@
-use Rattle.std.proofs.Common.{◌<◌, length, map, arith}
-use Rattle.std.proofs.lemmas.List.{length-map}
+use Rattle.std.proofs.Common.{map}
 use Rattle.std.proofs.lemmas.Result.{err_from_is_err_and}
-use Rattle.dt_source_items.specs.Said.{place_said}
 use Rattle.dt_source_growing.specs.declared.referring.Unnamed.TheVariants.{Refused}
 use Rattle.dt_source.specs.Building.{AreNodesOf}
 use Rattle.dt_source_nodes.specs.Nodes.{AreListed, IsUnlisted}
@@ -14,16 +12,15 @@ use Rattle.dt_source.proofs.building.nodes_of.Goals as goal
 pub returns-in_err-growing : goal.returns-in_err-growing
 returns-in_err-growing c =
     let e = err_from_is_err_and c.from_residual.result c.from_residual.ensures.1 in
-    rw (e.1, e.2) (grown_refused (mode_said c.args.mode) (map place_said c.args.items.now) c.in_err-growing.field-0.0 c.in_err-growing.ensures)
+    rw (e.1, e.2) (grown_refused (mode_said c.args.mode) c.args.items.now.places c.in_err-growing.field-0.0 c.in_err-growing.ensures)
 
 pub returns : goal.returns
 returns c =
     let mode = mode_said c.args.mode in
-    let places = map place_said c.args.items.now in
+    let places = c.args.items.now.places in
     let g = c.in_ok-growing.growing in
     let grown = c.in_ok-growing.ensures in
-    let some : 0 < length places = omega (arith, c.requires, length-map c.args.items.now place_said) in
-    let root = c.root_stands.ensures mode places grown.0 some grown.1 in
+    let root = c.root_stands.ensures mode places grown.0 c.requires grown.1 in
     either (λ nodes. AreListed Refused g (map node_said nodes.items)) (IsUnlisted Refused g) (λ nodes. AreNodesOf mode places (map node_said nodes.items)) (WhyNotRead mode places)
     (λ nodes are. record { so_far = grown.0; all_read = grown.1; after = are grown.0.events grown.2 root })
     (λ fault why. late_refused mode places grown.0 fault grown.1 why.0 (why.1 grown.0.events grown.2 root))

@@ -1,6 +1,5 @@
 use Rattle.std.proofs.Common.{inl, inr, map}
 use Rattle.std.proofs.lemmas.Result.{err_from_is_err_and}
-use Rattle.dt_source_items.specs.Said.{place_said}
 use Rattle.dt_source_growing.specs.declared.referring.Unnamed.TheVariants.{Kept}
 use Rattle.dt_source.specs.Fragments.{AreOverlayNodes}
 use Rattle.dt_source_nodes.specs.Nodes.{AreListed, IsUnlisted}
@@ -13,11 +12,11 @@ use Rattle.dt_source.proofs.overlays.nodes_of.Goals as goal
 pub returns-in_err-growing : goal.returns-in_err-growing
 returns-in_err-growing c =
     let e = err_from_is_err_and c.from_residual-in_err-growing.result c.from_residual-in_err-growing.ensures.1 in
-    rw (e.1, e.2) (overlay_grown_refused (map place_said c.args.items.now) c.in_err-growing.field-0.0 c.in_err-growing.ensures)
+    rw (e.1, e.2) (overlay_grown_refused c.args.items.now.places c.in_err-growing.field-0.0 c.in_err-growing.ensures)
 
 pub returns : goal.returns
 returns c =
-    let places = map place_said c.args.items.now in
+    let places = c.args.items.now.places in
     let g = c.in_ok-growing.growing in
     let grown = c.in_ok-growing.ensures in
     let es = grown.0.source.events in

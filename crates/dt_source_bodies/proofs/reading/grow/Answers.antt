@@ -1,6 +1,5 @@
-use Rattle.std.proofs.Common.{map, length}
+use Rattle.std.proofs.Common.{length}
 use Rattle.dt_model.specs.Source.{read_all, nothing}
-use Rattle.dt_source_items.specs.Said.{place_said}
 use Rattle.dt_source_bodies.specs.Refusals.{mode_said}
 use Rattle.dt_source_bodies.specs.declared.reading.Reading.{Reading}
 use Rattle.dt_source_bodies.proofs.Targets.{grown_so_far}
@@ -11,6 +10,6 @@ pub returns : goal.returns
 returns c =
     let r : Reading = c.read_items.new.reading in
     let whole = c.in_ok-read_items.ensures.0 in
-    let n = length c.args.items.now in
-    let p = goes_on-is (read_all (mode_said c.args.mode) nothing (map place_said c.args.items.now)) r n c.in_ok-read_items.ensures.1 in
+    let n = length c.args.items.now.places in
+    let p = goes_on-is (read_all (mode_said c.args.mode) nothing c.args.items.now.places) r n c.in_ok-read_items.ensures.1 in
     (p.0, p.1, grown_so_far r n p.0 whole p.2)

@@ -1,8 +1,8 @@
-use Rattle.std.proofs.Common.{◌+◌, ◌≤◌}
+use Rattle.std.proofs.Common.{◌≤◌}
 use Rattle.dt_source_growing.proofs.changing.room_for.Given as goal
 
-abbrev pub invariant-loop-item : goal.invariant-loop-item
-invariant-loop-item l = record {
-  nodes : l.nodes ≤ l.item-index + 1;
-  properties : l.properties ≤ l.item-index;
+abbrev pub invariant-loop-index : goal.invariant-loop-index
+invariant-loop-index l = record {
+  nodes : l.nodes ≤ l.index;
+  properties : l.properties ≤ l.index;
 }

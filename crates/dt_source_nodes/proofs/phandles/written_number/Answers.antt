@@ -1,4 +1,4 @@
-use Rattle.std.proofs.Common.{◌≡◌, ◌<◌, ℕ, zero, suc, false, subst, sym, arith}
+use Rattle.std.proofs.Common.{◌≡◌, ◌<◌, ℕ, zero, suc, false, length, sym, arith}
 use Rattle.std.specs.Prelude.{◌==◌}
 use Rattle.dt_source_nodes.proofs.Written.{pieces_unwritten}
 use Rattle.dt_source_nodes.proofs.phandles.written_number.Goals as goal
@@ -9,5 +9,5 @@ positive (suc n) e = omega arith
 
 pub returns-then-not-is_empty : goal.returns-then-not-is_empty
 returns-then-not-is_empty c =
-    let v = c.args.value.now in
-    sym (pieces_unwritten v (subst (λ (n : ℕ). 0 < n) v.pieces.ok.0 (positive v.pieces.len c.if-not-is_empty.ensures)))
+    let v = c.args.value in
+    sym (pieces_unwritten v (positive (length v.pieces.now) c.if-not-is_empty.ensures))

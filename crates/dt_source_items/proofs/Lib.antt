@@ -1,0 +1,2 @@
+mod Gathering
+pub mod PlaceLists
