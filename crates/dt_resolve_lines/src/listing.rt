@@ -86,7 +86,7 @@ fn put_listing<S: Sink>(
     ensures refused { IfErr result (WhyNotListed listing bytes.now (S.taken out.old) (S.taken out.new)) }
 {
     let blob = Blob::check(bytes)?;
-    let index = Index::new(alloc, &blob)?;
+    let index = Index::without_children(alloc, &blob)?;
     put_lines(&index, out, listing)
 }
 

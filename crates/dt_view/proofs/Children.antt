@@ -20,7 +20,7 @@ use Rattle.dt_resolve_model.specs.Above.{front}
 use Rattle.dt_view.specs.Tables.{Key, child_at, PutsChild, AreChildren}
 use Rattle.dt_view.specs.Views.{IsAbove}
 use Rattle.dt_view.proofs.Steps.{ends_so}
-use Rattle.dt_view.proofs.Valued.{key_is}
+use Rattle.dt_view.proofs.Kinded.{key_is}
 use Rattle.dt_view.proofs.Walks.{opened, AreOpened}
 use Rattle.dt_view.proofs.Openings.{OpensNext, all_opened, next_opened, none_opened}
 

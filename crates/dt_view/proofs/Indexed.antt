@@ -11,21 +11,22 @@ use Rattle.dt_model.proofs.Listed.{stands_listed, value_stands}
 use Rattle.dt_read.specs.Placed.{PlacedTree, reading_of, path_at, place_of, IsAt, IsNode}
 use Rattle.dt_read.proofs.NodePlaces.{path_is, at_node, stands_place}
 use Rattle.dt_view.specs.Tables.{at_number, HasNumber, AreParents, ArePhandles}
+use Rattle.dt_view.specs.declared.tables.Row.{Row}
 use Rattle.dt_view.specs.Views.{IsAbove}
 use Rattle.dt_read.specs.Placed.{HasPlacesApart}
 
-pub above_of : (t : PlacedTree) (entries : List (ℕ × Option ℕ)) (k : ℕ) → AreParents t (nodes_of (reading_of t)) entries → IsNode t k → (a : Option ℕ) × (at_number entries k ≡ Some a) × IsAbove t k a
+pub above_of : (t : PlacedTree) (entries : List (ℕ × Row)) (k : ℕ) → AreParents t (nodes_of (reading_of t)) entries → IsNode t k → (row : Row) × (at_number entries k ≡ Some row) × IsAbove t k row.above
 above_of t entries k parents is =
     let n = stands_listed (reading_of t) (path_at t k) (sym (stands_place t (path_at t k)) ∙ ap is_some is) in
     parents n.0 k n.1 (ap (place_of t) n.2 ∙ is)
 
-pub above_is : (t : PlacedTree) (entries : List (ℕ × Option ℕ)) (k : ℕ) (a : Option ℕ) → AreParents t (nodes_of (reading_of t)) entries → IsNode t k → Some a ≡ at_number entries k → IsAbove t k a
-above_is t entries k a parents is e =
+pub above_is : (t : PlacedTree) (entries : List (ℕ × Row)) (k : ℕ) (row : Row) → AreParents t (nodes_of (reading_of t)) entries → IsNode t k → Some row ≡ at_number entries k → IsAbove t k row.above
+above_is t entries k row parents is e =
     let found = above_of t entries k parents is in
-    let both : Some found.0 ≡ Some a = sym found.1 ∙ sym e in
-    subst (IsAbove t k) (let same : found.0 ≡ a = cc in same) found.2
+    let both : Some found.0 ≡ Some row = sym found.1 ∙ sym e in
+    subst (λ (r : Row). IsAbove t k r.above) (let same : found.0 ≡ row = cc in same) found.2
 
-pub above_is_there : (t : PlacedTree) (entries : List (ℕ × Option ℕ)) (k : ℕ) → AreParents t (nodes_of (reading_of t)) entries → IsNode t k → None ≡ at_number entries k → ⊥
+pub above_is_there : (t : PlacedTree) (entries : List (ℕ × Row)) (k : ℕ) → AreParents t (nodes_of (reading_of t)) entries → IsNode t k → None ≡ at_number entries k → ⊥
 above_is_there t entries k parents is e = let found = above_of t entries k parents is in let both : None ≡ Some found.0 = e ∙ found.1 in cc
 
 some_place : (t : PlacedTree) (p : Path) → is_some (place_of t p) ≡ true → (k : ℕ) × IsAt t p k

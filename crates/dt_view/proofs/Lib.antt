@@ -10,5 +10,6 @@ pub mod Indexed
 pub mod Steps
 pub mod Numbers
 pub mod Valued
+pub mod Kinded
 pub mod Children
 pub mod PathTexts

@@ -1,5 +1,5 @@
 -- Tables that are filled on the way through a tree.
-use Rattle.std.proofs.Common.{◌≡◌, ◌⊎◌, ℕ, suc, ◌+◌, ◌<◌, ◌^◌, nat_eq, Bool, true, false, cond, List, [], ◌∷◌, ◌++◌, length, Option, Some, None, codes, refl, sym, ap, subst, ◌∙◌, inl, inr, true≢false, arith}
+use Rattle.std.proofs.Common.{◌≡◌, ◌⊎◌, ℕ, suc, ◌+◌, ◌<◌, ◌^◌, nat_eq, Bool, true, false, cond, List, [], ◌∷◌, ◌++◌, length, Some, None, codes, refl, sym, ap, subst, ◌∙◌, inl, inr, true≢false, arith}
 use Rattle.std.specs.Prelude.{is_some}
 use Rattle.std.specs.Int.{w32, from_be_bytes}
 use Rattle.std.proofs.lemmas.Bool.{eqb-true, eq-eqb}
@@ -19,6 +19,7 @@ use Rattle.dt_model.proofs.Tests.{each_in, in_append}
 use Rattle.dt_read.specs.Placed.{PlacedTree, reading_of, path_at, place_of, IsAt, IsNode}
 use Rattle.dt_read.specs.Walked.{Step, opens, steps_of, without_properties}
 use Rattle.dt_view.specs.Tables.{at_number, HasNumber, AreParents, ArePhandles, IsNoted}
+use Rattle.dt_view.specs.declared.tables.Row.{Row}
 use Rattle.dt_view.specs.Views.{IsAbove}
 use Rattle.dt_view.proofs.Walks.{innermost, AreOpened}
 use Rattle.dt_read.specs.Placed.{HasPlacesApart}
@@ -63,7 +64,7 @@ not_noted t node old none = record { from = λ n k e. inl e; kept = λ n some. s
 -- ---- step by step
 
 -- the tables have the nodes that were opened
-pub record IsFilled (t : PlacedTree) (parents : List (ℕ × Option ℕ)) (phandles : List (ℕ × ℕ)) (open_nodes : List ℕ) (count : ℕ) (steps : List Step) : Type 0 where
+pub record IsFilled (t : PlacedTree) (parents : List (ℕ × Row)) (phandles : List (ℕ × ℕ)) (open_nodes : List ℕ) (count : ℕ) (steps : List Step) : Type 0 where
   pub walked : IsWalked t open_nodes steps
   pub above : AreParents t walked.before parents
   pub numbered : ArePhandles t walked.before phandles
@@ -78,7 +79,7 @@ unfilled t valid within places = record {
   counted = refl;
 }
 
-pub room_for_one : (t : PlacedTree) (parents : List (ℕ × Option ℕ)) (phandles : List (ℕ × ℕ)) (open_nodes : List ℕ) (count k : ℕ) (name : Name) (steps rest : List Step) → IsWithinLimits (reading_of t) → IsFilled t parents phandles open_nodes count steps → steps ≡ opens k name ∷ rest
+pub room_for_one : (t : PlacedTree) (parents : List (ℕ × Row)) (phandles : List (ℕ × ℕ)) (open_nodes : List ℕ) (count k : ℕ) (name : Name) (steps rest : List Step) → IsWithinLimits (reading_of t) → IsFilled t parents phandles open_nodes count steps → steps ≡ opens k name ∷ rest
     → count < most_nodes
 room_for_one t parents phandles open_nodes count k name steps rest within f e =
     let next = next_walked t open_nodes k name steps rest f.walked e in
@@ -89,9 +90,9 @@ room_for_one t parents phandles open_nodes count k name steps rest within f e =
     let is = f.counted in
     omega arith
 
-pub past_one : (t : PlacedTree) (parents parents' : List (ℕ × Option ℕ)) (phandles phandles' : List (ℕ × ℕ)) (open_nodes : List ℕ) (count k : ℕ) (name : Name) (steps rest : List Step) → IsValid (reading_of t) → HasPlacesApart t → IsFilled t parents phandles open_nodes count steps → steps ≡ opens k name ∷ rest
-    → ((j : ℕ) → at_number parents' j ≡ cond (nat_eq k j) (Some (innermost open_nodes)) (at_number parents j)) → IsNoted t k phandles phandles' → IsFilled t parents' phandles' (k ∷ open_nodes) (count + 1) rest
-past_one t parents parents' phandles phandles' open_nodes count k name steps rest valid places f e put note = record {
+pub past_one : (t : PlacedTree) (row : Row) (parents parents' : List (ℕ × Row)) (phandles phandles' : List (ℕ × ℕ)) (open_nodes : List ℕ) (count k : ℕ) (name : Name) (steps rest : List Step) → IsValid (reading_of t) → HasPlacesApart t → IsFilled t parents phandles open_nodes count steps → steps ≡ opens k name ∷ rest
+    → row.above ≡ innermost open_nodes → ((j : ℕ) → at_number parents' j ≡ cond (nat_eq k j) (Some row) (at_number parents j)) → IsNoted t k phandles phandles' → IsFilled t parents' phandles' (k ∷ open_nodes) (count + 1) rest
+past_one t row parents parents' phandles phandles' open_nodes count k name steps rest valid places f e inner put note = record {
   walked = one_walked t open_nodes k name steps rest f.walked e;
   above = above;
   numbered = record { has = has; found = found };
@@ -104,16 +105,16 @@ past_one t parents parents' phandles phandles' open_nodes count k name steps res
     there : IsNode t k
     there = walked_node t open_nodes k name steps rest f.walked e places
 
-    own : IsAbove t k (innermost open_nodes)
-    own = above_walked t open_nodes k name steps rest f.walked e valid places
+    own : IsAbove t k row.above
+    own = subst (IsAbove t k) (sym inner) (above_walked t open_nodes k name steps rest f.walked e valid places)
 
     above : AreParents t (f.walked.before ++ next.first ∷ []) parents'
     above n j i at = by (nat_eq k j) refl
       where
-        by : (b : Bool) → nat_eq k j ≡ b → (a : Option ℕ) × (at_number parents' j ≡ Some a) × IsAbove t j a
-        by true is = (innermost open_nodes, put j ∙ ap (λ b. cond b (Some (innermost open_nodes)) (at_number parents j)) is, subst (λ x. IsAbove t x (innermost open_nodes)) (eqb-true k j is) own)
+        by : (b : Bool) → nat_eq k j ≡ b → (r : Row) × (at_number parents' j ≡ Some r) × IsAbove t j r.above
+        by true is = (row, put j ∙ ap (λ b. cond b (Some row) (at_number parents j)) is, subst (λ x. IsAbove t x row.above) (eqb-true k j is) own)
         by false is = elim (in_append n f.walked.before (next.first ∷ []) i) [
-          | inl old ↦ let a = f.above n j old at in (a.0, put j ∙ ap (λ b. cond b (Some (innermost open_nodes)) (at_number parents j)) is ∙ a.1, a.2)
+          | inl old ↦ let a = f.above n j old at in (a.0, put j ∙ ap (λ b. cond b (Some row) (at_number parents j)) is ∙ a.1, a.2)
           | inr new ↦ absurd (true≢false (sym (eq-eqb k j (same new)) ∙ is))
         ]
           where
@@ -138,7 +139,7 @@ past_one t parents parents' phandles phandles' open_nodes count k name steps res
         same (inr none) = absurd none
 
 -- a property, or a node's end
-pub past_another : (t : PlacedTree) (parents : List (ℕ × Option ℕ)) (phandles : List (ℕ × ℕ)) (open_nodes new : List ℕ) (count : ℕ) (steps rest : List Step) → (f : IsFilled t parents phandles open_nodes count steps) → (w : IsWalked t new rest) → w.before ≡ f.walked.before
+pub past_another : (t : PlacedTree) (parents : List (ℕ × Row)) (phandles : List (ℕ × ℕ)) (open_nodes new : List ℕ) (count : ℕ) (steps rest : List Step) → (f : IsFilled t parents phandles open_nodes count steps) → (w : IsWalked t new rest) → w.before ≡ f.walked.before
     → IsFilled t parents phandles new count rest
 past_another t parents phandles open_nodes new count steps rest f w same = record {
   walked = w;
@@ -148,18 +149,18 @@ past_another t parents phandles open_nodes new count steps rest f w same = recor
 }
 
 -- a walk through the nodes alone fills them as well
-pub nodes_filled : (t : PlacedTree) (parents : List (ℕ × Option ℕ)) (phandles : List (ℕ × ℕ)) (open_nodes : List ℕ) (count : ℕ) (steps : List Step) → IsFilled t parents phandles open_nodes count steps
+pub nodes_filled : (t : PlacedTree) (parents : List (ℕ × Row)) (phandles : List (ℕ × ℕ)) (open_nodes : List ℕ) (count : ℕ) (steps : List Step) → IsFilled t parents phandles open_nodes count steps
     → IsFilled t parents phandles open_nodes count (without_properties steps)
 nodes_filled t parents phandles open_nodes count steps f =
     past_another t parents phandles open_nodes open_nodes count steps (without_properties steps) f (nodes_walked t open_nodes steps f.walked) refl
 
 -- at the end the tables have all nodes
-pub record AreAllFilled (t : PlacedTree) (parents : List (ℕ × Option ℕ)) (phandles : List (ℕ × ℕ)) (count : ℕ) : Type 0 where
+pub record AreAllFilled (t : PlacedTree) (parents : List (ℕ × Row)) (phandles : List (ℕ × ℕ)) (count : ℕ) : Type 0 where
   pub above : AreParents t (nodes_of (reading_of t)) parents
   pub numbered : ArePhandles t (nodes_of (reading_of t)) phandles
   pub counted : count ≡ length (nodes_of (reading_of t))
 
-pub all_filled : (t : PlacedTree) (parents : List (ℕ × Option ℕ)) (phandles : List (ℕ × ℕ)) (open_nodes : List ℕ) (count : ℕ) (steps : List Step) → IsFilled t parents phandles open_nodes count steps → steps ≡ [] → AreAllFilled t parents phandles count
+pub all_filled : (t : PlacedTree) (parents : List (ℕ × Row)) (phandles : List (ℕ × ℕ)) (open_nodes : List ℕ) (count : ℕ) (steps : List Step) → IsFilled t parents phandles open_nodes count steps → steps ≡ [] → AreAllFilled t parents phandles count
 all_filled t parents phandles open_nodes count steps f e =
     let none : f.walked.nodes ≡ [] = none_opened t f.walked.before f.walked.nodes (subst (AreOpened t f.walked.before f.walked.nodes) e f.walked.are) in
     let all : nodes_of (reading_of t) ≡ f.walked.before = f.walked.are.whole ∙ ap (λ ns. f.walked.before ++ ns) none ∙ append-nil f.walked.before in

@@ -1,143 +1,72 @@
 -- The table of values, as it is filled on the way through a tree.
-use Rattle.std.proofs.Common.{◌≡◌, ◌≢◌, ◌⊎◌, ℕ, ◌&&◌, nat_eq, Bool, true, false, cond, List, [], ◌∷◌, ◌++◌, map, Option, Some, None, Bor, refl, sym, ap, subst, ◌∙◌, inl, inr, append_assoc, true≢false}
+use Rattle.std.proofs.Common.{◌≡◌, ℕ, ◌-◌, ◌≤◌, nat_eq, Bool, true, false, cond, List, [], ◌∷◌, ◌++◌, length, map, take, drop, Option, Some, None, refl, sym, ap, subst, ◌∙◌, inl, inr, append_assoc, true≢false, arith}
 use Rattle.std.specs.Prelude.{is_some}
-use Rattle.std.specs.HashMap.{HashMap, UpdatesBy}
-use Rattle.std.specs.List.{AllByRecursion}
-use Rattle.std.specs.Map.{lookup}
-use Rattle.std.specs.Option.{option_copied}
+use Rattle.std.specs.List.{between}
 use Rattle.std.specs.Str.{bytes_eq}
 use Rattle.std.proofs.lemmas.Bool.{eqb-true, eq-eqb}
-use Rattle.std.proofs.lemmas.List.{append-nil}
+use Rattle.std.proofs.lemmas.List.{append-nil, map-append, length-append, length-drop, take-append-le, drop-append-le, drop_at}
+use Rattle.std.proofs.lemmas.Slice.{between_to_end}
 use Rattle.std.proofs.lemmas.Slice.Eq.{bytes_eq-Decides}
 use Rattle.dt_model.specs.Lists.{IsIn}
 use Rattle.dt_model.specs.Names.{Name}
 use Rattle.dt_model.specs.Path.{Path}
 use Rattle.dt_model.specs.Tree.{Property, Placed, Node, node_at, nodes_of, value_of, value_in}
-use Rattle.dt_model.specs.Valid.{IsValid, AreDistinct}
-use Rattle.dt_model.proofs.Listed.{stands_listed, at_listed, properties_listed}
+use Rattle.dt_model.specs.Valid.{IsValid}
+use Rattle.dt_model.proofs.Listed.{stands_listed}
 use Rattle.dt_model.proofs.Tests.{in_append}
-use Rattle.dt_read.specs.Placed.{PlacedTree, reading_of, path_at, place_of, properties_found, properties_at, IsAt, IsNode}
+use Rattle.dt_read.specs.Placed.{PlacedTree, reading_of, path_at, place_of, properties_at, IsNode}
 use Rattle.dt_read.specs.Walked.{Step, opens, steps_of}
 use Rattle.dt_read.proofs.NodePlaces.{stands_place}
-use Rattle.dt_view.specs.Tables.{Key, first_found, is_asked, value_at, PutsValue, NotesValue, AreValues, AreKept}
+use Rattle.dt_view.specs.declared.tables.Row.{Row}
+use Rattle.dt_view.specs.declared.tables.Asked.{Asked}
+use Rattle.dt_view.specs.Tables.{at_number, asked_of, asked_said, first_found, is_whole_name, AreNoted, AreValues, HasValues}
 use Rattle.dt_view.proofs.Walks.{opened, AreOpened}
 use Rattle.dt_view.proofs.Openings.{OpensNext, all_opened, next_opened, none_opened}
 
--- ---- a change of the hash map is a change of the table
+-- ---- the properties that are asked for whole
 
-both : (a b : Bool) → (a && b) ≡ true → (a ≡ true) × (b ≡ true)
-both true true h = (refl, refl)
-both true false h = absurd (true≢false (sym h))
-both false b h = absurd (true≢false (sym h))
-
--- the test of a node and a name is passed by their key alone
-pub key_is : (i j : ℕ) (x y : Name) → (nat_eq i j && bytes_eq x y) ≡ true → (i ≡ j) × (x ≡ y)
-key_is i j x y h = let p = both (nat_eq i j) (bytes_eq x y) h in (eqb-true i j p.0, (bytes_eq-Decides x y).0 p.1)
-
-pub puts_from_updates : {S : Type 0} (m n : HashMap Key (Bor (List ℕ)) S) (k : Key) (w : Bor (List ℕ))
-    → UpdatesBy (λ (a b : Key). nat_eq a.0 b.0 && bytes_eq a.1.now b.1.now) (λ (b : Key). nat_eq k.0 b.0 && bytes_eq k.1.now b.1.now) m n (Some w)
-    → PutsValue m.entries n.entries k.0 k.1.now w.now
-puts_from_updates m n k w u j y = ap option_copied (u.0 (j, record k.1 { now = y })) ∙ by (nat_eq k.0 j && bytes_eq k.1.now y)
+-- what they ask for is found among those
+pub asked_found : (ps : List Property) (x : Name) → is_whole_name x ≡ true → value_of (asked_of ps) x ≡ value_of ps x
+asked_found [] x asked = refl
+asked_found (p ∷ ps) x asked = by (asked_found ps x asked) (is_whole_name p.name) refl
   where
-    by : (b : Bool) → option_copied (cond b (Some w) (lookup (λ (key : Key). nat_eq j key.0 && bytes_eq y key.1.now) m.entries)) ≡ cond b (Some w.now) (value_at m.entries j y)
+    other : (b : Bool) → bytes_eq x p.name ≡ b → is_whole_name p.name ≡ false → b ≡ false
+    other true is un = absurd (true≢false (sym asked ∙ ap is_whole_name ((bytes_eq-Decides x p.name).0 is) ∙ un))
+    other false is un = refl
+
+    by : value_of (asked_of ps) x ≡ value_of ps x → (b : Bool) → is_whole_name p.name ≡ b → value_of (cond (is_whole_name p.name) (p ∷ asked_of ps) (asked_of ps)) x ≡ cond (bytes_eq x p.name) (Some p.value) (value_of ps x)
+    by rest true is = ap (λ b. value_of (cond b (p ∷ asked_of ps) (asked_of ps)) x) is ∙ ap (cond (bytes_eq x p.name) (Some p.value)) rest
+    by rest false is =
+        ap (λ b. value_of (cond b (p ∷ asked_of ps) (asked_of ps)) x) is ∙ rest ∙ ap (λ b. cond b (Some p.value) (value_of ps x)) (sym (other (bytes_eq x p.name) refl is))
+
+asked_next : (p : Property) (ps : List Property) → asked_of (p ∷ ps) ≡ asked_of (p ∷ []) ++ asked_of ps
+asked_next p ps = by (is_whole_name p.name)
+  where
+    by : (b : Bool) → cond b (p ∷ asked_of ps) (asked_of ps) ≡ cond b (p ∷ []) [] ++ asked_of ps
     by true = refl
     by false = refl
 
--- ---- the properties of a node
-
--- what a name finds is the property of that name, where no two are called the same
-value_here : (done : List Property) (p : Property) (rest : List Property) → AreDistinct (map (λ q. q.name) (done ++ p ∷ rest)) → value_of (done ++ p ∷ rest) p.name ≡ Some p.value
-value_here [] p rest d = rw ((bytes_eq-Decides p.name p.name).1 refl) refl
-value_here (q ∷ done) p rest d = by (value_here done p rest d.1) (bytes_eq p.name q.name) refl
-  where
-    other : (qs : List Property) → AllByRecursion (λ y. y ≢ q.name) (map (λ q. q.name) (qs ++ p ∷ rest)) → p.name ≢ q.name
-    other [] a = a.0
-    other (r ∷ qs) a = other qs a.1
-
-    by : value_of (done ++ p ∷ rest) p.name ≡ Some p.value → (b : Bool) → bytes_eq p.name q.name ≡ b → cond (bytes_eq p.name q.name) (Some q.value) (value_of (done ++ p ∷ rest) p.name) ≡ Some p.value
-    by later true is = absurd (other done d.0 ((bytes_eq-Decides p.name q.name).0 is))
-    by later false is = rw is later
-
--- one property more
-value_of_more : (done : List Property) (p : Property) (x : Name) → bytes_eq p.name x ≡ false → value_of (done ++ p ∷ []) x ≡ value_of done x
-value_of_more [] p x differ = by (bytes_eq x p.name) refl
-  where
-    by : (b : Bool) → bytes_eq x p.name ≡ b → cond b (Some p.value) None ≡ None
-    by true is = absurd (true≢false (sym ((bytes_eq-Decides p.name x).1 (sym ((bytes_eq-Decides x p.name).0 is))) ∙ differ))
-    by false is = refl
-value_of_more (q ∷ done) p x differ = ap (cond (bytes_eq x q.name) (Some q.value)) (value_of_more done p x differ)
-
--- a node's properties are called differently
-pub distinct_at : (t : PlacedTree) (p : Path) → IsValid (reading_of t) → AreDistinct (map (λ q. q.name) (properties_at t p))
-distinct_at t p valid = by (node_at (reading_of t) p) refl
-  where
-    by : (o : Option Node) → node_at (reading_of t) p ≡ o → AreDistinct (map (λ q. q.name) (properties_found o))
-    by None e = tt
-    by (Some c) e = (properties_listed (reading_of t) (record { path = p; properties = c.properties }) valid (at_listed (reading_of t) p c e)).distinct
-
-pub none_kept : (node : ℕ) (properties : List Property) (old : List (Key × Bor (List ℕ))) → AreKept node properties [] old old
-none_kept node properties old = record { from = λ k x v e. inl e; kept = λ k x e. e; own = λ x asked e. absurd (true≢false (sym e)) }
-
-pub one_kept : (node : ℕ) (properties done : List Property) (p : Property) (rest : List Property) (old mid new : List (Key × Bor (List ℕ))) → properties ≡ done ++ p ∷ rest → AreDistinct (map (λ q. q.name) properties)
-    → AreKept node properties done old mid → PutsValue mid new node p.name p.value → AreKept node properties (done ++ p ∷ []) old new
-one_kept node properties done p rest old mid new whole distinct before put = record {
-  from = λ k x v e. from k x v (nat_eq node k && bytes_eq p.name x) refl (sym (put k x) ∙ e);
-  kept = λ k x e. ap is_some (put k x) ∙ kept k x e (nat_eq node k && bytes_eq p.name x);
-  own = λ x asked e. ap is_some (put node x) ∙ own x asked e (bytes_eq p.name x) refl;
-}
-  where
-    from : (k : ℕ) (x : Name) (v : List ℕ) (b : Bool) → (nat_eq node k && bytes_eq p.name x) ≡ b → cond (nat_eq node k && bytes_eq p.name x) (Some p.value) (value_at mid k x) ≡ Some v
-        → (value_at old k x ≡ Some v) ⊎ ((k ≡ node) × (value_of properties x ≡ Some v))
-    from k x v true is e =
-        let key = key_is node k p.name x is in
-        let value : Some p.value ≡ Some v = sym (ap (λ c. cond c (Some p.value) (value_at mid k x)) is) ∙ e in
-        let own : value_of (done ++ p ∷ rest) p.name ≡ Some p.value = value_here done p rest (subst (λ qs. AreDistinct (map (λ q. q.name) qs)) whole distinct) in
-        inr (sym key.0, ap (value_of properties) (sym key.1) ∙ ap (λ qs. value_of qs p.name) whole ∙ own ∙ value)
-    from k x v false is e = before.from k x v (sym (ap (λ c. cond c (Some p.value) (value_at mid k x)) is) ∙ e)
-
-    kept : (k : ℕ) (x : Name) → is_some (value_at old k x) ≡ true → (b : Bool) → is_some (cond b (Some p.value) (value_at mid k x)) ≡ true
-    kept k x e true = refl
-    kept k x e false = before.kept k x e
-
-    own : (x : Name) → is_asked x ≡ true → is_some (value_of (done ++ p ∷ []) x) ≡ true → (b : Bool) → bytes_eq p.name x ≡ b → is_some (cond (nat_eq node node && bytes_eq p.name x) (Some p.value) (value_at mid node x)) ≡ true
-    own x asked e true is = rw (eq-eqb node node refl, is) refl
-    own x asked e false is = rw (eq-eqb node node refl, is) (before.own x asked (sym (ap is_some (value_of_more done p x is)) ∙ e))
-
--- a property that the rules do not ask for changes nothing
-pub none_more : (node : ℕ) (properties done : List Property) (p : Property) (old mid new : List (Key × Bor (List ℕ))) → is_asked p.name ≡ false → new ≡ mid
-    → AreKept node properties done old mid → AreKept node properties (done ++ p ∷ []) old new
-none_more node properties done p old mid new unasked same before = record {
-  from = λ k x v e. before.from k x v (ap (λ es. value_at es k x) (sym same) ∙ e);
-  kept = λ k x e. ap (λ es. is_some (value_at es k x)) same ∙ before.kept k x e;
-  own = λ x asked e. ap (λ es. is_some (value_at es node x)) same ∙ before.own x asked (sym (ap is_some (value_of_more done p x (other x asked (bytes_eq p.name x) refl))) ∙ e);
-}
-  where
-    other : (x : Name) → is_asked x ≡ true → (b : Bool) → bytes_eq p.name x ≡ b → b ≡ false
-    other x asked true is = absurd (true≢false (sym asked ∙ ap is_asked (sym ((bytes_eq-Decides p.name x).0 is)) ∙ unasked))
-    other x asked false is = refl
-
 -- the properties that are left come next
-pub record AreKeeping (node : ℕ) (properties left : List Property) (old new : List (Key × Bor (List ℕ))) : Type 0 where
-  pub done : List Property
-  pub whole : properties ≡ done ++ left
-  pub kept : AreKept node properties done old new
+abbrev pub AreNoting : List Asked → List Asked → List Property → List Property → Type 0
+AreNoting old new left properties = (more : List Asked) × (new ≡ old ++ more) × (map asked_said more ++ asked_of left ≡ asked_of properties)
 
-pub keeping_next : (node : ℕ) (properties : List Property) (p : Property) (left rest : List Property) (old mid new : List (Key × Bor (List ℕ))) → AreDistinct (map (λ q. q.name) properties) → left ≡ p ∷ rest
-    → AreKeeping node properties left old mid → NotesValue mid new node p.name p.value → AreKeeping node properties rest old new
-keeping_next node properties p left rest old mid new distinct e k note =
-    let whole : properties ≡ k.done ++ p ∷ rest = k.whole ∙ ap (λ qs. k.done ++ qs) e in
-    record {
-      done = k.done ++ p ∷ [];
-      whole = whole ∙ sym (append_assoc k.done (p ∷ []) rest);
-      kept = by whole (is_asked p.name) refl note;
-    }
-  where
-    by : properties ≡ k.done ++ p ∷ rest → (b : Bool) → is_asked p.name ≡ b → cond b (PutsValue mid new node p.name p.value) (new ≡ mid) → AreKept node properties (k.done ++ p ∷ []) old new
-    by whole true is put = one_kept node properties k.done p rest old mid new whole distinct k.kept put
-    by whole false is same = none_more node properties k.done p old mid new is same k.kept
+pub noting_first : (old : List Asked) (left properties : List Property) → left ≡ properties → AreNoting old old left properties
+noting_first old left properties e = ([], sym (append-nil old), ap asked_of e)
 
-pub keeping_all : (node : ℕ) (properties left : List Property) (old new : List (Key × Bor (List ℕ))) → left ≡ [] → AreKeeping node properties left old new → AreKept node properties properties old new
-keeping_all node properties left old new e k = subst (λ qs. AreKept node properties qs old new) (sym (k.whole ∙ ap (λ qs. k.done ++ qs) e ∙ append-nil k.done)) k.kept
+pub noting_next : (old mid new : List Asked) (p : Property) (left rest properties : List Property) → left ≡ p ∷ rest → AreNoting old mid left properties → AreNoted mid new (p ∷ []) →
+    AreNoting old new rest properties
+noting_next old mid new p left rest properties e before note = (
+  before.0 ++ note.0,
+  note.1 ∙ ap (λ (z : List Asked). z ++ note.0) before.1 ∙ append_assoc old before.0 note.0,
+  ap (λ (z : List Property). z ++ asked_of rest) (map-append asked_said before.0 note.0 ∙ ap (λ (z : List Property). map asked_said before.0 ++ z) note.2)
+      ∙ append_assoc (map asked_said before.0) (asked_of (p ∷ [])) (asked_of rest)
+      ∙ ap (λ (z : List Property). map asked_said before.0 ++ z) (sym (asked_next p rest) ∙ ap asked_of (sym e))
+      ∙ before.2,
+)
+
+pub noting_all : (old new : List Asked) (left properties : List Property) → left ≡ [] → AreNoting old new left properties → AreNoted old new properties
+noting_all old new left properties e before =
+    (before.0, before.1, sym (append-nil (map asked_said before.0)) ∙ ap (λ (z : List Property). map asked_said before.0 ++ asked_of z) (sym e) ∙ before.2)
 
 -- what was found before the properties that are left, and then what is found in them
 pub found_next : (before new whole : Option (List ℕ)) (p : Property) (left rest : List Property) (x : Name) → left ≡ p ∷ rest → new ≡ first_found before (value_of (p ∷ []) x)
@@ -166,72 +95,108 @@ value_of_all t p x = by (node_at (reading_of t) p) refl
 
 -- ---- step by step
 
--- the table has the values of the nodes that were opened, and the steps open the others
-pub record AreValued (t : PlacedTree) (values : List (Key × Bor (List ℕ))) (steps : List Step) : Type 0 where
+between_kept : {X : Type 0} (i j : ℕ) (xs ys : List X) → i ≤ j → j ≤ length xs → between i j (xs ++ ys) ≡ between i j xs
+between_kept i j xs ys le inside =
+    let left = length-drop i xs in
+    ap (take (j - i)) (drop-append-le i xs ys (omega (arith, le, inside))) ∙ take-append-le (j - i) (drop i xs) ys (omega (arith, le, inside, left))
+
+between_new : {X : Type 0} (xs ys : List X) (j : ℕ) → j ≡ length (xs ++ ys) → between (length xs) j (xs ++ ys) ≡ ys
+between_new xs ys j e = between_to_end (xs ++ ys) (length xs) j (omega (arith, e)) ∙ drop_at xs ys (length xs) refl
+
+-- more values change nothing of a row
+values_kept : (t : PlacedTree) (old more : List Asked) (k : ℕ) (row : Row) → HasValues t old k row → HasValues t (old ++ more) k row
+values_kept t old more k row h =
+    let longer = length-append old more in
+    record {
+      ordered = h.ordered;
+      within = omega (arith, h.within, longer);
+      asked = ap (map asked_said) (between_kept row.first row.behind old more h.ordered h.within) ∙ h.asked;
+    }
+
+values_new : (t : PlacedTree) (old more : List Asked) (k : ℕ) (row : Row) → row.first ≡ length old → row.behind ≡ length (old ++ more) → map asked_said more ≡ asked_of (properties_at t (path_at t k)) →
+    HasValues t (old ++ more) k row
+values_new t old more k row e f asked =
+    let longer = length-append old more in
+    record {
+      ordered = omega (arith, e, f, longer);
+      within = omega (arith, f);
+      asked = ap (λ (i : ℕ). map asked_said (between i row.behind (old ++ more))) e ∙ ap (map asked_said) (between_new old more row.behind f) ∙ asked;
+    }
+
+-- the rows have the values of the nodes that were opened, and the steps open the others
+pub record AreValued (t : PlacedTree) (values : List Asked) (rows : List (ℕ × Row)) (steps : List Step) : Type 0 where
   pub before : List Placed
   pub nodes : List Placed
   pub are : AreOpened t before nodes steps
-  pub valued : AreValues t before values
+  pub valued : AreValues t before values rows
 
-pub none_valued : (t : PlacedTree) → IsValid (reading_of t) → AreValued t [] (steps_of t)
-none_valued t valid = record {
-  before = [];
-  nodes = nodes_of (reading_of t);
-  are = all_opened t valid;
-  valued = record { has = λ k x v e. absurd (let z : None ≡ Some v = e in cc); found = λ n k x asked i at some. absurd i };
-}
+pub none_valued : (t : PlacedTree) → IsValid (reading_of t) → AreValued t [] [] (steps_of t)
+none_valued t valid = record { before = []; nodes = nodes_of (reading_of t); are = all_opened t valid; valued = λ n k i at. absurd i }
 
-pub one_valued : (t : PlacedTree) (old new : List (Key × Bor (List ℕ))) (k : ℕ) (name : Name) (steps rest : List Step) → AreValued t old steps → steps ≡ opens k name ∷ rest
-    → AreKept k (properties_at t (path_at t k)) (properties_at t (path_at t k)) old new → AreValued t new rest
-one_valued t old new k name steps rest f e kept = record {
+pub one_valued : (t : PlacedTree) (old new : List Asked) (rows rows' : List (ℕ × Row)) (k : ℕ) (row : Row) (name : Name) (steps rest : List Step) → AreValued t old rows steps → steps ≡ opens k name ∷ rest →
+    AreNoted old new (properties_at t (path_at t k)) → row.first ≡ length old → row.behind ≡ length new →
+    ((j : ℕ) → at_number rows' j ≡ cond (nat_eq k j) (Some row) (at_number rows j)) → AreValued t new rows' rest
+one_valued t old new rows rows' k row name steps rest f e noted first behind put = record {
   before = f.before ++ next.first ∷ [];
   nodes = next.later;
   are = next.left;
-  valued = record { has = has; found = found };
+  valued = valued;
 }
   where
     next : OpensNext t f.before f.nodes k rest
     next = next_opened t f.before f.nodes k name rest (subst (AreOpened t f.before f.nodes) e f.are)
 
-    has : (j : ℕ) (x : Name) (v : List ℕ) → value_at new j x ≡ Some v → value_in (reading_of t) (path_at t j) x ≡ Some v
-    has j x v e' = elim (kept.from j x v e') [
-      | inl before ↦ f.valued.has j x v before
-      | inr own ↦ ap (λ i. value_in (reading_of t) (path_at t i) x) own.0 ∙ value_of_all t (path_at t k) x ∙ own.1
-    ]
+    own : HasValues t new k row
+    own = subst (λ vs. HasValues t vs k row) (sym noted.1) (values_new t old noted.0 k row first (behind ∙ ap length noted.1) noted.2)
 
-    found : (n : Placed) (j : ℕ) (x : Name) → is_asked x ≡ true → IsIn n (f.before ++ next.first ∷ []) → IsAt t n.path j → is_some (value_in (reading_of t) (path_at t j) x) ≡ true → is_some (value_at new j x) ≡ true
-    found n j x asked i at some = elim (in_append n f.before (next.first ∷ []) i) [
-      | inl before ↦ kept.kept j x (f.valued.found n j x asked before at some)
-      | inr here ↦ subst (λ m. is_some (value_at new m x) ≡ true) (same here)
-          (kept.own x asked (sym (ap is_some (value_of_all t (path_at t k) x)) ∙ ap (λ m. is_some (value_in (reading_of t) (path_at t m) x)) (same here) ∙ some))
-    ]
+    valued : AreValues t (f.before ++ next.first ∷ []) new rows'
+    valued n j i at = by (nat_eq k j) refl
       where
         same : IsIn n (next.first ∷ []) → k ≡ j
         same (inl one) = let z : Some k ≡ Some j = sym next.at ∙ ap (λ (y : Placed). place_of t y.path) (sym one) ∙ at in cc
         same (inr none) = absurd none
 
+        by : (b : Bool) → nat_eq k j ≡ b → (r : Row) × (at_number rows' j ≡ Some r) × HasValues t new j r
+        by true is = (row, put j ∙ ap (λ b. cond b (Some row) (at_number rows j)) is, subst (λ m. HasValues t new m row) (eqb-true k j is) own)
+        by false is = elim (in_append n f.before (next.first ∷ []) i) [
+          | inl before ↦ let r = f.valued n j before at in
+              (r.0, put j ∙ ap (λ b. cond b (Some row) (at_number rows j)) is ∙ r.1, subst (λ vs. HasValues t vs j r.0) (sym noted.1) (values_kept t old noted.0 j r.0 r.2))
+          | inr here ↦ absurd (true≢false (sym (eq-eqb k j (same here)) ∙ is))
+        ]
+
 -- a property, or a node's end
-pub others_valued : (t : PlacedTree) (values : List (Key × Bor (List ℕ))) (steps rest : List Step) → AreValued t values steps → opened steps ≡ opened rest → AreValued t values rest
-others_valued t values steps rest f same = record {
+pub others_valued : (t : PlacedTree) (values : List Asked) (rows : List (ℕ × Row)) (steps rest : List Step) → AreValued t values rows steps → opened steps ≡ opened rest → AreValued t values rows rest
+others_valued t values rows steps rest f same = record {
   before = f.before;
   nodes = f.nodes;
   are = record { whole = f.are.whole; places = f.are.places ∙ ap (map (λ k. Some k)) same };
   valued = f.valued;
 }
 
-pub all_valued : (t : PlacedTree) (values : List (Key × Bor (List ℕ))) (steps : List Step) → AreValued t values steps → steps ≡ [] → AreValues t (nodes_of (reading_of t)) values
-all_valued t values steps f e =
+pub all_valued : (t : PlacedTree) (values : List Asked) (rows : List (ℕ × Row)) (steps : List Step) → AreValued t values rows steps → steps ≡ [] → AreValues t (nodes_of (reading_of t)) values rows
+all_valued t values rows steps f e =
     let none : f.nodes ≡ [] = none_opened t f.before f.nodes (subst (AreOpened t f.before f.nodes) e f.are) in
-    subst (λ ns. AreValues t ns values) (sym (f.are.whole ∙ ap (λ ns. f.before ++ ns) none ∙ append-nil f.before)) f.valued
+    subst (λ ns. AreValues t ns values rows) (sym (f.are.whole ∙ ap (λ ns. f.before ++ ns) none ∙ append-nil f.before)) f.valued
 
--- ---- what the whole table has
+-- ---- what the rows have
 
-pub value_looked_up : (t : PlacedTree) (values : List (Key × Bor (List ℕ))) (k : ℕ) (x : Name) → is_asked x ≡ true → IsNode t k → AreValues t (nodes_of (reading_of t)) values → value_at values k x ≡ value_in (reading_of t) (path_at t k) x
-value_looked_up t values k x asked is are = by (value_at values k x) (value_in (reading_of t) (path_at t k) x) refl refl
-  where
-    by : (o p : Option (List ℕ)) → value_at values k x ≡ o → value_in (reading_of t) (path_at t k) x ≡ p → o ≡ p
-    by (Some v) p e f = sym (are.has k x v e) ∙ f
-    by None None e f = refl
-    by None (Some v) e f =
-        let n = stands_listed (reading_of t) (path_at t k) (sym (stands_place t (path_at t k)) ∙ ap is_some is) in
-        absurd (true≢false (sym (are.found n.0 k x asked n.1 (ap (place_of t) n.2 ∙ is) (ap is_some f)) ∙ ap is_some e))
+-- a node's row is there, and has its values
+pub row_of : (t : PlacedTree) (values : List Asked) (rows : List (ℕ × Row)) (k : ℕ) → AreValues t (nodes_of (reading_of t)) values rows → IsNode t k → (row : Row) × (at_number rows k ≡ Some row) × HasValues t values k row
+row_of t values rows k are is =
+    let n = stands_listed (reading_of t) (path_at t k) (sym (stands_place t (path_at t k)) ∙ ap is_some is) in
+    are n.0 k n.1 (ap (place_of t) n.2 ∙ is)
+
+pub row_is : (t : PlacedTree) (values : List Asked) (rows : List (ℕ × Row)) (k : ℕ) (row : Row) → AreValues t (nodes_of (reading_of t)) values rows → IsNode t k → Some row ≡ at_number rows k → HasValues t values k row
+row_is t values rows k row are is e =
+    let found = row_of t values rows k are is in
+    let both : Some found.0 ≡ Some row = sym found.1 ∙ sym e in
+    subst (HasValues t values k) (let same : found.0 ≡ row = cc in same) found.2
+
+pub row_is_there : (t : PlacedTree) (values : List Asked) (rows : List (ℕ × Row)) (k : ℕ) → AreValues t (nodes_of (reading_of t)) values rows → IsNode t k → None ≡ at_number rows k → ⊥
+row_is_there t values rows k are is e = let found = row_of t values rows k are is in let both : None ≡ Some found.0 = e ∙ found.1 in cc
+
+-- and what the rules ask for is found there
+pub value_in_row : (t : PlacedTree) (values : List Asked) (k : ℕ) (row : Row) (x : Name) → is_whole_name x ≡ true → HasValues t values k row →
+    value_of (map asked_said (between row.first row.behind values)) x ≡ value_in (reading_of t) (path_at t k) x
+value_in_row t values k row x asked h =
+    ap (λ (ps : List Property). value_of ps x) h.asked ∙ asked_found (properties_at t (path_at t k)) x asked ∙ sym (value_of_all t (path_at t k) x)

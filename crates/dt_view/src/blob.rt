@@ -123,7 +123,7 @@ pub(crate) fn name_of<'b>(blob: &'b Blob<'_>, node: NodeId) -> &'b [u8]
 }
 
 /// The child of a node that has a name.
-fn child_of(blob: &Blob<'_>, node: NodeId, name: &[u8]) -> Option<NodeId>
+pub(crate) fn child_of(blob: &Blob<'_>, node: NodeId, name: &[u8]) -> Option<NodeId>
     requires { IsNode blob.now node }
     ensures is { result ≡ place_of blob.now (path_at blob.now node ++ name.now ∷ []) }
     ensures node { IfSome result (IsNode blob.now) }

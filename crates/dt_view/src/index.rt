@@ -5,9 +5,12 @@ ghost use Rattle.dt_names.specs.declared.fault.FaultKind.TheVariants.{NoMemory};
 ghost use Rattle.dt_names.specs.Fault.{IsNoMemory};
 ghost use Rattle.dt_read.specs.Placed.{HasPlacesApart};
 
-use crate::blob::{first_child_of, name_of, root_of, sibling_behind, value_of};
+use crate::blob::{child_of, first_child_of, name_of, root_of, sibling_behind, value_of};
 use crate::finding::node_at;
-use crate::tables::{Children, Parents, Phandles, Values, fill, is_asked};
+use crate::tables::{
+    Asked, Children, Kinds, Phandles, Rows, fill, fill_children, is_kind_name, is_whole_name,
+    value_in_row,
+};
 use crate::view::TreeView;
 use dt_names::{Fault, NodeId};
 use dt_read::Blob;
@@ -19,15 +22,17 @@ use std::marker::Model;
 #[derive(Drop)]
 pub struct Index<'a> {
     blob: &'a Blob<'a>,
-    parents: Parents,
+    rows: Rows,
     phandles: Phandles,
-    values: Values<'a>,
-    children: Children<'a>,
+    values: Vec<Asked<'a>>,
+    kinds: Kinds<'a>,
+    /// None where no child is asked for by its name.
+    children: Option<Children<'a>>,
     count: usize,
 }
 
 impl<'a> Model for Index<'a> {
-    ghost use Rattle.std.specs.Prelude.{◌≡◌, length};
+    ghost use Rattle.std.specs.Prelude.{◌≡◌, length, option_map};
     ghost use Rattle.dt_model.specs.Tree.{nodes_of};
     ghost use Rattle.dt_read.specs.Placed.{PlacedTree, reading_of};
     ghost use Rattle.dt_read.specs.TreeCode.{coded_placed};
@@ -39,20 +44,21 @@ impl<'a> Model for Index<'a> {
 
     ghost view = { λ i. i.blob.now };
 
-    ghost invariant = { λ i. AreIndexed i.blob.now i.parents.entries i.phandles.entries i.values.entries i.children.entries i.count };
+    ghost invariant = { λ i. AreIndexed i.blob.now i.rows.entries i.phandles.entries i.values.items i.kinds.entries (option_map (λ table. table.entries) i.children) i.count };
 }
 
 impl<'a> Index<'a> {
-    ghost use Rattle.std.specs.Prelude.{ℕ, [], ◌∷◌, ◌++◌, length, IfSome, option_map};
+    ghost use Rattle.std.specs.Prelude.{ℕ, true, [], ◌∷◌, ◌++◌, length, IfSome, option_map};
     ghost use Rattle.std.specs.Option.{option_copied};
     ghost use Rattle.dt_model.specs.Applied.{node_numbered};
     ghost use Rattle.dt_model.specs.Path.{Path};
     ghost use Rattle.dt_model.specs.Tree.{nodes_of, value_in};
     ghost use Rattle.dt_model.specs.Valid.{IsValid, IsWithinLimits};
     ghost use Rattle.dt_read.specs.Placed.{last_name, path_at, place_of, reading_of, IsAt, IsNode};
+    ghost use Rattle.dt_view.specs.Tables.{is_whole_name};
     ghost use Rattle.dt_view.specs.Views.{first_child_of, next_sibling_of, IsAbove, IsFoundBy, WhyNotFound};
 
-    /// Makes the index of a blob, in two walks through its tree: one counts its nodes and properties, so that the tables have room, one fills them.
+    /// Makes the index of a blob, in two walks through its tree.
     ///
     /// # Errors
     ///
@@ -61,27 +67,34 @@ impl<'a> Index<'a> {
         ensures is { IfOk result (λ index. index ≡ blob.now) }
         ensures refused { IfErr result IsNoMemory }
     {
-        let counts = blob.counts();
-        let nodes = counts.nodes;
-        let mut parents = HashMap::with_capacity_and_hasher(alloc, nodes, blob.seed())?;
-        let mut phandles = HashMap::with_capacity_and_hasher(alloc, nodes, blob.seed())?;
-        // Of a board's properties a quarter have names that the rules ask for.
-        let asked = counts.properties / 3;
-        let mut values = HashMap::with_capacity_and_hasher(alloc, asked, blob.seed())?;
-        let mut children = HashMap::with_capacity_and_hasher(alloc, nodes, blob.seed())?;
-        let count = fill(
-            blob,
-            &mut parents,
-            &mut phandles,
-            &mut values,
-            &mut children,
-        )?;
+        let mut index = Index::without_children(alloc, blob)?;
+        let mut children = HashMap::with_capacity_and_hasher(alloc, index.count, blob.seed())?;
+        fill_children(blob, &mut children)?;
+        index.children = Some(children);
+        Ok(index)
+    }
+
+    /// The same in one walk, for whoever asks for no child by its name: such a child is then sought in the blob.
+    ///
+    /// # Errors
+    ///
+    /// `NoMemory`, without a place.
+    pub fn without_children(alloc: Global, blob: &'a Blob<'a>) -> Result<Index<'a>, Fault>
+        ensures is { IfOk result (λ index. index ≡ blob.now) }
+        ensures refused { IfErr result IsNoMemory }
+    {
+        let mut rows = HashMap::with_hasher(alloc, blob.seed());
+        let mut phandles = HashMap::with_hasher(alloc, blob.seed());
+        let mut values = Vec::new(alloc);
+        let mut kinds = HashMap::with_hasher(alloc, blob.seed());
+        let count = fill(blob, &mut rows, &mut phandles, &mut values, &mut kinds)?;
         Ok(Index {
             blob,
-            parents,
+            rows,
             phandles,
             values,
-            children,
+            kinds,
+            children: None,
             count,
         })
     }
@@ -91,10 +104,7 @@ impl<'a> Index<'a> {
         requires { IsNode self.now node }
         ensures { IsAbove self.now node result }
     {
-        match self.parents.get(&node) {
-            Some(above) => *above,
-            None => None,
-        }
+        self.rows.get(&node)?.above
     }
 
     /// The node of a phandle.
@@ -123,7 +133,7 @@ impl<'a> Index<'a> {
     }
 
     /// The node of a path, as it is written: `/` for the root, or each name with a `/` before it (Devicetree Specification
-    /// v0.4, 2.2.3). One look into a table for each name. Takes no memory.
+    /// v0.4, 2.2.3). One look into a table for each name, where the index has one. Takes no memory.
     ///
     /// # Errors
     ///
@@ -166,7 +176,10 @@ impl<'a> Index<'a> {
         ensures node { IfSome result (IsNode self.now) }
     {
         self.blob.validity();
-        self.children.get(&(node, name)).copied()
+        match &self.children {
+            Some(children) => children.get(&(node, name)).copied(),
+            None => child_of(self.blob, node, name),
+        }
     }
 
     /// The first child of a node.
@@ -187,15 +200,28 @@ impl<'a> Index<'a> {
         sibling_behind(self.blob, node)
     }
 
-    /// The value of a node's property, from the table where it has the values of that name.
-    fn value_in_table(&self, node: NodeId, name: &[u8]) -> Option<&[u8]>
+    /// The value of a node's property of a name that is asked for whole.
+    fn value_in_row(&self, node: NodeId, name: &[u8]) -> Option<&[u8]>
+        requires node { IsNode self.now node }
+        requires whole { is_whole_name name.now ≡ true }
+        ensures { option_copied result ≡ value_in (reading_of self.now) (path_at self.now node) name.now }
+    {
+        let row = self.rows.get(&node)?;
+        value_in_row(&self.values, *row, name)
+    }
+
+    /// The value of a node's property, from the tables where they have the values of that name.
+    fn value_in_tables(&self, node: NodeId, name: &[u8]) -> Option<&[u8]>
         requires { IsNode self.now node }
         ensures { option_copied result ≡ value_in (reading_of self.now) (path_at self.now node) name.now }
     {
-        if let Some(value) = self.values.get(&(node, name)) {
+        if is_whole_name(name) {
+            return self.value_in_row(node, name);
+        }
+        if let Some(value) = self.kinds.get(&(node, name)) {
             return Some(*value);
         }
-        if is_asked(name) {
+        if is_kind_name(name) {
             return None;
         }
         value_of(self.blob, node, name)
@@ -234,7 +260,7 @@ impl<'a> TreeView for Index<'a> {
     }
 
     fn value(&self, node: NodeId, name: &[u8]) -> Option<&[u8]> {
-        self.value_in_table(node, name)
+        self.value_in_tables(node, name)
     }
 
     fn by_phandle(&self, number: u32) -> Option<NodeId> {
