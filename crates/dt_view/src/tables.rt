@@ -143,31 +143,21 @@ fn put_kind<'a>(
     Ok(())
 }
 
-/// Adds a property, where it is asked for whole.
-fn note_value<'a>(
+/// Adds a property to the values where it is asked for whole, and puts it into the table of kinds where it is of one.
+fn note_property<'a>(
     values: &mut Vec<Asked<'a>>,
-    name: &'a [u8],
-    value: &'a [u8],
-) -> Result<(), AllocError>
-    ensures { OnOk result (AreNoted values.old.items values.new.items (record { name = name.now; value = value.now } ∷ [])) }
-{
-    if is_whole_name(name) {
-        values.push(Asked { name, value })?;
-    }
-    Ok(())
-}
-
-/// Puts a value into the table of kinds, where it is of one.
-fn note_kind<'a>(
     kinds: &mut Kinds<'a>,
     node: NodeId,
     name: &'a [u8],
     value: &'a [u8],
 ) -> Result<(), AllocError>
-    ensures { OnOk result (NotesValue kinds.old.entries kinds.new.entries node name.now value.now) }
+    ensures noted { OnOk result (AreNoted values.old.items values.new.items (record { name = name.now; value = value.now } ∷ [])) }
+    ensures kept { OnOk result (NotesValue kinds.old.entries kinds.new.entries node name.now value.now) }
 {
-    if is_kind_name(name) {
-        return put_kind(kinds, node, name, value);
+    if is_whole_name(name) {
+        values.push(Asked { name, value })?;
+    } else if ends_as_kind(name) {
+        put_kind(kinds, node, name, value)?;
     }
     Ok(())
 }
@@ -227,8 +217,7 @@ fn note_values<'a>(
     let mut phandle = None;
     for (name, value) in blob.props(node) {
         phandle = phandle_after(phandle, name, value);
-        note_value(values, name, value)?;
-        note_kind(kinds, node, name, value)?;
+        note_property(values, kinds, node, name, value)?;
     }
     Ok(phandle)
 }

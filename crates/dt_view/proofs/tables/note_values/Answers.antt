@@ -13,10 +13,10 @@ loop-name-preserved c =
     let property : Property = record { name = c.in-Some.name.now; value = c.in-Some.value.now } in (
       tt,
       tt,
-      noting_next c.args.values.now.items c.loop-name.values.items c.note_value.new.values.items property c.loop-name.name-iterator c.next.new.self (properties_at t p)
-          c.in-Some.ensures.steps c.loop-name.invariant.2 c.in_ok-note_value.ensures,
-      keeping_next c.args.node (properties_at t p) property c.loop-name.name-iterator c.next.new.self c.args.kinds.now.entries c.loop-name.kinds.entries c.note_kind.new.kinds.entries
-          (distinct_at t p c.validity.ensures.valid) c.in-Some.ensures.steps c.loop-name.invariant.3 c.in_ok-note_kind.ensures,
+      noting_next c.args.values.now.items c.loop-name.values.items c.note_property.new.values.items property c.loop-name.name-iterator c.next.new.self (properties_at t p)
+          c.in-Some.ensures.steps c.loop-name.invariant.2 c.in_ok-note_property.ensures.noted,
+      keeping_next c.args.node (properties_at t p) property c.loop-name.name-iterator c.next.new.self c.args.kinds.now.entries c.loop-name.kinds.entries c.note_property.new.kinds.entries
+          (distinct_at t p c.validity.ensures.valid) c.in-Some.ensures.steps c.loop-name.invariant.3 c.in_ok-note_property.ensures.kept,
       found_next (option_copied c.loop-name.phandle) (option_copied c.phandle_after-phandle.result) (value_of (properties_at t p) (codes "phandle")) property c.loop-name.name-iterator c.next.new.self (codes "phandle")
           c.in-Some.ensures.steps c.phandle_after-phandle.ensures c.loop-name.invariant.4,
     )
