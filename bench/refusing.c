@@ -15,7 +15,7 @@
 #include <stdlib.h>
 #include <unistd.h>
 
-enum { BEGIN = 65521, END = 65519, DEEPEST = 8, SLACK = 64 };
+enum { BEGIN = 65521, END = 65519, DEEPEST = 8 };
 
 static long count, refused = -1, begun, refused_still;
 static int is_own, is_still, tell = -1;
@@ -72,17 +72,30 @@ static int is_refused(size_t size) {
 }
 
 #define NEXT(name) (__typeof__(&name))dlsym(RTLD_NEXT, #name)
-void *malloc(size_t size) { return is_refused(size) ? NULL : (NEXT(malloc))(size); }
-void *calloc(size_t many, size_t size) { return is_refused(many * size) ? NULL : (NEXT(calloc))(many, size); }
-/* A block that shrinks asks for no memory, so that can't be refused. malloc rounds a size up by less than the slack, or to whole pages: there a block
-   that grows inside of its last page isn't refused either. */
-static int shrinks(void *p, size_t size) { return p && size + SLACK <= malloc_usable_size(p); }
+/* A block has the size that was asked for in its last bytes, for which a little more is asked. So a block that shrinks is known: it asks for no
+   memory, and that can't be refused. */
+enum { KEPT = sizeof(size_t) };
+static size_t *asked_of(void *p) { return (size_t *)((char *)p + malloc_usable_size(p)) - 1; }
+static void *keeping(void *p, size_t size) {
+    if (p) *asked_of(p) = size;
+    return p;
+}
+static int shrinks(void *p, size_t size) { return p && size <= *asked_of(p); }
+void *malloc(size_t size) { return is_refused(size) ? NULL : keeping((NEXT(malloc))(size + KEPT), size); }
+void *calloc(size_t many, size_t size) {
+    size_t all;
+    if (__builtin_mul_overflow(many, size, &all) || is_refused(all)) return NULL;
+    return keeping((NEXT(calloc))(1, all + KEPT), all);
+}
 void *realloc(void *p, size_t size) {
-    return !shrinks(p, size) && is_refused(size) ? NULL : (NEXT(realloc))(p, size);
+    return !shrinks(p, size) && is_refused(size) ? NULL : keeping((NEXT(realloc))(p, size + KEPT), size);
 }
 void *aligned_alloc(size_t align, size_t size) {
-    return is_refused(size) ? NULL : (NEXT(aligned_alloc))(align, size);
+    return is_refused(size) ? NULL : keeping((NEXT(aligned_alloc))(align, size + KEPT), size);
 }
 int posix_memalign(void **to, size_t align, size_t size) {
-    return is_refused(size) ? ENOMEM : (NEXT(posix_memalign))(to, align, size);
+    if (is_refused(size)) return ENOMEM;
+    int failed = (NEXT(posix_memalign))(to, align, size + KEPT);
+    if (!failed) keeping(*to, size);
+    return failed;
 }
