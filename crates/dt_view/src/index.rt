@@ -44,7 +44,8 @@ impl<'a> Model for Index<'a> {
 
     ghost view = { λ i. i.blob.now };
 
-    ghost invariant = { λ i. AreIndexed i.blob.now i.rows.entries i.phandles.entries i.values.items i.kinds.entries (option_map (λ table. table.entries) i.children) i.count };
+    ghost invariant = { λ i. AreIndexed i.blob.now i.rows.entries i.phandles.entries i.values.items i.kinds.entries
+        (option_map (λ table. table.entries) i.children) i.count };
 }
 
 impl<'a> Index<'a> {
