@@ -1,4 +1,4 @@
-//! The items of a source while they are read, and behind: a row each over the bytes of all values, which stand in one run.
+//! The items of a source, while they are read and afterwards: a row each. The bytes of all values are one buffer.
 
 ghost use Rattle.std.specs.Prelude.{◌≡◌, ◌<◌, ◌++◌, ◌∷◌, [], Some, OnOk, IfOk, length, map, slice_get};
 ghost use Rattle.dt_model.specs.Source.{one, property};
@@ -76,7 +76,7 @@ impl<'a> Model for Items<'a> {
     ghost invariant = { λ s. AreRows s.rows.items s.pieces.items s.bytes.items s.piece s.byte s.referred };
 }
 
-/// More bytes or references than this are refused, as want of memory: a text of 16 MiB has fewer.
+/// The most bytes, and the most references, that the values of a source may have together: a place in a `Span` is 32 bits.
 const MOST: usize = 0xffff_ffff;
 
 impl<'a> Items<'a> {
@@ -104,6 +104,10 @@ impl<'a> Items<'a> {
     }
 
     /// Appends a byte to the value that was begun last.
+    ///
+    /// # Errors
+    ///
+    /// AllocError if there is no memory for it.
     pub fn push_byte(&mut self, byte: u8) -> Result<(), AllocError>
         ensures { OnOk result (self.new ≡ with_parts self.old (one byte ∷ [])) }
     {
@@ -112,6 +116,10 @@ impl<'a> Items<'a> {
     }
 
     /// Appends bytes to the value that was begun last.
+    ///
+    /// # Errors
+    ///
+    /// AllocError if there is no memory for it.
     pub fn push_bytes(&mut self, bytes: &[u8]) -> Result<(), AllocError>
         ensures { OnOk result (self.new ≡ with_parts self.old (map one bytes.now)) }
     {
@@ -120,6 +128,10 @@ impl<'a> Items<'a> {
     }
 
     /// Appends what a token of a text says, and a NUL, to the value that was begun last.
+    ///
+    /// # Errors
+    ///
+    /// AllocError if there is no memory for it.
     pub fn push_string(&mut self, token: &[u8]) -> Result<(), AllocError>
         ensures { OnOk result (self.new ≡ with_parts self.old (map one (text_bytes token.now ++ 0 ∷ []))) }
     {
@@ -131,6 +143,10 @@ impl<'a> Items<'a> {
     }
 
     /// Appends a reference to the value that was begun last.
+    ///
+    /// # Errors
+    ///
+    /// AllocError if there is no memory for it.
     pub fn push_reference(&mut self, form: Form, reference: Reference<'a>) -> Result<(), AllocError>
         ensures { OnOk result (self.new ≡ with_parts self.old (referring form (reference_of reference.entry) ∷ [])) }
     {
@@ -145,6 +161,10 @@ impl<'a> Items<'a> {
     }
 
     /// Appends an item that holds no value.
+    ///
+    /// # Errors
+    ///
+    /// AllocError if there is no memory for it.
     pub fn push(&mut self, bare: Bare<'a>) -> Result<(), AllocError>
         ensures { OnOk result (self.new ≡ with_place self.old (bare_said bare.entry)) }
     {
@@ -153,6 +173,11 @@ impl<'a> Items<'a> {
     }
 
     /// Appends a property that holds the value that was begun last.
+    ///
+    /// # Errors
+    ///
+    /// AllocError if there is no memory for it, or if all values together have more than 2^32 - 1 bytes or references. A
+    /// source of 16 MiB has fewer.
     pub fn push_property(&mut self, name: PropName<'a>) -> Result<(), AllocError>
         ensures { OnOk result (self.new ≡ with_place self.old (property name.entry self.old.value)) }
     {

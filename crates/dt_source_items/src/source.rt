@@ -31,7 +31,7 @@ pub enum Form {
     Text,
 }
 
-/// A reference in a value, and how many bytes of the value stand between the reference before it, or the value's begin, and it.
+/// A reference in a value, and how many bytes of the value come between it and the reference before it, or the value's start.
 #[derive(Drop)]
 pub struct Piece<'a> {
     pub before: usize,
