@@ -1,5 +1,5 @@
 -- Names and their numbers, as the set of names has them.
-use Rattle.std.proofs.Common.{◌≡◌, ℕ, zero, suc, ◌+◌, ◌<◌, Bool, true, false, not, cond, ◌||◌, List, [], ◌∷◌, ◌++◌, length, map, slice_get, position, Option, Some, None, refl, sym, ap, ◌∙◌, true≢false, inl, inr, arith}
+use Rattle.std.proofs.Common.{◌≡◌, ℕ, zero, suc, ◌+◌, ◌<◌, Bool, true, false, not, cond, ◌||◌, List, [], ◌∷◌, ◌++◌, length, map, slice_get, position, Option, Some, None, refl, sym, ap, subst, ◌∙◌, true≢false, inl, inr, arith}
 use Rattle.std.specs.Global.{Vec}
 use Rattle.std.specs.List.{list_any, prefix_len}
 use Rattle.std.specs.Str.{bytes_eq}
@@ -17,6 +17,15 @@ pub text-get : (ks : List (Vec ℕ)) (k : ℕ) (v : Vec ℕ) → slice_get ks k 
 text-get [] k v e = cc
 text-get (x ∷ xs) zero v e = let same : x ≡ v = cc in ap (λ (y : Vec ℕ). y.items) same
 text-get (x ∷ xs) (suc k) v e = text-get xs k v e
+
+-- the name at a number that has one
+pub text-there : (ks : List (Vec ℕ)) (names : List Name) (k : ℕ) (v : Vec ℕ) → names_kept ks ≡ names → slice_get ks k ≡ Some v → (k < length names) × (text names k ≡ v.items)
+text-there ks names k v view e = subst (λ (ns : List Name). (k < length ns) × (text ns k ≡ v.items)) view (within ks k e, text-get ks k v e)
+  where
+    within : (ks : List (Vec ℕ)) (k : ℕ) → slice_get ks k ≡ Some v → k < length (names_kept ks)
+    within [] k e = cc
+    within (x ∷ xs) zero e = omega arith
+    within (x ∷ xs) (suc k) e = let lt = within xs k e in omega (arith, lt)
 
 pub length-names : (ks : List (Vec ℕ)) → length (names_kept ks) ≡ length ks
 length-names [] = refl

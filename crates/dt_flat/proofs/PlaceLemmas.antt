@@ -1,7 +1,7 @@
 -- The nodes that the tables of a tree stand for, and what they are after a change.
 use Rattle.std.proofs.Common.{◌≡◌, ◌≢◌, ℕ, zero, suc, ◌+◌, ◌-◌, ◌<◌, ◌≤◌, Bool, true, false, cond, eqb, ◌&&◌, List, [], ◌∷◌, ◌++◌, length, drop, map, slice_index, slice_get, Option, Some, None, is_some, refl, sym, ap, subst, ◌∙◌, inl, inr, arith}
 use Rattle.std.specs.List.{AllByRecursion}
-use Rattle.std.specs.Prelude.{OnErr, Result, Ok, Err}
+use Rattle.std.specs.Prelude.{OnErr, IfOk, Result, Ok, Err}
 use Rattle.std.specs.Str.{bytes_eq}
 use Rattle.std.proofs.lemmas.Bool.{cases_eq, eqb-true}
 use Rattle.std.proofs.lemmas.List.{length-append, append-nil}
@@ -13,7 +13,8 @@ use Rattle.dt_flat.specs.declared.nodes.Branch.{Branch}
 use Rattle.dt_flat.specs.Arena.{Slot, Child, children_among, children, named_among, named_children, child_of, children_behind, first_node, with_child, with_property, depth_of, parent_of, name_of, properties}
 use Rattle.dt_flat.specs.Chain.{ranks, first_rank}
 use Rattle.dt_flat.specs.Names.{text, AreOwn, IsUnknown, IsNoted}
-use Rattle.dt_flat.specs.Rows.{Held, is_row, value_held, put, property_of, owned, parents_of, child_from, slots_from, slots_kept, AreBehind, AreRows}
+use Rattle.dt_flat.specs.Rows.{Held, is_row, value_held, put, property_of, owned, parents_of, child_from, slots_from, slots_kept, AreBehind, AreRows, IsAdded}
+use Rattle.dt_flat.specs.Refusals.{IsChildAdded}
 use Rattle.dt_flat.proofs.AfterChild.{tested, differs}
 use Rattle.dt_flat.proofs.Linking.{named-among}
 use Rattle.dt_flat.proofs.NameLemmas.{text-append}
@@ -443,12 +444,6 @@ pub noted : (names new : List Name) (bs : List Branch) (hs : List Held) (name : 
     → (slots_kept new (owned new hs) bs ≡ slots_kept names (owned names hs) bs) × AreRows new bs hs
 noted names new bs hs name k known rows = (slots-more names known.more new bs hs known.kept rows, AreRows-more names known.more new bs hs known.kept rows)
 
-pub absent-noted : (names new : List Name) (bs : List Branch) (hs : List Held) (p k : ℕ) (name : Name) (slots : List Slot) → slots_kept names (owned names hs) bs ≡ slots → IsNoted names new name k → AreOwn new → AreRows names bs hs
-    → child_of (named_children slots p) name ≡ None → child_from 1 p k bs ≡ None
-absent-noted names new bs hs p k name slots view known own rows none =
-    let more = noted names new bs hs name k known rows in
-    sym (child-kept new (owned new hs) p k bs hs name own more.1 known.there known.text) ∙ ap (λ (ns : List Slot). child_of (named_children ns p) name) (more.0 ∙ view) ∙ none
-
 pub push-noted : (names new : List Name) (bs bs' : List Branch) (hs : List Held) (b : Branch) (name : Name) (slots : List Slot) → slots_kept names (owned names hs) bs ≡ slots → IsNoted names new name b.name → AreRows names bs hs
     → b.parent < length slots → b.depth ≡ depth_of slots b.parent + 1 → bs' ≡ bs ++ b ∷ []
     → (slots_kept new (owned new hs) bs' ≡ with_child slots b.parent name) × AreRows new bs' hs
@@ -459,6 +454,29 @@ push-noted names new bs bs' hs b name slots view known rows there depth is =
       ap (slots_kept new (owned new hs)) is ∙ slots-push new bs hs b more.1 (depth ∙ ap (λ (ns : List Slot). depth_of ns b.parent + 1) (sym same)) ∙ (λ i. with_child (same i) b.parent (known.text i)),
       subst (λ (cs : List Branch). AreRows new cs hs) (sym is) (AreRows-push new bs hs b within known.there more.1),
     )
+
+-- whether a child is added
+pub add-noted : {E : Type 0} (names new : List Name) (bs bs' : List Branch) (hs : List Held) (b : Branch) (name : Name) (slots : List Slot) (r : Result Bool E) → slots_kept names (owned names hs) bs ≡ slots → IsNoted names new name b.name → AreOwn new → AreRows names bs hs
+    → b.parent < length slots → b.depth ≡ depth_of slots b.parent + 1 → IfOk r (IsAdded b bs bs') → OnErr r (child_from 1 b.parent b.name bs ≡ None) → OnErr r (bs' ≡ bs)
+    → AreRows new bs' hs × IfOk r (IsChildAdded b.parent name slots (slots_kept new (owned new hs) bs')) × OnErr r (child_of (named_children slots b.parent) name ≡ None) × OnErr r (slots_kept new (owned new hs) bs' ≡ slots)
+add-noted {E = E} names new bs bs' hs b name slots r view known own rows there depth added absent kept = by r added absent kept
+  where
+    more : (slots_kept new (owned new hs) bs ≡ slots_kept names (owned names hs) bs) × AreRows new bs hs
+    more = noted names new bs hs name b.name known rows
+
+    child : child_of (named_children slots b.parent) name ≡ child_from 1 b.parent b.name bs
+    child = ap (λ (ns : List Slot). child_of (named_children ns b.parent) name) (sym (more.0 ∙ view)) ∙ child-kept new (owned new hs) b.parent b.name bs hs name own more.1 known.there known.text
+
+    same : bs' ≡ bs → (slots_kept new (owned new hs) bs' ≡ slots) × AreRows new bs' hs
+    same is = (ap (slots_kept new (owned new hs)) is ∙ more.0 ∙ view, subst (λ (cs : List Branch). AreRows new cs hs) (sym is) more.1)
+
+    by : (r : Result Bool E) → IfOk r (IsAdded b bs bs') → OnErr r (child_from 1 b.parent b.name bs ≡ None) → OnErr r (bs' ≡ bs)
+        → AreRows new bs' hs × IfOk r (IsChildAdded b.parent name slots (slots_kept new (owned new hs) bs')) × OnErr r (child_of (named_children slots b.parent) name ≡ None) × OnErr r (slots_kept new (owned new hs) bs' ≡ slots)
+    by (Ok true) added absent kept =
+        let pushed = push-noted names new bs bs' hs b name slots view known rows there depth added.1 in
+        (pushed.1, (child ∙ added.0, pushed.0), tt, tt)
+    by (Ok false) added absent kept = ((same added.1).1, (ap is_some child ∙ added.0, (same added.1).0), tt, tt)
+    by (Err e) added absent kept = ((same kept).1, tt, child ∙ absent, (same kept).0)
 
 pub put-noted : (names new : List Name) (bs : List Branch) (hs hs' : List Held) (p k : ℕ) (v : List ℕ) (name : Name) (slots : List Slot) → slots_kept names (owned names hs) bs ≡ slots → IsNoted names new name k → AreOwn new → AreRows names bs hs
     → p < length slots → hs' ≡ put hs p k v → (slots_kept new (owned new hs') bs ≡ with_property slots p name v) × AreRows new bs hs'

@@ -1,9 +1,9 @@
 -- Rows as the set of rows has them.
-use Rattle.std.proofs.Common.{◌≡◌, ℕ, suc, ◌+◌, ◌<◌, Bool, true, false, not, cond, ◌&&◌, ◌||◌, List, [], ◌∷◌, ◌++◌, length, position, Option, Some, None, option_map, refl, sym, ap, ◌∙◌, true≢false, arith}
+use Rattle.std.proofs.Common.{◌≡◌, ℕ, suc, ◌+◌, ◌<◌, Bool, true, false, not, cond, ◌&&◌, ◌||◌, List, [], ◌∷◌, ◌++◌, length, position, Option, Some, None, option_map, refl, sym, ap, subst, ◌∙◌, true≢false, arith}
 use Rattle.std.specs.List.{list_any, prefix_len}
-use Rattle.std.specs.Prelude.{nat_eq, nat_lt, if◌then◌else◌}
+use Rattle.std.specs.Prelude.{nat_eq, nat_lt, is_some, IsSome, if◌then◌else◌}
 use Rattle.std.proofs.lemmas.Bool.{ltb-true, lt-ltb}
-use Rattle.dt_flat.specs.Rows.{Row, nodes_of, place_of}
+use Rattle.dt_flat.specs.Rows.{Row, nodes_of, place_of, IsEntered}
 
 -- ---- the place of a row
 
@@ -34,19 +34,41 @@ place-position p k (r ∷ rs) = by (nat_eq p r.0 && nat_eq k r.1) (before p k rs
 
 -- ---- one more row
 
-any-absent : (p k : ℕ) (rs : List Row) → place_of p k rs ≡ None → list_any (λ (r : Row). nat_eq p r.0 && nat_eq k r.1) rs ≡ false
-any-absent p k [] none = refl
-any-absent p k (r ∷ rs) none = by (nat_eq p r.0 && nat_eq k r.1) (place_of p k rs) (any-absent p k rs) none
-  where
-    by : (b : Bool) (o : Option ℕ) → (o ≡ None → list_any (λ (r : Row). nat_eq p r.0 && nat_eq k r.1) rs ≡ false) → cond b (Some 0) (option_map suc o) ≡ None
-        → (b || list_any (λ (r : Row). nat_eq p r.0 && nat_eq k r.1) rs) ≡ false
-    by true o rec h = cc
-    by false None rec h = rec refl
-    by false (Some i) rec h = cc
+abbrev is_there : ℕ → ℕ → List Row → Bool
+is_there p k rs = list_any (λ (r : Row). nat_eq p r.0 && nat_eq k r.1) rs
 
-pub rows-insert : (p k : ℕ) (rs new : List Row) → place_of p k rs ≡ None
-    → new ≡ (if list_any (λ (r : Row). nat_eq p r.0 && nat_eq k r.1) rs then rs else rs ++ (p, k) ∷ []) → new ≡ rs ++ (p, k) ∷ []
-rows-insert p k rs new none is = is ∙ ap (λ (b : Bool). cond b rs (rs ++ (p, k) ∷ [])) (any-absent p k rs none)
+place-there : (p k : ℕ) (rs : List Row) → place_of p k rs ≡ (if is_there p k rs then Some (before p k rs) else None)
+place-there p k [] = refl
+place-there p k (r ∷ rs) = by (nat_eq p r.0 && nat_eq k r.1) (is_there p k rs) (place-there p k rs)
+  where
+    by : (b any : Bool) → place_of p k rs ≡ (if any then Some (before p k rs) else None)
+        → cond b (Some 0) (option_map suc (place_of p k rs)) ≡ cond (b || any) (Some (cond (not b) (1 + before p k rs) 0)) None
+    by true any h = refl
+    by false true h = let s : suc (before p k rs) ≡ 1 + before p k rs = omega arith in ap (option_map suc) h ∙ ap (λ (n : ℕ). Some n) s
+    by false false h = ap (option_map suc) h
+
+pub absent : (p k : ℕ) (rs : List Row) → is_there p k rs ≡ false → place_of p k rs ≡ None
+absent p k rs none = place-there p k rs ∙ ap (λ (b : Bool). cond b (Some (before p k rs)) None) none
+
+-- the rows once a row was inserted, which is told to be new or not
+pub rows-inserted : (p k : ℕ) (rs now new : List Row) (place : ℕ) (is_new : Bool) → rs ≡ now → is_new ≡ not (is_there p k rs) → place ≡ before p k rs → new ≡ (if is_there p k rs then rs else rs ++ (p, k) ∷ [])
+    → IsEntered p k now new (if is_new then None else Some place)
+rows-inserted p k rs now new place is_new same told at is = subst (λ (xs : List Row). IsEntered p k xs new (if is_new then None else Some place)) same (by (is_there p k rs) refl is_new told)
+  where
+    by : (b : Bool) → is_there p k rs ≡ b → (c : Bool) → c ≡ not (is_there p k rs) → IsEntered p k rs new (if c then None else Some place)
+    by true e true t = absurd (true≢false (t ∙ ap not e))
+    by true e false t = (place-there p k rs ∙ ap (λ (b : Bool). cond b (Some (before p k rs)) None) e ∙ ap (λ (n : ℕ). Some n) (sym at), is ∙ ap (λ (b : Bool). cond b rs (rs ++ (p, k) ∷ [])) e)
+    by false e true t = (absent p k rs e, is ∙ ap (λ (b : Bool). cond b rs (rs ++ (p, k) ∷ [])) e)
+    by false e false t = absurd (true≢false (sym (t ∙ ap not e)))
+
+-- it was none of them, or it was
+pub entered-last : (p k : ℕ) (old new : List Row) (o : Option ℕ) → false ≡ is_some o → IsEntered p k old new o → IsEntered p k old new None
+entered-last p k old new None e h = h
+entered-last p k old new (Some j) e h = absurd (true≢false (sym e))
+
+pub entered-before : (p k : ℕ) (old new : List Row) (o : Option ℕ) → true ≡ is_some o → IsEntered p k old new o → IsSome (place_of p k old) × (new ≡ old)
+entered-before p k old new None e h = absurd (true≢false e)
+entered-before p k old new (Some j) e h = (ap is_some h.0, h.1)
 
 pub nodes-push : (rs : List Row) (r : Row) → nodes_of (rs ++ r ∷ []) ≡ nodes_of rs ++ r.0 ∷ []
 nodes-push [] r = refl

@@ -157,41 +157,55 @@ apart-set n (x ∷ xs) (suc k) s new lt is away within apart =
 
 -- ---- the changes
 
--- a value written in its place
-pub written : (b c : List ℕ) (ss : List Span) (k : ℕ) (s : Span) (w : List ℕ) → k < length ss → s ≡ get_or ss k s → length w ≤ s.len → c ≡ with_bytes b s.start w → AreCuts b ss
-    → (cuts c (set ss k (record { start = s.start; len = length w })) ≡ set (cuts b ss) k w) × AreCuts c (set ss k (record { start = s.start; len = length w }))
-written b c ss k s w lt is le made ok =
-    let n = length b in
-    let new : Span = record { start = s.start; len = length w } in
-    let within = span-within n ss k s lt is ok.within in
-    let z : s.start ≡ s.start + 0 = omega arith in
-    let size : length c ≡ n = ap (λ (xs : List ℕ). length xs) made ∙ length-with b s.start w (omega (arith, within, le)) in
-    let same : (t : Span) → AreApart s t → t.start + t.len ≤ n → cut c t ≡ cut b t =
-    λ t apart le'. ap (λ (xs : List ℕ). cut xs t) (made ∙ ap (λ (m : ℕ). with_bytes b m w) z) ∙ cut-other b s t 0 w within (omega (arith, le)) apart in (
-      cuts-set b c n ss k s new w lt is same (ap (λ (xs : List ℕ). cut xs new) made ∙ cut-written b s w within le) ok.within ok.apart,
+-- the last value put in the place of another
+pub last-moved : (b : List ℕ) (ss : List Span) (k : ℕ) (x : Span) (vs : List (List ℕ)) (v : List ℕ) → AreCuts b (ss ++ x ∷ []) → cuts b (ss ++ x ∷ []) ≡ vs ++ v ∷ []
+    → (cuts b (set ss k x) ≡ set vs k v) × AreCuts b (set ss k x)
+last-moved b ss k x vs v ok is =
+    let ends = same_ends (cuts b ss) vs (cut b x) v (sym (cuts-end ss) ∙ is) in (
+      cuts-moved ss k ∙ (λ i. set (ends.0 i) k (ends.1 i)),
       record {
-        within = all-map (λ s. s.start + s.len ≤ n) (λ s. s.start + s.len ≤ length c) (set ss k new) (λ t fits. omega (arith, fits, size)) (all-set (λ s. s.start + s.len ≤ n) ss k new (omega (arith, within, le)) ok.within);
-        apart = apart-set n ss k s new lt is (nearer s new refl (omega (arith, le))) ok.within ok.apart;
+        within = all-set (λ s. s.start + s.len ≤ length b) ss k x (all-last (λ s. s.start + s.len ≤ length b) ss ok.within) (all-front (λ s. s.start + s.len ≤ length b) ss ok.within);
+        apart = apart-moved ss k ok.apart;
       },
     )
   where
-    nearer : (s new : Span) → new.start ≡ s.start → new.len ≤ s.len → (t : Span) → AreApart s t → t.start + t.len ≤ length b → AreApart new t
-    nearer s new at shorter t (inl e) le = inl (omega (arith, at, shorter, e))
-    nearer s new at shorter t (inr e) le = inr (omega (arith, at, shorter, e))
+    cuts-end : (ss : List Span) → cuts b (ss ++ x ∷ []) ≡ cuts b ss ++ cut b x ∷ []
+    cuts-end [] = refl
+    cuts-end (s ∷ ss) = ap (λ (vs : List (List ℕ)). cut b s ∷ vs) (cuts-end ss)
 
--- a value put behind all others
-pub moved : (b c : List ℕ) (ss : List Span) (k : ℕ) (s : Span) (w : List ℕ) → k < length ss → s ≡ get_or ss k s → c ≡ b ++ w → AreCuts b ss
-    → (cuts c (set ss k (record { start = length b; len = length w })) ≡ set (cuts b ss) k w) × AreCuts c (set ss k (record { start = length b; len = length w }))
-moved b c ss k s w lt is made ok =
-    let n = length b in
-    let new : Span = record { start = length b; len = length w } in
-    let size : length c ≡ n + length w = ap (λ (xs : List ℕ). length xs) made ∙ length-append b w in (
-      cuts-set b c n ss k s new w lt is (λ t apart le. ap (λ (xs : List ℕ). cut xs t) made ∙ cut-pushed b w t le) (ap (λ (xs : List ℕ). cut xs new) made ∙ cut-last b w) ok.within ok.apart,
-      record {
-        within = all-set (λ s. s.start + s.len ≤ length c) ss k new (omega (arith, size)) (all-map (λ s. s.start + s.len ≤ n) (λ s. s.start + s.len ≤ length c) ss (λ t fits. omega (arith, fits, size)) ok.within);
-        apart = apart-set n ss k s new lt is (λ t apart le. inr le) ok.within ok.apart;
-      },
-    )
+    cuts-moved : (ss : List Span) (k : ℕ) → cuts b (set ss k x) ≡ set (cuts b ss) k (cut b x)
+    cuts-moved [] k = refl
+    cuts-moved (s ∷ ss) zero = refl
+    cuts-moved (s ∷ ss) (suc k) = ap (λ (vs : List (List ℕ)). cut b s ∷ vs) (cuts-moved ss k)
+
+    same_ends : (xs ys : List (List ℕ)) (p q : List ℕ) → xs ++ p ∷ [] ≡ ys ++ q ∷ [] → (xs ≡ ys) × (p ≡ q)
+    same_ends [] [] p q e = (refl, (let h : p ≡ q = cc in h))
+    same_ends [] (y ∷ []) p q e = cc
+    same_ends [] (y ∷ z ∷ ys) p q e = cc
+    same_ends (z ∷ []) [] p q e = cc
+    same_ends (z ∷ w ∷ xs) [] p q e = cc
+    same_ends (z ∷ xs) (y ∷ ys) p q e =
+        let head : z ≡ y = cc in
+        let rest : xs ++ p ∷ [] ≡ ys ++ q ∷ [] = cc in
+        let more = same_ends xs ys p q rest in
+        ((λ i. head i ∷ more.0 i), more.1)
+
+    all-front : (P : Span → Type 0) (ss : List Span) → AllByRecursion P (ss ++ x ∷ []) → AllByRecursion P ss
+    all-front P [] ok = tt
+    all-front P (s ∷ ss) ok = (ok.0, all-front P ss ok.1)
+
+    all-last : (P : Span → Type 0) (ss : List Span) → AllByRecursion P (ss ++ x ∷ []) → P x
+    all-last P [] ok = ok.0
+    all-last P (s ∷ ss) ok = all-last P ss ok.1
+
+    apart-front : (ss : List Span) → AreAllApart (ss ++ x ∷ []) → AllByRecursion (AreApart x) ss × AreAllApart ss
+    apart-front [] ok = (tt, tt)
+    apart-front (s ∷ ss) ok = let rest = apart-front ss ok.1 in ((apart_sym s x (all-last (AreApart s) ss ok.0), rest.0), (all-front (AreApart s) ss ok.0, rest.1))
+
+    apart-moved : (ss : List Span) (k : ℕ) → AreAllApart (ss ++ x ∷ []) → AreAllApart (set ss k x)
+    apart-moved [] k ok = tt
+    apart-moved (s ∷ ss) zero ok = apart-front ss ok.1
+    apart-moved (s ∷ ss) (suc k) ok = (all-set (AreApart s) ss k x (all-last (AreApart s) ss ok.0) (all-front (AreApart s) ss ok.0), apart-moved ss k ok.1)
 
 -- one more value
 pub pushed : (b c : List ℕ) (ss : List Span) (w : List ℕ) → c ≡ b ++ w → AreCuts b ss

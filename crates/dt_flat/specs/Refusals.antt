@@ -1,18 +1,23 @@
 -- When a tree refuses a change. Memory is asked for last, so it is refused only where nothing else is.
-use Rattle.std.specs.Prelude.{◌≡◌, ℕ, ◌<◌, ◌≤◌, ◌⊎◌, List, length, None, Some, IsSome, codes}
+use Rattle.std.specs.Prelude.{◌≡◌, ℕ, ◌<◌, ◌≤◌, ◌⊎◌, Bool, true, false, List, length, None, Some, IsSome, codes}
 use Rattle.std.specs.Int.{w32, from_be_bytes}
 use Rattle.dt_model.specs.Limits.{most_names, most_nodes}
 use Rattle.dt_names.specs.declared.fault.FaultKind.{FaultKind}
 use Rattle.dt_names.specs.declared.fault.FaultKind.TheVariants.{NoMemory, Limit, OutOfRange, Duplicate, BlobPhandle}
 use Rattle.dt_model.specs.Names.{Name}
 use Rattle.dt_model.specs.Valid.{IsPhandle}
-use Rattle.dt_flat.specs.Arena.{Slot, named_children, child_of, depth_of, phandle_at}
+use Rattle.dt_flat.specs.Arena.{Slot, named_children, child_of, depth_of, with_child, phandle_at}
 
 -- a child of that name may be added to p
 pub record MayAdd (slots : List Slot) (p : ℕ) (name : Name) : Type 0 where
   pub fresh : child_of (named_children slots p) name ≡ None
   pub few : length slots < most_nodes
   pub shallow : depth_of slots p < most_names
+
+-- whether a child of that name is added to p, which it is where p has none
+abbrev pub IsChildAdded : ℕ → Name → List Slot → List Slot → Bool → Type 0
+IsChildAdded p name old new true = (child_of (named_children old p) name ≡ None) × (new ≡ with_child old p name)
+IsChildAdded p name old new false = IsSome (child_of (named_children old p) name) × (new ≡ old)
 
 -- no child of that name is added to p: it has one; or else the tree is as large or p as deep as one may be
 abbrev pub WhyNoNode : FaultKind → List Slot → ℕ → Name → Type 0

@@ -1,5 +1,5 @@
 -- What the rows of a tree stand for: a row is the number of a node and the number of a name.
-use Rattle.std.specs.Prelude.{ℕ, suc, ◌<◌, ◌≤◌, ◌-◌, ◌==◌, ◌&&◌, nat_eq, Bool, if◌then◌else◌, List, [], ◌∷◌, length, Option, Some, None, option_map}
+use Rattle.std.specs.Prelude.{◌≡◌, ℕ, suc, ◌<◌, ◌≤◌, ◌-◌, ◌==◌, ◌&&◌, nat_eq, Bool, true, false, if◌then◌else◌, List, [], ◌∷◌, ◌++◌, length, Option, Some, None, IsSome, option_map}
 use Rattle.std.specs.List.{AllByRecursion, slice_index_or}
 use Rattle.dt_model.specs.Names.{Name}
 use Rattle.dt_model.specs.Tree.{Property}
@@ -21,6 +21,11 @@ is_row p k r = nat_eq p r.0 && nat_eq k r.1
 abbrev pub place_of : ℕ → ℕ → List Row → Option ℕ
 place_of p k [] = None
 place_of p k (r ∷ rs) = if is_row p k r then Some 0 else option_map suc (place_of p k rs)
+
+-- the place of the row of the node p and the name k, or none where it was none of the old ones and comes behind them
+abbrev pub IsEntered : ℕ → ℕ → List Row → List Row → Option ℕ → Type 0
+IsEntered p k old new None = (place_of p k old ≡ None) × (new ≡ old ++ (p, k) ∷ [])
+IsEntered p k old new (Some place) = (place_of p k old ≡ Some place) × (new ≡ old)
 
 -- ---- properties
 
@@ -78,6 +83,11 @@ parents_of (b ∷ bs) = b.parent ∷ parents_of bs
 abbrev pub child_from : ℕ → ℕ → ℕ → List Branch → Option ℕ
 child_from i p k [] = None
 child_from i p k (b ∷ bs) = if is_row p k (b.parent, b.name) then Some i else child_from (suc i) p k bs
+
+-- whether the node is added, which it is where its parent has no child of its name
+abbrev pub IsAdded : Branch → List Branch → List Branch → Bool → Type 0
+IsAdded b old new true = (child_from 1 b.parent b.name old ≡ None) × (new ≡ old ++ b ∷ [])
+IsAdded b old new false = IsSome (child_from 1 b.parent b.name old) × (new ≡ old)
 
 -- these nodes, where the first of them has number i, and `has` says which properties a node has
 abbrev pub slots_from : List Name → (ℕ → List Property) → ℕ → List Branch → List Slot

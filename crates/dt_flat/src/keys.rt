@@ -1,8 +1,8 @@
 //! What belongs to nodes by its name: their children, or their properties.
 
-ghost use Rattle.std.specs.Prelude.{◌≡◌, ◌<◌, ◌≤◌, ◌+◌, ◌-◌, ◌++◌, ◌∷◌, [], None, Some, length, drop, slice_get, slice_index, OnOk, OnErr};
+ghost use Rattle.std.specs.Prelude.{◌≡◌, ◌<◌, ◌≤◌, ◌+◌, ◌-◌, [], None, Some, length, drop, slice_get, slice_index, IfOk, OnErr};
 ghost use Rattle.dt_flat.specs.Chain.{ranks, first_rank};
-ghost use Rattle.dt_flat.specs.Rows.{nodes_of, place_of};
+ghost use Rattle.dt_flat.specs.Rows.{nodes_of, place_of, IsEntered};
 
 use crate::NodeId;
 use crate::chain::{Chain, Ranks};
@@ -67,18 +67,21 @@ impl Keys {
         self.rows.get_index_of(&(node, name))
     }
 
-    /// Adds the row of a node and a name at the end.
-    pub fn add(&mut self, node: NodeId, name: NameId) -> Result<(), AllocError>
-        requires { place_of node name self.old ≡ None }
-        ensures ok { OnOk result (self.new ≡ self.old ++ (node, name) ∷ []) }
+    /// The place of the row of a node and a name; None where there was none, which now is the last.
+    pub fn enter(&mut self, node: NodeId, name: NameId) -> Result<Option<usize>, AllocError>
+        ensures entered { IfOk result (IsEntered node name self.old self.new) }
+        ensures absent { OnErr result (place_of node name self.old ≡ None) }
         ensures err { OnErr result (self.new ≡ self.old) }
     {
-        self.rows.reserve(1)?;
-        self.chain.push(node)?;
-        let Ok(_) = self.rows.insert((node, name)) else {
-            unreachable!();
-        };
-        Ok(())
+        let (place, is_new) = self.rows.insert_full((node, name))?;
+        if !is_new {
+            return Ok(Some(place));
+        }
+        if let Err(refused) = self.chain.push(node) {
+            self.rows.pop();
+            return Err(refused);
+        }
+        Ok(None)
     }
 
     /// The ranks of the rows of a node, in order.

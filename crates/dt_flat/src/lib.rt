@@ -23,6 +23,7 @@ mod phandles;
 mod places;
 mod planting;
 mod properties;
+mod recent;
 mod tree;
 mod values;
 mod ways;
@@ -35,4 +36,5 @@ pub use laws::{
 };
 pub use planting::{may_be_planted, planted_reads};
 pub use properties::Props;
+pub use recent::RecentNumbers;
 pub use tree::FlatTree;

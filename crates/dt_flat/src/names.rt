@@ -1,8 +1,9 @@
 //! The names of a tree, each once.
 
-ghost use Rattle.std.specs.Prelude.{◌≡◌, ◌<◌, ◌++◌, ◌∷◌, [], length, IfOk, OnErr, MatchOption};
+ghost use Rattle.std.specs.Prelude.{◌≡◌, ◌<◌, ◌++◌, ◌∷◌, [], length, IfOk, IfSome, OnErr, MatchOption};
 ghost use Rattle.dt_flat.specs.Names.{text, AreOwn, IsUnknown, IsNoted};
 
+use crate::recent::RecentNumbers;
 use dt_names::Seed;
 use indexmap::IndexSet;
 use std::alloc::{AllocError, Global};
@@ -16,6 +17,7 @@ pub(crate) type NameId = usize;
 pub(crate) struct NameTable {
     alloc: Global,
     names: IndexSet<Vec<u8>, Seed>,
+    recent: RecentNumbers,
 }
 
 impl Model for NameTable {
@@ -38,6 +40,7 @@ impl NameTable {
         NameTable {
             alloc,
             names: IndexSet::with_hasher(alloc, seed),
+            recent: RecentNumbers::new(),
         }
     }
 
@@ -59,11 +62,27 @@ impl NameTable {
         }
     }
 
+    /// The number of a name, where it is the one that was noted last for such a name.
+    fn find_recent(&self, name: &[u8]) -> Option<NameId>
+        ensures { IfSome result (λ id. (id < length self.now) × (text self.now id ≡ name.now)) }
+    {
+        let id = self.recent.number(name);
+        let found = self.names.get_index(id)?;
+        if found.as_slice() == name {
+            Some(id)
+        } else {
+            None
+        }
+    }
+
     /// The number of a name, None where it has none.
     pub fn find(&self, name: &[u8]) -> Option<NameId>
         ensures { MatchOption result (IsUnknown self.now name.now) (λ id. (id < length self.now) × (text self.now id ≡ name.now)) }
     {
-        self.names.get_index_of(name)
+        match self.find_recent(name) {
+            Some(id) => Some(id),
+            None => self.names.get_index_of(name),
+        }
     }
 
     fn put(&mut self, name: &[u8]) -> Result<NameId, AllocError>
@@ -79,11 +98,14 @@ impl NameTable {
     /// The number of a name, which gets one where it has none.
     pub fn add(&mut self, name: &[u8]) -> Result<NameId, AllocError>
         ensures noted { IfOk result (λ id. IsNoted self.old self.new name.now id) }
+        ensures unknown { OnErr result (IsUnknown self.old name.now) }
         ensures err { OnErr result (self.new ≡ self.old) }
     {
-        match self.find(name) {
-            Some(id) => Ok(id),
-            None => self.put(name),
-        }
+        let id = match self.find(name) {
+            Some(id) => id,
+            None => self.put(name)?,
+        };
+        self.recent.note(name, id);
+        Ok(id)
     }
 }

@@ -1,8 +1,8 @@
 //! The nodes of a tree but for its root.
 
-ghost use Rattle.std.specs.Prelude.{◌≡◌, ◌<◌, ◌≤◌, ◌+◌, ◌-◌, ◌^◌, ◌++◌, ◌∷◌, [], None, Some, length, drop, slice_get, slice_index, OnOk, OnErr};
+ghost use Rattle.std.specs.Prelude.{◌≡◌, ◌<◌, ◌≤◌, ◌+◌, ◌-◌, ◌^◌, [], None, Some, length, drop, slice_get, slice_index, IfOk, OnErr};
 ghost use Rattle.dt_flat.specs.Chain.{ranks, first_rank};
-ghost use Rattle.dt_flat.specs.Rows.{parents_of, child_from};
+ghost use Rattle.dt_flat.specs.Rows.{parents_of, child_from, IsAdded};
 
 use crate::NodeId;
 use crate::chain::Ranks;
@@ -87,16 +87,23 @@ impl NodeTable {
         Some(self.rows.find(node, name)? + 1)
     }
 
-    /// Adds a child at the end.
-    pub fn add(&mut self, branch: Branch) -> Result<(), AllocError>
-        requires { child_from 1 branch.parent branch.name self.old ≡ None }
-        ensures ok { OnOk result (self.new ≡ self.old ++ branch ∷ []) }
+    /// Adds a child at the end, unless the parent has one of that name; answers whether it was added.
+    pub fn add(&mut self, branch: Branch) -> Result<bool, AllocError>
+        ensures added { IfOk result (IsAdded branch self.old self.new) }
+        ensures absent { OnErr result (child_from 1 branch.parent branch.name self.old ≡ None) }
         ensures err { OnErr result (self.new ≡ self.old) }
     {
-        self.depths.reserve(1)?;
-        self.rows.add(branch.parent, branch.name)?;
+        if let Err(refused) = self.depths.reserve(1) {
+            return match self.child(branch.parent, branch.name) {
+                Some(_) => Ok(false),
+                None => Err(refused),
+            };
+        }
+        if self.rows.enter(branch.parent, branch.name)?.is_some() {
+            return Ok(false);
+        }
         self.depths.push_reserved(branch.depth);
-        Ok(())
+        Ok(true)
     }
 
     /// The children of a node, in order.

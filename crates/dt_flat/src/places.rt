@@ -1,11 +1,12 @@
 //! The nodes of a tree, each with what it has.
 
-ghost use Rattle.std.specs.Prelude.{◌≡◌, ◌<◌, ◌≤◌, ◌+◌, ◌∷◌, ℕ, List, [], None, Some, length, OnOk, OnErr, option_map};
+ghost use Rattle.std.specs.Prelude.{◌≡◌, ◌<◌, ◌≤◌, ◌+◌, ◌∷◌, ℕ, List, [], None, Some, length, IfOk, OnOk, OnErr, option_map};
 ghost use Rattle.dt_model.specs.Applied.{with_cell};
 ghost use Rattle.dt_model.specs.Limits.{most_names};
 ghost use Rattle.dt_model.specs.Tree.{value_of};
 ghost use Rattle.dt_flat.specs.Arena.{Slot, named_children, children, child_of, children_behind, first_node};
-ghost use Rattle.dt_flat.specs.Arena.{with_child, with_property, properties, name_of, depth_of, parent_of};
+ghost use Rattle.dt_flat.specs.Arena.{with_property, properties, name_of, depth_of, parent_of};
+ghost use Rattle.dt_flat.specs.Refusals.{IsChildAdded};
 
 use crate::NodeId;
 use crate::children::Children;
@@ -161,12 +162,12 @@ impl Places {
         self.properties.of(&self.names, node)
     }
 
-    /// Adds a child at the end, to a parent that has none of this name and isn't too deep.
-    pub fn add(&mut self, parent: NodeId, name: &[u8]) -> Result<(), AllocError>
+    /// Adds a child at the end, to a parent that isn't too deep, unless it has one of that name; answers whether it was added.
+    pub fn add(&mut self, parent: NodeId, name: &[u8]) -> Result<bool, AllocError>
         requires parent { parent < length self.old }
-        requires absent { child_of (named_children self.old parent) name.now ≡ None }
         requires shallow { depth_of self.old parent < most_names }
-        ensures ok { OnOk result (self.new ≡ with_child self.old parent name.now) }
+        ensures added { IfOk result (IsChildAdded parent name.now self.old self.new) }
+        ensures absent { OnErr result (child_of (named_children self.old parent) name.now ≡ None) }
         ensures err { OnErr result (self.new ≡ self.old) }
     {
         let depth = self.depth(parent) + 1;
@@ -176,8 +177,7 @@ impl Places {
             parent,
             name,
             depth,
-        })?;
-        Ok(())
+        })
     }
 
     /// Sets a property of a node.

@@ -1,10 +1,10 @@
 //! The properties of all nodes of a tree.
 
-ghost use Rattle.std.specs.Prelude.{◌≡◌, ◌<◌, ◌≤◌, ◌+◌, ◌++◌, ◌∷◌, ℕ, List, [], None, Some, length, slice_get, option_map, OnOk, OnErr};
+ghost use Rattle.std.specs.Prelude.{◌≡◌, ◌<◌, ◌≤◌, ◌+◌, ℕ, List, [], Some, length, slice_get, option_map, OnOk, OnErr};
 ghost use Rattle.std.specs.Iterator.{YieldsFirstBy, item_count};
 ghost use Rattle.std.specs.List.{AllByRecursion};
 ghost use Rattle.dt_model.specs.Applied.{with_cell};
-ghost use Rattle.dt_flat.specs.Rows.{owned, put, rows_of, place_of, value_held};
+ghost use Rattle.dt_flat.specs.Rows.{owned, put, value_held};
 
 use crate::NodeId;
 use crate::chain::Ranks;
@@ -70,29 +70,20 @@ impl PropertyTable {
         Some(self.values.at(place))
     }
 
-    /// Adds a property at the end.
-    fn push(&mut self, node: NodeId, name: NameId, value: &[u8]) -> Result<(), AllocError>
-        requires { place_of node name (rows_of self.old) ≡ None }
-        ensures ok { OnOk result (self.new ≡ put self.old node name value.now) }
-        ensures err { OnErr result (self.new ≡ self.old) }
-    {
-        self.values.push(value)?;
-        if let Err(refused) = self.rows.add(node, name) {
-            self.values.pop();
-            return Err(refused);
-        }
-        Ok(())
-    }
-
     /// Gives the property of a node and a name this value: one that is there keeps its place, a new one goes last.
     pub fn set(&mut self, node: NodeId, name: NameId, value: &[u8]) -> Result<(), AllocError>
         ensures ok { OnOk result (self.new ≡ put self.old node name value.now) }
         ensures err { OnErr result (self.new ≡ self.old) }
     {
-        let Some(place) = self.rows.find(node, name) else {
-            return self.push(node, name, value);
-        };
-        self.values.set(place, value)?;
+        self.values.push(value)?;
+        match self.rows.enter(node, name) {
+            Ok(None) => {}
+            Ok(Some(place)) => self.values.move_last(place),
+            Err(refused) => {
+                self.values.pop();
+                return Err(refused);
+            }
+        }
         Ok(())
     }
 

@@ -157,13 +157,17 @@ impl FlatTree {
     {
         let name = name.as_bytes();
         let node = self.places.len();
-        if self.places.child(parent, name).is_some() {
+        if node >= MOST_NODES || self.places.depth(parent) >= MOST_NAMES {
+            let is_there = self.places.child(parent, name).is_some();
+            return Err(Fault::of(if is_there {
+                FaultKind::Duplicate
+            } else {
+                FaultKind::Limit
+            }));
+        }
+        if !self.places.add(parent, name)? {
             return Err(Fault::of(FaultKind::Duplicate));
         }
-        if node >= MOST_NODES || self.places.depth(parent) >= MOST_NAMES {
-            return Err(Fault::of(FaultKind::Limit));
-        }
-        self.places.add(parent, name)?;
         Ok(node)
     }
 

@@ -14,7 +14,7 @@ pub(crate) struct Span {
     len: usize,
 }
 
-/// Values by their places. A value that becomes longer goes to the end of the buffer, which keeps the bytes of the old one.
+/// Values by their places. A value that takes the place of another is at the end of the buffer, which keeps the bytes of the old one.
 #[derive(Drop)]
 pub(crate) struct Values {
     bytes: Vec<u8>,
@@ -96,45 +96,14 @@ impl Values {
         self.spans.pop();
     }
 
-    /// Writes a value over one that is not shorter.
-    fn rewrite(&mut self, place: usize, value: &[u8])
-        requires { (before : List ℕ) × (slice_get self.old place ≡ Some before) × (length value.now ≤ length before) }
-        ensures { self.new ≡ slice_set self.old place value.now }
+    /// Takes the last value from the end, and puts it in the place of another.
+    pub fn move_last(&mut self, place: usize)
+        requires { (values : List (List ℕ)) × (value : List ℕ) × (self.old ≡ values ++ value ∷ []) × (place < length values) }
+        ensures { (values : List (List ℕ)) (value : List ℕ) → self.old ≡ values ++ value ∷ [] → self.new ≡ slice_set values place value }
     {
-        let start = self.spans[place].start;
-        overwrite(&mut self.bytes, start, value);
-        self.spans[place] = Span {
-            start,
-            len: value.len(),
-        };
-    }
-
-    /// Puts a value at the end of the buffer.
-    fn relocate(&mut self, place: usize, value: &[u8]) -> Result<(), AllocError>
-        requires { place < length self.old }
-        ensures ok { OnOk result (self.new ≡ slice_set self.old place value.now) }
-        ensures err { OnErr result (self.new ≡ self.old) }
-    {
-        let start = self.bytes.len();
-        self.bytes.extend_from_slice(value)?;
-        self.spans[place] = Span {
-            start,
-            len: value.len(),
-        };
-        Ok(())
-    }
-
-    /// Puts a value in the place of another.
-    pub fn set(&mut self, place: usize, value: &[u8]) -> Result<(), AllocError>
-        requires { place < length self.old }
-        ensures ok { OnOk result (self.new ≡ slice_set self.old place value.now) }
-        ensures err { OnErr result (self.new ≡ self.old) }
-    {
-        if value.len() > self.at(place).len() {
-            return self.relocate(place, value);
+        if let Some(span) = self.spans.pop() {
+            self.spans[place] = span;
         }
-        self.rewrite(place, value);
-        Ok(())
     }
 
     /// Writes a number, the highest byte first, at an offset of a value. Looks at no other byte of it.

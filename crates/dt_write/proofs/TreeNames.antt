@@ -47,6 +47,15 @@ has_used names n = step (has names n) refl
     step true e = e
     step false e = has_from_in (names ++ n ∷ []) n (in_right n names (n ∷ []) (inl refl))
 
+-- a name that is there is used again
+pub used_already : (names : List Name) (k : ℕ) (n : Name) → k < length names → get_or names k [] ≡ n → used names n ≡ names
+used_already names k n lt is = ap (λ (b : Bool). cond b names (names ++ n ∷ [])) (there names k lt is)
+  where
+    there : (ns : List Name) (k : ℕ) → k < length ns → get_or ns k [] ≡ n → has ns n ≡ true
+    there [] k lt is = absurd (omega (arith, lt))
+    there (m ∷ ns) zero lt is = subst (λ (x : Name). (bytes_eq n x || has ns n) ≡ true) (sym is) (rw (bytes_eq_refl n) refl)
+    there (m ∷ ns) (suc k) lt is = or_true (bytes_eq n m) (has ns n) (there ns k (omega (arith, lt)) is)
+
 stays_used : (names : List Name) (m n : Name) → has names n ≡ true → has (used names m) n ≡ true
 stays_used names m n h = step (has names m)
   where

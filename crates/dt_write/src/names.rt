@@ -5,7 +5,7 @@ ghost use Rattle.dt_model.specs.Valid.{AreDistinct};
 ghost use Rattle.dt_write.specs.Written.{has, used, used_by, used_below};
 ghost use Rattle.dt_write.specs.Parts.{tree_at};
 
-use dt_flat::{FlatTree, NodeId, Props};
+use dt_flat::{FlatTree, NodeId, Props, RecentNumbers};
 use dt_names::Seed;
 use indexmap::IndexSet;
 use std::alloc::{AllocError, Global};
@@ -16,6 +16,7 @@ use std::marker::Model;
 #[derive(Drop)]
 pub(crate) struct Names<'t> {
     set: IndexSet<&'t [u8], Seed>,
+    recent: RecentNumbers,
     uses: Vec<usize>,
 }
 
@@ -38,15 +39,43 @@ impl<'t> Names<'t> {
     {
         Names {
             set: IndexSet::with_hasher(alloc, seed),
+            recent: RecentNumbers::new(),
             uses: Vec::new(alloc),
         }
     }
 
-    /// Puts a name at the end, where it isn't among them.
-    fn note(&mut self, name: &'t [u8]) -> Result<(), AllocError>
+    /// A number, where it is that of a name.
+    fn if_number_of(&self, name: &[u8], number: usize) -> Option<usize>
+        ensures { IfSome result (λ number. (number < length self.now) × (slice_index_or self.now number [] ≡ name.now)) }
+    {
+        let found = self.set.get_index(number)?;
+        if *found == name { Some(number) } else { None }
+    }
+
+    /// Puts a name at the end, where it isn't among them, and answers its number.
+    fn put(&mut self, name: &'t [u8]) -> Result<usize, AllocError>
         ensures { OnOk result (self.new ≡ used self.old name.now) }
     {
         let (number, _) = self.set.insert_full(name)?;
+        self.recent.note(name, number);
+        Ok(number)
+    }
+
+    /// The number of a name, found at once where it is the one that was put last of such names; it is put where it isn't among them.
+    fn enter(&mut self, name: &'t [u8]) -> Result<usize, AllocError>
+        ensures { OnOk result (self.new ≡ used self.old name.now) }
+    {
+        match self.if_number_of(name, self.recent.number(name)) {
+            Some(number) => Ok(number),
+            None => self.put(name),
+        }
+    }
+
+    /// Puts a name at the end, where it isn't among them, and remembers its number as that of one more use.
+    fn note(&mut self, name: &'t [u8]) -> Result<(), AllocError>
+        ensures { OnOk result (self.new ≡ used self.old name.now) }
+    {
+        let number = self.enter(name)?;
         self.uses.push(number)?;
         Ok(())
     }
@@ -63,9 +92,7 @@ impl<'t> Names<'t> {
     fn used_number(&self, name: &[u8], place: usize) -> Option<usize>
         ensures { IfSome result (λ number. (number < length self.now) × (slice_index_or self.now number [] ≡ name.now)) }
     {
-        let number = *self.uses.get(place)?;
-        let used = self.set.get_index(number)?;
-        if *used == name { Some(number) } else { None }
+        self.if_number_of(name, *self.uses.get(place)?)
     }
 
     /// The number of a name, which is found at once where it is that of the use at a place.

@@ -5,7 +5,7 @@ use Rattle.dt_flat.specs.Names.{text, IsUnknown}
 use Rattle.dt_flat.proofs.NameLemmas.{found}
 use Rattle.dt_flat.proofs.names.NameTable.find.Goals as goal
 
-pub returns : goal.returns
-returns c =
+pub returns-in-None : goal.returns-in-None
+returns-in-None c =
     subst (λ (names : List Name). MatchOption c.get_index_of.result (IsUnknown names c.args.name.now) (λ id. (id < length names) × (text names id ≡ c.args.name.now))) c.self.view_is
     (found c.self.inside.names.keys c.args.name.now c.get_index_of.result c.get_index_of.ensures.index)

@@ -1,17 +1,22 @@
-use Rattle.std.proofs.Common.{◌∙◌, sym, ap, List, arith}
-use Rattle.dt_flat.specs.Rows.{Held, held, rows_of, place_of, put}
-use Rattle.dt_flat.proofs.TableLemmas.{rows-held, place-within, put-place}
+use Rattle.std.proofs.Common.{◌∙◌, ap, subst, List, arith}
+use Rattle.dt_flat.specs.Rows.{Held, held, put, IsEntered}
+use Rattle.dt_flat.proofs.TableLemmas.{place-within, put-place, put-push}
 use Rattle.dt_flat.proofs.properties.PropertyTable.set.Goals as goal
 
-pub push-requires : goal.push-requires
-push-requires c =
-    ap (place_of c.args.node c.args.name) (ap rows_of (sym c.self.view_is) ∙ rows-held c.self.inside.rows c.self.inside.values c.self.invariant) ∙ sym c.in_default.ensures
+pub move_last-requires : goal.move_last-requires
+move_last-requires c =
+    (c.self.inside.values, c.args.value.now, c.in_ok-push.ensures.ok, omega (arith, place-within c.args.node c.args.name c.in-Ok-Some.place c.self.inside.rows (subst (IsEntered c.args.node c.args.name c.self.inside.rows c.enter.new.self) c.in-Ok-Some.field-0-is c.in-Ok-Some.ensures.entered).0, c.self.invariant))
 
-pub set-requires : goal.set-requires
-set-requires c = omega (arith, place-within c.args.node c.args.name c.in-Some.place c.self.inside.rows (sym c.in-Some.ensures), c.self.invariant)
+pub returns-in-Ok-None-clause-ok : goal.returns-in-Ok-None-clause-ok
+returns-in-Ok-None-clause-ok c =
+    let v = c.args.value.now in
+    let row = subst (IsEntered c.args.node c.args.name c.self.inside.rows c.enter.new.self) c.in-Ok-None.field-0-is c.in-Ok-None.ensures.entered in
+    (λ i. held (row.1 i) (c.in_ok-push.ensures.ok i)) ∙ put-push c.args.node c.args.name c.self.inside.rows c.self.inside.values v c.self.invariant row.0 ∙ ap (λ (hs : List Held). put hs c.args.node c.args.name v) c.self.view_is
 
-pub returns-clause-ok : goal.returns-clause-ok
-returns-clause-ok c =
-    ap (held c.self.inside.rows) c.in_ok-set.ensures.ok
-    ∙ put-place c.args.node c.args.name c.in-Some.place c.self.inside.rows c.self.inside.values c.args.value.now c.self.invariant (sym c.in-Some.ensures)
-    ∙ ap (λ (hs : List Held). put hs c.args.node c.args.name c.args.value.now) c.self.view_is
+pub returns-in-Ok-Some-clause-ok : goal.returns-in-Ok-Some-clause-ok
+returns-in-Ok-Some-clause-ok c =
+    let v = c.args.value.now in
+    let row = subst (IsEntered c.args.node c.args.name c.self.inside.rows c.enter.new.self) c.in-Ok-Some.field-0-is c.in-Ok-Some.ensures.entered in
+    (λ i. held (row.1 i) (c.move_last.ensures c.self.inside.values v c.in_ok-push.ensures.ok i))
+    ∙ put-place c.args.node c.args.name c.in-Ok-Some.place c.self.inside.rows c.self.inside.values v c.self.invariant row.0
+    ∙ ap (λ (hs : List Held). put hs c.args.node c.args.name v) c.self.view_is

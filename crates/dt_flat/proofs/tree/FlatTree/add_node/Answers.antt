@@ -1,8 +1,8 @@
-use Rattle.std.proofs.Common.{◌≡◌, ◌<◌, ◌∙◌, sym, ap, subst, List, None, length, arith}
+use Rattle.std.proofs.Common.{◌<◌, sym, ap, subst, List, length, arith}
 use Rattle.dt_model.specs.Names.{IsNodeName}
-use Rattle.dt_flat.specs.Arena.{Arena, Slot, named_children, child_of, depth_of}
+use Rattle.dt_flat.specs.Arena.{Arena, Slot, depth_of}
+use Rattle.dt_flat.specs.Refusals.{IsChildAdded}
 use Rattle.dt_flat.specs.Sound.{IsSoundArena}
-use Rattle.dt_flat.proofs.PlaceLemmas.{none_found}
 use Rattle.dt_flat.proofs.Soundness.{IsSound-child}
 use Rattle.dt_flat.proofs.tree.FlatTree.add_node.Goals as goal
 
@@ -16,5 +16,5 @@ invariant_of-self-2 c =
     let few : length slots < 65536 = omega (arith, c.len-node.ensures, c.if-node-ge-MOST_NODES.false) in
     let shallow : depth_of slots p < 64 = omega (arith, c.depth.ensures, c.if-depth-ge-MOST_NAMES.false) in
     let named : IsNodeName name = subst IsNodeName (sym c.as_bytes-name.ensures.value) c.as_bytes-name.ensures.valid in
-    let fresh : child_of (named_children slots p) name ≡ None = sym c.child.ensures ∙ none_found c.child.result c.if-is_some.ensures in
-    subst (λ (ns : List Slot). IsSoundArena (record a { slots = ns }) c.self.inside.phandles) (sym c.in_ok-add.ensures.ok) (IsSound-child a c.self.inside.phandles p name lt few shallow named fresh c.self.invariant)
+    let added = subst (IsChildAdded p name slots c.add.new.self) c.if-not-branch.false c.in_ok-add.ensures.added in
+    subst (λ (ns : List Slot). IsSoundArena (record a { slots = ns }) c.self.inside.phandles) (sym added.1) (IsSound-child a c.self.inside.phandles p name lt few shallow named added.0 c.self.invariant)
