@@ -40,3 +40,4 @@ pub mod CutTrees
 pub mod NodeCuts
 pub mod SplicedTrees
 pub mod BlockBytes
+pub mod KnownLemmas

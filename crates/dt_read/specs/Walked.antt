@@ -21,6 +21,20 @@ steps_of_nodes (node place name properties children siblings) =
 abbrev pub steps_of : PlacedTree → List Step
 steps_of t = opens t.place [] ∷ (map holds t.properties ++ (steps_of_nodes t.children ++ closes ∷ []))
 
+-- the properties that come first
+abbrev pub leading : List Step → List Property
+leading [] = []
+leading (opens place name ∷ steps) = []
+leading (holds p ∷ steps) = p ∷ leading steps
+leading (closes ∷ steps) = []
+
+-- the steps behind those
+abbrev pub past_leading : List Step → List Step
+past_leading [] = []
+past_leading (opens place name ∷ steps) = opens place name ∷ steps
+past_leading (holds p ∷ steps) = past_leading steps
+past_leading (closes ∷ steps) = closes ∷ steps
+
 -- the steps of a walk through the nodes alone
 abbrev pub without_properties : List Step → List Step
 without_properties [] = []

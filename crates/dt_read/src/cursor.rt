@@ -65,7 +65,7 @@ pub(crate) struct FoundTag<'a> {
 }
 
 /// The first tag that isn't a NOP.
-fn next_tag<'a>(at: usize, bytes: &'a [u8]) -> Option<FoundTag<'a>>
+pub(crate) fn next_tag<'a>(at: usize, bytes: &'a [u8]) -> Option<FoundTag<'a>>
     requires { at + length bytes.now < 2 ^ 32 }
     ensures next { (strings : List ℕ) → AreTokens strings at bytes.now → MatchOption result (marks_in strings at bytes.now ≡ []) (λ found.
         (p : Property) × (marks_in strings at bytes.now ≡ tag_mark found.at found.tag p ∷ marks_in strings found.behind found.rest.now)
@@ -134,6 +134,14 @@ impl<'a> Cursor<'a> {
             at: self.at,
             rest: self.rest,
         }
+    }
+
+    /// The strings, the offset of the place, and the bytes from there on.
+    pub fn parts(&self) -> (&'a [u8], usize, &'a [u8])
+        ensures tokens { AreTokens result.0.now result.1 result.2.now }
+        ensures same { marks_in result.0.now result.1 result.2.now ≡ self.now }
+    {
+        (self.strings, self.at, self.rest)
     }
 
     /// Reads a token, with its offset.

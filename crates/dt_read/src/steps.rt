@@ -3,12 +3,17 @@
 ghost use Rattle.std.specs.Prelude.{◌≡◌, ◌∷◌, [], List};
 ghost use Rattle.std.specs.Option.{MatchOption};
 ghost use Rattle.std.specs.Iterator.{YieldsFirstBy, item_count};
+ghost use Rattle.dt_model.specs.Tree.{Property};
+ghost use Rattle.dt_read.specs.Marks.{Mark};
 ghost use Rattle.dt_read.specs.StepsLeft.{steps_left, step_view, node_step_view};
-ghost use Rattle.dt_read.specs.Walked.{without_properties};
+ghost use Rattle.dt_read.specs.View.{tag_mark, HasToken};
+ghost use Rattle.dt_read.specs.Walked.{holds, leading, without_properties};
 
 use crate::NodeId;
-use crate::cursor::Cursor;
-use crate::token::{Tag, Token};
+use crate::cursor::{Cursor, next_tag};
+use crate::known::KnownTexts;
+use crate::property::value_of;
+use crate::token::Tag;
 use std::marker::Model;
 
 /// A step of a walk through a tree, each node before its children.
@@ -22,27 +27,35 @@ pub enum Step<'a> {
     Close,
 }
 
-/// Reads the step at the front.
-fn next_step<'a>(cursor: &mut Cursor<'a>) -> Option<Step<'a>>
-    ensures { MatchOption result ((steps_left cursor.old ≡ []) × (steps_left cursor.new ≡ []))
-        (λ step. steps_left cursor.old ≡ step_view step ∷ steps_left cursor.new) }
+/// The step that a tag at an offset is; None where it is the last one.
+fn step_of<'a>(names: &mut KnownTexts<'a>, at: usize, tag: Tag<'a>) -> Option<Step<'a>>
+    requires token { (p : Property) × HasToken names.old tag p }
+    requires no_nop { tag ≡ Tag.Nop → ⊥ }
+    ensures strings { names.new ≡ names.old }
+    ensures step { (p : Property) (marks : List Mark) → HasToken names.old tag.entry p → MatchOption result
+        (steps_left (tag_mark at tag.entry p ∷ marks) ≡ []) (λ step. steps_left (tag_mark at tag.entry p ∷ marks) ≡ step_view step ∷ steps_left marks) }
 {
-    let mut ahead = cursor.copy();
-    let (node, token) = ahead.next()?;
-    let step = match token {
-        Token::BeginNode(name) => Step::Open { node, name },
-        Token::Property(name, value) => Step::Property { name, value },
-        Token::EndNode => Step::Close,
-        Token::Nop | Token::End => return None,
-    };
-    *cursor = ahead;
-    Some(step)
+    match tag {
+        Tag::BeginNode(name) => Some(Step::Open { node: at, name }),
+        Tag::Property(own) => {
+            let name = names.name_of(own)?;
+            Some(Step::Property {
+                name,
+                value: value_of(own),
+            })
+        }
+        Tag::EndNode => Some(Step::Close),
+        Tag::Nop | Tag::End => None,
+    }
 }
 
-/// The steps of a walk from a place on. It is seen as the steps that are left.
+/// The steps of a walk from a place on. It is seen as the steps that are left. Names of properties repeat, so it remembers the offsets and the
+/// lengths of 256 of them, and finds the end of most names without a look at their bytes.
 #[derive(Drop)]
 pub struct Steps<'a> {
-    cursor: Cursor<'a>,
+    names: KnownTexts<'a>,
+    at: usize,
+    rest: &'a [u8],
 }
 
 impl<'a> Model for Steps<'a> {
@@ -50,20 +63,54 @@ impl<'a> Model for Steps<'a> {
     ghost use Rattle.std.specs.Coded.{coded_list};
     ghost use Rattle.dt_read.specs.StepsLeft.{steps_left};
     ghost use Rattle.dt_read.specs.TreeCode.{coded_step};
+    ghost use Rattle.dt_read.specs.TreeTokens.{AreTokens, marks_in};
     ghost use Rattle.dt_read.specs.Walked.{Step};
 
     ghost Value = { List Step };
 
     ghost coded = { coded_list coded_step };
 
-    ghost view = { λ s. steps_left s.cursor };
+    ghost view = { λ s. steps_left (marks_in s.names s.at s.rest.now) };
+
+    ghost invariant = { λ s. AreTokens s.names s.at s.rest.now };
 }
 
 impl<'a> Steps<'a> {
     pub(crate) fn new(cursor: Cursor<'a>) -> Steps<'a>
         ensures { result ≡ steps_left cursor.entry }
     {
-        Steps { cursor }
+        let (strings, at, rest) = cursor.parts();
+        Steps {
+            names: KnownTexts::new(strings),
+            at,
+            rest,
+        }
+    }
+
+    /// Reads the step at the front.
+    fn step(&mut self) -> Option<Step<'a>>
+        ensures { MatchOption result ((self.old ≡ []) × (self.new ≡ [])) (λ step. self.old ≡ step_view step ∷ self.new) }
+    {
+        let found = next_tag(self.at, self.rest)?;
+        let step = step_of(&mut self.names, found.at, found.tag)?;
+        self.at = found.behind;
+        self.rest = found.rest;
+        Some(step)
+    }
+
+    /// Reads the step at the front where it is a property: its name and its value. Where it is none, the walk stays where it is.
+    pub fn next_property(&mut self) -> Option<(&'a [u8], &'a [u8])>
+        ensures { MatchOption result ((leading self.old ≡ []) × (self.new ≡ self.old))
+            (λ p. self.old ≡ holds (record { name = p.0.now; value = p.1.now }) ∷ self.new) }
+    {
+        let found = next_tag(self.at, self.rest)?;
+        let Tag::Property(own) = found.tag else {
+            return None;
+        };
+        let name = self.names.name_of(own)?;
+        self.at = found.behind;
+        self.rest = found.rest;
+        Some((name, value_of(own)))
     }
 }
 
@@ -75,7 +122,7 @@ impl<'a> Iterator for Steps<'a> {
     ghost remaining = { item_count (λ s. s) };
 
     fn next(&mut self) -> Option<Step<'a>> {
-        next_step(&mut self.cursor)
+        self.step()
     }
 }
 

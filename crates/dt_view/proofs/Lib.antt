@@ -5,6 +5,7 @@ pub mod Openings
 pub mod Numbered
 pub mod Places
 pub mod Walking
+pub mod Led
 pub mod Tabled
 pub mod Indexed
 pub mod Steps

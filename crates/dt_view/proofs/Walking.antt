@@ -87,7 +87,7 @@ module _ (t : PlacedTree) (open_nodes : List ℕ) (k : ℕ) (name : Name) (steps
 
 -- ---- a property, or a node's end
 
-abbrev another_walked : (t : PlacedTree) (open_nodes new : List ℕ) (steps rest : List Step) → IsWalked t open_nodes steps → opened steps ≡ opened rest → ((k : ℕ) → parent_told k open_nodes steps ≡ parent_told k new rest)
+abbrev pub another_walked : (t : PlacedTree) (open_nodes new : List ℕ) (steps rest : List Step) → IsWalked t open_nodes steps → opened steps ≡ opened rest → ((k : ℕ) → parent_told k open_nodes steps ≡ parent_told k new rest)
     → (AreFew (length open_nodes) steps → AreFew (length new) rest) → IsWalked t new rest
 another_walked t open_nodes new steps rest walked same told few = record {
   before = walked.before;

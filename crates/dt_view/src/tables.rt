@@ -7,14 +7,15 @@ ghost use Rattle.std.specs.List.{between};
 ghost use Rattle.std.specs.Option.{option_copied};
 ghost use Rattle.dt_model.specs.Meaning.{cell};
 ghost use Rattle.dt_model.specs.Tree.{nodes_of, value_in, value_of};
-ghost use Rattle.dt_model.specs.Valid.{IsPhandle};
-ghost use Rattle.dt_read.specs.Placed.{path_at, properties_at, reading_of, IsNode};
+ghost use Rattle.dt_model.specs.Valid.{AreDistinct, IsPhandle};
+ghost use Rattle.dt_read.specs.Placed.{path_at, reading_of};
+ghost use Rattle.dt_read.specs.Walked.{leading, past_leading};
 ghost use Rattle.dt_view.specs.Tables.{asked_said, at_number, ends_as_kind, first_found, is_kind_name, is_whole_name};
 ghost use Rattle.dt_view.specs.Tables.{AreParents, ArePhandles, IsNoted, AreNoted, AreValues, PutsValue, NotesValue, AreKept, AreKinds};
 ghost use Rattle.dt_view.specs.Tables.{PutsChild, AreChildren};
 
 use dt_names::{NodeId, Seed, phandle_of};
-use dt_read::{Blob, NodeStep, OpenNodes};
+use dt_read::{Blob, NodeStep, OpenNodes, Step, Steps};
 use std::alloc::AllocError;
 use std::collections::HashMap;
 
@@ -200,22 +201,21 @@ fn phandle_after<'a>(found: Option<&'a [u8]>, name: &[u8], value: &'a [u8]) -> O
     }
 }
 
-/// Adds the properties of a node that the rules may ask for, and answers the value of `phandle`, where it has one.
+/// Adds the properties that a walk meets next, a node's, where the rules may ask for them, and answers the value of `phandle`, where it is one of them.
 fn note_values<'a>(
-    blob: &Blob<'a>,
+    steps: &mut Steps<'a>,
     values: &mut Vec<Asked<'a>>,
     kinds: &mut Kinds<'a>,
     node: NodeId,
 ) -> Result<Option<&'a [u8]>, AllocError>
-    requires { IsNode blob.now node }
-    ensures noted { OnOk result (AreNoted values.old.items values.new.items (properties_at blob.now (path_at blob.now node))) }
-    ensures kept { OnOk result (AreKept node (properties_at blob.now (path_at blob.now node))
-        (properties_at blob.now (path_at blob.now node)) kinds.old.entries kinds.new.entries) }
-    ensures phandle { IfOk result (λ value. option_copied value ≡ value_in (reading_of blob.now) (path_at blob.now node) (codes "phandle")) }
+    requires { AreDistinct (map (λ p. p.name) (leading steps.old)) }
+    ensures noted { OnOk result (AreNoted values.old.items values.new.items (leading steps.old)) }
+    ensures kept { OnOk result (AreKept node (leading steps.old) (leading steps.old) kinds.old.entries kinds.new.entries) }
+    ensures phandle { IfOk result (λ value. option_copied value ≡ value_of (leading steps.old) (codes "phandle")) }
+    ensures left { OnOk result (steps.new ≡ past_leading steps.old) }
 {
-    blob.validity();
     let mut phandle = None;
-    for (name, value) in blob.props(node) {
+    while let Some((name, value)) = steps.next_property() {
         phandle = phandle_after(phandle, name, value);
         note_property(values, kinds, node, name, value)?;
     }
@@ -281,12 +281,13 @@ pub(crate) fn fill<'a>(
     blob.validity();
     let mut open_nodes = OpenNodes::new();
     let mut count = 0usize;
-    for step in blob.node_steps() {
+    let mut steps = blob.steps();
+    while let Some(step) = steps.next() {
         match step {
-            NodeStep::Open { node, .. } => {
+            Step::Open { node, .. } => {
                 let above = open_nodes.innermost();
                 let first = values.len();
-                let phandle = note_values(blob, values, kinds, node)?;
+                let phandle = note_values(&mut steps, values, kinds, node)?;
                 let behind = values.len();
                 put_row(
                     rows,
@@ -301,7 +302,8 @@ pub(crate) fn fill<'a>(
                 open_nodes.push(node);
                 count += 1;
             }
-            NodeStep::Close => open_nodes.pop(),
+            Step::Property { .. } => {}
+            Step::Close => open_nodes.pop(),
         }
     }
     Ok(count)
