@@ -5,10 +5,10 @@ ghost use Rattle.std.specs.Prelude.{◌<◌};
 /// How many numbers are remembered, each in a place that a name's length and three of its bytes choose.
 const PLACES: usize = 256;
 
-/// For each of some places the number that was noted last for a name of that place.
+/// For each of some places the number that was noted last for a name of that place, but for what 16 bits don't hold.
 #[derive(Clone, Copy)]
 pub struct RecentNumbers {
-    numbers: [usize; PLACES],
+    numbers: [u16; PLACES],
 }
 
 /// The place of a name.
@@ -31,13 +31,14 @@ impl RecentNumbers {
         }
     }
 
-    /// The number that was noted last for a name like this one. It may be that of another name, so whoever asks compares the names.
+    /// The number that was noted last for a name like this one, if it is below 65,536. It may be that of another name, so whoever asks
+    /// compares the names.
     pub fn number(&self, name: &[u8]) -> usize {
-        self.numbers[place_of(name)]
+        usize::from(self.numbers[place_of(name)])
     }
 
     /// Notes the number of a name.
     pub fn note(&mut self, name: &[u8], number: usize) {
-        self.numbers[place_of(name)] = number;
+        self.numbers[place_of(name)] = u16::try_from(number).unwrap_or(0);
     }
 }

@@ -8,7 +8,7 @@ ghost use Rattle.dt_write.specs.Parts.{tree_at, HasAll, HasBelow};
 ghost use Rattle.dt_write.specs.Refusals.{WhyNoBytes};
 
 use crate::strings::Strings;
-use crate::words::{fits, put_word, put_zeros};
+use crate::words::{fits, put_word, put_words, put_zeros};
 use dt_flat::{FlatTree, NodeId, Props};
 use dt_names::{Fault, FaultKind};
 use std::alloc::AllocError;
@@ -34,9 +34,7 @@ fn put_value(out: &mut Vec<u8>, offset: u32, value: &[u8]) -> Result<(), AllocEr
     ensures { OnOk result (out.new.items ≡ out.old.items
         ++ (word 3 ++ word (length value.now) ++ word offset ++ value.now ++ zeros_after (length value.now))) }
 {
-    put_word(out, PROP)?;
-    put_word(out, value.len() as u32)?;
-    put_word(out, offset)?;
+    put_words(out, [PROP, value.len() as u32, offset])?;
     out.extend_from_slice(value)?;
     put_zeros(out, value.len())
 }

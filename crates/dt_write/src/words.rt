@@ -30,6 +30,15 @@ pub(crate) fn put_word(out: &mut Vec<u8>, number: u32) -> Result<(), AllocError>
     out.extend_from_slice(&bytes)
 }
 
+/// Puts three 32-bit words at the end, at once.
+pub(crate) fn put_words(out: &mut Vec<u8>, numbers: [u32; 3]) -> Result<(), AllocError>
+    ensures { OnOk result (out.new.items ≡ out.old.items ++ flat_map word numbers) }
+{
+    let mut bytes = [0; 12];
+    set_words(&mut bytes, &numbers);
+    out.extend_from_slice(&bytes)
+}
+
 /// Puts a 64-bit number at the end.
 fn put_long(out: &mut Vec<u8>, number: u64) -> Result<(), AllocError>
     ensures { OnOk result (out.new.items ≡ out.old.items ++ to_be_bytes w64 number) }
