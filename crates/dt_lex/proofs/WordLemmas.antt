@@ -1,5 +1,5 @@
 -- The longest front of a text in a set of words that is made of smaller sets.
-use Rattle.std.proofs.Common.{◌≡◌, ◌≢◌, ℕ, ◌<◌, ◌≤◌, Bool, true, false, List, [], ◌∷◌, ◌++◌, length, Option, Some, None, ◌⊎◌, inl, inr, refl, sym, ◌∙◌, ap, subst, append_assoc, arith, length-append}
+use Rattle.std.proofs.Common.{◌≡◌, ◌≢◌, ℕ, zero, suc, ◌<◌, ◌≤◌, Bool, true, false, List, [], ◌∷◌, ◌++◌, length, take, get_or, Option, Some, None, ◌⊎◌, inl, inr, refl, sym, ◌∙◌, ap, subst, append_assoc, arith, length-append}
 use Rattle.std.proofs.lemmas.Bool.Decides.{nat_tests}
 use Rattle.std.specs.Prelude.{IfSome, MatchOption, ◌||◌, ◌==◌}
 use Rattle.dt_model.specs.Names.{is_letter, is_digit}
@@ -317,3 +317,10 @@ none_longer k s (j ∷ js) (g, h) v more e (inr f) = none_longer k s js h v more
 -- a word of a list that begins the text is the longest where no longer one does
 pub any_longest : (k s t : List ℕ) (js : List (List ℕ)) → s ≡ k ++ t → AnyOf js k → NoneLonger k s js → IsLongestWord (AnyOf js) s k t
 any_longest k s t js e f h = record { split = e; fits = f; longest = none_longer k s js h }
+
+-- ---- a run, byte by byte
+
+pub one_more : (p : ℕ → Bool) (s : List ℕ) (n : ℕ) → n < length s → Each p (take n s) → p (get_or s n 0) ≡ true → Each p (take (suc n) s)
+one_more p [] n lt each is = absurd (omega (arith, lt))
+one_more p (b ∷ s) zero lt each is = (is, tt)
+one_more p (b ∷ s) (suc n) lt each is = (each.0, one_more p s n (omega (arith, lt)) each.1 is)

@@ -42,10 +42,12 @@ const LABEL_START: u8 = 8;
 
 const HEX: u8 = 16;
 
-/// The classes of each byte that names, labels and numbers are made of: the low five bits of its letter are the flags above.
+const BLANK: u8 = 32;
+
+/// The classes of each byte that blanks, names, labels and numbers are made of: the low six bits of its character are the flags above.
 static CLASSES: [u8; 256] = *b"\
-    @@@@@@@@@@@@@@@@@@@@@@@@@@@@@@@@\
-    @@@C@@@@@@CCCCCBWWWWWWWWWW@@@@@C\
+    @@@@@@@@@`````@@@@@@@@@@@@@@@@@@\
+    `@@C@@@@@@CCCCCBWWWWWWWWWW@@@@@C\
     C______OOOOOOOOOOOOOOOOOOOO@@@@O\
     @______OOOOOOOOOOOOOOOOOOOO@@@@@\
     @@@@@@@@@@@@@@@@@@@@@@@@@@@@@@@@\
@@ -58,7 +60,7 @@ pub(crate) fn is_in(class: Class, b: u8) -> bool
     ensures { result ≡ is_in class b }
 {
     match class {
-        Class::Blank => b == b' ' || (9 <= b && b <= 13),
+        Class::Blank => CLASSES[b as usize] & BLANK != 0,
         Class::LineBlank => b == b' ' || b == b'\t',
         Class::Line => b != b'\n',
         Class::Name => CLASSES[b as usize] & NAME != 0,

@@ -43,6 +43,7 @@ pub(crate) fn piece_of<'a>(kind: Option<TokenKind>, text: &'a [u8], rest: &'a [u
 }
 
 /// The mark that a byte is with this byte, or 0, behind it, where that hangs on nothing else.
+#[inline(always)]
 fn sole_mark(first: u8, second: u8) -> Option<Mark>
     ensures { IfSome result (λ mark. IsSole first second mark) }
 {

@@ -44,14 +44,11 @@ pub(crate) fn after_all(text: &[u8], class: Class) -> &[u8]
     ensures exact { RunsTo (is_in class) text.now result.now }
     ensures shorter { length result.now ≤ length text.now }
 {
-    let mut rest = text;
-    while let Some((first, after)) = split(rest) {
-        if !is_in(class, first) {
-            return rest;
-        }
-        rest = after;
+    let mut count = 0;
+    while count < text.len() && is_in(class, text[count]) {
+        count += 1;
     }
-    rest
+    &text[count..]
 }
 
 /// After the rest of a line.

@@ -6,6 +6,10 @@ use Rattle.dt_lex.specs.declared.byte.Class.TheVariants as class
 use Rattle.dt_names.proofs.Tables.{agree_below, from_table}
 use Rattle.dt_lex.proofs.byte.is_in.Goals as goal
 
+pub returns-in-Blank : goal.returns-in-Blank
+unfolding agree_below
+returns-in-Blank c = from_table CLASSES 32 (is_in class.Blank) c.args.b (omega arith) refl ∙ ap (λ (k : Class). is_in k c.args.b) (sym c.in-Blank.is)
+
 pub returns-in-Name : goal.returns-in-Name
 unfolding agree_below
 returns-in-Name c = from_table CLASSES 1 (is_in class.Name) c.args.b (omega arith) refl ∙ ap (λ (k : Class). is_in k c.args.b) (sym c.in-Name.is)
