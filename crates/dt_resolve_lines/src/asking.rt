@@ -112,6 +112,7 @@ fn tell<V: TreeView, S: Sink>(
 /// The first fault of bytes that are no blob; `BadName`, without a place, where the text is no path's, and `NoNode`, where its path is no node's; why the
 /// node has no answer (`dma_region` of dt_ranges, `specifier_route` of dt_irq); and `NoMemory`. At these nothing is written. And `WriteFault`, where the
 /// sink took a front of the line.
+#[inline(never)]
 pub fn ask<S: Sink>(
     alloc: Global,
     bytes: &[u8],

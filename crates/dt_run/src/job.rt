@@ -33,6 +33,7 @@ fn make(alloc: Global, making: Making, inputs: &[&[u8]]) -> Result<Vec<u8>, (usi
 }
 
 /// Writes what is reported of a blob.
+#[inline(never)]
 fn put_report<S: Sink>(alloc: Global, report: Report, blob: &[u8], out: &mut S) -> Result<(), Fault>
     ensures written { OnOk result ((bytes : List ℕ) × IsReport report blob.now bytes × Takes bytes (S.taken out.old) (S.taken out.new)) }
     ensures refused { (hex : Bool) → IfErr result

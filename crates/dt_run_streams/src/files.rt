@@ -116,11 +116,12 @@ fn is_again(names: &[&str], k: usize) -> bool
     names[k] == "stdin" && names[..k].contains(&"stdin")
 }
 
-/// The bytes of the file of a name, or of standard input for the name `stdin`.
+/// The bytes of the file of a name, or of standard input for the name `stdin`. Its buffers are on the stack while it reads, and not longer.
 ///
 /// # Errors
 ///
 /// `ReadFault` where the file can't be opened or read, `Limit` past 16,777,216 bytes, and `NoMemory`.
+#[inline(never)]
 fn load<R: FileSystem + Input + AllocGlobal>(rt: &R, name: &str) -> Result<Vec<u8>, Fault>
     ensures bytes { IfOk result (λ bytes. length bytes.items ≤ most_bytes) }
     ensures refused { IfErr result (λ fault. IsOfLoading fault.kind × (fault.at ≡ None)) }
