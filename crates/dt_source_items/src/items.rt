@@ -4,8 +4,8 @@ ghost use Rattle.std.specs.Prelude.{◌≡◌, ◌<◌, ◌++◌, ◌∷◌, [],
 ghost use Rattle.dt_model.specs.Source.{one, property};
 ghost use Rattle.dt_lex.specs.Texts.{text_bytes};
 ghost use Rattle.dt_source_items.specs.Gathered.{nothing_gathered, with_parts, with_place, with_value};
-ghost use Rattle.dt_source_items.specs.Rows.{AreRows, bare_said, row_said, span_said};
-ghost use Rattle.dt_source_items.specs.Said.{place_said, reference_of, referring, value_said};
+ghost use Rattle.dt_source_items.specs.Rows.{AreRows, IsPlain, bare_said, naming_said, plain_said};
+ghost use Rattle.dt_source_items.specs.Said.{place_said, reference_of, referring};
 
 use crate::source::{Form, Item, Piece, Reference, Value};
 use dt_lex::push_text;
@@ -43,11 +43,26 @@ pub(crate) struct Span {
     pub end_byte: u32,
 }
 
-/// An item, with its value's place.
+/// How a reference names a node.
+#[derive(Clone, Copy)]
+pub(crate) enum Naming {
+    Block,
+    DeleteNode,
+}
+
+/// An item in as many bytes as a name needs: it has the place of what is longer.
 #[derive(Drop)]
 pub(crate) enum Row<'a> {
-    Bare(Bare<'a>),
-    Property(PropName<'a>, Span),
+    Root,
+    Named(Naming, u32),
+    Child(NodeName<'a>),
+    Label(Label<'a>),
+    DeleteProperty(PropName<'a>),
+    DeleteChild(NodeName<'a>),
+    Close,
+    /// A property without a value.
+    Flag(PropName<'a>),
+    Property(u32, PropName<'a>),
 }
 
 /// The items of a source in the order of its text, and the value that was begun last. However many values there are, their bytes
@@ -55,6 +70,9 @@ pub(crate) enum Row<'a> {
 #[derive(Drop)]
 pub struct Items<'a> {
     rows: Vec<Row<'a>>,
+    /// The references of blocks and of deleted nodes.
+    named: Vec<Reference<'a>>,
+    spans: Vec<Span>,
     pieces: Vec<Piece<'a>>,
     bytes: Vec<u8>,
     /// The first piece of the value that was begun last.
@@ -71,12 +89,12 @@ impl<'a> Model for Items<'a> {
 
     ghost Value = { Gathered };
 
-    ghost view = { λ s. gathered s.rows.items s.pieces.items s.bytes.items s.piece s.byte };
+    ghost view = { λ s. gathered s.rows.items s.named.items s.spans.items s.pieces.items s.bytes.items s.piece s.byte };
 
-    ghost invariant = { λ s. AreRows s.rows.items s.pieces.items s.bytes.items s.piece s.byte s.referred };
+    ghost invariant = { λ s. AreRows s.rows.items s.named.items s.spans.items s.pieces.items s.bytes.items s.piece s.byte s.referred };
 }
 
-/// The most bytes, and the most references, that the values of a source may have together: a place in a `Span` is 32 bits.
+/// The most bytes, references and values that a source may have together: a place is 32 bits.
 const MOST: usize = 0xffff_ffff;
 
 impl<'a> Items<'a> {
@@ -86,6 +104,8 @@ impl<'a> Items<'a> {
     {
         Items {
             rows: Vec::new(alloc),
+            named: Vec::new(alloc),
+            spans: Vec::new(alloc),
             pieces: Vec::new(alloc),
             bytes: Vec::new(alloc),
             piece: 0,
@@ -160,15 +180,63 @@ impl<'a> Items<'a> {
         Ok(())
     }
 
+    /// Appends a row that has no place.
+    fn push_row(&mut self, row: Row<'a>) -> Result<(), AllocError>
+        requires { IsPlain row }
+        ensures { OnOk result (self.new ≡ with_place self.old (plain_said row.entry)) }
+    {
+        self.rows.push(row)?;
+        Ok(())
+    }
+
+    /// Appends a row that names a node by a reference.
+    fn push_named(&mut self, naming: Naming, reference: Reference<'a>) -> Result<(), AllocError>
+        ensures { OnOk result (self.new ≡ with_place self.old (naming_said naming (reference_of reference.entry))) }
+    {
+        let Ok(place) = u32::try_from(self.named.len()) else {
+            return Err(AllocError);
+        };
+        self.named.push(reference)?;
+        self.rows.push(Row::Named(naming, place))?;
+        Ok(())
+    }
+
     /// Appends an item that holds no value.
     ///
     /// # Errors
     ///
-    /// AllocError if there is no memory for it.
+    /// AllocError if there is no memory for it, or if 2^32 items are blocks or deletions of a reference. A source of 16 MiB has
+    /// fewer.
     pub fn push(&mut self, bare: Bare<'a>) -> Result<(), AllocError>
         ensures { OnOk result (self.new ≡ with_place self.old (bare_said bare.entry)) }
     {
-        self.rows.push(Row::Bare(bare))?;
+        match bare {
+            Bare::Root => self.push_row(Row::Root),
+            Bare::Block(reference) => self.push_named(Naming::Block, reference),
+            Bare::DeleteNode(reference) => self.push_named(Naming::DeleteNode, reference),
+            Bare::Child(name) => self.push_row(Row::Child(name)),
+            Bare::Label(label) => self.push_row(Row::Label(label)),
+            Bare::DeleteProperty(name) => self.push_row(Row::DeleteProperty(name)),
+            Bare::DeleteChild(name) => self.push_row(Row::DeleteChild(name)),
+            Bare::Close => self.push_row(Row::Close),
+        }
+    }
+
+    /// Appends a property with the place of the value that was begun last.
+    fn push_valued(&mut self, name: PropName<'a>) -> Result<(), AllocError>
+        ensures { OnOk result (self.new ≡ with_place self.old (property name.entry self.old.value)) }
+    {
+        if MOST < self.bytes.len() || MOST < self.pieces.len() || MOST < self.spans.len() {
+            return Err(AllocError);
+        }
+        let place = self.spans.len() as u32;
+        self.spans.push(Span {
+            first_piece: self.piece as u32,
+            end_piece: self.pieces.len() as u32,
+            first_byte: self.byte as u32,
+            end_byte: self.bytes.len() as u32,
+        })?;
+        self.rows.push(Row::Property(place, name))?;
         Ok(())
     }
 
@@ -181,17 +249,10 @@ impl<'a> Items<'a> {
     pub fn push_property(&mut self, name: PropName<'a>) -> Result<(), AllocError>
         ensures { OnOk result (self.new ≡ with_place self.old (property name.entry self.old.value)) }
     {
-        if MOST < self.bytes.len() || MOST < self.pieces.len() {
-            return Err(AllocError);
+        if self.piece == self.pieces.len() && self.byte == self.bytes.len() {
+            return self.push_row(Row::Flag(name));
         }
-        let span = Span {
-            first_piece: self.piece as u32,
-            end_piece: self.pieces.len() as u32,
-            first_byte: self.byte as u32,
-            end_byte: self.bytes.len() as u32,
-        };
-        self.rows.push(Row::Property(name, span))?;
-        Ok(())
+        self.push_valued(name)
     }
 
     /// Lets go of the room behind what was read.
@@ -199,6 +260,8 @@ impl<'a> Items<'a> {
         ensures { self.new ≡ self.old }
     {
         self.rows.shrink_to_fit();
+        self.named.shrink_to_fit();
+        self.spans.shrink_to_fit();
         self.pieces.shrink_to_fit();
         self.bytes.shrink_to_fit();
     }
@@ -216,31 +279,31 @@ impl<'a> Items<'a> {
         ensures { slice_get self.now.places index ≡ Some (place_said result) }
     {
         match &self.rows[index] {
-            Row::Bare(bare) => bare.item(),
-            Row::Property(name, span) => Item::Property(
+            Row::Root => Item::Root,
+            Row::Named(Naming::Block, place) => Item::Block(&self.named[*place as usize]),
+            Row::Named(Naming::DeleteNode, place) => Item::DeleteNode(&self.named[*place as usize]),
+            Row::Child(name) => Item::Child(name),
+            Row::Label(label) => Item::Label(label),
+            Row::DeleteProperty(name) => Item::DeleteProperty(name),
+            Row::DeleteChild(name) => Item::DeleteChild(name),
+            Row::Close => Item::Close,
+            Row::Flag(name) => Item::Property(
                 name,
                 Value {
-                    pieces: &self.pieces[span.first_piece as usize..span.end_piece as usize],
-                    bytes: &self.bytes[span.first_byte as usize..span.end_byte as usize],
+                    pieces: &[],
+                    bytes: &[],
                 },
             ),
-        }
-    }
-}
-
-impl<'a> Bare<'a> {
-    fn item(&'a self) -> Item<'a>
-        ensures { place_said result ≡ bare_said self.now }
-    {
-        match self {
-            Bare::Root => Item::Root,
-            Bare::Block(reference) => Item::Block(reference),
-            Bare::DeleteNode(reference) => Item::DeleteNode(reference),
-            Bare::Child(name) => Item::Child(name),
-            Bare::Label(label) => Item::Label(label),
-            Bare::DeleteProperty(name) => Item::DeleteProperty(name),
-            Bare::DeleteChild(name) => Item::DeleteChild(name),
-            Bare::Close => Item::Close,
+            Row::Property(place, name) => {
+                let span = self.spans[*place as usize];
+                Item::Property(
+                    name,
+                    Value {
+                        pieces: &self.pieces[span.first_piece as usize..span.end_piece as usize],
+                        bytes: &self.bytes[span.first_byte as usize..span.end_byte as usize],
+                    },
+                )
+            }
         }
     }
 }

@@ -4,4 +4,4 @@ use Rattle.dt_source_items.proofs.items.Items.push_bytes.Goals as goal
 pub returns : goal.returns
 returns c =
     rw (c.in_ok-extend_from_slice.ensures.items, ← c.self.view_is)
-    (bytes_gathered c.self.inside.rows.items c.self.inside.pieces.items c.self.inside.bytes.items c.args.bytes.now c.self.inside.piece c.self.inside.byte c.self.inside.referred c.self.invariant)
+    (bytes_gathered c.self.inside.rows.items c.self.inside.named.items c.self.inside.spans.items c.self.inside.pieces.items c.self.inside.bytes.items c.args.bytes.now c.self.inside.piece c.self.inside.byte c.self.inside.referred c.self.invariant)

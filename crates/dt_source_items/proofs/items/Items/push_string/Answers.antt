@@ -10,4 +10,4 @@ returns c =
     let pushed = c.in_ok-push.ensures.items ∙ ap (λ (z : List ℕ). z ++ 0 ∷ []) (c.in_ok-push_text.ensures.ok ∙ ap (λ (z : List ℕ). z ++ text) c.in_ok-reserve.ensures.items)
     ∙ append_assoc bytes text (0 ∷ []) in
     rw (pushed, ← c.self.view_is)
-    (bytes_gathered c.self.inside.rows.items c.self.inside.pieces.items bytes (text ++ 0 ∷ []) c.self.inside.piece c.self.inside.byte c.self.inside.referred c.self.invariant)
+    (bytes_gathered c.self.inside.rows.items c.self.inside.named.items c.self.inside.spans.items c.self.inside.pieces.items bytes (text ++ 0 ∷ []) c.self.inside.piece c.self.inside.byte c.self.inside.referred c.self.invariant)
