@@ -1,11 +1,12 @@
 #!/usr/bin/env python3
 """Counts the instructions of dtool and of dtc's programs on the same inputs, beside the goals.
 
-    python3 bench/instructions.py dtool [--boards FOLDER] [--pairs LINUX] [--count 21]
+    python3 bench/instructions.py dtool [--boards FOLDER] [--pairs LINUX] [--count N]
     python3 bench/instructions.py dtool --old OLD/dtool
 
-FOLDER holds boards that bench/boards.py has made of the Linux source tree LINUX, whose Makefiles name the pairs of a board and overlays. So many boards
-and pairs are counted, spread by size. A run counts only where both programs end with 0 and their blobs say the same; what one refuses is named. It needs
+FOLDER holds boards that bench/boards.py has made of the Linux source tree LINUX, whose Makefiles name the pairs of a board and overlays. It counts the
+boards that are named below, which Linux 6.1 has, or with --count so many of all, spread by size; and 21 pairs, or so many. A median hangs on the set, so
+only figures of one set are compared. A run counts only where both programs end with 0 and their blobs say the same; what one refuses is named. It needs
 Debian's valgrind, device-tree-compiler and libfdt-dev; a row whose program isn't installed is named, and isn't at its goal. With --old two builds of
 dtool are compared on small inputs of each kind. Counts don't depend on the machine's load.
 
@@ -62,6 +63,16 @@ MADE = {
     "line markers": (0.12, 32_000, lambda n: '# 1 "file.dts" 2\n' * n + SMALLEST),
     "reservations": (0.30, 8_000, lambda n: "/dts-v1/;\n" + "/memreserve/ 0x10000000 0x4000;\n" * n + "/ { };\n"),
 }
+
+# Boards from 0.8 to 105 KB of source, spread by size.
+BOARDS = (
+    "ps3", "or1ksim", "gamecube", "vocore2", "kirkwood-ns2max", "bcm4709-asus-rt-ac87u", "rk3036-evb", "socfpga_arria10_socdk_nand",
+    "rk3188-px3-evb", "imx6sll-evk", "meson-gxl-s905d-sml5442tw", "at91-kizbox3-hs", "imx6dl-gw5913", "rk3328-nanopi-r2s", "zynqmp-zcu102-rev1.1",
+    "imx7d-colibri-aster", "k3-am642-evm", "msm8916-samsung-a3u-eur", "r8a774e1-beacon-rzg2h-kit", "rk3399-nanopc-t4", "k3-j721e-common-proc-board",
+)
+
+# Boards with blobs above 100 KB.
+LARGE_BOARDS = ("tegra30-pegatron-chagall", "sdm845-cheza-r2", "sm8250-sony-xperia-edo-pdx203", "sc7280-herobrine-evoker-r0", "tegra124-nyan-big", "am574x-idk")
 
 
 class Bench:
@@ -147,13 +158,22 @@ def board(bench, source, key):
     }
 
 
+def named(bench, paths, names):
+    """The paths of the boards of some names."""
+    found = {os.path.basename(path).removesuffix(".dts"): path for path in paths}
+    bench.refused += [f"{name}: not in the folder" for name in names if name not in found]
+    return [found[name] for name in names if name in found]
+
+
 def of_boards(bench, folder, count):
     found = [os.path.join(base, name) for base, _, names in os.walk(folder) for name in names if name.endswith(".dts")]
+    chosen, larger = (spread(found, count), []) if count else (named(bench, found, BOARDS), named(bench, found, LARGE_BOARDS))
     with ThreadPoolExecutor(os.cpu_count()) as pool:
-        done = list(pool.map(lambda k: board(bench, k[1], k[0]), enumerate(spread(found, count))))
+        done = list(pool.map(lambda k: board(bench, k[1], k[0]), enumerate(chosen + larger)))
     bench.refused += [line for line in done if isinstance(line, str)]
-    all_boards = [one for one in done if not isinstance(one, str)]
-    large = [one for one in all_boards if one["size"] > 100_000]
+    counted = lambda ones: [one for one in ones if not isinstance(one, str)]
+    all_boards = counted(done[: len(chosen)])
+    large = [one for one in counted(done) if one["size"] > 100_000]
     above = [one for one in all_boards if one["size"] > 8_192]
     each = lambda ones, name: [one[name] for one in ones]
     bench.ratios("compile beside dtc", (0.10,), each(all_boards, "compile"))
@@ -163,7 +183,7 @@ def of_boards(bench, folder, count):
     bench.ratios("print beside dtc -O dts", (0.20,), each(all_boards, "print"))
     bench.ratios("regs beside check", (1.6,), each(above, "regs"))
     bench.ratios("irqs beside check", (1.6,), each(above, "irqs"))
-    bench.ratios("peak memory of compile beside dtc", (0.9, 1.1), each(all_boards, "memory"))
+    bench.ratios("peak memory of compile beside dtc", (0.9, 1.1), each(counted(done), "memory"))
 
 
 def pair(bench, where, names, key):
@@ -272,7 +292,7 @@ def main():
     words.add_argument("tool")
     words.add_argument("--boards")
     words.add_argument("--pairs")
-    words.add_argument("--count", type=int, default=21)
+    words.add_argument("--count", type=int)
     words.add_argument("--old")
     given = words.parse_args()
     lacking = [name for name in ("valgrind", "dtc", "fdtdump", "fdtoverlay", "/usr/bin/time") if not shutil.which(name)]
@@ -289,7 +309,7 @@ def main():
         if given.boards:
             of_boards(bench, given.boards, given.count)
         if given.pairs and given.boards:
-            of_pairs(bench, given.pairs, given.boards, given.count)
+            of_pairs(bench, given.pairs, given.boards, given.count or 21)
         of_made(bench)
         of_memory(bench)
         of_numbers(bench)
