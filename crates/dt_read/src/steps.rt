@@ -28,6 +28,7 @@ pub enum Step<'a> {
 }
 
 /// The step that a tag at an offset is; None where it is the last one.
+#[inline(always)]
 fn step_of<'a>(names: &mut KnownTexts<'a>, at: usize, tag: Tag<'a>) -> Option<Step<'a>>
     requires token { (p : Property) × HasToken names.old tag p }
     requires no_nop { tag ≡ Tag.Nop → ⊥ }
@@ -88,6 +89,7 @@ impl<'a> Steps<'a> {
     }
 
     /// Reads the step at the front.
+    #[inline(always)]
     fn step(&mut self) -> Option<Step<'a>>
         ensures { MatchOption result ((self.old ≡ []) × (self.new ≡ [])) (λ step. self.old ≡ step_view step ∷ self.new) }
     {
@@ -121,6 +123,7 @@ impl<'a> Iterator for Steps<'a> {
 
     ghost remaining = { item_count (λ s. s) };
 
+    #[inline(always)]
     fn next(&mut self) -> Option<Step<'a>> {
         self.step()
     }
