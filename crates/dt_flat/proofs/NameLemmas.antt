@@ -1,6 +1,5 @@
 -- Names and their numbers, as the set of names has them.
 use Rattle.std.proofs.Common.{◌≡◌, ℕ, zero, suc, ◌+◌, ◌<◌, Bool, true, false, not, cond, ◌||◌, List, [], ◌∷◌, ◌++◌, length, map, slice_get, position, Option, Some, None, refl, sym, ap, subst, ◌∙◌, true≢false, inl, inr, arith}
-use Rattle.std.specs.Global.{Vec}
 use Rattle.std.specs.List.{list_any, prefix_len}
 use Rattle.std.specs.Str.{bytes_eq}
 use Rattle.std.specs.Prelude.{nat_lt, MatchOption, if◌then◌else◌}
@@ -8,55 +7,56 @@ use Rattle.std.proofs.lemmas.Bool.{cases_eq, ltb-true, lt-ltb}
 use Rattle.dt_model.specs.Names.{Name}
 use Rattle.dt_model.proofs.Tests.{bytes_eq_true, bytes_eq_differ, bytes_eq_other}
 use Rattle.dt_flat.specs.Names.{text, AreOwn, IsUnknown}
+use Rattle.dt_flat.specs.declared.names.OwnName.{OwnName}
 
 -- the names that a set keeps
-abbrev pub names_kept : List (Vec ℕ) → List Name
-names_kept ks = map (λ name. name.items) ks
+abbrev pub names_kept : List OwnName → List Name
+names_kept ks = map (λ name. name.bytes.items) ks
 
-pub text-get : (ks : List (Vec ℕ)) (k : ℕ) (v : Vec ℕ) → slice_get ks k ≡ Some v → text (names_kept ks) k ≡ v.items
+pub text-get : (ks : List OwnName) (k : ℕ) (v : OwnName) → slice_get ks k ≡ Some v → text (names_kept ks) k ≡ v.bytes.items
 text-get [] k v e = cc
-text-get (x ∷ xs) zero v e = let same : x ≡ v = cc in ap (λ (y : Vec ℕ). y.items) same
+text-get (x ∷ xs) zero v e = let same : x ≡ v = cc in ap (λ (y : OwnName). y.bytes.items) same
 text-get (x ∷ xs) (suc k) v e = text-get xs k v e
 
 -- the name at a number that has one
-pub text-there : (ks : List (Vec ℕ)) (names : List Name) (k : ℕ) (v : Vec ℕ) → names_kept ks ≡ names → slice_get ks k ≡ Some v → (k < length names) × (text names k ≡ v.items)
-text-there ks names k v view e = subst (λ (ns : List Name). (k < length ns) × (text ns k ≡ v.items)) view (within ks k e, text-get ks k v e)
+pub text-there : (ks : List OwnName) (names : List Name) (k : ℕ) (v : OwnName) → names_kept ks ≡ names → slice_get ks k ≡ Some v → (k < length names) × (text names k ≡ v.bytes.items)
+text-there ks names k v view e = subst (λ (ns : List Name). (k < length ns) × (text ns k ≡ v.bytes.items)) view (within ks k e, text-get ks k v e)
   where
-    within : (ks : List (Vec ℕ)) (k : ℕ) → slice_get ks k ≡ Some v → k < length (names_kept ks)
+    within : (ks : List OwnName) (k : ℕ) → slice_get ks k ≡ Some v → k < length (names_kept ks)
     within [] k e = cc
     within (x ∷ xs) zero e = omega arith
     within (x ∷ xs) (suc k) e = let lt = within xs k e in omega (arith, lt)
 
-pub length-names : (ks : List (Vec ℕ)) → length (names_kept ks) ≡ length ks
+pub length-names : (ks : List OwnName) → length (names_kept ks) ≡ length ks
 length-names [] = refl
 length-names (x ∷ xs) = ap suc (length-names xs)
 
 -- ---- a name is looked for
 
 -- how many names stand before it
-abbrev before : List (Vec ℕ) → Name → ℕ
-before ks name = prefix_len (λ v. not (bytes_eq name v.items)) ks
+abbrev before : List OwnName → Name → ℕ
+before ks name = prefix_len (λ v. not (bytes_eq name v.bytes.items)) ks
 
-text-before : (ks : List (Vec ℕ)) (name : Name) → before ks name < length ks → text (names_kept ks) (before ks name) ≡ name
+text-before : (ks : List OwnName) (name : Name) → before ks name < length ks → text (names_kept ks) (before ks name) ≡ name
 text-before [] name lt = absurd (omega arith)
-text-before (x ∷ xs) name lt = by (bytes_eq name x.items) refl (before xs name) (text-before xs name) lt
+text-before (x ∷ xs) name lt = by (bytes_eq name x.bytes.items) refl (before xs name) (text-before xs name) lt
   where
-    by : (b : Bool) → bytes_eq name x.items ≡ b → (n : ℕ) → (n < length xs → text (names_kept xs) n ≡ name)
-        → cond (not b) (1 + n) 0 < suc (length xs) → text (x.items ∷ names_kept xs) (cond (not b) (1 + n) 0) ≡ name
-    by true e n rec l = sym (bytes_eq_true name x.items e)
-    by false e n rec l = let s : 1 + n ≡ suc n = omega arith in ap (text (x.items ∷ names_kept xs)) s ∙ rec (omega (arith, l))
+    by : (b : Bool) → bytes_eq name x.bytes.items ≡ b → (n : ℕ) → (n < length xs → text (names_kept xs) n ≡ name)
+        → cond (not b) (1 + n) 0 < suc (length xs) → text (x.bytes.items ∷ names_kept xs) (cond (not b) (1 + n) 0) ≡ name
+    by true e n rec l = sym (bytes_eq_true name x.bytes.items e)
+    by false e n rec l = let s : 1 + n ≡ suc n = omega arith in ap (text (x.bytes.items ∷ names_kept xs)) s ∙ rec (omega (arith, l))
 
-unknown-before : (ks : List (Vec ℕ)) (name : Name) → (before ks name < length ks → ⊥) → IsUnknown (names_kept ks) name
+unknown-before : (ks : List OwnName) (name : Name) → (before ks name < length ks → ⊥) → IsUnknown (names_kept ks) name
 unknown-before [] name none = λ i lt. absurd (omega (arith, lt))
-unknown-before (x ∷ xs) name none = by (bytes_eq name x.items) refl (before xs name) (unknown-before xs name) none
+unknown-before (x ∷ xs) name none = by (bytes_eq name x.bytes.items) refl (before xs name) (unknown-before xs name) none
   where
-    by : (b : Bool) → bytes_eq name x.items ≡ b → (n : ℕ) → ((n < length xs → ⊥) → IsUnknown (names_kept xs) name)
-        → (cond (not b) (1 + n) 0 < suc (length xs) → ⊥) → IsUnknown (x.items ∷ names_kept xs) name
+    by : (b : Bool) → bytes_eq name x.bytes.items ≡ b → (n : ℕ) → ((n < length xs → ⊥) → IsUnknown (names_kept xs) name)
+        → (cond (not b) (1 + n) 0 < suc (length xs) → ⊥) → IsUnknown (x.bytes.items ∷ names_kept xs) name
     by true e n rec l i lt = absurd (l (omega arith))
-    by false e n rec l zero lt = λ same. bytes_eq_differ name x.items e (sym same)
+    by false e n rec l zero lt = λ same. bytes_eq_differ name x.bytes.items e (sym same)
     by false e n rec l (suc i) lt = rec (λ h. l (omega (arith, h))) i (omega (arith, lt))
 
-pub found : (ks : List (Vec ℕ)) (name : Name) (r : Option ℕ) → r ≡ position (λ (v : Vec ℕ). bytes_eq name v.items) ks
+pub found : (ks : List OwnName) (name : Name) (r : Option ℕ) → r ≡ position (λ (v : OwnName). bytes_eq name v.bytes.items) ks
     → MatchOption r (IsUnknown (names_kept ks) name) (λ id. (id < length (names_kept ks)) × (text (names_kept ks) id ≡ name))
 found ks name r is = by (nat_lt (before ks name) (length ks)) refl r is
   where
@@ -72,19 +72,19 @@ found ks name r is = by (nat_lt (before ks name) (length ks)) refl r is
 
 -- ---- one more name
 
-any-unknown : (ks : List (Vec ℕ)) (v : Vec ℕ) → IsUnknown (names_kept ks) v.items → list_any (λ (k : Vec ℕ). bytes_eq v.items k.items) ks ≡ false
+any-unknown : (ks : List OwnName) (v : OwnName) → IsUnknown (names_kept ks) v.bytes.items → list_any (λ (k : OwnName). bytes_eq v.bytes.items k.bytes.items) ks ≡ false
 any-unknown [] v none = refl
 any-unknown (x ∷ xs) v none =
-    let head : bytes_eq v.items x.items ≡ false = bytes_eq_other v.items x.items (λ e. none 0 (omega arith) (sym e)) in
-    ap (λ (b : Bool). b || list_any (λ (k : Vec ℕ). bytes_eq v.items k.items) xs) head ∙ any-unknown xs v (λ i lt. none (suc i) (omega (arith, lt)))
+    let head : bytes_eq v.bytes.items x.bytes.items ≡ false = bytes_eq_other v.bytes.items x.bytes.items (λ e. none 0 (omega arith) (sym e)) in
+    ap (λ (b : Bool). b || list_any (λ (k : OwnName). bytes_eq v.bytes.items k.bytes.items) xs) head ∙ any-unknown xs v (λ i lt. none (suc i) (omega (arith, lt)))
 
-pub names-push : (ks : List (Vec ℕ)) (v : Vec ℕ) → names_kept (ks ++ v ∷ []) ≡ names_kept ks ++ v.items ∷ []
+pub names-push : (ks : List OwnName) (v : OwnName) → names_kept (ks ++ v ∷ []) ≡ names_kept ks ++ v.bytes.items ∷ []
 names-push [] v = refl
-names-push (x ∷ xs) v = ap (λ (ns : List Name). x.items ∷ ns) (names-push xs v)
+names-push (x ∷ xs) v = ap (λ (ns : List Name). x.bytes.items ∷ ns) (names-push xs v)
 
 -- the names that are kept once an unknown one is inserted
-pub names-insert : (ks new : List (Vec ℕ)) (v : Vec ℕ) → IsUnknown (names_kept ks) v.items
-    → new ≡ (if list_any (λ (k : Vec ℕ). bytes_eq v.items k.items) ks then ks else ks ++ v ∷ []) → names_kept new ≡ names_kept ks ++ v.items ∷ []
+pub names-insert : (ks new : List OwnName) (v : OwnName) → IsUnknown (names_kept ks) v.bytes.items
+    → new ≡ (if list_any (λ (k : OwnName). bytes_eq v.bytes.items k.bytes.items) ks then ks else ks ++ v ∷ []) → names_kept new ≡ names_kept ks ++ v.bytes.items ∷ []
 names-insert ks new v none is =
     ap names_kept (is ∙ ap (λ (b : Bool). cond b ks (ks ++ v ∷ [])) (any-unknown ks v none)) ∙ names-push ks v
 

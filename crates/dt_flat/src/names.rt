@@ -4,19 +4,57 @@ ghost use Rattle.std.specs.Prelude.{◌≡◌, ◌<◌, ◌++◌, ◌∷◌, [],
 ghost use Rattle.dt_flat.specs.Names.{text, AreOwn, IsUnknown, IsNoted};
 
 use crate::recent::RecentNumbers;
-use dt_names::Seed;
-use indexmap::IndexSet;
+use dt_names::{NameKey, Seed};
+use indexmap::{Equivalent, IndexSet};
 use std::alloc::{AllocError, Global};
+use std::hash::{Hash, Hasher};
 use std::marker::Model;
 
 /// The number of a name, in the order in which names came.
 pub(crate) type NameId = usize;
 
+/// A name that a table owns. It is found by a [`NameKey`], and hashed as one.
+#[derive(Drop, PartialEq, Eq)]
+pub(crate) struct OwnName {
+    bytes: Vec<u8>,
+}
+
+impl Hash for OwnName {
+    ghost use Rattle.std.specs.Cmp.Lexicographic.{bytes_decides};
+    ghost use Rattle.std.specs.Hash.{on_Alike, same_Alike};
+    ghost use Rattle.std.specs.Prelude.{[], ◌∷◌};
+
+    ghost hash_input = { λ n. n.bytes.items ∷ [] };
+
+    ghost respects_eq = { (on_Alike (λ n. n.bytes.items) (same_Alike (λ bytes. bytes ∷ []) bytes_decides)).fed };
+
+    fn hash<H: Hasher>(&self, state: &mut H) {
+        state.write(self.bytes.as_slice());
+    }
+}
+
+impl<'a> Equivalent<OwnName> for NameKey<'a> {
+    ghost use Rattle.std.proofs.Common.{ap};
+    ghost use Rattle.std.specs.Cmp.Lexicographic.{bytes_decides, lists_equiv, nat_list_eq_equiv};
+    ghost use Rattle.std.specs.Prelude.{[], ◌∷◌};
+    ghost use Rattle.std.specs.Str.{bytes_eq};
+
+    ghost equivalent = { λ q n. bytes_eq q.bytes.now n.bytes.items };
+
+    ghost respects_hash = { λ q n e. ap (λ bytes. bytes ∷ []) ((bytes_decides q.bytes.now n.bytes.items).0 e) };
+
+    ghost respects_eq = { λ q x y. nat_list_eq_equiv.congr q.bytes.now x.bytes.items y.bytes.items };
+
+    fn equivalent(&self, name: &OwnName) -> bool {
+        self.bytes == name.bytes.as_slice()
+    }
+}
+
 /// Names of nodes and of properties.
 #[derive(Drop)]
 pub(crate) struct NameTable {
     alloc: Global,
-    names: IndexSet<Vec<u8>, Seed>,
+    names: IndexSet<OwnName, Seed>,
     recent: RecentNumbers,
 }
 
@@ -27,9 +65,9 @@ impl Model for NameTable {
 
     ghost Value = { List Name };
 
-    ghost view = { λ t. map (λ name. name.items) t.names.keys };
+    ghost view = { λ t. map (λ name. name.bytes.items) t.names.keys };
 
-    ghost invariant = { λ t. AreOwn (map (λ name. name.items) t.names.keys) };
+    ghost invariant = { λ t. AreOwn (map (λ name. name.bytes.items) t.names.keys) };
 }
 
 impl NameTable {
@@ -57,7 +95,7 @@ impl NameTable {
         ensures { result.now ≡ text self.now id }
     {
         match self.names.get_index(id) {
-            Some(name) => name.as_slice(),
+            Some(name) => name.bytes.as_slice(),
             None => unreachable!(),
         }
     }
@@ -68,7 +106,7 @@ impl NameTable {
     {
         let id = self.recent.number(name);
         let found = self.names.get_index(id)?;
-        if found.as_slice() == name {
+        if found.bytes.as_slice() == name {
             Some(id)
         } else {
             None
@@ -81,7 +119,7 @@ impl NameTable {
     {
         match self.find_recent(name) {
             Some(id) => Some(id),
-            None => self.names.get_index_of(name),
+            None => self.names.get_index_of(NameKey { bytes: name }),
         }
     }
 
@@ -90,8 +128,8 @@ impl NameTable {
         ensures noted { IfOk result (λ id. IsNoted self.old self.new name.now id) }
         ensures err { OnErr result (self.new ≡ self.old) }
     {
-        let name = Vec::from_slice(self.alloc, name)?;
-        let (id, _) = self.names.insert_full(name)?;
+        let bytes = Vec::from_slice(self.alloc, name)?;
+        let (id, _) = self.names.insert_full(OwnName { bytes })?;
         Ok(id)
     }
 

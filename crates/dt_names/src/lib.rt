@@ -12,6 +12,7 @@
 #![tactic(auto)]
 
 mod fault;
+mod key;
 mod laws;
 pub mod limits;
 mod name;
@@ -21,6 +22,7 @@ mod seed;
 mod stream;
 
 pub use fault::{Fault, FaultKind};
+pub use key::NameKey;
 pub use laws::{one_outcome, one_path};
 pub use name::{Label, NodeName, PropName, is_bookkeeping_name};
 pub use path::{Path, PathNames, PathRef};

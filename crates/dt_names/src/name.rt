@@ -162,6 +162,14 @@ impl<'a> NodeName<'a> {
         }
     }
 
+    /// Bytes that are known to be a node's name. Looks at none of them.
+    pub fn known(bytes: &'a [u8]) -> NodeName<'a>
+        requires { IsNodeName bytes.now }
+        ensures { result ≡ bytes.now }
+    {
+        NodeName { bytes }
+    }
+
     /// The bytes of the name.
     pub fn as_bytes(&self) -> &'a [u8]
         ensures value { result.now ≡ self.now }
@@ -187,6 +195,14 @@ impl<'a> PropName<'a> {
         } else {
             Err(Fault::of(FaultKind::BadName))
         }
+    }
+
+    /// Bytes that are known to be a property's name. Looks at none of them.
+    pub fn known(bytes: &'a [u8]) -> PropName<'a>
+        requires { IsPropertyName bytes.now }
+        ensures { result ≡ bytes.now }
+    {
+        PropName { name: bytes }
     }
 
     /// The bytes of the name.

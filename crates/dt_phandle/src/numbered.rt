@@ -82,7 +82,7 @@ fn set_properties(
 {
     for property in properties {
         let value = value_in(bytes, &property.value, numbering)?;
-        let name = PropName::new(property.name)?;
+        let name = PropName::known(property.name);
         tree.set_prop(id, &name, value)?;
     }
     Ok(())
@@ -138,7 +138,7 @@ fn add(
     ensures tree { OnOk result (tree.new ≡ record tree.old { slots = with_node numbering.now tree.old.slots (node_said node.now) }) }
     ensures refused { IfErr result IsNoMemory }
 {
-    let name = NodeName::new(node.name.as_slice())?;
+    let name = NodeName::known(node.name.as_slice());
     let id = tree.add_node(node.parent, &name)?;
     fill_node(tree, bytes, id, node, numbering)
 }

@@ -30,7 +30,7 @@ fn begin(tree: &mut FlatTree, open_nodes: &mut OpenNodes, name: &[u8]) -> Result
         open_nodes.push(tree.root());
         return Ok(());
     };
-    let name = NodeName::new(name)?;
+    let name = NodeName::known(name);
     let node = tree.add_node(parent, &name)?;
     open_nodes.push(node);
     Ok(())
@@ -46,7 +46,7 @@ fn set(tree: &mut FlatTree, open_nodes: &OpenNodes, name: &[u8], value: &[u8]) -
     let Some(node) = open_nodes.innermost() else {
         unreachable!()
     };
-    let name = PropName::new(name)?;
+    let name = PropName::known(name);
     tree.set_prop(node, &name, value)?;
     Ok(())
 }

@@ -1,11 +1,12 @@
 -- Changes of the lists and tables of a tree under construction are changes of its shape.
-use Rattle.std.proofs.Common.{◌≡◌, ℕ, ◌+◌, ◌<◌, Bool, true, false, List, [], ◌∷◌, ◌++◌, Option, Some, None, Bor, ◌&&◌, cond, nat_eq, length, slice_get, slice_set, option_map, refl, sym, ◌∙◌, ap, subst, arith, length-append}
+use Rattle.std.proofs.Common.{◌≡◌, ℕ, ◌+◌, ◌<◌, Bool, true, false, List, [], ◌∷◌, ◌++◌, Option, Some, None, ◌&&◌, cond, nat_eq, length, slice_get, slice_set, option_map, refl, sym, ◌∙◌, ap, subst, arith, length-append}
 use Rattle.std.specs.Option.{option_and_then, option_map_or}
 use Rattle.std.specs.Str.{bytes_eq}
 use Rattle.std.proofs.lemmas.Option.{slice_get_within}
 use Rattle.std.proofs.lemmas.Bool.{eqb-true, eq-eqb}
 use Rattle.dt_model.specs.Names.{Name}
 use Rattle.dt_model.specs.Source.{Part}
+use Rattle.dt_names.specs.declared.key.NameKey.{NameKey}
 use Rattle.dt_source_growing.specs.Grown.{name_said, value_held}
 use Rattle.dt_source_growing.specs.Table.{Key, entry, Puts, name_entry, PutsName}
 use Rattle.dt_source_growing.specs.Shape.{Shape, begun, MakesRoot, AddsChild, OpensChild, Cuts, Defines, Undefines, Gives}
@@ -29,7 +30,7 @@ item_of_put old new i x w puts j y = ap (option_map (λ (e : Last). e.item)) (pu
     through true = refl
     through false = refl
 
-module _ (properties : List Property) (indices : List (Key × Last)) (givings : List Giving) (labels : List (Bor (List ℕ) × ℕ)) where
+module _ (properties : List Property) (indices : List (Key × Last)) (givings : List Giving) (labels : List (NameKey × ℕ)) where
   pub makes_root : (nodes new : List Node) (children : List (Key × Last)) (n : Node) → HasNodes nodes children → length nodes ≡ 0 → new ≡ nodes ++ n ∷ []
       → MakesRoot (shape_of nodes children properties indices givings labels) (shape_of new children properties indices givings labels)
   makes_root nodes new children n h none e = record {
@@ -99,7 +100,7 @@ module _ (properties : List Property) (indices : List (Key × Last)) (givings : 
     labels = record { givings = refl; given = refl };
   }
 
-module _ (nodes : List Node) (children : List (Key × Last)) (givings : List Giving) (labels : List (Bor (List ℕ) × ℕ)) where
+module _ (nodes : List Node) (children : List (Key × Last)) (givings : List Giving) (labels : List (NameKey × ℕ)) where
   -- a property that stands is written over
   pub defines_again : (properties : List Property) (indices found' : List (Key × Last)) (k : ℕ) (q r : Property) (i : ℕ) (x : Name) (w : Last) → slice_get properties k ≡ Some q
       → r.node ≡ q.node → r.name.now ≡ q.name.now → r.stands ≡ q.stands → Puts indices found' i x w → w.index ≡ k → found (properties_listed properties indices) i x ≡ Some k
@@ -200,7 +201,7 @@ to_node-new : (givings : List Giving) (g : Giving) (i k : ℕ) → k ≡ length 
 to_node-new givings g i k e = ap (option_and_then (λ (h : Giving). cond (nat_eq h.node i) (Some k) None)) (slice_get-push_new givings g k e)
 
 module _ (nodes : List Node) (children : List (Key × Last)) (properties : List Property) (indices : List (Key × Last)) where
-  pub gives : (givings new : List Giving) (labels found' : List (Bor (List ℕ) × ℕ)) (s : Shape (List Part)) (g : Giving) → HasLabels s givings labels → new ≡ givings ++ g ∷ []
+  pub gives : (givings new : List Giving) (labels found' : List (NameKey × ℕ)) (s : Shape (List Part)) (g : Giving) → HasLabels s givings labels → new ≡ givings ++ g ∷ []
       → (w : ℕ) → w ≡ length givings → PutsName labels found' g.label.now w
       → Gives (shape_of nodes children properties indices givings labels) (shape_of nodes children properties indices new found') g.label.now g.node
   gives givings new labels found' s g h e w index puts =

@@ -1,5 +1,5 @@
 -- A change of a tree under construction keeps what its tables say.
-use Rattle.std.proofs.Common.{◌≡◌, ℕ, ◌+◌, ◌<◌, ◌≤◌, Bool, true, false, List, [], ◌∷◌, ◌++◌, Option, Some, None, Bor, cond, nat_eq, suc, zero, length, slice_get, slice_set, refl, sym, ◌∙◌, ap, subst, arith, length-append}
+use Rattle.std.proofs.Common.{◌≡◌, ℕ, ◌+◌, ◌<◌, ◌≤◌, Bool, true, false, List, [], ◌∷◌, ◌++◌, Option, Some, None, cond, nat_eq, suc, zero, length, slice_get, slice_set, refl, sym, ◌∙◌, ap, subst, arith, length-append}
 use Rattle.std.specs.Option.{option_and_then, option_map_or}
 use Rattle.std.specs.Str.{bytes_eq}
 use Rattle.std.proofs.lemmas.Option.{option_and_then_some, slice_get_within}
@@ -8,6 +8,7 @@ use Rattle.dt_model.specs.Names.{Name}
 use Rattle.dt_model.specs.Event.{Stack}
 use Rattle.dt_model.specs.Source.{Part}
 use Rattle.dt_model.proofs.EventSteps.{bytes_eq-is, bytes_eq-refl}
+use Rattle.dt_names.specs.declared.key.NameKey.{NameKey}
 use Rattle.dt_source_growing.specs.Grown.{name_said}
 use Rattle.dt_source_growing.specs.Table.{Key, Puts, name_entry, PutsName}
 use Rattle.dt_source_growing.specs.Shape.{Shape, node_at, given_at, IsForest}
@@ -214,14 +215,14 @@ to_node_is givings i j k h = by (slice_get givings j) refl h
     by (Some g) e h = let t = test g (nat_eq g.node i) refl h in (t.0, (g, e, t.1))
 
 -- what is found as the giving of a label to a node
-pub record IsGiven (givings : List Giving) (entries : List (Bor (List ℕ) × ℕ)) (i : ℕ) (l : Name) (k : ℕ) : Type 0 where
+pub record IsGiven (givings : List Giving) (entries : List (NameKey × ℕ)) (i : ℕ) (l : Name) (k : ℕ) : Type 0 where
   pub giving : Giving
   pub there : slice_get givings k ≡ Some giving
   pub node : giving.node ≡ i
   pub label : giving.label.now ≡ l
   pub found : name_entry entries l ≡ Some k
 
-pub is_given : (s : Shape (List Part)) (givings : List Giving) (entries : List (Bor (List ℕ) × ℕ)) → HasLabels s givings entries → (i : ℕ) (l : Name) (k : ℕ)
+pub is_given : (s : Shape (List Part)) (givings : List Giving) (entries : List (NameKey × ℕ)) → HasLabels s givings entries → (i : ℕ) (l : Name) (k : ℕ)
     → given_to givings entries i l ≡ Some k → IsGiven givings entries i l k
 is_given s givings entries h i l k e =
     option_and_then_some (to_node givings i) (name_entry entries l) k e
@@ -239,14 +240,14 @@ is_given s givings entries h i l k e =
     })
 
 -- and the other way round
-pub given_is : (givings : List Giving) (entries : List (Bor (List ℕ) × ℕ)) (l : Name) (k : ℕ) (g : Giving) → name_entry entries l ≡ Some k → slice_get givings k ≡ Some g
+pub given_is : (givings : List Giving) (entries : List (NameKey × ℕ)) (l : Name) (k : ℕ) (g : Giving) → name_entry entries l ≡ Some k → slice_get givings k ≡ Some g
     → given_to givings entries g.node l ≡ Some k
 given_is givings entries l k g e there =
     ap (option_and_then (to_node givings g.node)) e ∙ ap (option_and_then (λ (h : Giving). cond (nat_eq h.node g.node) (Some k) None)) there
     ∙ ap (λ b. cond b (Some k) None) (eq-eqb g.node g.node refl)
 
 -- where the nodes that stand stood, the labels stay
-pub labels-kept : (s t : Shape (List Part)) (givings : List Giving) (entries : List (Bor (List ℕ) × ℕ)) → s.size ≤ t.size
+pub labels-kept : (s t : Shape (List Part)) (givings : List Giving) (entries : List (NameKey × ℕ)) → s.size ≤ t.size
     → ((p : Stack) (i : ℕ) → i < s.size → node_at t p ≡ Some i → node_at s p ≡ Some i) → HasLabels s givings entries → HasLabels t givings entries
 labels-kept s t givings entries le stood h = record {
   sound = h.sound;
@@ -255,7 +256,7 @@ labels-kept s t givings entries le stood h = record {
 }
 
 -- a label that no node has is given
-pub label-given : (s t : Shape (List Part)) (givings : List Giving) (g : Giving) (old new : List (Bor (List ℕ) × ℕ)) (w : ℕ) → t.size ≡ s.size → ((p : Stack) → node_at t p ≡ node_at s p)
+pub label-given : (s t : Shape (List Part)) (givings : List Giving) (g : Giving) (old new : List (NameKey × ℕ)) (w : ℕ) → t.size ≡ s.size → ((p : Stack) → node_at t p ≡ node_at s p)
     → s.given ≡ given_to givings old → HasLabels s givings old → g.node < s.size → ((p : Stack) → given_at s (p, g.label.now) ≡ None) → PutsName old new g.label.now w → w ≡ length givings
     → HasLabels t (givings ++ g ∷ []) new
 label-given s t givings g old new w size same given h inside alone puts index = record {
@@ -290,7 +291,7 @@ label-given s t givings g old new w size same given h inside alone puts index = 
             cc
         by false f = puts x.label.now ∙ ap (λ c. cond c (Some w) (name_entry old x.label.now)) f ∙ was
 
-pub labels-given : (s t : Shape (List Part)) (givings more : List Giving) (g : Giving) (old new : List (Bor (List ℕ) × ℕ)) (w : ℕ) → t.size ≡ s.size → ((p : Stack) → node_at t p ≡ node_at s p)
+pub labels-given : (s t : Shape (List Part)) (givings more : List Giving) (g : Giving) (old new : List (NameKey × ℕ)) (w : ℕ) → t.size ≡ s.size → ((p : Stack) → node_at t p ≡ node_at s p)
     → s.given ≡ given_to givings old → HasLabels s givings old → g.node < s.size → ((p : Stack) → given_at s (p, g.label.now) ≡ None) → PutsName old new g.label.now w → w ≡ length givings
     → more ≡ givings ++ g ∷ [] → HasLabels t more new
 labels-given s t givings more g old new w size same given h inside alone puts index e =

@@ -1,5 +1,5 @@
 -- A change of the hash map is a change of the table.
-use Rattle.std.proofs.Common.{◌≡◌, ℕ, Bool, true, false, List, Some, None, Result, Ok, Err, Bor, ◌&&◌, nat_eq, refl, sym, ◌∙◌, ap}
+use Rattle.std.proofs.Common.{◌≡◌, ℕ, Bool, true, false, List, Some, None, Result, Ok, Err, ◌&&◌, nat_eq, refl, sym, ◌∙◌, ap}
 use Rattle.std.specs.Prelude.{OnOk, OnErr, cond}
 use Rattle.std.specs.HashMap.{HashMap, UpdatesBy}
 use Rattle.std.specs.Str.{bytes_eq}
@@ -7,6 +7,7 @@ use Rattle.std.proofs.lemmas.Bool.{eqb-true, eq-eqb}
 use Rattle.std.proofs.lemmas.Slice.Eq.{bytes_eq-Decides}
 use Rattle.dt_model.proofs.EventSteps.{bytes_eq-refl}
 use Rattle.dt_model.specs.Names.{Name}
+use Rattle.dt_names.specs.declared.key.NameKey.{NameKey}
 use Rattle.dt_source_growing.specs.Table.{Key, entry, Puts, PutsName}
 use Rattle.dt_source_growing.specs.declared.table.Last.{Last}
 
@@ -24,15 +25,15 @@ key-refl i x = rw (eq-eqb i i refl) (bytes_eq-refl x)
 
 -- the hash map's change is the table's
 pub puts_from_updates : {S : Type 0} (m n : HashMap Key Last S) (k : Key) (w : Last)
-    → UpdatesBy (λ (a b : Key). nat_eq a.0 b.0 && bytes_eq a.1.now b.1.now) (λ (b : Key). nat_eq k.0 b.0 && bytes_eq k.1.now b.1.now) m n (Some w)
-    → Puts m.entries n.entries k.0 k.1.now w
-puts_from_updates m n k w u j y = u.0 (j, record k.1 { now = y })
+    → UpdatesBy (λ (a b : Key). nat_eq a.0 b.0 && bytes_eq a.1.bytes.now b.1.bytes.now) (λ (b : Key). nat_eq k.0 b.0 && bytes_eq k.1.bytes.now b.1.bytes.now) m n (Some w)
+    → Puts m.entries n.entries k.0 k.1.bytes.now w
+puts_from_updates m n k w u j y = u.0 (j, record { bytes = record k.1.bytes { now = y } })
 
 -- the same of a table of names alone
-pub puts_name_from_updates : {S : Type 0} (m n : HashMap (Bor (List ℕ)) ℕ S) (k : Bor (List ℕ)) (w : ℕ)
-    → UpdatesBy (λ (a b : Bor (List ℕ)). bytes_eq a.now b.now) (λ (b : Bor (List ℕ)). bytes_eq k.now b.now) m n (Some w)
-    → PutsName m.entries n.entries k.now w
-puts_name_from_updates m n k w u y = u.0 (record k { now = y })
+pub puts_name_from_updates : {S : Type 0} (m n : HashMap NameKey ℕ S) (k : NameKey) (w : ℕ)
+    → UpdatesBy (λ (a b : NameKey). bytes_eq a.bytes.now b.bytes.now) (λ (b : NameKey). bytes_eq k.bytes.now b.bytes.now) m n (Some w)
+    → PutsName m.entries n.entries k.bytes.now w
+puts_name_from_updates m n k w u y = u.0 (record { bytes = record k.bytes { now = y } })
 
 module _ (old mid new : List (Key × Last)) (i : ℕ) (x : Name) (v w : Last) where
   -- of two puts the second counts

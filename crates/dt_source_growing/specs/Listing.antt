@@ -1,6 +1,5 @@
 -- The things of a tree under construction as functions, and what holds of its tables.
 use Rattle.std.specs.Prelude.{◌≡◌, ℕ, ◌+◌, ◌≤◌, ◌<◌, Bool, true, false, ◌&&◌, List, [], length, Option, None, Some, cond, nat_eq, slice_get, option_map, option_and_then}
-use Rattle.std.specs.Borrow.{Bor}
 use Rattle.std.specs.Option.{option_map_or}
 use Rattle.std.specs.Str.{bytes_eq}
 use Rattle.dt_model.specs.Names.{Name}
@@ -12,6 +11,7 @@ use Rattle.dt_source_growing.specs.Table.{Key, entry, name_entry}
 use Rattle.dt_source_growing.specs.declared.table.Last.{Last}
 use Rattle.dt_source_growing.specs.declared.growing.Node.{Node}
 use Rattle.dt_source_growing.specs.declared.growing.Property.{Property}
+use Rattle.dt_names.specs.declared.key.NameKey.{NameKey}
 use Rattle.dt_source_growing.specs.declared.growing.Giving.{Giving}
 
 -- ---- things by an owner and a name
@@ -95,10 +95,10 @@ abbrev pub to_node : List Giving → ℕ → ℕ → Option ℕ
 to_node givings i k = option_and_then (λ g. cond (nat_eq g.node i) (Some k) None) (slice_get givings k)
 
 -- the last giving of the label, where it is to the node
-abbrev pub given_to : List Giving → List (Bor (List ℕ) × ℕ) → ℕ → Name → Option ℕ
+abbrev pub given_to : List Giving → List (NameKey × ℕ) → ℕ → Name → Option ℕ
 given_to givings entries i l = option_and_then (to_node givings i) (name_entry entries l)
 
-abbrev pub shape_of : List Node → List (Key × Last) → List Property → List (Key × Last) → List Giving → List (Bor (List ℕ) × ℕ) → Shape (List Part)
+abbrev pub shape_of : List Node → List (Key × Last) → List Property → List (Key × Last) → List Giving → List (NameKey × ℕ) → Shape (List Part)
 shape_of nodes children properties indices givings labels = record {
   size = length nodes;
   child = found (nodes_listed nodes children);
@@ -124,14 +124,14 @@ pub record HasProperties (size : ℕ) (properties : List Property) (indices : Li
   pub owned : (k : ℕ) (q : Property) → slice_get properties k ≡ Some q → q.node < size
 
 -- a giving that is found is one of the label; and those to nodes that stand are found
-pub record HasLabels (s : Shape (List Part)) (givings : List Giving) (labels : List (Bor (List ℕ) × ℕ)) : Type 0 where
+pub record HasLabels (s : Shape (List Part)) (givings : List Giving) (labels : List (NameKey × ℕ)) : Type 0 where
   pub sound : (l : Name) (k : ℕ) → name_entry labels l ≡ Some k → option_map (λ g. g.label.now) (slice_get givings k) ≡ Some l
   pub owned : (k : ℕ) (g : Giving) → slice_get givings k ≡ Some g → g.node < s.size
   pub latest : (p : Stack) (k : ℕ) (g : Giving) → slice_get givings k ≡ Some g → node_at s p ≡ Some g.node → name_entry labels g.label.now ≡ Some k
 
 -- the tables find what stands, and nothing else
 pub record IsSound (nodes : List Node) (children : List (Key × Last)) (properties : List Property) (indices : List (Key × Last))
-    (givings : List Giving) (labels : List (Bor (List ℕ) × ℕ)) : Type 0 where
+    (givings : List Giving) (labels : List (NameKey × ℕ)) : Type 0 where
   pub has_nodes : HasNodes nodes children
   pub has_properties : HasProperties (length nodes) properties indices
   pub has_labels : HasLabels (shape_of nodes children properties indices givings labels) givings labels

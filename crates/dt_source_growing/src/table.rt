@@ -3,7 +3,7 @@
 ghost use Rattle.std.specs.Prelude.{◌≡◌, [], None, IfOk, OnOk, OnErr};
 ghost use Rattle.dt_source_growing.specs.Table.{entry, Puts, name_entry, PutsName};
 
-use dt_names::Seed;
+use dt_names::{NameKey, Seed};
 use std::alloc::{AllocError, Global};
 use std::collections::HashMap;
 
@@ -17,13 +17,13 @@ pub struct Last {
 /// From the index of an owner and a name.
 #[derive(Drop)]
 pub struct Table<'a> {
-    pub map: HashMap<(usize, &'a [u8]), Last, Seed>,
+    pub map: HashMap<(usize, NameKey<'a>), Last, Seed>,
 }
 
 /// From a name to an index.
 #[derive(Drop)]
 pub struct NameTable<'a> {
-    pub map: HashMap<&'a [u8], usize, Seed>,
+    pub map: HashMap<NameKey<'a>, usize, Seed>,
 }
 
 impl<'a> Table<'a> {
@@ -39,7 +39,7 @@ impl<'a> Table<'a> {
     pub fn get(&self, owner: usize, name: &[u8]) -> Option<Last>
         ensures { result ≡ entry self.now.map.entries owner name.now }
     {
-        self.map.get(&(owner, name)).copied()
+        self.map.get(&(owner, NameKey { bytes: name })).copied()
     }
 
     /// Puts what was last made of an owner and a name, and answers what was before it. Only a new one takes memory.
@@ -54,7 +54,7 @@ impl<'a> Table<'a> {
         ensures err { OnErr result (self.new.map.entries ≡ self.old.map.entries) }
         ensures absent { OnErr result (entry self.old.map.entries owner name.now ≡ None) }
     {
-        let before = self.map.insert((owner, name), last)?;
+        let before = self.map.insert((owner, NameKey { bytes: name }), last)?;
         Ok(before)
     }
 }
@@ -71,14 +71,14 @@ impl<'a> NameTable<'a> {
     pub fn get(&self, name: &[u8]) -> Option<usize>
         ensures { result ≡ name_entry self.now.map.entries name.now }
     {
-        self.map.get(name).copied()
+        self.map.get(&NameKey { bytes: name }).copied()
     }
 
     pub fn put(&mut self, name: &'a [u8], value: usize) -> Result<(), AllocError>
         ensures ok { OnOk result (PutsName self.old.map.entries self.new.map.entries name.now value) }
         ensures err { OnErr result (self.new.map.entries ≡ self.old.map.entries) }
     {
-        self.map.insert(name, value)?;
+        self.map.insert(NameKey { bytes: name }, value)?;
         Ok(())
     }
 }

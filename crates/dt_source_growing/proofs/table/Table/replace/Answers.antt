@@ -3,4 +3,4 @@ use Rattle.dt_source_growing.proofs.table.Table.replace.Goals as goal
 
 pub returns-clause-ok : goal.returns-clause-ok
 returns-clause-ok c =
-    λ j y. puts_from_updates c.args.self.now.map c.insert.new.self (c.args.owner, c.args.name) _ c.in_ok-before.ensures.updates j y
+    λ j y. puts_from_updates c.args.self.now.map c.insert.new.self (c.args.owner, record { bytes = c.args.name }) _ c.in_ok-before.ensures.updates j y
