@@ -68,11 +68,11 @@ MADE = {
 BOARDS = (
     "ps3", "or1ksim", "gamecube", "vocore2", "kirkwood-ns2max", "bcm4709-asus-rt-ac87u", "rk3036-evb", "socfpga_arria10_socdk_nand",
     "rk3188-px3-evb", "imx6sll-evk", "meson-gxl-s905d-sml5442tw", "at91-kizbox3-hs", "imx6dl-gw5913", "rk3328-nanopi-r2s", "zynqmp-zcu102-rev1.1",
-    "imx7d-colibri-aster", "k3-am642-evm", "msm8916-samsung-a3u-eur", "r8a774e1-beacon-rzg2h-kit", "rk3399-nanopc-t4", "k3-j721e-common-proc-board",
+    "imx7d-colibri-aster", "k3-am654-base-board", "msm8916-samsung-a3u-eur", "r8a774e1-beacon-rzg2h-kit", "rk3399-nanopc-t4", "k3-j721e-common-proc-board",
 )
 
 # Boards with blobs above 100 KB.
-LARGE_BOARDS = ("tegra30-pegatron-chagall", "sdm845-cheza-r2", "sm8250-sony-xperia-edo-pdx203", "sc7280-herobrine-evoker-r0", "tegra124-nyan-big", "am574x-idk")
+LARGE_BOARDS = ("tegra30-pegatron-chagall", "sdm845-cheza-r2", "sm8250-sony-xperia-edo-pdx203", "sc7280-herobrine-evoker-r0", "tegra124-jetson-tk1", "am574x-idk")
 
 
 class Bench:
