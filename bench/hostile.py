@@ -6,8 +6,9 @@ small names.
 
 Tables of names hash behind a seed that comes of all inputs of a call. The names here are made for the hash without a seed, and
 those of an object also for the seed of the base alone, which who makes an object may know: each of them begins its search in the
-same few places of a table, so that a table would be walked for each further name. A C compiler makes the search, which takes
-a minute or two; it is left out where an argument `--without-search` asks for the other kinds alone."""
+same few places of a table, so that a table would be walked for each further name. They are made for either way in which a table hashes
+its names: byte by byte, or at once. A C compiler makes the search, which takes a minute or two; it is left out where an argument
+`--without-search` asks for the other kinds alone."""
 import base64
 import os
 import random
@@ -30,6 +31,7 @@ SEARCH = r"""
 #include <stdint.h>
 #include <stdio.h>
 #include <stdlib.h>
+#include <string.h>
 static const char LETTERS[] = "abcdefghijklmnopqrstuvwxyz012345";
 static const uint64_t M = 0x9e3779b97f4a7c15ull;
 static inline uint64_t folded(uint64_t a, uint64_t b) {
@@ -37,11 +39,17 @@ static inline uint64_t folded(uint64_t a, uint64_t b) {
     return (uint64_t)p ^ (uint64_t)(p >> 64);
 }
 static inline uint64_t with_byte(uint64_t state, uint64_t b) { return folded(state ^ (b | b << 8 | b << 16), M ^ 2); }
-/* the first state, how many names, and which bits of the hash have to be 0 */
+static inline uint64_t with_name(uint64_t state, const char *name) {
+    uint64_t word;
+    memcpy(&word, name, 8);
+    return folded(state ^ word, M ^ 16);
+}
+/* the first state, how many names, which bits of the hash have to be 0, and whether names are hashed at once */
 int main(int argc, char **argv) {
-    uint64_t first = strtoull(argv[1], 0, 10), mask = strtoull(argv[3], 0, 10);
+    const uint64_t start = strtoull(argv[1], 0, 10), mask = strtoull(argv[3], 0, 10);
+    const int at_once = atoi(argv[4]);
     long left = atol(argv[2]);
-    first = folded(first ^ 8, M ^ 16);
+    uint64_t first = folded(start ^ 8, M ^ 16);
     first = with_byte(first, 'n');
     for (uint64_t front = 0; left > 0; front++) {
         char name[9] = "n";
@@ -54,9 +62,9 @@ int main(int argc, char **argv) {
             name[6] = LETTERS[i];
             uint64_t inner = with_byte(state, (uint64_t)name[6]);
             for (int j = 0; j < 32 && left > 0; j++) {
-                uint64_t hash = with_byte(inner, (uint64_t)LETTERS[j]);
-                if ((hash ^ hash >> 32) & mask) continue;
                 name[7] = LETTERS[j];
+                uint64_t hash = at_once ? with_name(start, name) : with_byte(inner, (uint64_t)LETTERS[j]);
+                if ((hash ^ hash >> 32) & mask) continue;
                 puts(name);
                 left--;
             }
@@ -125,10 +133,10 @@ class Search:
             to.write(SEARCH)
         subprocess.run(["cc", "-O3", "-march=native", "-o", self.program, source], check=True)
 
-    def names(self, state, count):
+    def names(self, state, count, at_once):
         # A table of 12 places to a group and 65,000 keys has 8,192 groups, and a key's search begins in that of its hash's last bits; a
         # larger one has few groups more that these names begin in.
-        words = [self.program, str(state), str(count), str(8_191)]
+        words = [self.program, str(state), str(count), str(8_191), str(int(at_once))]
         return subprocess.run(words, stdout=subprocess.PIPE, text=True, check=True).stdout.split()
 
 
@@ -240,9 +248,9 @@ def hashed(timer, folder):
     ]:
         start = time.perf_counter()
         made = {
-            "made for no seed": search.names(NO_SEED, count),
-            "made for no seed, behind an owner": search.names(behind(NO_SEED, 0), count),
-            "made for the base's seed": search.names(known, count),
+            f"made for {seed}, hashed {way}": search.names(state, count, at_once)
+            for seed, state in (("no seed", NO_SEED), ("no seed, behind an owner", behind(NO_SEED, 0)), ("the base's seed", known))
+            for way, at_once in (("byte by byte", False), ("at once", True))
         }
         print(f"the search for {title} took {time.perf_counter() - start:.1f} s", flush=True)
         worst = max(worst, compare(timer, title, make, scattered(count), made))
