@@ -132,6 +132,11 @@ def tree(path):
         return boards.Tree(blob.read())
 
 
+def least_peak(command):
+    """The least peak of some runs, which differ by a tenth with where the system puts a small program."""
+    return min(peak(command) for _ in range(7))
+
+
 def board(bench, source, key):
     """What the two programs take for one board: its blob's size, and each command's ratio."""
     ours, theirs = bench.at(f"{key}.dtb"), bench.at(f"{key}.dtc.dtb")
@@ -154,7 +159,7 @@ def board(bench, source, key):
         "print": beside(["print"], ["dtc", "-q", "-I", "dtb", "-O", "dts"]),
         "regs": bench.count([bench.tool, "regs", ours]) / checked,
         "irqs": bench.count([bench.tool, "irqs", ours]) / checked,
-        "memory": peak([bench.tool, "compile", source]) / peak(["dtc", "-q", "-@", "-I", "dts", "-O", "dtb", source]),
+        "memory": least_peak([bench.tool, "compile", source]) / least_peak(["dtc", "-q", "-@", "-I", "dts", "-O", "dtb", source]),
     }
 
 
