@@ -49,7 +49,9 @@ impl Inputs for Sources {
     fn base_tree(alloc: Global, base: &[u8], others: Seed) -> Result<FlatTree, Fault> {
         let mut source = parse(alloc, base)?;
         source.add_seed(others);
-        let tree = source_tree(alloc, &source, Mode::Base)?;
+        let mut tree = source_tree(alloc, &source, Mode::Base)?;
+        // Overlays look nodes and properties up by their names.
+        tree.index()?;
         tree.validity();
         Ok(tree)
     }

@@ -7,6 +7,7 @@ pub mod ValueLemmas
 pub mod ChainLemmas
 pub mod NameLemmas
 pub mod RowLemmas
+pub mod IndexLemmas
 pub mod TableLemmas
 pub mod PlaceLemmas
 pub mod FirstFree

@@ -14,12 +14,12 @@ use Rattle.dt_model.specs.Valid.{AreDistinct, AreProperties, AreNodes, names, ph
 use Rattle.dt_flat.specs.Arena.{Slot, root_alone, named_among, named_children, child_of, properties, depth_of, number_of_value, phandle_at, with_child, with_property}
 use Rattle.dt_flat.specs.Refusals.{MayAdd, MaySet}
 use Rattle.dt_flat.specs.Planted.{with_properties, planted, MaySetAll, MayPlant, MayMake, numbers, HasOwnNumbers}
-use Rattle.dt_flat.proofs.AfterChild.{tested, differs, properties-push, child-with_child, childless-with_child}
-use Rattle.dt_flat.proofs.AfterProperty.{children-with_property}
+use Rattle.dt_flat.proofs.AfterChild.{tested, differs, properties-push, length-with_child, bare-with_child, child-with_child, childless-with_child}
+use Rattle.dt_flat.proofs.AfterProperty.{length-with_property, children-with_property, value-with_property}
 use Rattle.dt_flat.proofs.Distinctness.{Apart, all-append, all-front, all-back, distinct-front, distinct-back, distinct-apart, apart-flip}
 use Rattle.dt_flat.proofs.Numbering.{phandle_of, phandle-other}
 use Rattle.dt_flat.proofs.Rooting.{depth-append, depth-last}
-use Rattle.dt_flat.proofs.PlantedNodes.{rows, length-rows, made, made_last, length-made, planted_rows, AreBelow, rows_below, root_with, root_set}
+use Rattle.dt_flat.proofs.PlantedNodes.{not_equal, rows, length-rows, made, made_last, length-made, planted_rows, AreBelow, rows_below, root_with, root_set}
 
 -- ---- properties in their turn
 
@@ -63,9 +63,47 @@ may_set slots p x h = record { valid = λ e. (h e).0; own = λ e q f. at (eqb q 
     at {q = q} true e f = eqb-true q p e
     at {q = q} false e f = absurd (f (λ s. let t : eqb q p ≡ true = tested q p s in absurd cc))
 
-may_set_all : (slots : List Slot) (p : ℕ) (xs : List Property) → AllByRecursion (IsGood slots p) xs → MaySetAll slots p xs
-may_set_all slots p [] h = tt
-may_set_all slots p (x ∷ xs) h = (may_set slots p x h.0, may_set_all (with_property slots p x.name x.value) p xs (good_kept slots p x.name x.value xs h.1))
+-- the node has no property of these names
+abbrev AreUnset : List Slot → ℕ → List Property → Type 0
+AreUnset slots p xs = AllByRecursion (λ x. value_of (properties slots p) x.name ≡ None) xs
+
+unset : (slots : List Slot) (p : ℕ) (xs : List Property) → properties slots p ≡ [] → AreUnset slots p xs
+unset slots p [] e = tt
+unset slots p (x ∷ xs) e = (ap (λ (ps : List Property). value_of ps x.name) e, unset slots p xs e)
+
+still_unset : (slots : List Slot) (p : ℕ) (name : Name) (value : List ℕ) (xs : List Property) → p < length slots → AllByRecursion (λ y. y ≢ name) (map (λ x. x.name) xs)
+    → AreUnset slots p xs → AreUnset (with_property slots p name value) p xs
+still_unset slots p name value [] lt d u = tt
+still_unset slots p name value (x ∷ xs) lt d u = (
+  value-with_property slots p name value p x.name lt ∙ other (eqb p p) (bytes_eq x.name name) (not_equal x.name name d.0) ∙ u.0,
+  still_unset slots p name value xs lt d.1 u.1,
+)
+  where
+    other : (a b : Bool) → b ≡ false → cond (a && b) (Some value) (value_of (properties slots p) x.name) ≡ value_of (properties slots p) x.name
+    other true b e = ap (λ (t : Bool). cond t (Some value) (value_of (properties slots p) x.name)) e
+    other false b e = refl
+
+may_set_all : (slots : List Slot) (p : ℕ) (xs : List Property) → p < length slots → AreDistinct (map (λ x. x.name) xs) → AreUnset slots p xs → AllByRecursion (IsGood slots p) xs → MaySetAll slots p xs
+may_set_all slots p [] lt d u h = tt
+may_set_all slots p (x ∷ xs) lt d u h = (
+  record { fresh = u.0; may = may_set slots p x h.0 },
+  may_set_all (with_property slots p x.name x.value) p xs (omega (arith, length-with_property slots p x.name x.value, lt)) d.1 (still_unset slots p x.name x.value xs lt d.0 u.1) (good_kept slots p x.name x.value xs h.1),
+)
+
+-- the same of a node without properties, where none is a phandle
+pub may_set_plain : (slots : List Slot) (p : ℕ) (xs : List Property) → p < length slots → properties slots p ≡ [] → AreDistinct (map (λ x. x.name) xs)
+    → AllByRecursion (λ x. x.name ≢ codes "phandle") xs → MaySetAll slots p xs
+may_set_plain slots p xs lt none d plain = may_set_all slots p xs lt d (unset slots p xs none) (good_plain xs plain)
+  where
+    good_plain : (ys : List Property) → AllByRecursion (λ y. y.name ≢ codes "phandle") ys → AllByRecursion (IsGood slots p) ys
+    good_plain [] h = tt
+    good_plain (y ∷ ys) h = ((λ e. absurd (h.0 e)), good_plain ys h.1)
+
+pub may_set_parts : (slots : List Slot) (p : ℕ) (xs ys : List Property) → MaySetAll slots p (xs ++ ys) → MaySetAll slots p xs × MaySetAll (with_properties slots p xs) p ys
+may_set_parts slots p [] ys may = (tt, may)
+may_set_parts slots p (x ∷ xs) ys may =
+    let rest = may_set_parts (with_property slots p x.name x.value) p xs ys may.1 in
+    ((may.0, rest.0), rest.1)
 
 -- ---- numbers that are free
 
@@ -285,7 +323,7 @@ plant (branch name properties children siblings) slots p f =
     let may : MayAdd slots p name = record { fresh = (f.fresh).0; few = omega (arith, f.few); shallow = omega (arith, (f.shallow).0) } in
     let free = all-front (IsFree slots) (numbers own) (numbers inner) (all-front (IsFree slots) (numbers own ++ numbers inner) (numbers outer) (parted (AllByRecursion (IsFree slots)) own inner outer f.free)) in
     let valid = all-front IsPhandle own inner (all-front IsPhandle (own ++ inner) outer f.valid) in
-    let set = may_set_all (with_child slots p name) i properties (good slots i properties h.1 valid free (with_child slots p name) (λ q d. ap phandle_of (properties-push slots (made slots p name []) q refl))) in
+    let set = may_set_all (with_child slots p name) i properties (omega (arith, length-with_child slots p name)) h.1.distinct (unset (with_child slots p name) i properties (bare-with_child slots p name)) (good slots i properties h.1 valid free (with_child slots p name) (λ q d. ap phandle_of (properties-push slots (made slots p name []) q refl))) in
     let inside = fits_inside slots p name properties children siblings f in
     let is : planted ns i children ≡ after_branch slots p name properties children =
     planted_rows children ns i (inside.within) h.2 ∙ (λ j. ns ++ rows (length-made slots m j) i (depth-last slots m j + 1) children) in
@@ -313,7 +351,7 @@ may_make t v w own =
       free = apart_free (record { parent = 0; depth = 0; name = []; properties = t.properties }) (numbers others) (apart-flip (numbers mine) (numbers others) (distinct-apart (numbers mine) (numbers others) differ));
     } in
     record {
-      set = may_set_all root 0 t.properties (good root 0 t.properties v.properties (all-front IsPhandle mine others v.phandles_valid) (unused (numbers mine)) root (λ q d. refl));
+      set = may_set_all root 0 t.properties (omega arith) v.properties.distinct (unset root 0 t.properties refl) (good root 0 t.properties v.properties (all-front IsPhandle mine others v.phandles_valid) (unused (numbers mine)) root (λ q d. refl));
       plant = subst (λ (x : List Slot). MayPlant x 0 t.children) (sym (root_set t.properties v.properties)) (plant t.children (root_with t.properties) 0 fits);
     }
   where

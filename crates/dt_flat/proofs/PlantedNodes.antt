@@ -16,7 +16,7 @@ use Rattle.dt_flat.proofs.Rooting.{depth-append, depth-last}
 
 -- ---- properties of the last node
 
-not_equal : (a b : Name) → a ≢ b → bytes_eq a b ≡ false
+pub not_equal : (a b : Name) → a ≢ b → bytes_eq a b ≡ false
 not_equal a b ne = by (bytes_eq a b) refl
   where
     by : (t : Bool) → bytes_eq a b ≡ t → t ≡ false

@@ -87,6 +87,16 @@ value-none p k (r ∷ rs) (v ∷ vs) e none = by (is_row p k r) (place_of p k rs
     by false None rec h = rec refl
     by false (Some i) rec h = cc
 
+pub place-none : (p k : ℕ) (rs : List Row) (vs : List (List ℕ)) → length vs ≡ length rs → value_held p k (held rs vs) ≡ None → place_of p k rs ≡ None
+place-none p k [] vs e none = refl
+place-none p k (r ∷ rs) [] e none = absurd (omega (arith, e))
+place-none p k (r ∷ rs) (v ∷ vs) e none = by (is_row p k r) (place-none p k rs vs (omega (arith, e))) none
+  where
+    by : (b : Bool) → (value_held p k (held rs vs) ≡ None → place_of p k rs ≡ None) → cond b (Some v) (value_held p k (held rs vs)) ≡ None
+        → cond b (Some 0) (option_map suc (place_of p k rs)) ≡ None
+    by true rec h = cc
+    by false rec h = ap (λ (o : Option ℕ). option_map suc o) (rec h)
+
 pub value-place : (p k j : ℕ) (rs : List Row) (vs : List (List ℕ)) (v : List ℕ) → place_of p k rs ≡ Some j → slice_get vs j ≡ Some v → value_held p k (held rs vs) ≡ Some v
 value-place p k j [] vs v at is = cc
 value-place p k j (r ∷ rs) [] v at is = cc

@@ -1,9 +1,9 @@
 -- The nodes of an arena in which a whole tree is made: a node before its children, and children in order.
-use Rattle.std.specs.Prelude.{ℕ, List, [], ◌∷◌, ◌++◌, length, map}
+use Rattle.std.specs.Prelude.{◌≡◌, ℕ, List, [], ◌∷◌, ◌++◌, None, length, map}
 use Rattle.std.specs.Int.{w32, from_be_bytes}
-use Rattle.dt_model.specs.Tree.{Property, Forest, no_nodes, branch, Reading}
+use Rattle.dt_model.specs.Tree.{Property, Forest, no_nodes, branch, Reading, value_of}
 use Rattle.dt_model.specs.Valid.{AreDistinct, phandle_values, phandles}
-use Rattle.dt_flat.specs.Arena.{Arena, Slot, root_alone, with_child, with_property}
+use Rattle.dt_flat.specs.Arena.{Arena, Slot, root_alone, properties, with_child, with_property}
 use Rattle.dt_flat.specs.Refusals.{MayAdd, MaySet}
 
 -- the nodes after properties of node p are set one after another
@@ -25,10 +25,15 @@ planted_tree properties children = planted (with_properties (root_alone 0).slots
 abbrev pub arena_of : Reading → Arena
 arena_of t = record { boot_cpu = t.boot_cpu; reservations = t.reservations; slots = planted_tree t.properties t.children }
 
+-- the property may be set, and p has none of its name
+pub record MaySetNew (slots : List Slot) (p : ℕ) (x : Property) : Type 0 where
+  pub fresh : value_of (properties slots p) x.name ≡ None
+  pub may : MaySet slots p x.name x.value
+
 -- each of the properties may be set in its turn
 abbrev pub MaySetAll : List Slot → ℕ → List Property → Type 0
 MaySetAll slots p [] = Unit {0}
-MaySetAll slots p (x ∷ xs) = MaySet slots p x.name x.value × MaySetAll (with_property slots p x.name x.value) p xs
+MaySetAll slots p (x ∷ xs) = MaySetNew slots p x × MaySetAll (with_property slots p x.name x.value) p xs
 
 -- each node of the forest may be added, and each of its properties set, in its turn
 abbrev pub MayPlant : List Slot → ℕ → Forest → Type 0

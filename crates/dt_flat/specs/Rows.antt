@@ -1,6 +1,7 @@
 -- What the rows of a tree stand for: a row is the number of a node and the number of a name.
 use Rattle.std.specs.Prelude.{◌≡◌, ℕ, suc, ◌<◌, ◌≤◌, ◌-◌, ◌==◌, ◌&&◌, nat_eq, Bool, true, false, if◌then◌else◌, List, [], ◌∷◌, ◌++◌, length, Option, Some, None, IsSome, option_map}
 use Rattle.std.specs.List.{AllByRecursion, slice_index_or}
+use Rattle.std.specs.Map.{lookup}
 use Rattle.dt_model.specs.Names.{Name}
 use Rattle.dt_model.specs.Tree.{Property}
 use Rattle.dt_flat.specs.declared.nodes.Branch.{Branch}
@@ -21,6 +22,23 @@ is_row p k r = nat_eq p r.0 && nat_eq k r.1
 abbrev pub place_of : ℕ → ℕ → List Row → Option ℕ
 place_of p k [] = None
 place_of p k (r ∷ rs) = if is_row p k r then Some 0 else option_map suc (place_of p k rs)
+
+-- the place of the first of these rows that has the name k
+abbrev pub place_among : ℕ → List Row → List ℕ → Option ℕ
+place_among k rs [] = None
+place_among k rs (rank ∷ ranks) = if nat_eq k (slice_index_or rs (rank - 1) (0, 0)).1 then Some (rank - 1) else place_among k rs ranks
+
+-- what an index has for the node p and the name k
+abbrev pub entry : List (Row × ℕ) → ℕ → ℕ → Option ℕ
+entry entries p k = lookup (is_row p k) entries
+
+-- the new entries are the old ones with a place at the row
+abbrev pub PutsRow : List (Row × ℕ) → List (Row × ℕ) → Row → ℕ → Type 0
+PutsRow old new row place = (p k : ℕ) → entry new p k ≡ (if is_row p k row then Some place else entry old p k)
+
+-- the index has the place of each row, and no other
+abbrev pub IsIndexOf : List Row → List (Row × ℕ) → Type 0
+IsIndexOf rs entries = (p k : ℕ) → entry entries p k ≡ place_of p k rs
 
 -- the place of the row of the node p and the name k, or none where it was none of the old ones and comes behind them
 abbrev pub IsEntered : ℕ → ℕ → List Row → List Row → Option ℕ → Type 0

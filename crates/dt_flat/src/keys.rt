@@ -1,33 +1,84 @@
 //! What belongs to nodes by its name: their children, or their properties.
 
-ghost use Rattle.std.specs.Prelude.{◌≡◌, ◌<◌, ◌≤◌, ◌+◌, ◌-◌, [], None, Some, length, drop, slice_get, slice_index, IfOk, OnErr};
+ghost use Rattle.std.specs.Prelude.{◌≡◌, ◌<◌, ◌≤◌, ◌+◌, ◌-◌, ◌++◌, ◌∷◌, [], true, None, Some, length, drop, slice_get, slice_index, IfOk, OnOk, OnErr};
+ghost use Rattle.std.specs.List.{AllByRecursion};
 ghost use Rattle.dt_flat.specs.Chain.{ranks, first_rank};
-ghost use Rattle.dt_flat.specs.Rows.{nodes_of, place_of, IsEntered};
+ghost use Rattle.dt_flat.specs.Rows.{nodes_of, place_of, place_among, entry, IsIndexOf, PutsRow, IsEntered};
 
 use crate::NodeId;
 use crate::chain::{Chain, Ranks};
 use crate::names::NameId;
 use dt_names::Seed;
-use indexmap::IndexSet;
 use std::alloc::{AllocError, Global};
+use std::collections::HashMap;
 use std::marker::Model;
 
+/// The place of the row of a node and a name.
+type Index = HashMap<(NodeId, NameId), usize, Seed>;
+
 /// Rows of a node and the number of a name, in the order in which they came. The rank of a row is one more than its place.
+/// No row is hashed before one is sought to be entered.
 #[derive(Drop)]
 pub(crate) struct Keys {
-    rows: IndexSet<(NodeId, NameId), Seed>,
+    rows: Vec<(NodeId, NameId)>,
+    index: Index,
+    is_indexed: bool,
     chain: Chain,
 }
 
 impl Model for Keys {
-    ghost use Rattle.std.specs.Prelude.{List, ◌≡◌};
-    ghost use Rattle.dt_flat.specs.Rows.{Row, nodes_of};
+    ghost use Rattle.std.specs.Prelude.{List, ◌≡◌, true};
+    ghost use Rattle.dt_flat.specs.Rows.{Row, nodes_of, IsIndexOf};
 
     ghost Value = { List Row };
 
-    ghost view = { λ k. k.rows.keys };
+    ghost view = { λ k. k.rows.items };
 
-    ghost invariant = { λ k. k.chain ≡ nodes_of k.rows.keys };
+    ghost invariant = { λ k. (k.chain ≡ nodes_of k.rows.items) × (k.is_indexed ≡ true → IsIndexOf k.rows.items k.index.entries) };
+}
+
+/// The place of the first of these rows that has the name.
+fn place_among(rows: &[(NodeId, NameId)], mut ranks: Ranks<'_>, name: NameId) -> Option<usize>
+    requires { AllByRecursion (λ rank. (0 < rank) × (rank ≤ length rows.now)) ranks }
+    ensures { result ≡ place_among name rows.now ranks.entry }
+{
+    while let Some(rank) = ranks.step() {
+        let place = rank - 1;
+        if rows[place].1 == name {
+            return Some(place);
+        }
+    }
+    None
+}
+
+/// Hashes all rows, the last first: of two that are alike the first counts.
+fn fill(index: &mut Index, rows: &[(NodeId, NameId)]) -> Result<(), AllocError>
+    requires { index.old.entries ≡ [] }
+    ensures { OnOk result (IsIndexOf rows.now index.new.entries) }
+{
+    index.reserve(rows.len())?;
+    let mut place = rows.len();
+    while 0 < place {
+        place -= 1;
+        index.insert(rows[place], place)?;
+    }
+    Ok(())
+}
+
+/// Hashes a row that comes, where rows are hashed.
+fn note(
+    index: &mut Index,
+    is_indexed: bool,
+    row: (NodeId, NameId),
+    place: usize,
+) -> Result<(), AllocError>
+    ensures ok { is_indexed ≡ true → OnOk result (PutsRow index.old.entries index.new.entries row place) }
+    ensures err { OnErr result (index.new.entries ≡ index.old.entries) }
+{
+    if is_indexed {
+        index.insert(row, place)?;
+    }
+    Ok(())
 }
 
 impl Keys {
@@ -36,7 +87,9 @@ impl Keys {
         ensures { result ≡ [] }
     {
         Keys {
-            rows: IndexSet::with_hasher(alloc, seed),
+            rows: Vec::new(alloc),
+            index: Index::with_hasher(alloc, seed),
+            is_indexed: false,
             chain: Chain::new(alloc),
         }
     }
@@ -49,22 +102,56 @@ impl Keys {
         self.chain.reserve(nodes, rows)
     }
 
+    /// Hashes the rows, so that none is walked to from now on.
+    pub fn index(&mut self) -> Result<(), AllocError>
+        ensures { self.new ≡ self.old }
+    {
+        if self.is_indexed {
+            return Ok(());
+        }
+        self.index.clear();
+        fill(&mut self.index, &self.rows)?;
+        self.is_indexed = true;
+        Ok(())
+    }
+
     /// The row at a place.
     pub fn at(&self, place: usize) -> (NodeId, NameId)
         requires { place < length self.now }
         ensures { slice_get self.now place ≡ Some result }
     {
-        match self.rows.get_index(place) {
-            Some(row) => *row,
-            None => unreachable!(),
-        }
+        self.rows[place]
     }
 
-    /// The place of the row of a node and a name.
+    /// The place of the row of a node and a name. It walks the node's rows where they aren't hashed.
     pub fn find(&self, node: NodeId, name: NameId) -> Option<usize>
         ensures { result ≡ place_of node name self.now }
     {
-        self.rows.get_index_of(&(node, name))
+        if self.is_indexed {
+            return self.index.get(&(node, name)).copied();
+        }
+        place_among(&self.rows, self.chain.of(node), name)
+    }
+
+    /// Adds a row that isn't there at the end.
+    pub fn push(&mut self, node: NodeId, name: NameId) -> Result<(), AllocError>
+        requires { place_of node name self.old ≡ None }
+        ensures ok { OnOk result (self.new ≡ self.old ++ (node, name) ∷ []) }
+        ensures err { OnErr result (self.new ≡ self.old) }
+    {
+        self.rows.reserve(1)?;
+        note(
+            &mut self.index,
+            self.is_indexed,
+            (node, name),
+            self.rows.len(),
+        )?;
+        if let Err(refused) = self.chain.push(node) {
+            self.index.remove(&(node, name));
+            return Err(refused);
+        }
+        self.rows.push_reserved((node, name));
+        Ok(())
     }
 
     /// The place of the row of a node and a name; None where there was none, which now is the last.
@@ -73,14 +160,12 @@ impl Keys {
         ensures absent { OnErr result (place_of node name self.old ≡ None) }
         ensures err { OnErr result (self.new ≡ self.old) }
     {
-        let (place, is_new) = self.rows.insert_full((node, name))?;
-        if !is_new {
+        let indexed = self.index();
+        if let Some(place) = self.find(node, name) {
             return Ok(Some(place));
         }
-        if let Err(refused) = self.chain.push(node) {
-            self.rows.pop();
-            return Err(refused);
-        }
+        indexed?;
+        self.push(node, name)?;
         Ok(None)
     }
 

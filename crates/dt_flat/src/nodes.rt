@@ -1,6 +1,6 @@
 //! The nodes of a tree but for its root.
 
-ghost use Rattle.std.specs.Prelude.{◌≡◌, ◌<◌, ◌≤◌, ◌+◌, ◌-◌, ◌^◌, [], None, Some, length, drop, slice_get, slice_index, IfOk, OnErr};
+ghost use Rattle.std.specs.Prelude.{◌≡◌, ◌<◌, ◌≤◌, ◌+◌, ◌-◌, ◌^◌, ◌++◌, ◌∷◌, [], None, Some, length, drop, slice_get, slice_index, IfOk, OnOk, OnErr};
 ghost use Rattle.dt_flat.specs.Chain.{ranks, first_rank};
 ghost use Rattle.dt_flat.specs.Rows.{parents_of, child_from, IsAdded};
 
@@ -104,6 +104,25 @@ impl NodeTable {
         }
         self.depths.push_reserved(branch.depth);
         Ok(true)
+    }
+
+    /// Adds a child at the end, to a parent that has none of its name.
+    pub fn plant(&mut self, branch: Branch) -> Result<(), AllocError>
+        requires { child_from 1 branch.parent branch.name self.old ≡ None }
+        ensures ok { OnOk result (self.new ≡ self.old ++ branch ∷ []) }
+        ensures err { OnErr result (self.new ≡ self.old) }
+    {
+        self.depths.reserve(1)?;
+        self.rows.push(branch.parent, branch.name)?;
+        self.depths.push_reserved(branch.depth);
+        Ok(())
+    }
+
+    /// Hashes parents with names, so that no children are walked to find one from now on.
+    pub fn index(&mut self) -> Result<(), AllocError>
+        ensures { self.new ≡ self.old }
+    {
+        self.rows.index()
     }
 
     /// The children of a node, in order.

@@ -5,7 +5,7 @@ ghost use Rattle.dt_model.specs.Applied.{with_cell};
 ghost use Rattle.dt_model.specs.Limits.{most_names};
 ghost use Rattle.dt_model.specs.Tree.{value_of};
 ghost use Rattle.dt_flat.specs.Arena.{Slot, named_children, children, child_of, children_behind, first_node};
-ghost use Rattle.dt_flat.specs.Arena.{with_property, properties, name_of, depth_of, parent_of};
+ghost use Rattle.dt_flat.specs.Arena.{with_child, with_property, properties, name_of, depth_of, parent_of};
 ghost use Rattle.dt_flat.specs.Refusals.{IsChildAdded};
 
 use crate::NodeId;
@@ -178,6 +178,51 @@ impl Places {
             name,
             depth,
         })
+    }
+
+    /// Adds a child at the end, to a parent that has none of that name and isn't too deep.
+    pub fn plant_child(&mut self, parent: NodeId, name: &[u8]) -> Result<(), AllocError>
+        requires parent { parent < length self.old }
+        requires fresh { child_of (named_children self.old parent) name.now ≡ None }
+        requires shallow { depth_of self.old parent < most_names }
+        ensures ok { OnOk result (self.new ≡ with_child self.old parent name.now) }
+        ensures err { OnErr result (self.new ≡ self.old) }
+    {
+        let depth = self.depth(parent) + 1;
+        let name = self.names.add(name)?;
+        self.names.validity();
+        self.nodes.plant(Branch {
+            parent,
+            name,
+            depth,
+        })?;
+        Ok(())
+    }
+
+    /// Gives a node a property of a name that none of its properties has.
+    pub fn plant_property(
+        &mut self,
+        node: NodeId,
+        name: &[u8],
+        value: &[u8],
+    ) -> Result<(), AllocError>
+        requires node { node < length self.old }
+        requires fresh { value_of (properties self.old node) name.now ≡ None }
+        ensures ok { OnOk result (self.new ≡ with_property self.old node name.now value.now) }
+        ensures err { OnErr result (self.new ≡ self.old) }
+    {
+        let name = self.names.add(name)?;
+        self.names.validity();
+        self.properties.plant(node, name, value)?;
+        Ok(())
+    }
+
+    /// Makes each child and each property found by hashes from now on.
+    pub fn index(&mut self) -> Result<(), AllocError>
+        ensures { self.new ≡ self.old }
+    {
+        self.nodes.index()?;
+        self.properties.index()
     }
 
     /// Sets a property of a node.

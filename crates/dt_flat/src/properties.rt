@@ -1,6 +1,6 @@
 //! The properties of all nodes of a tree.
 
-ghost use Rattle.std.specs.Prelude.{◌≡◌, ◌<◌, ◌≤◌, ◌+◌, ℕ, List, [], Some, length, slice_get, option_map, OnOk, OnErr};
+ghost use Rattle.std.specs.Prelude.{◌≡◌, ◌<◌, ◌≤◌, ◌+◌, ℕ, List, [], None, Some, length, slice_get, option_map, OnOk, OnErr};
 ghost use Rattle.std.specs.Iterator.{YieldsFirstBy, item_count};
 ghost use Rattle.std.specs.List.{AllByRecursion};
 ghost use Rattle.dt_model.specs.Applied.{with_cell};
@@ -85,6 +85,27 @@ impl PropertyTable {
             }
         }
         Ok(())
+    }
+
+    /// Gives a node a property of a name that none of its properties has, at the end.
+    pub fn plant(&mut self, node: NodeId, name: NameId, value: &[u8]) -> Result<(), AllocError>
+        requires { value_held node name self.old ≡ None }
+        ensures ok { OnOk result (self.new ≡ put self.old node name value.now) }
+        ensures err { OnErr result (self.new ≡ self.old) }
+    {
+        self.values.push(value)?;
+        if let Err(refused) = self.rows.push(node, name) {
+            self.values.pop();
+            return Err(refused);
+        }
+        Ok(())
+    }
+
+    /// Hashes nodes with names, so that no properties are walked to find one from now on.
+    pub fn index(&mut self) -> Result<(), AllocError>
+        ensures { self.new ≡ self.old }
+    {
+        self.rows.index()
     }
 
     /// Writes a number, the highest byte first, at an offset of the value of a property. Looks at no other byte of the value.

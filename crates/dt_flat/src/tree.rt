@@ -59,6 +59,19 @@ fn number_at(places: &Places, node: NodeId) -> Option<u32>
     Some(u32::from_be_bytes([value[0], value[1], value[2], value[3]]))
 }
 
+/// Sets the property `phandle` of a node. A new one isn't sought among all properties.
+fn set_value(places: &mut Places, node: NodeId, value: &[u8]) -> Result<(), AllocError>
+    requires { node < length places.old }
+    ensures ok { OnOk result (places.new ≡ with_property places.old node (codes "phandle") value.now) }
+    ensures err { OnErr result (places.new ≡ places.old) }
+{
+    let name = b"phandle".as_slice();
+    match places.value(node, name) {
+        Some(_) => places.set(node, name, value),
+        None => places.plant_property(node, name, value),
+    }
+}
+
 /// Sets the property `phandle` of a node, which gives it a number in the place of the one before.
 fn put_number(
     places: &mut Places,
@@ -76,7 +89,7 @@ fn put_number(
 {
     let before = number_at(places, node);
     phandles.reserve()?;
-    places.set(node, b"phandle".as_slice(), value)?;
+    set_value(places, node, value)?;
     phandles.give(before, number, node);
     Ok(())
 }
@@ -169,6 +182,67 @@ impl FlatTree {
             return Err(Fault::of(FaultKind::Duplicate));
         }
         Ok(node)
+    }
+
+    /// Adds a child at the end of a node's children, as [`FlatTree::add_node`] does, and answers its number, where it is known that
+    /// nothing but memory is in its way: nothing is looked up.
+    ///
+    /// # Errors
+    ///
+    /// `NoMemory`, without a place. The tree is unchanged then.
+    pub fn plant_node(&mut self, parent: NodeId, name: &NodeName<'_>) -> Result<NodeId, Fault>
+        requires there { parent < length self.old.slots }
+        requires may { MayAdd self.old.slots parent name.now }
+        ensures ok { IfOk result (λ node. (node ≡ length self.old.slots)
+            × (self.new ≡ record self.old { slots = with_child self.old.slots parent name.now })) }
+        ensures err { OnErr result (self.new ≡ self.old) }
+        ensures refused { IfErr result IsNoMemory }
+    {
+        let node = self.places.len();
+        self.places.plant_child(parent, name.as_bytes())?;
+        Ok(node)
+    }
+
+    /// Sets a property of a node, as [`FlatTree::set_prop`] does, where it is known that the node has none of that name: nothing is looked up
+    /// but a `phandle`.
+    ///
+    /// # Errors
+    ///
+    /// Those of `set_prop`. At a fault the tree is unchanged.
+    pub fn plant_prop(
+        &mut self,
+        node: NodeId,
+        name: &PropName<'_>,
+        value: &[u8],
+    ) -> Result<(), Fault>
+        requires there { node < length self.old.slots }
+        requires fresh { value_of (properties self.old.slots node) name.now ≡ None }
+        ensures ok { OnOk result
+            (self.new ≡ record self.old { slots = with_property self.old.slots node name.now value.now }) }
+        ensures err { OnErr result (self.new ≡ self.old) }
+        ensures refused { IfErr result
+            (λ fault. WhyNotSet fault.kind self.old.slots node name.now value.now × (fault.at ≡ None)) }
+    {
+        let name = name.as_bytes();
+        if name != b"phandle".as_slice() {
+            self.places.plant_property(node, name, value)?;
+            return Ok(());
+        }
+        self.set_phandle(node, value)
+    }
+
+    /// Hashes the names of a tree that was planted: from now on no look-up walks a node's children or properties. The first change that isn't
+    /// planted does the same. The tree is unchanged, also at a fault.
+    ///
+    /// # Errors
+    ///
+    /// `NoMemory`, without a place.
+    pub fn index(&mut self) -> Result<(), Fault>
+        ensures same { self.new ≡ self.old }
+        ensures refused { IfErr result IsNoMemory }
+    {
+        self.places.index()?;
+        Ok(())
     }
 
     /// Sets a property of a node: one that is there keeps its place, a new one goes last.

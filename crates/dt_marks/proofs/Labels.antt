@@ -1,17 +1,22 @@
 -- The labels of a named tree are labels, and differ.
-use Rattle.std.proofs.Common.{◌≡◌, ℕ, suc, ◌+◌, ◌<◌, Bool, true, false, List, [], ◌∷◌, ◌++◌, length, map, refl, sym, ap, ◌∙◌, subst, inl, inr, codes, Bor, arith, append_assoc}
+use Rattle.std.proofs.Common.{◌≡◌, ◌≢◌, ℕ, suc, ◌+◌, ◌<◌, Bool, true, false, List, [], ◌∷◌, ◌++◌, length, map, refl, sym, ap, ◌∙◌, subst, inl, inr, codes, Bor, arith, append_assoc}
 use Rattle.std.specs.Prelude.{nat_lt}
-use Rattle.std.specs.List.{flat_map, list_any}
+use Rattle.std.specs.List.{AllByRecursion, flat_map, list_any}
 use Rattle.std.proofs.lemmas.Bool.{ltb-true, ltb-false, or_cases, or_parts}
 use Rattle.std.proofs.lemmas.List.{append-nil, map-append, length-append, nil_from_length}
 use Rattle.std.specs.Cow.{cow_slice_items}
-use Rattle.dt_model.specs.Names.{Name}
+use Rattle.dt_model.specs.Names.{Name, IsLabel}
 use Rattle.dt_model.specs.Path.{Path}
 use Rattle.dt_model.specs.Instance.{symbol, symbols_of}
 use Rattle.dt_model.specs.Named.{NodeReference, Content, NamedForest, no_nodes, branch, Named, NamedPlaced, Listed, node_count, nodes_of, listed, list_of}
 use Rattle.dt_model.specs.NamedOf.{contents_of, AreNamedNodes, IsNamed}
 use Rattle.dt_model.specs.Tree.{Property}
 use Rattle.dt_model.specs.Valid.{AreDistinct}
+use Rattle.dt_flat.specs.Arena.{Arena, with_child}
+use Rattle.dt_flat.specs.Planted.{MaySetAll}
+use Rattle.dt_flat.proofs.AfterChild.{length-with_child, bare-with_child}
+use Rattle.dt_flat.proofs.Distinctness.{all-append}
+use Rattle.dt_flat.proofs.Plantable.{may_set_plain}
 use Rattle.dt_source_named_tree.specs.Said.{node_said}
 use Rattle.dt_source_named_tree.specs.declared.named.NamedNode.{NamedNode}
 use Rattle.dt_marks.specs.Paths.{text_behind, label_property, symbols_behind, all_symbols, MayFollow, AreAll}
@@ -56,6 +61,33 @@ names_all t = ap (map name_of) (sym (symbols_same t)) ∙ names_among (nodes_of 
 
 pub differ : (t : Named NodeReference) → IsNamed t → AreDistinct (map (λ (x : Property). x.name) (symbols_of t))
 differ t named = subst (AreDistinct {X = Name}) (sym (names_all t)) named.labels
+
+-- ---- none is a phandle
+
+plain_at : (path : List ℕ) (labels : List Name) → AllByRecursion IsLabel labels → AllByRecursion (λ (x : Property). x.name ≢ codes "phandle") (map (label_property path) labels)
+plain_at path [] h = tt
+plain_at path (l ∷ ls) h = (h.0.not_phandle, plain_at path ls h.1)
+
+plain_behind : (value lengths : List ℕ) (k : ℕ) (ns : List (Listed NodeReference)) → MayFollow k ns → AllByRecursion (λ (x : Property). x.name ≢ codes "phandle") (symbols_behind value lengths ns)
+plain_behind value lengths k [] h = tt
+plain_behind value lengths k (n ∷ ns) h =
+    let text = text_behind value lengths n.parent n.name in
+    all-append (λ (x : Property). x.name ≢ codes "phandle") (map (label_property (text ++ 0 ∷ [])) n.content.labels) (symbols_behind (text ++ 0 ∷ []) (lengths ++ length text ∷ []) ns)
+    (plain_at (text ++ 0 ∷ []) n.content.labels h.1) (plain_behind (text ++ 0 ∷ []) (lengths ++ length text ∷ []) (suc k) ns h.2)
+
+plain_all : (ns : List (Listed NodeReference)) → AreAll ns → AllByRecursion (λ (x : Property). x.name ≢ codes "phandle") (all_symbols ns)
+plain_all [] h = tt
+plain_all (root ∷ ns) h =
+    all-append (λ (x : Property). x.name ≢ codes "phandle") (map (label_property (codes "/" ++ 0 ∷ [])) root.content.labels) (symbols_behind [] (0 ∷ []) ns)
+    (plain_at (codes "/" ++ 0 ∷ []) root.content.labels h.0) (plain_behind [] (0 ∷ []) 1 ns h.1)
+
+-- a node that was just added may have them all
+pub all_new : (old new : Arena) (k p : ℕ) (name : Name) (ns : List (Listed NodeReference)) → k ≡ length old.slots → new ≡ record old { slots = with_child old.slots p name }
+    → AreDistinct (map (λ (x : Property). x.name) (all_symbols ns)) → AreAll ns → MaySetAll new.slots k (all_symbols ns)
+all_new old new k p name ns last is apart all =
+    let slots = with_child old.slots p name in
+    subst (λ (a : Arena). MaySetAll a.slots k (all_symbols ns)) (sym is) (subst (λ (j : ℕ). MaySetAll slots j (all_symbols ns)) (sym last)
+    (may_set_plain slots (length old.slots) (all_symbols ns) (omega (arith, length-with_child old.slots p name)) (bare-with_child old.slots p name) apart (plain_all ns all)))
 
 -- ---- whether there are some
 

@@ -1,5 +1,5 @@
 -- Labels set one after another.
-use Rattle.std.proofs.Common.{◌≡◌, ℕ, suc, ◌+◌, ◌<◌, Bool, ◌||◌, IsTrue, List, [], ◌∷◌, ◌++◌, length, map, drop, get_or, Bor, sym, ap, ◌∙◌, subst, inl, inr, arith}
+use Rattle.std.proofs.Common.{◌≡◌, ℕ, suc, ◌+◌, ◌<◌, Bool, ◌||◌, IsTrue, List, [], ◌∷◌, ◌++◌, length, map, drop, get_or, None, Bor, codes, sym, ap, ◌∙◌, subst, inl, inr, arith}
 use Rattle.std.specs.Prelude.{nat_eq}
 use Rattle.std.specs.List.{AllByRecursion}
 use Rattle.std.proofs.lemmas.Bool.{or_cases, or_right}
@@ -7,14 +7,15 @@ use Rattle.std.proofs.lemmas.List.{drop_more, length_push}
 use Rattle.std.proofs.lemmas.List.Elements.{All-weaker}
 use Rattle.std.specs.Cow.{cow_slice_items}
 use Rattle.dt_model.specs.Names.{Name, IsLabel, IsPropertyName, is_letter, is_digit, is_name_byte}
-use Rattle.dt_model.specs.Tree.{Property}
-use Rattle.dt_flat.specs.Arena.{Arena, Slot, with_property}
-use Rattle.dt_flat.specs.Planted.{with_properties}
+use Rattle.dt_model.specs.Tree.{Property, value_of}
+use Rattle.dt_flat.specs.Arena.{Arena, Slot, properties, with_property}
+use Rattle.dt_flat.specs.Planted.{with_properties, MaySetAll}
 use Rattle.dt_flat.proofs.AfterProperty.{length-with_property}
+use Rattle.dt_flat.proofs.Plantable.{may_set_parts}
 use Rattle.dt_flat.proofs.ManyProperties.{length-with_properties, properties-append}
 use Rattle.dt_source_named_tree.specs.Said.{node_said}
 use Rattle.dt_source_named_tree.specs.declared.named.NamedNode.{NamedNode}
-use Rattle.dt_marks.specs.Paths.{text_behind, label_property, symbols_behind, MayFollow}
+use Rattle.dt_marks.specs.Paths.{text_behind, label_property, symbols_behind, all_symbols, MayFollow}
 
 -- ---- a label is the name of a property
 
@@ -53,7 +54,28 @@ label_turn old new k path labels i d name there lt named is =
           ∙ ap (λ (ls : List (Bor Name)). record old { slots = with_properties old.slots k (map (label_property path) (map (λ b. b.now) ls)) }) (sym (drop_more labels i d lt)),
     )
 
+-- it has no property of that label yet, nor one of the others
+pub label_new : (old new : Arena) (k : ℕ) (path : List ℕ) (labels : List (Bor Name)) (i : ℕ) (d : Bor Name) (name : Name) → i < length labels → name ≡ (get_or labels i d).now
+    → MaySetAll old.slots k (map (label_property path) (map (λ b. b.now) (drop i labels))) → new ≡ record old { slots = with_property old.slots k name path }
+    → MaySetAll new.slots k (map (label_property path) (map (λ b. b.now) (drop (i + 1) labels)))
+label_new old new k path labels i d name lt named may is =
+    let rest = map (label_property path) (map (λ (b : Bor Name). b.now) (drop (i + 1) labels)) in
+    let parts = subst (λ (ls : List (Bor Name)). MaySetAll old.slots k (map (label_property path) (map (λ b. b.now) ls))) (drop_more labels i d lt) may in
+    let same : new ≡ record old { slots = with_property old.slots k (get_or labels i d).now path } = is ∙ (λ j. record old { slots = with_property old.slots k (named j) path }) in
+    subst (λ (a : Arena). MaySetAll a.slots k rest) (sym same) parts.1
+
+pub label_fresh : (slots : List Slot) (k : ℕ) (path : List ℕ) (labels : List (Bor Name)) (i : ℕ) (d : Bor Name) (name : Name) → i < length labels → name ≡ (get_or labels i d).now
+    → MaySetAll slots k (map (label_property path) (map (λ b. b.now) (drop i labels))) → value_of (properties slots k) name ≡ None
+label_fresh slots k path labels i d name lt named may =
+    let parts = subst (λ (ls : List (Bor Name)). MaySetAll slots k (map (label_property path) (map (λ b. b.now) ls))) (drop_more labels i d lt) may in
+    ap (value_of (properties slots k)) named ∙ parts.0.fresh
+
 -- ---- one node after another
+
+-- some properties are new, and others behind them
+pub both_new : (old new : Arena) (k : ℕ) (xs ys zs : List Property) → zs ≡ xs ++ ys → MaySetAll old.slots k zs → new ≡ record old { slots = with_properties old.slots k xs } → MaySetAll new.slots k ys
+both_new old new k xs ys zs parts may is =
+    subst (λ (a : Arena). MaySetAll a.slots k ys) (sym is) (may_set_parts old.slots k xs ys (subst (MaySetAll old.slots k) parts may)).1
 
 pub still_there : (old new : Arena) (k : ℕ) (xs : List Property) → k < length old.slots → new ≡ record old { slots = with_properties old.slots k xs } → k < length new.slots
 still_there old new k xs there is = omega (arith, ap (λ (a : Arena). length a.slots) is, length-with_properties old.slots k xs)
@@ -97,3 +119,11 @@ property_turn_left old new k xs i x name there named next is =
       ap (λ (a : Arena). record a { slots = with_properties a.slots k rest }) (is ∙ ap (λ (n : Name). record old { slots = with_property old.slots k n x.value }) named)
           ∙ ap (λ (ys : List Property). record old { slots = with_properties old.slots k ys }) (sym next),
     )
+
+-- the labels of all nodes, those of the root in front
+pub all_parts : (nodes others : List NamedNode) (root : NamedNode) (text value lengths : List ℕ) (labels : List (Bor Name)) → nodes ≡ root ∷ others → text ≡ codes "/" ++ 0 ∷ []
+    → labels ≡ root.labels.items → value ≡ [] → lengths ≡ 0 ∷ []
+    → all_symbols (map node_said nodes) ≡ map (label_property text) (map (λ (b : Bor Name). b.now) labels) ++ symbols_behind value lengths (map node_said others)
+all_parts nodes others root text value lengths labels first rooted are none one =
+    ap (λ (ns : List NamedNode). all_symbols (map node_said ns)) first
+    ∙ (λ i. map (label_property (sym rooted i)) (map (λ (b : Bor Name). b.now) (sym are i)) ++ symbols_behind (sym none i) (sym one i) (map node_said others))

@@ -5,17 +5,19 @@ ghost use Rattle.std.specs.List.{AllByRecursion, list_any};
 ghost use Rattle.dt_model.specs.Instance.{symbols_of, with_symbols};
 ghost use Rattle.dt_model.specs.Named.{tree_of};
 ghost use Rattle.dt_model.specs.Names.{IsLabel};
+ghost use Rattle.dt_model.specs.Valid.{AreDistinct};
 ghost use Rattle.dt_names.specs.declared.fault.FaultKind.TheVariants.{NoMemory};
 ghost use Rattle.dt_source_named_tree.specs.Said.{node_said};
 ghost use Rattle.dt_flat.specs.Arena.{reading, named_children, child_of, with_child};
-ghost use Rattle.dt_flat.specs.Planted.{with_properties};
+ghost use Rattle.dt_flat.specs.Planted.{with_properties, MaySetAll};
 ghost use Rattle.dt_marks.specs.Paths.{label_property, symbols_behind, all_symbols, MayFollow, AreAll};
 ghost use Rattle.dt_marks.specs.Refusals.{WhyFull, WhyNoSymbols};
 ghost use Rattle.dt_names.specs.Fault.{IsNoMemory};
 
 use crate::paths::LastPath;
 use dt_flat::FlatTree;
-use dt_names::{Fault, NodeId, NodeName, PropName};
+use dt_names::limits::MOST_NODES;
+use dt_names::{Fault, FaultKind, NodeId, NodeName, PropName};
 use dt_source_named_tree::{NamedNode, NamedTree};
 use std::alloc::Global;
 
@@ -35,13 +37,14 @@ fn add_labels(
 ) -> Result<(), Fault>
     requires there { symbols < length tree.old.slots }
     requires labels { AllByRecursion IsLabel (map (λ l. l.now) labels.now) }
+    requires new { MaySetAll tree.old.slots symbols (map (label_property path.now) (map (λ l. l.now) labels.now)) }
     ensures tree { OnOk result (tree.new ≡ record tree.old
         { slots = with_properties tree.old.slots symbols (map (label_property path.now) (map (λ l. l.now) labels.now)) }) }
     ensures refused { IfErr result IsNoMemory }
 {
     for label in labels {
-        let name = PropName::new(label)?;
-        tree.set_prop(symbols, &name, path)?;
+        let name = PropName::known(label);
+        tree.plant_prop(symbols, &name, path)?;
     }
     Ok(())
 }
@@ -55,6 +58,7 @@ fn add_others(
 ) -> Result<(), Fault>
     requires there { symbols < length tree.old.slots }
     requires follow { MayFollow (length path.old.lengths.items) (map node_said nodes.now) }
+    requires new { MaySetAll tree.old.slots symbols (symbols_behind path.old.value.items path.old.lengths.items (map node_said nodes.now)) }
     ensures tree { OnOk result (tree.new ≡ record tree.old {
       slots = with_properties tree.old.slots symbols
           (symbols_behind path.old.value.items path.old.lengths.items (map node_said nodes.now));
@@ -78,6 +82,7 @@ fn add_all(
     requires there { symbols < length tree.old.slots }
     requires begins { (path.old.value.items ≡ []) × (path.old.lengths.items ≡ 0 ∷ []) }
     requires all { AreAll (map node_said nodes.now) }
+    requires new { MaySetAll tree.old.slots symbols (all_symbols (map node_said nodes.now)) }
     ensures tree { OnOk result (tree.new ≡ record tree.old {
       slots = with_properties tree.old.slots symbols
           (all_symbols (map node_said nodes.now));
@@ -96,6 +101,7 @@ fn add_node(tree: &mut FlatTree, path: &mut LastPath, nodes: &[NamedNode<'_>]) -
     requires absent { child_of (named_children tree.old.slots 0) (codes "__symbols__") ≡ None }
     requires begins { (path.old.value.items ≡ []) × (path.old.lengths.items ≡ 0 ∷ []) }
     requires all { AreAll (map node_said nodes.now) }
+    requires apart { AreDistinct (map (λ x. x.name) (all_symbols (map node_said nodes.now))) }
     ensures tree { OnOk result (tree.new ≡ record tree.old {
       slots = with_properties
           (with_child tree.old.slots 0 (codes "__symbols__")) (length tree.old.slots) (all_symbols (map node_said nodes.now));
@@ -105,7 +111,10 @@ fn add_node(tree: &mut FlatTree, path: &mut LastPath, nodes: &[NamedNode<'_>]) -
 {
     tree.validity();
     let name = NodeName::new(b"__symbols__".as_slice())?;
-    let symbols = tree.add_node(tree.root(), &name)?;
+    if tree.node_count() >= MOST_NODES {
+        return Err(Fault::of(FaultKind::Limit));
+    }
+    let symbols = tree.plant_node(tree.root(), &name)?;
     add_all(tree, symbols, path, nodes)
 }
 

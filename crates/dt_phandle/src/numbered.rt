@@ -83,7 +83,7 @@ fn set_properties(
     for property in properties {
         let value = value_in(bytes, &property.value, numbering)?;
         let name = PropName::known(property.name);
-        tree.set_prop(id, &name, value)?;
+        tree.plant_prop(id, &name, value)?;
     }
     Ok(())
 }
@@ -107,7 +107,7 @@ fn set_number(
         return Ok(());
     }
     let name = PropName::new(b"phandle".as_slice())?;
-    tree.set_prop(id, &name, &number.to_be_bytes())
+    tree.plant_prop(id, &name, &number.to_be_bytes())
 }
 
 /// What a node has.
@@ -139,7 +139,7 @@ fn add(
     ensures refused { IfErr result IsNoMemory }
 {
     let name = NodeName::known(node.name.as_slice());
-    let id = tree.add_node(node.parent, &name)?;
+    let id = tree.plant_node(node.parent, &name)?;
     fill_node(tree, bytes, id, node, numbering)
 }
 

@@ -6,8 +6,8 @@ use Rattle.dt_model.specs.Tree.{Reading}
 use Rattle.dt_model.specs.Valid.{IsValid, IsWithinLimits}
 use Rattle.dt_model.specs.Format.{Token, begin_node, end_node, prop, nop, end_tree}
 use Rattle.dt_flat.specs.Arena.{Slot, with_child, with_property}
-use Rattle.dt_flat.specs.Planted.{HasOwnNumbers}
-use Rattle.dt_flat.specs.Refusals.{MayAdd, MaySet}
+use Rattle.dt_flat.specs.Planted.{HasOwnNumbers, MaySetNew}
+use Rattle.dt_flat.specs.Refusals.{MayAdd}
 use Rattle.dt_read.specs.Placed.{forest_of}
 use Rattle.dt_read.specs.Marks.{Mark, token_of, Root}
 
@@ -36,7 +36,7 @@ MayCome (begin_node name) slots [] = Unit {0}
 MayCome (begin_node name) slots (p ∷ ps) = (p < length slots) × (length ps < most_names) × IsNodeName name × MayAdd slots p name
 MayCome end_node slots ps = Unit {0}
 MayCome (prop x) slots [] = ⊥
-MayCome (prop x) slots (p ∷ ps) = (p < length slots) × IsPropertyName x.name × MaySet slots p x.name x.value
+MayCome (prop x) slots (p ∷ ps) = (p < length slots) × IsPropertyName x.name × MaySetNew slots p x
 MayCome nop slots ps = Unit {0}
 MayCome end_tree slots ps = Unit {0}
 

@@ -31,7 +31,7 @@ fn begin(tree: &mut FlatTree, open_nodes: &mut OpenNodes, name: &[u8]) -> Result
         return Ok(());
     };
     let name = NodeName::known(name);
-    let node = tree.add_node(parent, &name)?;
+    let node = tree.plant_node(parent, &name)?;
     open_nodes.push(node);
     Ok(())
 }
@@ -47,7 +47,7 @@ fn set(tree: &mut FlatTree, open_nodes: &OpenNodes, name: &[u8], value: &[u8]) -
         unreachable!()
     };
     let name = PropName::known(name);
-    tree.set_prop(node, &name, value)?;
+    tree.plant_prop(node, &name, value)?;
     Ok(())
 }
 
@@ -106,7 +106,9 @@ fn fill(tree: &mut FlatTree, structure: &Structure<'_>, reservations: &[u8]) -> 
     planted_reads();
     may_be_planted();
     reserve(tree, reservations)?;
-    plant(tree, structure.start())
+    plant(tree, structure.start())?;
+    tree.index()?;
+    Ok(())
 }
 
 /// The tree of a structure block, with reservations up to a pair of zeros. It wants memory, and nothing else is in its way. Its names and

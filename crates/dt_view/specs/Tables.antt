@@ -56,10 +56,6 @@ is_whole_name x =
     || bytes_eq x (codes "interrupts") || bytes_eq x (codes "interrupts-extended") || bytes_eq x (codes "interrupt-parent")
     || bytes_eq x (codes "interrupt-controller") || bytes_eq x (codes "interrupt-map") || bytes_eq x (codes "interrupt-map-mask")
 
--- it begins as one of them
-abbrev pub begins_as_whole : Name → Bool
-begins_as_whole x = (slice_index x 0 == 114) || (slice_index x 0 == 105) || (slice_index x 0 == 100) || (slice_index x 0 == 35)
-
 -- it begins with #, or ends as KIND-map, KIND-map-mask and KIND-map-pass-thru do
 abbrev pub ends_as_kind : Name → Bool
 ends_as_kind x = (slice_index x 0 == 35) || (slice_index x (length x - 1) == 112) || (slice_index x (length x - 1) == 107) || (slice_index x (length x - 1) == 117)

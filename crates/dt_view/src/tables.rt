@@ -10,7 +10,7 @@ ghost use Rattle.dt_model.specs.Tree.{nodes_of, value_in, value_of};
 ghost use Rattle.dt_model.specs.Valid.{AreDistinct, IsPhandle};
 ghost use Rattle.dt_read.specs.Placed.{path_at, reading_of};
 ghost use Rattle.dt_read.specs.Walked.{leading, past_leading};
-ghost use Rattle.dt_view.specs.Tables.{asked_said, at_number, begins_as_whole, ends_as_kind, first_found, is_kind_name, is_whole_name};
+ghost use Rattle.dt_view.specs.Tables.{asked_said, at_number, ends_as_kind, first_found, is_kind_name, is_whole_name};
 ghost use Rattle.dt_view.specs.Tables.{AreParents, ArePhandles, IsNoted, AreNoted, AreValues, PutsValue, NotesValue, AreKept, AreKinds};
 ghost use Rattle.dt_view.specs.Tables.{PutsChild, AreChildren};
 
@@ -96,22 +96,11 @@ fn byte_at(name: &[u8], place: usize) -> u8
     if place < name.len() { name[place] } else { 0 }
 }
 
-/// Whether a name begins as one of those that the rules of addresses and interrupts ask for.
-fn begins_as_whole(name: &[u8]) -> bool
-    ensures { result ≡ begins_as_whole name.now }
-{
-    let first = byte_at(name, 0);
-    first == b'r' || first == b'i' || first == b'd' || first == b'#'
-}
-
-/// Whether it is one of the names that the rules of addresses and interrupts ask for (Devicetree Specification v0.4, 2.3.5 to 2.4.3). Their first bytes
-/// and their lengths tell most others apart.
+/// Whether it is one of the names that the rules of addresses and interrupts ask for (Devicetree Specification v0.4, 2.3.5 to 2.4.3). Their
+/// lengths tell most others apart.
 pub(crate) fn is_whole_name(name: &[u8]) -> bool
     ensures { result ≡ is_whole_name name.now }
 {
-    if !begins_as_whole(name) {
-        return false;
-    }
     match name.len() {
         3 => name == b"reg".as_slice(),
         6 => name == b"ranges".as_slice(),

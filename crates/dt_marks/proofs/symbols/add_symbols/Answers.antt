@@ -3,6 +3,7 @@ use Rattle.std.proofs.lemmas.Result.{on_ok_weaker, IfErr-weaker}
 use Rattle.dt_model.specs.Instance.{symbols_of, with_symbols}
 use Rattle.dt_model.specs.Named.{tree_of}
 use Rattle.dt_model.specs.Tree.{Property}
+use Rattle.dt_model.specs.Valid.{AreDistinct}
 use Rattle.dt_names.specs.declared.fault.Fault.{Fault}
 use Rattle.dt_source_named_tree.specs.Said.{node_said}
 use Rattle.dt_flat.specs.Arena.{reading}
@@ -23,6 +24,12 @@ returns-then-not-have_labels-clause-added c =
 pub add_node-requires-clause-all : goal.add_node-requires-clause-all
 add_node-requires-clause-all c =
     subst AreAll (c.validity.ensures.preorder ∙ sym c.nodes-nodes.ensures) (are_all (tree_of c.args.named.now) c.validity.ensures.named)
+
+pub add_node-requires-clause-apart : goal.add_node-requires-clause-apart
+add_node-requires-clause-apart c =
+    let t = tree_of c.args.named.now in
+    let same = ap all_symbols (c.nodes-nodes.ensures ∙ sym c.validity.ensures.preorder) ∙ symbols_are t in
+    subst (λ (xs : List Property). AreDistinct (map (λ x. x.name) xs)) (sym same) (differ t c.validity.ensures.named)
 
 pub returns-clause-added : goal.returns-clause-added
 returns-clause-added c =

@@ -18,8 +18,8 @@ loop-property-preserved c =
     let F : List NamedProperty → List Property = λ qs. map (numbered c.args.numbering.now) (map property_said qs) in
     let old = c.loop-property.tree in
     let may = subst (λ (qs : List NamedProperty). MayHave old.slots c.args.id (F qs)) next c.loop-property.invariant.may in
-    let after = set_turn old c.set_prop.new.self c.args.id (numbered c.args.numbering.now (property_said q)) (F (drop (i + 1) ps)) c.known-name.result c.in_ok-value.value.now
-    may c.known-name.ensures c.in_ok-value.ensures c.in_ok-set_prop.ensures.ok in
+    let after = set_turn old c.plant_prop.new.self c.args.id (numbered c.args.numbering.now (property_said q)) (F (drop (i + 1) ps)) c.known-name.result c.in_ok-value.value.now
+    may c.known-name.ensures c.in_ok-value.ensures c.in_ok-plant_prop.ensures.ok in
     record {
       may = after.0;
       same = after.1 ∙ ap (λ (qs : List NamedProperty). record old { slots = with_properties old.slots c.args.id (F qs) }) (sym next) ∙ c.loop-property.invariant.same;

@@ -1,4 +1,5 @@
-use Rattle.std.proofs.lemmas.Result.{on_ok_weaker}
+use Rattle.std.proofs.Common.{◌∙◌, ap}
+use Rattle.dt_flat.specs.Arena.{reading}
 use Rattle.dt_read.specs.Growth.{reading_with}
 use Rattle.dt_read.specs.Pairs.{pairs_of}
 use Rattle.dt_read.proofs.Growing.{may_tree, may_follow, copied}
@@ -19,7 +20,6 @@ returns-clause-reads c =
     let t = c.args.structure.now in
     let new = c.args.tree.now in
     let pairs = pairs_of c.args.reservations.now in
-    on_ok_weaker c.plant.result
-    (λ made. copied t new.boot_cpu pairs new c.reserve.new.tree c.plant.new.tree c.start.result c.requires.alone c.in_ok-reserve.ensures.tree c.start.ensures.tokens made
-    (c.planted_reads.ensures (reading_with new.boot_cpu pairs t) c.requires.copy.valid))
-    c.plant.ensures.tree
+    ap reading c.index.ensures.same
+    ∙ copied t new.boot_cpu pairs new c.reserve.new.tree c.plant.new.tree c.start.result c.requires.alone c.in_ok-reserve.ensures.tree c.start.ensures.tokens c.in_ok-plant.ensures.tree
+    (c.planted_reads.ensures (reading_with new.boot_cpu pairs t) c.requires.copy.valid)

@@ -1,7 +1,9 @@
 use Rattle.std.proofs.Common.{inr, sym, subst}
 use Rattle.std.proofs.lemmas.Result.{err_from_is_err_and}
+use Rattle.dt_model.specs.Source.{base}
+use Rattle.dt_flat.specs.Arena.{Arena, reading}
 use Rattle.dt_grammar.specs.Parsed.{IsParsed}
-use Rattle.dt_chain_promises.specs.Compile.{unparsed}
+use Rattle.dt_chain_promises.specs.Compile.{TextHasTree, unparsed}
 use Rattle.dt_chain.proofs.building.SourcesInputs.base_tree.Goals as goal
 
 pub returns-in_err-source-clause-refused : goal.returns-in_err-source-clause-refused
@@ -16,7 +18,8 @@ returns-in_err-tree-clause-refused c =
 
 pub returns-clause-tree : goal.returns-clause-tree
 returns-clause-tree c = record {
-  of_text = c.in_ok-tree.ensures.tree c.args.base.now (subst (IsParsed c.args.base.now) (sym c.add_seed.ensures) c.in_ok-source.ensures.ok);
+  of_text = subst (λ (a : Arena). TextHasTree base c.args.base.now (reading a)) (sym c.index.ensures.same)
+      (c.in_ok-tree.ensures.tree c.args.base.now (subst (IsParsed c.args.base.now) (sym c.add_seed.ensures) c.in_ok-source.ensures.ok));
   valid = c.validity.ensures.valid;
   within = c.validity.ensures.within;
 }
