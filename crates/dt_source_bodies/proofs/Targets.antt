@@ -39,9 +39,9 @@ pub record Standing (g : Growing) (p : Stack) (k : ℕ) : Type 0 where
   pub name : Name
   pub rest : Stack
   pub is : p ≡ name ∷ rest
-  pub parent : node_at (shape g) rest ≡ Some ((nodes_listed g.nodes.items g.children.map.entries).owner k)
-  pub named : (nodes_listed g.nodes.items g.children.map.entries).name k ≡ name
-  pub stands : (nodes_listed g.nodes.items g.children.map.entries).stands k ≡ true
+  pub parent : node_at (shape g) rest ≡ Some ((nodes_listed g.nodes.items g.children).owner k)
+  pub named : (nodes_listed g.nodes.items g.children).name k ≡ name
+  pub stands : (nodes_listed g.nodes.items g.children).stands k ≡ true
 
 pub standing : (g : Growing) → IsSoundGrowing g → (p : Stack) (k : ℕ) → StandsUnder g.nodes.items p k → (k ≡ 0 → ⊥) → Standing g p k
 standing g h [] k l other = absurd (other l.0)

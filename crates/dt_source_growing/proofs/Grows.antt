@@ -24,7 +24,7 @@ module _ (g : Growing) (h : IsSoundGrowing g) where
   -- a value of a node that stands is the one that is found
   pub value_to : (p : Stack) (x : Name) (v : List Part) (i : ℕ) → HasValue g.nodes.items g.properties.items p x v i → (property_at (shape g) (p, x) ≡ Some i) × ((shape g).value i ≡ Some v)
   value_to p x v i e =
-      let l = properties_listed g.properties.items g.indices.map.entries in
+      let l = properties_listed g.properties.items g.indices in
       let owner : l.owner i ≡ e.property.node = ap (λ (o : Option Property). option_map_or (λ n. n.node) o 0) e.there in
       let named : l.name i ≡ x = ap (λ (o : Option Property). option_map_or (λ n. n.name.now) o []) e.there ∙ e.named in
       let stood : l.stands i ≡ true = ap (λ (o : Option Property). option_map_or (λ n. n.stands) o false) e.there ∙ e.stands in
@@ -39,7 +39,7 @@ module _ (g : Growing) (h : IsSoundGrowing g) where
   value_from p x v i e w =
       option_and_then_some (λ k. (shape g).property k x) (node_at (shape g) p) i e
       (λ k e1 e2.
-      let q = is_property (length g.nodes.items) g.properties.items g.indices.map.entries h.has_properties k x i e2 in
+      let q = is_property (length g.nodes.items) g.properties.items g.indices h.has_properties k x i e2 in
       let same : Some (value_held q.property.value) ≡ Some v = sym (ap (option_map (λ (q : Property). value_held q.value)) q.there) ∙ w in
       record {
         property = q.property;

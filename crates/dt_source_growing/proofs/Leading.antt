@@ -14,9 +14,9 @@ use Rattle.dt_source_growing.proofs.Walks.{root_is, root_there}
 
 -- a node that stands is found as the child of its parent
 pub found_there : (g : Growing) → IsSoundGrowing g → (k : ℕ) (n : Node) → slice_get g.nodes.items k ≡ Some n → 0 < k → n.stands ≡ true
-    → found (nodes_listed g.nodes.items g.children.map.entries) n.parent (name_said n.name) ≡ Some k
+    → found (nodes_listed g.nodes.items g.children) n.parent (name_said n.name) ≡ Some k
 found_there g h k n at from stands =
-    let l = nodes_listed g.nodes.items g.children.map.entries in
+    let l = nodes_listed g.nodes.items g.children in
     let owner : l.owner k ≡ n.parent = ap (λ (o : Option Node). option_map_or (λ n. n.parent) o 0) at in
     let named : l.name k ≡ name_said n.name = ap (λ (o : Option Node). option_map_or (λ n. name_said n.name) o []) at in
     let stood : l.stands k ≡ true = ap (λ (o : Option Node). option_map_or (λ n. n.stands) o false) at ∙ stands in
@@ -29,14 +29,14 @@ leads_to g h [] k l = root_there (length g.nodes.items) l.1 ∙ ap Some (sym l.0
 leads_to g h (x ∷ p) k l =
     let above : node_at (shape g) p ≡ Some l.0.parent = leads_to g h p l.0.parent l.5 in
     ap (option_and_then (λ i. (shape g).child i x)) above
-    ∙ ap (λ y. found (nodes_listed g.nodes.items g.children.map.entries) l.0.parent y) (sym l.3) ∙ found_there g h k l.0 l.1 l.2 l.4
+    ∙ ap (λ y. found (nodes_listed g.nodes.items g.children) l.0.parent y) (sym l.3) ∙ found_there g h k l.0 l.1 l.2 l.4
 
 pub leads_from : (g : Growing) → IsSoundGrowing g → (p : Stack) (k : ℕ) → node_at (shape g) p ≡ Some k → StandsUnder g.nodes.items p k
 leads_from g h [] k e = root_is (length g.nodes.items) k e
 leads_from g h (x ∷ p) k e =
     option_and_then_some (λ i. (shape g).child i x) (node_at (shape g) p) k e
     (λ j e1 e2.
-    let c : IsChild g.nodes.items j x k = is_child g.nodes.items g.children.map.entries h.has_nodes j x k e2 in
+    let c : IsChild g.nodes.items j x k = is_child g.nodes.items g.children h.has_nodes j x k e2 in
     let up : StandsUnder g.nodes.items p c.node.parent = leads_from g h p c.node.parent (e1 ∙ ap Some (sym c.parent)) in
     (c.node, c.there, omega (arith, c.below), c.name, c.stands, up))
 

@@ -301,19 +301,19 @@ labels-given s t givings more g old new w size same given h inside alone puts in
 
 pub forest : (g : Growing) → IsSoundGrowing g → IsForest (shape g)
 forest g h = record {
-  edge = λ i x j e. let c = is_child g.nodes.items g.children.map.entries h.has_nodes i x j e in (c.below, c.inside);
+  edge = λ i x j e. let c = is_child g.nodes.items g.children h.has_nodes i x j e in (c.below, c.inside);
   once = λ i x k y j e e'.
-      let c = is_child g.nodes.items g.children.map.entries h.has_nodes i x j e in
-      let d = is_child g.nodes.items g.children.map.entries h.has_nodes k y j e' in
+      let c = is_child g.nodes.items g.children h.has_nodes i x j e in
+      let d = is_child g.nodes.items g.children h.has_nodes k y j e' in
       let same : Some c.node ≡ Some d.node = sym c.there ∙ d.there in
       let cd : c.node ≡ d.node = cc in
       (sym c.parent ∙ ap (λ (n : Node). n.parent) cd ∙ d.parent, sym c.name ∙ ap (λ (n : Node). name_said n.name) cd ∙ d.name);
   placed = λ i n k e.
-      let c = is_property (length g.nodes.items) g.properties.items g.indices.map.entries h.has_properties i n k e in
+      let c = is_property (length g.nodes.items) g.properties.items g.indices h.has_properties i n k e in
       (rw (← c.node) (h.has_properties.owned k c.property c.there), slice_get_within g.properties.items k c.property c.there);
   placed_once = λ i n j m k e e'.
-      let c = is_property (length g.nodes.items) g.properties.items g.indices.map.entries h.has_properties i n k e in
-      let d = is_property (length g.nodes.items) g.properties.items g.indices.map.entries h.has_properties j m k e' in
+      let c = is_property (length g.nodes.items) g.properties.items g.indices h.has_properties i n k e in
+      let d = is_property (length g.nodes.items) g.properties.items g.indices h.has_properties j m k e' in
       let same : Some c.property ≡ Some d.property = sym c.there ∙ d.there in
       let cd : c.property ≡ d.property = cc in
       (sym c.node ∙ ap (λ (q : Property). q.node) cd ∙ d.node, sym c.name ∙ ap (λ (q : Property). q.name.now) cd ∙ d.name);

@@ -84,8 +84,8 @@ impl<'s, 'a: 's> Growing<'s, 'a> {
         ensures nodes { IfOk result (λ growing. growing.nodes.items ≡ []) }
         ensures properties { IfOk result (λ growing. growing.properties.items ≡ []) }
         ensures givings { IfOk result (λ growing. growing.givings.items ≡ []) }
-        ensures children { IfOk result (λ growing. growing.children.map.entries ≡ []) }
-        ensures indices { IfOk result (λ growing. growing.indices.map.entries ≡ []) }
+        ensures children { IfOk result (λ growing. growing.children ≡ []) }
+        ensures indices { IfOk result (λ growing. growing.indices ≡ []) }
     {
         let room = room_for(items);
         let nodes = Vec::with_capacity(alloc, room.nodes)?;
@@ -181,10 +181,10 @@ impl<'s, 'a: 's> Growing<'s, 'a> {
     pub fn cut(&mut self, node: usize)
         requires not_root { 0 < node }
         requires inside { node < length self.old.nodes.items }
-        requires stands { (nodes_listed self.old.nodes.items self.old.children.map.entries).stands node ≡ true }
+        requires stands { (nodes_listed self.old.nodes.items self.old.children).stands node ≡ true }
         ensures cut { Cuts (shape self.old) (shape self.new)
-            ((nodes_listed self.old.nodes.items self.old.children.map.entries).owner node)
-            ((nodes_listed self.old.nodes.items self.old.children.map.entries).name node) }
+            ((nodes_listed self.old.nodes.items self.old.children).owner node)
+            ((nodes_listed self.old.nodes.items self.old.children).name node) }
     {
         self.nodes[node].stands = false;
     }
@@ -234,10 +234,10 @@ impl<'s, 'a: 's> Growing<'s, 'a> {
 
     fn drop_property(&mut self, index: usize)
         requires inside { index < length self.old.properties.items }
-        requires stands { (properties_listed self.old.properties.items self.old.indices.map.entries).stands index ≡ true }
+        requires stands { (properties_listed self.old.properties.items self.old.indices).stands index ≡ true }
         ensures dropped { Undefines (shape self.old) (shape self.new)
-            ((properties_listed self.old.properties.items self.old.indices.map.entries).owner index)
-            ((properties_listed self.old.properties.items self.old.indices.map.entries).name index) }
+            ((properties_listed self.old.properties.items self.old.indices).owner index)
+            ((properties_listed self.old.properties.items self.old.indices).name index) }
     {
         let property = &self.properties[index];
         let fallen = Property {

@@ -71,5 +71,5 @@ pub struct Growing<'s, 'a> {
     pub indices: Table<'a>,
     pub labels: NameTable<'a>,
     /// The tables find what stands, and nothing else.
-    ghost sound: { IsSound nodes.items children.map.entries properties.items indices.map.entries givings.items labels.map.entries },
+    ghost sound: { IsSound nodes.items children properties.items indices givings.items labels.map.entries },
 }

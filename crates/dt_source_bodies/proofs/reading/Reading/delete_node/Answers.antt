@@ -35,7 +35,7 @@ pub returns-clause-meaning : goal.returns-clause-meaning
 returns-clause-meaning c = λ m u h.
     let old : Reading = c.args.self.now in
     let new : Reading = record { growing = c.cut.new.self; bodies = old.bodies } in
-    let l = nodes_listed old.growing.nodes.items old.growing.children.map.entries in
+    let l = nodes_listed old.growing.nodes.items old.growing.children in
     let f = reference_of c.args.reference.now in
     let t = c.in_ok-node.ensures.target u c.args.item h in
     let s = standing old.growing c.args.self.now.growing.sound t.1.0 c.in_ok-node.node t.1.2 c.if-node-eq0.false in

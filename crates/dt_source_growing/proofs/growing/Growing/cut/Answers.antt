@@ -19,7 +19,7 @@ returns c =
     let at : slice_get old.nodes.items c.args.node ≡ Some n = node_read old c.args.node n inside c.index_mut.ensures.value in
     let stands : n.stands ≡ true = sym (ap (λ (o : Option Node). option_map_or (λ n. n.stands) o false) at) ∙ c.requires.stands in record {
       cut =
-          cuts old.properties.items old.indices.map.entries old.givings.items old.labels.map.entries old.nodes.items old.children.map.entries c.args.node n
+          cuts old.properties.items old.indices old.givings.items old.labels.map.entries old.nodes.items old.children c.args.node n
           (record { parent = n.parent; name = n.name; stands = false }) c.args.self.now.sound.has_nodes c.requires.not_root at stands refl refl refl;
     }
 
@@ -31,13 +31,13 @@ invariant_of-self c =
     let inside : c.args.node < vec_len old.nodes = omega (arith, old.nodes.ok.0, c.requires.inside) in
     let at : slice_get old.nodes.items c.args.node ≡ Some n = node_read old c.args.node n inside c.index_mut.ensures.value in
     let stands : n.stands ≡ true = sym (ap (λ (o : Option Node). option_map_or (λ n. n.stands) o false) at) ∙ c.requires.stands in
-    let made : Cuts (shape old) (shape_of (with_item old.nodes c.args.node m).items old.children.map.entries old.properties.items old.indices.map.entries old.givings.items old.labels.map.entries) ((nodes_listed old.nodes.items old.children.map.entries).owner c.args.node) ((nodes_listed old.nodes.items old.children.map.entries).name c.args.node) =
-    cuts old.properties.items old.indices.map.entries old.givings.items old.labels.map.entries old.nodes.items old.children.map.entries c.args.node n (record { parent = n.parent; name = n.name; stands = false }) c.args.self.now.sound.has_nodes c.requires.not_root at stands refl refl refl in
+    let made : Cuts (shape old) (shape_of (with_item old.nodes c.args.node m).items old.children old.properties.items old.indices old.givings.items old.labels.map.entries) ((nodes_listed old.nodes.items old.children).owner c.args.node) ((nodes_listed old.nodes.items old.children).name c.args.node) =
+    cuts old.properties.items old.indices old.givings.items old.labels.map.entries old.nodes.items old.children c.args.node n (record { parent = n.parent; name = n.name; stands = false }) c.args.self.now.sound.has_nodes c.requires.not_root at stands refl refl refl in
     record {
       sound = record {
-        has_nodes = node-fallen old.nodes.items c.args.node n m old.children.map.entries c.args.self.now.sound.has_nodes at refl refl refl;
-        has_properties = properties-kept (length old.nodes.items) (length (with_item old.nodes c.args.node m).items) old.properties.items old.indices.map.entries (omega (arith, made.size)) c.args.self.now.sound.has_properties;
-        has_labels = labels-kept (shape old) (shape_of (with_item old.nodes c.args.node m).items old.children.map.entries old.properties.items old.indices.map.entries old.givings.items old.labels.map.entries) old.givings.items old.labels.map.entries (omega (arith, made.size))
-            (stood-cut (shape old) (shape_of (with_item old.nodes c.args.node m).items old.children.map.entries old.properties.items old.indices.map.entries old.givings.items old.labels.map.entries) (forest old c.args.self.now.sound) _ _ made) c.args.self.now.sound.has_labels;
+        has_nodes = node-fallen old.nodes.items c.args.node n m old.children c.args.self.now.sound.has_nodes at refl refl refl;
+        has_properties = properties-kept (length old.nodes.items) (length (with_item old.nodes c.args.node m).items) old.properties.items old.indices (omega (arith, made.size)) c.args.self.now.sound.has_properties;
+        has_labels = labels-kept (shape old) (shape_of (with_item old.nodes c.args.node m).items old.children old.properties.items old.indices old.givings.items old.labels.map.entries) old.givings.items old.labels.map.entries (omega (arith, made.size))
+            (stood-cut (shape old) (shape_of (with_item old.nodes c.args.node m).items old.children old.properties.items old.indices old.givings.items old.labels.map.entries) (forest old c.args.self.now.sound) _ _ made) c.args.self.now.sound.has_labels;
       };
     }

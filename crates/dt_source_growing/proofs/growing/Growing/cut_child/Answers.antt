@@ -10,13 +10,13 @@ use Rattle.dt_source_growing.proofs.growing.Growing.cut_child.Goals as goal
 record IsThere (g : Growing) (i : ℕ) (x : Name) (k : ℕ) : Type 0 where
   from : 0 < k
   inside : k < length g.nodes.items
-  owner : (nodes_listed g.nodes.items g.children.map.entries).owner k ≡ i
-  name : (nodes_listed g.nodes.items g.children.map.entries).name k ≡ x
-  stands : (nodes_listed g.nodes.items g.children.map.entries).stands k ≡ true
+  owner : (nodes_listed g.nodes.items g.children).owner k ≡ i
+  name : (nodes_listed g.nodes.items g.children).name k ≡ x
+  stands : (nodes_listed g.nodes.items g.children).stands k ≡ true
 
-is_there : (g : Growing) (i : ℕ) (x : Name) (k : ℕ) → IsSoundGrowing g → Some k ≡ found (nodes_listed g.nodes.items g.children.map.entries) i x → IsThere g i x k
+is_there : (g : Growing) (i : ℕ) (x : Name) (k : ℕ) → IsSoundGrowing g → Some k ≡ found (nodes_listed g.nodes.items g.children) i x → IsThere g i x k
 is_there g i x k h e =
-    let f = found_is (nodes_listed g.nodes.items g.children.map.entries) i x k (sym e) in
+    let f = found_is (nodes_listed g.nodes.items g.children) i x k (sym e) in
     let s = h.has_nodes.indexed.sound i x k f.0 in
     record { from = omega (arith, s.0); inside = s.1; owner = s.2; name = s.3; stands = f.1 }
 
@@ -35,4 +35,4 @@ returns-in-Some c =
 
 pub returns-in_default : goal.returns-in_default
 returns-in_default c =
-    let old : Growing = c.args.self.now in record { cut = cuts_nothing old.properties.items old.indices.map.entries old.givings.items old.labels.map.entries old.nodes.items old.children.map.entries c.args.parent c.args.name.now (sym c.in_default.ensures) }
+    let old : Growing = c.args.self.now in record { cut = cuts_nothing old.properties.items old.indices old.givings.items old.labels.map.entries old.nodes.items old.children c.args.parent c.args.name.now (sym c.in_default.ensures) }

@@ -16,7 +16,7 @@ returns c =
     let at : slice_get old.properties.items c.args.index ≡ Some q = property_read old c.args.index q inside c.index-property.ensures in
     let stands : q.stands ≡ true = sym (ap (λ (o : Option Property). option_map_or (λ n. n.stands) o false) at) ∙ c.requires.stands in record {
       dropped =
-          undefines old.nodes.items old.children.map.entries old.givings.items old.labels.map.entries old.properties.items old.indices.map.entries (length old.nodes.items) c.args.index q
+          undefines old.nodes.items old.children old.givings.items old.labels.map.entries old.properties.items old.indices (length old.nodes.items) c.args.index q
           _ c.args.self.now.sound.has_properties at stands refl refl refl refl c.write.new.things.items c.write.ensures;
     }
 
@@ -29,7 +29,7 @@ invariant_of-self c =
     record {
       sound = record {
         has_nodes = c.args.self.now.sound.has_nodes;
-        has_properties = properties-fallen (length old.nodes.items) old.properties.items c.write.new.things.items c.args.index q _ old.indices.map.entries c.args.self.now.sound.has_properties at refl refl refl c.write.ensures;
-        has_labels = labels-kept (shape old) (shape_of old.nodes.items old.children.map.entries c.write.new.things.items old.indices.map.entries old.givings.items old.labels.map.entries) old.givings.items old.labels.map.entries (omega arith) (λ p i below at. at) c.args.self.now.sound.has_labels;
+        has_properties = properties-fallen (length old.nodes.items) old.properties.items c.write.new.things.items c.args.index q _ old.indices c.args.self.now.sound.has_properties at refl refl refl c.write.ensures;
+        has_labels = labels-kept (shape old) (shape_of old.nodes.items old.children c.write.new.things.items old.indices old.givings.items old.labels.map.entries) old.givings.items old.labels.map.entries (omega arith) (λ p i below at. at) c.args.self.now.sound.has_labels;
       };
     }

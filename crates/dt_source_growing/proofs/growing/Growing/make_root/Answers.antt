@@ -7,7 +7,7 @@ pub returns : goal.returns
 returns c =
     let old : Growing = c.args.self.now in record {
       made =
-          makes_root old.properties.items old.indices.map.entries old.givings.items old.labels.map.entries old.nodes.items c.push.new.self.items old.children.map.entries
+          makes_root old.properties.items old.indices old.givings.items old.labels.map.entries old.nodes.items c.push.new.self.items old.children
           _ c.args.self.now.sound.has_nodes c.requires.empty c.in_ok-push.ensures.items;
     }
 

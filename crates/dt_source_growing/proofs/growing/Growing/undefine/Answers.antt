@@ -9,13 +9,13 @@ use Rattle.dt_source_growing.proofs.growing.Growing.undefine.Goals as goal
 -- the property that stands, and where it is found
 record IsThere (g : Growing) (i : ℕ) (x : Name) (k : ℕ) : Type 0 where
   inside : k < length g.properties.items
-  owner : (properties_listed g.properties.items g.indices.map.entries).owner k ≡ i
-  name : (properties_listed g.properties.items g.indices.map.entries).name k ≡ x
-  stands : (properties_listed g.properties.items g.indices.map.entries).stands k ≡ true
+  owner : (properties_listed g.properties.items g.indices).owner k ≡ i
+  name : (properties_listed g.properties.items g.indices).name k ≡ x
+  stands : (properties_listed g.properties.items g.indices).stands k ≡ true
 
-is_there : (g : Growing) (i : ℕ) (x : Name) (k : ℕ) → IsSoundGrowing g → Some k ≡ found (properties_listed g.properties.items g.indices.map.entries) i x → IsThere g i x k
+is_there : (g : Growing) (i : ℕ) (x : Name) (k : ℕ) → IsSoundGrowing g → Some k ≡ found (properties_listed g.properties.items g.indices) i x → IsThere g i x k
 is_there g i x k h e =
-    let f = found_is (properties_listed g.properties.items g.indices.map.entries) i x k (sym e) in
+    let f = found_is (properties_listed g.properties.items g.indices) i x k (sym e) in
     let s = h.has_properties.indexed.sound i x k f.0 in
     record { inside = s.1; owner = s.2; name = s.3; stands = f.1 }
 
@@ -31,4 +31,4 @@ returns-in-Some c =
 
 pub returns-in_default : goal.returns-in_default
 returns-in_default c =
-    let old : Growing = c.args.self.now in record { dropped = undefines_nothing old.nodes.items old.children.map.entries old.givings.items old.labels.map.entries old.properties.items old.indices.map.entries c.args.node c.args.name.now (sym c.in_default.ensures) }
+    let old : Growing = c.args.self.now in record { dropped = undefines_nothing old.nodes.items old.children old.givings.items old.labels.map.entries old.properties.items old.indices c.args.node c.args.name.now (sym c.in_default.ensures) }
