@@ -1,11 +1,11 @@
 -- Names and their numbers, as the set of names has them.
-use Rattle.std.proofs.Common.{◌≡◌, ℕ, zero, suc, ◌+◌, ◌<◌, Bool, true, false, not, cond, ◌||◌, List, [], ◌∷◌, ◌++◌, length, map, slice_get, position, Option, Some, None, refl, sym, ap, subst, ◌∙◌, true≢false, inl, inr, arith}
+use Rattle.std.proofs.Common.{◌≡◌, ◌⊎◌, ℕ, zero, suc, ◌+◌, ◌<◌, Bool, true, false, not, cond, ◌||◌, List, [], ◌∷◌, ◌++◌, length, map, slice_get, position, Option, Some, None, refl, sym, ap, subst, ◌∙◌, true≢false, append-nil, inl, inr, arith}
 use Rattle.std.specs.List.{list_any, prefix_len}
 use Rattle.std.specs.Str.{bytes_eq}
 use Rattle.std.specs.Prelude.{nat_lt, MatchOption, if◌then◌else◌}
 use Rattle.std.proofs.lemmas.Bool.{cases_eq, ltb-true, lt-ltb}
 use Rattle.dt_model.specs.Names.{Name}
-use Rattle.dt_model.proofs.Tests.{bytes_eq_true, bytes_eq_differ, bytes_eq_other}
+use Rattle.dt_model.proofs.Tests.{bytes_eq_true, bytes_eq_differ}
 use Rattle.dt_flat.specs.Names.{text, AreOwn, IsUnknown}
 use Rattle.dt_flat.specs.declared.names.OwnName.{OwnName}
 
@@ -72,21 +72,33 @@ found ks name r is = by (nat_lt (before ks name) (length ks)) refl r is
 
 -- ---- one more name
 
-any-unknown : (ks : List OwnName) (v : OwnName) → IsUnknown (names_kept ks) v.bytes.items → list_any (λ (k : OwnName). bytes_eq v.bytes.items k.bytes.items) ks ≡ false
-any-unknown [] v none = refl
-any-unknown (x ∷ xs) v none =
-    let head : bytes_eq v.bytes.items x.bytes.items ≡ false = bytes_eq_other v.bytes.items x.bytes.items (λ e. none 0 (omega arith) (sym e)) in
-    ap (λ (b : Bool). b || list_any (λ (k : OwnName). bytes_eq v.bytes.items k.bytes.items) xs) head ∙ any-unknown xs v (λ i lt. none (suc i) (omega (arith, lt)))
+-- a name that a set hasn't is none of its names
+pub any-unknown : (ks : List OwnName) (name : Name) → list_any (λ (k : OwnName). bytes_eq name k.bytes.items) ks ≡ false → IsUnknown (names_kept ks) name
+any-unknown [] name none = λ i lt. absurd (omega (arith, lt))
+any-unknown (x ∷ xs) name none = by (bytes_eq name x.bytes.items) refl (list_any (λ (k : OwnName). bytes_eq name k.bytes.items) xs) (any-unknown xs name) none
+  where
+    by : (b : Bool) → bytes_eq name x.bytes.items ≡ b → (others : Bool) → (others ≡ false → IsUnknown (names_kept xs) name) → (b || others) ≡ false → IsUnknown (x.bytes.items ∷ names_kept xs) name
+    by true e others rec h i lt = absurd (true≢false h)
+    by false e others rec h zero lt = λ same. bytes_eq_differ name x.bytes.items e (sym same)
+    by false e others rec h (suc i) lt = rec h i (omega (arith, lt))
 
-pub names-push : (ks : List OwnName) (v : OwnName) → names_kept (ks ++ v ∷ []) ≡ names_kept ks ++ v.bytes.items ∷ []
+names-push : (ks : List OwnName) (v : OwnName) → names_kept (ks ++ v ∷ []) ≡ names_kept ks ++ v.bytes.items ∷ []
 names-push [] v = refl
 names-push (x ∷ xs) v = ap (λ (ns : List Name). x.bytes.items ∷ ns) (names-push xs v)
 
--- the names that are kept once an unknown one is inserted
-pub names-insert : (ks new : List OwnName) (v : OwnName) → IsUnknown (names_kept ks) v.bytes.items
-    → new ≡ (if list_any (λ (k : OwnName). bytes_eq v.bytes.items k.bytes.items) ks then ks else ks ++ v ∷ []) → names_kept new ≡ names_kept ks ++ v.bytes.items ∷ []
-names-insert ks new v none is =
-    ap names_kept (is ∙ ap (λ (b : Bool). cond b ks (ks ++ v ∷ [])) (any-unknown ks v none)) ∙ names-push ks v
+-- the names once one is inserted
+pub record AreInserted (old new : List Name) (name : Name) : Type 0 where
+  pub more : List Name
+  pub few : (more ≡ []) ⊎ ((more ≡ name ∷ []) × IsUnknown old name)
+  pub kept : new ≡ old ++ more
+
+pub names-insert : (ks new : List OwnName) (v : OwnName)
+    → new ≡ (if list_any (λ (k : OwnName). bytes_eq v.bytes.items k.bytes.items) ks then ks else ks ++ v ∷ []) → AreInserted (names_kept ks) (names_kept new) v.bytes.items
+names-insert ks new v is = by (list_any (λ (k : OwnName). bytes_eq v.bytes.items k.bytes.items) ks) refl is
+  where
+    by : (b : Bool) → list_any (λ (k : OwnName). bytes_eq v.bytes.items k.bytes.items) ks ≡ b → new ≡ cond b ks (ks ++ v ∷ []) → AreInserted (names_kept ks) (names_kept new) v.bytes.items
+    by true e is = record { more = []; few = inl refl; kept = ap names_kept is ∙ sym (append-nil (names_kept ks)) }
+    by false e is = record { more = v.bytes.items ∷ []; few = inr (refl, any-unknown ks v.bytes.items e); kept = ap names_kept is ∙ names-push ks v }
 
 pub text-append : (names more : List Name) (i : ℕ) → i < length names → text (names ++ more) i ≡ text names i
 text-append [] more i lt = absurd (omega arith)
@@ -101,7 +113,7 @@ length-push : (names : List Name) (x : Name) → length (names ++ x ∷ []) ≡ 
 length-push [] x = refl
 length-push (n ∷ ns) x = ap suc (length-push ns x)
 
-pub AreOwn-push : (names : List Name) (x : Name) → AreOwn names → IsUnknown names x → AreOwn (names ++ x ∷ [])
+AreOwn-push : (names : List Name) (x : Name) → AreOwn names → IsUnknown names x → AreOwn (names ++ x ∷ [])
 AreOwn-push names x own none i j li lj e =
     let n = length names in
     let size = length-push names x in
@@ -122,3 +134,10 @@ AreOwn-push names x own none i j li lj e =
                 own i j li' lj' (sym (text-append names (x ∷ []) i li') ∙ e ∙ text-append names (x ∷ []) j lj')
           ]
     ]
+
+pub AreOwn-inserted : (old new : List Name) (name : Name) → AreOwn old → AreInserted old new name → AreOwn new
+AreOwn-inserted old new name own inserted = subst AreOwn (sym inserted.kept) (by inserted.more inserted.few)
+  where
+    by : (more : List Name) → (more ≡ []) ⊎ ((more ≡ name ∷ []) × IsUnknown old name) → AreOwn (old ++ more)
+    by more (inl none) = subst (λ (x : List Name). AreOwn (old ++ x)) (sym none) (subst AreOwn (sym (append-nil old)) own)
+    by more (inr one) = subst (λ (x : List Name). AreOwn (old ++ x)) (sym one.0) (AreOwn-push old name own one.1)

@@ -17,7 +17,7 @@ use std::marker::Model;
 type Index = HashMap<(NodeId, NameId), usize, Seed>;
 
 /// Rows of a node and the number of a name, in the order in which they came. The rank of a row is one more than its place.
-/// No row is hashed before one is sought to be entered.
+/// Rows are hashed from the first [`Keys::index`] or [`Keys::enter`] on.
 #[derive(Drop)]
 pub(crate) struct Keys {
     rows: Vec<(NodeId, NameId)>,

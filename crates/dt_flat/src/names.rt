@@ -6,6 +6,7 @@ ghost use Rattle.dt_flat.specs.Names.{text, AreOwn, IsUnknown, IsNoted};
 use crate::recent::RecentNumbers;
 use dt_names::{NameKey, Seed};
 use indexmap::{Equivalent, IndexSet};
+use smallvec::SmallVec;
 use std::alloc::{AllocError, Global};
 use std::hash::{Hash, Hasher};
 use std::marker::Model;
@@ -13,10 +14,13 @@ use std::marker::Model;
 /// The number of a name, in the order in which names came.
 pub(crate) type NameId = usize;
 
+/// A name of at most so many bytes takes no memory of its own. The specification's names are no longer (v0.4, 2.2.1 and 2.2.4.1).
+const SHORT_NAME_BYTES: usize = 31;
+
 /// A name that a table owns. It is found by a [`NameKey`], and hashed as one.
 #[derive(Drop, PartialEq, Eq)]
 pub(crate) struct OwnName {
-    bytes: Vec<u8>,
+    bytes: SmallVec<u8, SHORT_NAME_BYTES>,
 }
 
 impl Hash for OwnName {
@@ -35,7 +39,7 @@ impl Hash for OwnName {
 
 impl<'a> Equivalent<OwnName> for NameKey<'a> {
     ghost use Rattle.std.proofs.Common.{ap};
-    ghost use Rattle.std.specs.Cmp.Lexicographic.{bytes_decides, lists_equiv, nat_list_eq_equiv};
+    ghost use Rattle.std.specs.Cmp.Lexicographic.{bytes_decides, nat_list_eq_equiv};
     ghost use Rattle.std.specs.Prelude.{[], ◌∷◌};
     ghost use Rattle.std.specs.Str.{bytes_eq};
 
@@ -113,22 +117,33 @@ impl NameTable {
         }
     }
 
+    /// The number of a name, as the table has it.
+    fn look_up(&self, name: &[u8]) -> Option<NameId>
+        ensures { MatchOption result (IsUnknown self.now name.now) (λ id. (id < length self.now) × (text self.now id ≡ name.now)) }
+    {
+        self.names.get_index_of(NameKey { bytes: name })
+    }
+
     /// The number of a name, None where it has none.
     pub fn find(&self, name: &[u8]) -> Option<NameId>
         ensures { MatchOption result (IsUnknown self.now name.now) (λ id. (id < length self.now) × (text self.now id ≡ name.now)) }
     {
         match self.find_recent(name) {
             Some(id) => Some(id),
-            None => self.names.get_index_of(NameKey { bytes: name }),
+            None => self.look_up(name),
         }
     }
 
-    fn put(&mut self, name: &[u8]) -> Result<NameId, AllocError>
-        requires { IsUnknown self.old name.now }
+    /// The number of a name, which gets one where the table has none.
+    fn enter(&mut self, name: &[u8]) -> Result<NameId, AllocError>
         ensures noted { IfOk result (λ id. IsNoted self.old self.new name.now id) }
+        ensures unknown { OnErr result (IsUnknown self.old name.now) }
         ensures err { OnErr result (self.new ≡ self.old) }
     {
-        let bytes = Vec::from_slice(self.alloc, name)?;
+        let bytes = match SmallVec::from_slice(self.alloc, name) {
+            Ok(bytes) => bytes,
+            Err(refused) => return self.look_up(name).ok_or(refused),
+        };
         let (id, _) = self.names.insert_full(OwnName { bytes })?;
         Ok(id)
     }
@@ -139,10 +154,10 @@ impl NameTable {
         ensures unknown { OnErr result (IsUnknown self.old name.now) }
         ensures err { OnErr result (self.new ≡ self.old) }
     {
-        let id = match self.find(name) {
-            Some(id) => id,
-            None => self.put(name)?,
-        };
+        if let Some(id) = self.find_recent(name) {
+            return Ok(id);
+        }
+        let id = self.enter(name)?;
         self.recent.note(name, id);
         Ok(id)
     }

@@ -9,7 +9,7 @@ ghost use Rattle.dt_model.specs.Valid.{AreDistinct, IsValid, IsWithinLimits};
 ghost use Rattle.dt_flat.specs.Numbers.{holder, given};
 ghost use Rattle.dt_flat.specs.Refusals.{WhyNoNode, WhyNotReserved, WhyNotSet, MayAdd, MaySet};
 ghost use Rattle.dt_flat.specs.Arena.{Arena, IsRooted, root_alone, children, named_children, child_of, children_behind, first_node};
-ghost use Rattle.dt_flat.specs.Arena.{with_child, with_property, properties, name_of, parent_of, node_from, phandle_at, reading};
+ghost use Rattle.dt_flat.specs.Arena.{with_child, with_property, properties, name_of, parent_of, node_from, number_of_value, phandle_at, reading};
 ghost use Rattle.dt_flat.specs.Sound.{AreCells};
 ghost use Rattle.dt_names.specs.declared.fault.FaultKind.TheVariants.{NoMemory};
 ghost use Rattle.dt_names.specs.Fault.{IsNoMemory};
@@ -47,29 +47,14 @@ impl Model for FlatTree {
     ghost invariant = { λ a. IsSoundArena (record { boot_cpu = a.boot_cpu; reservations = a.reservations.items; slots = a.places }) a.phandles };
 }
 
-/// The number that a node's property `phandle` gives it.
-fn number_at(places: &Places, node: NodeId) -> Option<u32>
-    requires { node < length places.now }
-    ensures { result ≡ phandle_at places.now node }
+/// The number that a value of the property `phandle` has, None where it isn't one cell.
+fn number_of(value: &[u8]) -> Option<u32>
+    ensures { result ≡ number_of_value (Some value.now) }
 {
-    let value = places.value(node, b"phandle".as_slice())?;
     if value.len() != 4 {
         return None;
     }
     Some(u32::from_be_bytes([value[0], value[1], value[2], value[3]]))
-}
-
-/// Sets the property `phandle` of a node. A new one isn't sought among all properties.
-fn set_value(places: &mut Places, node: NodeId, value: &[u8]) -> Result<(), AllocError>
-    requires { node < length places.old }
-    ensures ok { OnOk result (places.new ≡ with_property places.old node (codes "phandle") value.now) }
-    ensures err { OnErr result (places.new ≡ places.old) }
-{
-    let name = b"phandle".as_slice();
-    match places.value(node, name) {
-        Some(_) => places.set(node, name, value),
-        None => places.plant_property(node, name, value),
-    }
 }
 
 /// Sets the property `phandle` of a node, which gives it a number in the place of the one before.
@@ -87,9 +72,16 @@ fn put_number(
     ensures places { OnErr result (places.new ≡ places.old) }
     ensures phandles { OnErr result (phandles.new.entries ≡ phandles.old.entries) }
 {
-    let before = number_at(places, node);
+    let name = b"phandle".as_slice();
+    let Some(before) = places.value(node, name) else {
+        phandles.reserve()?;
+        places.plant_property(node, name, value)?;
+        phandles.give(None, number, node);
+        return Ok(());
+    };
+    let before = number_of(before);
     phandles.reserve()?;
-    set_value(places, node, value)?;
+    places.set(node, name, value)?;
     phandles.give(before, number, node);
     Ok(())
 }
@@ -219,6 +211,7 @@ impl FlatTree {
         requires fresh { value_of (properties self.old.slots node) name.now ≡ None }
         ensures ok { OnOk result
             (self.new ≡ record self.old { slots = with_property self.old.slots node name.now value.now }) }
+        ensures allowed { IsOk result → MaySet self.old.slots node name.now value.now }
         ensures err { OnErr result (self.new ≡ self.old) }
         ensures refused { IfErr result
             (λ fault. WhyNotSet fault.kind self.old.slots node name.now value.now × (fault.at ≡ None)) }
@@ -231,8 +224,8 @@ impl FlatTree {
         self.set_phandle(node, value)
     }
 
-    /// Hashes the names of a tree that was planted: from now on no look-up walks a node's children or properties. The first change that isn't
-    /// planted does the same. The tree is unchanged, also at a fault.
+    /// Hashes the names of a tree that was planted, so that no look-up walks a node's children or properties. [`FlatTree::add_node`] hashes
+    /// the nodes by itself, and [`FlatTree::set_prop`] the properties. The tree is unchanged, also at a fault.
     ///
     /// # Errors
     ///
