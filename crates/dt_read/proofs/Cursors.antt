@@ -114,10 +114,10 @@ past_properties_at (p ∷ properties) children more = past_properties_at propert
 -- ---- tokens without the texts of properties
 
 -- the token at the front, where there is one
-abbrev FirstToken : List ℕ → List ℕ → Type 0
+abbrev pub FirstToken : List ℕ → List ℕ → Type 0
 FirstToken strings bytes = (token : model.Token) × (n : ℕ) × (token_in strings bytes ≡ Some (token, n)) × Takes strings bytes token n
 
-first_token : (strings : List ℕ) (at : ℕ) (bytes : List ℕ) → AreTokens strings at bytes → (bytes ≡ []) ⊎ FirstToken strings bytes
+pub first_token : (strings : List ℕ) (at : ℕ) (bytes : List ℕ) → AreTokens strings at bytes → (bytes ≡ []) ⊎ FirstToken strings bytes
 first_token strings at bytes a = by a.marks a.spelled
   where
     by : (marks : List Mark) → SpellsMarks strings at marks bytes → (bytes ≡ []) ⊎ FirstToken strings bytes

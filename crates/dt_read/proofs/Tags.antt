@@ -2,7 +2,7 @@
 use Rattle.std.proofs.Common.{◌≡◌, ℕ, ◌+◌, ◌≤◌, ◌==◌, List, [], length, take, drop, Option, Some, None, refl, sym, ap, subst, ◌∙◌}
 use Rattle.std.specs.Prelude.{if◌then◌else◌}
 use Rattle.std.specs.Option.{IfSome}
-use Rattle.dt_model.specs.Format.{Token, end_node, nop, end_tree, prop, word_at}
+use Rattle.dt_model.specs.Format.{Token, begin_node, end_node, nop, end_tree, prop, word_at}
 use Rattle.dt_model.specs.Tree.{Property}
 use Rattle.dt_model.specs.Lexing.{◌>>=◌, padded, text_in, begin_in, property_in, token_in}
 use Rattle.dt_read.proofs.Numbers.{bind_some, whole_takes}
@@ -29,6 +29,17 @@ of_property strings bytes P h = if_there P (property_in strings bytes) read
         let d = bind_some (text_in (drop c.0 strings)) _ token c.2 in
         let w = whole_takes (12 + b.0) bytes (prop (record { name = d.0; value = take b.0 (drop 12 bytes) })) token d.2 in
         subst P w.1 (h d.0 b.0 b.1 w.0)
+
+-- what begins a node is its BEGIN_NODE
+pub of_begin : (bytes : List ℕ) → IfSome (begin_in bytes) (λ r. (name : List ℕ) × (r.0 ≡ begin_node name))
+unfolding begin_in
+of_begin bytes = if_there _ (begin_in bytes) read
+  where
+    read : (token : Token × ℕ) → begin_in bytes ≡ Some token → (name : List ℕ) × (token.0 ≡ begin_node name)
+    read token e =
+        let b = bind_some (text_in (drop 4 bytes)) _ token e in
+        let w = whole_takes (4 + length b.0 + 1) bytes (begin_node b.0) token b.2 in
+        (b.0, sym (ap (λ (t : Token × ℕ). t.0) w.1))
 
 -- ---- by the number at the front
 

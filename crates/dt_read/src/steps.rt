@@ -13,7 +13,7 @@ use crate::NodeId;
 use crate::cursor::{Cursor, next_tag};
 use crate::known::KnownTexts;
 use crate::property::value_of;
-use crate::token::Tag;
+use crate::token::{Tag, begins_a_node};
 use std::marker::Model;
 
 /// A step of a walk through a tree, each node before its children.
@@ -105,6 +105,10 @@ impl<'a> Steps<'a> {
         ensures { MatchOption result ((leading self.old ≡ []) × (self.new ≡ self.old))
             (λ p. self.old ≡ holds (record { name = p.0.now; value = p.1.now }) ∷ self.new) }
     {
+        // A node's name is left to whoever reads its step.
+        if begins_a_node(self.rest) {
+            return None;
+        }
         let found = next_tag(self.at, self.rest)?;
         let Tag::Property(own) = found.tag else {
             return None;

@@ -1,8 +1,8 @@
 //! The tokens of a structure block (Devicetree Specification v0.4, 5.4).
 
-ghost use Rattle.std.specs.Prelude.{◌≡◌, ℕ, ◌+◌, ◌*◌, ◌/◌, ◌<◌, ◌≤◌, ◌^◌, List, Some, length, drop, take, Option};
+ghost use Rattle.std.specs.Prelude.{◌≡◌, ℕ, ◌+◌, ◌*◌, ◌/◌, ◌<◌, ◌≤◌, ◌^◌, List, Some, length, drop, take, Option, IsTrue};
 ghost use Rattle.std.specs.Option.{option_map, IfSome};
-ghost use Rattle.dt_model.specs.Format.{begin_node, prop};
+ghost use Rattle.dt_model.specs.Format.{begin_node, prop, word_at};
 ghost use Rattle.dt_model.specs.Tree.{Property};
 ghost use Rattle.dt_model.specs.Lexing.{padded, begin_in, property_in, token_in};
 ghost use Rattle.dt_read.specs.Marks.{Takes};
@@ -115,6 +115,13 @@ fn property_len(bytes: &[u8]) -> Option<usize>
         return None;
     }
     Some(len)
+}
+
+/// Does a node begin at the front?
+pub(crate) fn begins_a_node(bytes: &[u8]) -> bool
+    ensures { IsTrue result → word_at bytes.now 0 ≡ Some 1 }
+{
+    matches!(be32(bytes, 0), Some(BEGIN_NODE))
 }
 
 /// The tag at the front, and how many bytes its token takes. It costs less than `token_at`, and may answer one where the bytes are no token.

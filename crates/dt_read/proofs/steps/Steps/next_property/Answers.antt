@@ -1,9 +1,15 @@
-use Rattle.std.proofs.Common.{◌≡◌, ◌∷◌, sym, ap, subst, ◌∙◌}
+use Rattle.std.proofs.Common.{◌≡◌, ◌∷◌, refl, sym, ap, subst, ◌∙◌}
 use Rattle.dt_read.specs.StepsLeft.{steps_left}
 use Rattle.dt_read.specs.TreeTokens.{marks_in}
 use Rattle.dt_read.specs.View.{tag_mark, HasToken}
-use Rattle.dt_read.specs.Walked.{holds}
+use Rattle.dt_read.specs.Walked.{holds, leading}
+use Rattle.dt_read.proofs.StepLemmas.{none_leads}
 use Rattle.dt_read.proofs.steps.Steps.next_property.Goals as goal
+
+pub returns-then-begins_a_node : goal.returns-then-begins_a_node
+returns-then-begins_a_node c =
+    let at = c.self.inside in
+    (ap leading (sym c.self.view_is) ∙ none_leads at.names at.at at.rest.now c.self.invariant (c.if-begins_a_node.ensures refl), refl)
 
 pub returns-in_err-name : goal.returns-in_err-name
 returns-in_err-name c =
