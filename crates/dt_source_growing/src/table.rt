@@ -1,4 +1,4 @@
-//! Hash tables that borrow the names that they are asked for.
+//! Tables that borrow the names that they are asked for.
 
 ghost use Rattle.std.specs.Prelude.{◌≡◌, ◌==◌, ◌<◌, ◌≤◌, ◌^◌, ℕ, [], false, None, IsTrue, MatchOption, IfOk, OnOk, OnErr, if◌then◌else◌, length};
 ghost use Rattle.dt_source_growing.specs.Table.{entry, Puts, name_entry, PutsName, span_at, LieIn, IsFirstOf, HasRoom, longer};
@@ -35,7 +35,7 @@ const EMPTY: Span = Span {
 /// Of an owner at most so many entries lie side by side. To look through as many costs less than a hash.
 const FEW: usize = 16;
 
-/// From the index of an owner and a name. Most owners get their entries one after another, and few of them: these lie side by side and are
+/// From the index of an owner and a name to what was last made of them. Most owners get their entries one after another, and few of them: these lie side by side and are
 /// looked through. The others are hashed.
 #[derive(Drop)]
 pub struct Table<'a> {
@@ -143,6 +143,7 @@ impl<'a> Table<'a> {
         })
     }
 
+    /// What was last made of an owner and a name.
     pub fn get(&self, owner: usize, name: &[u8]) -> Option<Last>
         ensures { result ≡ entry self.now owner name.now }
     {
@@ -193,6 +194,7 @@ impl<'a> Table<'a> {
 }
 
 impl<'a> NameTable<'a> {
+    /// An empty table, whose names will be hashed behind a seed. Takes no memory.
     pub fn new(alloc: Global, seed: Seed) -> Self
         ensures { result.map.entries ≡ [] }
     {
@@ -201,12 +203,14 @@ impl<'a> NameTable<'a> {
         }
     }
 
+    /// The index of a name.
     pub fn get(&self, name: &[u8]) -> Option<usize>
         ensures { result ≡ name_entry self.now.map.entries name.now }
     {
         self.map.get(&NameKey { bytes: name }).copied()
     }
 
+    /// Gives a name this index, in the place of the one before.
     pub fn put(&mut self, name: &'a [u8], value: usize) -> Result<(), AllocError>
         ensures ok { OnOk result (PutsName self.old.map.entries self.new.map.entries name.now value) }
         ensures err { OnErr result (self.new.map.entries ≡ self.old.map.entries) }
