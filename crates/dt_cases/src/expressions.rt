@@ -8,21 +8,16 @@ use std::alloc::Global;
 /// `expression` prints the value of the expression whose steps are given, or `none` where they are no expression's.
 pub fn call(alloc: Global, input: &[u8], out: &mut Outcome) -> Result<(), Stop> {
     let steps = steps_of(alloc, input)?;
-    let size = steps.len();
-    match Expr::new(steps) {
-        Some(expression) if expression.steps().len() == size => out.tell(eval(&expression)?),
+    match Expr::new(&steps) {
+        Some(expression) if expression.steps().len() == steps.len() => out.tell(eval(&expression)?),
         Some(_) => out.tell("other steps"),
         None => out.tell("none"),
     }
     Ok(())
 }
 
-/// The expression whose steps are given; None where they are no expression's.
-pub fn expression_of(alloc: Global, input: &[u8]) -> Result<Option<Expr>, Stop> {
-    Ok(Expr::new(steps_of(alloc, input)?))
-}
-
-fn steps_of(alloc: Global, input: &[u8]) -> Result<Vec<Step>, Stop> {
+/// The steps that are given.
+pub fn steps_of(alloc: Global, input: &[u8]) -> Result<Vec<Step>, Stop> {
     let text = str::from_utf8(input).map_err(|_| Stop::Malformed)?;
     let mut steps = Vec::new(alloc);
     push_steps(text, &mut steps)?;

@@ -4,12 +4,12 @@
 ghost use Rattle.std.specs.Prelude.{◌<◌, length};
 
 use crate::edited::{Cell, Edited, Lent};
-use crate::expressions::expression_of;
+use crate::expressions::steps_of;
 use crate::names::text_of;
 use crate::outcome::{Lines, Stop};
 use crate::{still_edits, still_nodes, still_texts};
 use dt_edit::{BlobBuf, open_into};
-use dt_expr::eval;
+use dt_expr::{Expr, eval};
 use dt_flat::FlatTree;
 use dt_names::{Fault, NodeId};
 use dt_parse::{Source, parse};
@@ -58,13 +58,14 @@ fn of_bytes(alloc: Global, input: &[u8]) -> Result<usize, Stop> {
 }
 
 fn of_expression(alloc: Global, input: &[u8]) -> Result<usize, Stop> {
-    let Some(expression) = expression_of(alloc, input)? else {
+    let steps = steps_of(alloc, input)?;
+    let begun = ask_for(alloc, BEGIN);
+    let Some(expression) = Expr::new(&steps) else {
         return Err(Stop::Malformed);
     };
-    let begun = ask_for(alloc, BEGIN);
     let is_answered = eval(&expression).is_ok();
-    let steps = expression.steps().len();
-    finish(alloc, begun, steps.saturating_add(usize::from(is_answered)))
+    let size = expression.steps().len();
+    finish(alloc, begun, size.saturating_add(usize::from(is_answered)))
 }
 
 fn of_source(alloc: Global, input: &[u8]) -> Result<usize, Stop> {

@@ -135,10 +135,10 @@ impl<const N: usize> Stack<N> {
 }
 
 /// Most expressions have at most this many steps. A stack of this size is quick to clear.
-const FEW: usize = 64;
+const FEW: usize = 16;
 
 /// The value of an expression of at most so many steps.
-fn value_by<const N: usize>(expression: &Expr) -> Result<u64, Fault>
+fn value_by<const N: usize>(expression: &Expr<'_>) -> Result<u64, Fault>
     requires fits { length expression.now ≤ N }
     requires small { N ≤ most_tokens }
     ensures { (e : Expression) → steps e ≡ expression.now →
@@ -161,7 +161,7 @@ fn value_by<const N: usize>(expression: &Expr) -> Result<u64, Fault>
 /// # Errors
 ///
 /// `DivideByZero` where a part divides by 0 or takes a remainder by 0, without a place.
-pub fn eval(expression: &Expr) -> Result<u64, Fault>
+pub fn eval(expression: &Expr<'_>) -> Result<u64, Fault>
     ensures exact { (e : Expression) → steps e ≡ expression.now →
         MatchResult result (λ n. value e ≡ Some n) (λ fault. (value e ≡ None) × (fault.kind ≡ DivideByZero) × (fault.at ≡ None)) }
 {

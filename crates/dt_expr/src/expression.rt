@@ -10,20 +10,20 @@ use std::marker::Model;
 /// An expression, as its steps in postfix order: each operator behind its operands. However deep the parentheses of a source
 /// nest, it is a list.
 #[derive(Drop)]
-pub struct Expr {
-    steps: Vec<Step>,
+pub struct Expr<'a> {
+    steps: &'a [Step],
 }
 
-impl Model for Expr {
+impl<'a> Model for Expr<'a> {
     ghost use Rattle.std.specs.Prelude.{List};
     ghost use Rattle.dt_expr.specs.declared.step.Step.{Step};
     ghost use Rattle.dt_expr.specs.Expression.{AreSteps};
 
     ghost Value = { List Step };
 
-    ghost view = { λ e. e.steps.items };
+    ghost view = { λ e. e.steps.now };
 
-    ghost invariant = { λ e. AreSteps e.steps.items };
+    ghost invariant = { λ e. AreSteps e.steps.now };
 }
 
 fn are_steps(steps: &[Step]) -> bool
@@ -43,25 +43,33 @@ fn are_steps(steps: &[Step]) -> bool
     height == 1
 }
 
-impl Expr {
+impl<'a> Expr<'a> {
     /// The expression of these steps; none where they are no expression's, or more than 1,024. Each operator comes after its
     /// operands, and one number is left over at the end (Devicetree Specification v0.4, 6.3).
-    pub fn new(steps: Vec<Step>) -> Option<Expr>
-        ensures valid { IsSome result ↔ AreSteps steps.items }
-        ensures value { IfSome result (λ e. e ≡ steps.items) }
+    pub fn new(steps: &'a [Step]) -> Option<Expr<'a>>
+        ensures valid { IsSome result ↔ AreSteps steps.now }
+        ensures value { IfSome result (λ e. e ≡ steps.now) }
     {
-        if are_steps(&steps) {
+        if are_steps(steps) {
             Some(Expr { steps })
         } else {
             None
         }
     }
 
+    /// The expression of steps that are known to be one's. Looks at none of them.
+    pub fn known(steps: &'a [Step]) -> Expr<'a>
+        requires { AreSteps steps.now }
+        ensures { result ≡ steps.now }
+    {
+        Expr { steps }
+    }
+
     /// The steps of the expression, in postfix order.
-    pub fn steps(&self) -> &[Step]
+    pub fn steps(&self) -> &'a [Step]
         ensures value { result.now ≡ self.now }
         ensures valid { AreSteps self.now }
     {
-        &self.steps
+        self.steps
     }
 }

@@ -169,11 +169,11 @@ literal_valued (w ∷ ws) next n e l = record {
 }
 
 pub undivided : (ws : Words) (ss : List Step) (used : ℕ) (v : Option ℕ) (stop : Stop) → IsMeasured ws ss used →
-    ((e : Expression) → ss ≡ steps e → length ss ≤ 1024 → v ≡ value e) → v ≡ None → stop.kind ≡ fault.DivideByZero → stop.left ≡ length ws →
+    ((e : Expression) → ss ≡ steps e → v ≡ value e) → v ≡ None → stop.kind ≡ fault.DivideByZero → stop.left ≡ length ws →
     (a : Around) → IsBroken a Prim ws stop
 undivided ws ss used v stop m is none k left a =
     let e = m.expression in
-    let valueless_here : value e ≡ None = sym (is e m.steps_are (omega (arith, m.short, m.few))) ∙ none in
+    let valueless_here : value e ≡ None = sym (is e m.steps_are) ∙ none in
     let b : NumberBreaks a.bits ws fault.DivideByZero ws = valueless (made_expression used e) (drop used ws) m.read m.few valueless_here in
     broken_number a ws ws stop (subst (λ (x : FaultKind). NumberBreaks a.bits ws x ws) (sym k) b) (sym left)
 

@@ -1,7 +1,6 @@
 -- What the two stacks and the tokens that are left say of an expression, and what each turn makes of it.
 use Rattle.std.specs.Prelude.{◌≡◌, ℕ, ◌<◌, ◌≤◌, List, [], ◌∷◌, ◌++◌, length, drop, Option, Some, None, Result, Ok, Err}
 use Rattle.std.specs.Borrow.{Bor}
-use Rattle.std.specs.declared.vec.Vec.{Vec}
 use Rattle.dt_lex.specs.declared.token.Token.{Token}
 use Rattle.dt_expr.specs.declared.step.Step.{Step}
 use Rattle.dt_expr.specs.declared.step.Step.TheVariants as step
@@ -135,6 +134,6 @@ abbrev pub Refused : List Token → Refusal → Type 0
 Refused tokens refusal.Memory = Unit {0}
 Refused tokens (refusal.Syntax n) = (left : List Token) × (length left ≡ n) × ((text : List ℕ) → Descends Prim (words_of text tokens) (stuck (words_of text left)))
 
-abbrev pub Answers : {A : Type 0} → List Token → Result (Vec Step A × Bor (List Token)) Refusal → Type 0
-Answers tokens (Ok r) = IsDone tokens r.0.items r.1.now
-Answers tokens (Err e) = Refused tokens e
+abbrev pub Answers : List Token → List Step → Result (Bor (List Token)) Refusal → Type 0
+Answers tokens out (Ok rest) = IsDone tokens out rest.now
+Answers tokens out (Err e) = Refused tokens e

@@ -24,13 +24,13 @@ ghost use Rattle.dt_parse.specs.declared.body.Behind.TheVariants as behind;
 ghost use Rattle.dt_parse.specs.Nested.{front_of, behind_of, in_body, Closes, IsMember, BreaksIn, Goes, IsUnclosed};
 
 use crate::cursor::Cursor;
+use crate::expression::Room;
 use crate::stop::Stop;
 use crate::value::{labels, value};
 use dt_lex::{Keyword, Mark, TokenKind};
 use dt_names::limits::MOST_BODIES;
 use dt_names::{FaultKind, Label, NodeName, PropName};
 use dt_source_items::{Bare, Items};
-use std::alloc::Global;
 
 /// What a member, or the end of a body, begins with.
 #[derive(Clone, Copy)]
@@ -110,7 +110,7 @@ fn node_name<'a>(cursor: &Cursor<'a, '_>) -> Result<NodeName<'a>, Stop>
 
 /// Reads what follows a property's name: `;`, or `=`, a value and `;`.
 fn assigned<'a>(
-    alloc: Global,
+    room: &mut Room,
     cursor: &mut Cursor<'a, '_>,
     items: &mut Items<'a>,
 ) -> Result<(), Stop>
@@ -129,7 +129,7 @@ fn assigned<'a>(
         }
         _ => {
             cursor.advance();
-            value(alloc, cursor, items)?;
+            value(room, cursor, items)?;
             cursor.expect(TokenKind::Mark(Mark::Semicolon))
         }
     }
@@ -137,7 +137,7 @@ fn assigned<'a>(
 
 /// Reads `name;` or `name = value;`.
 fn property<'a>(
-    alloc: Global,
+    room: &mut Room,
     late: bool,
     cursor: &mut Cursor<'a, '_>,
     items: &mut Items<'a>,
@@ -154,7 +154,7 @@ fn property<'a>(
     if late {
         return Err(cursor.stop(FaultKind::PropertyAfterNode));
     }
-    assigned(alloc, cursor, items)?;
+    assigned(room, cursor, items)?;
     items.push_property(name)?;
     Ok(())
 }
@@ -305,7 +305,7 @@ fn opens_child(cursor: &Cursor<'_, '_>) -> bool
 
 /// Reads what a name that opens no child begins.
 fn named<'a>(
-    alloc: Global,
+    room: &mut Room,
     late: bool,
     cursor: &mut Cursor<'a, '_>,
     items: &mut Items<'a>,
@@ -321,13 +321,13 @@ fn named<'a>(
             cursor.advance();
             Err(cursor.stop(FaultKind::Syntax))
         }
-        _ => property(alloc, late, cursor, items),
+        _ => property(room, late, cursor, items),
     }
 }
 
 /// Reads a member that is no child, or the end of a body, behind its labels. Answers what is around the next.
 fn member_behind<'a>(
-    alloc: Global,
+    room: &mut Room,
     labelled: bool,
     depth: Depth,
     cursor: &mut Cursor<'a, '_>,
@@ -344,7 +344,7 @@ fn member_behind<'a>(
 {
     match front_of(cursor.kind()) {
         Front::Name => {
-            named(alloc, depth.late, cursor, items)?;
+            named(room, depth.late, cursor, items)?;
             Ok(depth)
         }
         Front::DeleteProperty => {
@@ -370,7 +370,7 @@ fn member_behind<'a>(
 
 /// Reads a member, or what comes before a child's members, or the end of a body. Answers what is around the next.
 fn member<'a>(
-    alloc: Global,
+    room: &mut Room,
     depth: Depth,
     cursor: &mut Cursor<'a, '_>,
     items: &mut Items<'a>,
@@ -380,7 +380,7 @@ fn member<'a>(
         × (length cursor.new < length cursor.old) × (items.new.places ≡ items.old.places ++ map place_meant ps)) }
     ensures err { IfErr result (λ stop. BreaksIn depth.open depth.late cursor.old stop) }
 {
-    let names = labels(alloc, cursor)?;
+    let names = labels(room.alloc, cursor)?;
     if opens_child(cursor) {
         child(names, depth.open, cursor, items)?;
         return Ok(Depth {
@@ -388,13 +388,13 @@ fn member<'a>(
             late: false,
         });
     }
-    member_behind(alloc, !names.is_empty(), depth, cursor, items)
+    member_behind(room, !names.is_empty(), depth, cursor, items)
 }
 
 /// Reads a body from its `{` to the `;` behind it, and appends its items; however deep bodies stand in it, nothing recurses
 /// (Devicetree Specification v0.4, 6.3).
 pub(crate) fn body<'a>(
-    alloc: Global,
+    room: &mut Room,
     cursor: &mut Cursor<'a, '_>,
     items: &mut Items<'a>,
 ) -> Result<(), Stop>
@@ -410,7 +410,7 @@ pub(crate) fn body<'a>(
         late: false,
     };
     while depth.open > 0 {
-        depth = member(alloc, depth, cursor, items)?;
+        depth = member(room, depth, cursor, items)?;
     }
     Ok(())
 }

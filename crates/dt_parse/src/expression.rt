@@ -48,6 +48,24 @@ pub(crate) enum Turn {
     Refuse,
 }
 
+/// The steps of an expression, and what is pending in it. The expressions of a text take turns in one room: only the first ones take memory.
+#[derive(Drop)]
+pub(crate) struct Room {
+    pub alloc: Global,
+    pub steps: Vec<Step>,
+    pub pending: Vec<Pending>,
+}
+
+impl Room {
+    pub(crate) fn new(alloc: Global) -> Room {
+        Room {
+            alloc,
+            steps: Vec::new(alloc),
+            pending: Vec::new(alloc),
+        }
+    }
+}
+
 /// Why there is no expression.
 #[derive(Clone, Copy)]
 pub(crate) enum Refusal {
@@ -279,15 +297,9 @@ fn behind<'a>(tokens: &'a [Token]) -> &'a [Token]
     }
 }
 
-/// Most expressions have at most this many steps, and room for so many is had at once.
-const FEW: usize = 16;
-
 fn push_step(out: &mut Vec<Step>, step: Step) -> Result<(), AllocError>
     ensures { OnOk result (out.new.items ≡ out.old.items ++ step ∷ []) }
 {
-    if out.capacity() == 0 {
-        out.reserve(FEW)?;
-    }
     out.push(step)?;
     Ok(())
 }
@@ -314,53 +326,50 @@ fn top_in(waiting: &Vec<Pending>) -> Option<Pending>
 }
 
 /// Reads the number that the tokens begin with: an integer, a character or an expression in parentheses (Devicetree
-/// Specification v0.4, 6.3). Answers its steps in postfix order, and the tokens behind it. However deep the parentheses are
+/// Specification v0.4, 6.3). The room then has its steps in postfix order; answers the tokens behind it. However deep the parentheses are
 /// nested, nothing recurses; how many tokens they are and whether something divides by 0 isn't looked at.
 ///
 /// # Errors
 ///
 /// `Syntax` where the tokens begin with no number, and how many tokens are left from the first on at which none goes on; and `Memory`.
-pub(crate) fn primary<'a>(
-    alloc: Global,
-    tokens: &'a [Token],
-) -> Result<(Vec<Step>, &'a [Token]), Refusal>
-    ensures { Answers tokens.now result }
+pub(crate) fn primary<'a>(room: &mut Room, tokens: &'a [Token]) -> Result<&'a [Token], Refusal>
+    ensures { Answers tokens.now room.new.steps.items result }
 {
-    let mut out = Vec::new(alloc);
-    let mut waiting = Vec::new(alloc);
+    room.steps.clear();
+    room.pending.clear();
     let mut rest = tokens;
     let mut stage = Stage::Wanted;
     'turns: loop {
-        match turn_at(stage, top_in(&waiting), kind_in(rest)) {
+        match turn_at(stage, top_in(&room.pending), kind_in(rest)) {
             Turn::Number(n) => {
-                push_step(&mut out, Step::Number(n))?;
+                push_step(&mut room.steps, Step::Number(n))?;
                 rest = behind(rest);
                 stage = Stage::Operand;
-                if waiting.is_empty() {
-                    return Ok((out, rest));
+                if room.pending.is_empty() {
+                    return Ok(rest);
                 }
             }
             Turn::Push(p) => {
-                push_pending(&mut waiting, p)?;
+                push_pending(&mut room.pending, p)?;
                 rest = behind(rest);
                 stage = Stage::Wanted;
             }
             Turn::Emit(step) => {
-                drop_last(&mut waiting);
-                push_step(&mut out, step)?;
+                drop_last(&mut room.pending);
+                push_step(&mut room.steps, step)?;
             }
             Turn::Else => {
-                drop_last(&mut waiting);
-                push_pending(&mut waiting, Pending::Colon)?;
+                drop_last(&mut room.pending);
+                push_pending(&mut room.pending, Pending::Colon)?;
                 rest = behind(rest);
                 stage = Stage::Wanted;
             }
             Turn::Close => {
-                drop_last(&mut waiting);
+                drop_last(&mut room.pending);
                 rest = behind(rest);
                 stage = Stage::Operand;
-                if waiting.is_empty() {
-                    return Ok((out, rest));
+                if room.pending.is_empty() {
+                    return Ok(rest);
                 }
             }
             Turn::Whole => {

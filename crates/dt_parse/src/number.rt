@@ -3,7 +3,7 @@
 ghost use Rattle.std.specs.Prelude.{◌≡◌, ◌≤◌, ◌-◌, ℕ, List, length, MatchOption, IfOk, IfErr};
 ghost use Rattle.dt_model.specs.Limits.{most_tokens};
 ghost use Rattle.dt_names.specs.declared.fault.FaultKind.TheVariants.{Limit};
-ghost use Rattle.dt_expr.specs.Expression.{Expression, steps, value};
+ghost use Rattle.dt_expr.specs.Expression.{Expression, AreSteps, steps, value};
 ghost use Rattle.dt_expr.specs.Fits.{element, IsWidth};
 ghost use Rattle.dt_grammar.specs.Words.{words_of};
 ghost use Rattle.dt_grammar.specs.Unchecked.{value_or_zero};
@@ -14,13 +14,12 @@ ghost use Rattle.dt_parse.specs.Standing.{Refused};
 ghost use Rattle.dt_parse.specs.Numbers.{IsLiteral, IsMeasured, IsValued};
 
 use crate::cursor::Cursor;
-use crate::expression::{Refusal, primary};
+use crate::expression::{Refusal, Room, primary};
 use crate::stop::Stop;
 use dt_expr::{Expr, Step, eval, fit, one_expression};
 use dt_lex::{Token, TokenKind};
 use dt_names::FaultKind;
 use dt_names::limits::MOST_TOKENS;
-use std::alloc::Global;
 
 /// The number that a token is by itself.
 fn literal(next: Option<TokenKind>) -> Option<u64>
@@ -68,18 +67,18 @@ fn refused(tokens: &[Token], refusal: Refusal) -> Stop
     }
 }
 
-/// The steps of the expression that the tokens begin with, and of how many tokens it is.
+/// Of how many tokens the expression is that the tokens begin with. The room then has its steps.
 #[inline(never)]
-fn measured(alloc: Global, tokens: &[Token]) -> Result<(Vec<Step>, usize), Stop>
-    ensures ok { IfOk result (λ r. (text : List ℕ) → IsMeasured (words_of text tokens.now) r.0.items r.1) }
+fn measured(room: &mut Room, tokens: &[Token]) -> Result<usize, Stop>
+    ensures ok { IfOk result (λ used. (text : List ℕ) → IsMeasured (words_of text tokens.now) room.new.steps.items used) }
     ensures err { IfErr result (λ stop. (text : List ℕ) (a : Around) → IsBroken a Prim (words_of text tokens.now) stop) }
 {
-    match primary(alloc, tokens) {
+    match primary(room, tokens) {
         Err(refusal) => Err(refused(tokens, refusal)),
-        Ok((steps, rest)) => {
+        Ok(rest) => {
             let used = tokens.len() - rest.len();
             if used <= MOST_TOKENS {
-                Ok((steps, used))
+                Ok(used)
             } else {
                 Err(over_limit(tokens))
             }
@@ -87,14 +86,13 @@ fn measured(alloc: Global, tokens: &[Token]) -> Result<(Vec<Step>, usize), Stop>
     }
 }
 
-/// The value of an expression; none where it divides by 0.
+/// The value of the expression of these steps; none where it divides by 0.
 #[inline(never)]
-fn value_of(found: Vec<Step>) -> Option<u64>
-    ensures { (e : Expression) → found.items ≡ steps e → length found.items ≤ most_tokens → result ≡ value e }
+fn value_of(found: &[Step]) -> Option<u64>
+    requires { AreSteps found.now }
+    ensures { (e : Expression) → found.now ≡ steps e → result ≡ value e }
 {
-    one_expression();
-    let expression = Expr::new(found)?;
-    match eval(&expression) {
+    match eval(&Expr::known(found)) {
         Ok(value) => Some(value),
         Err(_) => None,
     }
@@ -102,15 +100,16 @@ fn value_of(found: Vec<Step>) -> Option<u64>
 
 /// The value of the number that is next, and of how many tokens it is. A number that is one token takes no memory.
 #[inline(always)]
-fn valued(alloc: Global, cursor: &Cursor<'_, '_>) -> Result<(u64, usize), Stop>
+fn valued(room: &mut Room, cursor: &Cursor<'_, '_>) -> Result<(u64, usize), Stop>
     ensures ok { IfOk result (λ r. IsValued cursor.now r.0 r.1) }
     ensures err { IfErr result (λ stop. (a : Around) → IsBroken a Prim cursor.now stop) }
 {
     if let Some(value) = literal(cursor.kind()) {
         return Ok((value, 1));
     }
-    let (steps, used) = measured(alloc, cursor.tokens())?;
-    match value_of(steps) {
+    let used = measured(room, cursor.tokens())?;
+    one_expression();
+    match value_of(&room.steps) {
         Some(value) => Ok((value, used)),
         None => Err(cursor.stop(FaultKind::DivideByZero)),
     }
@@ -119,13 +118,13 @@ fn valued(alloc: Global, cursor: &Cursor<'_, '_>) -> Result<(u64, usize), Stop>
 /// Reads a number: an integer, a character or an expression in parentheses (Devicetree Specification v0.4, 6.3), as an
 /// element of so many bits. Answers its low bits.
 #[inline(always)]
-pub(crate) fn number(alloc: Global, bits: u32, cursor: &mut Cursor<'_, '_>) -> Result<u64, Stop>
+pub(crate) fn number(room: &mut Room, bits: u32, cursor: &mut Cursor<'_, '_>) -> Result<u64, Stop>
     requires { IsWidth bits }
     ensures ok { IfOk result (λ n. (a : Around) → (m : Made) × IsRead (in_elements bits a) Prim cursor.old m cursor.new
         × (n ≡ element bits (value_or_zero (expression_in m)))) }
     ensures err { IfErr result (λ stop. (a : Around) → IsBroken (in_elements bits a) Prim cursor.old stop) }
 {
-    let (value, used) = valued(alloc, cursor)?;
+    let (value, used) = valued(room, cursor)?;
     match fit(value, bits) {
         Ok(element) => {
             cursor.skip(used);

@@ -22,6 +22,7 @@ ghost use Rattle.dt_parse.specs.Leading.{ReadsOn, Reserves};
 ghost use Rattle.dt_source_items.specs.Said.{reservation_said};
 
 use crate::cursor::Cursor;
+use crate::expression::Room;
 use crate::number::number;
 use crate::seeding::seed_of;
 use crate::statement::statements;
@@ -92,16 +93,16 @@ fn are_zero(address: u64, size: u64) -> bool
 
 /// Reads a reservation, from its `/memreserve/` to its `;` (Devicetree Specification v0.4, 6.3). `OutOfRange` where both of its
 /// numbers are 0, at the second.
-fn reservation(alloc: Global, cursor: &mut Cursor<'_, '_>) -> Result<Reservation, Stop>
+fn reservation(room: &mut Room, cursor: &mut Cursor<'_, '_>) -> Result<Reservation, Stop>
     requires { kind_at (first cursor.old) ≡ Some (kind.Keyword keyword.Memreserve) }
     ensures ok { IfOk result (λ r. (ls : List (List ℕ)) → AreLabelTexts ls → Reserves ls cursor.old (reservation_said r) cursor.new) }
     ensures shorter { IfOk result (λ _. length cursor.new < length cursor.old) }
     ensures err { IfErr result (λ stop. (ls : List (List ℕ)) → IsBroken outside (AfterTopLabels ls) cursor.old stop) }
 {
     cursor.advance();
-    let address = number(alloc, 64, cursor)?;
+    let address = number(room, 64, cursor)?;
     let left = cursor.left();
-    let size = number(alloc, 64, cursor)?;
+    let size = number(room, 64, cursor)?;
     if are_zero(address, size) {
         return Err(Stop {
             kind: FaultKind::OutOfRange,
@@ -142,7 +143,7 @@ fn statement_labels<'a>(
 
 /// Reads the reservations, and the labels of the first statement behind them.
 fn reservations<'a>(
-    alloc: Global,
+    room: &mut Room,
     cursor: &mut Cursor<'a, '_>,
 ) -> Result<(Vec<Reservation>, Vec<Label<'a>>), Stop>
     ensures ok { IfOk result (λ r. (rs : List RawReserve) × (ls : List (List ℕ)) × AllByRecursion IsReserve rs × AreLabelTexts ls
@@ -152,26 +153,26 @@ fn reservations<'a>(
         × ((k : FaultKind) (left : Words) → Breaks outside (StatementThen ls) cursor.new k left → Breaks outside Top cursor.old k left)) }
     ensures err { IfErr result (λ stop. IsBroken outside Top cursor.old stop) }
 {
-    let mut list = Vec::new(alloc);
+    let mut list = Vec::new(room.alloc);
     'reservations: loop {
-        if let Some(names) = statement_labels(alloc, cursor)? {
+        if let Some(names) = statement_labels(room.alloc, cursor)? {
             return Ok((list, names));
         }
-        let next = reservation(alloc, cursor)?;
+        let next = reservation(room, cursor)?;
         list.push(next)?;
     }
 }
 
 /// Reads a source, to the end of the text that has the seed.
-fn source<'a>(alloc: Global, seed: Seed, cursor: &mut Cursor<'a, '_>) -> Result<Source<'a>, Stop>
+fn source<'a>(room: &mut Room, seed: Seed, cursor: &mut Cursor<'a, '_>) -> Result<Source<'a>, Stop>
     requires { HaveBytes cursor.old }
     ensures ok { IfOk result (λ s. (r : RawSource) × IsRead outside Whole cursor.old (made_source r) [] × (s ≡ says_of r)) }
     ensures err { IfErr result (λ stop. IsBroken outside Whole cursor.old stop) }
 {
     let plugin = headers(cursor)?;
-    let (reservations, names) = reservations(alloc, cursor)?;
-    let mut items = Items::new(alloc);
-    statements(alloc, names, cursor, &mut items)?;
+    let (reservations, names) = reservations(room, cursor)?;
+    let mut items = Items::new(room.alloc);
+    statements(room, names, cursor, &mut items)?;
     items.shrink_to_fit();
     Ok(Source::of(seed, plugin, reservations, items))
 }
@@ -225,7 +226,8 @@ pub fn parse<'a>(alloc: Global, text: &'a [u8]) -> Result<Source<'a>, Fault>
     if !is_tagged(&cursor) {
         return Err(Fault::at(FaultKind::BadVersionTag, 0));
     }
-    match source(alloc, seed_of(text, tokens.as_slice()), &mut cursor) {
+    let mut room = Room::new(alloc);
+    match source(&mut room, seed_of(text, tokens.as_slice()), &mut cursor) {
         Ok(source) => Ok(source),
         Err(stop) => Err(fault_of(stop, text, tokens.as_slice())),
     }

@@ -13,12 +13,12 @@ ghost use Rattle.dt_parse.specs.Starts.{start_of};
 
 use crate::body::{body, push_item, push_labels};
 use crate::cursor::Cursor;
+use crate::expression::Room;
 use crate::stop::Stop;
 use crate::value::{labels, reference};
 use dt_lex::{Keyword, Mark, TokenKind};
 use dt_names::{FaultKind, Label};
 use dt_source_items::{Bare, Items};
-use std::alloc::Global;
 
 /// What a statement begins with, behind its labels.
 #[derive(Clone, Copy)]
@@ -46,7 +46,7 @@ fn start_of(kind: Option<TokenKind>) -> Start
 
 /// Reads `/` and a body.
 fn root<'a>(
-    alloc: Global,
+    room: &mut Room,
     labelled: bool,
     cursor: &mut Cursor<'a, '_>,
     items: &mut Items<'a>,
@@ -62,7 +62,7 @@ fn root<'a>(
     }
     cursor.advance();
     push_item(Bare::Root, items)?;
-    body(alloc, cursor, items)
+    body(room, cursor, items)
 }
 
 /// Reads the reference in front of a body.
@@ -80,7 +80,7 @@ fn open_block<'a>(cursor: &mut Cursor<'a, '_>, items: &mut Items<'a>) -> Result<
 
 /// Reads a reference and a body, behind labels.
 fn block<'a>(
-    alloc: Global,
+    room: &mut Room,
     names: Vec<Label<'a>>,
     cursor: &mut Cursor<'a, '_>,
     items: &mut Items<'a>,
@@ -93,7 +93,7 @@ fn block<'a>(
 {
     open_block(cursor, items)?;
     push_labels(names, items)?;
-    body(alloc, cursor, items)
+    body(room, cursor, items)
 }
 
 /// Reads `/delete-node/`, a reference and `;`.
@@ -125,7 +125,7 @@ fn delete_node<'a>(
 
 /// Reads a statement, behind its labels.
 fn statement<'a>(
-    alloc: Global,
+    room: &mut Room,
     names: Vec<Label<'a>>,
     cursor: &mut Cursor<'a, '_>,
     items: &mut Items<'a>,
@@ -136,16 +136,16 @@ fn statement<'a>(
     ensures err { (ls : List (List ℕ)) → names.entry.items ≡ map all_but_last ls → IfErr result (λ stop. IsBroken outside (OneStatement ls) cursor.old stop) }
 {
     match start_of(cursor.kind()) {
-        Start::Root => root(alloc, !names.is_empty(), cursor, items),
+        Start::Root => root(room, !names.is_empty(), cursor, items),
         Start::Deletion => delete_node(!names.is_empty(), cursor, items),
-        Start::Node => block(alloc, names, cursor, items),
+        Start::Node => block(room, names, cursor, items),
         Start::Other => Err(cursor.stop(FaultKind::Syntax)),
     }
 }
 
 /// Reads statements up to the end of the text, behind the labels of the first.
 pub(crate) fn statements<'a>(
-    alloc: Global,
+    room: &mut Room,
     names: Vec<Label<'a>>,
     cursor: &mut Cursor<'a, '_>,
     items: &mut Items<'a>,
@@ -156,10 +156,10 @@ pub(crate) fn statements<'a>(
     ensures err { (ls : List (List ℕ)) → names.entry.items ≡ map all_but_last ls → AreLabelTexts ls → IfErr result
         (λ stop. IsBroken outside (StatementThen ls) cursor.old stop) }
 {
-    statement(alloc, names, cursor, items)?;
+    statement(room, names, cursor, items)?;
     'statements: while cursor.left() > 0 {
-        let others = labels(alloc, cursor)?;
-        statement(alloc, others, cursor, items)?;
+        let others = labels(room.alloc, cursor)?;
+        statement(room, others, cursor, items)?;
     }
     Ok(())
 }

@@ -23,6 +23,7 @@ ghost use Rattle.dt_source_items.specs.Gathered.{with_parts, with_value};
 ghost use Rattle.dt_source_items.specs.Said.{reference_of, referring};
 
 use crate::cursor::Cursor;
+use crate::expression::Room;
 use crate::number::number;
 use crate::referring::referred_path;
 use crate::stop::Stop;
@@ -205,7 +206,7 @@ fn skip_labels(cursor: &mut Cursor<'_, '_>) -> Result<(), Stop>
 
 /// Reads what is between `<` and `>`, in elements of so many bits.
 fn cells<'a>(
-    alloc: Global,
+    room: &mut Room,
     bits: u32,
     cursor: &mut Cursor<'a, '_>,
     items: &mut Items<'a>,
@@ -230,7 +231,7 @@ fn cells<'a>(
                 items.push_reference(Form::Cell, target)?;
             }
             CellOpening::Number => {
-                let element = number(alloc, bits, cursor)?;
+                let element = number(room, bits, cursor)?;
                 push_element(items, bits, element)?;
             }
             CellOpening::Nothing => return Ok(()),
@@ -261,7 +262,7 @@ fn bytes<'a>(cursor: &mut Cursor<'a, '_>, items: &mut Items<'a>) -> Result<(), S
 
 /// Reads a cell list from its `<` to its `>`, in elements of so many bits.
 fn cell_list<'a>(
-    alloc: Global,
+    room: &mut Room,
     bits: u32,
     cursor: &mut Cursor<'a, '_>,
     items: &mut Items<'a>,
@@ -272,7 +273,7 @@ fn cell_list<'a>(
     ensures err { IfErr result (λ stop. (a : Around) → IsBroken a (BitsOpen bits) cursor.old stop) }
 {
     cursor.expect(TokenKind::Mark(Mark::Less))?;
-    cells(alloc, bits, cursor, items)?;
+    cells(room, bits, cursor, items)?;
     cursor.expect(TokenKind::Mark(Mark::Greater))
 }
 
@@ -293,7 +294,7 @@ fn width(cursor: &Cursor<'_, '_>) -> Result<u32, Stop>
 
 /// Reads a cell list behind its `/bits/`.
 fn sized_cells<'a>(
-    alloc: Global,
+    room: &mut Room,
     cursor: &mut Cursor<'a, '_>,
     items: &mut Items<'a>,
 ) -> Result<(), Stop>
@@ -303,7 +304,7 @@ fn sized_cells<'a>(
 {
     let bits = width(cursor)?;
     cursor.advance();
-    cell_list(alloc, bits, cursor, items)
+    cell_list(room, bits, cursor, items)
 }
 
 /// Reads a text.
@@ -344,16 +345,16 @@ fn path_text<'a>(cursor: &mut Cursor<'a, '_>, items: &mut Items<'a>) -> Result<(
 }
 
 /// Reads one component of a value, without the labels around it.
-fn item<'a>(alloc: Global, cursor: &mut Cursor<'a, '_>, items: &mut Items<'a>) -> Result<(), Stop>
+fn item<'a>(room: &mut Room, cursor: &mut Cursor<'a, '_>, items: &mut Items<'a>) -> Result<(), Stop>
     ensures ok { OnOk result ((i : RawItem) × ((a : Around) → IsRead a OneItem cursor.old (made_item i) cursor.new)
         × (items.new ≡ with_parts items.old (item_parts i))) }
     ensures err { IfErr result (λ stop. (a : Around) → IsBroken a OneItem cursor.old stop) }
 {
     match opening_of(cursor.kind()) {
-        Opening::Cells => cell_list(alloc, CELL, cursor, items),
+        Opening::Cells => cell_list(room, CELL, cursor, items),
         Opening::SizedCells => {
             cursor.advance();
-            sized_cells(alloc, cursor, items)
+            sized_cells(room, cursor, items)
         }
         Opening::Text => text(cursor, items),
         Opening::Bytes => byte_list(cursor, items),
@@ -364,7 +365,7 @@ fn item<'a>(alloc: Global, cursor: &mut Cursor<'a, '_>, items: &mut Items<'a>) -
 
 /// Reads components with commas between them, and appends what they say.
 fn components<'a>(
-    alloc: Global,
+    room: &mut Room,
     cursor: &mut Cursor<'a, '_>,
     items: &mut Items<'a>,
 ) -> Result<(), Stop>
@@ -374,7 +375,7 @@ fn components<'a>(
 {
     'components: loop {
         skip_labels(cursor)?;
-        item(alloc, cursor, items)?;
+        item(room, cursor, items)?;
         skip_labels(cursor)?;
         if cursor.kind() != Some(TokenKind::Mark(Mark::Comma)) {
             return Ok(());
@@ -385,7 +386,7 @@ fn components<'a>(
 
 /// Reads a value: components with commas between them, labels before and behind each (Devicetree Specification v0.4, 6.3).
 pub(crate) fn value<'a>(
-    alloc: Global,
+    room: &mut Room,
     cursor: &mut Cursor<'a, '_>,
     items: &mut Items<'a>,
 ) -> Result<(), Stop>
@@ -394,5 +395,5 @@ pub(crate) fn value<'a>(
     ensures err { IfErr result (λ stop. (a : Around) → IsBroken a OneValue cursor.old stop) }
 {
     items.begin_value();
-    components(alloc, cursor, items)
+    components(room, cursor, items)
 }
