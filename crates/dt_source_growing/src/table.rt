@@ -18,6 +18,9 @@ pub struct Last {
 /// An owner, a name, and what was last made of them.
 type Entry<'a> = ((usize, NameKey<'a>), Last);
 
+/// The entries that are hashed.
+type Hashed<'a> = HashMap<(usize, NameKey<'a>), Last, Seed>;
+
 /// Where the entries of an owner lie, and whether others of it are hashed.
 #[derive(Clone, Copy)]
 pub(crate) struct Span {
@@ -41,7 +44,7 @@ const FEW: usize = 16;
 pub struct Table<'a> {
     rows: Vec<Entry<'a>>,
     spans: Vec<Span>,
-    hashed: HashMap<(usize, NameKey<'a>), Last, Seed>,
+    hashed: Hashed<'a>,
 }
 
 impl<'a> Model for Table<'a> {
@@ -101,6 +104,24 @@ fn seek(rows: &[Entry<'_>], span: Span, owner: usize, name: &[u8]) -> Option<usi
         place += 1;
     }
     None
+}
+
+/// Puts what was last made of an owner and a name among the hashed entries, and answers what was there. Few entries come here, so the others
+/// don't pay for what a hash needs.
+#[inline(never)]
+fn replace_hashed<'a>(
+    hashed: &mut Hashed<'a>,
+    owner: usize,
+    name: &'a [u8],
+    last: Last,
+) -> Result<Option<Last>, AllocError>
+    ensures before { IfOk result (λ before. before ≡ entry hashed.old.entries owner name.now) }
+    ensures ok { OnOk result (Puts hashed.old.entries hashed.new.entries owner name.now last) }
+    ensures err { OnErr result (hashed.new.entries ≡ hashed.old.entries) }
+    ensures absent { OnErr result (entry hashed.old.entries owner name.now ≡ None) }
+{
+    let before = hashed.insert((owner, NameKey { bytes: name }), last)?;
+    Ok(before)
 }
 
 /// Whether one more row of an owner may come behind all rows: it has none, or few, and the last row is one of them.
@@ -175,11 +196,11 @@ impl<'a> Table<'a> {
             self.rows[place].1 = last;
             return Ok(Some(before));
         }
-        let key = (owner, NameKey { bytes: name });
         if has_room(span, self.rows.len()) {
             self.rows.reserve(1)?;
             set_span(&mut self.spans, owner, longer(span, self.rows.len()))?;
-            self.rows.push_reserved((key, last));
+            self.rows
+                .push_reserved(((owner, NameKey { bytes: name }), last));
             return Ok(None);
         }
         let spilled = Span {
@@ -188,7 +209,7 @@ impl<'a> Table<'a> {
             spills: true,
         };
         set_span(&mut self.spans, owner, spilled)?;
-        let before = self.hashed.insert(key, last)?;
+        let before = replace_hashed(&mut self.hashed, owner, name, last)?;
         Ok(before)
     }
 }

@@ -3,7 +3,7 @@ use Rattle.std.specs.Str.{bytes_eq}
 use Rattle.dt_source_growing.specs.Table.{Key, entry, span_at, Puts, IsFirstOf, HasRoom, longer, AreSpans}
 use Rattle.dt_source_growing.specs.declared.table.Last.{Last}
 use Rattle.dt_source_growing.specs.declared.table.Span.{Span}
-use Rattle.dt_source_growing.proofs.TableLemmas.{on_err, row_is, key-refl, first_entry, set_entry, entry-front, entry-behind, puts_from_updates, puts-front, puts-behind, puts-row, spilled, spans-row, spans-hashed}
+use Rattle.dt_source_growing.proofs.TableLemmas.{on_err, row_is, key-refl, first_entry, set_entry, entry-front, entry-behind, puts-front, puts-behind, puts-row, spilled, spans-row, spans-hashed}
 use Rattle.dt_source_growing.proofs.table.Table.replace.Goals as goal
 
 pub returns-in-Some-clause-before : goal.returns-in-Some-clause-before
@@ -128,8 +128,8 @@ invariant_of-self-2 c =
     let span : c.span_of-span.result ≡ span_at c.self.inside.spans.items i = c.span_of-span.ensures ∙ ap (λ (ss : List Span). span_at ss i) c.deref.ensures.value in
     let none : entry rows i x ≡ None = ap (λ (rs : List (Key × Last)). entry rs i x) (sym c.deref-2.ensures.value) ∙ c.in_default.ensures in
     let w = c.args.last in
-    let put : Puts hashed c.insert.new.self.entries i x w = λ j y. puts_from_updates c.self.inside.hashed c.insert.new.self (i, record { bytes = c.args.name }) _ c.in_ok-before.ensures.updates j y in
-    spans-hashed rows c.self.inside.spans.items c.set_span-2.new.spans.items hashed c.insert.new.self.entries i
+    let put : Puts hashed c.replace_hashed.new.hashed.entries i x w = c.in_ok-before.ensures.ok in
+    spans-hashed rows c.self.inside.spans.items c.set_span-2.new.spans.items hashed c.replace_hashed.new.hashed.entries i
     (λ j. c.in_ok-set_span-2.ensures.ok j ∙ ap (λ (s : Span). cond (nat_eq i j) (spilled s) (span_at c.self.inside.spans.items j)) span)
     (λ j y other. put j y ∙ ap (λ (b : Bool). cond (b && bytes_eq x y) (Some w) (entry hashed j y)) other) c.self.invariant
 
@@ -141,7 +141,7 @@ returns-clause-before c =
     let hashed = c.self.inside.hashed.entries in
     let span : c.span_of-span.result ≡ span_at c.self.inside.spans.items i = c.span_of-span.ensures ∙ ap (λ (ss : List Span). span_at ss i) c.deref.ensures.value in
     let none : entry rows i x ≡ None = ap (λ (rs : List (Key × Last)). entry rs i x) (sym c.deref-2.ensures.value) ∙ c.in_default.ensures in
-    c.in_ok-before.ensures.old ∙ sym (entry-behind rows hashed i x none) ∙ ap (λ (es : List (Key × Last)). entry es i x) c.self.view_is
+    c.in_ok-before.ensures.before ∙ sym (entry-behind rows hashed i x none) ∙ ap (λ (es : List (Key × Last)). entry es i x) c.self.view_is
 
 pub returns-clause-ok : goal.returns-clause-ok
 returns-clause-ok c =
@@ -152,5 +152,5 @@ returns-clause-ok c =
     let span : c.span_of-span.result ≡ span_at c.self.inside.spans.items i = c.span_of-span.ensures ∙ ap (λ (ss : List Span). span_at ss i) c.deref.ensures.value in
     let none : entry rows i x ≡ None = ap (λ (rs : List (Key × Last)). entry rs i x) (sym c.deref-2.ensures.value) ∙ c.in_default.ensures in
     let w = c.args.last in
-    let put : Puts hashed c.insert.new.self.entries i x w = λ j y. puts_from_updates c.self.inside.hashed c.insert.new.self (i, record { bytes = c.args.name }) _ c.in_ok-before.ensures.updates j y in
-    subst (λ (es : List (Key × Last)). Puts es (rows ++ c.insert.new.self.entries) i x w) c.self.view_is (puts-behind rows hashed c.insert.new.self.entries i x w none put)
+    let put : Puts hashed c.replace_hashed.new.hashed.entries i x w = c.in_ok-before.ensures.ok in
+    subst (λ (es : List (Key × Last)). Puts es (rows ++ c.replace_hashed.new.hashed.entries) i x w) c.self.view_is (puts-behind rows hashed c.replace_hashed.new.hashed.entries i x w none put)
