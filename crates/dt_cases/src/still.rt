@@ -60,12 +60,14 @@ fn of_bytes(alloc: Global, input: &[u8]) -> Result<usize, Stop> {
 fn of_expression(alloc: Global, input: &[u8]) -> Result<usize, Stop> {
     let steps = steps_of(alloc, input)?;
     let begun = ask_for(alloc, BEGIN);
-    let Some(expression) = Expr::new(&steps) else {
-        return Err(Stop::Malformed);
+    let answered = match Expr::new(&steps) {
+        Some(expression) => expression
+            .steps()
+            .len()
+            .saturating_add(usize::from(eval(&expression).is_ok())),
+        None => 0,
     };
-    let is_answered = eval(&expression).is_ok();
-    let size = expression.steps().len();
-    finish(alloc, begun, size.saturating_add(usize::from(is_answered)))
+    finish(alloc, begun, answered)
 }
 
 fn of_source(alloc: Global, input: &[u8]) -> Result<usize, Stop> {
