@@ -14,7 +14,7 @@ use std::marker::Model;
 /// The number of a name, in the order in which names came.
 pub(crate) type NameId = usize;
 
-/// A name of at most so many bytes takes no memory of its own. The specification's names are no longer (v0.4, 2.2.1 and 2.2.4.1).
+/// Names of at most so many bytes, as many as the specification allows (v0.4, 2.2.1 without a unit address, 2.2.4.1), take no memory.
 const SHORT_NAME_BYTES: usize = 31;
 
 /// A name that a table owns. It is found by a [`NameKey`], and hashed as one.

@@ -38,8 +38,8 @@ const EMPTY: Span = Span {
 /// Of an owner at most so many entries lie side by side. To look through as many costs less than a hash.
 const FEW: usize = 16;
 
-/// From the index of an owner and a name to what was last made of them. Most owners get their entries one after another, and few of them: these lie side by side and are
-/// looked through. The others are hashed.
+/// From the index of an owner and a name to what was last made of them. Most owners get few entries, one after another: these lie side by
+/// side and are looked through. The others are hashed.
 #[derive(Drop)]
 pub struct Table<'a> {
     rows: Vec<Entry<'a>>,
