@@ -5,8 +5,8 @@ use Rattle.std.specs.Prelude.{is_some}
 use Rattle.std.specs.Option.{MatchOption}
 use Rattle.std.specs.Bool.{OnTrue}
 use Rattle.dt_model.specs.Path.{Path, path_text}
-use Rattle.dt_read.specs.Placed.{PlacedTree, last_name, path_at, IsNode}
-use Rattle.dt_view.specs.Views.{IsAbove, AreAbove}
+use Rattle.dt_trees.specs.Placed.{PlacedTree, last_name, path_at, IsNode}
+use Rattle.dt_trees.specs.Views.{IsAbove, AreAbove}
 use Rattle.dt_view.specs.Ways.{names_text}
 use Rattle.dt_view.proofs.PathTexts.{names_are, one_name_less}
 

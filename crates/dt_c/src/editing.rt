@@ -10,7 +10,7 @@ ghost use Rattle.dt_model.specs.Changes.{with_child_at, with_property_at};
 ghost use Rattle.dt_model.specs.Checks.{number};
 ghost use Rattle.dt_model.specs.Path.{Path};
 ghost use Rattle.dt_read.specs.Checked.{IsBlob, placed_of};
-ghost use Rattle.dt_read.specs.Placed.{IsAt, IsNode};
+ghost use Rattle.dt_trees.specs.Placed.{IsAt, IsNode};
 
 use crate::crossing::{CFault, put_fault};
 use dt_edit::{add_node, has_cell, open_into, patch_cell, set_prop};

@@ -9,8 +9,8 @@ ghost use Rattle.dt_model.specs.Tree.{Property, nodes_of, value_in};
 ghost use Rattle.dt_read.specs.Checked.{IsBlob, placed_of};
 ghost use Rattle.dt_read.specs.Kinds.{kind_of};
 ghost use Rattle.dt_read.specs.Lying.{Lies};
-ghost use Rattle.dt_read.specs.Placed.{last_name, path_at, place_of, properties_at, reading_of, IsAt, IsNode};
-ghost use Rattle.dt_view.specs.Views.{first_child_of, next_sibling_of, IsAbove, IsFoundBy, WhyNotFound};
+ghost use Rattle.dt_trees.specs.Placed.{last_name, path_at, place_of, properties_at, reading_of, IsAt, IsNode};
+ghost use Rattle.dt_trees.specs.Views.{first_child_of, next_sibling_of, IsAbove, IsFoundBy, WhyNotFound};
 ghost use Rattle.dt_c.specs.Crossing.{given, span_of, IsRefused};
 
 use crate::crossing::{CCounts, CFault, CProperty, CReservation, CSpan, put_fault, put_node};

@@ -4,8 +4,8 @@ ghost use Rattle.std.specs.Prelude.{◌≡◌, ◌+◌, ◌<◌, ◌≤◌, ◌+
 ghost use Rattle.std.specs.Bool.{OnTrue, OnFalse};
 ghost use Rattle.dt_model.specs.Path.{path_text, path_value};
 ghost use Rattle.dt_read.specs.Checked.{IsBlob, placed_of};
-ghost use Rattle.dt_read.specs.Placed.{path_at, IsNode};
-ghost use Rattle.dt_view.specs.Views.{AreAbove};
+ghost use Rattle.dt_trees.specs.Placed.{path_at, IsNode};
+ghost use Rattle.dt_trees.specs.Views.{AreAbove};
 ghost use Rattle.dt_view.specs.Ways.{names_text};
 
 use crate::looking::blob_of;

@@ -4,12 +4,12 @@ ghost use Rattle.std.specs.Prelude.{◌≡◌};
 ghost use Rattle.std.specs.Bool.{OnTrue, OnFalse};
 ghost use Rattle.dt_irq.specs.Seen.{route_in, HasArrived};
 ghost use Rattle.dt_read.specs.Checked.{IsBlob, placed_of};
-ghost use Rattle.dt_read.specs.Placed.{path_at, IsNode};
+ghost use Rattle.dt_trees.specs.Placed.{path_at, IsNode};
 ghost use Rattle.dt_resolve_model.specs.Answers.{answer, refused};
 ghost use Rattle.dt_resolve_model.specs.Interrupts.{IsRoute, interrupt_at};
 ghost use Rattle.dt_resolve_model.specs.Regions.{region, dma_region};
 ghost use Rattle.dt_resolve_model.specs.Specifiers.{specifier_at, specifier_route};
-ghost use Rattle.dt_view.specs.Views.{world_of};
+ghost use Rattle.dt_view.specs.Worlds.{world_of};
 ghost use Rattle.dt_c.specs.Crossing.{region_of, route_of, wide, IsRefused};
 
 use crate::crossing::{CFault, CRegion, CRoute, joined, put_fault, put_region, put_route};

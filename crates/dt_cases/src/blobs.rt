@@ -1,7 +1,7 @@
 //! Sources, blobs, and what blobs hold.
 
 ghost use Rattle.dt_model.specs.Path.{Path};
-ghost use Rattle.dt_read.specs.Placed.{IsAt};
+ghost use Rattle.dt_trees.specs.Placed.{IsAt};
 
 use crate::input::bytes_of;
 use crate::numbers::index;

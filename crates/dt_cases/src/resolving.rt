@@ -1,7 +1,7 @@
 //! Addresses and interrupts of blobs, and nodes by their paths.
 
 ghost use Rattle.std.specs.Prelude.{◌<◌, length, IfOk};
-ghost use Rattle.dt_read.specs.Placed.{IsNode};
+ghost use Rattle.dt_trees.specs.Placed.{IsNode};
 ghost use Rattle.dt_irq.specs.Seen.{HasArrived};
 
 use crate::names::text_of;

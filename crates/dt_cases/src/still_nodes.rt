@@ -1,7 +1,7 @@
 //! What takes no memory, of trees.
 
 ghost use Rattle.std.specs.Prelude.{◌<◌, length};
-ghost use Rattle.dt_read.specs.Placed.{IsNode};
+ghost use Rattle.dt_trees.specs.Placed.{IsNode};
 
 use crate::blobs::{put_blob, put_children, put_properties};
 use crate::names::put_names;

@@ -3,7 +3,7 @@
 ghost use Rattle.std.specs.Prelude.{◌≡◌, IfOk, IfErr};
 ghost use Rattle.dt_names.specs.declared.fault.FaultKind.TheVariants.{NoMemory};
 ghost use Rattle.dt_model.specs.Printed.{printed};
-ghost use Rattle.dt_read.specs.Placed.{reading_of};
+ghost use Rattle.dt_trees.specs.Placed.{reading_of};
 ghost use Rattle.dt_names.specs.Fault.{placeless};
 ghost use Rattle.dt_chain_promises.specs.Decompile.{IsDecompiled, WhyNotDecompiled};
 

@@ -3,7 +3,7 @@
 ghost use Rattle.std.specs.Prelude.{◌++◌, OnOk, IfErr};
 ghost use Rattle.dt_model.specs.Printed.{printed};
 ghost use Rattle.dt_names.specs.Sink.{Takes, IsRefused};
-ghost use Rattle.dt_read.specs.Placed.{reading_of};
+ghost use Rattle.dt_trees.specs.Placed.{reading_of};
 ghost use Rattle.dt_text_writer.specs.Written.{Puts, FailsAt};
 
 use crate::reservations::put_reservations;

@@ -15,7 +15,7 @@ use Rattle.dt_read.specs.Checked.{placed_of, root_of}
 use Rattle.dt_read.specs.Cuts.{SpellsRoot}
 use Rattle.dt_read.specs.Marks.{Root}
 use Rattle.dt_read.specs.Parsing.{tree_in}
-use Rattle.dt_read.specs.Placed.{forest_of, reading_of}
+use Rattle.dt_trees.specs.Placed.{forest_of, reading_of}
 use Rattle.dt_read.proofs.CheckedBytes.{placed_is_read}
 use Rattle.dt_read.proofs.SplicedTrees.{spelled_root_is, spells_tree}
 use Rattle.dt_write.specs.Written.{assembled}

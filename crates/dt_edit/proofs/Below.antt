@@ -9,9 +9,9 @@ use Rattle.dt_model.specs.Tree.{nodes_of, stands_in}
 use Rattle.dt_model.specs.Valid.{node_count}
 use Rattle.dt_model.proofs.Preorder.{length-preorder}
 use Rattle.dt_read.specs.Checked.{placed_of}
-use Rattle.dt_read.specs.Placed.{PlacedTree, path_at, place_of, reading_of}
-use Rattle.dt_read.proofs.NodePlaces.{stands_place}
-use Rattle.dt_view.specs.Views.{AreAbove}
+use Rattle.dt_trees.specs.Placed.{PlacedTree, path_at, place_of, reading_of}
+use Rattle.dt_trees.proofs.NodePlaces.{stands_place}
+use Rattle.dt_trees.specs.Views.{AreAbove}
 use Rattle.dt_view.proofs.PathTexts.{one_shorter}
 use Rattle.dt_edit.specs.Editable.{reading_in, path_in}
 

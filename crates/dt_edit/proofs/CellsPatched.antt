@@ -21,7 +21,7 @@ use Rattle.dt_read.specs.Cuts.{changed_root, with_value, moved, moved_root, spli
 use Rattle.dt_read.specs.Lying.{Lies}
 use Rattle.dt_read.specs.Marks.{Root}
 use Rattle.dt_read.specs.declared.spans.Span.{Span}
-use Rattle.dt_read.specs.Placed.{IsAt}
+use Rattle.dt_trees.specs.Placed.{IsAt}
 use Rattle.dt_read.proofs.Splices.{holds_still}
 use Rattle.dt_write.specs.Written.{header}
 use Rattle.dt_edit.specs.Editable.{reading_in, path_in, value_patched, HasCellAt, IsEditable, MayPatchIn}

@@ -15,9 +15,9 @@ use Rattle.dt_model_format.specs.Strings.{terminated}
 use Rattle.dt_read.specs.Checked.{placed_of, root_of}
 use Rattle.dt_read.specs.Cuts.{content_of, changed_root, with_node, moved, moved_root, spliced, SpellsRoot}
 use Rattle.dt_read.specs.Marks.{Root}
-use Rattle.dt_read.specs.Placed.{place_below, IsAt, IsNode}
+use Rattle.dt_trees.specs.Placed.{place_below, IsAt, IsNode}
 use Rattle.dt_read.proofs.ChangedPlaces.{appended_branch, appended_forest, appended_keeps, moved_place, new_place}
-use Rattle.dt_read.proofs.NodePlaces.{stands_place}
+use Rattle.dt_trees.proofs.NodePlaces.{stands_place}
 use Rattle.dt_read.proofs.Splices.{stays_there}
 use Rattle.dt_write.specs.Written.{zeros_after, assembled}
 use Rattle.dt_write.proofs.WrittenReads.{node_text}

@@ -9,10 +9,10 @@ use Rattle.dt_model.specs.Tree.{Node, node_at, value_in, value_of}
 use Rattle.dt_model.specs.Valid.{IsValid, IsWithinLimits}
 use Rattle.dt_model.proofs.Depths.{within_depth}
 use Rattle.dt_overlay_base.proofs.LooksNames.{stands_named}
-use Rattle.dt_read.specs.Placed.{PlacedTree, last_name, path_at, place_of, reading_of, IsNode}
-use Rattle.dt_read.proofs.NodePlaces.{stands_place}
+use Rattle.dt_trees.specs.Placed.{PlacedTree, last_name, path_at, place_of, reading_of, IsNode}
+use Rattle.dt_trees.proofs.NodePlaces.{stands_place}
 use Rattle.dt_resolve_model.specs.Above.{front}
-use Rattle.dt_view.proofs.Steps.{ends_so}
+use Rattle.dt_trees.proofs.Steps.{ends_so}
 
 abbrev pub names_down : PlacedTree → List ℕ → Path
 names_down t way = map (λ k. last_name (path_at t k)) way

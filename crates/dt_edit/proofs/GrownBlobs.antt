@@ -17,7 +17,7 @@ use Rattle.dt_read.specs.Checked.{placed_of, root_of}
 use Rattle.dt_read.specs.Cuts.{changed_root, with_value, moved, moved_root, spliced}
 use Rattle.dt_read.specs.Marks.{Root}
 use Rattle.dt_read.specs.Parsing.{tree_in}
-use Rattle.dt_read.specs.Placed.{PlacedTree, IsNode}
+use Rattle.dt_trees.specs.Placed.{PlacedTree, IsNode}
 use Rattle.dt_read.proofs.CheckedBytes.{placed_is_read}
 use Rattle.dt_write.specs.Written.{assembled}
 use Rattle.dt_write.proofs.WrittenReads.{assembled_length}

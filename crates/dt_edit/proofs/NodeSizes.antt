@@ -10,7 +10,7 @@ use Rattle.dt_model.specs.Tree.{Property}
 use Rattle.dt_model.specs.Valid.{node_count}
 use Rattle.dt_read.specs.Checked.{IsBlob, placed_of, root_of}
 use Rattle.dt_read.specs.Marks.{Mark, begin_mark, end_mark, prop_mark, nop_mark, last_mark, SpellsMark, SpellsMarks, marks_of_nodes, marks_of, without_nop_marks}
-use Rattle.dt_read.specs.Placed.{Nodes, no_nodes, node, forest_of}
+use Rattle.dt_trees.specs.Placed.{Nodes, no_nodes, node, forest_of}
 use Rattle.dt_read.proofs.CheckedBytes.{root_is_read}
 use Rattle.dt_edit.specs.Editable.{reading_in}
 

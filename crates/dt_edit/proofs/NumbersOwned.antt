@@ -13,7 +13,7 @@ use Rattle.dt_model.specs.Valid.{IsPhandle, IsValid}
 use Rattle.dt_model.proofs.Finding.{node_of_number, number_of_node}
 use Rattle.dt_overlay_base.specs.Targets.{MaySetAt}
 use Rattle.dt_read.specs.Checked.{IsBlob, placed_of}
-use Rattle.dt_read.specs.Placed.{place_of, IsNode}
+use Rattle.dt_trees.specs.Placed.{place_of, IsNode}
 use Rattle.dt_read.proofs.CheckedBytes.{placed_is_read}
 use Rattle.dt_edit.specs.Editable.{reading_in, path_in}
 

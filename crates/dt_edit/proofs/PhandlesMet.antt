@@ -15,7 +15,7 @@ use Rattle.dt_overlay_base.specs.Known.{IsNext}
 use Rattle.dt_overlay_base.proofs.FreeNumbers.{few_between, between_more}
 use Rattle.dt_read.specs.Marks.{prop_mark}
 use Rattle.dt_read.specs.Phandle.{phandles_in}
-use Rattle.dt_read.specs.Placed.{Nodes, no_nodes, node, PlacedTree, forest_of, reading_of}
+use Rattle.dt_trees.specs.Placed.{Nodes, no_nodes, node, PlacedTree, forest_of, reading_of}
 use Rattle.dt_read.specs.Walked.{Step, opens, holds, closes, steps_of, steps_of_nodes}
 use Rattle.dt_read.proofs.Apart.{own_phandles}
 

@@ -15,7 +15,7 @@ use Rattle.dt_overlay_base.specs.Targets.{MaySetAt}
 use Rattle.dt_read.specs.Checked.{placed_of, root_of}
 use Rattle.dt_read.specs.Cuts.{Content, content_of, changed_root, with_value, moved, moved_root, spliced, SpellsRoot, IsPropertyCut}
 use Rattle.dt_read.specs.Marks.{Root}
-use Rattle.dt_read.specs.Placed.{place_below, IsAt}
+use Rattle.dt_trees.specs.Placed.{place_below, IsAt}
 use Rattle.dt_read.proofs.ChangedPlaces.{plain_content, IsChangeOf, KeepsPlaces, moved_forest, changed_plainly, moved_place, kept_places}
 use Rattle.dt_read.proofs.Splices.{holds_still, stays_there}
 use Rattle.dt_write.specs.Written.{zeros_after, assembled}

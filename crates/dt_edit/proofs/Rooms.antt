@@ -19,8 +19,8 @@ use Rattle.dt_overlay_base.specs.Targets.{HasRoomAt, MayAddAt, WhyNotAddedAt, Wh
 use Rattle.dt_overlay_laws.proofs.SingleChanges.{child_counted}
 use Rattle.dt_read.specs.Checked.{placed_of}
 use Rattle.dt_read.specs.Cuts.{property_size}
-use Rattle.dt_read.specs.Placed.{IsNode}
-use Rattle.dt_read.proofs.NodePlaces.{stands_place}
+use Rattle.dt_trees.specs.Placed.{IsNode}
+use Rattle.dt_trees.proofs.NodePlaces.{stands_place}
 use Rattle.dt_edit.specs.BufferLaws.{follows_own}
 use Rattle.dt_edit.specs.Buffers.{tree_size, property_names, strings_with, size_as, HasRoom, Follows}
 use Rattle.dt_edit.specs.Editable.{reading_in, path_in, size_with_node, size_with_value, value_patched, FitsIn, HasCellAt, IsEditable, IsWhole, MayAddWithin, MayPatchIn, MaySetWithin, WhyNotAddedOwned, WhyNotSetOwned}

@@ -15,7 +15,7 @@ use Rattle.dt_names.specs.declared.fault.FaultKind.TheVariants.{NoMemory, Limit,
 use Rattle.dt_overlay_base.specs.Targets.{MaySetAt}
 use Rattle.dt_read.specs.Checked.{IsBlob, placed_of}
 use Rattle.dt_read.specs.Cuts.{property_size}
-use Rattle.dt_read.specs.Placed.{path_at, reading_of}
+use Rattle.dt_trees.specs.Placed.{path_at, reading_of}
 use Rattle.dt_write.specs.Written.{assembled}
 
 -- the tree of some bytes, without places

@@ -4,7 +4,7 @@ ghost use Rattle.std.specs.Prelude.{◌↔◌, ℕ, IsTrue};
 ghost use Rattle.dt_edit.specs.Editable.{HasCellAt, IsEditable, MayPatchIn};
 ghost use Rattle.dt_edit.specs.Plans.{IsPatched};
 ghost use Rattle.dt_read.specs.Checked.{IsBlob, placed_of};
-ghost use Rattle.dt_read.specs.Placed.{IsNode};
+ghost use Rattle.dt_trees.specs.Placed.{IsNode};
 
 use crate::layout::layout_of;
 use crate::moving::put_word;

@@ -10,7 +10,7 @@ ghost use Rattle.dt_model.specs.Tree.{stands_in};
 ghost use Rattle.dt_model.specs.Valid.{node_count};
 ghost use Rattle.dt_read.specs.Checked.{IsBlob, placed_of};
 ghost use Rattle.dt_read.specs.Cuts.{spliced};
-ghost use Rattle.dt_read.specs.Placed.{path_at, IsNode};
+ghost use Rattle.dt_trees.specs.Placed.{path_at, IsNode};
 
 use crate::layout::{HEADER_SIZE, Layout, layout_of};
 use crate::moving::{Span, padded_len, splice_node};

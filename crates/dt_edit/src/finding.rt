@@ -7,7 +7,7 @@ ghost use Rattle.dt_model.specs.Names.{IsNodeName};
 ghost use Rattle.dt_model.specs.Tree.{stands_in};
 ghost use Rattle.dt_names.specs.Fault.{IsNoMemory};
 ghost use Rattle.dt_read.specs.Checked.{IsBlob, placed_of};
-ghost use Rattle.dt_read.specs.Placed.{last_name, path_at, place_of, IsNode};
+ghost use Rattle.dt_trees.specs.Placed.{last_name, path_at, place_of, IsNode};
 ghost use Rattle.dt_view.specs.Ways.{AreNodes};
 
 use dt_names::{Fault, NodeName, Path, Seed};

@@ -9,7 +9,7 @@ ghost use Rattle.dt_model.specs.Checks.{number, strings_of};
 ghost use Rattle.dt_model.specs.Checks.{number as header_number};
 ghost use Rattle.dt_model.specs.Path.{Path};
 ghost use Rattle.dt_read.specs.Checked.{placed_of};
-ghost use Rattle.dt_read.specs.Placed.{IsAt, IsNode};
+ghost use Rattle.dt_trees.specs.Placed.{IsAt, IsNode};
 
 use crate::cells::{may_patch, patch};
 use crate::children;

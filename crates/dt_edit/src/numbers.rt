@@ -4,7 +4,7 @@ ghost use Rattle.std.specs.Prelude.{◌≡◌, ◌+◌, ◌*◌, ◌<◌, ◌≤
 ghost use Rattle.dt_model.specs.Limits.{most_nodes};
 ghost use Rattle.dt_model.specs.Numbers.{numbers_of};
 ghost use Rattle.dt_overlay_base.specs.Known.{IsNext};
-ghost use Rattle.dt_read.specs.Placed.{reading_of};
+ghost use Rattle.dt_trees.specs.Placed.{reading_of};
 
 use crate::phandles::is_phandle;
 use dt_names::limits::MOST_NODES;

@@ -10,7 +10,7 @@ ghost use Rattle.dt_model.specs.Checks.{strings_of, structure_of};
 ghost use Rattle.dt_model.specs.Limits.{most_bytes};
 ghost use Rattle.dt_model.specs.Path.{Path};
 ghost use Rattle.dt_read.specs.Checked.{IsBlob, placed_of};
-ghost use Rattle.dt_read.specs.Placed.{IsAt, IsNode};
+ghost use Rattle.dt_trees.specs.Placed.{IsAt, IsNode};
 
 use crate::children::plan_node;
 use crate::opening::{open_into, opened_size};

@@ -4,7 +4,7 @@ ghost use Rattle.std.specs.Prelude.{◌≡◌, ◌↔◌, codes, IsTrue};
 ghost use Rattle.dt_edit.specs.Editable.{reading_in, path_in};
 ghost use Rattle.dt_overlay_base.specs.Targets.{MaySetAt};
 ghost use Rattle.dt_read.specs.Checked.{IsBlob, placed_of};
-ghost use Rattle.dt_read.specs.Placed.{IsNode};
+ghost use Rattle.dt_trees.specs.Placed.{IsNode};
 
 use dt_names::{Seed, phandle_of};
 use dt_read::{Blob, NodeId};

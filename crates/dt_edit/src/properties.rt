@@ -7,7 +7,7 @@ ghost use Rattle.dt_edit.specs.Plans.{added_name, name_offset, HasOtherBlocks, I
 ghost use Rattle.dt_model.specs.Checks.{strings_of, structure_of};
 ghost use Rattle.dt_read.specs.Checked.{placed_of};
 ghost use Rattle.dt_read.specs.Cuts.{spliced};
-ghost use Rattle.dt_read.specs.Placed.{IsNode};
+ghost use Rattle.dt_trees.specs.Placed.{IsNode};
 
 use crate::layout::{HEADER_SIZE, Layout, layout_of, strings_in};
 use crate::moving::{Span, bring_name, padded_len, splice_property};

@@ -3,7 +3,7 @@ use Rattle.std.proofs.Common.{◌≡◌, ℕ, suc, zero, ◌+◌, ◌-◌, ◌*�
 use Rattle.dt_model.specs.Path.{Path}
 use Rattle.dt_names.specs.declared.fault.Fault.{Fault}
 use Rattle.dt_names.specs.declared.fault.FaultKind.TheVariants.{NoInterrupts}
-use Rattle.dt_read.specs.Placed.{PlacedTree, path_at, reading_of, IsNode}
+use Rattle.dt_trees.specs.Placed.{PlacedTree, path_at, reading_of, IsNode}
 use Rattle.dt_resolve_model.specs.Answers.{Answer, answer, refused, refuse, ◌>>=◌}
 use Rattle.dt_resolve_model.specs.World.{Quad, World, tree_world, quads_of, value_of_bytes}
 use Rattle.dt_resolve_model.specs.Interrupts.{Sent, Entry, first_entry, entry_sent, is_ragged, specifier_count, IsSent}

@@ -2,7 +2,7 @@
 use Rattle.std.specs.Prelude.{◌≡◌, ◌+◌, ◌*◌, ◌≤◌, ℕ, List, length}
 use Rattle.dt_model.specs.Path.{Path}
 use Rattle.dt_names.specs.declared.fault.FaultKind.TheVariants.{NoInterrupts}
-use Rattle.dt_read.specs.Placed.{PlacedTree, path_at, IsNode}
+use Rattle.dt_trees.specs.Placed.{PlacedTree, path_at, IsNode}
 use Rattle.dt_resolve_model.specs.Answers.{Answer, answer, ◌>>=◌}
 use Rattle.dt_resolve_model.specs.World.{Quad, quads_of, value_of_bytes}
 use Rattle.dt_resolve_model.specs.Regions.{entries, entry_at}
@@ -10,7 +10,7 @@ use Rattle.dt_resolve_model.specs.Interrupts.{Sent, specifier_count, is_ragged, 
 use Rattle.dt_irq.specs.declared.lists.Listed.{Listed}
 use Rattle.dt_irq.specs.declared.lists.Entries.{Entries}
 use Rattle.dt_irq.specs.declared.lists.Entries.TheVariants.{Extended, Plain}
-use Rattle.dt_view.specs.Views.{world_of}
+use Rattle.dt_view.specs.Worlds.{world_of}
 
 -- the entry of `interrupts` that an index names, where this many cells are at the interrupt parent
 abbrev pub entry_listed : Path → ℕ → ℕ → ℕ → List Quad → Answer Sent

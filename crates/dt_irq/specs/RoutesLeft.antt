@@ -1,13 +1,13 @@
 -- The interrupts of a node that are left, as routes.
 use Rattle.std.specs.Prelude.{◌≡◌, ℕ, List}
 use Rattle.dt_model.specs.Path.{Path}
-use Rattle.dt_read.specs.Placed.{PlacedTree}
+use Rattle.dt_trees.specs.Placed.{PlacedTree}
 use Rattle.dt_resolve_model.specs.Answers.{answer}
 use Rattle.dt_resolve_model.specs.World.{quads_of}
 use Rattle.dt_irq.specs.Cells.{unit_at}
 use Rattle.dt_irq.specs.Left.{AreSentFrom, EntriesLeft, bytes_left, entries_left}
 use Rattle.dt_irq.specs.declared.routing.Routes.{Routes}
-use Rattle.dt_view.specs.Views.{world_of}
+use Rattle.dt_view.specs.Worlds.{world_of}
 
 -- the interrupts that are left, as what they are sent to, and the cells of the unit address of their node, as bytes
 pub record RoutesLeft : Type 0 where

@@ -1,6 +1,6 @@
 -- What the parts of a route stand for in a tree.
 use Rattle.std.specs.Prelude.{◌≡◌, ℕ, ◌-◌, ◌≤◌, List, length, take, drop, replicate}
-use Rattle.dt_read.specs.Placed.{PlacedTree, path_at, IsNode}
+use Rattle.dt_trees.specs.Placed.{PlacedTree, path_at, IsNode}
 use Rattle.dt_resolve_model.specs.World.{quads_of}
 use Rattle.dt_resolve_model.specs.Interrupts as meant
 use Rattle.dt_irq.specs.declared.sending.Sent.{Sent}

@@ -1,13 +1,13 @@
 //! Hops of interrupts through the maps of nexus nodes (Devicetree Specification v0.4, 2.4.3).
 
 ghost use Rattle.std.specs.Prelude.{◌≡◌, ◌+◌, ◌*◌, ◌/◌, ◌≤◌, ◌++◌, length, IfOk};
-ghost use Rattle.dt_read.specs.Placed.{path_at};
+ghost use Rattle.dt_trees.specs.Placed.{path_at};
 ghost use Rattle.dt_resolve_model.specs.Answers.{told_as};
 ghost use Rattle.dt_resolve_model.specs.World.{quads_of, value_of_bytes};
 ghost use Rattle.dt_resolve_model.specs.Interrupts.{hop, led};
 ghost use Rattle.dt_irq.specs.Cells.{numbers_of};
 ghost use Rattle.dt_irq.specs.Seen.{interrupt_in, IsSpecified};
-ghost use Rattle.dt_view.specs.Views.{world_of};
+ghost use Rattle.dt_view.specs.Worlds.{world_of};
 
 use crate::rows::{first_match, mask_of};
 use crate::spaces::{Space, interrupt_cells};

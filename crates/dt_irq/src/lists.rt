@@ -3,13 +3,13 @@
 ghost use Rattle.std.specs.Prelude.{◌≡◌, ◌+◌, ◌<◌, ℕ, IfOk, IfErr, IfSome, OnOk, MatchOption, length};
 ghost use Rattle.dt_model.specs.Path.{Path};
 ghost use Rattle.dt_names.specs.declared.fault.FaultKind.TheVariants.{NoInterrupts};
-ghost use Rattle.dt_read.specs.Placed.{path_at, IsNode};
+ghost use Rattle.dt_trees.specs.Placed.{path_at, IsNode};
 ghost use Rattle.dt_resolve_model.specs.Answers.{answer, refuse, refused, told_as};
 ghost use Rattle.dt_resolve_model.specs.World.{value_of_bytes};
 ghost use Rattle.dt_resolve_model.specs.Interrupts.{listed_at, IsSent};
 ghost use Rattle.dt_irq.specs.Left.{bytes_left, entries_left, list_left, AreEntriesOf, AreListed, AreSentFrom, IsSentFrom};
 ghost use Rattle.dt_irq.specs.Seen.{sent_in, IsSpecified};
-ghost use Rattle.dt_view.specs.Views.{world_of};
+ghost use Rattle.dt_view.specs.Worlds.{world_of};
 
 use crate::parents::interrupt_parent;
 use crate::sending::{Sent, entry_sent, first_entry};

@@ -1,11 +1,11 @@
 //! Interrupt parents (Devicetree Specification v0.4, 2.4.1).
 
 ghost use Rattle.std.specs.Prelude.{◌≡◌, IfOk, IfSome, option_map};
-ghost use Rattle.dt_read.specs.Placed.{path_at, reading_of, IsNode};
+ghost use Rattle.dt_trees.specs.Placed.{path_at, reading_of, IsNode};
 ghost use Rattle.dt_resolve_model.specs.Answers.{told_as};
 ghost use Rattle.dt_resolve_model.specs.World.{figure, node_of_figure};
 ghost use Rattle.dt_resolve_model.specs.Interrupts.{step_of, IsInterruptParent};
-ghost use Rattle.dt_view.specs.Views.{world_of};
+ghost use Rattle.dt_view.specs.Worlds.{world_of};
 
 use dt_names::{Fault, FaultKind, NodeId};
 use dt_view::{TreeView, one_cell};

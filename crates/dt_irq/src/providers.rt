@@ -1,7 +1,7 @@
 //! Routes of specifiers to their providers (Devicetree Specification v0.4, 2.5).
 
 ghost use Rattle.std.specs.Prelude.{◌≡◌, ◌+◌, ◌-◌, ◌*◌, ◌/◌, ◌<◌, ◌≤◌, ◌⊎◌, ◌++◌, length, drop, replicate, IfOk};
-ghost use Rattle.dt_read.specs.Placed.{path_at, IsNode};
+ghost use Rattle.dt_trees.specs.Placed.{path_at, IsNode};
 ghost use Rattle.dt_resolve_model.specs.Answers.{told_as};
 ghost use Rattle.dt_resolve_model.specs.World.{value_of_bytes};
 ghost use Rattle.dt_resolve_model.specs.Interrupts.{most_hops};
@@ -9,7 +9,7 @@ ghost use Rattle.dt_resolve_model.specs.Specifiers.{provided, provider_hop, spec
 ghost use Rattle.dt_irq.specs.Cells.{numbers_of};
 ghost use Rattle.dt_irq.specs.Merging.{first_merged, merged_numbers, number_passed};
 ghost use Rattle.dt_irq.specs.Seen.{end_of, route_in, sent_in, HasArrived, IsSpecified};
-ghost use Rattle.dt_view.specs.Views.{world_of};
+ghost use Rattle.dt_view.specs.Worlds.{world_of};
 
 use crate::reached::{MOST_CELLS, MOST_HOPS, Route, cells_of};
 use crate::rows::{first_match, mask_of};

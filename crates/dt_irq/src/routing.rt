@@ -3,14 +3,14 @@
 ghost use Rattle.std.specs.Prelude.{◌≡◌, ◌+◌, ◌<◌, ℕ, IfOk, IfErr, IfSome, OnOk, MatchOption};
 ghost use Rattle.dt_model.specs.Path.{Path};
 ghost use Rattle.dt_names.specs.declared.fault.FaultKind.TheVariants.{NoInterrupts};
-ghost use Rattle.dt_read.specs.Placed.{path_at, IsNode};
+ghost use Rattle.dt_trees.specs.Placed.{path_at, IsNode};
 ghost use Rattle.dt_resolve_model.specs.Answers.{answer, refuse, refused, told_as};
 ghost use Rattle.dt_resolve_model.specs.World.{quads_of};
 ghost use Rattle.dt_resolve_model.specs.Interrupts.{IsRoute, interrupt_at, most_hops, routed};
 ghost use Rattle.dt_irq.specs.Cells.{unit_at};
 ghost use Rattle.dt_irq.specs.RoutesLeft.{AreLeft, IsLeft, length_left};
 ghost use Rattle.dt_irq.specs.Seen.{interrupt_in, route_in, HasArrived, IsSpecified};
-ghost use Rattle.dt_view.specs.Views.{world_of};
+ghost use Rattle.dt_view.specs.Worlds.{world_of};
 
 use crate::hops::{Interrupt, hop};
 use crate::lists::Entries;

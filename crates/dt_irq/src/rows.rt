@@ -8,7 +8,7 @@ ghost use Rattle.dt_resolve_model.specs.Interrupts.{equal_under, first_match, is
 ghost use Rattle.dt_irq.specs.Cells.{agree, numbers_of, quads};
 ghost use Rattle.dt_irq.specs.Seen.{row_in, IsSpecified};
 ghost use Rattle.dt_irq.specs.Spaces.{widths_in};
-ghost use Rattle.dt_view.specs.Views.{world_of};
+ghost use Rattle.dt_view.specs.Worlds.{world_of};
 
 use crate::parents::node_of;
 use crate::sending::at_the_end;

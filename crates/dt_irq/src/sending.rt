@@ -1,13 +1,13 @@
 //! Phandles with specifiers, as `interrupts-extended` and the properties of providers' users list them (Devicetree Specification v0.4, 2.4.1.4 and 2.5).
 
 ghost use Rattle.std.specs.Prelude.{◌≡◌, ◌<◌, length, None, IfOk, if◌then◌else◌};
-ghost use Rattle.dt_read.specs.Placed.{path_at, IsNode};
+ghost use Rattle.dt_trees.specs.Placed.{path_at, IsNode};
 ghost use Rattle.dt_resolve_model.specs.World.{quads_of, value_of_bytes};
 ghost use Rattle.dt_resolve_model.specs.Interrupts.{cells_from, entry_sent, first_entry, is_ragged, sent_at};
 ghost use Rattle.dt_resolve_model.specs.Answers.{told_as};
 ghost use Rattle.dt_irq.specs.Seen.{entry_in, sent_in, IsSpecified};
 ghost use Rattle.dt_irq.specs.Spaces.{count_in};
-ghost use Rattle.dt_view.specs.Views.{world_of};
+ghost use Rattle.dt_view.specs.Worlds.{world_of};
 
 use crate::parents::node_of;
 use crate::spaces::Space;

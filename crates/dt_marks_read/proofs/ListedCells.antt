@@ -22,8 +22,8 @@ use Rattle.dt_model.proofs.Listed.{listed_stands, value_stands}
 use Rattle.dt_model.proofs.Preorder.{listed_named}
 use Rattle.dt_model.proofs.Tests.{and_both, and_left, and_right, bytes_eq_true}
 use Rattle.dt_names.specs.Paths.{IsPathOf}
-use Rattle.dt_read.specs.Placed.{Nodes, no_nodes, node, PlacedTree, reading_of, place_below, place_of}
-use Rattle.dt_read.proofs.NodePlaces.{stands_place}
+use Rattle.dt_trees.specs.Placed.{Nodes, no_nodes, node, PlacedTree, reading_of, place_below, place_of}
+use Rattle.dt_trees.proofs.NodePlaces.{stands_place}
 use Rattle.dt_overlay_texts.specs.Cuts.{Lacks, IsCut, IsNumeralOf}
 use Rattle.dt_overlay_texts.specs.Texts.{IsPathValue}
 use Rattle.dt_marks_read.specs.Listed.{ListedCell, IsListed}

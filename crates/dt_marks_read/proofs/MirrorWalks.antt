@@ -11,8 +11,8 @@ use Rattle.dt_model.specs.Object.{words_of}
 use Rattle.dt_model.specs.Tree.{Property, Forest, no_nodes, branch, Node, sibling, node_below}
 use Rattle.dt_model.specs.Valid.{IsNoDeeper, IsWithinLimits}
 use Rattle.dt_model.proofs.Cases.{then_some}
-use Rattle.dt_read.specs.Placed.{Nodes, node, forest_of, PlacedTree, reading_of, IsAt}
-use Rattle.dt_read.specs.Placed as placed
+use Rattle.dt_trees.specs.Placed.{Nodes, node, forest_of, PlacedTree, reading_of, IsAt}
+use Rattle.dt_trees.specs.Placed as placed
 use Rattle.dt_read.specs.Walked.{Step, holds, closes, steps_of_nodes, WalkIn}
 use Rattle.dt_marks_read.specs.LocalFixupsLeft.{IsShallow, MayWalk}
 

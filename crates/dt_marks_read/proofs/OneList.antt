@@ -6,10 +6,10 @@ use Rattle.dt_model.specs.Names.{Name}
 use Rattle.dt_model.specs.Path.{Path}
 use Rattle.dt_model.specs.Object.{Cell, words_of}
 use Rattle.dt_model.specs.Tree.{Property, Placed, stands_in}
-use Rattle.dt_read.specs.Placed.{PlacedTree, reading_of, place_of, IsAt}
+use Rattle.dt_trees.specs.Placed.{PlacedTree, reading_of, place_of, IsAt}
 use Rattle.dt_overlay_texts.specs.Texts.{TextsAreOne, CellIsOne}
 use Rattle.dt_marks_read.specs.Listed.{ListedCell, IsListed, Fixup, LocalFixup, AreTold, AreFixups, AreOffsets, AreLocalProperties, AreLocalNodes}
-use Rattle.dt_read.proofs.NodePlaces.{stands_place}
+use Rattle.dt_trees.proofs.NodePlaces.{stands_place}
 
 -- no two things are so
 abbrev IsOne : (X : Type 0) → (X → Type 0) → Type 0

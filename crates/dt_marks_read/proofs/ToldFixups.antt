@@ -8,7 +8,7 @@ use Rattle.dt_model.specs.Names.{Name}
 use Rattle.dt_model.specs.Object.{properties_of}
 use Rattle.dt_model.specs.Tree.{Property, node_at}
 use Rattle.dt_model.specs.Valid.{IsValid}
-use Rattle.dt_read.specs.Placed.{PlacedTree, reading_of}
+use Rattle.dt_trees.specs.Placed.{PlacedTree, reading_of}
 use Rattle.dt_overlay_texts.specs.Cuts.{texts_in}
 use Rattle.dt_overlay_texts.specs.Texts.{AreTexts}
 use Rattle.dt_marks_read.specs.Listed.{ListedCell, Fixup, AreTold, AreFixups, AreFixupsOf}

@@ -10,14 +10,12 @@ use Rattle.dt_model.specs.Names.{Name}
 use Rattle.dt_model.specs.Object.{words_of, nodes_from}
 use Rattle.dt_model.specs.Path.{Path}
 use Rattle.dt_model.specs.Tree.{Property, Placed, preorder, stands_in, value_in}
-use Rattle.dt_read.specs.Placed.{Nodes, no_nodes, node, forest_of, PlacedTree, reading_of, place_of, IsAt}
+use Rattle.dt_trees.specs.Placed.{Nodes, no_nodes, node, forest_of, PlacedTree, reading_of, place_of, IsAt, path_at}
 use Rattle.dt_read.specs.Walked.{Step, opens, holds, closes, steps_of_nodes, WalkIn}
 use Rattle.dt_marks_read.specs.Listed.{LocalFixup, AreOffsets, AreLocalProperties, AreLocalNodes, AreLocalFixupsOf}
-use Rattle.dt_read.specs.Placed.{path_at}
 use Rattle.dt_marks_read.specs.LocalFixupsLeft.{offsets_told, property_told, counterpart_told, step_told, walk_told, local_fixups_left}
-use Rattle.dt_read.proofs.NodePlaces.{stands_place}
+use Rattle.dt_trees.proofs.NodePlaces.{stands_place, path_is}
 use Rattle.dt_marks_read.proofs.ListedCells.{unplaced}
-use Rattle.dt_read.proofs.NodePlaces.{path_is}
 
 -- ---- offsets
 

@@ -9,7 +9,7 @@ use Rattle.dt_model.specs.Tree.{Property, nodes_of, value_in}
 use Rattle.dt_model.specs.Applied.{node_named}
 use Rattle.dt_names.specs.Fault.{placeless}
 use Rattle.dt_names.specs.declared.fault.FaultKind.TheVariants.{BadFixup}
-use Rattle.dt_read.specs.Placed.{PlacedTree, reading_of, place_of}
+use Rattle.dt_trees.specs.Placed.{PlacedTree, reading_of, place_of}
 use Rattle.dt_overlay_texts.specs.Cuts.{texts_in}
 use Rattle.dt_marks_read.specs.Listed.{ListedCell, Fixup}
 

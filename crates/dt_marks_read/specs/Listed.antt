@@ -8,7 +8,7 @@ use Rattle.dt_model.specs.Object.{Cell, IsCellText, words_of, nodes_from, proper
 use Rattle.dt_names.specs.Fault.{placeless}
 use Rattle.dt_names.specs.declared.fault.Fault.{Fault}
 use Rattle.dt_names.specs.declared.fault.FaultKind.TheVariants.{BadFixup, BadLocalFixup}
-use Rattle.dt_read.specs.Placed.{PlacedTree, reading_of, IsAt}
+use Rattle.dt_trees.specs.Placed.{PlacedTree, reading_of, IsAt}
 use Rattle.dt_overlay_texts.specs.Texts.{AreTexts}
 
 -- a cell that is listed: the place of its node, its property, its offset

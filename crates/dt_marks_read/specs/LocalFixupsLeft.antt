@@ -8,7 +8,7 @@ use Rattle.dt_model.specs.Path.{Path}
 use Rattle.dt_model.specs.Tree.{Property, value_in}
 use Rattle.dt_names.specs.Fault.{placeless}
 use Rattle.dt_names.specs.declared.fault.FaultKind.TheVariants.{BadLocalFixup}
-use Rattle.dt_read.specs.Placed.{PlacedTree, reading_of, place_of, path_at, IsAt}
+use Rattle.dt_trees.specs.Placed.{PlacedTree, reading_of, place_of, path_at, IsAt}
 use Rattle.dt_read.specs.Walked.{Step, opens, holds, closes}
 use Rattle.dt_marks_read.specs.Listed.{LocalFixup}
 

@@ -2,7 +2,7 @@
 
 ghost use Rattle.std.specs.Prelude.{◌≡◌};
 ghost use Rattle.std.specs.Option.{option_map};
-ghost use Rattle.dt_read.specs.Placed.{place_of};
+ghost use Rattle.dt_trees.specs.Placed.{place_of};
 ghost use Rattle.dt_marks_read.specs.FixupsLeft.{number_of_digits, cell_within, cell_of_parts, cell_in};
 ghost use Rattle.dt_marks_read.specs.ListedViews.{listed_view};
 

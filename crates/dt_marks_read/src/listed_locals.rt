@@ -6,13 +6,12 @@ ghost use Rattle.std.specs.Iterator.{YieldsFirstBy, item_count};
 ghost use Rattle.dt_model.specs.Object.{words_of};
 ghost use Rattle.dt_model.specs.Path.{Path};
 ghost use Rattle.dt_model.specs.Tree.{value_in};
-ghost use Rattle.dt_read.specs.Placed.{IsAt, place_of, reading_of};
+ghost use Rattle.dt_trees.specs.Placed.{IsAt, place_of, reading_of, path_at};
 ghost use Rattle.dt_read.specs.StepsLeft.{step_view};
 ghost use Rattle.dt_read.specs.Walked.{opens, holds, closes};
 ghost use Rattle.dt_names.specs.Fault.{placeless};
 ghost use Rattle.dt_names.specs.declared.fault.FaultKind.TheVariants.{BadLocalFixup};
 ghost use Rattle.dt_marks_read.specs.ListedViews.{local_view};
-ghost use Rattle.dt_read.specs.Placed.{path_at};
 ghost use Rattle.dt_marks_read.specs.LocalFixupsLeft.{step_told, walk_told, MayWalk};
 ghost use Rattle.dt_marks_read.specs.MirrorViews.{mirror_left, steps_left, MayGoOn, IsStepTaken};
 

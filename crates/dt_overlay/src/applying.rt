@@ -3,7 +3,7 @@
 ghost use Rattle.std.specs.Prelude.{◌≡◌, None, OnOk, IfErr};
 ghost use Rattle.dt_overlay_model.specs.InTurn.{IsApplied};
 ghost use Rattle.dt_flat.specs.Arena.{reading};
-ghost use Rattle.dt_read.specs.Placed.{reading_of};
+ghost use Rattle.dt_trees.specs.Placed.{reading_of};
 ghost use Rattle.dt_overlay_laws.specs.Objects.{IsWellFormed};
 ghost use Rattle.dt_overlay_laws.specs.Refusals.{IsCrowded, WhyNotApplied};
 ghost use Rattle.dt_model.specs.Tree.{Reading};

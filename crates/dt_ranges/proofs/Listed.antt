@@ -11,7 +11,7 @@ use Rattle.dt_resolve_model.specs.Answers.{Answer, refused, refuse, answer, ◌>
 use Rattle.dt_resolve_model.specs.World.{Quad, World, quads_of, value_of_bytes, tree_world}
 use Rattle.dt_resolve_model.specs.Regions.{joined, cells_at, bus_cells, entries, entries_of, entry_at, region_at, listed, region}
 use Rattle.dt_resolve_model.proofs.Entries.{entries_whole, entry_there, entry_past}
-use Rattle.dt_read.specs.Placed.{PlacedTree, path_at, reading_of, IsNode}
+use Rattle.dt_trees.specs.Placed.{PlacedTree, path_at, reading_of, IsNode}
 use Rattle.dt_ranges.specs.Left.{region_of, AreFrom, RegionsLeft}
 use Rattle.dt_ranges.proofs.RangesMap.{part_of}
 

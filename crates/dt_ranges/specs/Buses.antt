@@ -1,10 +1,10 @@
 -- A bus with the cells of an address and of a size on it.
 use Rattle.std.specs.Prelude.{◌≡◌, ◌≤◌}
-use Rattle.dt_read.specs.Placed.{PlacedTree, path_at, IsNode}
+use Rattle.dt_trees.specs.Placed.{PlacedTree, path_at, IsNode}
 use Rattle.dt_resolve_model.specs.Answers.{answer}
 use Rattle.dt_resolve_model.specs.Regions.{bus_cells}
 use Rattle.dt_ranges.specs.declared.translating.Bus.{Bus}
-use Rattle.dt_view.specs.Views.{world_of}
+use Rattle.dt_view.specs.Worlds.{world_of}
 
 -- the bus is a node, and these are its cells
 pub record IsBus (t : PlacedTree) (b : Bus) : Type 0 where

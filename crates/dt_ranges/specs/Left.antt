@@ -2,14 +2,14 @@
 use Rattle.std.specs.Prelude.{◌≡◌, ◌+◌, ◌*◌, ◌≤◌, ℕ, List, length, codes}
 use Rattle.dt_model.specs.Path.{Path}
 use Rattle.dt_names.specs.declared.fault.FaultKind.TheVariants.{NoReg}
-use Rattle.dt_read.specs.Placed.{PlacedTree, path_at, IsNode}
+use Rattle.dt_trees.specs.Placed.{PlacedTree, path_at, IsNode}
 use Rattle.dt_resolve_model.specs.declared.regions.BusCells.{BusCells}
 use Rattle.dt_resolve_model.specs.declared.regions.Region.{Region}
 use Rattle.dt_resolve_model.specs.Answers.{Answer, answer, ◌>>=◌}
 use Rattle.dt_resolve_model.specs.World.{Quad, World, quads_of}
 use Rattle.dt_resolve_model.specs.Regions.{joined, cells_at, bus_cells, entries, entry_at, region_at, region}
 use Rattle.dt_ranges.specs.declared.listing.Regions.{Regions}
-use Rattle.dt_view.specs.Views.{world_of}
+use Rattle.dt_view.specs.Worlds.{world_of}
 
 -- the entries that are left: the node whose bus they are on, the cells of that bus, how many they are, and their bytes
 pub record RegionsLeft : Type 0 where

@@ -1,10 +1,10 @@
 //! Regions that devices reach by DMA (Devicetree Specification v0.4, 2.3.9).
 
 ghost use Rattle.std.specs.Prelude.{◌≡◌};
-ghost use Rattle.dt_read.specs.Placed.{path_at, IsNode};
+ghost use Rattle.dt_trees.specs.Placed.{path_at, IsNode};
 ghost use Rattle.dt_resolve_model.specs.Answers.{told};
 ghost use Rattle.dt_resolve_model.specs.Regions.{dma_region};
-ghost use Rattle.dt_view.specs.Views.{world_of};
+ghost use Rattle.dt_view.specs.Worlds.{world_of};
 
 use crate::translating::{Bus, fits, region_at};
 use dt_names::{Fault, FaultKind, NodeId};

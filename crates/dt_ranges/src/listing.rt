@@ -3,11 +3,11 @@
 ghost use Rattle.std.specs.Prelude.{◌≡◌, ℕ, ◌+◌, ◌<◌, ◌⊎◌, IfOk, IfErr, IfSome, MatchOption};
 ghost use Rattle.dt_model.specs.Path.{Path};
 ghost use Rattle.dt_names.specs.declared.fault.FaultKind.TheVariants.{BadCells, NoReg};
-ghost use Rattle.dt_read.specs.Placed.{path_at, IsNode};
+ghost use Rattle.dt_trees.specs.Placed.{path_at, IsNode};
 ghost use Rattle.dt_resolve_model.specs.Answers.{refuse, refused, told};
 ghost use Rattle.dt_resolve_model.specs.Regions.{region};
 ghost use Rattle.dt_ranges.specs.Left.{AreLeft, IsLeft, entries_left};
-ghost use Rattle.dt_view.specs.Views.{world_of};
+ghost use Rattle.dt_view.specs.Worlds.{world_of};
 
 use crate::cells::part_at;
 use crate::translating::{Bus, region_at};

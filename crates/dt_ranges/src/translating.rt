@@ -1,12 +1,12 @@
 //! Addresses through the buses above a node (Devicetree Specification v0.4, 2.3).
 
 ghost use Rattle.std.specs.Prelude.{◌≡◌, ℕ, ◌+◌, ◌*◌, ◌^◌, ◌≤◌, ◌&&◌, nat_le, nat_lt, true, length, MatchResult};
-ghost use Rattle.dt_read.specs.Placed.{path_at, IsNode};
+ghost use Rattle.dt_trees.specs.Placed.{path_at, IsNode};
 ghost use Rattle.dt_resolve_model.specs.Answers.{Answer, answer, refused, told};
 ghost use Rattle.dt_resolve_model.specs.World.{value_of_bytes, quads_of};
 ghost use Rattle.dt_resolve_model.specs.Regions.{entries, fitting, fitted, mapped_by, mapped, risen, finished, translated, region_at};
 ghost use Rattle.dt_ranges.specs.Buses.{IsBus};
-ghost use Rattle.dt_view.specs.Views.{world_of};
+ghost use Rattle.dt_view.specs.Worlds.{world_of};
 
 use crate::cells::part_at;
 use dt_names::{Fault, FaultKind, NodeId};

@@ -11,7 +11,7 @@ use Rattle.dt_model.specs.Names.{Name, IsPropertyName}
 use Rattle.dt_model.specs.Tree.{Property, value_of}
 use Rattle.dt_model.specs.Valid.{AreDistinct, AreProperties, AreNodes, names, phandle_values, phandles}
 use Rattle.dt_model.specs.Checks.{AreApart}
-use Rattle.dt_read.specs.Placed.{Nodes, no_nodes, node, forest_of}
+use Rattle.dt_trees.specs.Placed.{Nodes, no_nodes, node, forest_of}
 use Rattle.dt_read.specs.Marks.{Mark, begin_mark, end_mark, prop_mark, nop_mark, last_mark, Root, marks_of_nodes, marks_of}
 use Rattle.dt_read.specs.TreeTokens.{Parts, node_of, heads_of, AreNamed}
 use Rattle.dt_read.specs.Order.{HasRisingPlaces}

@@ -12,10 +12,11 @@ use Rattle.dt_model.specs.Valid.{AreDistinct, AreNodes, names}
 use Rattle.dt_read.specs.declared.token.Token.{Token}
 use Rattle.dt_read.specs.declared.token.Token.TheVariants as code
 use Rattle.dt_read.specs.View.{view_at}
-use Rattle.dt_read.specs.Placed.{Nodes, no_nodes, node, forest_of, PlacedTree, place_below, IsAt, names_under, child_names, first_place_of, names_behind}
+use Rattle.dt_trees.specs.Placed.{Nodes, no_nodes, node, forest_of, PlacedTree, place_below, IsAt, names_under, child_names, first_place_of, names_behind}
 use Rattle.dt_read.specs.Marks.{Mark, begin_mark, marks_of_nodes}
 use Rattle.dt_read.specs.TreeTokens.{Parts, node_of, IsEnd, first_place}
 use Rattle.dt_read.specs.Blocks.{whole_of, IsWellPlaced}
+use Rattle.dt_trees.proofs.NamesBehind.{differs, behind_all}
 use Rattle.dt_read.proofs.Apart.{below_is_node, root_is_node}
 use Rattle.dt_read.proofs.Nodes.{at_node}
 use Rattle.dt_read.proofs.Ordering.{HasBelow}
@@ -52,13 +53,6 @@ record Behind (at : ℕ) (nodes : Nodes) (ps : List Property) (path : Path) (nam
   below : HasBelow nodes k parts
   first : first_place parts.siblings ≡ first_below at nodes path (names_behind name (names_below ps nodes path))
 
-pub differs : (x y : Name) → x ≢ y → bytes_eq x y ≡ false
-differs x y differ = by_test (bytes_eq x y) refl
-  where
-    by_test : (b : Bool) → bytes_eq x y ≡ b → bytes_eq x y ≡ false
-    by_test true is = absurd (differ ((bytes_eq-Decides x y).0 is))
-    by_test false is = is
-
 -- the first of the siblings behind a node
 first_after : (at place : ℕ) (name : Name) (properties : List Property) (children siblings : Nodes) → AllByRecursion (λ y. y ≢ name) (names (forest_of siblings))
     → first_place siblings ≡ first_below at (node place name properties children siblings) [] (names (forest_of siblings))
@@ -66,14 +60,6 @@ first_after at place name properties children no_nodes a = refl
 first_after at place name properties children (node other x ps cs ss) a =
     let same : bytes_eq x x ≡ true = (bytes_eq-Decides x x).1 refl in
     rw (differs x name a.0) (rw same refl)
-
-pub behind_all : (P : Name → Type 0) (x : Name) (xs : List Name) → AllByRecursion P xs → AllByRecursion P (names_behind x xs)
-behind_all P x [] a = a
-behind_all P x (y ∷ ys) a = by_test (bytes_eq x y) (behind_all P x ys a.1)
-  where
-    by_test : (b : Bool) → AllByRecursion P (names_behind x ys) → AllByRecursion P (cond b ys (names_behind x ys))
-    by_test true more = a.1
-    by_test false more = more
 
 -- past the first of some siblings
 skips : (at place : ℕ) (name : Name) (properties : List Property) (children siblings : Nodes) (xs : List Name) → AllByRecursion (λ y. y ≢ name) xs

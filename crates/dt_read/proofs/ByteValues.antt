@@ -9,7 +9,7 @@ use Rattle.dt_model.specs.Format.{word}
 use Rattle.dt_model.specs.Valid.{AreDistinct, IsPhandle, phandle_values, phandles}
 use Rattle.dt_model.specs.Checks.{AreApart}
 use Rattle.dt_flat.specs.Planted.{numbers, HasOwnNumbers}
-use Rattle.dt_read.specs.Placed.{forest_of}
+use Rattle.dt_trees.specs.Placed.{forest_of}
 use Rattle.dt_read.specs.Marks.{Mark, begin_mark, end_mark, prop_mark, nop_mark, last_mark, SpellsMark, SpellsMarks, Root, without_nop_marks}
 use Rattle.dt_read.specs.TreeTokens.{HasTree}
 use Rattle.dt_read.specs.Phandle.{phandles_in}

@@ -8,7 +8,7 @@ use Rattle.dt_model.specs.Names.{Name}
 use Rattle.dt_model.specs.Path.{Path}
 use Rattle.dt_model.specs.Tree.{Forest, no_nodes as no_branches, branch, Node}
 use Rattle.dt_read.specs.Cuts.{Content, changed_named, changed_content, appended, with_node, moved_nodes}
-use Rattle.dt_read.specs.Placed.{Nodes, no_nodes, node, forest_of, place_below}
+use Rattle.dt_trees.specs.Placed.{Nodes, no_nodes, node, forest_of, place_below}
 
 -- ---- readings
 

@@ -8,7 +8,7 @@ use Rattle.dt_model.specs.Path.{Path}
 use Rattle.dt_model.specs.Tree.{Property}
 use Rattle.dt_read.specs.Cuts.{Content, changed_named, changed_content, content_of, changed_root, moved_nodes, moved_content, moved_root, marks_of_content}
 use Rattle.dt_read.specs.Marks.{Mark, begin_mark, end_mark, prop_mark, nop_mark, last_mark, Root, marks_of_nodes, marks_of}
-use Rattle.dt_read.specs.Placed.{Nodes, no_nodes, node, place_below}
+use Rattle.dt_trees.specs.Placed.{Nodes, no_nodes, node, place_below}
 
 -- a token whose place moves
 abbrev pub moved_mark : (ℕ → ℕ) → Mark → Mark

@@ -12,7 +12,7 @@ use Rattle.dt_read.specs.Checked.{IsBlob, root_of, placed_of}
 use Rattle.dt_read.specs.Marks.{Root}
 use Rattle.dt_read.specs.Pairs.{pairs_of}
 use Rattle.dt_read.specs.Parsing.{tree_in}
-use Rattle.dt_read.specs.Placed.{PlacedTree, forest_of, reading_of, path_at, last_name, properties_at, IsNode}
+use Rattle.dt_trees.specs.Placed.{PlacedTree, forest_of, reading_of, path_at, last_name, properties_at, IsNode}
 use Rattle.dt_read.specs.TreeTokens.{Parts, node_of, marks_in, AreTokens, BeginsNode, HasTree, IsStructure}
 use Rattle.dt_read.specs.Lying.{IsFromNode}
 use Rattle.dt_read.proofs.Headers.{fine, is_sound}

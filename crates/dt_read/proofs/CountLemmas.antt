@@ -5,7 +5,7 @@ use Rattle.std.proofs.lemmas.List.{length-append}
 use Rattle.std.proofs.lemmas.List.Sums.{sum_by-append, sum_by-cons}
 use Rattle.dt_model.specs.Path.{Path}
 use Rattle.dt_model.specs.Tree.{Property, Placed, preorder, nodes_of}
-use Rattle.dt_read.specs.Placed.{Nodes, no_nodes, node, forest_of, PlacedTree, reading_of}
+use Rattle.dt_trees.specs.Placed.{Nodes, no_nodes, node, forest_of, PlacedTree, reading_of}
 use Rattle.dt_read.specs.Marks.{Mark, begin_mark, end_mark, prop_mark, nop_mark, last_mark, marks_of_nodes, marks_of}
 use Rattle.dt_read.specs.Counting.{nodes_in, properties_in}
 use Rattle.dt_read.specs.Blocks.{whole_of}

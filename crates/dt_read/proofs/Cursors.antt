@@ -14,7 +14,7 @@ use Rattle.dt_read.specs.View.{view_at, sought_view, tag_view, tag_mark, HasToke
 use Rattle.dt_read.specs.declared.property.Sought.{Sought}
 use Rattle.dt_read.specs.declared.property.Sought.TheVariants as seen
 use Rattle.std.specs.Prelude.{if◌then◌else◌}
-use Rattle.dt_read.specs.Placed.{Nodes, no_nodes, node}
+use Rattle.dt_trees.specs.Placed.{Nodes, no_nodes, node}
 use Rattle.dt_read.specs.Marks.{Mark, begin_mark, end_mark, prop_mark, nop_mark, last_mark, token_of, mark_at, SpellsMarks, Takes, marks_of_nodes, without_nop_marks}
 use Rattle.dt_read.specs.Parsing.{lexed, left_by}
 use Rattle.dt_read.specs.TreeTokens.{AreTokens, marks_in, past, past_others, past_properties, Parts, marks_of_parts}

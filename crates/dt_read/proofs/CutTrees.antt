@@ -5,7 +5,7 @@ use Rattle.dt_model.specs.Checks.{number, strings_of, structure_of}
 use Rattle.dt_read.specs.Checked.{IsBlob, placed_of, root_of}
 use Rattle.dt_read.specs.Cuts.{Content, changed_root, moved, moved_content, moved_root, spliced, marks_of_content, SpellsRoot}
 use Rattle.dt_read.specs.Marks.{Mark, begin_mark, end_mark, prop_mark, nop_mark, last_mark, SpellsMarks, marks_of_nodes, marks_of, without_nop_marks}
-use Rattle.dt_read.specs.Placed.{path_at, IsNode}
+use Rattle.dt_trees.specs.Placed.{path_at, IsNode}
 use Rattle.dt_read.specs.TreeTokens.{marks_in, HasTree}
 use Rattle.dt_read.proofs.ChangedTrees.{moved_mark, Stands, in_tree, stands_in_tree}
 use Rattle.dt_read.proofs.CheckedBytes.{root_is_read}

@@ -12,7 +12,7 @@ use Rattle.dt_read.specs.View.{view, view_at}
 use Rattle.dt_read.specs.Cuts.{Content, marks_of_content, Passes, opened, IsEndPlace}
 use Rattle.dt_read.specs.Lying.{IsLater, TokenLies}
 use Rattle.dt_read.specs.Marks.{Mark, begin_mark, end_mark, prop_mark, nop_mark, last_mark, token_of, mark_at, SpellsMarks, marks_of_nodes, without_nop_marks}
-use Rattle.dt_read.specs.Placed.{Nodes, no_nodes, node}
+use Rattle.dt_trees.specs.Placed.{Nodes, no_nodes, node}
 use Rattle.dt_read.specs.TreeTokens.{AreTokens, marks_in}
 use Rattle.dt_read.proofs.Lying.{behind_later, later_first, later_trans, token_later}
 use Rattle.dt_read.proofs.Trees.{lexed_is}

@@ -8,7 +8,7 @@ use Rattle.dt_model.specs.Tree as tree
 use Rattle.dt_model.specs.Valid.{AreNodes, IsNoDeeper}
 use Rattle.dt_flat.specs.Arena.{Arena, Slot, root_alone, depth_of, with_child, with_property, reading}
 use Rattle.dt_flat.specs.Planted.{with_properties, planted, planted_tree, arena_of, MaySetAll, MayPlant, MayMake}
-use Rattle.dt_read.specs.Placed.{Nodes, no_nodes, node, forest_of}
+use Rattle.dt_trees.specs.Placed.{Nodes, no_nodes, node, forest_of}
 use Rattle.dt_read.specs.Marks.{Mark, end_mark, prop_mark, last_mark, Root, marks_of_nodes, marks_of}
 use Rattle.dt_read.specs.Growth.{grown, MayGrow, reading_with, MayCopy}
 

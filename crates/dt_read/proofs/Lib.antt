@@ -28,7 +28,6 @@ pub mod Novelty
 pub mod PhandleKeys
 pub mod NameKeys
 pub mod NamesApart
-pub mod NodePlaces
 pub mod Behind
 pub mod ChangedTrees
 pub mod ChangedPlaces
@@ -41,3 +40,10 @@ pub mod NodeCuts
 pub mod SplicedTrees
 pub mod BlockBytes
 pub mod KnownLemmas
+pub mod Opened
+pub mod FewOpen
+pub mod Openings
+pub mod Parents
+pub mod Numbered
+pub mod Places
+pub mod Walking

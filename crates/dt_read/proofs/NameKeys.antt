@@ -8,7 +8,7 @@ use Rattle.dt_model.specs.Names.{Name}
 use Rattle.dt_model.specs.Tree.{Property}
 use Rattle.dt_model.specs.Valid.{AreDistinct}
 use Rattle.dt_flat.proofs.Distinctness.{Apart, all-append, all-back, distinct-append, distinct-front, distinct-back, apart-right}
-use Rattle.dt_read.specs.Placed.{Nodes, no_nodes, node}
+use Rattle.dt_trees.specs.Placed.{Nodes, no_nodes, node}
 use Rattle.dt_read.specs.Marks.{Mark, end_mark, prop_mark, last_mark, Root, marks_of_nodes}
 use Rattle.dt_read.specs.TreeTokens.{Parts, heads_of}
 use Rattle.dt_read.specs.Order.{Rise, HasRisingPlaces}

@@ -7,7 +7,7 @@ use Rattle.dt_model.specs.Names.{Name}
 use Rattle.dt_model.specs.Tree.{Property}
 use Rattle.dt_model.specs.Valid.{AreDistinct}
 use Rattle.dt_flat.proofs.Distinctness.{distinct-front, distinct-back}
-use Rattle.dt_read.specs.Placed.{Nodes, no_nodes, node}
+use Rattle.dt_trees.specs.Placed.{Nodes, no_nodes, node}
 use Rattle.dt_read.specs.Marks.{Mark, begin_mark, end_mark, prop_mark, nop_mark, last_mark, Root, marks_of, marks_of_nodes}
 use Rattle.dt_read.specs.Parsing.{left_by}
 use Rattle.dt_read.specs.TreeTokens.{Parts, heads_of}

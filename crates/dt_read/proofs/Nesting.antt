@@ -11,7 +11,7 @@ use Rattle.dt_model.specs.Tree.{Property}
 use Rattle.dt_model.specs.Valid.{node_count, IsNoDeeper}
 use Rattle.dt_model.specs.Format.{begin_node, end_node, prop}
 use Rattle.dt_model.specs.Checks.{Position, front, is_behind, may_be_called, has_room, lead, lead_all}
-use Rattle.dt_read.specs.Placed.{Nodes, no_nodes, node, forest_of}
+use Rattle.dt_trees.specs.Placed.{Nodes, no_nodes, node, forest_of}
 use Rattle.dt_read.specs.Marks.{Mark, begin_mark, end_mark, prop_mark, nop_mark, last_mark, token_of, Root, marks_of_nodes, marks_of, without_nop_marks}
 use Rattle.dt_read.specs.TreeTokens.{AreNamed}
 use Rattle.dt_read.proofs.Tokens.{chosen}

@@ -18,8 +18,8 @@ use Rattle.dt_read.specs.declared.token.Token.TheVariants as code
 use Rattle.dt_read.specs.View.{view, view_at}
 use Rattle.dt_read.specs.Marks.{Mark, begin_mark, end_mark, prop_mark, last_mark, SpellsMarks, marks_of_nodes, without_nop_marks}
 use Rattle.dt_read.specs.Parsing.{Left, left_by}
-use Rattle.dt_read.specs.Placed as placed
-use Rattle.dt_read.specs.Placed.{Nodes, path_at, reading_of}
+use Rattle.dt_trees.specs.Placed as placed
+use Rattle.dt_trees.specs.Placed.{Nodes, path_at, reading_of}
 use Rattle.dt_read.specs.TreeCode.{left_by_properties, left_by_nodes}
 use Rattle.dt_read.specs.TreeTokens.{marks_in}
 use Rattle.dt_read.proofs.ChangedTrees.{moved_mark, moved_properties, moved_marks}

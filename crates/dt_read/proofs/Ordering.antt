@@ -5,7 +5,7 @@ use Rattle.std.proofs.lemmas.Bool.{eqb-true, eq-eqb}
 use Rattle.std.proofs.lemmas.List.{length-append}
 use Rattle.std.proofs.lemmas.Option.{same_Some}
 use Rattle.dt_model.specs.Tree.{Property}
-use Rattle.dt_read.specs.Placed.{Nodes, no_nodes, node}
+use Rattle.dt_trees.specs.Placed.{Nodes, no_nodes, node}
 use Rattle.dt_read.specs.Marks.{Mark, begin_mark, end_mark, prop_mark, nop_mark, last_mark, SpellsMark, SpellsMarks, Root, marks_of_nodes, marks_of, without_nop_marks}
 use Rattle.dt_read.specs.TreeTokens.{Parts, or_else, find_in, HasTree}
 use Rattle.dt_read.specs.Order.{Rise, HasRisingPlaces}

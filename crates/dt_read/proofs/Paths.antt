@@ -8,7 +8,7 @@ use Rattle.dt_model.specs.Names.{Name}
 use Rattle.dt_model.specs.Path.{Path}
 use Rattle.dt_model.specs.Tree.{Property, Node, node_below}
 use Rattle.dt_model.specs.Valid.{AreDistinct, names}
-use Rattle.dt_read.specs.Placed.{Nodes, no_nodes, node, forest_of, place_below, last_name}
+use Rattle.dt_trees.specs.Placed.{Nodes, no_nodes, node, forest_of, place_below, last_name}
 use Rattle.dt_read.specs.TreeTokens.{Parts, heads_of, head_named}
 use Rattle.dt_read.specs.Order.{Rise}
 use Rattle.dt_read.proofs.Ordering.{HasBelow, rise_bounds}

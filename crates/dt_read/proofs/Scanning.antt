@@ -13,7 +13,7 @@ use Rattle.dt_model.specs.Format.{Token, begin_node, end_node, prop, nop, end_tr
 use Rattle.dt_model.specs.Lexing.{padded, text_in, begin_in, property_in, token_in}
 use Rattle.dt_model.specs.Checks.{BlobFault, Position, front, is_behind, may_be_called, has_room, lead, lead_all, fits, begin_fault, name_fault, property_fault, tag_fault, token_fault, StopsAt, IsSpelled}
 use Rattle.dt_read.specs.Marks.{Mark, begin_mark, end_mark, prop_mark, nop_mark, last_mark, token_of, mark_at, SpellsMark, SpellsMarks, Root, marks_of_nodes, marks_of, without_nop_marks}
-use Rattle.dt_read.specs.Placed.{Nodes, no_nodes, node, forest_of}
+use Rattle.dt_trees.specs.Placed.{Nodes, no_nodes, node, forest_of}
 use Rattle.dt_read.specs.TreeTokens.{HasTree}
 use Rattle.dt_read.specs.Known.{HasNameAt}
 use Rattle.dt_read.specs.Scan.{IsStuck, MovesTo, Reaches}

@@ -3,7 +3,7 @@ use Rattle.std.proofs.lemmas.Bool.{false≢true}
 use Rattle.std.proofs.Common.{◌≡◌, ℕ, suc, ◌-◌, List, [], ◌∷◌, ◌++◌, map, sym, subst, append_assoc, arith}
 use Rattle.dt_model.specs.Tree.{Property}
 use Rattle.dt_model.specs.Valid.{IsNoDeeper}
-use Rattle.dt_read.specs.Placed.{Nodes, no_nodes, node, forest_of}
+use Rattle.dt_trees.specs.Placed.{Nodes, no_nodes, node, forest_of}
 use Rattle.dt_read.specs.Marks.{Mark, begin_mark, end_mark, prop_mark, nop_mark, last_mark, Root, marks_of_nodes, marks_of}
 use Rattle.dt_read.specs.Keys.{AreShallow, AreShallowFor}
 use Rattle.dt_read.specs.declared.keys.Wanted.{Wanted}

@@ -4,7 +4,7 @@ use Rattle.dt_model.specs.Format.{Token, SpellsAll, SpellsTree}
 use Rattle.dt_read.specs.Cuts.{SpellsRoot}
 use Rattle.dt_read.specs.Marks.{Mark, last_mark, token_of, SpellsMarks, Root}
 use Rattle.dt_read.specs.Parsing.{root_left, tree_in, tree_of_marks}
-use Rattle.dt_read.specs.Placed.{forest_of}
+use Rattle.dt_trees.specs.Placed.{forest_of}
 use Rattle.dt_read.specs.TreeCode.{tree_again}
 use Rattle.dt_read.proofs.Scanning.{tokens_of_marks, tokens_append, tokens_of_root}
 use Rattle.dt_read.proofs.Trees.{lexed_is, left_by-without_nop_marks}

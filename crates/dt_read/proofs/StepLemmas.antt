@@ -4,7 +4,7 @@ use Rattle.std.specs.Option.{IfSome}
 use Rattle.dt_model.specs.Format.{Token, begin_node, word_at}
 use Rattle.dt_model.specs.Lexing.{begin_in}
 use Rattle.dt_model.specs.Tree.{Property}
-use Rattle.dt_read.specs.Placed.{Nodes, no_nodes, node}
+use Rattle.dt_trees.specs.Placed.{Nodes, no_nodes, node}
 use Rattle.dt_read.specs.Marks.{Mark, end_mark, prop_mark, last_mark, mark_at, Root, marks_of_nodes, marks_of, without_nop_marks}
 use Rattle.dt_read.specs.Parsing.{lexed}
 use Rattle.dt_read.specs.TreeTokens.{AreTokens, marks_in, Parts, marks_of_parts}

@@ -5,7 +5,7 @@ use Rattle.dt_model.specs.Names.{Name}
 use Rattle.dt_model.specs.Format.{Token, begin_node, end_node, prop, nop, end_tree, word, Spells}
 use Rattle.dt_model.specs.Lexing.{token_in}
 use Rattle.dt_model.proofs.Lexed.{token_again, no_token}
-use Rattle.dt_read.specs.Placed.{no_nodes}
+use Rattle.dt_trees.specs.Placed.{no_nodes}
 use Rattle.dt_read.specs.Marks.{Mark, begin_mark, end_mark, prop_mark, nop_mark, last_mark, token_of, mark_at, SpellsMark, SpellsMarks, without_nop_marks}
 use Rattle.dt_read.specs.Parsing.{behind, lexed, Left, begun, left_by}
 use Rattle.dt_read.proofs.Tokens.{token_is}

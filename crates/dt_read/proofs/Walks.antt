@@ -6,7 +6,7 @@ use Rattle.dt_read.specs.declared.token.Tag.{Tag}
 use Rattle.dt_read.specs.declared.token.Token.{Token}
 use Rattle.dt_read.specs.declared.token.Token.TheVariants as code
 use Rattle.dt_read.specs.View.{tag_mark, view_at}
-use Rattle.dt_read.specs.Placed.{Nodes, no_nodes, node}
+use Rattle.dt_trees.specs.Placed.{Nodes, no_nodes, node}
 use Rattle.dt_read.specs.Marks.{Mark, begin_mark, end_mark, prop_mark, marks_of_nodes}
 use Rattle.dt_read.specs.Parsing.{left_by}
 use Rattle.dt_read.specs.TreeCode.{left_by_nodes, left_by_properties}

@@ -12,7 +12,7 @@ use Rattle.dt_names.specs.declared.fault.FaultKind.{FaultKind}
 use Rattle.dt_names.specs.declared.fault.FaultKind.TheVariants.{Limit}
 use Rattle.dt_read.specs.declared.blocks.Blocks.{Blocks}
 use Rattle.dt_read.specs.Kinds.{kind_of}
-use Rattle.dt_read.specs.Placed.{no_nodes, forest_of, PlacedTree, reading_of, place_of, IsAt, last_name, properties_found, names_under, properties_at, child_names}
+use Rattle.dt_trees.specs.Placed.{no_nodes, forest_of, PlacedTree, reading_of, place_of, IsAt, last_name, properties_found, names_under, properties_at, child_names}
 use Rattle.dt_read.specs.Marks.{Root}
 use Rattle.dt_read.specs.TreeTokens.{Parts, node_of, heads_of, head_named, HasTree}
 use Rattle.dt_read.specs.Pairs.{pairs_of}

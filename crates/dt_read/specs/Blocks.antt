@@ -6,7 +6,7 @@ use Rattle.dt_model.specs.Format.{reservation_block}
 use Rattle.dt_model.specs.Checks.{header_fault, number, counted, strings_of, structure_of, AreApart}
 use Rattle.dt_read.specs.declared.blocks.Blocks.{Blocks}
 use Rattle.dt_read.specs.Growth.{MayCopy}
-use Rattle.dt_read.specs.Placed.{PlacedTree, forest_of, reading_of}
+use Rattle.dt_trees.specs.Placed.{PlacedTree, forest_of, reading_of}
 use Rattle.dt_read.specs.Marks.{Root}
 use Rattle.dt_read.specs.Order.{HasRisingPlaces}
 use Rattle.dt_read.specs.Pairs.{pairs_of}

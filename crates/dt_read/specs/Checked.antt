@@ -6,7 +6,7 @@ use Rattle.dt_model.specs.Checks.{number, counted, strings_of, structure_of}
 use Rattle.dt_read.specs.Marks.{Root}
 use Rattle.dt_read.specs.Pairs.{pairs_of}
 use Rattle.dt_read.specs.Parsing.{tree_in}
-use Rattle.dt_read.specs.Placed.{PlacedTree}
+use Rattle.dt_trees.specs.Placed.{PlacedTree}
 
 -- the bytes are a blob within the limits
 abbrev pub IsBlob : List ℕ → Type 0

@@ -11,7 +11,7 @@ use Rattle.dt_model.specs.Path.{Path}
 use Rattle.dt_model.specs.Tree.{Property, value_in}
 use Rattle.dt_read.specs.Checked.{placed_of, root_of}
 use Rattle.dt_read.specs.Marks.{Mark, begin_mark, end_mark, prop_mark, nop_mark, last_mark, SpellsMarks, Root, marks_of_nodes, marks_of, without_nop_marks}
-use Rattle.dt_read.specs.Placed.{Nodes, no_nodes, node, path_at, reading_of}
+use Rattle.dt_trees.specs.Placed.{Nodes, no_nodes, node, path_at, reading_of}
 use Rattle.dt_read.specs.TreeTokens.{AreTokens, marks_in}
 
 -- ---- trees with one node changed

@@ -8,7 +8,7 @@ use Rattle.dt_model.specs.Format.{Token, begin_node, end_node, prop, nop, end_tr
 use Rattle.dt_flat.specs.Arena.{Slot, with_child, with_property}
 use Rattle.dt_flat.specs.Planted.{HasOwnNumbers, MaySetNew}
 use Rattle.dt_flat.specs.Refusals.{MayAdd}
-use Rattle.dt_read.specs.Placed.{forest_of}
+use Rattle.dt_trees.specs.Placed.{forest_of}
 use Rattle.dt_read.specs.Marks.{Mark, token_of, Root}
 
 -- the numbers of the open nodes behind a token

@@ -1,5 +1,4 @@
 -- what callers read, in this order
-pub mod Placed
 pub mod Marks
 pub mod Parsing
 pub mod Walked

@@ -5,7 +5,7 @@ use Rattle.dt_model.specs.Names.{Name}
 use Rattle.dt_model.specs.Tree.{value_in, value_of}
 use Rattle.dt_model.specs.Format.{Token, part}
 use Rattle.dt_read.specs.Checked.{placed_of}
-use Rattle.dt_read.specs.Placed.{last_name, path_at, properties_at, reading_of}
+use Rattle.dt_trees.specs.Placed.{last_name, path_at, properties_at, reading_of}
 use Rattle.dt_read.specs.TreeTokens.{Parts, AreTokens, BeginsNode, marks_in}
 use Rattle.dt_read.specs.declared.spans.Span.{Span}
 use Rattle.dt_read.specs.Marks.{Takes}

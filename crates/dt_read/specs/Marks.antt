@@ -3,7 +3,7 @@ use Rattle.std.specs.Prelude.{◌≡◌, ℕ, ◌+◌, ◌≤◌, List, [], ◌�
 use Rattle.dt_model.specs.Names.{Name}
 use Rattle.dt_model.specs.Tree.{Property}
 use Rattle.dt_model.specs.Format.{Token, begin_node, end_node, prop, nop, end_tree, Spells}
-use Rattle.dt_read.specs.Placed.{Nodes, no_nodes, node}
+use Rattle.dt_trees.specs.Placed.{Nodes, no_nodes, node}
 
 -- a token, where a node's beginning has its place
 pub data Mark : Type 0 where

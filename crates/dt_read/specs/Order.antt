@@ -1,5 +1,5 @@
 -- Places that rise in preorder, so that each is one node's.
-use Rattle.dt_read.specs.Placed.{Nodes, no_nodes, node}
+use Rattle.dt_trees.specs.Placed.{Nodes, no_nodes, node}
 use Rattle.dt_read.specs.Marks.{Root}
 use Rattle.std.specs.Prelude.{ℕ, ◌+◌, ◌≤◌}
 

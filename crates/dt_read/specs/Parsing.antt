@@ -1,6 +1,6 @@
 -- The tree that some bytes spell, as a function: it has junk values at bytes that spell none.
 use Rattle.dt_model.specs.Tree.{Property}
-use Rattle.dt_read.specs.Placed.{Nodes, no_nodes, node}
+use Rattle.dt_trees.specs.Placed.{Nodes, no_nodes, node}
 use Rattle.dt_read.specs.Marks.{Mark, begin_mark, end_mark, prop_mark, nop_mark, last_mark, mark_at, Root}
 use Rattle.std.specs.Prelude.{ℕ, zero, suc, ◌+◌, List, [], ◌∷◌, length, drop, Option, Some, None}
 use Rattle.dt_model.specs.Format.{Token}

@@ -1,6 +1,6 @@
 -- The tokens of a tree give it back, so a tree can be stored as them.
 use Rattle.dt_model.specs.Tree.{Property}
-use Rattle.dt_read.specs.Placed.{Nodes, no_nodes, node, PlacedTree}
+use Rattle.dt_trees.specs.Placed.{Nodes, no_nodes, node, PlacedTree}
 use Rattle.dt_read.specs.Marks.{Mark, begin_mark, end_mark, prop_mark, nop_mark, last_mark, Root, marks_of_nodes, marks_of}
 use Rattle.std.proofs.Common.{◌≡◌, ℕ, zero, suc, List, [], ◌∷◌, ◌++◌, map, refl, sym, ap, ◌∙◌, append_assoc}
 use Rattle.std.proofs.lemmas.List.{append-nil}

@@ -1,6 +1,6 @@
 -- The tokens of a tree: what is left to read at a place of the structure block, and what a node has.
 use Rattle.dt_model.specs.Tree.{Property}
-use Rattle.dt_read.specs.Placed.{Nodes, no_nodes, node, forest_of}
+use Rattle.dt_trees.specs.Placed.{Nodes, no_nodes, node, forest_of}
 use Rattle.std.specs.List.{AllByRecursion}
 use Rattle.std.specs.Str.{bytes_eq}
 use Rattle.dt_model.specs.Names.{IsNodeName, IsPropertyName}

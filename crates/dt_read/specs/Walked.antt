@@ -3,7 +3,7 @@ use Rattle.std.specs.Prelude.{◌≡◌, ℕ, List, [], ◌∷◌, ◌++◌, map
 use Rattle.dt_model.specs.Names.{Name}
 use Rattle.dt_model.specs.Path.{Path}
 use Rattle.dt_model.specs.Tree.{Property, node_at}
-use Rattle.dt_read.specs.Placed.{Nodes, no_nodes, node, forest_of, PlacedTree, reading_of}
+use Rattle.dt_trees.specs.Placed.{Nodes, no_nodes, node, forest_of, PlacedTree, reading_of}
 
 -- a node begins, which has this place; a property of the node that is open; the node that is open ends
 pub data Step : Type 0 where

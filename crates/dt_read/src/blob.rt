@@ -9,7 +9,7 @@ ghost use Rattle.dt_names.specs.declared.fault.FaultKind.TheVariants.{Limit, NoM
 ghost use Rattle.dt_flat.specs.Arena.{reading};
 ghost use Rattle.dt_read.specs.Checked.{IsBlob, placed_of};
 ghost use Rattle.dt_read.specs.Kinds.{kind_of};
-ghost use Rattle.dt_read.specs.Placed.{reading_of, IsAt, HasPlacesApart};
+ghost use Rattle.dt_trees.specs.Placed.{reading_of, IsAt, HasPlacesApart};
 ghost use Rattle.dt_read.specs.Walked.{steps_of, without_properties, WalkIn};
 ghost use Rattle.dt_names.specs.Fault.{IsNoMemory};
 
@@ -42,7 +42,7 @@ pub struct Blob<'a> {
 impl<'a> Model for Blob<'a> {
     ghost use Rattle.dt_read.specs.Blocks.{IsWellPlaced};
     ghost use Rattle.dt_read.specs.Pairs.{pairs_of};
-    ghost use Rattle.dt_read.specs.Placed.{PlacedTree};
+    ghost use Rattle.dt_trees.specs.Placed.{PlacedTree};
     ghost use Rattle.dt_read.specs.TreeCode.{coded_placed};
 
     ghost Value = { PlacedTree };
@@ -84,7 +84,7 @@ impl<'a> Blob<'a> {
     ghost use Rattle.std.specs.List.{sum_by};
     ghost use Rattle.std.specs.Option.{option_copied};
     ghost use Rattle.dt_model.specs.Tree.{value_in, nodes_of};
-    ghost use Rattle.dt_read.specs.Placed.{place_of, last_name, properties_at, child_names, first_place_of, names_behind};
+    ghost use Rattle.dt_trees.specs.Placed.{place_of, last_name, properties_at, child_names, first_place_of, names_behind};
 
     /// Reads a blob (Devicetree Specification v0.4, chapter 5). Takes no memory.
     ///

@@ -4,7 +4,7 @@ ghost use Rattle.std.specs.Prelude.{◌≡◌, ◌∷◌, List};
 ghost use Rattle.dt_read.specs.Checked.{IsBlob, placed_of};
 ghost use Rattle.dt_read.specs.Cuts.{Content, marks_of_content, IsPropertyExtent, IsEndPlace, IsPropertyCut, IsEndCut};
 ghost use Rattle.dt_read.specs.Marks.{Mark, end_mark};
-ghost use Rattle.dt_read.specs.Placed.{IsNode};
+ghost use Rattle.dt_trees.specs.Placed.{IsNode};
 ghost use Rattle.dt_read.specs.TreeTokens.{AreTokens, marks_in};
 
 use crate::NodeId;

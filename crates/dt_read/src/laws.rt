@@ -5,7 +5,7 @@ ghost use Rattle.dt_model.specs.Checks.{BlobFault, IsFirstFault};
 ghost use Rattle.dt_model.specs.Format.{Reads, IsWithin};
 ghost use Rattle.dt_model.specs.Tree.{Reading};
 ghost use Rattle.dt_read.specs.Checked.{placed_of};
-ghost use Rattle.dt_read.specs.Placed.{reading_of};
+ghost use Rattle.dt_trees.specs.Placed.{reading_of};
 
 use dt_model_format::{blob_has_no_fault, first_fault_is_one};
 

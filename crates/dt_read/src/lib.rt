@@ -36,6 +36,7 @@ mod spans;
 mod steps;
 mod structure;
 mod token;
+mod tree_view;
 mod walk;
 
 pub use blob::Blob;
@@ -48,4 +49,5 @@ pub use open_nodes::OpenNodes;
 pub use reservations::Reservations;
 pub use spans::{PropertySpans, Span, name_span, property_spans, value_span};
 pub use steps::{NodeStep, NodeSteps, Step, Steps};
+pub use tree_view::{is_node, put_nodes_above};
 pub use walk::{Children, Props};

@@ -6,7 +6,7 @@ ghost use Rattle.dt_model.specs.Tree.{Property, value_in, value_of};
 ghost use Rattle.dt_read.specs.Blocks.{AreBlocks};
 ghost use Rattle.dt_read.specs.Checked.{IsBlob, placed_of};
 ghost use Rattle.dt_read.specs.Parsing.{left_by};
-ghost use Rattle.dt_read.specs.Placed.{last_name, path_at, properties_at, reading_of, IsNode};
+ghost use Rattle.dt_trees.specs.Placed.{last_name, path_at, properties_at, reading_of, IsNode};
 ghost use Rattle.dt_read.specs.Lying.{Lies, LiesIn, IsFromNode};
 ghost use Rattle.dt_read.specs.TreeTokens.{Parts, AreTokens, BeginsNode, marks_in};
 

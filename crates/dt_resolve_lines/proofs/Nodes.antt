@@ -9,11 +9,11 @@ use Rattle.dt_model.specs.Tree.{Placed, nodes_of}
 use Rattle.dt_model.specs.Valid.{IsValid}
 use Rattle.dt_names.specs.declared.fault.Fault.{Fault}
 use Rattle.dt_names.specs.Sink.{Taken, Takes, IsRefused}
-use Rattle.dt_read.specs.Placed.{PlacedTree, reading_of, path_at, IsAt, IsNode}
+use Rattle.dt_trees.specs.Placed.{PlacedTree, reading_of, path_at, IsAt, IsNode}
 use Rattle.dt_read.specs.Walked.{Step, opens, steps_of}
-use Rattle.dt_read.proofs.NodePlaces.{path_is, at_node}
-use Rattle.dt_view.proofs.Walks.{opened, AreOpened}
-use Rattle.dt_view.proofs.Openings.{all_opened, next_opened, none_opened}
+use Rattle.dt_trees.proofs.NodePlaces.{path_is, at_node}
+use Rattle.dt_read.proofs.Opened.{opened, AreOpened}
+use Rattle.dt_read.proofs.Openings.{all_opened, next_opened, none_opened}
 use Rattle.dt_text_writer.specs.Written.{Written, IsWritten}
 use Rattle.dt_text_writer.proofs.Writing.{puts_none, puts_then, cut_at}
 use Rattle.dt_resolve_lines.specs.AllLines.{AreOfAll, AreBegunOfAll}

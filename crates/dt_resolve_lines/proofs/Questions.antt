@@ -8,11 +8,11 @@ use Rattle.dt_names.specs.Sink.{Taken, Takes, IsRefused}
 use Rattle.dt_names.specs.declared.fault.Fault.{Fault}
 use Rattle.dt_names.specs.declared.fault.FaultKind.{FaultKind}
 use Rattle.dt_names.specs.declared.fault.FaultKind.TheVariants.{BadName, NoNode}
-use Rattle.dt_read.specs.Placed.{PlacedTree, path_at, reading_of, IsAt}
-use Rattle.dt_read.proofs.NodePlaces.{path_is, stands_place}
+use Rattle.dt_trees.specs.Placed.{PlacedTree, path_at, reading_of, IsAt}
+use Rattle.dt_trees.proofs.NodePlaces.{path_is, stands_place}
 use Rattle.dt_resolve_model.specs.Answers.{Answer, refused, answer}
 use Rattle.dt_resolve_model.specs.World.{tree_world}
-use Rattle.dt_view.specs.Views.{IsFoundBy, WhyNotFound}
+use Rattle.dt_trees.specs.Views.{IsFoundBy, WhyNotFound}
 use Rattle.dt_resolve_lines.specs.Asked.{answer_words, IsAnswer, WhyNoNode, WhyNotAsked, WhyUntold, no_answer, unanswered, cut, refusal, failure}
 use Rattle.dt_resolve_model.specs.declared.questions.Question.{Question}
 

@@ -2,12 +2,12 @@
 
 ghost use Rattle.std.specs.Prelude.{◌≡◌, ℕ, List, OnOk, IfErr};
 ghost use Rattle.dt_names.specs.Sink.{Takes, IsRefused};
-ghost use Rattle.dt_read.specs.Placed.{path_at, IsNode};
+ghost use Rattle.dt_trees.specs.Placed.{path_at, IsNode};
 ghost use Rattle.dt_resolve_model.specs.Answers.{answer};
 ghost use Rattle.dt_irq.specs.Seen.{route_in, HasArrived};
 ghost use Rattle.dt_resolve_lines.specs.Asked.{answer_words, dma_words, specifier_words, IsAnswer, WhyNotAsked, WhyUntold};
 ghost use Rattle.dt_resolve_lines.specs.Lines.{region_words, route_words};
-ghost use Rattle.dt_view.specs.Views.{world_of};
+ghost use Rattle.dt_view.specs.Worlds.{world_of};
 
 use crate::words::{put_region, put_route};
 use dt_irq::{Route, specifier_route};

@@ -3,7 +3,7 @@
 ghost use Rattle.std.specs.Prelude.{List, ℕ, OnOk, IfErr};
 ghost use Rattle.std.specs.List.{concat};
 ghost use Rattle.dt_names.specs.Sink.{Takes, IsRefused};
-ghost use Rattle.dt_read.specs.Placed.{path_at, reading_of, IsNode};
+ghost use Rattle.dt_trees.specs.Placed.{path_at, reading_of, IsNode};
 ghost use Rattle.dt_resolve_lines.specs.Given.{PutsLines, FailsAtLines};
 ghost use Rattle.dt_resolve_lines.specs.declared.listing.Listing.TheVariants.{Regions, Routes};
 ghost use Rattle.dt_resolve_lines.specs.Listed.{AreAll, AreAllBegun, AreOwn, AreOwnBegun, AreLinesOf, WhyNotListed};

@@ -2,7 +2,7 @@
 
 ghost use Rattle.std.specs.Prelude.{◌≡◌, ◌≢◌, ◌++◌, [], OnOk, IfErr};
 ghost use Rattle.dt_model.specs.Path.{path_text};
-ghost use Rattle.dt_read.specs.Placed.{path_at, IsNode};
+ghost use Rattle.dt_trees.specs.Placed.{path_at, IsNode};
 ghost use Rattle.dt_text_writer.specs.Written.{Puts, FailsAt};
 ghost use Rattle.dt_view.specs.Ways.{way_text, AreNodes};
 

@@ -1,7 +1,7 @@
 //! The lines of a node's regions.
 
 ghost use Rattle.std.specs.Prelude.{◌≡◌, ◌++◌, OnOk, IfErr};
-ghost use Rattle.dt_read.specs.Placed.{path_at, reading_of, IsNode};
+ghost use Rattle.dt_trees.specs.Placed.{path_at, reading_of, IsNode};
 ghost use Rattle.dt_resolve_model.specs.Answers.{told};
 ghost use Rattle.dt_text_writer.specs.Written.{Puts, FailsAt};
 ghost use Rattle.dt_resolve_lines.specs.Lines.{line, region_words};

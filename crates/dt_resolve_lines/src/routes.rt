@@ -1,7 +1,7 @@
 //! The lines of a node's routes.
 
 ghost use Rattle.std.specs.Prelude.{◌≡◌, ◌++◌, [], cond, OnOk, IfErr};
-ghost use Rattle.dt_read.specs.Placed.{path_at, reading_of, IsNode};
+ghost use Rattle.dt_trees.specs.Placed.{path_at, reading_of, IsNode};
 ghost use Rattle.dt_resolve_model.specs.Answers.{answer, refused};
 ghost use Rattle.dt_text_writer.specs.Written.{Puts, FailsAt};
 ghost use Rattle.dt_irq.specs.RoutesLeft.{AreLeft};

@@ -4,7 +4,7 @@ ghost use Rattle.std.specs.Prelude.{◌≡◌, ◌++◌, ◌∷◌, [], OnOk, If
 ghost use Rattle.std.specs.Int.{w128, w32, to_be_bytes};
 ghost use Rattle.dt_model.specs.Printed.{hexadecimal};
 ghost use Rattle.dt_names.specs.Sink.{joined};
-ghost use Rattle.dt_read.specs.Placed.{path_at, IsNode};
+ghost use Rattle.dt_trees.specs.Placed.{path_at, IsNode};
 ghost use Rattle.dt_text_writer.specs.Written.{Puts, FailsAt};
 ghost use Rattle.dt_irq.specs.Seen.{route_in, HasArrived};
 ghost use Rattle.dt_resolve_lines.specs.Lines.{cells_words, fault_words, place_words, region_words, route_words};

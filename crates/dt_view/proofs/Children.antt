@@ -13,16 +13,16 @@ use Rattle.dt_model.specs.Tree.{Property, Placed, preorder, nodes_of}
 use Rattle.dt_model.specs.Valid.{IsValid}
 use Rattle.dt_model.proofs.Listed.{stands_listed}
 use Rattle.dt_model.proofs.Tests.{in_append}
-use Rattle.dt_read.specs.Placed.{Nodes, no_nodes, node, forest_of, PlacedTree, reading_of, path_at, place_of, last_name, HasPlacesApart, IsNode}
+use Rattle.dt_trees.specs.Placed.{Nodes, no_nodes, node, forest_of, PlacedTree, reading_of, path_at, place_of, last_name, HasPlacesApart, IsNode}
 use Rattle.dt_read.specs.Walked.{without_properties, Step, opens, holds, closes, steps_of_nodes, steps_of}
-use Rattle.dt_read.proofs.NodePlaces.{path_is, stands_place}
+use Rattle.dt_trees.proofs.NodePlaces.{path_is, stands_place}
 use Rattle.dt_resolve_model.specs.Above.{front}
 use Rattle.dt_view.specs.Tables.{Key, child_at, PutsChild, AreChildren}
-use Rattle.dt_view.specs.Views.{IsAbove}
-use Rattle.dt_view.proofs.Steps.{ends_so}
+use Rattle.dt_trees.specs.Views.{IsAbove}
+use Rattle.dt_trees.proofs.Steps.{ends_so}
 use Rattle.dt_view.proofs.Kinded.{key_is}
-use Rattle.dt_view.proofs.Walks.{opened, AreOpened}
-use Rattle.dt_view.proofs.Openings.{OpensNext, all_opened, next_opened, none_opened}
+use Rattle.dt_read.proofs.Opened.{opened, AreOpened}
+use Rattle.dt_read.proofs.Openings.{OpensNext, all_opened, next_opened, none_opened}
 
 -- ---- a change of the hash map is a change of the table
 

@@ -16,12 +16,12 @@ use Rattle.dt_model.specs.Tree.{Property, Placed, Node, node_at, nodes_of, value
 use Rattle.dt_model.specs.Valid.{IsValid, AreDistinct}
 use Rattle.dt_model.proofs.Listed.{stands_listed, at_listed, properties_listed}
 use Rattle.dt_model.proofs.Tests.{in_append}
-use Rattle.dt_read.specs.Placed.{PlacedTree, reading_of, path_at, place_of, properties_found, properties_at, IsAt, IsNode}
+use Rattle.dt_trees.specs.Placed.{PlacedTree, reading_of, path_at, place_of, properties_found, properties_at, IsAt, IsNode}
 use Rattle.dt_read.specs.Walked.{Step, opens, steps_of}
-use Rattle.dt_read.proofs.NodePlaces.{stands_place}
+use Rattle.dt_trees.proofs.NodePlaces.{stands_place}
 use Rattle.dt_view.specs.Tables.{Key, is_kind_name, value_at, PutsValue, NotesValue, AreKinds, AreKept}
-use Rattle.dt_view.proofs.Walks.{opened, AreOpened}
-use Rattle.dt_view.proofs.Openings.{OpensNext, all_opened, next_opened, none_opened}
+use Rattle.dt_read.proofs.Opened.{opened, AreOpened}
+use Rattle.dt_read.proofs.Openings.{OpensNext, all_opened, next_opened, none_opened}
 use Rattle.dt_view.proofs.Valued.{value_of_all}
 
 -- ---- a change of the hash map is a change of the table

@@ -6,12 +6,12 @@ use Rattle.dt_model.specs.Path.{Path}
 use Rattle.dt_model.specs.Tree.{Property, Placed, preorder, nodes_of}
 use Rattle.dt_model.specs.Valid.{IsValid}
 use Rattle.dt_model.proofs.Listed.{listed_at}
-use Rattle.dt_read.specs.Placed.{Nodes, no_nodes, node, forest_of, PlacedTree, reading_of, path_at, properties_at, properties_found, HasPlacesApart}
+use Rattle.dt_trees.specs.Placed.{Nodes, no_nodes, node, forest_of, PlacedTree, reading_of, path_at, properties_at, properties_found, HasPlacesApart}
 use Rattle.dt_read.specs.Walked.{Step, opens, holds, closes, steps_of_nodes, steps_of, leading, past_leading}
-use Rattle.dt_read.proofs.NodePlaces.{path_is}
-use Rattle.dt_view.proofs.Walks.{parent_told, opened, AreFew, AreOpened}
-use Rattle.dt_view.proofs.Openings.{OpensNext, all_opened, next_opened}
-use Rattle.dt_view.proofs.Walking.{IsWalked, another_walked}
+use Rattle.dt_trees.proofs.NodePlaces.{path_is}
+use Rattle.dt_read.proofs.Opened.{parent_told, opened, AreFew, AreOpened}
+use Rattle.dt_read.proofs.Openings.{OpensNext, all_opened, next_opened}
+use Rattle.dt_read.proofs.Walking.{IsWalked, another_walked}
 
 -- of each node that the steps open, the properties that come next
 abbrev pub led : List Step → List (List Property)

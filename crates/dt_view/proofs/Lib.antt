@@ -1,15 +1,6 @@
-pub mod Walks
-pub mod Shallow
-pub mod Parents
-pub mod Openings
-pub mod Numbered
-pub mod Places
-pub mod Walking
 pub mod Led
 pub mod Tabled
 pub mod Indexed
-pub mod Steps
-pub mod Numbers
 pub mod Valued
 pub mod Kinded
 pub mod Children

@@ -2,7 +2,7 @@
 use Rattle.std.proofs.Common.{◌≡◌, ◌≢◌, ℕ, suc, ◌+◌, List, [], ◌∷◌, ◌++◌, length, codes, refl, sym, ap, ◌∙◌, append_assoc, append-nil, arith}
 use Rattle.dt_model.specs.Names.{Name}
 use Rattle.dt_model.specs.Path.{Path, path_text}
-use Rattle.dt_read.specs.Placed.{PlacedTree, last_name, path_at}
+use Rattle.dt_trees.specs.Placed.{PlacedTree, last_name, path_at}
 use Rattle.dt_resolve_model.specs.Above.{front}
 use Rattle.dt_view.specs.Ways.{names_text, way_text}
 

@@ -16,15 +16,14 @@ use Rattle.dt_model.proofs.Distinct.{in_flat}
 use Rattle.dt_model.proofs.Listed.{value_listed}
 use Rattle.dt_model.proofs.Preorder.{length-preorder, phandle_list, all_phandles, value_in_list}
 use Rattle.dt_model.proofs.Tests.{each_in, in_append}
-use Rattle.dt_read.specs.Placed.{PlacedTree, reading_of, path_at, place_of, IsAt, IsNode}
+use Rattle.dt_trees.specs.Placed.{PlacedTree, reading_of, path_at, place_of, IsAt, IsNode, HasPlacesApart}
 use Rattle.dt_read.specs.Walked.{Step, opens, steps_of, without_properties}
-use Rattle.dt_view.specs.Tables.{at_number, HasNumber, AreParents, ArePhandles, IsNoted}
+use Rattle.dt_view.specs.Tables.{at_number, AreParents, ArePhandles, IsNoted}
+use Rattle.dt_trees.specs.Views.{HasNumber, IsAbove}
 use Rattle.dt_view.specs.declared.tables.Row.{Row}
-use Rattle.dt_view.specs.Views.{IsAbove}
-use Rattle.dt_view.proofs.Walks.{innermost, AreOpened}
-use Rattle.dt_read.specs.Placed.{HasPlacesApart}
-use Rattle.dt_view.proofs.Openings.{OpensNext, none_opened}
-use Rattle.dt_view.proofs.Walking.{IsWalked, not_walked, next_walked, walked_node, above_walked, one_walked, nodes_walked}
+use Rattle.dt_read.proofs.Opened.{innermost, AreOpened}
+use Rattle.dt_read.proofs.Openings.{OpensNext, none_opened}
+use Rattle.dt_read.proofs.Walking.{IsWalked, not_walked, next_walked, walked_node, above_walked, one_walked, nodes_walked}
 
 pub is_phandle : (t : Reading) (p : Path) (v : List ℕ) → IsValid t → value_in t p (codes "phandle") ≡ Some v → IsPhandle v
 is_phandle t p v valid e =

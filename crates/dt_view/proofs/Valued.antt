@@ -14,14 +14,14 @@ use Rattle.dt_model.specs.Tree.{Property, Placed, Node, node_at, nodes_of, value
 use Rattle.dt_model.specs.Valid.{IsValid}
 use Rattle.dt_model.proofs.Listed.{stands_listed}
 use Rattle.dt_model.proofs.Tests.{in_append}
-use Rattle.dt_read.specs.Placed.{PlacedTree, reading_of, path_at, place_of, properties_at, IsNode}
+use Rattle.dt_trees.specs.Placed.{PlacedTree, reading_of, path_at, place_of, properties_at, IsNode}
 use Rattle.dt_read.specs.Walked.{Step, opens, steps_of}
-use Rattle.dt_read.proofs.NodePlaces.{stands_place}
+use Rattle.dt_trees.proofs.NodePlaces.{stands_place}
 use Rattle.dt_view.specs.declared.tables.Row.{Row}
 use Rattle.dt_view.specs.declared.tables.Asked.{Asked}
 use Rattle.dt_view.specs.Tables.{at_number, asked_of, asked_said, first_found, is_whole_name, AreNoted, AreValues, HasValues}
-use Rattle.dt_view.proofs.Walks.{opened, AreOpened}
-use Rattle.dt_view.proofs.Openings.{OpensNext, all_opened, next_opened, none_opened}
+use Rattle.dt_read.proofs.Opened.{opened, AreOpened}
+use Rattle.dt_read.proofs.Openings.{OpensNext, all_opened, next_opened, none_opened}
 
 -- ---- the properties that are asked for whole
 

@@ -1,6 +1,5 @@
 -- what callers read, in this order
-pub mod Views
-pub mod Trees
+pub mod Worlds
 pub mod Ways
 -- inside
 pub mod Tables

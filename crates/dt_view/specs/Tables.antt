@@ -6,13 +6,12 @@ use Rattle.std.specs.Map.{lookup}
 use Rattle.std.specs.Option.{option_copied, IfSome}
 use Rattle.std.specs.Str.{bytes_eq}
 use Rattle.dt_model.specs.Lists.{IsIn}
-use Rattle.dt_model.specs.Meaning.{cell}
 use Rattle.dt_model.specs.Names.{Name}
 use Rattle.dt_model.specs.Tree.{Property, Placed, nodes_of, value_of, value_in}
-use Rattle.dt_read.specs.Placed.{PlacedTree, reading_of, path_at, place_of, properties_at, IsAt, IsNode}
+use Rattle.dt_trees.specs.Placed.{PlacedTree, reading_of, path_at, place_of, properties_at, IsAt, IsNode}
 use Rattle.dt_view.specs.declared.tables.Row.{Row}
 use Rattle.dt_view.specs.declared.tables.Asked.{Asked}
-use Rattle.dt_view.specs.Views.{IsAbove}
+use Rattle.dt_trees.specs.Views.{HasNumber, IsAbove}
 
 -- what a table has for a number
 abbrev pub at_number : {A : Type 0} → List (ℕ × A) → ℕ → Option A
@@ -21,10 +20,6 @@ at_number entries k = lookup (nat_eq k) entries
 -- each of some nodes has a row with the node above it
 abbrev pub AreParents : PlacedTree → List Placed → List (ℕ × Row) → Type 0
 AreParents t nodes rows = (n : Placed) (k : ℕ) → IsIn n nodes → IsAt t n.path k → (row : Row) × (at_number rows k ≡ Some row) × IsAbove t k row.above
-
--- the node has the number
-abbrev pub HasNumber : PlacedTree → ℕ → ℕ → Type 0
-HasNumber t k n = value_in (reading_of t) (path_at t k) (codes "phandle") ≡ Some (cell n)
 
 -- a number finds a node that has it, and each of some nodes is found by its number
 pub record ArePhandles (t : PlacedTree) (nodes : List Placed) (entries : List (ℕ × ℕ)) : Type 0 where

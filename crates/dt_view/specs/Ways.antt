@@ -2,7 +2,7 @@
 use Rattle.std.specs.Prelude.{ℕ, List, [], ◌∷◌, ◌++◌, codes}
 use Rattle.std.specs.List.{AllByRecursion}
 use Rattle.dt_model.specs.Path.{Path}
-use Rattle.dt_read.specs.Placed.{PlacedTree, last_name, path_at, IsNode}
+use Rattle.dt_trees.specs.Placed.{PlacedTree, last_name, path_at, IsNode}
 
 -- each behind a slash, and nothing for the root
 abbrev pub names_text : Path → List ℕ

@@ -3,16 +3,16 @@
 ghost use Rattle.std.specs.Prelude.{◌≡◌, ◌≤◌, IfOk, IfErr, option_map};
 ghost use Rattle.dt_names.specs.declared.fault.FaultKind.TheVariants.{BadCells};
 ghost use Rattle.dt_model.specs.Tree.{value_in};
-ghost use Rattle.dt_read.specs.Placed.{path_at, reading_of, IsNode};
+ghost use Rattle.dt_trees.specs.Placed.{path_at, reading_of, IsNode};
 ghost use Rattle.dt_resolve_model.specs.Answers.{answer, told};
 ghost use Rattle.dt_resolve_model.specs.World.{value_of_bytes};
 ghost use Rattle.dt_resolve_model.specs.Regions.{address_count, bus_cells, count_of, is_pci, only_number};
-ghost use Rattle.dt_view.specs.Views.{world_of};
+ghost use Rattle.dt_view.specs.Worlds.{world_of};
 
-use crate::view::TreeView;
 use dt_bytes::be32;
 use dt_names::{Fault, FaultKind, NodeId};
 use dt_resolve_model::BusCells;
+use dt_trees::TreeView;
 
 /// The most cells of an address or of a size.
 const MOST_CELLS: u32 = 4;

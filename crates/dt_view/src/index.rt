@@ -3,17 +3,15 @@
 ghost use Rattle.std.specs.Prelude.{◌≡◌, IfOk, IfErr, None};
 ghost use Rattle.dt_names.specs.declared.fault.FaultKind.TheVariants.{NoMemory};
 ghost use Rattle.dt_names.specs.Fault.{IsNoMemory};
-ghost use Rattle.dt_read.specs.Placed.{HasPlacesApart};
+ghost use Rattle.dt_trees.specs.Placed.{HasPlacesApart};
 
-use crate::blob::{child_of, first_child_of, name_of, root_of, sibling_behind, value_of};
-use crate::finding::node_at;
 use crate::tables::{
     Asked, Children, Kinds, Phandles, Rows, fill, fill_children, is_kind_name, is_whole_name,
     value_in_row,
 };
-use crate::view::TreeView;
 use dt_names::{Fault, NodeId};
 use dt_read::Blob;
+use dt_trees::{TreeView, node_at};
 use std::alloc::Global;
 use std::collections::HashMap;
 use std::marker::Model;
@@ -34,7 +32,7 @@ pub struct Index<'a> {
 impl<'a> Model for Index<'a> {
     ghost use Rattle.std.specs.Prelude.{◌≡◌, length, option_map};
     ghost use Rattle.dt_model.specs.Tree.{nodes_of};
-    ghost use Rattle.dt_read.specs.Placed.{PlacedTree, reading_of};
+    ghost use Rattle.dt_trees.specs.Placed.{PlacedTree, reading_of};
     ghost use Rattle.dt_read.specs.TreeCode.{coded_placed};
     ghost use Rattle.dt_view.specs.Tables.{AreIndexed};
 
@@ -55,9 +53,9 @@ impl<'a> Index<'a> {
     ghost use Rattle.dt_model.specs.Path.{Path};
     ghost use Rattle.dt_model.specs.Tree.{nodes_of, value_in};
     ghost use Rattle.dt_model.specs.Valid.{IsValid, IsWithinLimits};
-    ghost use Rattle.dt_read.specs.Placed.{last_name, path_at, place_of, reading_of, IsAt, IsNode};
+    ghost use Rattle.dt_trees.specs.Placed.{last_name, path_at, place_of, reading_of, IsAt, IsNode};
     ghost use Rattle.dt_view.specs.Tables.{is_whole_name};
-    ghost use Rattle.dt_view.specs.Views.{first_child_of, next_sibling_of, IsAbove, IsFoundBy, WhyNotFound};
+    ghost use Rattle.dt_trees.specs.Views.{first_child_of, next_sibling_of, IsAbove, IsFoundBy, WhyNotFound};
 
     /// Makes the index of a blob, in two walks through its tree.
     ///
@@ -159,7 +157,7 @@ impl<'a> Index<'a> {
         ensures at { IsAt self.now [] result }
         ensures node { IsNode self.now result }
     {
-        root_of(self.blob)
+        TreeView::root(self.blob)
     }
 
     /// The name of a node.
@@ -167,7 +165,7 @@ impl<'a> Index<'a> {
         requires { IsNode self.now node }
         ensures { result.now ≡ last_name (path_at self.now node) }
     {
-        name_of(self.blob, node)
+        TreeView::name(self.blob, node)
     }
 
     /// The child of a node that has a name.
@@ -179,7 +177,7 @@ impl<'a> Index<'a> {
         self.blob.validity();
         match &self.children {
             Some(children) => children.get(&(node, name)).copied(),
-            None => child_of(self.blob, node, name),
+            None => TreeView::child(self.blob, node, name),
         }
     }
 
@@ -189,7 +187,7 @@ impl<'a> Index<'a> {
         ensures is { result ≡ first_child_of self.now (path_at self.now node) }
         ensures node { IfSome result (IsNode self.now) }
     {
-        first_child_of(self.blob, node)
+        TreeView::first_child(self.blob, node)
     }
 
     /// The sibling behind a node.
@@ -198,7 +196,7 @@ impl<'a> Index<'a> {
         ensures is { result ≡ next_sibling_of self.now (path_at self.now node) }
         ensures node { IfSome result (IsNode self.now) }
     {
-        sibling_behind(self.blob, node)
+        TreeView::next_sibling(self.blob, node)
     }
 
     /// The value of a node's property of a name that is asked for whole.
@@ -225,7 +223,7 @@ impl<'a> Index<'a> {
         if is_kind_name(name) {
             return None;
         }
-        value_of(self.blob, node, name)
+        TreeView::value(self.blob, node, name)
     }
 }
 

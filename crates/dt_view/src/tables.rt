@@ -8,7 +8,7 @@ ghost use Rattle.std.specs.Option.{option_copied};
 ghost use Rattle.dt_model.specs.Meaning.{cell};
 ghost use Rattle.dt_model.specs.Tree.{nodes_of, value_in, value_of};
 ghost use Rattle.dt_model.specs.Valid.{AreDistinct, IsPhandle};
-ghost use Rattle.dt_read.specs.Placed.{path_at, reading_of};
+ghost use Rattle.dt_trees.specs.Placed.{path_at, reading_of};
 ghost use Rattle.dt_read.specs.Walked.{leading, past_leading};
 ghost use Rattle.dt_view.specs.Tables.{asked_said, at_number, ends_as_kind, first_found, is_kind_name, is_whole_name};
 ghost use Rattle.dt_view.specs.Tables.{AreParents, ArePhandles, IsNoted, AreNoted, AreValues, PutsValue, NotesValue, AreKept, AreKinds};

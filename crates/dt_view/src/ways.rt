@@ -1,12 +1,12 @@
 //! The way down to a node.
 
 ghost use Rattle.std.specs.Prelude.{◌≡◌};
-ghost use Rattle.dt_read.specs.Placed.{path_at, IsNode};
+ghost use Rattle.dt_trees.specs.Placed.{path_at, IsNode};
 ghost use Rattle.dt_view.specs.Ways.{names_text, way_text, AreNodes};
 
-use crate::view::TreeView;
 use dt_names::NodeId;
 use dt_read::OpenNodes;
+use dt_trees::TreeView;
 
 /// The nodes on the way down to a node, the first one below the root in front: none for the root. Takes no memory.
 pub fn way_to<V: TreeView>(view: &V, node: NodeId) -> OpenNodes

@@ -3,7 +3,7 @@ use Rattle.std.specs.Prelude.{is_some}
 use Rattle.std.specs.Bool.{OnTrue}
 use Rattle.dt_model.specs.Path.{path_text, path_value}
 use Rattle.dt_read.specs.Checked.{placed_of}
-use Rattle.dt_read.specs.Placed.{PlacedTree, path_at}
+use Rattle.dt_trees.specs.Placed.{PlacedTree, path_at}
 use Rattle.dt_c.proofs.Texts.{IsPut, ended_put}
 use Rattle.dt_c.proofs.path.dtool_path.Goals as goal
 

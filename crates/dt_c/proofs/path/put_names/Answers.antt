@@ -1,6 +1,6 @@
 use Rattle.std.proofs.Common.{◌≡◌, ◌++◌, List, ℕ, codes, length, reverse, sym, ap, subst, ◌∙◌, arith}
 use Rattle.std.proofs.lemmas.List.{length-reverse}
-use Rattle.dt_read.specs.Placed.{path_at, last_name}
+use Rattle.dt_trees.specs.Placed.{path_at, last_name}
 use Rattle.dt_c.proofs.Texts.{AreNamesPut, same_length, one_put, one_name_put, no_room}
 use Rattle.dt_c.proofs.path.put_names.Goals as goal
 

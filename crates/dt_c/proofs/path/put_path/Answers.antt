@@ -1,6 +1,6 @@
 use Rattle.std.proofs.Common.{ap, ◌∙◌, sym, length, arith}
 use Rattle.dt_model.specs.Path.{path_text}
-use Rattle.dt_read.specs.Placed.{path_at}
+use Rattle.dt_trees.specs.Placed.{path_at}
 use Rattle.dt_view.specs.Ways.{names_text}
 use Rattle.dt_c.proofs.Texts.{is_below, turned}
 use Rattle.dt_c.proofs.path.put_path.Goals as goal

@@ -1,8 +1,8 @@
 use Rattle.std.proofs.Common.{◌≡◌, sym, ap, subst, ◌∙◌}
-use Rattle.dt_read.specs.Placed.{PlacedTree, path_at}
+use Rattle.dt_trees.specs.Placed.{PlacedTree, path_at}
 use Rattle.dt_resolve_model.specs.Answers.{answer, refused}
 use Rattle.dt_resolve_model.specs.Regions.{region}
-use Rattle.dt_view.specs.Views.{world_of}
+use Rattle.dt_view.specs.Worlds.{world_of}
 use Rattle.dt_c.specs.Crossing.{region_of}
 use Rattle.dt_c.proofs.resolving.dtool_region.Goals as goal
 

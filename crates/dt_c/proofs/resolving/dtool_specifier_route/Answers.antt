@@ -1,10 +1,10 @@
 use Rattle.std.proofs.Common.{◌≡◌, sym, ap, subst, ◌∙◌}
 use Rattle.dt_irq.specs.Seen.{route_in}
 use Rattle.dt_irq.specs.declared.reached.Route.{Route}
-use Rattle.dt_read.specs.Placed.{PlacedTree, path_at}
+use Rattle.dt_trees.specs.Placed.{PlacedTree, path_at}
 use Rattle.dt_resolve_model.specs.Answers.{answer, refused}
 use Rattle.dt_resolve_model.specs.Specifiers.{specifier_route}
-use Rattle.dt_view.specs.Views.{world_of}
+use Rattle.dt_view.specs.Worlds.{world_of}
 use Rattle.dt_c.specs.Crossing.{route_of}
 use Rattle.dt_c.proofs.resolving.dtool_specifier_route.Goals as goal
 

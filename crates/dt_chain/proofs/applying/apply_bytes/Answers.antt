@@ -1,7 +1,7 @@
 use Rattle.std.proofs.Common.{List, ℕ, sym, subst}
 use Rattle.std.proofs.lemmas.Result.{err_from_is_err_and}
 use Rattle.dt_model.specs.Tree.{Reading}
-use Rattle.dt_read.specs.Placed.{reading_of}
+use Rattle.dt_trees.specs.Placed.{reading_of}
 use Rattle.dt_chain_promises.specs.Apply.{IsRead}
 use Rattle.dt_chain_promises.specs.AppliedBytes.{no_base, no_object, IsAppliedToBytes, IsCopy}
 use Rattle.dt_chain.proofs.EditedBytes.{applied_to_bytes, no_copy, not_applied_to_bytes}

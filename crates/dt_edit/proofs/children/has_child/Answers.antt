@@ -1,5 +1,5 @@
 use Rattle.std.proofs.Common.{◌++◌, ◌∷◌, [], sym, ap, subst, ◌∙◌}
-use Rattle.dt_read.specs.Placed.{PlacedTree, place_of, IsAt}
+use Rattle.dt_trees.specs.Placed.{PlacedTree, place_of, IsAt}
 use Rattle.dt_edit.specs.Editable.{path_in}
 use Rattle.dt_edit.proofs.Below.{child_stands}
 use Rattle.dt_edit.proofs.children.has_child.Goals as goal

@@ -1,7 +1,7 @@
 use Rattle.std.proofs.Common.{length, ap, refl, ◌∙◌, arith, List, ℕ}
 use Rattle.dt_model.specs.Tree.{nodes_of}
 use Rattle.dt_read.specs.Checked.{placed_of}
-use Rattle.dt_read.specs.Placed.{PlacedTree, reading_of}
+use Rattle.dt_trees.specs.Placed.{PlacedTree, reading_of}
 use Rattle.dt_edit.proofs.Below.{nodes_counted}
 use Rattle.dt_edit.proofs.NodeSizes.{few_enough, may_grow_if}
 use Rattle.dt_edit.proofs.children.may_grow.Goals as goal

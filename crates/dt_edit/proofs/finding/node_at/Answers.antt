@@ -1,7 +1,7 @@
 use Rattle.std.proofs.Common.{is_some, sym, ap, ◌∙◌, true≢false}
 use Rattle.dt_model.specs.Tree.{stands_in}
-use Rattle.dt_read.specs.Placed.{PlacedTree, path_at, reading_of, IsAt}
-use Rattle.dt_read.proofs.NodePlaces.{path_is, stands_place}
+use Rattle.dt_trees.specs.Placed.{PlacedTree, path_at, reading_of, IsAt}
+use Rattle.dt_trees.proofs.NodePlaces.{path_is, stands_place}
 use Rattle.dt_edit.proofs.finding.node_at.Goals as goal
 
 pub unreachable-requires : goal.unreachable-requires

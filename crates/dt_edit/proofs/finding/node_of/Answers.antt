@@ -1,5 +1,5 @@
 use Rattle.std.proofs.Common.{subst, ◌∙◌}
-use Rattle.dt_view.proofs.Steps.{IsOnTheWay, on_the_way, one_step, no_step}
+use Rattle.dt_trees.proofs.Steps.{IsOnTheWay, on_the_way, one_step, no_step}
 use Rattle.dt_edit.proofs.finding.node_of.Goals as goal
 
 pub child-requires : goal.child-requires

@@ -1,5 +1,5 @@
 -- The names that are left lead from the node to that of the path.
-use Rattle.dt_view.proofs.Steps.{IsOnTheWay}
+use Rattle.dt_trees.proofs.Steps.{IsOnTheWay}
 use Rattle.dt_edit.proofs.finding.node_of.Given as goal
 
 abbrev pub invariant-loop-name : goal.invariant-loop-name

@@ -1,7 +1,7 @@
 use Rattle.std.proofs.Common.{◌++◌, ◌∷◌, [], List, ℕ, drop, sym, ap, subst, ◌∙◌}
 use Rattle.dt_model.specs.Names.{IsNodeName}
 use Rattle.dt_model.specs.Path.{Path}
-use Rattle.dt_read.specs.Placed.{path_at}
+use Rattle.dt_trees.specs.Placed.{path_at}
 use Rattle.dt_edit.proofs.DownPaths.{IsLeft, names_down, named_left, one_down, room_left}
 use Rattle.dt_edit.proofs.finding.path_of.Goals as goal
 

@@ -1,6 +1,6 @@
 use Rattle.std.proofs.Common.{◌≡◌, ◌++◌, [], List, ℕ, length, sym, ap, subst, ◌∙◌, arith}
-use Rattle.dt_read.specs.Placed.{path_at}
-use Rattle.dt_view.specs.Views.{AreAbove}
+use Rattle.dt_trees.specs.Placed.{path_at}
+use Rattle.dt_trees.specs.Views.{AreAbove}
 use Rattle.dt_view.specs.Ways.{AreNodes}
 use Rattle.dt_view.proofs.PathTexts.{one_shorter}
 use Rattle.dt_edit.proofs.DownPaths.{names_down, one_up, path_short}

@@ -1,7 +1,7 @@
 -- The names up to here and those on the way are the whole path's.
 use Rattle.std.specs.Prelude.{◌≡◌, ◌+◌, ◌++◌, length}
-use Rattle.dt_read.specs.Placed.{path_at, IsNode}
-use Rattle.dt_view.specs.Views.{AreAbove}
+use Rattle.dt_trees.specs.Placed.{path_at, IsNode}
+use Rattle.dt_trees.specs.Views.{AreAbove}
 use Rattle.dt_view.specs.Ways.{AreNodes}
 use Rattle.dt_edit.proofs.DownPaths.{names_down}
 use Rattle.dt_edit.proofs.finding.way_to.Given as goal

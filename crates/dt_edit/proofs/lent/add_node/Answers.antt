@@ -6,7 +6,7 @@ use Rattle.dt_model.specs.Checks.{number, strings_of, structure_of}
 use Rattle.dt_model.specs.Names.{Name, IsNodeName}
 use Rattle.dt_read.specs.Checked.{placed_of}
 use Rattle.dt_read.specs.Cuts.{spliced}
-use Rattle.dt_read.specs.Placed.{IsAt}
+use Rattle.dt_trees.specs.Placed.{IsAt}
 use Rattle.dt_edit.specs.Editable.{reading_in, path_in, size_with_node, MayAddIn, WhyNotAddedIn}
 use Rattle.dt_edit.specs.Moving.{node_bytes}
 use Rattle.dt_edit.proofs.Assembling.{IsEdited, behind_kept, edits_of}

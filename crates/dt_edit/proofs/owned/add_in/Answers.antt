@@ -10,7 +10,7 @@ use Rattle.dt_names.specs.Fault.{IsNoMemory}
 use Rattle.dt_names.specs.declared.fault.Fault.{Fault}
 use Rattle.dt_read.specs.Checked.{placed_of}
 use Rattle.dt_read.specs.Cuts.{spliced}
-use Rattle.dt_read.specs.Placed.{IsAt}
+use Rattle.dt_trees.specs.Placed.{IsAt}
 use Rattle.dt_edit.specs.Editable.{reading_in, path_in, size_with_node, FitsIn, IsWhole, MayAddWithin, WhyNotAddedOwned, WhyNotAddedWithin}
 use Rattle.dt_edit.specs.Moving.{node_bytes}
 use Rattle.dt_edit.specs.Plans.{IsNodePlan}

@@ -10,7 +10,7 @@ use Rattle.dt_names.specs.Fault.{IsNoMemory}
 use Rattle.dt_names.specs.declared.fault.Fault.{Fault}
 use Rattle.dt_read.specs.Checked.{placed_of, root_of}
 use Rattle.dt_read.specs.Cuts.{changed_root, with_value, moved, moved_root, spliced}
-use Rattle.dt_read.specs.Placed.{IsAt}
+use Rattle.dt_trees.specs.Placed.{IsAt}
 use Rattle.dt_edit.specs.Editable.{reading_in, path_in, size_with_value, FitsIn, IsWhole, MaySetWithin, WhyNotSetOwned, WhyNotSetWithin}
 use Rattle.dt_edit.specs.Moving.{property_bytes}
 use Rattle.dt_edit.specs.Plans.{added_name, name_offset, IsPropertyPlan}

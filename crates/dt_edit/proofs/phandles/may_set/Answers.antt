@@ -1,7 +1,7 @@
 use Rattle.std.proofs.Common.{◌≡◌, Some, None, refl, sym, subst}
 use Rattle.dt_model.specs.Applied.{node_numbered}
 use Rattle.dt_model.specs.Tree.{nodes_of}
-use Rattle.dt_read.specs.Placed.{PlacedTree, path_at, reading_of, IsNode}
+use Rattle.dt_trees.specs.Placed.{PlacedTree, path_at, reading_of, IsNode}
 use Rattle.dt_edit.proofs.NumbersOwned.{may_if_own, may_if_none}
 use Rattle.dt_edit.proofs.phandles.may_set.Goals as goal
 

@@ -1,6 +1,6 @@
 use Rattle.std.proofs.Common.{sym, ◌∙◌, arith}
 use Rattle.dt_names.specs.declared.fault.FaultKind.TheVariants.{NoUnitAddress}
-use Rattle.dt_read.specs.Placed.{reading_of}
+use Rattle.dt_trees.specs.Placed.{reading_of}
 use Rattle.dt_resolve_model.specs.World.{tree_world, value_of_bytes}
 use Rattle.dt_resolve_model.proofs.Told.{refuses}
 use Rattle.dt_resolve_model.proofs.QuadsOfBytes.{quad_count}

@@ -1,6 +1,6 @@
 use Rattle.std.proofs.Common.{◌≡◌, ◌+◌, List, ◌++◌, take, sym, ap, ◌∙◌}
 use Rattle.std.specs.Prelude.{codes, option_map}
-use Rattle.dt_read.specs.Placed.{path_at, reading_of}
+use Rattle.dt_trees.specs.Placed.{path_at, reading_of}
 use Rattle.dt_resolve_model.specs.Answers.{Answer, answer, ◌>>=◌}
 use Rattle.dt_resolve_model.specs.World.{Quad, quads_of, tree_world, value_of_bytes}
 use Rattle.dt_resolve_model.specs.Interrupts.{MapRow, first_match, interrupt_row_cells, is_ragged, mask_of}

@@ -2,8 +2,8 @@ use Rattle.std.proofs.Common.{◌≡◌, ◌+◌, true, false, sym, ap, subst, �
 use Rattle.std.specs.Prelude.{is_some, option_map, codes, length, IfSome}
 use Rattle.dt_model.specs.Tree.{nodes_of, value_in}
 use Rattle.dt_names.specs.declared.fault.FaultKind.TheVariants.{NoParent, Loop}
-use Rattle.dt_read.specs.Placed.{path_at, reading_of, IsNode}
-use Rattle.dt_read.proofs.NodePlaces.{stands_place}
+use Rattle.dt_trees.specs.Placed.{path_at, reading_of, IsNode}
+use Rattle.dt_trees.proofs.NodePlaces.{stands_place}
 use Rattle.dt_resolve_model.specs.Answers.{answer, refused, refuse}
 use Rattle.dt_resolve_model.specs.World.{tree_world}
 use Rattle.dt_resolve_model.specs.Interrupts.{step_of, IsInterruptParent}

@@ -1,6 +1,6 @@
 -- The way so far leads on, and from the node that was passed to here.
 use Rattle.std.specs.Prelude.{ℕ}
-use Rattle.dt_read.specs.Placed.{path_at, reading_of, IsNode}
+use Rattle.dt_trees.specs.Placed.{path_at, reading_of, IsNode}
 use Rattle.dt_resolve_model.specs.World.{tree_world}
 use Rattle.dt_irq.proofs.Ways.{Leads}
 use Rattle.dt_irq.proofs.parents.interrupt_parent.Given as goal

@@ -1,7 +1,7 @@
 use Rattle.std.proofs.Common.{◌≡◌, ℕ, ◌-◌, ◌/◌, List, take, length, replicate, sym, ap, ◌∙◌}
 use Rattle.std.specs.Prelude.{option_map}
 use Rattle.std.specs.Option.{option_copied}
-use Rattle.dt_read.specs.Placed.{path_at, reading_of}
+use Rattle.dt_trees.specs.Placed.{path_at, reading_of}
 use Rattle.dt_resolve_model.specs.Answers.{Answer, answer, ◌>>=◌}
 use Rattle.dt_resolve_model.specs.World.{Quad, quads_of, tree_world, value_of_bytes}
 use Rattle.dt_resolve_model.specs.Interrupts.{MapRow, Sent, first_match, is_ragged, mask_of}

@@ -1,7 +1,7 @@
 use Rattle.std.proofs.Common.{◌≡◌, suc, ◌+◌, ◌-◌, ◌/◌, length, take, drop, replicate, sym, ap, ◌∙◌, arith}
 use Rattle.std.specs.Prelude.{option_map}
 use Rattle.dt_names.specs.declared.fault.FaultKind.TheVariants.{Loop}
-use Rattle.dt_read.specs.Placed.{path_at, reading_of}
+use Rattle.dt_trees.specs.Placed.{path_at, reading_of}
 use Rattle.dt_resolve_model.specs.Answers.{Answer, answer, refused, ◌>>=◌}
 use Rattle.dt_resolve_model.specs.World.{tree_world, value_of_bytes}
 use Rattle.dt_resolve_model.specs.Interrupts.{Sent}

@@ -1,6 +1,6 @@
 -- Going on from here is the whole route.
 use Rattle.std.specs.Prelude.{◌≡◌, ◌-◌, ◌≤◌}
-use Rattle.dt_read.specs.Placed.{reading_of}
+use Rattle.dt_trees.specs.Placed.{reading_of}
 use Rattle.dt_resolve_model.specs.World.{tree_world}
 use Rattle.dt_resolve_model.specs.Interrupts.{most_hops}
 use Rattle.dt_resolve_model.specs.Specifiers.{provided}

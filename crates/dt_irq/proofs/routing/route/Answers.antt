@@ -1,5 +1,5 @@
 use Rattle.std.proofs.Common.{◌≡◌, ◌+◌, subst, arith}
-use Rattle.dt_read.specs.Placed.{path_at, reading_of}
+use Rattle.dt_trees.specs.Placed.{path_at, reading_of}
 use Rattle.dt_resolve_model.specs.Answers.{answer, refused}
 use Rattle.dt_resolve_model.specs.World.{quads_of, tree_world}
 use Rattle.dt_resolve_model.specs.Interrupts.{IsSent}

@@ -2,7 +2,7 @@ use Rattle.std.proofs.Common.{◌≡◌, suc, ◌+◌, ◌-◌, ◌/◌, true, f
 use Rattle.std.specs.Prelude.{is_some, option_map, codes}
 use Rattle.dt_model.specs.Tree.{value_in}
 use Rattle.dt_names.specs.declared.fault.FaultKind.TheVariants.{BadMap, Loop}
-use Rattle.dt_read.specs.Placed.{reading_of}
+use Rattle.dt_trees.specs.Placed.{reading_of}
 use Rattle.dt_resolve_model.specs.Answers.{Answer, answer, refused, ◌>>=◌}
 use Rattle.dt_resolve_model.specs.World.{tree_world, value_of_bytes}
 use Rattle.dt_resolve_model.specs.Interrupts.{Interrupt, hop, routed}

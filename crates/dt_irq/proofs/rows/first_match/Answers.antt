@@ -1,6 +1,6 @@
 use Rattle.std.proofs.Common.{◌≡◌, ◌-◌, ◌*◌, ◌%◌, ◌==◌, not, length, sym, ap, ◌∙◌, arith}
 use Rattle.std.proofs.lemmas.List.{length-drop}
-use Rattle.dt_read.specs.Placed.{reading_of}
+use Rattle.dt_trees.specs.Placed.{reading_of}
 use Rattle.dt_resolve_model.specs.Answers.{answer, refused}
 use Rattle.dt_resolve_model.specs.World.{quads_of, tree_world, value_of_bytes}
 use Rattle.dt_resolve_model.specs.Interrupts.{first_match, is_ragged, map_row}

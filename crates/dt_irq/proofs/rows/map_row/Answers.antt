@@ -1,7 +1,7 @@
 use Rattle.std.proofs.Common.{◌≡◌, ◌+◌, ◌∷◌, take, drop, length, sym, ap, ◌∙◌, arith}
 use Rattle.std.proofs.lemmas.List.{length-drop, length-take-le}
 use Rattle.dt_names.specs.declared.fault.FaultKind.TheVariants.{BadMap}
-use Rattle.dt_read.specs.Placed.{path_at, reading_of}
+use Rattle.dt_trees.specs.Placed.{path_at, reading_of}
 use Rattle.dt_resolve_model.specs.World.{figure, quads_of, tree_world}
 use Rattle.dt_resolve_model.specs.Answers.{answer}
 use Rattle.dt_resolve_model.proofs.Told.{refuses}

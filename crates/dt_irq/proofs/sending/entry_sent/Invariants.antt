@@ -1,6 +1,6 @@
 -- The entry that is sought is one of the rest.
 use Rattle.std.specs.Prelude.{◌≡◌, ◌-◌}
-use Rattle.dt_read.specs.Placed.{reading_of}
+use Rattle.dt_trees.specs.Placed.{reading_of}
 use Rattle.dt_resolve_model.specs.World.{quads_of, tree_world, value_of_bytes}
 use Rattle.dt_resolve_model.specs.Interrupts.{entry_sent, is_ragged}
 use Rattle.dt_irq.specs.Spaces.{count_in}

@@ -1,7 +1,7 @@
 use Rattle.std.proofs.Common.{◌≡◌, ◌-◌, ◌*◌, ◌%◌, not, ◌==◌, ◌∷◌, length, sym, ap, ◌∙◌, arith}
 use Rattle.std.proofs.lemmas.List.{length-drop}
 use Rattle.dt_names.specs.declared.fault.FaultKind.TheVariants.{BadCells}
-use Rattle.dt_read.specs.Placed.{path_at, reading_of}
+use Rattle.dt_trees.specs.Placed.{path_at, reading_of}
 use Rattle.dt_resolve_model.specs.World.{figure, quads_of, tree_world, value_of_bytes}
 use Rattle.dt_resolve_model.specs.Interrupts.{is_ragged}
 use Rattle.dt_resolve_model.specs.Answers.{answer}

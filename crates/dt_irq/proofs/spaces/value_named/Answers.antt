@@ -1,5 +1,5 @@
 use Rattle.std.proofs.Common.{◌<◌, ◌++◌, length, length-append, ap, arith}
-use Rattle.dt_read.specs.Placed.{path_at, reading_of}
+use Rattle.dt_trees.specs.Placed.{path_at, reading_of}
 use Rattle.dt_irq.proofs.LongNames.{too_long}
 use Rattle.dt_irq.proofs.spaces.value_named.Goals as goal
 

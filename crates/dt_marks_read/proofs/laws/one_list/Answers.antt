@@ -1,7 +1,7 @@
 use Rattle.std.proofs.Common.{◌∷◌, [], codes}
 use Rattle.dt_model.specs.Object.{nodes_from, properties_of}
 use Rattle.dt_model.specs.Tree.{node_at}
-use Rattle.dt_read.specs.Placed.{reading_of}
+use Rattle.dt_trees.specs.Placed.{reading_of}
 use Rattle.dt_marks_read.proofs.OneList.{fixups_once, nodes_once}
 use Rattle.dt_marks_read.proofs.laws.one_list.Goals as goal
 

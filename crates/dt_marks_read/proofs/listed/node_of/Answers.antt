@@ -1,5 +1,5 @@
 use Rattle.std.proofs.Common.{◌++◌, sym, ap, ◌∙◌}
-use Rattle.dt_read.specs.Placed.{place_of}
+use Rattle.dt_trees.specs.Placed.{place_of}
 use Rattle.dt_marks_read.proofs.ListedCells.{no_place_behind}
 use Rattle.dt_marks_read.proofs.listed.node_of.Goals as goal
 

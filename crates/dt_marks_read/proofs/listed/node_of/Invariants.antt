@@ -1,7 +1,7 @@
 -- The names that are left lead from the node to that of the path.
 use Rattle.std.proofs.Common.{◌≡◌, ◌++◌}
 use Rattle.dt_model.specs.Path.{Path}
-use Rattle.dt_read.specs.Placed.{IsAt}
+use Rattle.dt_trees.specs.Placed.{IsAt}
 use Rattle.dt_marks_read.proofs.listed.node_of.Given as goal
 
 abbrev pub invariant-loop-name : goal.invariant-loop-name

@@ -1,6 +1,6 @@
 use Rattle.std.proofs.Common.{◌∷◌, ◌++◌, [], sym, ap, ◌∙◌}
-use Rattle.dt_read.specs.Placed.{place_of}
-use Rattle.dt_read.proofs.NodePlaces.{path_is}
+use Rattle.dt_trees.specs.Placed.{place_of}
+use Rattle.dt_trees.proofs.NodePlaces.{path_is}
 use Rattle.dt_marks_read.proofs.listed_locals.child_of.Goals as goal
 
 pub returns : goal.returns

@@ -1,7 +1,7 @@
 use Rattle.std.proofs.Common.{sym, ap, ◌∙◌}
 use Rattle.dt_model.specs.Tree.{value_in}
-use Rattle.dt_read.specs.Placed.{reading_of}
-use Rattle.dt_read.proofs.NodePlaces.{path_is}
+use Rattle.dt_trees.specs.Placed.{reading_of}
+use Rattle.dt_trees.proofs.NodePlaces.{path_is}
 use Rattle.dt_marks_read.proofs.listed_locals.value_of.Goals as goal
 
 pub returns : goal.returns

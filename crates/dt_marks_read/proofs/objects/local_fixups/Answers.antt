@@ -1,5 +1,5 @@
 use Rattle.std.proofs.Common.{◌≡◌, ◌∷◌, [], codes, ℕ, List, sym, ap, subst, Option, Some, None, ◌∙◌}
-use Rattle.dt_read.specs.Placed.{PlacedTree, place_of}
+use Rattle.dt_trees.specs.Placed.{PlacedTree, place_of}
 use Rattle.dt_marks_read.specs.Listed.{AreLocalFixupsOf}
 use Rattle.dt_marks_read.specs.LocalFixupsLeft.{walk_told}
 use Rattle.dt_marks_read.proofs.MirrorWalks.{may_walk}

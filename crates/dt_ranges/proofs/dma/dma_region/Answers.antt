@@ -1,6 +1,6 @@
 use Rattle.std.proofs.Common.{◌≡◌, ◌*◌, ◌^◌, true, sym, ◌∙◌}
 use Rattle.std.specs.Prelude.{nat_lt}
-use Rattle.dt_read.specs.Placed.{path_at, reading_of}
+use Rattle.dt_trees.specs.Placed.{path_at, reading_of}
 use Rattle.dt_resolve_model.specs.World.{tree_world}
 use Rattle.dt_ranges.proofs.Sent.{sent_on, sent_up}
 use Rattle.dt_ranges.proofs.dma.dma_region.Goals as goal

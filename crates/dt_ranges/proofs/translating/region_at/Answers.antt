@@ -1,4 +1,4 @@
-use Rattle.dt_read.specs.Placed.{path_at, reading_of}
+use Rattle.dt_trees.specs.Placed.{path_at, reading_of}
 use Rattle.std.proofs.Common.{◌≡◌, [], sym, ap, ◌∙◌}
 use Rattle.dt_model.specs.Path.{Path}
 use Rattle.dt_resolve_model.specs.declared.regions.BusAddress.{BusAddress}

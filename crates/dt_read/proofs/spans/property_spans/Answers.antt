@@ -5,7 +5,7 @@ use Rattle.dt_model.specs.Tree.{Property}
 use Rattle.dt_read.specs.Checked.{placed_of}
 use Rattle.dt_read.specs.Lying.{Lies}
 use Rattle.dt_read.specs.Parsing.{left_by}
-use Rattle.dt_read.specs.Placed.{path_at, properties_at}
+use Rattle.dt_trees.specs.Placed.{path_at, properties_at}
 use Rattle.dt_read.specs.TreeTokens.{marks_in}
 use Rattle.dt_read.specs.View.{view}
 use Rattle.dt_read.proofs.Lying.{behind_later, lies_later, lies_in_blob, lies_in_strings}

@@ -2,7 +2,7 @@ use Rattle.std.proofs.Common.{◌≡◌, List, Some, sym, ap, ◌∙◌}
 use Rattle.dt_model.specs.Tree.{Property, value_of, value_in}
 use Rattle.dt_read.specs.Parsing.{left_by}
 use Rattle.dt_read.specs.Checked.{placed_of}
-use Rattle.dt_read.specs.Placed.{path_at, reading_of}
+use Rattle.dt_trees.specs.Placed.{path_at, reading_of}
 use Rattle.dt_read.specs.TreeTokens.{marks_in}
 use Rattle.dt_read.specs.View.{view}
 use Rattle.dt_read.proofs.Lying.{behind_later, found_in_blob}

@@ -1,5 +1,5 @@
 use Rattle.std.proofs.Common.{refl, ap, subst}
-use Rattle.dt_read.specs.Placed.{reading_of}
+use Rattle.dt_trees.specs.Placed.{reading_of}
 use Rattle.dt_resolve_model.proofs.Told.{if_fault}
 use Rattle.dt_resolve_lines.specs.Asked.{WhyNoNode, no_blob, no_node, unanswered}
 use Rattle.dt_resolve_lines.proofs.Questions.{answered, no_such, not_answered}

@@ -1,7 +1,7 @@
 use Rattle.std.proofs.Common.{◌≡◌, List, ℕ, sym, subst}
 use Rattle.std.specs.Prelude.{OnOk, IfErr}
 use Rattle.dt_names.specs.Sink.{Takes}
-use Rattle.dt_read.specs.Placed.{path_at, reading_of}
+use Rattle.dt_trees.specs.Placed.{path_at, reading_of}
 use Rattle.dt_resolve_model.specs.Answers.{answer}
 use Rattle.dt_resolve_model.specs.World.{tree_world}
 use Rattle.dt_resolve_lines.specs.Asked.{answer_words, WhyUntold}

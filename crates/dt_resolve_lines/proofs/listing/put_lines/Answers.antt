@@ -1,6 +1,6 @@
 use Rattle.std.proofs.Common.{ap, rules}
 use Rattle.dt_model.specs.Tree.{nodes_of}
-use Rattle.dt_read.specs.Placed.{reading_of}
+use Rattle.dt_trees.specs.Placed.{reading_of}
 use Rattle.dt_text_writer.proofs.Writing.{text_written, text_refused, text_cut}
 use Rattle.dt_resolve_model.proofs.Told.{if_fault}
 use Rattle.dt_resolve_lines.specs.Listed.{AreAll, AreOwn, AreOwnBegun, AreAllBegun}

@@ -1,7 +1,7 @@
 use Rattle.std.proofs.Common.{List, ℕ, refl, subst}
 use Rattle.std.specs.List.{concat}
 use Rattle.dt_names.specs.Sink.{IsRefused}
-use Rattle.dt_read.specs.Placed.{reading_of}
+use Rattle.dt_trees.specs.Placed.{reading_of}
 use Rattle.dt_resolve_lines.specs.Listed.{AreAllBegun, WhyNotListed, no_blob, cut}
 use Rattle.std.proofs.lemmas.Result.{IfErr-weaker}
 use Rattle.dt_resolve_model.proofs.Told.{if_fault}

@@ -1,9 +1,9 @@
 use Rattle.std.proofs.Common.{◌∷◌, refl, sym, ap, ◌∙◌}
-use Rattle.dt_read.specs.Placed.{reading_of}
+use Rattle.dt_trees.specs.Placed.{reading_of}
 use Rattle.dt_read.specs.StepsLeft.{node_step_view}
 use Rattle.dt_read.specs.Walked.{steps_of, without_properties}
-use Rattle.dt_view.proofs.Walking.{opened_without}
-use Rattle.dt_view.proofs.Walks.{opened}
+use Rattle.dt_read.proofs.Walking.{opened_without}
+use Rattle.dt_read.proofs.Opened.{opened}
 use Rattle.dt_resolve_lines.specs.Listed.{AreOwn, AreOwnBegun}
 use Rattle.dt_resolve_lines.proofs.Nodes.{none_past, next_is_node, past_one, past_another, cut_at_one, all_past}
 use Rattle.dt_resolve_model.proofs.Told.{if_fault}

@@ -1,5 +1,5 @@
 -- The lines of the nodes before have passed.
-use Rattle.dt_read.specs.Placed.{reading_of}
+use Rattle.dt_trees.specs.Placed.{reading_of}
 use Rattle.dt_resolve_lines.specs.Listed.{AreOwn}
 use Rattle.dt_text_writer.specs.Written.{state}
 use Rattle.dt_resolve_lines.proofs.Nodes.{ArePast}

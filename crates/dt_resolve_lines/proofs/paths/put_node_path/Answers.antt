@@ -1,6 +1,6 @@
 use Rattle.std.proofs.Common.{List, ℕ, sym, subst, ◌∙◌}
 use Rattle.std.specs.Prelude.{OnOk, IfErr}
-use Rattle.dt_read.specs.Placed.{path_at}
+use Rattle.dt_trees.specs.Placed.{path_at}
 use Rattle.dt_text_writer.specs.Written.{Puts, FailsAt}
 use Rattle.dt_view.proofs.PathTexts.{names_are}
 use Rattle.dt_resolve_lines.proofs.paths.put_node_path.Goals as goal

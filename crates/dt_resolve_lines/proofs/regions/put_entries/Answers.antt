@@ -1,6 +1,6 @@
 use Rattle.std.proofs.Common.{sym, ◌∙◌, refl, arith}
 use Rattle.dt_names.specs.declared.fault.FaultKind.TheVariants.{NoReg}
-use Rattle.dt_read.specs.Placed.{path_at, reading_of}
+use Rattle.dt_trees.specs.Placed.{path_at, reading_of}
 use Rattle.dt_resolve_model.specs.Answers.{told, refuse}
 use Rattle.dt_resolve_lines.specs.AllLines.{regions_told}
 use Rattle.dt_resolve_lines.proofs.Going.{going_starts, going_on, going_ends, going_ends_behind, going_fails}

@@ -1,5 +1,5 @@
 use Rattle.std.proofs.Common.{ap}
-use Rattle.dt_read.specs.Placed.{path_at}
+use Rattle.dt_trees.specs.Placed.{path_at}
 use Rattle.dt_resolve_model.specs.Answers.{told}
 use Rattle.dt_text_writer.proofs.Writing.{exits_first, puts_last, cut_last}
 use Rattle.dt_resolve_lines.specs.Lines.{line, region_words}

@@ -1,6 +1,6 @@
 use Rattle.std.proofs.Common.{◌≡◌, ◌⊎◌, inl, inr, ap}
 use Rattle.dt_names.specs.declared.fault.FaultKind.TheVariants.{NoReg, BadCells}
-use Rattle.dt_read.specs.Placed.{path_at, reading_of}
+use Rattle.dt_trees.specs.Placed.{path_at, reading_of}
 use Rattle.dt_resolve_model.specs.Answers.{refused}
 use Rattle.dt_resolve_lines.specs.AllLines.{regions_told, is_bad_cells, is_no_reg}
 use Rattle.dt_resolve_lines.proofs.Going.{going_starts, going_ends, last_passes, last_fails}

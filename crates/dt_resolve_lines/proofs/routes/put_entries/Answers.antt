@@ -1,6 +1,6 @@
 use Rattle.std.proofs.Common.{◌<◌, ap, subst, refl, arith}
 use Rattle.dt_names.specs.declared.fault.FaultKind.TheVariants.{NoInterrupts}
-use Rattle.dt_read.specs.Placed.{path_at, reading_of}
+use Rattle.dt_trees.specs.Placed.{path_at, reading_of}
 use Rattle.dt_resolve_model.specs.Answers.{answer, refused, refuse, told_as}
 use Rattle.dt_resolve_model.specs.World.{tree_world}
 use Rattle.dt_resolve_model.specs.Interrupts.{IsRoute}

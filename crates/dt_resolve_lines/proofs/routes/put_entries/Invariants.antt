@@ -1,6 +1,6 @@
 -- The lines of the entries before have passed.
 use Rattle.std.specs.Prelude.{◌≤◌, ◌+◌}
-use Rattle.dt_read.specs.Placed.{path_at, reading_of}
+use Rattle.dt_trees.specs.Placed.{path_at, reading_of}
 use Rattle.dt_irq.specs.RoutesLeft.{AreLeft, length_left}
 use Rattle.dt_resolve_lines.specs.AllLines.{routes_told}
 use Rattle.dt_text_writer.specs.Written.{state}

@@ -1,5 +1,5 @@
 use Rattle.std.proofs.Common.{refl}
-use Rattle.dt_read.specs.Placed.{path_at, reading_of}
+use Rattle.dt_trees.specs.Placed.{path_at, reading_of}
 use Rattle.dt_resolve_model.specs.Answers.{refused}
 use Rattle.dt_resolve_lines.specs.AllLines.{routes_told}
 use Rattle.dt_resolve_lines.proofs.Going.{going_starts, finish_passes, finish_fails}

@@ -1,6 +1,6 @@
 use Rattle.std.proofs.Common.{◌++◌, codes, ap}
 use Rattle.dt_model.specs.Path.{path_text}
-use Rattle.dt_read.specs.Placed.{path_at}
+use Rattle.dt_trees.specs.Placed.{path_at}
 use Rattle.dt_text_writer.proofs.Writing.{exits_first, puts_last, cut_last}
 use Rattle.dt_names.specs.Sink.{joined}
 use Rattle.dt_resolve_lines.specs.Lines.{index_words}

@@ -1,7 +1,7 @@
 use Rattle.std.proofs.Common.{refl}
 use Rattle.std.proofs.lemmas.Result.{err_from_is_err_and}
 use Rattle.dt_model.specs.Printed.{printed}
-use Rattle.dt_read.specs.Placed.{reading_of}
+use Rattle.dt_trees.specs.Placed.{reading_of}
 use Rattle.dt_run_streams.specs.Told.{IsPrinted, no_blob}
 use Rattle.dt_run_streams.proofs.Tellings.{told, untold}
 use Rattle.dt_run_streams.proofs.printing.print.Goals as goal

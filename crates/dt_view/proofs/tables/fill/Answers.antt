@@ -1,13 +1,13 @@
 use Rattle.std.proofs.Common.{◌+◌, ◌∷◌, codes, map, length, refl, sym, ap, subst, ◌∙◌, arith}
 use Rattle.dt_model.specs.Tree.{Property, value_of}
 use Rattle.dt_model.specs.Valid.{AreDistinct}
-use Rattle.dt_read.specs.Placed.{path_at}
+use Rattle.dt_trees.specs.Placed.{path_at}
 use Rattle.dt_read.specs.StepsLeft.{step_view}
 use Rattle.dt_read.specs.Walked.{past_leading}
 use Rattle.dt_view.specs.declared.tables.Row.{Row}
 use Rattle.dt_view.specs.Tables.{AreNoted, AreKept}
-use Rattle.dt_view.proofs.Walks.{opened}
-use Rattle.dt_view.proofs.Walking.{is_innermost, room_walked, end_walked, property_walked}
+use Rattle.dt_read.proofs.Opened.{opened}
+use Rattle.dt_read.proofs.Walking.{is_innermost, room_walked, end_walked, property_walked}
 use Rattle.dt_view.proofs.Led.{led, none_led, own_led, one_led, others_led, opened_past, led_past, past_walked, past_shorter}
 use Rattle.dt_view.proofs.Tabled.{unfilled, room_for_one, past_one, past_another, all_filled}
 use Rattle.dt_view.proofs.Kinded.{distinct_at, none_kinded, one_kinded, others_kinded, all_kinded}

@@ -2,8 +2,8 @@ use Rattle.std.proofs.Common.{◌∷◌, [], ℕ, Option, sym, ap, subst, ◌∙
 use Rattle.dt_read.specs.StepsLeft.{node_step_view}
 use Rattle.dt_read.specs.Walked.{steps_of, without_properties}
 use Rattle.dt_view.specs.Tables.{PutsChild}
-use Rattle.dt_view.proofs.Walks.{innermost, opened}
-use Rattle.dt_view.proofs.Walking.{IsWalked, not_walked, nodes_walked, one_walked, is_innermost, room_walked, above_walked, end_walked, opened_without}
+use Rattle.dt_read.proofs.Opened.{innermost, opened}
+use Rattle.dt_read.proofs.Walking.{IsWalked, not_walked, nodes_walked, one_walked, is_innermost, room_walked, above_walked, end_walked, opened_without}
 use Rattle.dt_view.proofs.Children.{names_told, names_without, none_found, one_found, others_found, all_found}
 use Rattle.dt_view.proofs.tables.fill_children.Goals as goal
 

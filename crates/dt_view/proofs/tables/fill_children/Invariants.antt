@@ -1,5 +1,5 @@
 -- The table has the nodes that were opened.
-use Rattle.dt_view.proofs.Walking.{IsWalked}
+use Rattle.dt_read.proofs.Walking.{IsWalked}
 use Rattle.dt_view.proofs.Children.{AreFound}
 use Rattle.dt_view.proofs.tables.fill_children.Given as goal
 

@@ -2,7 +2,7 @@ use Rattle.std.proofs.Common.{◌≡◌, ◌<◌, ◌^◌, Some, None, sym, ap, 
 use Rattle.std.specs.Option.{option_copied}
 use Rattle.std.proofs.lemmas.Result.{on_ok_weaker}
 use Rattle.dt_model.specs.Meaning.{cell}
-use Rattle.dt_read.specs.Placed.{path_at, reading_of}
+use Rattle.dt_trees.specs.Placed.{path_at, reading_of}
 use Rattle.dt_view.proofs.Tabled.{is_phandle, noted, not_noted}
 use Rattle.dt_view.proofs.tables.note_phandle.Goals as goal
 

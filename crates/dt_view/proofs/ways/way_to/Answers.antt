@@ -1,8 +1,8 @@
 use Rattle.std.proofs.Common.{◌≤◌, ◌++◌, length, sym, ap, ◌∙◌, subst, arith}
 use Rattle.std.specs.Prelude.{is_some}
 use Rattle.dt_model.specs.Limits.{most_names}
-use Rattle.dt_read.specs.Placed.{path_at, reading_of}
-use Rattle.dt_read.proofs.NodePlaces.{stands_place}
+use Rattle.dt_trees.specs.Placed.{path_at, reading_of}
+use Rattle.dt_trees.proofs.NodePlaces.{stands_place}
 use Rattle.dt_model.proofs.Depths.{within_depth}
 use Rattle.dt_view.specs.Ways.{names_text, way_text, AreNodes}
 use Rattle.dt_view.proofs.PathTexts.{one_name_less, one_shorter}

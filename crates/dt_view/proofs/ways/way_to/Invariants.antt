@@ -1,6 +1,6 @@
 -- The names up to here and those on the way are the whole path's.
 use Rattle.std.specs.Prelude.{◌≡◌, ◌+◌, ◌++◌, length}
-use Rattle.dt_read.specs.Placed.{path_at, IsNode}
+use Rattle.dt_trees.specs.Placed.{path_at, IsNode}
 use Rattle.dt_view.specs.Ways.{names_text, way_text, AreNodes}
 use Rattle.dt_view.proofs.ways.way_to.Given as goal
 

@@ -1,6 +1,6 @@
 use Rattle.std.proofs.lemmas.Result.{err_from_is_err_and}
 use Rattle.dt_flat.specs.Arena.{reading}
-use Rattle.dt_read.specs.Placed.{reading_of}
+use Rattle.dt_trees.specs.Placed.{reading_of}
 use Rattle.dt_chain_promises.specs.Apply.{IsRead, no_object}
 use Rattle.dt_chain.proofs.Objects.{read_not_applied}
 use Rattle.dt_chain.proofs.applying.BlobsInputs.apply_to.Goals as goal

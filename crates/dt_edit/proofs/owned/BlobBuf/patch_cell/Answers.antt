@@ -2,7 +2,7 @@ use Rattle.std.proofs.Common.{ℕ, List, subst}
 use Rattle.std.specs.Prelude.{IsOk}
 use Rattle.dt_model.specs.Path.{Path}
 use Rattle.dt_read.specs.Checked.{placed_of}
-use Rattle.dt_read.specs.Placed.{IsAt}
+use Rattle.dt_trees.specs.Placed.{IsAt}
 use Rattle.dt_edit.specs.Editable.{MayPatchIn}
 use Rattle.dt_edit.specs.Plans.{IsPatched}
 use Rattle.dt_edit.proofs.owned.BlobBuf.patch_cell.Goals as goal

@@ -5,7 +5,7 @@ use Rattle.dt_model.specs.Path.{Path}
 use Rattle.dt_names.specs.declared.fault.Fault.{Fault}
 use Rattle.dt_overlay_base.specs.Targets.{MayAddAt, WhyNotAddedAt}
 use Rattle.dt_read.specs.Checked.{placed_of}
-use Rattle.dt_read.specs.Placed.{IsNode}
+use Rattle.dt_trees.specs.Placed.{IsNode}
 use Rattle.dt_edit.specs.BufferLaws.{follows_own}
 use Rattle.dt_edit.specs.Buffers.{Follows, HasRoom}
 use Rattle.dt_edit.specs.Editable.{reading_in, path_in, WhyNotAddedOwned}

@@ -2,7 +2,7 @@ use Rattle.std.proofs.Common.{◌≡◌, None, Some, sym, subst, ◌∙◌}
 use Rattle.dt_model.specs.Path.{Path}
 use Rattle.dt_model.proofs.Finding.{node_of_number, number_of_node}
 use Rattle.dt_overlay_laws.specs.Objects.{HasNumber}
-use Rattle.dt_read.specs.Placed.{PlacedTree, path_at, reading_of}
+use Rattle.dt_trees.specs.Placed.{PlacedTree, path_at, reading_of}
 use Rattle.dt_edit.proofs.target.BlobBufTarget.by_phandle.Goals as goal
 
 pub returns-in_ok-path_of-in-Some-clause-found : goal.returns-in_ok-path_of-in-Some-clause-found

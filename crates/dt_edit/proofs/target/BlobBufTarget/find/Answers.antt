@@ -1,7 +1,7 @@
 use Rattle.std.proofs.Common.{is_some, ap, ◌∙◌}
 use Rattle.dt_model.specs.Tree.{stands_in}
-use Rattle.dt_read.specs.Placed.{PlacedTree, reading_of}
-use Rattle.dt_read.proofs.NodePlaces.{stands_place}
+use Rattle.dt_trees.specs.Placed.{PlacedTree, reading_of}
+use Rattle.dt_trees.proofs.NodePlaces.{stands_place}
 use Rattle.dt_edit.proofs.target.BlobBufTarget.find.Goals as goal
 
 pub returns : goal.returns

@@ -4,7 +4,7 @@ use Rattle.dt_model.specs.Path.{Path}
 use Rattle.dt_model.specs.Tree.{value_in}
 use Rattle.dt_overlay_base.specs.Targets.{HasRoomAt}
 use Rattle.dt_read.specs.Checked.{placed_of}
-use Rattle.dt_read.specs.Placed.{IsNode}
+use Rattle.dt_trees.specs.Placed.{IsNode}
 use Rattle.dt_edit.specs.Buffers.{Follows, HasRoom}
 use Rattle.dt_edit.specs.Editable.{reading_in, path_in, value_patched, HasCellAt}
 use Rattle.dt_edit.proofs.Rooms.{patch_allowed, patch_keeps}

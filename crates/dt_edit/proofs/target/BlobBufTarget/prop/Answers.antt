@@ -1,7 +1,7 @@
 use Rattle.std.proofs.Common.{sym, ap, ◌∙◌}
 use Rattle.std.specs.Option.{option_copied}
 use Rattle.dt_model.specs.Tree.{value_in}
-use Rattle.dt_read.specs.Placed.{PlacedTree, reading_of}
+use Rattle.dt_trees.specs.Placed.{PlacedTree, reading_of}
 use Rattle.dt_edit.proofs.DownPaths.{no_value}
 use Rattle.dt_edit.proofs.target.BlobBufTarget.prop.Goals as goal
 

@@ -1,5 +1,5 @@
 use Rattle.std.proofs.Common.{sym, subst, refl}
-use Rattle.dt_read.specs.Placed.{path_at, reading_of, IsNode}
+use Rattle.dt_trees.specs.Placed.{path_at, reading_of, IsNode}
 use Rattle.dt_resolve_model.specs.Answers.{answer, refused}
 use Rattle.dt_resolve_model.specs.World.{tree_world}
 use Rattle.dt_resolve_model.specs.Interrupts.{IsInterruptParent}

@@ -1,6 +1,6 @@
 use Rattle.std.proofs.Common.{◌≡◌, ◌+◌, ◌-◌, ◌*◌, length, refl, ap, ◌∙◌, arith}
 use Rattle.std.proofs.lemmas.List.{length-drop}
-use Rattle.dt_read.specs.Placed.{reading_of}
+use Rattle.dt_trees.specs.Placed.{reading_of}
 use Rattle.dt_resolve_model.specs.World.{tree_world}
 use Rattle.dt_resolve_model.specs.Regions.{region}
 use Rattle.dt_resolve_model.proofs.Entries.{one_entry}

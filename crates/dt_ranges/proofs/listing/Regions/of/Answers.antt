@@ -1,6 +1,6 @@
 use Rattle.std.proofs.Common.{sym, ◌∙◌, arith}
 use Rattle.dt_names.specs.declared.fault.FaultKind.TheVariants.{NoReg}
-use Rattle.dt_read.specs.Placed.{path_at, reading_of}
+use Rattle.dt_trees.specs.Placed.{path_at, reading_of}
 use Rattle.dt_resolve_model.proofs.Told.{refuses, if_fault}
 use Rattle.dt_ranges.proofs.Listed.{region_unlisted, region_refused, listed_left}
 use Rattle.dt_ranges.proofs.listing.Regions.of.Goals as goal

@@ -1,7 +1,7 @@
 use Rattle.std.proofs.Common.{◌≡◌, ℕ, subst}
 use Rattle.dt_model.specs.Path.{Path}
 use Rattle.dt_model.specs.Valid.{IsValid, IsWithinLimits}
-use Rattle.dt_read.specs.Placed.{PlacedTree, reading_of, IsAt}
+use Rattle.dt_trees.specs.Placed.{PlacedTree, reading_of, IsAt}
 use Rattle.dt_read.proofs.Wholes.{places}
 use Rattle.dt_read.proofs.blob.Blob.validity.Goals as goal
 

@@ -1,6 +1,6 @@
 use Rattle.std.proofs.Common.{subst}
 use Rattle.dt_model.specs.Tree.{nodes_of}
-use Rattle.dt_read.specs.Placed.{reading_of}
+use Rattle.dt_trees.specs.Placed.{reading_of}
 use Rattle.dt_view.specs.Tables.{AreParents}
 use Rattle.dt_view.proofs.Indexed.{above_is, above_is_there}
 use Rattle.dt_view.proofs.index.Index.above.Goals as goal

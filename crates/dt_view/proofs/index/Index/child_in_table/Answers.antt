@@ -1,9 +1,9 @@
 use Rattle.std.proofs.Common.{subst, ◌∙◌, ◌∷◌, ◌++◌, []}
 use Rattle.dt_model.specs.Tree.{nodes_of}
-use Rattle.dt_read.specs.Placed.{PlacedTree, reading_of, path_at, HasPlacesApart}
+use Rattle.dt_trees.specs.Placed.{PlacedTree, reading_of, path_at, HasPlacesApart}
 use Rattle.dt_view.specs.Tables.{AreChildren}
 use Rattle.dt_view.proofs.Children.{child_looked_up}
-use Rattle.dt_view.proofs.Steps.{place_is_node}
+use Rattle.dt_trees.proofs.Steps.{place_is_node}
 use Rattle.dt_view.proofs.index.Index.child_in_table.Goals as goal
 
 pub returns-in-Some-clause-is : goal.returns-in-Some-clause-is

@@ -1,10 +1,10 @@
 use Rattle.std.proofs.Common.{subst, ◌∙◌, arith}
 use Rattle.dt_model.specs.Tree.{nodes_of}
 use Rattle.dt_model.specs.Valid.{IsValid}
-use Rattle.dt_read.specs.Placed.{reading_of}
+use Rattle.dt_trees.specs.Placed.{reading_of, HasPlacesApart}
 use Rattle.dt_view.specs.Tables.{ArePhandles}
-use Rattle.dt_read.specs.Placed.{HasPlacesApart}
-use Rattle.dt_view.proofs.Indexed.{in_tables, looked_up, looked_up_node}
+use Rattle.dt_view.proofs.Indexed.{in_tables}
+use Rattle.dt_trees.proofs.LookedUp.{looked_up, looked_up_node}
 use Rattle.dt_view.proofs.index.Index.numbered.Goals as goal
 
 pub returns-clause-finds : goal.returns-clause-finds

@@ -1,7 +1,7 @@
 use Rattle.std.proofs.Common.{List, map, subst, ap, ◌∙◌}
 use Rattle.std.specs.List.{between}
 use Rattle.dt_model.specs.Tree.{nodes_of, value_of}
-use Rattle.dt_read.specs.Placed.{reading_of}
+use Rattle.dt_trees.specs.Placed.{reading_of}
 use Rattle.dt_view.specs.declared.tables.Asked.{Asked}
 use Rattle.dt_view.specs.Tables.{asked_said, AreValues}
 use Rattle.dt_view.proofs.Valued.{row_is, row_is_there, value_in_row}

@@ -1,7 +1,7 @@
 use Rattle.std.proofs.Common.{ap, sym, subst, ◌∙◌}
 use Rattle.std.specs.Option.{option_copied}
 use Rattle.dt_model.specs.Tree.{nodes_of}
-use Rattle.dt_read.specs.Placed.{reading_of}
+use Rattle.dt_trees.specs.Placed.{reading_of}
 use Rattle.dt_view.specs.Tables.{AreKinds}
 use Rattle.dt_view.proofs.Kinded.{kind_looked_up}
 use Rattle.dt_view.proofs.index.Index.value_in_tables.Goals as goal

@@ -1,0 +1,5 @@
+pub mod NodePlaces
+pub mod LookedUp
+pub mod Steps
+pub mod NamesBehind
+pub mod Numbers

@@ -1,0 +1,4 @@
+-- what callers read, in this order
+pub mod Placed
+pub mod Views
+pub mod Trees

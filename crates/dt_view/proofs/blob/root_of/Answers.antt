@@ -1,6 +1,0 @@
-use Rattle.std.proofs.Common.{[]}
-use Rattle.dt_read.proofs.NodePlaces.{at_node}
-use Rattle.dt_view.proofs.blob.root_of.Goals as goal
-
-pub returns-clause-node : goal.returns-clause-node
-returns-clause-node c = at_node c.args.blob.now c.validity.ensures.places [] c.root.result c.root.ensures
