@@ -83,12 +83,15 @@ fn region_pieces<'a>(address: &'a [u8], size: &'a [u8], whole: bool) -> [&'a [u8
     [b"0x", address, b" 0x", size, extent]
 }
 
-/// The digits of a number, zeros in front among them.
+/// The digits of a number, zeros in front among them. Nearly all numbers have 64 bits at most.
 fn digits_of(number: u128) -> [u8; 32]
     ensures { result ≡ hexadecimal (to_be_bytes w128 number) }
 {
-    let mut digits = [0u8; 32];
-    write_digits(&number.to_be_bytes(), &mut digits);
+    let mut digits = [b'0'; 32];
+    match u64::try_from(number) {
+        Ok(low) => write_digits(&low.to_be_bytes(), &mut digits[16..]),
+        Err(_) => write_digits(&number.to_be_bytes(), &mut digits),
+    }
     digits
 }
 
