@@ -1,6 +1,6 @@
 use Rattle.std.proofs.Common.{◌≡◌, ◌+◌, ◌∙◌, [], drop, sym, ap}
 use Rattle.std.specs.Borrow.{Bor}
-use Rattle.std.proofs.lemmas.List.{drop_more}
+use Rattle.std.proofs.lemmas.List.{drop_more, drop_all}
 use Rattle.clap.specs.Words.{App, Text, app_of, with_subcommand}
 use Rattle.dt_run_words.specs.Usages.{with_commands}
 use Rattle.dt_run_words.specs.declared.commands.Usage.{Usage}
@@ -23,3 +23,6 @@ loop-usage-preserved c =
     record {
       same = ap (λ (app : App). with_commands app (drop (i + 1) us)) added ∙ ap (with_commands before) (sym (drop_more us i none c.loop-usage-test.true)) ∙ c.loop-usage.invariant.same;
     }
+
+pub returns : goal.returns
+returns c = ap (with_commands (app_of c.loop-usage.tool)) (sym (drop_all c.loop-usage.usage-index c.args.usages.now c.loop-usage-test.false)) ∙ c.loop-usage.invariant.same
