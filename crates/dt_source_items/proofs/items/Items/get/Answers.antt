@@ -1,23 +1,26 @@
-use Rattle.std.proofs.Common.{◌≡◌, ℕ, zero, suc, ◌<◌, List, [], ◌∷◌, length, map, Some, get_or, sym, ap, subst, ◌∙◌, arith}
+use Rattle.std.proofs.Common.{◌≡◌, ℕ, ◌<◌, length, Some, get_or, option_map, sym, ap, subst, ◌∙◌}
 use Rattle.std.specs.List.{slice_get}
+use Rattle.std.proofs.lemmas.List.{length-map}
+use Rattle.std.proofs.lemmas.Option.{slice_get-map, slice_get-get_or}
+use Rattle.dt_model.specs.Source.{Place}
 use Rattle.dt_source_items.specs.Gathered.{Gathered}
 use Rattle.dt_source_items.specs.Rows.{gathered, row_said}
 use Rattle.dt_source_items.specs.declared.items.Row.{Row}
 use Rattle.dt_source_items.specs.declared.items.Items.TheInside.{Inside}
 use Rattle.dt_source_items.proofs.items.Items.get.Goals as goal
 
--- what is there at an index, behind a function
-there : {A B : Type 0} (f : A → B) (xs : List A) (i : ℕ) (x : A) → i < length (map f xs) → x ≡ get_or xs i x → slice_get (map f xs) i ≡ Some (f x)
-there f [] i x within e = absurd (omega (arith, within))
-there f (y ∷ ys) zero x within e = ap (λ z. Some (f z)) (sym e)
-there f (y ∷ ys) (suc i) x within e = there f ys i x (omega (arith, within)) e
+-- what a row of these says
+abbrev said_in : Inside → Row → Place
+said_in s row = row_said s.named.items s.spans.items s.pieces.items s.bytes.items row
 
 row_there : (g : Gathered) (s : Inside) → gathered s.rows.items s.named.items s.spans.items s.pieces.items s.bytes.items s.piece s.byte ≡ g → (i : ℕ) (row is : Row) → i < length g.places
-    → row ≡ get_or s.rows.items i row → row ≡ is → slice_get g.places i ≡ Some (row_said s.named.items s.spans.items s.pieces.items s.bytes.items is)
+    → row ≡ get_or s.rows.items i row → row ≡ is → slice_get g.places i ≡ Some (said_in s is)
 row_there g s same i row is within e told =
-    subst (λ (h : Gathered). i < length h.places → slice_get h.places i ≡ Some (row_said s.named.items s.spans.items s.pieces.items s.bytes.items row)) same
-    (λ within. there (row_said s.named.items s.spans.items s.pieces.items s.bytes.items) s.rows.items i row within e) within
-    ∙ ap (λ (r : Row). Some (row_said s.named.items s.spans.items s.pieces.items s.bytes.items r)) told
+    let few : i < length s.rows.items = subst (λ (n : ℕ). i < n) (ap (λ (h : Gathered). length h.places) (sym same) ∙ length-map s.rows.items (said_in s)) within in
+    ap (λ (h : Gathered). slice_get h.places i) (sym same)
+    ∙ slice_get-map (said_in s) s.rows.items i
+    ∙ ap (option_map (said_in s)) (slice_get-get_or s.rows.items i row few)
+    ∙ ap (λ (r : Row). Some (said_in s r)) (sym e ∙ told)
 
 pub returns-in-Root : goal.returns-in-Root
 returns-in-Root c = row_there c.args.self.now c.self.inside c.self.view_is c.args.index c.index.result.now _ c.requires c.index.ensures c.in-Root.is
