@@ -14,6 +14,10 @@ use Rattle.dt_run_words.specs.declared.command_line.Line.{Line}
 use Rattle.dt_run_words.specs.declared.words.LineFault.{LineFault}
 use Rattle.dt_run_words.specs.declared.words.LineFault.TheVariants.{Memory, Words}
 
+-- no text
+abbrev pub nothing : Bor Text
+nothing = record { ref_ptr = (0, 0); now = [] }
+
 dtool_is_simple : is_simple dtool ≡ true
 unfolding clap_on_literals
 dtool_is_simple = refl

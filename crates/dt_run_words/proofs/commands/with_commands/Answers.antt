@@ -1,15 +1,12 @@
 use Rattle.std.proofs.Common.{◌≡◌, ◌+◌, ◌∙◌, [], drop, sym, ap}
-use Rattle.std.specs.Borrow.{Bor}
 use Rattle.std.proofs.lemmas.List.{drop_more, drop_all}
-use Rattle.clap.specs.Words.{App, Text, app_of, with_subcommand}
+use Rattle.clap.specs.Words.{App, app_of, with_subcommand}
 use Rattle.dt_run_words.specs.Usages.{with_commands}
 use Rattle.dt_run_words.specs.declared.commands.Usage.{Usage}
+use Rattle.dt_run_words.proofs.WordLemmas.{nothing}
 use Rattle.dt_run_words.proofs.commands.with_commands.Goals as goal
 
--- no text, and no command
-abbrev nothing : Bor Text
-nothing = record { ref_ptr = (0, 0); now = [] }
-
+-- no command
 abbrev none : Usage
 none = record { name = nothing; about = nothing; end = nothing; words = record { ref_ptr = (0, 0); now = [] } }
 

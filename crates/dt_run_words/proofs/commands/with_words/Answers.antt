@@ -1,16 +1,13 @@
-use Rattle.std.proofs.Common.{◌≡◌, ◌+◌, ◌∙◌, ◌||◌, [], drop, sym, ap}
-use Rattle.std.specs.Borrow.{Bor}
+use Rattle.std.proofs.Common.{◌≡◌, ◌+◌, ◌∙◌, ◌||◌, drop, sym, ap}
 use Rattle.std.proofs.lemmas.List.{drop_more, drop_all}
-use Rattle.clap.specs.Words.{App, Rule, Text, app_of, with_rule}
+use Rattle.clap.specs.Words.{App, Rule, app_of, with_rule}
 use Rattle.dt_run_words.specs.Usages.{with_words}
 use Rattle.dt_run_words.specs.declared.commands.Kind.TheVariants.{Flag}
 use Rattle.dt_run_words.specs.declared.commands.Word.{Word}
+use Rattle.dt_run_words.proofs.WordLemmas.{nothing}
 use Rattle.dt_run_words.proofs.commands.with_words.Goals as goal
 
--- no text, and no word
-abbrev nothing : Bor Text
-nothing = record { ref_ptr = (0, 0); now = [] }
-
+-- no word
 abbrev none : Word
 none = record { kind = Flag; id = nothing; help = nothing }
 
