@@ -1,11 +1,15 @@
 //! A blob built from sources.
 
-ghost use Rattle.std.specs.Prelude.{map, IfOk, IfErr};
+ghost use Rattle.std.specs.Prelude.{◌≡◌, ◌⊎◌, map, IfOk, IfErr};
 ghost use Rattle.dt_model.specs.Source.{base};
 ghost use Rattle.dt_model.specs.Tree.{Reading};
 ghost use Rattle.dt_chain_promises.specs.Apply.{IsRead};
 ghost use Rattle.dt_chain_promises.specs.Build.{HasBaseTree, HasObject, WhyNoObject, IsBlobBuilt, WhyNoBlobBuilt};
 ghost use Rattle.dt_chain_promises.specs.Compile.{WhyNoTree};
+ghost use Rattle.dt_chain.specs.Steps.{OfEachText};
+ghost use Rattle.dt_flat.specs.Arena.{reading};
+ghost use Rattle.dt_names.specs.Fault.{placeless};
+ghost use Rattle.dt_names.specs.declared.fault.FaultKind.TheVariants.{NoMemory};
 
 use crate::applying::Blobs;
 use crate::compiling::{overlay_blob, source_tree};
@@ -14,7 +18,7 @@ use dt_flat::FlatTree;
 use dt_model::one_reading;
 use dt_model_format::blob_has_no_fault;
 use dt_names::{Fault, Seed};
-use dt_parse::parse;
+use dt_parse::{Source, parse};
 use dt_source::Mode;
 use std::alloc::Global;
 
@@ -49,11 +53,10 @@ impl Inputs for Sources {
     fn base_tree(alloc: Global, base: &[u8], others: Seed) -> Result<FlatTree, Fault> {
         let mut source = parse(alloc, base)?;
         source.add_seed(others);
-        let mut tree = source_tree(alloc, &source, Mode::Base)?;
-        // Overlays look nodes and properties up by their names.
-        tree.index()?;
-        tree.validity();
-        Ok(tree)
+        let tree = indexed_tree(alloc, &source);
+        // Let go of by hand: what goes at an exit by itself is proved there field by field.
+        drop(source);
+        tree
     }
 
     fn apply_to(alloc: Global, tree: &mut FlatTree, input: &[u8]) -> Result<(), Fault> {
@@ -64,11 +67,31 @@ impl Inputs for Sources {
     }
 }
 
+/// The tree of a base, indexed, since overlays look nodes and properties up by their names.
+fn indexed_tree(alloc: Global, source: &Source<'_>) -> Result<FlatTree, Fault>
+    ensures tree { IfOk result (λ t. OfEachText source.now (λ text. HasBaseTree text (reading t))) }
+    ensures refused { IfErr result (λ fault. (fault ≡ placeless NoMemory) ⊎ OfEachText source.now (λ text. WhyNoTree base text fault)) }
+{
+    let mut tree = source_tree(alloc, source, Mode::Base)?;
+    match tree.index() {
+        Ok(()) => {
+            tree.validity();
+            Ok(tree)
+        }
+        Err(fault) => {
+            drop(tree);
+            Err(fault)
+        }
+    }
+}
+
 /// The blob of an overlay's source.
 fn object_of(alloc: Global, text: &[u8]) -> Result<Vec<u8>, Fault>
     ensures object { IfOk result (λ blob. (t : Reading) × HasObject text.now t × IsRead blob.items t) }
     ensures refused { IfErr result (λ fault. WhyNoObject text.now fault) }
 {
     let source = parse(alloc, text)?;
-    overlay_blob(alloc, &source)
+    let blob = overlay_blob(alloc, &source);
+    drop(source);
+    blob
 }

@@ -70,7 +70,9 @@ pub fn compile_raw(alloc: Global, text: &[u8]) -> Result<Vec<u8>, Fault>
     ensures kinds { IfErr result (λ fault. IsCompilerFault fault.kind) }
 {
     let source = parse(alloc, text)?;
-    source_blob(alloc, &source, Mode::Raw)
+    let blob = source_blob(alloc, &source, Mode::Raw);
+    drop(source);
+    blob
 }
 
 /// The blob of a source that is no overlay's.
@@ -80,7 +82,9 @@ fn source_blob(alloc: Global, source: &Source<'_>, mode: Mode) -> Result<Vec<u8>
 {
     let tree = source_tree(alloc, source, mode)?;
     tree.validity();
-    write_blob(alloc, &tree)
+    let blob = write_blob(alloc, &tree);
+    drop(tree);
+    blob
 }
 
 /// The blob of an overlay's object.
@@ -91,7 +95,9 @@ pub(crate) fn overlay_blob(alloc: Global, source: &Source<'_>) -> Result<Vec<u8>
 {
     let tree = overlay_tree(alloc, source)?;
     tree.validity();
-    write_blob(alloc, &tree)
+    let blob = write_blob(alloc, &tree);
+    drop(tree);
+    blob
 }
 
 /// The tree that a source means.

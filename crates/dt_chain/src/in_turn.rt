@@ -49,7 +49,10 @@ pub(crate) fn blob_of<I: Inputs>(
         Ok(tree) => tree,
         Err(fault) => return Err((0, fault)),
     };
-    apply_and_write::<I>(alloc, &mut tree, inputs)
+    let blob = apply_and_write::<I>(alloc, &mut tree, inputs);
+    // Let go of by hand: what goes at an exit by itself is proved there field by field.
+    drop(tree);
+    blob
 }
 
 /// The blob of a tree with the objects applied to it. It borrows the tree, since each exit where one is owned costs its proof.

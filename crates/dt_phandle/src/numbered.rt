@@ -222,6 +222,25 @@ fn property_count(nodes: &[NamedNode<'_>]) -> usize {
     count
 }
 
+/// The same, with memory for all nodes and properties first.
+fn make_room_and_fill(
+    alloc: Global,
+    tree: &mut FlatTree,
+    named: &NamedTree<'_>,
+    numbering: &Numbering,
+) -> Result<(), Fault>
+    requires alone { tree.old ≡ root_alone 0 }
+    requires numbers { IsNumbering (asked_in (tree_of named.now)) numbering.now }
+    ensures reads { OnOk result (reading tree.new ≡ instance_of numbering.now (tree_of named.now)) }
+    ensures count { OnOk result (length tree.new.slots ≡ length named.now.nodes) }
+    ensures refused { IfErr result IsNoMemory }
+{
+    let nodes = named.nodes();
+    tree.make_room(nodes.len(), property_count(nodes))?;
+    let mut bytes = Vec::new(alloc);
+    fill(tree, &mut bytes, named, numbering)
+}
+
 /// The tree of a named tree under the numbers of its nodes: a reference becomes its node's number as a cell (Devicetree
 /// Specification v0.4, 2.2.4), and a node that has a number has it as its property `phandle` (2.3.3), the last one where
 /// the number isn't written in it. The boot CPU is 0. `NoMemory`: memory was refused, and nothing else is in the way. The
@@ -236,10 +255,13 @@ pub fn instance(
     ensures count { IfOk result (λ made. length made.slots ≡ length tree.now.nodes) }
     ensures refused { IfErr result IsNoMemory }
 {
-    let nodes = tree.nodes();
     let mut made = FlatTree::seeded(alloc, tree.seed(), 0);
-    made.make_room(nodes.len(), property_count(nodes))?;
-    let mut bytes = Vec::new(alloc);
-    fill(&mut made, &mut bytes, tree, numbering)?;
-    Ok(made)
+    match make_room_and_fill(alloc, &mut made, tree, numbering) {
+        Ok(()) => Ok(made),
+        Err(fault) => {
+            // Let go of by hand: what goes at an exit by itself is proved there field by field.
+            drop(made);
+            Err(fault)
+        }
+    }
 }

@@ -126,6 +126,12 @@ pub(crate) fn flat_of(
     ensures refused { IfErr result IsNoMemory }
 {
     let mut tree = FlatTree::seeded(alloc, seed, boot_cpu);
-    fill(&mut tree, structure, reservations)?;
-    Ok(tree)
+    match fill(&mut tree, structure, reservations) {
+        Ok(()) => Ok(tree),
+        Err(fault) => {
+            // Let go of by hand: what goes at an exit by itself is proved there field by field.
+            drop(tree);
+            Err(fault)
+        }
+    }
 }

@@ -127,6 +127,16 @@ pub fn ask<S: Sink>(
     let blob = Blob::check(bytes)?;
     let index = Index::new(alloc, &blob)?;
     index.validity();
-    let node = node_at(&index, path)?;
-    tell(&index, node, question, out)
+    match node_at(&index, path) {
+        Ok(node) => {
+            let told = tell(&index, node, question, out);
+            // Let go of by hand: what goes at an exit by itself is proved there field by field.
+            drop(index);
+            told
+        }
+        Err(fault) => {
+            drop(index);
+            Err(fault)
+        }
+    }
 }

@@ -87,7 +87,10 @@ fn put_listing<S: Sink>(
 {
     let blob = Blob::check(bytes)?;
     let index = Index::without_children(alloc, &blob)?;
-    put_lines(&index, out, listing)
+    let listed = put_lines(&index, out, listing);
+    // Let go of by hand: what goes at an exit by itself is proved there field by field.
+    drop(index);
+    listed
 }
 
 /// Writes the regions of a blob (Devicetree Specification v0.4, 2.3.6 and 2.3.8), of all nodes in preorder, bookkeeping ones among them, and of

@@ -18,11 +18,11 @@ returns-clause-object c =
     let s = c.in_ok-source.source in
     let text = c.args.text.now in
     if_ok (λ blob. OfEachText s (λ text. HasObjectBlob text blob.items)) (λ blob. HasObjectBlob text blob.items) (λ blob h. h text c.in_ok-source.ensures.ok)
-    c.overlay_blob.result c.overlay_blob.ensures.object
+    c.overlay_blob-blob.result c.overlay_blob-blob.ensures.object
 
 pub returns-clause-refused : goal.returns-clause-refused
 returns-clause-refused c =
     let s = c.in_ok-source.source in
     let text = c.args.text.now in
     if_err (λ (e : Fault). OfEachText s (λ text. WhyNotCompiledOverlay text e)) (WhyNoObject text) (λ e why. inr (why text c.in_ok-source.ensures.ok))
-    c.overlay_blob.result c.overlay_blob.ensures.refused
+    c.overlay_blob-blob.result c.overlay_blob-blob.ensures.refused

@@ -17,4 +17,4 @@ returns-clause-kinds c =
     let s = c.in_ok-source.source in
     if_err (λ (e : Fault). OfEachText s (λ text. WhyNotCompiled raw text e)) (λ e. IsCompilerFault e.kind)
     (λ e why. base_kind raw c.args.text.now e (why c.args.text.now c.in_ok-source.ensures.ok))
-    c.source_blob.result c.source_blob.ensures.refused
+    c.source_blob-blob.result c.source_blob-blob.ensures.refused

@@ -17,7 +17,7 @@ returns-clause-blob c =
     let r = reading c.in_ok-tree.tree in
     if_ok_both (λ blob. blob.items ≡ written r) (λ blob. length blob.items ≤ most_bytes) (λ blob. OfEachText s (λ text. IsCompiledOverlay text blob.items))
     (λ blob is size. is_written s r blob.items c.in_ok-tree.ensures.tree c.validity.ensures.within is size)
-    c.write_blob.result c.write_blob.ensures.written c.write_blob.ensures.size
+    c.write_blob-blob.result c.write_blob-blob.ensures.written c.write_blob-blob.ensures.size
 
 pub returns-clause-object : goal.returns-clause-object
 returns-clause-object c =
@@ -26,7 +26,7 @@ returns-clause-object c =
     if_ok_all (λ blob. blob.items ≡ written r) (λ blob. length blob.items ≤ most_bytes) (λ blob. Reads blob.items r) (λ blob. IsWithin blob.items r)
     (λ blob. OfEachText s (λ text. HasObjectBlob text blob.items))
     (λ blob is size reads inside. object_written s r blob.items c.in_ok-tree.ensures.tree c.validity.ensures.valid c.validity.ensures.within is size reads inside)
-    c.write_blob.result c.write_blob.ensures.written c.write_blob.ensures.size c.write_blob.ensures.reads c.write_blob.ensures.within
+    c.write_blob-blob.result c.write_blob-blob.ensures.written c.write_blob-blob.ensures.size c.write_blob-blob.ensures.reads c.write_blob-blob.ensures.within
 
 pub returns-clause-refused : goal.returns-clause-refused
 returns-clause-refused c =
@@ -34,4 +34,4 @@ returns-clause-refused c =
     let r = reading c.in_ok-tree.tree in
     if_err (λ (fault : Fault). WhyNoBytes fault.kind (length (written r)) × (fault.at ≡ None)) (λ fault. OfEachText s (λ text. WhyNotCompiledOverlay text fault))
     (λ fault why. not_written s r fault c.in_ok-tree.ensures.tree why)
-    c.write_blob.result c.write_blob.ensures.refused
+    c.write_blob-blob.result c.write_blob-blob.ensures.refused

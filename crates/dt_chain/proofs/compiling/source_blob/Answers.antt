@@ -23,7 +23,7 @@ returns-clause-blob c =
     let r = reading c.in_ok-tree.tree in
     if_ok_both (λ blob. blob.items ≡ written r) (λ blob. length blob.items ≤ most_bytes) (λ blob. OfEachText s (λ text. IsCompiled mode text blob.items))
     (λ blob is size. is_written mode s r blob.items c.in_ok-tree.ensures.tree c.validity.ensures.within is size)
-    c.write_blob.result c.write_blob.ensures.written c.write_blob.ensures.size
+    c.write_blob-blob.result c.write_blob-blob.ensures.written c.write_blob-blob.ensures.size
 
 pub returns-clause-refused : goal.returns-clause-refused
 returns-clause-refused c =
@@ -32,4 +32,4 @@ returns-clause-refused c =
     let r = reading c.in_ok-tree.tree in
     if_err (λ (fault : Fault). WhyNoBytes fault.kind (length (written r)) × (fault.at ≡ None)) (λ fault. OfEachText s (λ text. WhyNotCompiled mode text fault))
     (λ fault why. not_written mode s r fault c.in_ok-tree.ensures.tree why)
-    c.write_blob.result c.write_blob.ensures.refused
+    c.write_blob-blob.result c.write_blob-blob.ensures.refused

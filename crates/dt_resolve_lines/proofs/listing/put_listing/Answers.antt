@@ -15,9 +15,9 @@ returns-in_err-blob-clause-refused g c =
 pub returns-clause-refused : goal.returns-clause-refused
 returns-clause-refused g c =
     let old = g.S.Sink.taken c.args.out.now in
-    let new = g.S.Sink.taken c.put_lines.new.out in
+    let new = g.S.Sink.taken c.put_lines-listed.new.out in
     let listing = c.args.listing in
-    IfErr-weaker c.put_lines.result (λ e. (lines : List (List ℕ)) × AreAllBegun listing (reading_of c.in_ok-index.index) lines × IsRefused e (concat lines) old new)
+    IfErr-weaker c.put_lines-listed.result (λ e. (lines : List (List ℕ)) × AreAllBegun listing (reading_of c.in_ok-index.index) lines × IsRefused e (concat lines) old new)
     (WhyNotListed listing c.args.bytes.now old new)
     (λ e (lines, begun, refused). cut lines (record {
       tree = reading_of c.in_ok-blob.blob;
@@ -25,4 +25,4 @@ returns-clause-refused g c =
       within = c.in_ok-blob.ensures.within;
       are = subst (λ t. AreAllBegun listing (reading_of t) lines) c.in_ok-index.ensures.is begun;
     }) refused)
-    c.put_lines.ensures.refused
+    c.put_lines-listed.ensures.refused
