@@ -47,6 +47,8 @@ fn tell_blob(alloc: Global, name: &str, blob: &Blob<'_>, out: &mut Outcome) -> R
         _ => {
             let tree = blob.to_flat(alloc)?;
             put_tree(out.lines(), alloc, &tree);
+            // Let go of by hand: what goes at an exit by itself is proved there field by field.
+            drop(tree);
         }
     }
     Ok(())
@@ -70,9 +72,12 @@ pub fn tree_of(alloc: Global, input: &[u8]) -> Result<FlatTree, Fault> {
     Blob::check(input)?.to_flat(alloc)
 }
 
-fn rewritten(alloc: Global, input: &[u8]) -> Result<Vec<u8>, Fault> {
+/// The same blob as a writer makes it of its tree.
+pub fn rewritten(alloc: Global, input: &[u8]) -> Result<Vec<u8>, Fault> {
     let tree = tree_of(alloc, input)?;
-    write_blob(alloc, &tree)
+    let blob = write_blob(alloc, &tree);
+    drop(tree);
+    blob
 }
 
 fn front(alloc: Global, words: &str, input: &[u8]) -> Result<Vec<u8>, Stop> {

@@ -53,8 +53,7 @@ fn call_on_trees(
         "specifier-at" => resolving::specifier(words, input, out),
         "interrupt-at" => resolving::interrupt(words, input, out),
         "node-at" => resolving::node(words, input, out),
-        "views" => resolving::views(alloc, input, out),
-        "paths" => resolving::paths(alloc, input, out),
+        "views" | "paths" => resolving::views(alloc, name, input, out),
         "fixups" | "local-fixups" => marks::call(alloc, name, input, out),
         "still" => {
             out.tell(still::answered(alloc, words, input)?);

@@ -1,10 +1,9 @@
 //! Overlays applied to a base.
 
+use crate::blobs::rewritten;
 use crate::outcome::{Outcome, Stop};
 use dt_chain::{apply_bytes, apply_list, build};
 use dt_names::{Fault, FaultKind};
-use dt_read::Blob;
-use dt_write::write_blob;
 use std::alloc::Global;
 
 /// How long a base and an object are at most that are applied both ways: edits of bytes take a time that is their number times the base's size.
@@ -31,12 +30,6 @@ pub fn call(
     Ok(())
 }
 
-/// The same blob as a writer makes it of its tree.
-fn normal(alloc: Global, blob: &[u8]) -> Result<Vec<u8>, Fault> {
-    let tree = Blob::check(blob)?.to_flat(alloc)?;
-    write_blob(alloc, &tree)
-}
-
 /// What is refused once a list was applied is refused for the object.
 fn of_object(outcome: Result<Vec<u8>, Fault>) -> Result<Vec<u8>, Stop> {
     match outcome {
@@ -55,7 +48,7 @@ fn apply_both_ways(
     match apply_list(alloc, base, &[overlay]) {
         Ok(blob) => {
             let edited = of_object(apply_bytes(alloc, base, overlay))?;
-            if of_object(normal(alloc, &edited))? == blob {
+            if of_object(rewritten(alloc, &edited))? == blob {
                 out.give(blob);
             } else {
                 out.tell("apply-bytes answers another tree");

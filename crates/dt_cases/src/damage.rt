@@ -64,7 +64,12 @@ fn turn(bytes: &mut [u8], at: usize, change: u8) {
 /// Whether bytes have a fault of blobs, or are a blob that is written and read as the same tree.
 fn is_told_or_kept(alloc: Global, bytes: &[u8]) -> Result<bool, Fault> {
     match tree_of(alloc, bytes) {
-        Ok(tree) => is_kept(alloc, &tree),
+        Ok(tree) => {
+            let is_kept = is_kept(alloc, &tree);
+            // Let go of by hand: what goes at an exit by itself is proved there field by field.
+            drop(tree);
+            is_kept
+        }
         Err(fault) => Ok(fault.number() == 2 || (40..=55).contains(&fault.number())),
     }
 }
@@ -76,7 +81,11 @@ fn is_kept(alloc: Global, tree: &FlatTree) -> Result<bool, Fault> {
 
 fn is_written_again(alloc: Global, written: &[u8]) -> Result<bool, Fault> {
     match tree_of(alloc, written) {
-        Ok(tree) => is_blob_of(alloc, &tree, written),
+        Ok(tree) => {
+            let is_same = is_blob_of(alloc, &tree, written);
+            drop(tree);
+            is_same
+        }
         Err(fault) => Err(fault),
     }
 }

@@ -93,6 +93,8 @@ fn size_of(bytes: &[u8]) -> usize {
 fn put_blob(alloc: Global, bytes: &[u8], lines: &mut Lines) -> Result<(), Stop> {
     let tree = tree_of(alloc, bytes)?;
     put_tree(lines, alloc, &tree);
+    // Let go of by hand: what goes at an exit by itself is proved there field by field.
+    drop(tree);
     Ok(())
 }
 

@@ -3,7 +3,7 @@
 use crate::edited::{Cell, Edited, Lent};
 use crate::input::bytes_of;
 use crate::numbers::index;
-use crate::outcome::{Lines, Outcome, Stop};
+use crate::outcome::{Lines, Outcome, Stop, is_other};
 use dt_edit::BlobBuf;
 use dt_names::FaultKind;
 use dt_read::Blob;
@@ -75,17 +75,22 @@ fn tell(alloc: Global, edits: &Edits<'_>, said: &str, lines: &mut Lines) -> Resu
         .blob
         .len()
         .saturating_add(edits.steps.len().saturating_mul(4));
-    let by_lent = said_by_lent(alloc, edits, room)?;
-    let by_owned = said_by_owned(alloc, edits)?;
-    let by_tree = said_by_tree(alloc, edits)?;
-    let without_sizes = without_sizes(alloc, said)?;
-    if *said != *by_lent || *said != *by_owned || *without_sizes != *by_tree {
+    if is_other(said, said_by_lent(alloc, edits, room)?)
+        || is_other(said, said_by_owned(alloc, edits)?)
+        || is_other_of_tree(alloc, edits, said)?
+    {
         lines.put("differs\n");
     }
     Ok(())
 }
 
-/// The lines that are no size: a tree in memory has none.
+/// Whether the steps say something else on the blob's tree in memory, which has no sizes.
+fn is_other_of_tree(alloc: Global, edits: &Edits<'_>, said: &str) -> Result<bool, Stop> {
+    let without_sizes = without_sizes(alloc, said)?;
+    Ok(is_other(&without_sizes, said_by_tree(alloc, edits)?))
+}
+
+/// The lines that are no size.
 fn without_sizes(alloc: Global, said: &str) -> Result<String, Stop> {
     let mut lines = Lines::new(alloc);
     for line in said.lines() {

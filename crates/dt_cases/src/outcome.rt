@@ -40,6 +40,11 @@ impl<T: Drop> From<AllocFailed<T>> for Stop {
     }
 }
 
+/// Whether a text is another one.
+pub fn is_other(text: &str, other: String) -> bool {
+    *text != *other
+}
+
 /// Lines that are made piece by piece. A growth that is refused is remembered, and nothing is put from then on, so that it is
 /// asked for once, at the end.
 #[derive(Drop)]

@@ -6,7 +6,7 @@ ghost use Rattle.dt_irq.specs.Seen.{HasArrived};
 
 use crate::names::text_of;
 use crate::numbers::{number, wide};
-use crate::outcome::{Lines, Outcome, Stop};
+use crate::outcome::{Lines, Outcome, Stop, is_other};
 use dt_flat::FlatTree;
 use dt_irq::{Route, Routes, interrupt_at, route, specifier_at, specifier_route};
 use dt_names::{Fault, NodeId, Out};
@@ -120,27 +120,35 @@ pub fn node(path: &str, blob: &[u8], out: &mut Outcome) -> Result<(), Stop> {
     Ok(())
 }
 
-/// Prints the nodes of which a blob's index or its `FlatTree` answers otherwise than the blob; `the same` if there are none.
-pub fn views(alloc: Global, blob: &[u8], out: &mut Outcome) -> Result<(), Stop> {
+/// `views` prints the nodes of which a blob's index or its `FlatTree` answers otherwise than the blob, `the same` if there are none. `paths` prints
+/// how many nodes a blob has, where its index finds each by its path.
+pub fn views(alloc: Global, name: &str, blob: &[u8], out: &mut Outcome) -> Result<(), Stop> {
     let blob = Blob::check(blob)?;
     let index = Index::new(alloc, &blob)?;
-    let tree = blob.to_flat(alloc)?;
-    for node in 0..tree.node_count() {
-        compare_at(alloc, &blob, &index, &tree, node, out)?;
-    }
-    if !out.is_told() {
-        out.tell("the same");
-    }
-    Ok(())
+    let told = tell_views(alloc, name, &index, out);
+    // Let go of by hand: what goes at an exit by itself is proved there field by field.
+    drop(index);
+    told
 }
 
-/// Prints how many nodes a blob has. Its index finds each by its path.
-pub fn paths(alloc: Global, blob: &[u8], out: &mut Outcome) -> Result<(), Stop> {
-    let blob = Blob::check(blob)?;
-    let index = Index::new(alloc, &blob)?;
-    let tree = blob.to_flat(alloc)?;
+fn tell_views(alloc: Global, name: &str, index: &Index<'_>, out: &mut Outcome) -> Result<(), Stop> {
+    let tree = index.blob().to_flat(alloc)?;
+    let told = match name {
+        "views" => compare_all(alloc, index, &tree, out),
+        _ => find_all(alloc, index, &tree, out),
+    };
+    drop(tree);
+    told
+}
+
+fn find_all(
+    alloc: Global,
+    index: &Index<'_>,
+    tree: &FlatTree,
+    out: &mut Outcome,
+) -> Result<(), Stop> {
     for node in 0..tree.node_count() {
-        find(alloc, &index, &tree, node)?;
+        find(alloc, index, tree, node)?;
     }
     let count = tree.node_count();
     writeln!(out.lines(), "{count}");
@@ -154,10 +162,24 @@ fn find(alloc: Global, index: &Index<'_>, tree: &FlatTree, node: NodeId) -> Resu
     Ok(index.node_at(&text)?)
 }
 
+fn compare_all(
+    alloc: Global,
+    index: &Index<'_>,
+    tree: &FlatTree,
+    out: &mut Outcome,
+) -> Result<(), Stop> {
+    for node in 0..tree.node_count() {
+        compare_at(alloc, index, tree, node, out)?;
+    }
+    if !out.is_told() {
+        out.tell("the same");
+    }
+    Ok(())
+}
+
 /// Prints a node if the three views answer differently of it, or the index finds it by another path.
 fn compare_at(
     alloc: Global,
-    blob: &Blob<'_>,
     index: &Index<'_>,
     tree: &FlatTree,
     node: NodeId,
@@ -166,16 +188,24 @@ fn compare_at(
     requires { node < length tree.now.slots }
 {
     let text = text_of(alloc, &tree.path(alloc, node)?)?;
-    let of_blob = told_by(alloc, blob, &text)?;
-    let is_found = index.node_at(&text)? == node_at(blob, &text)?;
-    if !is_found
-        || told_by(alloc, index, &text)? != of_blob
-        || told_by(alloc, tree, &text)? != of_blob
-    {
+    if differ(alloc, index, tree, &text)? {
         out.lines().name(&text);
         out.lines().put("\n");
     }
     Ok(())
+}
+
+/// Whether the three views answer differently of the node of a path.
+fn differ(alloc: Global, index: &Index<'_>, tree: &FlatTree, path: &[u8]) -> Result<bool, Stop> {
+    let blob = index.blob();
+    if index.node_at(path)? != node_at(blob, path)? {
+        return Ok(true);
+    }
+    let of_blob = told_by(alloc, blob, path)?;
+    Ok(
+        is_other(&of_blob, told_by(alloc, index, path)?)
+            || is_other(&of_blob, told_by(alloc, tree, path)?),
+    )
 }
 
 fn told_by<V: TreeView>(alloc: Global, view: &V, path: &[u8]) -> Result<String, Stop> {

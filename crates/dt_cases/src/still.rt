@@ -16,6 +16,7 @@ use dt_parse::{Source, parse};
 use dt_phandle::{Numbering, number};
 use dt_read::Blob;
 use dt_source::{Mode, build_base};
+use dt_source_named_tree::NamedTree;
 use dt_view::Index;
 use std::alloc::{AllocError, Global};
 
@@ -72,12 +73,21 @@ fn of_expression(alloc: Global, input: &[u8]) -> Result<usize, Stop> {
 
 fn of_source(alloc: Global, input: &[u8]) -> Result<usize, Stop> {
     let source = parse(alloc, input)?;
-    of_parsed(alloc, &source)
+    let answered = of_parsed(alloc, &source);
+    // Let go of by hand: what goes at an exit by itself is proved there field by field.
+    drop(source);
+    answered
 }
 
 fn of_parsed(alloc: Global, source: &Source<'_>) -> Result<usize, Stop> {
     let tree = build_base(alloc, source, Mode::Base)?;
-    let numbering = number(alloc, &tree)?;
+    let answered = of_named(alloc, &tree);
+    drop(tree);
+    answered
+}
+
+fn of_named(alloc: Global, tree: &NamedTree<'_>) -> Result<usize, Stop> {
+    let numbering = number(alloc, tree)?;
     let begun = ask_for(alloc, BEGIN);
     let answered = numbers_of(&numbering, tree.nodes().len());
     finish(alloc, begun, answered)
@@ -130,26 +140,29 @@ fn rewritten(alloc: Global, mut owned: BlobBuf) -> usize {
 
 fn of_blob(alloc: Global, input: &[u8]) -> Result<usize, Stop> {
     let blob = Blob::check(input)?;
-    let tree = blob.to_flat(alloc)?;
-    of_tree(alloc, &blob, &tree)
+    let index = Index::new(alloc, &blob)?;
+    let answered = of_index(alloc, &index);
+    drop(index);
+    answered
 }
 
-fn of_tree(alloc: Global, blob: &Blob<'_>, tree: &FlatTree) -> Result<usize, Stop> {
-    let index = Index::new(alloc, blob)?;
+fn of_index(alloc: Global, index: &Index<'_>) -> Result<usize, Stop> {
+    let tree = index.blob().to_flat(alloc)?;
     let mut lines = Lines::to_count(alloc);
-    put_all(alloc, blob, &index, tree, &mut lines)
+    let answered = put_all(alloc, index, &tree, &mut lines);
+    drop(tree);
+    answered
 }
 
 /// Puts what a blob, its index and its tree answer. Answers how much that was.
 fn put_all(
     alloc: Global,
-    blob: &Blob<'_>,
     index: &Index<'_>,
     tree: &FlatTree,
     lines: &mut Lines,
 ) -> Result<usize, Stop> {
     let begun = ask_for(alloc, BEGIN);
-    still_nodes::put_whole(blob, tree, lines);
+    still_nodes::put_whole(index.blob(), tree, lines);
     let mut count = finish(alloc, begun, lines.count())?;
     for node in 0..tree.node_count() {
         count = put_at(alloc, index, tree, node, lines)?;
