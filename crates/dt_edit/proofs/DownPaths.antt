@@ -1,5 +1,5 @@
 -- The names on the way down to a node.
-use Rattle.std.proofs.Common.{◌≡◌, ◌≢◌, ℕ, ◌<◌, ◌≤◌, List, [], ◌∷◌, ◌++◌, map, length, Option, Some, None, is_some, option_and_then, false, refl, sym, ap, subst, ◌∙◌, append_assoc, arith}
+use Rattle.std.proofs.Common.{◌≡◌, ◌≢◌, ℕ, ◌<◌, List, [], ◌∷◌, ◌++◌, map, length, Option, Some, None, is_some, option_and_then, false, refl, sym, ap, subst, ◌∙◌, append_assoc, arith}
 use Rattle.std.specs.List.{AllByRecursion}
 use Rattle.std.proofs.lemmas.List.{length-append}
 use Rattle.dt_model.specs.Limits.{most_names}
@@ -7,8 +7,7 @@ use Rattle.dt_model.specs.Names.{Name, IsNodeName}
 use Rattle.dt_model.specs.Path.{Path}
 use Rattle.dt_model.specs.Tree.{Node, node_at, value_in, value_of}
 use Rattle.dt_model.specs.Valid.{IsValid, IsWithinLimits}
-use Rattle.dt_model.proofs.Depths.{within_depth}
-use Rattle.dt_overlay_base.proofs.LooksNames.{stands_named}
+use Rattle.dt_overlay_base.proofs.LooksNames.{stands_named, path_short}
 use Rattle.dt_trees.specs.Placed.{PlacedTree, last_name, path_at, place_of, reading_of, IsNode}
 use Rattle.dt_trees.proofs.NodePlaces.{stands_place}
 use Rattle.dt_resolve_model.specs.Above.{front}
@@ -24,10 +23,6 @@ one_up t here next way is some = ap (λ (p : Path). p ++ last_name (path_at t he
     whole : (p : Path) → p ≢ [] → front p ++ last_name p ∷ names_down t way ≡ p ++ names_down t way
     whole [] some = absurd (some refl)
     whole (x ∷ p) some = sym (append_assoc (front (x ∷ p)) (last_name (x ∷ p) ∷ []) (names_down t way)) ∙ ap (λ (q : Path). q ++ names_down t way) (ends_so x p)
-
--- a path has 64 names at most
-pub path_short : (t : PlacedTree) (node : ℕ) → IsWithinLimits (reading_of t) → IsNode t node → length (path_at t node) ≤ most_names
-path_short t node within at = within_depth (reading_of t) (path_at t node) within (sym (stands_place t (path_at t node)) ∙ ap is_some at)
 
 -- what is left of a path behind some of its names
 pub record IsLeft (t : PlacedTree) (node : ℕ) (way : List ℕ) (path : Path) : Type 0 where

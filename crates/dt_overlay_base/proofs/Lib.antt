@@ -7,3 +7,4 @@ pub mod PlacesKept
 pub mod Reached
 pub mod Rooms
 pub mod TextsOfPaths
+pub mod Walked

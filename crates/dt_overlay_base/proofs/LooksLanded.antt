@@ -1,44 +1,15 @@
 -- Nodes of an object that land one after another.
-use Rattle.std.proofs.Common.{◌≡◌, ℕ, zero, suc, ◌≤◌, Bool, true, false, cond, eqb, List, [], ◌∷◌, ◌++◌, length, drop, map, refl, sym, ap, subst, ◌∙◌, inl, inr, append_assoc, append-nil, arith}
+use Rattle.std.proofs.Common.{◌≡◌, ℕ, ◌≤◌, Bool, true, false, List, [], ◌∷◌, ◌++◌, length, map, refl, sym, ap, subst, ◌∙◌, inl, inr, append_assoc, append-nil, arith}
 use Rattle.std.specs.Prelude.{is_some, if◌then◌else◌}
 use Rattle.std.proofs.lemmas.List.{length-append, map-append}
 use Rattle.dt_model.specs.Limits.{most_nodes}
 use Rattle.dt_model.specs.Path.{Path}
-use Rattle.dt_model.specs.Tree.{branch, Reading, Placed, preorder}
+use Rattle.dt_model.specs.Tree.{Reading, Placed}
 use Rattle.dt_names.specs.declared.fault.FaultKind.{FaultKind}
-use Rattle.dt_flat.specs.Arena.{Slot, name_of, properties, children, children_among, below, forest_among}
 use Rattle.dt_overlay_model.specs.Walk.{number_there, with_place, with_places, has_phandle, least_free}
 use Rattle.dt_overlay_laws.specs.Landings.{MayAllLand, IsStuck}
 use Rattle.dt_model.specs.Numbers.{numbers_of}
-use Rattle.dt_overlay_base.specs.Known.{Known, IsKnown, HasRoom, placed, trees_of}
-
--- ---- the trees below a node are those of its children
-
-drop_next : (slots : List Slot) (i : ℕ) (n : Slot) (ns : List Slot) → drop i slots ≡ n ∷ ns → (name_of slots i ≡ n.name) × (properties slots i ≡ n.properties) × (drop (suc i) slots ≡ ns)
-drop_next [] zero n ns e = absurd cc
-drop_next [] (suc i) n ns e = absurd cc
-drop_next (m ∷ ms) zero n ns e =
-    let same : m ≡ n = cc in
-    let rest : ms ≡ ns = cc in
-    (ap (λ (k : Slot). k.name) same, ap (λ (k : Slot). k.properties) same, rest)
-drop_next (m ∷ ms) (suc i) n ns e = drop_next ms i n ns e
-
-trees_among : (slots : List Slot) (i : ℕ) (ns : List Slot) (p : ℕ) → drop i slots ≡ ns → forest_among i ns p ≡ trees_of slots (children_among i ns p)
-trees_among slots i [] p e = refl
-trees_among slots i (n ∷ ns) p e =
-    let d = drop_next slots i n ns e in
-    let rest = trees_among slots (suc i) ns p d.2 in
-    let own : forest_among (suc i) ns i ≡ below slots i = ap (λ (ms : List Slot). forest_among (suc i) ms i) (sym d.2) in
-    by (eqb n.parent p) (λ j. branch (sym d.0 j) (sym d.1 j) (own j) (rest j)) rest
-  where
-    by : (b : Bool) → branch n.name n.properties (forest_among (suc i) ns i) (forest_among (suc i) ns p) ≡ trees_of slots (i ∷ children_among (suc i) ns p)
-        → forest_among (suc i) ns p ≡ trees_of slots (children_among (suc i) ns p)
-        → cond b (branch n.name n.properties (forest_among (suc i) ns i) (forest_among (suc i) ns p)) (forest_among (suc i) ns p) ≡ trees_of slots (cond b (i ∷ children_among (suc i) ns p) (children_among (suc i) ns p))
-    by true h k = h
-    by false h k = k
-
-pub below_is : (slots : List Slot) (p : ℕ) → below slots p ≡ trees_of slots (children slots p)
-below_is slots p = trees_among slots (suc p) (drop (suc p) slots) p refl
+use Rattle.dt_overlay_base.specs.Known.{Known, IsKnown, HasRoom}
 
 -- ---- nodes behind others
 
@@ -154,18 +125,3 @@ left_ended base all left a b given landed e w known =
     let before = w.known given landed known in
     let whole : before.0 ≡ all = sym (append-nil before.0) ∙ ap (λ (ns : List Placed). before.0 ++ ns) (sym e) ∙ sym before.1 in
     subst (λ (ns : List Placed). IsKnown base (with_places base ns given) (landed ++ map (λ (n : Placed). n.path) ns) b) whole before.2
-
--- ---- children by their numbers
-
--- the first of some siblings
-pub siblings_split : (q : Path) (slots : List Slot) (k : ℕ) (rest : List ℕ) → preorder q (trees_of slots (k ∷ rest)) ≡ preorder q (trees_of slots (k ∷ [])) ++ preorder q (trees_of slots rest)
-siblings_split q slots k rest =
-    let inside = preorder (q ++ name_of slots k ∷ []) (below slots k) in
-    ap (λ (ns : List Placed). placed slots k (q ++ name_of slots k ∷ []) ∷ (ns ++ preorder q (trees_of slots rest))) (sym (append-nil inside))
-
-pub left_siblings : (q : Path) (slots : List Slot) (left rest : List ℕ) (k : ℕ) → left ≡ k ∷ rest → preorder q (trees_of slots left) ≡ preorder q (trees_of slots (k ∷ [])) ++ preorder q (trees_of slots rest)
-left_siblings q slots left rest k e = ap (λ (ks : List ℕ). preorder q (trees_of slots ks)) e ∙ siblings_split q slots k rest
-
--- a node and what is below it
-pub one_sibling : (q : Path) (slots : List Slot) (k : ℕ) → preorder q (trees_of slots (k ∷ [])) ≡ placed slots k (q ++ name_of slots k ∷ []) ∷ preorder (q ++ name_of slots k ∷ []) (below slots k)
-one_sibling q slots k = ap (λ (ns : List Placed). placed slots k (q ++ name_of slots k ∷ []) ∷ ns) (append-nil (preorder (q ++ name_of slots k ∷ []) (below slots k)))

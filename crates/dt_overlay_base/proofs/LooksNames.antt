@@ -1,42 +1,39 @@
--- The names of nodes in memory are names of nodes.
-use Rattle.std.proofs.Common.{◌≡◌, ℕ, ◌<◌, true, [], ◌∷◌, ◌++◌, Option, Some, None, refl, sym, ap, subst, ◌∙◌, ◌⊎◌, inl, inr, arith}
+-- Names of nodes, and what they have.
+use Rattle.std.proofs.Common.{◌≡◌, ◌≢◌, ◌≤◌, ℕ, true, length, [], ◌∷◌, Option, Some, None, refl, sym, ap, subst, ◌∙◌}
 use Rattle.std.specs.Prelude.{is_some, option_and_then}
 use Rattle.std.specs.List.{AllByRecursion}
+use Rattle.dt_model.specs.Limits.{most_names}
 use Rattle.dt_model.specs.Names.{Name, IsNodeName}
 use Rattle.dt_model.specs.Path.{Path}
-use Rattle.dt_model.specs.Tree.{Reading, stands_in}
-use Rattle.dt_model.specs.Valid.{IsValid}
-use Rattle.dt_flat.specs.Arena.{Arena, reading, name_of, named_children, child_of, node_from}
-use Rattle.dt_flat.proofs.Descent.{path-further}
-use Rattle.dt_flat.proofs.Distinctness.{all-back}
-use Rattle.dt_flat.proofs.Edges.{edge}
+use Rattle.dt_model.specs.Tree.{Reading, Node, node_at, stands_in, value_of, value_in}
+use Rattle.dt_model.specs.Valid.{IsValid, IsWithinLimits}
+use Rattle.dt_model.proofs.Depths.{within_depth}
 use Rattle.dt_model.proofs.Listed.{stands_listed}
 use Rattle.dt_model.proofs.Preorder.{listed_named}
-use Rattle.dt_overlay_base.proofs.Reached.{stands-led}
+use Rattle.dt_trees.specs.Placed.{PlacedTree, reading_of, path_at, last_name, properties_at, properties_found, IsNode}
+use Rattle.dt_trees.proofs.NodePlaces.{stands_place}
 
 -- the names of a path that stands are names of nodes
 pub stands_named : (t : Reading) (p : Path) → IsValid t → stands_in t p ≡ true → AllByRecursion IsNodeName p
 stands_named t p valid h = let w = stands_listed t p h in subst (AllByRecursion IsNodeName) w.2 (listed_named t w.0 valid w.1)
 
--- and so are those of a path that leads to a node
-pub led_named : (a : Arena) (p : Path) (k : ℕ) → IsValid (reading a) → node_from a.slots 0 p ≡ Some k → AllByRecursion IsNodeName p
-led_named a p k valid leads = stands_named (reading a) p valid (stands-led a p ∙ ap is_some leads)
+last_named : (p : Path) → p ≢ [] → AllByRecursion IsNodeName p → IsNodeName (last_name p)
+last_named [] some named = absurd (some refl)
+last_named (x ∷ []) some named = named.0
+last_named (x ∷ y ∷ p) some named = last_named (y ∷ p) (λ e. absurd cc) named.1
 
--- a path is the root's, or has a last name
-last_name : (p : Path) → (p ≡ []) ⊎ ((q : Path) × (x : Name) × (p ≡ q ++ x ∷ []))
-last_name [] = inl refl
-last_name (x ∷ p) = elim (last_name p) [ inl none ↦ inr ([], x, ap (λ z. x ∷ z) none) | inr w ↦ inr (x ∷ w.0, w.1, ap (λ z. x ∷ z) w.2) ]
+-- and so is that of each node but the root
+pub node_named : (t : PlacedTree) (k : ℕ) → IsValid (reading_of t) → IsNode t k → path_at t k ≢ [] → IsNodeName (last_name (path_at t k))
+node_named t k valid at below = last_named (path_at t k) below (stands_named (reading_of t) (path_at t k) valid (sym (stands_place t (path_at t k)) ∙ ap is_some at))
 
--- each node but the root has the last name of its path
-pub node_named : (a : Arena) (k : ℕ) → IsValid (reading a) → (p : Path) → node_from a.slots 0 p ≡ Some k → 0 < k → IsNodeName (name_of a.slots k)
-node_named a k valid p leads below = elim (last_name p) [
-  | inl root ↦ let z : Some 0 ≡ Some k = ap (node_from a.slots 0) (sym root) ∙ leads in let same : 0 ≡ k = cc in absurd (omega (arith, same, below))
-  | inr w ↦
-      let further : option_and_then (λ c. child_of (named_children a.slots c) w.1) (node_from a.slots 0 w.0) ≡ Some k = sym (path-further a.slots w.0 0 w.1) ∙ ap (node_from a.slots 0) (sym w.2) ∙ leads in
-      let names : AllByRecursion IsNodeName (w.1 ∷ []) = all-back IsNodeName w.0 (w.1 ∷ []) (subst (AllByRecursion IsNodeName) w.2 (led_named a p k valid leads)) in
-      by (node_from a.slots 0 w.0) w.1 further names.0
-]
+-- the value of one of a node's properties
+pub value_under : (t : PlacedTree) (p : Path) (name : Name) → value_of (properties_at t p) name ≡ value_in (reading_of t) p name
+value_under t p name = step (node_at (reading_of t) p)
   where
-    by : (o : Option ℕ) (x : Name) → option_and_then (λ c. child_of (named_children a.slots c) x) o ≡ Some k → IsNodeName x → IsNodeName (name_of a.slots k)
-    by None x e named = absurd cc
-    by (Some c) x e named = subst IsNodeName (sym (edge a.slots c x k e).name) named
+    step : (o : Option Node) → value_of (properties_found o) name ≡ option_and_then (λ n. value_of n.properties name) o
+    step None = refl
+    step (Some n) = refl
+
+-- a path has 64 names at most
+pub path_short : (t : PlacedTree) (k : ℕ) → IsWithinLimits (reading_of t) → IsNode t k → length (path_at t k) ≤ most_names
+path_short t k within at = within_depth (reading_of t) (path_at t k) within (sym (stands_place t (path_at t k)) ∙ ap is_some at)

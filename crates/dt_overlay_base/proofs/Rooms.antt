@@ -1,5 +1,4 @@
 -- Where there is no room behind a tree, there is none behind those that it follows.
-use Rattle.std.proofs.Common.{◌≡◌}
 use Rattle.dt_model.specs.Tree.{Reading}
 use Rattle.dt_overlay_base.specs.Targets.{HasNoRoom}
 

@@ -1,5 +1,5 @@
 -- What is kept of the places on which an object's nodes land, and what it means.
-use Rattle.std.specs.Prelude.{◌≡◌, ◌↔◌, ℕ, ◌<◌, ◌≤◌, true, false, List, [], ◌∷◌, ◌++◌, length, map, Option, is_some, option_and_then, nat_eq}
+use Rattle.std.specs.Prelude.{◌≡◌, ◌↔◌, ℕ, ◌<◌, ◌≤◌, true, false, List, ◌∷◌, ◌++◌, length, map, Option, Some, None, is_some, option_and_then, nat_eq}
 use Rattle.std.specs.Global.{Vec}
 use Rattle.std.specs.List.{AllByRecursion, list_any, flat_map}
 use Rattle.std.specs.Map.{lookup}
@@ -9,25 +9,36 @@ use Rattle.dt_model.specs.Lists.{IsIn}
 use Rattle.dt_model.specs.Names.{IsNodeName}
 use Rattle.dt_model.specs.Numbers.{numbers_of, number_in}
 use Rattle.dt_model.specs.Path.{Path, path_value}
-use Rattle.dt_model.specs.Tree.{Forest, no_nodes, branch, Reading, Placed, preorder}
+use Rattle.dt_model.specs.Tree.{Forest, no_nodes, branch, Reading, Node, node_at, Placed, preorder}
 use Rattle.dt_model.specs.Merged.{Site}
-use Rattle.dt_flat.specs.Arena.{Slot, properties, below, name_of}
+use Rattle.dt_trees.specs.Placed.{PlacedTree, reading_of, path_at, last_name, properties_at}
 use Rattle.dt_overlay_model.specs.Walk.{place_given, with_places, landings}
 
--- ---- nodes of an object, by their numbers
+-- ---- nodes of an object, by their places in its tree
 
--- some nodes as siblings, each with what is below it
-abbrev pub trees_of : List Slot → List ℕ → Forest
-trees_of slots [] = no_nodes
-trees_of slots (k ∷ ks) = branch (name_of slots k) (properties slots k) (below slots k) (trees_of slots ks)
+abbrev pub forest_under : Option Node → Forest
+forest_under None = no_nodes
+forest_under (Some n) = n.children
+
+-- what is below the path's node
+abbrev pub below_at : PlacedTree → Path → Forest
+below_at t path = forest_under (node_at (reading_of t) path)
+
+-- what is below a node
+abbrev pub below_in : PlacedTree → ℕ → Forest
+below_in t k = below_at t (path_at t k)
+
+-- a node as the only one of its siblings
+abbrev pub alone : PlacedTree → ℕ → Forest
+alone t k = branch (last_name (path_at t k)) (properties_at t (path_at t k)) (below_in t k) no_nodes
 
 -- a node on the path on which it lands
-abbrev pub placed : List Slot → ℕ → Path → Placed
-placed slots k q = record { path = q; properties = properties slots k }
+abbrev pub placed : PlacedTree → ℕ → Path → Placed
+placed t k q = record { path = q; properties = properties_at t (path_at t k) }
 
 -- a node and those below it, where it lands on q
-abbrev pub content_at : List Slot → ℕ → Path → List Placed
-content_at slots k q = placed slots k q ∷ preorder q (below slots k)
+abbrev pub content_at : PlacedTree → ℕ → Path → List Placed
+content_at t k q = placed t k q ∷ preorder q (below_in t k)
 
 -- ---- places
 

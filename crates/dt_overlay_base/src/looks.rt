@@ -1,6 +1,6 @@
 //! A look at where things land.
 
-ghost use Rattle.std.specs.Prelude.{◌≡◌, ◌<◌, ◌≤◌, ◌*◌, ◌++◌, ◌∷◌, [], true, false, ℕ, List, None, length, map, OnOk, IfOk, IfErr};
+ghost use Rattle.std.specs.Prelude.{◌≡◌, ◌≢◌, ◌≤◌, ◌*◌, ◌++◌, ◌∷◌, [], true, false, ℕ, List, None, length, map, OnOk, IfOk, IfErr};
 ghost use Rattle.std.specs.List.{AllByRecursion};
 ghost use Rattle.dt_model.specs.Limits.{most_names, most_nodes};
 ghost use Rattle.dt_model.specs.Lists.{IsIn};
@@ -9,17 +9,17 @@ ghost use Rattle.dt_model.specs.Numbers.{numbers_of};
 ghost use Rattle.dt_model.specs.Path.{Path as Names};
 ghost use Rattle.dt_model.specs.Path.{is_bookkeeping as is_bookkeeping_path};
 ghost use Rattle.dt_model.specs.Tree.{Placed, preorder};
-ghost use Rattle.dt_flat.specs.Arena.{properties, below};
+ghost use Rattle.dt_trees.specs.Placed.{path_at, IsNode};
 ghost use Rattle.dt_overlay_model.specs.Walk.{number_there as number_known, with_place, with_places};
 ghost use Rattle.dt_overlay_laws.specs.Landings.{MayLand, WhyNotLands, MayAllLand, IsStuck};
-ghost use Rattle.dt_overlay_base.specs.Known.{IsKnown, IsKnownBehind, WhereKnownOf, HasRoom, placed, trees_of, content_at};
+ghost use Rattle.dt_overlay_base.specs.Known.{IsKnown, IsKnownBehind, WhereKnownOf, HasRoom, placed, alone, below_in, content_at};
 ghost use Rattle.dt_names.specs.Fault.{IsNoMemory, IsMemoryOr};
 
 use crate::Target;
 use crate::places::Places;
 use crate::texts::child_path;
-use dt_flat::FlatTree;
 use dt_names::{Fault, FaultKind, NodeId, Path, is_bookkeeping_name, phandle_of};
+use dt_trees::TreeView;
 use std::alloc::Global;
 
 /// Is the node a bookkeeping node, or below one?
@@ -71,21 +71,21 @@ fn number_place<T: Target>(target: &T, path: &Path, places: &mut Places) -> Resu
 }
 
 /// A node lands on a path.
-fn note_node<T: Target>(
+fn note_node<T: Target, V: TreeView>(
     target: &T,
-    object: &FlatTree,
+    object: &V,
     node: NodeId,
     path: &Path,
     places: &mut Places,
 ) -> Result<(), Fault>
-    requires node { node < length object.now.slots }
+    requires node { IsNode (V.tree object.now) node }
     requires named { AllByRecursion IsNodeName path.now }
     requires short { length path.now ≤ most_names }
     requires room { HasRoom (T.reading target.now) [] places.old }
     ensures known { WhereKnownOf (T.reading target.now) places.old
-        (λ given landed. OnOk result (IsKnownBehind (T.reading target.now) (placed object.now.slots node path.now ∷ []) given landed places.new)) }
-    ensures may { OnOk result (MayLand (placed object.now.slots node path.now)) }
-    ensures refused { IfErr result (IsMemoryOr (λ kind. WhyNotLands kind (placed object.now.slots node path.now))) }
+        (λ given landed. OnOk result (IsKnownBehind (T.reading target.now) (placed (V.tree object.now) node path.now ∷ []) given landed places.new)) }
+    ensures may { OnOk result (MayLand (placed (V.tree object.now) node path.now)) }
+    ensures refused { IfErr result (IsMemoryOr (λ kind. WhyNotLands kind (placed (V.tree object.now) node path.now))) }
 {
     if is_bookkeeping(path) {
         return Err(Fault::of(FaultKind::ReservedPlace));
@@ -99,23 +99,23 @@ fn note_node<T: Target>(
 
 /// A child of a node lands with what is below it.
 #[cycle(notes)]
-fn note_child<T: Target>(
+fn note_child<T: Target, V: TreeView>(
     target: &T,
-    object: &FlatTree,
+    object: &V,
     node: NodeId,
     parent: &Path,
     places: &mut Places,
 ) -> Result<(), Fault>
-    requires node { node < length object.now.slots }
-    requires below { 0 < node }
+    requires node { IsNode (V.tree object.now) node }
+    requires below { path_at (V.tree object.now) node ≢ [] }
     requires named { AllByRecursion IsNodeName parent.now }
     requires plain { is_bookkeeping_path parent.now ≡ false }
-    requires room { HasRoom (T.reading target.now) (preorder parent.now (trees_of object.now.slots (node ∷ []))) places.old }
+    requires room { HasRoom (T.reading target.now) (preorder parent.now (alone (V.tree object.now) node)) places.old }
     ensures known { WhereKnownOf (T.reading target.now) places.old
         (λ given landed. OnOk result (IsKnownBehind (T.reading target.now)
-        (preorder parent.now (trees_of object.now.slots (node ∷ []))) given landed places.new)) }
-    ensures may { OnOk result (MayAllLand (preorder parent.now (trees_of object.now.slots (node ∷ [])))) }
-    ensures refused { IfErr result (IsMemoryOr (λ kind. IsStuck kind (preorder parent.now (trees_of object.now.slots (node ∷ []))))) }
+        (preorder parent.now (alone (V.tree object.now) node)) given landed places.new)) }
+    ensures may { OnOk result (MayAllLand (preorder parent.now (alone (V.tree object.now) node))) }
+    ensures refused { IfErr result (IsMemoryOr (λ kind. IsStuck kind (preorder parent.now (alone (V.tree object.now) node)))) }
 {
     object.validity();
     let path = child_path(places.alloc(), parent, object.name(node))?;
@@ -125,44 +125,47 @@ fn note_child<T: Target>(
 
 /// The children of a node land, each with what is below it.
 #[cycle(notes)]
-fn note_children<T: Target>(
+fn note_children<T: Target, V: TreeView>(
     target: &T,
-    object: &FlatTree,
+    object: &V,
     node: NodeId,
     path: &Path,
     places: &mut Places,
 ) -> Result<(), Fault>
-    requires node { node < length object.now.slots }
+    requires node { IsNode (V.tree object.now) node }
     requires named { AllByRecursion IsNodeName path.now }
     requires plain { is_bookkeeping_path path.now ≡ false }
-    requires room { HasRoom (T.reading target.now) (preorder path.now (below object.now.slots node)) places.old }
+    requires room { HasRoom (T.reading target.now) (preorder path.now (below_in (V.tree object.now) node)) places.old }
     ensures known { WhereKnownOf (T.reading target.now) places.old
-        (λ given landed. OnOk result (IsKnownBehind (T.reading target.now) (preorder path.now (below object.now.slots node)) given landed places.new)) }
-    ensures may { OnOk result (MayAllLand (preorder path.now (below object.now.slots node))) }
-    ensures refused { IfErr result (IsMemoryOr (λ kind. IsStuck kind (preorder path.now (below object.now.slots node)))) }
+        (λ given landed. OnOk result (IsKnownBehind (T.reading target.now) (preorder path.now (below_in (V.tree object.now) node)) given landed places.new)) }
+    ensures may { OnOk result (MayAllLand (preorder path.now (below_in (V.tree object.now) node))) }
+    ensures refused { IfErr result (IsMemoryOr (λ kind. IsStuck kind (preorder path.now (below_in (V.tree object.now) node)))) }
 {
-    for child in object.children(node) {
+    object.validity();
+    let mut next = object.first_child(node);
+    while let Some(child) = next {
         note_child(target, object, child, path, places)?;
+        next = object.next_sibling(child);
     }
     Ok(())
 }
 
 /// What a fragment brings lands on a path.
-pub fn note_content<T: Target>(
+pub fn note_content<T: Target, V: TreeView>(
     target: &T,
-    object: &FlatTree,
+    object: &V,
     content: NodeId,
     path: &Path,
     places: &mut Places,
 ) -> Result<(), Fault>
-    requires content { content < length object.now.slots }
+    requires content { IsNode (V.tree object.now) content }
     requires named { AllByRecursion IsNodeName path.now }
     requires short { length path.now ≤ most_names }
-    requires room { HasRoom (T.reading target.now) (content_at object.now.slots content path.now) places.old }
+    requires room { HasRoom (T.reading target.now) (content_at (V.tree object.now) content path.now) places.old }
     ensures known { WhereKnownOf (T.reading target.now) places.old
-        (λ given landed. OnOk result (IsKnownBehind (T.reading target.now) (content_at object.now.slots content path.now) given landed places.new)) }
-    ensures may { OnOk result (MayAllLand (content_at object.now.slots content path.now)) }
-    ensures refused { IfErr result (IsMemoryOr (λ kind. IsStuck kind (content_at object.now.slots content path.now))) }
+        (λ given landed. OnOk result (IsKnownBehind (T.reading target.now) (content_at (V.tree object.now) content path.now) given landed places.new)) }
+    ensures may { OnOk result (MayAllLand (content_at (V.tree object.now) content path.now)) }
+    ensures refused { IfErr result (IsMemoryOr (λ kind. IsStuck kind (content_at (V.tree object.now) content path.now))) }
 {
     note_node(target, object, content, path, places)?;
     note_children(target, object, content, path, places)

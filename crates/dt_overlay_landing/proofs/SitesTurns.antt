@@ -1,6 +1,6 @@
 -- What is known when a fragment's turn comes.
-use Rattle.std.proofs.Common.{◌≡◌, ℕ, ◌<◌, ◌≤◌, false, List, [], ◌∷◌, ◌++◌, length, map, take, Option, Some, refl, sym, ap, subst, ◌∙◌, inl, inr, append_assoc, append-nil, arith}
-use Rattle.std.specs.Prelude.{option_map}
+use Rattle.std.proofs.Common.{◌≡◌, ℕ, ◌<◌, ◌≤◌, false, List, [], ◌∷◌, ◌++◌, length, map, take, Option, Some, None, true, refl, sym, ap, subst, ◌∙◌, inl, inr, append_assoc, append-nil, arith}
+use Rattle.std.specs.Prelude.{is_some}
 use Rattle.std.specs.List.{AllByRecursion}
 use Rattle.std.proofs.lemmas.List.{length-map, map-append}
 use Rattle.std.proofs.lemmas.List.Concat.{flat_map-append}
@@ -11,13 +11,13 @@ use Rattle.dt_model.specs.Path.{Path, is_bookkeeping}
 use Rattle.dt_model.specs.Overlay.{content}
 use Rattle.dt_model.specs.Merged.{Site}
 use Rattle.dt_model.specs.Object.{Cell, fragment_names, nodes_from}
-use Rattle.dt_model.specs.Tree.{Forest, no_nodes, branch, Reading, Placed, Node, preorder}
+use Rattle.dt_model.specs.Tree.{Forest, no_nodes, branch, Reading, Placed, Node, node_at, preorder}
 use Rattle.dt_model.specs.Valid.{IsValid, IsWithinLimits, AreDistinct}
 use Rattle.dt_model.proofs.Tests.{each_in, in_right, in_map, in_map_from}
 use Rattle.dt_model.proofs.Distinct.{distinct_left, in_flat}
 use Rattle.dt_model.proofs.Flat.{from_flat}
-use Rattle.dt_flat.specs.Arena.{Arena, reading, node_from, below}
-use Rattle.dt_flat.proofs.ByPath.{has, reading_at}
+use Rattle.dt_flat.specs.Arena.{Arena, reading, node_from}
+use Rattle.dt_flat.specs.Arena.{IsRooted}
 use Rattle.dt_flat.proofs.Distinctness.{all-back}
 use Rattle.dt_model_laws.proofs.Placed.{site_names}
 use Rattle.dt_overlay_model.specs.Walk.{Walked, nothing_walked, site, landing_at, landings, landed_on, with_places}
@@ -31,7 +31,11 @@ use Rattle.dt_overlay_laws.proofs.Sited.{sited_walks}
 use Rattle.dt_overlay_landing.specs.declared.marks.TargetMark.{TargetMark}
 use Rattle.dt_overlay_object.specs.declared.landing.Landing.{Landing}
 use Rattle.dt_overlay_object.specs.declared.object.Object.{Object}
-use Rattle.dt_overlay_base.specs.Known.{Known, IsKnown, HasRoom, placed, content_at, landed_paths}
+use Rattle.dt_overlay_base.specs.Known.{Known, IsKnown, HasRoom, content_at, forest_under, landed_paths}
+use Rattle.dt_trees.specs.Placed.{PlacedTree, reading_of, properties_found, IsAt, HasPlacesApart}
+use Rattle.dt_trees.specs.Trees.{numbered_tree}
+use Rattle.dt_trees.proofs.NodePlaces.{path_is, stands_place}
+use Rattle.dt_trees.proofs.Numbers.{apart as places_apart, place_same, reads_same}
 use Rattle.dt_overlay_landing.specs.Turns.{Turn, IsTurn, AreLandings, LandsTooDeep}
 use Rattle.dt_overlay_base.proofs.LooksNames.{stands_named}
 
@@ -161,10 +165,20 @@ moved_preorder q p (branch name ps children siblings) =
     (λ i. record { path = path i; properties = ps } ∷ (inside i ++ beside i))
     ∙ ap (λ (ns : List Placed). record { path = q ++ (p ++ name ∷ []); properties = ps } ∷ ns) (sym (map-append (landing_at q) (preorder (p ++ name ∷ []) children) (preorder p siblings)))
 
-pub content_is : (tree : Arena) (f : Name) (q : Path) (k : ℕ) → node_from tree.slots 0 (content f) ≡ Some k → landings (reading tree) (site f q) ≡ content_at tree.slots k q
-content_is tree f q k leads =
-    ap (λ (o : Option Node). map (landing_at q) (nodes_from o)) (reading_at tree (content f) ∙ ap (λ (o : Option ℕ). option_map (has tree.slots) o) leads)
-    ∙ (λ i. placed tree.slots k (append-nil q i) ∷ sym (ap (λ (p : Path). preorder p (below tree.slots k)) (sym (append-nil q)) ∙ moved_preorder q [] (below tree.slots k)) i)
+pub content_is : (t : PlacedTree) (f : Name) (q : Path) (k : ℕ) → HasPlacesApart t → IsAt t (content f) k → landings (reading_of t) (site f q) ≡ content_at t k q
+content_is t f q k apart at = step (node_at (reading_of t) (content f)) (sym (stands_place t (content f)) ∙ ap is_some at) ∙ ap (λ (p : Path). content_of (node_at (reading_of t) p)) (sym (path_is t apart (content f) k at))
+  where
+    content_of : Option Node → List Placed
+    content_of o = record { path = q; properties = properties_found o } ∷ preorder q (forest_under o)
+
+    step : (o : Option Node) → is_some o ≡ true → map (landing_at q) (nodes_from o) ≡ content_of o
+    step None none = absurd cc
+    step (Some n) some = λ i. record { path = append-nil q i; properties = n.properties } ∷ sym (ap (λ (p : Path). preorder p n.children) (sym (append-nil q)) ∙ moved_preorder q [] n.children) i
+
+-- of a tree in memory
+pub content_numbered : (a : Arena) (f : Name) (q : Path) (k : ℕ) → IsRooted a.slots → node_from a.slots 0 (content f) ≡ Some k → landings (reading a) (site f q) ≡ content_at (numbered_tree a) k q
+content_numbered a f q k rooted leads =
+    ap (λ (r : Reading). landings r (site f q)) (sym (reads_same a)) ∙ content_is (numbered_tree a) f q k (places_apart a rooted) (place_same a (content f) ∙ leads)
 
 -- where it lands on a node that is no bookkeeping node there is room for its numbers
 pub room_for : (base : Reading) (fixups : List (Name × Cell)) (object : Reading) (valid : IsValid object) (few : IsWithinLimits object) (a : Known) (w : Walked) (done later : List Name) (f : Name) (q : Path)

@@ -3,7 +3,8 @@ use Rattle.dt_trees.specs.Placed.{path_at}
 use Rattle.dt_trees.specs.Views.{AreAbove}
 use Rattle.dt_view.specs.Ways.{AreNodes}
 use Rattle.dt_view.proofs.PathTexts.{one_shorter}
-use Rattle.dt_edit.proofs.DownPaths.{names_down, one_up, path_short}
+use Rattle.dt_edit.proofs.DownPaths.{names_down, one_up}
+use Rattle.dt_overlay_base.proofs.LooksNames.{path_short}
 use Rattle.dt_edit.proofs.finding.way_to.Goals as goal
 
 pub push-requires : goal.push-requires

@@ -1,107 +1,121 @@
-use Rattle.std.proofs.Common.{◌<◌, ◌∷◌, ◌++◌, ◌∙◌, ℕ, List, [], inl, inr, sym, ap, subst, map, length, arith}
-use Rattle.std.specs.List.{AllByRecursion}
-use Rattle.std.proofs.lemmas.List.Elements.{recursion_from_All}
+use Rattle.std.proofs.Common.{◌≡◌, ◌∷◌, ◌∙◌, ◌+◌, ℕ, List, [], Option, inl, inr, refl, sym, ap, subst, length, arith}
+use Rattle.std.proofs.lemmas.List.{length-append}
 use Rattle.std.proofs.lemmas.Result.{err_from_is_err_and}
 use Rattle.dt_model.specs.Names.{IsNodeName}
 use Rattle.dt_model.specs.Tree.{Forest, Placed, preorder}
-use Rattle.dt_flat.specs.Arena.{children}
-use Rattle.dt_overlay_laws.specs.Landings.{MayAllLand, IsStuck}
-use Rattle.dt_overlay_base.specs.Known.{HasRoom, IsKnown, trees_of}
-use Rattle.dt_overlay_model.specs.Walk.{with_places}
-use Rattle.dt_overlay_base.proofs.LooksNames.{node_named}
-use Rattle.dt_overlay_base.proofs.LooksLanded.{below_is, room_first, left_begun, left_on, left_failed, left_ended, left_siblings}
+use Rattle.dt_model.specs.Valid.{names}
+use Rattle.dt_overlay_laws.specs.Landings.{MayAllLand}
+use Rattle.dt_trees.specs.Placed.{path_at}
+use Rattle.dt_overlay_base.proofs.Walked.{IsWalked, walk_begins, walk_ends, visit, walked_first, left_counted}
+use Rattle.dt_overlay_base.specs.Known.{HasRoom, alone, below_in}
+use Rattle.dt_overlay_base.proofs.LooksNames.{node_named, path_short}
+use Rattle.dt_overlay_base.proofs.LooksLanded.{room_first, left_begun, left_on, left_failed, left_ended}
 use Rattle.dt_overlay_base.proofs.looks.+notes.Goals as goal
 
 pub note_child-child_path-requires : goal.note_child-child_path-requires
 note_child-child_path-requires g t c =
-    let w = c.validity.ensures.paths c.args.node c.requires.node in
-    subst IsNodeName (sym c.name.ensures) (node_named c.args.object.now c.args.node c.validity.ensures.valid w.0 w.1 c.requires.below)
+    let o = g.V.TreeView.tree c.args.object.now in
+    subst IsNodeName (sym c.name.ensures) (node_named o c.args.node c.validity.ensures.valid c.requires.node c.requires.below)
 
 pub note_child-note_node-requires-clause-room : goal.note_child-note_node-requires-clause-room
 note_child-note_node-requires-clause-room g t c =
-    room_first (g.T.Target.reading c.args.target.now) [] (preorder c.args.parent.now (trees_of c.args.object.now.slots (c.args.node ∷ []))) c.args.places.now c.requires.room
+    room_first (g.T.Target.reading c.args.target.now) [] (preorder c.args.parent.now (alone (g.V.TreeView.tree c.args.object.now) c.args.node)) c.args.places.now c.requires.room
 
-pub note_children-loop-child-init : goal.note_children-loop-child-init
-note_children-loop-child-init g t c =
-    let slots = c.args.object.now.slots in
-    let q = c.args.path.now in
-    let all = children slots c.args.node in
-    let same = c.into_iter-child-iterator.ensures.into_iter_gives ∙ c.children-child-items.ensures.rest in
+pub note_children-loop-next-init : goal.note_children-loop-next-init
+note_children-loop-next-init g t c =
+    let o = g.V.TreeView.tree c.args.object.now in
+    let all = preorder c.args.path.now (below_in o c.args.node) in
     record {
-      next = tt;
-      ends = tt;
-      left = left_begun (g.T.Target.reading c.args.target.now) (preorder q (trees_of slots all)) (preorder q (trees_of slots c.into_iter-child-iterator.result)) c.args.places.now
-          (ap (λ (ks : List ℕ). preorder q (trees_of slots ks)) same)
-          (subst (λ (f : Forest). HasRoom (g.T.Target.reading c.args.target.now) (preorder q f) c.args.places.now) (below_is slots c.args.node) c.requires.room);
-      below = subst (λ (nodes : List ℕ). AllByRecursion (λ child. (c.args.node < child) × (child < length slots)) nodes) (sym same)
-          (recursion_from_All (λ child. (c.args.node < child) × (child < length slots)) all c.children-child-items.ensures.below);
+      forest = below_in o c.args.node;
+      walked = walk_begins o (path_at o c.args.node) c.first_child-next.result c.first_child-next.ensures.is;
+      left = left_begun (g.T.Target.reading c.args.target.now) all all c.args.places.now refl c.requires.room;
     }
 
 pub note_children-note_child-requires : goal.note_children-note_child-requires
 note_children-note_child-requires g t c κs within =
     let base = g.T.Target.reading c.args.target.now in
-    let slots = c.args.object.now.slots in
+    let o = g.V.TreeView.tree c.args.object.now in
+    let p = path_at o c.args.node in
     let q = c.args.path.now in
     let k = c.in-Some.child in
-    let rest = c.next.new.self in
-    let under : AllByRecursion (λ child. (c.args.node < child) × (child < length slots)) (k ∷ rest) =
-    subst (λ (nodes : List ℕ). AllByRecursion (λ child. (c.args.node < child) × (child < length slots)) nodes) c.in-Some.ensures.steps c.loop-child.invariant.below in
-    let smaller = under.0.0 in
-    let there = under.0.1 in
-    let split = left_siblings q slots c.loop-child.child-iterator rest k c.in-Some.ensures.steps in
-    let room = room_first base (preorder q (trees_of slots (k ∷ []))) (preorder q (trees_of slots rest)) c.loop-child.places
-    (subst (λ (ns : List Placed). HasRoom base ns c.loop-child.places) split c.loop-child.invariant.left.room) in
-    (omega (arith, c.decreases, smaller, there), (within, (there, (omega (arith, smaller), (c.requires.named, (c.requires.plain, room))))))
+    let w = c.loop-next.invariant in
+    let v = visit o p k w.forest c.validity.ensures.valid c.validity.ensures.places (subst (λ (n : Option ℕ). IsWalked o p n w.forest) c.in-Some.is w.walked) in
+    let split = ap (preorder q) v.split ∙ walked_first q o k v.rest in
+    let room = room_first base (preorder q (alone o k)) (preorder q v.rest) c.loop-next.places (subst (λ (ns : List Placed). HasRoom base ns c.loop-next.places) split w.left.room) in
+    let longer : length (path_at o k) ≡ length p + 1 = ap length v.path ∙ length-append p (v.name ∷ []) in
+    let short = path_short o k c.validity.ensures.within v.there in
+    (omega (arith, c.decreases, longer, short), (within.0, (within.1, (v.there, (v.below, (c.requires.named, (c.requires.plain, room)))))))
 
-pub note_children-loop-child-preserved : goal.note_children-loop-child-preserved
-note_children-loop-child-preserved g t c =
+pub note_children-next_sibling-next-requires : goal.note_children-next_sibling-next-requires
+note_children-next_sibling-next-requires g t c =
+    let o = g.V.TreeView.tree c.args.object.now in
+    let w = c.loop-next.invariant in
+    (visit o (path_at o c.args.node) c.in-Some.child w.forest c.validity.ensures.valid c.validity.ensures.places (subst (λ (n : Option ℕ). IsWalked o (path_at o c.args.node) n w.forest) c.in-Some.is w.walked)).there
+
+pub note_children-loop-next-smaller : goal.note_children-loop-next-smaller
+note_children-loop-next-smaller g t c =
+    let o = g.V.TreeView.tree c.args.object.now in
+    let p = path_at o c.args.node in
+    let k = c.in-Some.child in
+    let w = c.loop-next.invariant in
+    let valid = c.validity.ensures.valid in
+    let apart = c.validity.ensures.places in
+    let v = visit o p k w.forest valid apart (subst (λ (n : Option ℕ). IsWalked o p n w.forest) c.in-Some.is w.walked) in
+    let before = left_counted o p c.loop-next.next w.forest valid apart w.walked in
+    let behind = left_counted o p c.next_sibling-next.result v.rest valid apart (v.on c.next_sibling-next.result c.next_sibling-next.ensures.is) in
+    let one = ap (λ (f : Forest). length (names f)) v.split in
+    omega (arith, before, behind, one)
+
+pub note_children-loop-next-preserved : goal.note_children-loop-next-preserved
+note_children-loop-next-preserved g t c =
     let base = g.T.Target.reading c.args.target.now in
-    let slots = c.args.object.now.slots in
+    let o = g.V.TreeView.tree c.args.object.now in
+    let p = path_at o c.args.node in
     let q = c.args.path.now in
     let k = c.in-Some.child in
-    let rest = c.next.new.self in
-    let under : AllByRecursion (λ child. (c.args.node < child) × (child < length slots)) (k ∷ rest) =
-    subst (λ (nodes : List ℕ). AllByRecursion (λ child. (c.args.node < child) × (child < length slots)) nodes) c.in-Some.ensures.steps c.loop-child.invariant.below in
+    let w = c.loop-next.invariant in
+    let v = visit o p k w.forest c.validity.ensures.valid c.validity.ensures.places (subst (λ (n : Option ℕ). IsWalked o p n w.forest) c.in-Some.is w.walked) in
     record {
-      next = tt;
-      ends = tt;
-      left = left_on base (preorder q (trees_of slots (children slots c.args.node))) (preorder q (trees_of slots c.loop-child.child-iterator)) (preorder q (trees_of slots (k ∷ []))) (preorder q (trees_of slots rest))
-          c.args.places.now c.loop-child.places c.note_child.new.places (left_siblings q slots c.loop-child.child-iterator rest k c.in-Some.ensures.steps) c.loop-child.invariant.left
-          c.in_ok-note_child.ensures.known c.in_ok-note_child.ensures.may;
-      below = under.1;
+      forest = v.rest;
+      walked = v.on c.next_sibling-next.result c.next_sibling-next.ensures.is;
+      left = left_on base (preorder q (below_in o c.args.node)) (preorder q w.forest) (preorder q (alone o k)) (preorder q v.rest) c.args.places.now c.loop-next.places c.note_child.new.places
+          (ap (preorder q) v.split ∙ walked_first q o k v.rest) w.left c.in_ok-note_child.ensures.known c.in_ok-note_child.ensures.may;
     }
 
 pub note_children-returns-in_err-note_child-clause-refused : goal.note_children-returns-in_err-note_child-clause-refused
 note_children-returns-in_err-note_child-clause-refused g t c =
     let e = err_from_is_err_and c.from_residual.result c.from_residual.ensures.1 in
     let base = g.T.Target.reading c.args.target.now in
-    let slots = c.args.object.now.slots in
+    let o = g.V.TreeView.tree c.args.object.now in
+    let p = path_at o c.args.node in
     let q = c.args.path.now in
     let k = c.in-Some.child in
-    let rest = c.next.new.self in
+    let w = c.loop-next.invariant in
+    let v = visit o p k w.forest c.validity.ensures.valid c.validity.ensures.places (subst (λ (n : Option ℕ). IsWalked o p n w.forest) c.in-Some.is w.walked) in
     let why = c.in_err-note_child.ensures.refused in
     rw (e.1, e.2) (
       why.0,
       elim why.1 [
         | inl memory ↦ inl memory
-        | inr stuck ↦ inr (subst (λ (f : Forest). IsStuck c.in_err-note_child.field-0.0.kind (preorder q f)) (sym (below_is slots c.args.node))
-            (left_failed base (preorder q (trees_of slots (children slots c.args.node))) (preorder q (trees_of slots c.loop-child.child-iterator)) (preorder q (trees_of slots (k ∷ []))) (preorder q (trees_of slots rest))
-            c.args.places.now c.loop-child.places c.in_err-note_child.field-0.0.kind (left_siblings q slots c.loop-child.child-iterator rest k c.in-Some.ensures.steps) c.loop-child.invariant.left stuck))
+        | inr stuck ↦ inr (left_failed base (preorder q (below_in o c.args.node)) (preorder q w.forest) (preorder q (alone o k)) (preorder q v.rest)
+            c.args.places.now c.loop-next.places c.in_err-note_child.field-0.0.kind (ap (preorder q) v.split ∙ walked_first q o k v.rest) w.left stuck)
       ],
     )
 
 pub note_children-returns-clause-known : goal.note_children-returns-clause-known
 note_children-returns-clause-known g t c given landed known =
-    let base = g.T.Target.reading c.args.target.now in
-    let slots = c.args.object.now.slots in
+    let o = g.V.TreeView.tree c.args.object.now in
+    let p = path_at o c.args.node in
     let q = c.args.path.now in
-    subst (λ (f : Forest). IsKnown base (with_places base (preorder q f) given) (landed ++ map (λ (n : Placed). n.path) (preorder q f)) c.loop-child.places) (sym (below_is slots c.args.node))
-    (left_ended base (preorder q (trees_of slots (children slots c.args.node))) (preorder q (trees_of slots c.loop-child.child-iterator)) c.args.places.now c.loop-child.places given landed
-    (ap (λ (ks : List ℕ). preorder q (trees_of slots ks)) c.in-None.ensures.steps.0) c.loop-child.invariant.left known)
+    let w = c.loop-next.invariant in
+    let none = walk_ends o p w.forest c.validity.ensures.valid (subst (λ (n : Option ℕ). IsWalked o p n w.forest) c.in_default.is w.walked) in
+    left_ended (g.T.Target.reading c.args.target.now) (preorder q (below_in o c.args.node)) (preorder q w.forest) c.args.places.now c.loop-next.places given landed (ap (preorder q) none) w.left known
 
 pub note_children-returns-clause-may : goal.note_children-returns-clause-may
 note_children-returns-clause-may g t c =
-    let slots = c.args.object.now.slots in
+    let o = g.V.TreeView.tree c.args.object.now in
+    let p = path_at o c.args.node in
     let q = c.args.path.now in
-    subst (λ (f : Forest). MayAllLand (preorder q f)) (sym (below_is slots c.args.node))
-    (c.loop-child.invariant.left.may (subst (λ (ks : List ℕ). MayAllLand (preorder q (trees_of slots ks))) (sym c.in-None.ensures.steps.0) tt))
+    let w = c.loop-next.invariant in
+    let none = walk_ends o p w.forest c.validity.ensures.valid (subst (λ (n : Option ℕ). IsWalked o p n w.forest) c.in_default.is w.walked) in
+    w.left.may (subst (λ (f : Forest). MayAllLand (preorder q f)) (sym none) tt)

@@ -1,14 +1,16 @@
 use Rattle.std.proofs.Common.{◌≡◌, List, ◌++◌, ◌∙◌, Some, map, inl, inr, sym, ap, subst}
 use Rattle.std.proofs.lemmas.Result.{err_from_is_err_and}
 use Rattle.dt_model.specs.Names.{Name}
+use Rattle.dt_model.specs.Overlay.{content}
 use Rattle.dt_model.specs.Tree.{Placed}
 use Rattle.dt_names.specs.declared.fault.FaultKind.{FaultKind}
 use Rattle.dt_names.specs.declared.fault.FaultKind.TheVariants.{ReservedPlace}
 use Rattle.dt_flat.specs.Arena.{reading}
+use Rattle.dt_trees.proofs.Numbers.{stands}
 use Rattle.dt_overlay_model.specs.Walk.{site, landings, with_places}
 use Rattle.dt_overlay_laws.specs.Landings.{target_in, MayAllLand, IsStuck}
 use Rattle.dt_overlay_base.specs.Known.{IsKnown, HasRoom, landed_paths}
-use Rattle.dt_overlay_landing.proofs.SitesTurns.{turn_walked, content_is, room_for, known_behind}
+use Rattle.dt_overlay_landing.proofs.SitesTurns.{turn_walked, content_numbered, room_for, known_behind}
 use Rattle.dt_overlay_landing.proofs.sites.find_site.Goals as goal
 
 pub returns-in_err-path-clause-refused : goal.returns-in_err-path-clause-refused
@@ -24,8 +26,13 @@ returns-then-is_bookkeeping-clause-refused g c turn t =
     let q = c.in-Some.path in
     let named : target_in base (reading a) turn.fixups turn.walked t.name ≡ Some q = sym (c.in_ok-path.ensures.value turn t) ∙ c.in-Some.is in
     let stuck : IsStuck ReservedPlace (landings (reading a) (site t.name q)) =
-    subst (IsStuck ReservedPlace) (sym (content_is a t.name q c.args.fragment.now.content t.fragment.content)) (inl (sym c.is_bookkeeping.ensures ∙ c.if-is_bookkeeping.true)) in
+    subst (IsStuck ReservedPlace) (sym (content_numbered a t.name q c.args.fragment.now.content c.validity-2.ensures.rooted t.fragment.content)) (inl (sym c.is_bookkeeping.ensures ∙ c.if-is_bookkeeping.true)) in
     (c.of-then-is_bookkeeping.ensures.at, inr (inr (q, named, subst (λ (k : FaultKind). IsStuck k (landings (reading a) (site t.name q))) (sym c.of-then-is_bookkeeping.ensures.kind) stuck)))
+
+pub note_content-requires-clause-content : goal.note_content-requires-clause-content
+note_content-requires-clause-content g c =
+    let t = c.requires.turn.1 in
+    stands c.args.object.now.tree c.validity-2.ensures.rooted c.args.fragment.now.content (content t.name, t.fragment.content)
 
 pub note_content-requires-clause-room : goal.note_content-requires-clause-room
 note_content-requires-clause-room g c =
@@ -35,7 +42,7 @@ note_content-requires-clause-room g c =
     let turn = c.requires.turn.0 in
     let t = c.requires.turn.1 in
     let walked = turn_walked base c.args.object.now c.validity-2.ensures.valid c.args.marks.now c.args.landing.now turn t.turn in
-    subst (λ (ns : List Placed). HasRoom base ns c.args.landing.now.places) (content_is a t.name q c.args.fragment.now.content t.fragment.content)
+    subst (λ (ns : List Placed). HasRoom base ns c.args.landing.now.places) (content_numbered a t.name q c.args.fragment.now.content c.validity-2.ensures.rooted t.fragment.content)
     (room_for base turn.fixups (reading a) c.validity-2.ensures.valid c.validity-2.ensures.within c.args.landing.now.places turn.walked turn.done t.behind t.name q walked
     (ap (λ (fs : List Name). turn.done ++ fs) (sym t.next) ∙ sym t.turn.names) (sym c.is_bookkeeping.ensures ∙ c.if-is_bookkeeping.false) t.turn.known)
 
@@ -51,7 +58,7 @@ returns-in_err-note_content-clause-refused g c turn t =
       why.0,
       elim why.1 [
         | inl memory ↦ inl memory
-        | inr stuck ↦ inr (inr (q, named, subst (IsStuck c.in_err-note_content.field-0.0.kind) (sym (content_is a t.name q c.args.fragment.now.content t.fragment.content)) stuck))
+        | inr stuck ↦ inr (inr (q, named, subst (IsStuck c.in_err-note_content.field-0.0.kind) (sym (content_numbered a t.name q c.args.fragment.now.content c.validity-2.ensures.rooted t.fragment.content)) stuck))
       ],
     )
 
@@ -60,7 +67,7 @@ returns-clause-found g c turn t =
     let base = g.T.Target.reading c.args.target.now in
     let a = c.args.object.now.tree in
     let q = c.in-Some.path in
-    let same = content_is a t.name q c.args.fragment.now.content t.fragment.content in
+    let same = content_numbered a t.name q c.args.fragment.now.content c.validity-2.ensures.rooted t.fragment.content in
     record {
       named = sym (c.in_ok-path.ensures.value turn t) ∙ c.in-Some.is;
       may = subst MayAllLand (sym same) c.in_ok-note_content.ensures.may;
