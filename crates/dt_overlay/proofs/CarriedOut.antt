@@ -17,17 +17,18 @@ use Rattle.dt_overlay_laws.specs.Steps.{FullAtLanding, FullAtFragments, FullAtSy
 use Rattle.dt_overlay_object.specs.Stages.{IsReadFor, IsSitedFor, IsNumberedFor, seen_with}
 use Rattle.dt_overlay_object.specs.Objects.{Seen, IsSeenAs, IsToLandOn, writes_of}
 use Rattle.dt_overlay_object.specs.declared.object.Object.{Object}
+use Rattle.dt_trees.specs.Placed.{PlacedTree}
 use Rattle.dt_overlay_landing.proofs.LandingNodes.{want_whole}
 use Rattle.dt_overlay_base.specs.Targets.{IsWant}
 
 -- what an object is seen as, once its cells have their numbers
-abbrev pub seen_of : (base object : Reading) (o : Object) (sites : List Path) → IsNumberedFor base object o sites → Seen
-seen_of base object o sites n = seen_with base object n.fixups (new_numbers base object n.end)
+abbrev pub seen_of : {V : Type 0} (tree : V → PlacedTree) (base object : Reading) (o : Object V) (sites : List Path) → IsNumberedFor tree base object o sites → Seen
+seen_of tree base object o sites n = seen_with base object n.fixups (new_numbers base object n.end)
 
 -- what is known of an object that was read, once it has sites and its cells their numbers
-pub numbered_for : (base object : Reading) (first then now : Object) (sites : List Path) (r : IsReadFor base object first) (t : IsSitedFor base object r.fixups then sites)
-    → IsSeenAs now (seen_with base object r.fixups (new_numbers base object t.end)) → IsNumberedFor base object now sites
-numbered_for base object first then now sites r t seen = record {
+pub numbered_for : {V : Type 0} (tree : V → PlacedTree) (base object : Reading) (first then now : Object V) (sites : List Path) (r : IsReadFor tree base object first)
+    (t : IsSitedFor tree base object r.fixups then sites) → IsSeenAs tree now (seen_with base object r.fixups (new_numbers base object t.end)) → IsNumberedFor tree base object now sites
+numbered_for tree base object first then now sites r t seen = record {
   valid = r.valid;
   few = r.few;
   fixups = r.fixups;
@@ -39,10 +40,10 @@ numbered_for base object first then now sites r t seen = record {
   seen = seen;
 }
 
-module _ (law : SitedIsApplied) (merge : FragmentsAreMerged) (base object : Reading) (o : Object) (sites : List Path) (n : IsNumberedFor base object o sites)
+module _ (law : SitedIsApplied) (merge : FragmentsAreMerged) {V : Type 0} (tree : V → PlacedTree) (base object : Reading) (o : Object V) (sites : List Path) (n : IsNumberedFor tree base object o sites)
     (valid : IsValid base) (few : IsWithinLimits base) (cells : HasCells base) where
   abbrev seen : Seen
-  seen = seen_of base object o sites n
+  seen = seen_of tree base object o sites n
 
   abbrev found : List Site
   found = n.end.sites
@@ -51,7 +52,7 @@ module _ (law : SitedIsApplied) (merge : FragmentsAreMerged) (base object : Read
   passed = law base object n.fixups n.end valid n.valid few n.few cells n.listed n.well n.sited
 
   -- it may land
-  pub sited_on : (qs : List Path) → qs ≡ sites → IsToLandOn o seen found qs
+  pub sited_on : (qs : List Path) → qs ≡ sites → IsToLandOn tree o seen found qs
   sited_on qs are = record { seen = n.seen; named = (walked base object n.fixups n.valid n.end passed.walked).named; at = are ∙ n.at }
 
   pub may_land : MayLandFragments base object (writes_of seen) seen.numbers found

@@ -13,6 +13,7 @@ use Rattle.dt_overlay.specs.Applying.{IsLeftBy}
 use Rattle.dt_overlay_object.specs.Stages.{IsReadFor}
 use Rattle.dt_overlay_object.specs.declared.object.Object.{Object}
 use Rattle.dt_overlay_base.specs.Targets.{IsWant}
+use Rattle.dt_trees.specs.Placed.{PlacedTree}
 
 -- ---- sites
 
@@ -42,11 +43,11 @@ sites_told full base object k h (inr (inl is)) = subst (λ k. HasNoSites k base 
 sites_told full base object k h (inr (inr is)) = subst (λ k. HasNoSites k base object → WhyNotApplied full k base object) (sym is) (λ h. inl h) h
 
 -- a fault of the look is one of the object
-pub site_told : (full : Reading → Reading → Type 0) (base object : Reading) (o : Object) (r : IsReadFor base object o) (e : Fault)
+pub site_told : (full : Reading → Reading → Type 0) {V : Type 0} (tree : V → PlacedTree) (base object : Reading) (o : Object V) (r : IsReadFor tree base object o) (e : Fault)
     → (e.at ≡ None) × ((e.kind ≡ NoMemory) ⊎ HasNoSite e.kind base object r.fixups nothing_walked (fragment_names object.children))
     → (e.at ≡ None) × WhyNotApplied full e.kind base object
-site_told full base object o r e (at, inl k) = (at, subst (λ kind. WhyNotApplied full kind base object) (sym k) tt)
-site_told full base object o r e (at, inr why) = (
+site_told full tree base object o r e (at, inl k) = (at, subst (λ kind. WhyNotApplied full kind base object) (sym k) tt)
+site_told full tree base object o r e (at, inr why) = (
   at,
   sites_told full base object e.kind (record { well = r.well; fixups = r.fixups; listed = r.listed; why = why })
       (none_kind e.kind base object r.fixups nothing_walked (fragment_names object.children) why),

@@ -2,7 +2,6 @@
 
 ghost use Rattle.std.specs.Prelude.{◌≡◌, None, OnOk, IfErr};
 ghost use Rattle.dt_overlay_model.specs.InTurn.{IsApplied};
-ghost use Rattle.dt_flat.specs.Arena.{reading};
 ghost use Rattle.dt_trees.specs.Placed.{reading_of};
 ghost use Rattle.dt_overlay_laws.specs.Objects.{IsWellFormed};
 ghost use Rattle.dt_overlay_laws.specs.Refusals.{IsCrowded, WhyNotApplied};
@@ -19,66 +18,70 @@ use dt_overlay_laws::{fragments_are_merged, sited_is_applied};
 use dt_overlay_object::{Landing, Object};
 use dt_overlay_read::read;
 use dt_read::Blob;
+use dt_trees::TreeView;
+use dt_view::Index;
 use std::alloc::Global;
 
 /// Lands what the fragments bring on their sites, and then the labels.
-fn land<T: Target>(
-    alloc: Global,
+fn land<'o, T: Target, V: TreeView>(
     target: &mut T,
-    object: &Object,
+    object: &Object<'o, V>,
     landing: &mut Landing,
 ) -> Result<(), Fault>
-    requires numbered { (read : Reading) × IsNumberedFor (T.reading target.old) read object.now landing.old.sites.items }
-    ensures applied { (read : Reading) → IsNumberedFor (T.reading target.old) read object.now landing.old.sites.items →
+    requires numbered { (read : Reading) × IsNumberedFor V.tree (T.reading target.old) read object.now landing.old.sites.items }
+    ensures applied { (read : Reading) → IsNumberedFor V.tree (T.reading target.old) read object.now landing.old.sites.items →
         OnOk result (IsApplied (T.reading target.old) read (T.reading target.new)) }
-    ensures refused { (read : Reading) → IsNumberedFor (T.reading target.old) read object.now landing.old.sites.items →
+    ensures refused { (read : Reading) → IsNumberedFor V.tree (T.reading target.old) read object.now landing.old.sites.items →
         IfErr result (IsWant (IsCrowded (HasNoRoom T.reading T.has_room T.follows target.old) (T.reading target.old) read)) }
     ensures follows { T.follows target.old target.new }
 {
     sited_is_applied();
     fragments_are_merged();
     target.validity();
-    land_all(alloc, target, object, landing)?;
+    land_all(target, object, landing)?;
     set_symbols(target, object, landing)
 }
 
 /// Applies an object before anything of it is read or has landed.
-fn carry_out<T: Target>(
-    alloc: Global,
+fn carry_out<'o, T: Target, V: TreeView>(
     target: &mut T,
-    object: &mut Object,
+    object: &mut Object<'o, V>,
     landing: &mut Landing,
 ) -> Result<(), Fault>
-    requires unread { IsUnread object.old.tree object.old }
+    requires unread { IsUnread object.old.tree.now object.old }
     requires empty { IsEmptyLanding landing.old }
-    ensures applied { OnOk result (IsApplied (T.reading target.old) (reading object.old.tree) (T.reading target.new)) }
-    ensures well { OnOk result (IsWellFormed (T.reading target.old) (reading object.old.tree)) }
+    ensures applied { OnOk result (IsApplied (T.reading target.old) (reading_of (V.tree object.old.tree.now)) (T.reading target.new)) }
+    ensures well { OnOk result (IsWellFormed (T.reading target.old) (reading_of (V.tree object.old.tree.now))) }
     ensures refused { IfErr result (λ fault. (fault.at ≡ None)
-        × WhyNotApplied (HasNoRoom T.reading T.has_room T.follows target.old) fault.kind (T.reading target.old) (reading object.old.tree)) }
+        × WhyNotApplied (HasNoRoom T.reading T.has_room T.follows target.old) fault.kind (T.reading target.old) (reading_of (V.tree object.old.tree.now))) }
     ensures left { IfErr result (λ fault. IsLeftBy (HasNoRoom T.reading T.has_room T.follows target.old) fault.kind (T.reading target.old)
-        (reading object.old.tree) (T.reading target.new)) }
+        (reading_of (V.tree object.old.tree.now)) (T.reading target.new)) }
     ensures follows { T.follows target.old target.new }
 {
-    read(alloc, target, landing, object)?;
-    find_sites(alloc, target, object, landing)?;
+    read(target, landing, object)?;
+    find_sites(target, object, landing)?;
     number_all(target, landing, object)?;
     renumber(object);
-    land(alloc, target, object, landing)
+    land(target, object, landing)
 }
 
 /// Applies an object before anything of it is read.
-fn apply_object<T: Target>(alloc: Global, target: &mut T, object: &mut Object) -> Result<(), Fault>
-    requires unread { IsUnread object.old.tree object.old }
-    ensures applied { OnOk result (IsApplied (T.reading target.old) (reading object.old.tree) (T.reading target.new)) }
-    ensures well { OnOk result (IsWellFormed (T.reading target.old) (reading object.old.tree)) }
+fn apply_object<'o, T: Target, V: TreeView>(
+    alloc: Global,
+    target: &mut T,
+    object: &mut Object<'o, V>,
+) -> Result<(), Fault>
+    requires unread { IsUnread object.old.tree.now object.old }
+    ensures applied { OnOk result (IsApplied (T.reading target.old) (reading_of (V.tree object.old.tree.now)) (T.reading target.new)) }
+    ensures well { OnOk result (IsWellFormed (T.reading target.old) (reading_of (V.tree object.old.tree.now))) }
     ensures refused { IfErr result (λ fault. (fault.at ≡ None)
-        × WhyNotApplied (HasNoRoom T.reading T.has_room T.follows target.old) fault.kind (T.reading target.old) (reading object.old.tree)) }
+        × WhyNotApplied (HasNoRoom T.reading T.has_room T.follows target.old) fault.kind (T.reading target.old) (reading_of (V.tree object.old.tree.now))) }
     ensures left { IfErr result (λ fault. IsLeftBy (HasNoRoom T.reading T.has_room T.follows target.old) fault.kind (T.reading target.old)
-        (reading object.old.tree) (T.reading target.new)) }
+        (reading_of (V.tree object.old.tree.now)) (T.reading target.new)) }
     ensures follows { T.follows target.old target.new }
 {
     let mut landing = Landing::new(alloc, object.seed().with(target.seed()))?;
-    let done = carry_out(alloc, target, object, &mut landing);
+    let done = carry_out(target, object, &mut landing);
     // Let go of by hand: what goes at an exit by itself is proved there field by field.
     drop(landing);
     done
@@ -110,8 +113,8 @@ pub fn apply<T: Target>(alloc: Global, target: &mut T, object: &Blob<'_>) -> Res
         (reading_of object.now) (T.reading target.new)) }
     ensures follows { T.follows target.old target.new }
 {
-    let tree = object.to_flat(alloc)?;
-    let mut unread = Object::new(alloc, tree)?;
+    let tree = Index::new(alloc, object)?;
+    let mut unread = Object::new(alloc, &tree, object.seed());
     let done = apply_object(alloc, target, &mut unread);
     drop(unread);
     done

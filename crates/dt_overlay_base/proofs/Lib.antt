@@ -7,4 +7,3 @@ pub mod PlacesKept
 pub mod Reached
 pub mod Rooms
 pub mod TextsOfPaths
-pub mod Walked

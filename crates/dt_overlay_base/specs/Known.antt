@@ -9,24 +9,12 @@ use Rattle.dt_model.specs.Lists.{IsIn}
 use Rattle.dt_model.specs.Names.{IsNodeName}
 use Rattle.dt_model.specs.Numbers.{numbers_of, number_in}
 use Rattle.dt_model.specs.Path.{Path, path_value}
-use Rattle.dt_model.specs.Tree.{Forest, no_nodes, branch, Reading, Node, node_at, Placed, preorder}
+use Rattle.dt_model.specs.Tree.{Forest, no_nodes, branch, Reading, Placed, preorder}
 use Rattle.dt_model.specs.Merged.{Site}
-use Rattle.dt_trees.specs.Placed.{PlacedTree, reading_of, path_at, last_name, properties_at}
+use Rattle.dt_trees.specs.Placed.{PlacedTree, path_at, last_name, properties_at, below_in}
 use Rattle.dt_overlay_model.specs.Walk.{place_given, with_places, landings}
 
 -- ---- nodes of an object, by their places in its tree
-
-abbrev pub forest_under : Option Node → Forest
-forest_under None = no_nodes
-forest_under (Some n) = n.children
-
--- what is below the path's node
-abbrev pub below_at : PlacedTree → Path → Forest
-below_at t path = forest_under (node_at (reading_of t) path)
-
--- what is below a node
-abbrev pub below_in : PlacedTree → ℕ → Forest
-below_in t k = below_at t (path_at t k)
 
 -- a node as the only one of its siblings
 abbrev pub alone : PlacedTree → ℕ → Forest

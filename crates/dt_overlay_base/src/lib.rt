@@ -20,4 +20,4 @@ pub use flat_target::tree_room_is_counted;
 pub use looks::{is_bookkeeping, note_content, number_there};
 pub use places::Places;
 pub use target::Target;
-pub use texts::{child_path, join, node_of, put_path};
+pub use texts::{child_path, put_path};

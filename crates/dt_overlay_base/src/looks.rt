@@ -9,10 +9,10 @@ ghost use Rattle.dt_model.specs.Numbers.{numbers_of};
 ghost use Rattle.dt_model.specs.Path.{Path as Names};
 ghost use Rattle.dt_model.specs.Path.{is_bookkeeping as is_bookkeeping_path};
 ghost use Rattle.dt_model.specs.Tree.{Placed, preorder};
-ghost use Rattle.dt_trees.specs.Placed.{path_at, IsNode};
+ghost use Rattle.dt_trees.specs.Placed.{path_at, below_in, IsNode};
 ghost use Rattle.dt_overlay_model.specs.Walk.{number_there as number_known, with_place, with_places};
 ghost use Rattle.dt_overlay_laws.specs.Landings.{MayLand, WhyNotLands, MayAllLand, IsStuck};
-ghost use Rattle.dt_overlay_base.specs.Known.{IsKnown, IsKnownBehind, WhereKnownOf, HasRoom, placed, alone, below_in, content_at};
+ghost use Rattle.dt_overlay_base.specs.Known.{IsKnown, IsKnownBehind, WhereKnownOf, HasRoom, placed, alone, content_at};
 ghost use Rattle.dt_names.specs.Fault.{IsNoMemory, IsMemoryOr};
 
 use crate::Target;
@@ -151,6 +151,10 @@ fn note_children<T: Target, V: TreeView>(
 }
 
 /// What a fragment brings lands on a path.
+///
+/// # Errors
+///
+/// `ReservedPlace` where a node lands in a bookkeeping node, `Limit` where its path gets more than 64 names, and `NoMemory`. None has a place.
 pub fn note_content<T: Target, V: TreeView>(
     target: &T,
     object: &V,

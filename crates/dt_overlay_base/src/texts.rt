@@ -1,29 +1,14 @@
 //! Texts of paths.
 
-ghost use Rattle.std.specs.Prelude.{◌≡◌, ◌<◌, ◌≤◌, ◌++◌, ◌∷◌, [], ℕ, Some, length, drop, OnOk, IfOk, IfErr};
-ghost use Rattle.std.specs.List.{AllByRecursion};
+ghost use Rattle.std.specs.Prelude.{◌≡◌, ◌<◌, ◌≤◌, ◌++◌, ◌∷◌, [], length, OnOk, IfOk, IfErr};
 ghost use Rattle.dt_model.specs.Limits.{most_names};
 ghost use Rattle.dt_model.specs.Names.{IsNodeName};
 ghost use Rattle.dt_model.specs.Path.{path_value};
-ghost use Rattle.dt_model.specs.Path.{Path as Names};
-ghost use Rattle.dt_flat.specs.Arena.{node_from};
 ghost use Rattle.dt_names.specs.declared.fault.FaultKind.TheVariants.{NoMemory, Limit};
 ghost use Rattle.dt_names.specs.Fault.{IsMemoryOr};
 
-use dt_flat::FlatTree;
-use dt_names::{Fault, NodeId, NodeName, Path, PathRef};
+use dt_names::{Fault, NodeName, Path};
 use std::alloc::{AllocError, Global};
-
-/// The node of a path.
-pub fn node_of(tree: &FlatTree, path: &PathRef<'_>) -> Option<NodeId>
-    ensures { result ≡ node_from tree.now.slots 0 path.now }
-{
-    let mut node = tree.root();
-    for name in path.names() {
-        node = tree.child(node, name)?;
-    }
-    Some(node)
-}
 
 /// The text of a path with a NUL, in the place of what was there.
 pub fn put_path(out: &mut Vec<u8>, path: &Path) -> Result<(), AllocError>
@@ -52,18 +37,4 @@ pub fn child_path(alloc: Global, path: &Path, name: &[u8]) -> Result<Path, Fault
     let mut child = path.copy(alloc)?;
     child.push(&name)?;
     Ok(child)
-}
-
-/// The path behind a site that a node has behind the fragment and its `__overlay__`.
-/// `Limit`: it has more than 64 names. `NoMemory`: memory was refused.
-pub fn join(alloc: Global, site: &Path, own: &Path) -> Result<Path, Fault>
-    requires { AllByRecursion IsNodeName own.now }
-    ensures value { IfOk result (λ path. path ≡ site.now ++ drop 2 own.now) }
-    ensures refused { IfErr result (IsMemoryOr (λ kind. (kind ≡ Limit) × (most_names < length (site.now ++ drop 2 own.now)))) }
-{
-    let mut path = site.copy(alloc)?;
-    for name in own.names().skip(2) {
-        path.push(&NodeName::new(name)?)?;
-    }
-    Ok(path)
 }

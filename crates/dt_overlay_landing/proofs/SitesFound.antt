@@ -1,47 +1,43 @@
 -- The sites of fragments, one after another.
-use Rattle.std.proofs.Common.{◌≡◌, ℕ, ◌+◌, ◌<◌, ◌≤◌, get_or, List, [], ◌∷◌, ◌++◌, length, drop, refl, sym, ap, subst, ◌∙◌, inl, inr, append_assoc, append-nil}
-use Rattle.std.specs.Prelude.{slice_get, Some}
+use Rattle.std.proofs.Common.{◌≡◌, ℕ, ◌+◌, List, [], ◌∷◌, ◌++◌, drop, refl, sym, ap, subst, ◌∙◌, inl, inr, append_assoc, append-nil}
 use Rattle.std.specs.List.{AllByRecursion}
-use Rattle.std.proofs.lemmas.List.{drop_all, map-append}
+use Rattle.std.proofs.lemmas.List.{map-append}
 use Rattle.dt_model.specs.Names.{Name, IsNodeName}
 use Rattle.dt_model.specs.Path.{Path}
 use Rattle.dt_model.specs.Merged.{Site}
 use Rattle.dt_model.specs.Object.{Cell, fragment_names}
 use Rattle.dt_model.specs.Tree.{Reading}
 use Rattle.dt_names.specs.declared.fault.FaultKind.{FaultKind}
-use Rattle.dt_flat.specs.Arena.{reading}
-use Rattle.dt_flat.proofs.Linking.{drop_item}
+use Rattle.dt_trees.specs.Placed.{PlacedTree, reading_of}
 use Rattle.dt_overlay_model.specs.Walk.{Walked, nothing_walked, site, landed_on}
 use Rattle.dt_overlay_laws.specs.Landings.{AreSited, WhyNoSite, HasNoSite}
 use Rattle.dt_overlay_object.specs.declared.kept.ObjectFragment.{ObjectFragment}
 use Rattle.dt_overlay_landing.specs.declared.marks.TargetMark.{TargetMark}
 use Rattle.dt_overlay_object.specs.declared.landing.Landing.{Landing}
 use Rattle.dt_overlay_object.specs.declared.object.Object.{Object}
+use Rattle.dt_overlay_object.specs.declared.brought.Brought.{Brought}
 use Rattle.dt_overlay_landing.specs.Marks.{AreMarked}
 use Rattle.dt_overlay_object.specs.Plans.{IsFragmentOf, AreFragmentsOf, AreBroughtBy}
 use Rattle.dt_overlay_object.specs.Stages.{IsEmptyLanding}
-use Rattle.dt_overlay_landing.specs.Turns.{Turn, IsTurn, IsTurnOf, IsSitedOn, HasAllSites}
-use Rattle.dt_overlay_object.proofs.NumbersTurns.{at_index}
+use Rattle.dt_overlay_landing.specs.Turns.{Turn, IsTurnIn, IsTurnOf, IsSitedOn, HasAllSites}
 use Rattle.dt_overlay_landing.proofs.SitesTurns.{sited_behind, none_behind}
 
 -- the fragments up to an index have sites
-pub record AreFound (base : Reading) (fixups : List (Name × Cell)) (object : Object) (marks : List TargetMark) (i : ℕ) (landing : Landing) : Type 0 where
+pub record AreFound (base : Reading) (fixups : List (Name × Cell)) (o : PlacedTree) (brought : Brought) (all : List ObjectFragment) (marks : List (ℕ × TargetMark)) (i : ℕ) (landing : Landing) : Type 0 where
   pub walked : Walked
   pub done : List Name
   pub later : List Name
-  pub turn : IsTurn base object marks landing (record { fixups = fixups; walked = walked; done = done; later = later })
-  pub left : AreFragmentsOf object.tree.slots (reading object.tree) (drop i object.fragments.items) later
+  pub turn : IsTurnIn base o brought marks landing (record { fixups = fixups; walked = walked; done = done; later = later })
+  pub left : AreFragmentsOf o (drop i all) later
 
-pub found_begun : (base : Reading) (fixups : List (Name × Cell)) (object : Object) (marks : List TargetMark) (landing : Landing)
-    → AreBroughtBy object.tree [] object.brought → AreMarked base fixups object.tree marks
-    → AreFragmentsOf object.tree.slots (reading object.tree) object.fragments.items (fragment_names (reading object.tree).children)
-    → IsEmptyLanding landing → AreFound base fixups object marks 0 landing
-found_begun base fixups object marks landing brought marked listed empty = record {
+pub found_begun : (base : Reading) (fixups : List (Name × Cell)) (o : PlacedTree) (brought : Brought) (all : List ObjectFragment) (marks : List (ℕ × TargetMark)) (landing : Landing)
+    → AreBroughtBy o [] brought → AreMarked base fixups o marks → AreFragmentsOf o all (fragment_names (reading_of o).children) → IsEmptyLanding landing → AreFound base fixups o brought all marks 0 landing
+found_begun base fixups o brought all marks landing is marked listed empty = record {
   walked = nothing_walked;
   done = [];
-  later = fragment_names (reading object.tree).children;
+  later = fragment_names (reading_of o).children;
   turn = record {
-    brought = brought;
+    brought = is;
     marked = marked;
     names = refl;
     sited = refl;
@@ -52,44 +48,52 @@ found_begun base fixups object marks landing brought marked listed empty = recor
   left = listed;
 }
 
-module _ (base : Reading) (fixups : List (Name × Cell)) (object : Object) (marks : List TargetMark) (i : ℕ) (landing : Landing) (so_far : AreFound base fixups object marks i landing) where
+module _ (base : Reading) (fixups : List (Name × Cell)) (o : PlacedTree) (brought : Brought) (all : List ObjectFragment) (marks : List (ℕ × TargetMark)) (i : ℕ) (landing : Landing)
+    (so_far : AreFound base fixups o brought all marks i landing) where
   abbrev names : List Name
-  names = fragment_names (reading object.tree).children
+  names = fragment_names (reading_of o).children
 
-  module _ (x : ObjectFragment) (xs : List ObjectFragment) (same : xs ≡ object.fragments.items) (lt : i < length xs) (at : x ≡ get_or xs i x) where
+  module _ (x : ObjectFragment) (first : drop i all ≡ x ∷ drop (i + 1) all) where
     pub record IsNext : Type 0 where
       pub name : Name
       pub later : List Name
       pub is : so_far.later ≡ name ∷ later
-      pub own : IsFragmentOf object.tree.slots (reading object.tree) x name
-      pub left : AreFragmentsOf object.tree.slots (reading object.tree) (drop (i + 1) object.fragments.items) later
+      pub own : IsFragmentOf o x name
+      pub left : AreFragmentsOf o (drop (i + 1) all) later
 
     -- the fragment of the index is the next
     pub next : IsNext
-    next = step so_far.later refl (subst (λ (xs : List ObjectFragment). AreFragmentsOf object.tree.slots (reading object.tree) xs so_far.later) (drop_item object.fragments.items i x (subst (λ (ys : List ObjectFragment). slice_get ys i ≡ Some x) same (at_index xs i x lt at))) so_far.left)
+    next = step so_far.later refl (subst (λ (xs : List ObjectFragment). AreFragmentsOf o xs so_far.later) first so_far.left)
       where
-        step : (fs : List Name) → so_far.later ≡ fs → AreFragmentsOf object.tree.slots (reading object.tree) (x ∷ drop (i + 1) object.fragments.items) fs → IsNext
+        step : (fs : List Name) → so_far.later ≡ fs → AreFragmentsOf o (x ∷ drop (i + 1) all) fs → IsNext
         step [] e h = absurd h
         step (f ∷ fs) e h = record { name = f; later = fs; is = e; own = h.0; left = h.1 }
 
     abbrev pub this : Turn
     this = record { fixups = fixups; walked = so_far.walked; done = so_far.done; later = so_far.later }
 
-    abbrev pub turn : IsTurnOf base object marks landing x this
-    turn = record { turn = so_far.turn; name = next.name; behind = next.later; next = next.is; fragment = next.own }
+    -- it is its turn
+    abbrev pub turn_of : {V : Type 0} (tree : V → PlacedTree) (object : Object V) → tree object.tree.now ≡ o → object.brought ≡ brought → IsTurnOf tree base object marks landing x this
+    turn_of tree object same own = record {
+      turn = subst (λ (t : PlacedTree). IsTurnIn base t object.brought marks landing this) (sym same) (subst (λ (b : Brought). IsTurnIn base o b marks landing this) (sym own) so_far.turn);
+      name = next.name;
+      behind = next.later;
+      next = next.is;
+      fragment = subst (λ (t : PlacedTree). IsFragmentOf t x next.name) (sym same) next.own;
+    }
 
     -- it has a site
-    pub found_on : (q : Path) → AllByRecursion IsNodeName q → (then : Landing) → IsSitedOn base fixups (reading object.tree) so_far.walked next.name q then.places
-        → then.sites.items ≡ landing.sites.items ++ q ∷ [] → AreFound base fixups object marks (i + 1) then
+    pub found_on : (q : Path) → AllByRecursion IsNodeName q → (then : Landing) → IsSitedOn base fixups (reading_of o) so_far.walked next.name q then.places
+        → then.sites.items ≡ landing.sites.items ++ q ∷ [] → AreFound base fixups o brought all marks (i + 1) then
     found_on q good then h e = record {
-      walked = landed_on base (reading object.tree) so_far.walked next.name q;
+      walked = landed_on base (reading_of o) so_far.walked next.name q;
       done = so_far.done ++ next.name ∷ [];
       later = next.later;
       turn = record {
         brought = so_far.turn.brought;
         marked = so_far.turn.marked;
         names = so_far.turn.names ∙ ap (λ (fs : List Name). so_far.done ++ fs) next.is ∙ sym (append_assoc so_far.done (next.name ∷ []) next.later);
-        sited = sited_behind base (reading object.tree) fixups so_far.done (next.name ∷ []) nothing_walked so_far.walked (landed_on base (reading object.tree) so_far.walked next.name q) so_far.turn.sited (q, h.named, h.may, refl);
+        sited = sited_behind base (reading_of o) fixups so_far.done (next.name ∷ []) nothing_walked so_far.walked (landed_on base (reading_of o) so_far.walked next.name q) so_far.turn.sited (q, h.named, h.may, refl);
         sites = e ∙ ap (λ (ps : List Path). ps ++ q ∷ []) so_far.turn.sites ∙ sym (map-append (λ (s : Site). s.at) so_far.walked.sites (site next.name q ∷ []));
         good = subst (AllByRecursion (λ (p : Path). AllByRecursion IsNodeName p)) (sym e) (both_good landing.sites.items so_far.turn.good);
         known = h.known;
@@ -102,21 +106,20 @@ module _ (base : Reading) (fixups : List (Name × Cell)) (object : Object) (mark
         both_good (p ∷ ps) k = (k.0, both_good ps k.1)
 
     -- it has none
-    pub found_refused : (kind : FaultKind) → WhyNoSite kind base (reading object.tree) fixups so_far.walked next.name → HasNoSite kind base (reading object.tree) fixups nothing_walked names
+    pub found_refused : (kind : FaultKind) → WhyNoSite kind base (reading_of o) fixups so_far.walked next.name → HasNoSite kind base (reading_of o) fixups nothing_walked names
     found_refused kind why =
-        subst (HasNoSite kind base (reading object.tree) fixups nothing_walked) (sym (so_far.turn.names ∙ ap (λ (fs : List Name). so_far.done ++ fs) next.is))
-        (none_behind base (reading object.tree) fixups (HasNoSite kind base (reading object.tree) fixups) (λ w f fs q named may more. inr (q, named, may, more)) so_far.done (next.name ∷ next.later) nothing_walked so_far.walked so_far.turn.sited (inl why))
+        subst (HasNoSite kind base (reading_of o) fixups nothing_walked) (sym (so_far.turn.names ∙ ap (λ (fs : List Name). so_far.done ++ fs) next.is))
+        (none_behind base (reading_of o) fixups (HasNoSite kind base (reading_of o) fixups) (λ w f fs q named may more. inr (q, named, may, more)) so_far.done (next.name ∷ next.later) nothing_walked so_far.walked so_far.turn.sited (inl why))
 
   -- all have
-  pub found_ended : (xs : List ObjectFragment) → xs ≡ object.fragments.items → length xs ≤ i → HasAllSites base fixups (reading object.tree) landing
-  found_ended xs same past = record {
+  pub found_ended : drop i all ≡ [] → HasAllSites base fixups (reading_of o) landing
+  found_ended over = record {
     end = so_far.walked;
-    sited = subst (λ (fs : List Name). AreSited base (reading object.tree) fixups nothing_walked fs so_far.walked) (sym (append-nil so_far.done) ∙ ap (λ (fs : List Name). so_far.done ++ fs) (sym (none so_far.later refl)) ∙ sym so_far.turn.names) so_far.turn.sited;
+    sited = subst (λ (fs : List Name). AreSited base (reading_of o) fixups nothing_walked fs so_far.walked) (sym (append-nil so_far.done) ∙ ap (λ (fs : List Name). so_far.done ++ fs) (sym (none so_far.later refl)) ∙ sym so_far.turn.names) so_far.turn.sited;
     sites = so_far.turn.sites;
     known = so_far.turn.known;
   }
     where
       none : (fs : List Name) → so_far.later ≡ fs → so_far.later ≡ []
       none [] e = e
-      none (f ∷ fs) e =
-          absurd (subst (λ (gs : List Name). AreFragmentsOf object.tree.slots (reading object.tree) [] gs) e (subst (λ (xs : List ObjectFragment). AreFragmentsOf object.tree.slots (reading object.tree) xs so_far.later) (drop_all i object.fragments.items (subst (λ (ys : List ObjectFragment). length ys ≤ i) same past)) so_far.left))
+      none (f ∷ fs) e = absurd (subst (λ (gs : List Name). AreFragmentsOf o [] gs) e (subst (λ (xs : List ObjectFragment). AreFragmentsOf o xs so_far.later) over so_far.left))

@@ -16,9 +16,6 @@ use Rattle.dt_model.specs.Valid.{IsValid, IsWithinLimits, AreDistinct}
 use Rattle.dt_model.proofs.Tests.{each_in, in_right, in_map, in_map_from}
 use Rattle.dt_model.proofs.Distinct.{distinct_left, in_flat}
 use Rattle.dt_model.proofs.Flat.{from_flat}
-use Rattle.dt_flat.specs.Arena.{Arena, reading, node_from}
-use Rattle.dt_flat.specs.Arena.{IsRooted}
-use Rattle.dt_flat.proofs.Distinctness.{all-back}
 use Rattle.dt_model_laws.proofs.Placed.{site_names}
 use Rattle.dt_overlay_model.specs.Walk.{Walked, nothing_walked, site, landing_at, landings, landed_on, with_places}
 use Rattle.dt_overlay_model.proofs.Brought.{fragments_distinct, lands_below}
@@ -30,13 +27,11 @@ use Rattle.dt_overlay_laws.proofs.Landed.{lands_listed, landing_stands, plain_si
 use Rattle.dt_overlay_laws.proofs.Sited.{sited_walks}
 use Rattle.dt_overlay_landing.specs.declared.marks.TargetMark.{TargetMark}
 use Rattle.dt_overlay_object.specs.declared.landing.Landing.{Landing}
-use Rattle.dt_overlay_object.specs.declared.object.Object.{Object}
-use Rattle.dt_overlay_base.specs.Known.{Known, IsKnown, HasRoom, content_at, forest_under, landed_paths}
-use Rattle.dt_trees.specs.Placed.{PlacedTree, reading_of, properties_found, IsAt, HasPlacesApart}
-use Rattle.dt_trees.specs.Trees.{numbered_tree}
+use Rattle.dt_overlay_object.specs.declared.brought.Brought.{Brought}
+use Rattle.dt_overlay_base.specs.Known.{Known, IsKnown, HasRoom, content_at, landed_paths}
+use Rattle.dt_trees.specs.Placed.{PlacedTree, reading_of, forest_under, properties_found, IsAt, HasPlacesApart}
 use Rattle.dt_trees.proofs.NodePlaces.{path_is, stands_place}
-use Rattle.dt_trees.proofs.Numbers.{apart as places_apart, place_same, reads_same}
-use Rattle.dt_overlay_landing.specs.Turns.{Turn, IsTurn, AreLandings, LandsTooDeep}
+use Rattle.dt_overlay_landing.specs.Turns.{Turn, IsTurnIn, AreLandings, LandsTooDeep}
 use Rattle.dt_overlay_base.proofs.LooksNames.{stands_named}
 
 -- ---- one list of fragments behind another
@@ -67,6 +62,10 @@ module _ (base object : Reading) (fixups : List (Name × Cell)) where
     front_walked done later w all k = walked_on done [] later nothing_walked w (nothing_is_walked base object) all k
 
 -- ---- what lands
+
+named_behind : (p r : Path) → AllByRecursion IsNodeName (p ++ r) → AllByRecursion IsNodeName r
+named_behind [] r h = h
+named_behind (x ∷ p) r h = named_behind p r h.1
 
 module _ (object : Reading) (valid : IsValid object) (sites : List Site) (done later : List Name) (named : site_names sites ≡ done) (all : done ++ later ≡ fragment_names object.children) where
   pub apart : AreDistinct (site_names sites)
@@ -104,7 +103,7 @@ module _ (object : Reading) (valid : IsValid object) (sites : List Site) (done l
     good = λ q i.
         let w = landed_from q i in
         let from = landing_stands object valid w.site'.fragment w.site'.at w.node w.lands in
-        let own : AllByRecursion IsNodeName from.0 = all-back IsNodeName (content w.site'.fragment) from.0 (stands_named object (content w.site'.fragment ++ from.0) valid from.2) in
+        let own : AllByRecursion IsNodeName from.0 = named_behind (content w.site'.fragment) from.0 (stands_named object (content w.site'.fragment ++ from.0) valid from.2) in
         let there = each_in MayLand (landings object w.site') w.node (may w.site' w.sited) w.lands in (
           subst (AllByRecursion IsNodeName) (sym from.1 ∙ w.at) (both_named w.site'.at from.0 (good w.site' w.sited) own),
           subst (λ (p : Path). length p ≤ most_names) w.at there.shallow,
@@ -129,26 +128,26 @@ each_good sites paths e h x i =
 
 -- ---- at a turn
 
-module _ (base : Reading) (object : Object) (valid : IsValid (reading object.tree)) (marks : List TargetMark) (landing : Landing) (turn : Turn) (t : IsTurn base object marks landing turn) where
-  pub turn_walked : IsWalked base (reading object.tree) turn.done turn.walked
-  turn_walked = front_walked base (reading object.tree) turn.fixups valid turn.done turn.later turn.walked (sym t.names) t.sited
+module _ (base : Reading) (o : PlacedTree) (brought : Brought) (valid : IsValid (reading_of o)) (marks : List (ℕ × TargetMark)) (landing : Landing) (turn : Turn) (t : IsTurnIn base o brought marks landing turn) where
+  pub turn_walked : IsWalked base (reading_of o) turn.done turn.walked
+  turn_walked = front_walked base (reading_of o) turn.fixups valid turn.done turn.later turn.walked (sym t.names) t.sited
 
-  pub turn_front : map (λ (x : Site). x.fragment) turn.walked.sites ≡ take (length turn.walked.sites) (fragment_names (reading object.tree).children)
-  turn_front = in_front (reading object.tree) valid turn.walked.sites turn.done turn.later turn_walked.named (sym t.names)
+  pub turn_front : map (λ (x : Site). x.fragment) turn.walked.sites ≡ take (length turn.walked.sites) (fragment_names (reading_of o).children)
+  turn_front = in_front (reading_of o) valid turn.walked.sites turn.done turn.later turn_walked.named (sym t.names)
 
-  may : (x : Site) → IsIn x turn.walked.sites → MayAllLand (landings (reading object.tree) x)
-  may = (sited_walks base (reading object.tree) turn.fixups valid turn.done nothing_walked turn.walked (λ f i. subst (IsIn f) (sym t.names) (in_left' f turn.done turn.later i)) t.sited (λ x i. absurd i)).1
+  may : (x : Site) → IsIn x turn.walked.sites → MayAllLand (landings (reading_of o) x)
+  may = (sited_walks base (reading_of o) turn.fixups valid turn.done nothing_walked turn.walked (λ f i. subst (IsIn f) (sym t.names) (in_left' f turn.done turn.later i)) t.sited (λ x i. absurd i)).1
     where
       in_left' : (f : Name) (xs ys : List Name) → IsIn f xs → IsIn f (xs ++ ys)
       in_left' f [] ys i = absurd i
       in_left' f (x ∷ xs) ys (inl same) = inl same
       in_left' f (x ∷ xs) ys (inr i) = inr (in_left' f xs ys i)
 
-  pub turn_landings : AreLandings (reading object.tree) turn.walked.sites
-  turn_landings = are_landings (reading object.tree) valid turn.walked.sites turn.done turn.later turn_walked.named (sym t.names) may (each_good turn.walked.sites landing.sites.items t.sites t.good)
+  pub turn_landings : AreLandings (reading_of o) turn.walked.sites
+  turn_landings = are_landings (reading_of o) valid turn.walked.sites turn.done turn.later turn_walked.named (sym t.names) may (each_good turn.walked.sites landing.sites.items t.sites t.good)
 
   -- nothing that landed so far is too deep
-  pub not_too_deep : LandsTooDeep (reading object.tree) turn.walked.sites → ⊥
+  pub not_too_deep : LandsTooDeep (reading_of o) turn.walked.sites → ⊥
   not_too_deep h =
       let few = (turn_landings.good h.1 (turn_landings.complete h.0 h.1 h.2 h.3)).1 in
       let deep : most_names < length h.1 = h.4 in
@@ -174,11 +173,6 @@ content_is t f q k apart at = step (node_at (reading_of t) (content f)) (sym (st
     step : (o : Option Node) → is_some o ≡ true → map (landing_at q) (nodes_from o) ≡ content_of o
     step None none = absurd cc
     step (Some n) some = λ i. record { path = append-nil q i; properties = n.properties } ∷ sym (ap (λ (p : Path). preorder p n.children) (sym (append-nil q)) ∙ moved_preorder q [] n.children) i
-
--- of a tree in memory
-pub content_numbered : (a : Arena) (f : Name) (q : Path) (k : ℕ) → IsRooted a.slots → node_from a.slots 0 (content f) ≡ Some k → landings (reading a) (site f q) ≡ content_at (numbered_tree a) k q
-content_numbered a f q k rooted leads =
-    ap (λ (r : Reading). landings r (site f q)) (sym (reads_same a)) ∙ content_is (numbered_tree a) f q k (places_apart a rooted) (place_same a (content f) ∙ leads)
 
 -- where it lands on a node that is no bookkeeping node there is room for its numbers
 pub room_for : (base : Reading) (fixups : List (Name × Cell)) (object : Reading) (valid : IsValid object) (few : IsWithinLimits object) (a : Known) (w : Walked) (done later : List Name) (f : Name) (q : Path)

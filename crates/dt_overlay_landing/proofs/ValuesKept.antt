@@ -1,20 +1,21 @@
 -- What is kept of values, and the nodes with them, after a value is put.
-use Rattle.std.proofs.Common.{◌≡◌, ◌≢◌, ℕ, zero, suc, ◌+◌, ◌<◌, Bool, true, false, cond, ◌&&◌, List, [], ◌∷◌, length, drop, Option, Some, None, refl, sym, ap, subst, ◌∙◌, arith}
-use Rattle.std.specs.Prelude.{map, nat_eq, option_map, unwrap_or}
+use Rattle.std.proofs.Common.{◌≡◌, ℕ, ◌+◌, ◌≤◌, Bool, true, false, cond, ◌&&◌, List, [], ◌∷◌, ◌++◌, length, take, drop, codes, Option, Some, refl, sym, ap, subst, ◌∙◌, arith, true≢false, append_assoc, append-nil, length-append, length-drop}
+use Rattle.std.specs.Prelude.{nat_eq, option_map, unwrap_or, if◌then◌else◌}
 use Rattle.std.specs.Global.{Vec}
 use Rattle.std.specs.HashMap.{HashMap, UpdatesBy}
-use Rattle.std.specs.List.{AllByRecursion}
 use Rattle.std.specs.Map.{lookup}
 use Rattle.std.specs.Str.{bytes_eq}
-use Rattle.std.proofs.lemmas.Bool.{eqb-true}
-use Rattle.std.proofs.lemmas.Bool.Decides.{Decides-eqb}
-use Rattle.dt_model.specs.Changes.{set_property}
+use Rattle.std.proofs.lemmas.Bool.{eqb-true, eq-eqb}
+use Rattle.std.proofs.lemmas.List.{length-take-le}
+use Rattle.dt_model.specs.Applied.{Write, is_at, value_after_writes, with_cell}
+use Rattle.dt_model.specs.Meaning.{cell}
 use Rattle.dt_model.specs.Names.{Name}
-use Rattle.dt_model.specs.Tree.{Property, value_of}
-use Rattle.dt_model.specs.Valid.{AreDistinct}
-use Rattle.dt_model.proofs.Tests.{bytes_eq_true, bytes_eq_other}
-use Rattle.dt_flat.specs.Arena.{Slot, properties, name_of, children, children_among, with_property}
-use Rattle.dt_overlay_landing.specs.Values.{Kept, value_kept, Keeps, with_kept, with_values, Key, values_kept}
+use Rattle.dt_model.specs.Path.{Path, path_eq}
+use Rattle.dt_model.specs.Tree.{value_in}
+use Rattle.dt_model.proofs.Tests.{bytes_eq_true, bytes_eq_refl, path_eq_refl, path_eq_true}
+use Rattle.dt_overlay_landing.specs.Values.{Kept, IsKept, AreKept, MayWrite, MayWriteAll, value_kept, Keeps, Key, values_kept}
+use Rattle.dt_overlay_object.specs.declared.kept.Write.{Write as KeptWrite}
+use Rattle.dt_trees.specs.Placed.{PlacedTree, place_of, reading_of, HasPlacesApart}
 
 -- ---- the table
 
@@ -44,136 +45,151 @@ kept_after m n k w u j y =
 
 -- what is kept of a property is changed twice
 pub keeps_again : (a b c : List Kept) (k : ℕ) (x : Name) (w v : Option (List ℕ)) → Keeps a b k x w → Keeps b c k x v → Keeps a c k x v
-keeps_again a b c k x w v first then j y = then j y ∙ ap (λ (o : Option (List ℕ)). cond (nat_eq k j && bytes_eq x y) v o) (first j y) ∙ by (nat_eq k j && bytes_eq x y)
+keeps_again a b c k x w v first last j y = last j y ∙ ap (λ (o : Option (List ℕ)). cond (nat_eq k j && bytes_eq x y) v o) (first j y) ∙ by (nat_eq k j && bytes_eq x y)
   where
     by : (t : Bool) → cond t v (cond t w (value_kept a j y)) ≡ cond t v (value_kept a j y)
     by true = refl
     by false = refl
 
--- ---- nodes
-
--- where nothing is kept, the nodes are as they are
-none_kept : (k : ℕ) (ps : List Property) → map (with_kept [] k) ps ≡ ps
-none_kept k [] = refl
-none_kept k (p ∷ ps) = ap (λ (qs : List Property). p ∷ qs) (none_kept k ps)
-
-pub nothing_kept : (i : ℕ) (slots : List Slot) → with_values [] i slots ≡ slots
-nothing_kept i [] = refl
-nothing_kept i (n ∷ ns) = let head = none_kept i n.properties in let tail = nothing_kept (suc i) ns in λ j. record n { properties = head j } ∷ tail j
-
--- each node has its properties with the values that are kept
-pub properties_with : (es : List Kept) (i k at : ℕ) (slots : List Slot) → at ≡ i + k → properties (with_values es i slots) k ≡ map (with_kept es at) (properties slots k)
-properties_with es i k at [] is = refl
-properties_with es i zero at (n ∷ ns) is = ap (λ (m : ℕ). map (with_kept es m) n.properties) (let same : i ≡ at = omega (arith, is) in same)
-properties_with es i (suc k) at (n ∷ ns) is = properties_with es (suc i) k at ns (omega (arith, is))
-
--- and each property has that value, or its own
-pub value_with : (es : List Kept) (k : ℕ) (ps : List Property) (x : Name) → value_of (map (with_kept es k) ps) x ≡ option_map (λ (v : List ℕ). unwrap_or (value_kept es k x) v) (value_of ps x)
-value_with es k [] x = refl
-value_with es k (p ∷ ps) x = by (bytes_eq x p.name) refl (value_with es k ps x)
-  where
-    by : (b : Bool) → bytes_eq x p.name ≡ b → value_of (map (with_kept es k) ps) x ≡ option_map (λ (v : List ℕ). unwrap_or (value_kept es k x) v) (value_of ps x)
-        → cond b (Some (unwrap_or (value_kept es k p.name) p.value)) (value_of (map (with_kept es k) ps) x) ≡ option_map (λ (v : List ℕ). unwrap_or (value_kept es k x) v) (cond b (Some p.value) (value_of ps x))
-    by true t more = ap (λ (y : Name). Some (unwrap_or (value_kept es k y) p.value)) (sym (bytes_eq_true x p.name t))
-    by false t more = more
-
--- where a property has a value with what is kept, it has one without
-pub value_without : (kept own : Option (List ℕ)) (v : List ℕ) → option_map (λ (u : List ℕ). unwrap_or kept u) own ≡ Some v → (u : List ℕ) × (own ≡ Some u) × (unwrap_or kept u ≡ v)
-value_without kept None v e = absurd cc
-value_without kept (Some u) v e = (u, refl, let same : unwrap_or kept u ≡ v = cc in same)
-
--- how many they are, their names and their children
-pub length_with : (es : List Kept) (i : ℕ) (slots : List Slot) → length (with_values es i slots) ≡ length slots
-length_with es i [] = refl
-length_with es i (n ∷ ns) = ap suc (length_with es (suc i) ns)
-
-pub name_with : (es : List Kept) (i : ℕ) (slots : List Slot) (k : ℕ) → name_of (with_values es i slots) k ≡ name_of slots k
-name_with es i [] k = refl
-name_with es i (n ∷ ns) zero = refl
-name_with es i (n ∷ ns) (suc k) = name_with es (suc i) ns k
-
-children_among-with : (es : List Kept) (i at : ℕ) (slots : List Slot) (p : ℕ) → children_among at (with_values es i slots) p ≡ children_among at slots p
-children_among-with es i at [] p = refl
-children_among-with es i at (n ∷ ns) p = ap (λ (ks : List ℕ). cond (nat_eq n.parent p) (at ∷ ks) ks) (children_among-with es (suc i) (suc at) ns p)
-
-drop_with : (es : List Kept) (i k : ℕ) (slots : List Slot) → drop k (with_values es i slots) ≡ with_values es (i + k) (drop k slots)
-drop_with es i zero slots = ap (λ (m : ℕ). with_values es m slots) (let same : i ≡ i + 0 = omega arith in same)
-drop_with es i (suc k) [] = refl
-drop_with es i (suc k) (n ∷ ns) = drop_with es (suc i) k ns ∙ ap (λ (m : ℕ). with_values es m (drop k ns)) (let same : suc i + k ≡ i + suc k = omega arith in same)
-
-pub children_with : (es : List Kept) (slots : List Slot) (p : ℕ) → children (with_values es 0 slots) p ≡ children slots p
-children_with es slots p = ap (λ (ns : List Slot). children_among (suc p) ns p) (drop_with es 0 (suc p) slots) ∙ children_among-with es (0 + suc p) (suc p) (drop (suc p) slots) p
-
 -- ---- a value is put
 
-apart : (a b : ℕ) → (a ≡ b → ⊥) → nat_eq a b ≡ false
-apart a b ne = by (nat_eq a b) refl
+-- a value with a cell written is as long as before
+length-with_cell : (bytes : List ℕ) (offset n : ℕ) → offset + 4 ≤ length bytes → length (with_cell bytes offset n) ≡ length bytes
+length-with_cell bytes offset n room =
+    let four : length (cell n) ≡ 4 = refl in
+    omega (arith, room, length-append (take offset bytes) (cell n ++ drop (offset + 4) bytes), length-append (cell n) (drop (offset + 4) bytes), length-take-le offset bytes (omega (arith, room)), length-drop (offset + 4) bytes)
+
+-- the last write comes last
+after_last : (p : Path) (x : Name) (ws : List Write) (w : Write) (v : List ℕ)
+    → value_after_writes p x (ws ++ w ∷ []) v ≡ (if is_at p x w then with_cell (value_after_writes p x ws v) w.cell.offset w.number else value_after_writes p x ws v)
+after_last p x [] w v = refl
+after_last p x (u ∷ ws) w v = after_last p x ws w (if is_at p x u then with_cell v u.cell.offset u.number else v)
+
+-- where nothing is kept, nothing is written
+pub kept_begun : (t : PlacedTree) (vs : List Kept) → vs ≡ [] → AreKept t vs []
+kept_begun t vs none = subst (λ (es : List Kept). AreKept t es []) (sym none) (λ p k x v at there. record { is = λ plain. refl; long = refl })
+
+both_true : (a b : Bool) → a && b ≡ true → (a ≡ true) × (b ≡ true)
+both_true true b h = (refl, h)
+both_true false b h = absurd (true≢false (sym h))
+
+other_name : (x y : Name) → x ≡ codes "phandle" → bytes_eq y (codes "phandle") ≡ false → bytes_eq x y ≡ false
+other_name x y same plain = by (bytes_eq x y) refl
   where
-    by : (t : Bool) → nat_eq a b ≡ t → t ≡ false
-    by true e = absurd (ne (eqb-true a b e))
+    by : (b : Bool) → bytes_eq x y ≡ b → b ≡ false
+    by true e = absurd (true≢false (sym (ap (λ (z : Name). bytes_eq z (codes "phandle")) (sym (bytes_eq_true x y e)) ∙ ap (λ (z : Name). bytes_eq z (codes "phandle")) same ∙ bytes_eq_refl (codes "phandle")) ∙ plain))
     by false e = refl
 
-abbrev names_of : List Property → List Name
-names_of ps = map (λ (p : Property). p.name) ps
+no_and : (a b : Bool) → b ≡ false → a && b ≡ false
+no_and true b none = none
+no_and false b none = refl
 
-module _ (old new : List Kept) (node : ℕ) (x : Name) (v : List ℕ) (puts : Keeps old new node x (Some v)) where
-  -- other nodes have what they had
-  elsewhere : (j : ℕ) → nat_eq node j ≡ false → (ps : List Property) → map (with_kept new j) ps ≡ map (with_kept old j) ps
-  elsewhere j other [] = refl
-  elsewhere j other (p ∷ ps) =
-      let head : with_kept new j p ≡ with_kept old j p =
-      ap (λ (o : Option (List ℕ)). record { name = p.name; value = unwrap_or o p.value }) (puts j p.name ∙ ap (λ (t : Bool). cond (t && bytes_eq x p.name) (Some v) (value_kept old j p.name)) other) in
-      let tail = elsewhere j other ps in
-      λ i. head i ∷ tail i
+-- a write into a `phandle` leaves what is kept
+pub kept_phandle : (t : PlacedTree) (vs : List Kept) (ws : List Write) (w : Write) → AreKept t vs ws → w.cell.property ≡ codes "phandle" → AreKept t vs (ws ++ w ∷ [])
+kept_phandle t vs ws w kept phandle p k x v at there =
+    let old = kept p k x v at there in
+    record {
+      is = λ plain. old.is plain
+          ∙ sym (after_last p x ws w v ∙ ap (λ (b : Bool). if b then with_cell (value_after_writes p x ws v) w.cell.offset w.number else value_after_writes p x ws v)
+          (no_and (path_eq w.cell.path p) (bytes_eq w.cell.property x) (other_name w.cell.property x phandle plain)));
+      long = old.long;
+    }
 
-  behind : (i : ℕ) (slots : List Slot) → node < i → with_values new i slots ≡ with_values old i slots
-  behind i [] lt = refl
-  behind i (n ∷ ns) lt =
-      let head = elsewhere i (apart node i (λ same. omega (arith, same, lt))) n.properties in
-      let tail = behind (suc i) ns (omega (arith, lt)) in
-      λ j. record n { properties = head j } ∷ tail j
+module _ (t : PlacedTree) (apart : HasPlacesApart t) (old new : List Kept) (ws : List Write) (x : KeptWrite) (w : Write) (may : MayWrite t old ws x w) where
+  abbrev pub so_far : List ℕ
+  so_far = unwrap_or (value_kept old x.node x.property.now) may.cell.0
 
-  -- what is kept of the node's own properties
-  own : (y : Name) → value_kept new node y ≡ cond (bytes_eq x y) (Some v) (value_kept old node y)
-  own y = puts node y ∙ ap (λ (t : Bool). cond (t && bytes_eq x y) (Some v) (value_kept old node y)) ((Decides-eqb node node).1 refl)
+  own : IsKept old ws w.cell.path x.node w.cell.property may.cell.0
+  own = may.kept w.cell.path x.node w.cell.property may.cell.0 may.is.node may.cell.1
 
-  -- other properties of the node have what they had
-  others : (ps : List Property) → AllByRecursion (λ y. y ≢ x) (names_of ps) → map (with_kept new node) ps ≡ map (with_kept old node) ps
-  others [] h = refl
-  others (p ∷ ps) h =
-      let head : with_kept new node p ≡ with_kept old node p =
-      ap (λ (o : Option (List ℕ)). record { name = p.name; value = unwrap_or o p.value }) (own p.name ∙ ap (λ (t : Bool). cond t (Some v) (value_kept old node p.name)) (bytes_eq_other x p.name (λ same. h.0 (sym same)))) in
-      let tail = others ps h.1 in
-      λ i. head i ∷ tail i
+  named : unwrap_or (value_kept old x.node w.cell.property) may.cell.0 ≡ so_far
+  named = ap (λ (y : Name). unwrap_or (value_kept old x.node y) may.cell.0) (sym may.is.property)
 
-  -- the one that was there has the value
-  set : (ps : List Property) (u : List ℕ) → AreDistinct (names_of ps) → value_of ps x ≡ Some u → map (with_kept new node) ps ≡ set_property (map (with_kept old node) ps) x v
-  set [] u distinct there = absurd cc
-  set (p ∷ ps) u distinct there = by (bytes_eq x p.name) refl there (λ t. set ps u distinct.1 t)
+  -- the cell is within the value that it has so far
+  pub cell_within : x.offset + 4 ≤ length so_far
+  cell_within = omega (arith, may.cell.2, own.long, ap length named, may.is.offset)
+
+  abbrev pub written : List ℕ
+  written = with_cell so_far x.offset x.number
+
+  pub kept_more : Keeps old new x.node x.property.now (Some written) → AreKept t new (ws ++ w ∷ [])
+  kept_more puts p k y v at there = by (nat_eq x.node k && bytes_eq x.property.now y) refl
     where
-      by : (b : Bool) → bytes_eq x p.name ≡ b → cond b (Some p.value) (value_of ps x) ≡ Some u → (value_of ps x ≡ Some u → map (with_kept new node) ps ≡ set_property (map (with_kept old node) ps) x v)
-          → with_kept new node p ∷ map (with_kept new node) ps
-          ≡ cond b (record { name = p.name; value = v } ∷ map (with_kept old node) ps) (with_kept old node p ∷ set_property (map (with_kept old node) ps) x v)
-      by true t at more =
-          let head : with_kept new node p ≡ record { name = p.name; value = v } =
-          ap (λ (o : Option (List ℕ)). record { name = p.name; value = unwrap_or o p.value }) (own p.name ∙ ap (λ (b : Bool). cond b (Some v) (value_kept old node p.name)) t) in
-          let tail = others ps (subst (λ (y : Name). AllByRecursion (λ z. z ≢ y) (names_of ps)) (sym (bytes_eq_true x p.name t)) distinct.0) in
-          λ i. head i ∷ tail i
-      by false t at more =
-          let head : with_kept new node p ≡ with_kept old node p =
-          ap (λ (o : Option (List ℕ)). record { name = p.name; value = unwrap_or o p.value }) (own p.name ∙ ap (λ (b : Bool). cond b (Some v) (value_kept old node p.name)) t) in
-          let tail = more at in
-          λ i. head i ∷ tail i
+      seen : Bool → Option (List ℕ)
+      seen b = if b then Some written else value_kept old k y
 
-  -- the nodes with the value put are those before with the property set
-  pub put_in : (i k : ℕ) (slots : List Slot) (u : List ℕ) → node ≡ i + k → AreDistinct (names_of (properties slots k)) → value_of (properties slots k) x ≡ Some u → with_values new i slots ≡ with_property (with_values old i slots) k x v
-  put_in i k [] u is distinct there = absurd cc
-  put_in i zero (n ∷ ns) u is distinct there =
-      let here : i ≡ node = omega (arith, is) in
-      let head : map (with_kept new i) n.properties ≡ set_property (map (with_kept old i) n.properties) x v = subst (λ (m : ℕ). map (with_kept new m) n.properties ≡ set_property (map (with_kept old m) n.properties) x v) (sym here) (set n.properties u distinct there) in
-      let tail = behind (suc i) ns (omega (arith, is)) in
-      λ j. record n { properties = head j } ∷ tail j
-  put_in i (suc k) (n ∷ ns) u is distinct there =
-      let head = elsewhere i (apart node i (λ same. omega (arith, same, is))) n.properties in
-      let tail = put_in (suc i) k ns u (omega (arith, is)) distinct there in
-      λ j. record n { properties = head j } ∷ tail j
+      step : Bool → List ℕ
+      step b = if b then with_cell (value_after_writes p y ws v) w.cell.offset w.number else value_after_writes p y ws v
+
+      by : (b : Bool) → nat_eq x.node k && bytes_eq x.property.now y ≡ b → IsKept new (ws ++ w ∷ []) p k y v
+      by true e =
+          let both = both_true (nat_eq x.node k) (bytes_eq x.property.now y) e in
+          let node : x.node ≡ k = eqb-true x.node k both.0 in
+          let name : w.cell.property ≡ y = sym may.is.property ∙ bytes_eq_true x.property.now y both.1 in
+          let path : w.cell.path ≡ p = apart w.cell.path p k (may.is.node ∙ ap (λ (n : ℕ). Some n) node) at in
+          let same : Some may.cell.0 ≡ Some v = sym may.cell.1 ∙ (λ i. value_in (reading_of t) (path i) (name i)) ∙ there in
+          let value : may.cell.0 ≡ v = cc in
+          let now : unwrap_or (value_kept new k y) v ≡ written = ap (λ (o : Option (List ℕ)). unwrap_or o v) (puts k y ∙ ap seen e) in
+          let here : is_at p y w ≡ true = (λ i. path_eq (path i) p && bytes_eq (name i) y) ∙ (λ i. path_eq_refl p i && bytes_eq_refl y i) in
+          let had : so_far ≡ unwrap_or (value_kept old k y) v = λ i. unwrap_or (value_kept old (node i) ((may.is.property ∙ name) i)) (value i) in
+          let before = may.kept p k y v at there in
+          record {
+            is = λ plain. now ∙ (λ i. with_cell ((had ∙ before.is plain) i) (may.is.offset i) (may.is.number i)) ∙ sym (after_last p y ws w v ∙ ap step here);
+            long = ap length now ∙ length-with_cell so_far x.offset x.number cell_within ∙ ap length had ∙ before.long;
+          }
+      by false e =
+          let before = may.kept p k y v at there in
+          let now : unwrap_or (value_kept new k y) v ≡ unwrap_or (value_kept old k y) v = ap (λ (o : Option (List ℕ)). unwrap_or o v) (puts k y ∙ ap seen e) in
+          record { is = λ plain. now ∙ before.is plain ∙ sym (after_last p y ws w v ∙ ap step (elsewhere (is_at p y w) refl)); long = ap length now ∙ before.long }
+        where
+          elsewhere : (b : Bool) → is_at p y w ≡ b → is_at p y w ≡ false
+          elsewhere false f = f
+          elsewhere true f =
+              let both = both_true (path_eq w.cell.path p) (bytes_eq w.cell.property y) f in
+              let path : w.cell.path ≡ p = path_eq_true w.cell.path p both.0 in
+              let one : Some x.node ≡ Some k = sym may.is.node ∙ ap (place_of t) path ∙ at in
+              let node : x.node ≡ k = cc in
+              let name : x.property.now ≡ y = may.is.property ∙ bytes_eq_true w.cell.property y both.1 in
+              absurd (true≢false (sym ((λ i. nat_eq (node i) k && bytes_eq (name i) y) ∙ (λ i. eq-eqb k k refl i && bytes_eq_refl y i)) ∙ e))
+
+-- ---- the writes that are left
+
+pub record WritesLeft (t : PlacedTree) (vs : List Kept) (written : List Write) (left : List KeptWrite) (all : List Write) : Type 0 where
+  pub done : List Write
+  pub behind : List Write
+  pub may : MayWriteAll t vs done left behind
+  pub whole : done ++ behind ≡ written ++ all
+
+pub writes_begun : (t : PlacedTree) (vs : List Kept) (written : List Write) (xs : List KeptWrite) (all : List Write) → MayWriteAll t vs written xs all → WritesLeft t vs written xs all
+writes_begun t vs written xs all may = record { done = written; behind = all; may = may; whole = refl }
+
+-- the next one
+pub record IsNextWrite (t : PlacedTree) (vs : List Kept) (written : List Write) (x : KeptWrite) (rest : List KeptWrite) (all : List Write) : Type 0 where
+  pub done : List Write
+  pub write : Write
+  pub may : MayWrite t vs done x write
+  pub on : (new : List Kept) → AreKept t new (done ++ write ∷ []) → WritesLeft t new written rest all
+
+pub next_write : (t : PlacedTree) (vs : List Kept) (written : List Write) (left rest : List KeptWrite) (x : KeptWrite) (all : List Write) → left ≡ x ∷ rest → WritesLeft t vs written left all → IsNextWrite t vs written x rest all
+next_write t vs written left rest x all e so_far = by so_far.behind (subst (λ (xs : List KeptWrite). MayWriteAll t vs so_far.done xs so_far.behind) e so_far.may) so_far.whole
+  where
+    by : (ws : List Write) → MayWriteAll t vs so_far.done (x ∷ rest) ws → so_far.done ++ ws ≡ written ++ all → IsNextWrite t vs written x rest all
+    by [] may whole = absurd may.are
+    by (w ∷ ws) may whole = record {
+      done = so_far.done;
+      write = w;
+      may = record { kept = may.kept; is = may.are.0; cell = may.cells.0 };
+      on = λ new kept. record {
+        done = so_far.done ++ w ∷ [];
+        behind = ws;
+        may = record { kept = kept; are = may.are.1; cells = may.cells.1 };
+        whole = append_assoc so_far.done (w ∷ []) ws ∙ whole;
+      };
+    }
+
+pub writes_over : (t : PlacedTree) (vs : List Kept) (written : List Write) (left : List KeptWrite) (all : List Write) → left ≡ [] → WritesLeft t vs written left all → AreKept t vs (written ++ all)
+writes_over t vs written left all none so_far = by so_far.behind (subst (λ (xs : List KeptWrite). MayWriteAll t vs so_far.done xs so_far.behind) none so_far.may) so_far.whole
+  where
+    by : (ws : List Write) → MayWriteAll t vs so_far.done [] ws → so_far.done ++ ws ≡ written ++ all → AreKept t vs (written ++ all)
+    by [] may whole = subst (AreKept t vs) (sym (append-nil so_far.done) ∙ whole) may.kept
+    by (w ∷ ws) may whole = absurd may.are

@@ -4,16 +4,16 @@ use Rattle.dt_model.specs.Limits.{most_names}
 use Rattle.dt_model.specs.Lists.{IsIn}
 use Rattle.std.specs.List.{AllByRecursion, list_any}
 use Rattle.dt_model.specs.Names.{Name, IsNodeName}
+use Rattle.dt_model.specs.Numbers.{number_in}
 use Rattle.dt_model.specs.Path.{Path}
-use Rattle.dt_model.specs.Tree.{Reading, stands_in}
+use Rattle.dt_model.specs.Tree.{Reading, Placed, preorder, stands_in}
 use Rattle.dt_model.specs.Merged.{Site}
 use Rattle.dt_model.specs.Merged as merged
 use Rattle.dt_model.specs.Object.{Cell, fragment_names, local_cells}
-use Rattle.dt_model.specs.Valid.{AreDistinct, IsValid}
+use Rattle.dt_model.specs.Valid.{IsValid}
 use Rattle.dt_names.specs.declared.fault.FaultKind.{FaultKind}
 use Rattle.dt_names.specs.declared.fault.FaultKind.TheVariants.{Limit}
-use Rattle.dt_flat.specs.Arena.{Arena, Slot, node_from, reading}
-use Rattle.dt_overlay_model.specs.Walk.{Walked, nothing_walked, site, landings, landed_on, named_node, target_label, is_target}
+use Rattle.dt_overlay_model.specs.Walk.{Walked, nothing_walked, site, landings, landed_on, named_node, new_numbers, target_label, is_target}
 use Rattle.dt_overlay_laws.specs.Landings.{target_in, MayAllLand, AreSited, HasNoSite}
 use Rattle.dt_overlay_object.specs.declared.kept.ObjectFragment.{ObjectFragment}
 use Rattle.dt_overlay_landing.specs.declared.marks.TargetMark.{TargetMark}
@@ -22,7 +22,8 @@ use Rattle.dt_overlay_object.specs.declared.landing.Landing.{Landing}
 use Rattle.dt_overlay_object.specs.declared.object.Object.{Object}
 use Rattle.dt_overlay_base.specs.Known.{Known, IsKnown, landed_paths}
 use Rattle.dt_overlay_landing.specs.Marks.{AreMarked, IsMark}
-use Rattle.dt_overlay_object.specs.Plans.{AreBrought, AreBroughtBy, IsFragmentOf, IsKeptFor}
+use Rattle.dt_overlay_object.specs.Plans.{at_node, AreBroughtBy, AreContents, IsFragmentOf}
+use Rattle.dt_trees.specs.Placed.{PlacedTree, reading_of, path_at, below_at, IsAt}
 
 -- a turn: the cells that wait for labels, the names of the fragments that have sites and of those behind them, and what they have brought
 pub record Turn : Type 0 where
@@ -32,22 +33,26 @@ pub record Turn : Type 0 where
   pub later : List Name
 
 -- these fragments of the object have sites, and what is known is what they bring
-pub record IsTurn (base : Reading) (object : Object) (marks : List TargetMark) (landing : Landing) (t : Turn) : Type 0 where
-  pub brought : AreBroughtBy object.tree [] object.brought
-  pub marked : AreMarked base t.fixups object.tree marks
-  pub names : fragment_names (reading object.tree).children ≡ t.done ++ t.later
-  pub sited : AreSited base (reading object.tree) t.fixups nothing_walked t.done t.walked
+pub record IsTurnIn (base : Reading) (o : PlacedTree) (b : Brought) (marks : List (ℕ × TargetMark)) (landing : Landing) (t : Turn) : Type 0 where
+  pub brought : AreBroughtBy o [] b
+  pub marked : AreMarked base t.fixups o marks
+  pub names : fragment_names (reading_of o).children ≡ t.done ++ t.later
+  pub sited : AreSited base (reading_of o) t.fixups nothing_walked t.done t.walked
   pub sites : landing.sites.items ≡ map (λ (x : Site). x.at) t.walked.sites
   pub good : AllByRecursion (λ q. AllByRecursion IsNodeName q) landing.sites.items
-  pub known : IsKnown base t.walked.given (landed_paths (reading object.tree) t.walked.sites) landing.places
+  pub known : IsKnown base t.walked.given (landed_paths (reading_of o) t.walked.sites) landing.places
+
+abbrev pub IsTurn : {V : Type 0} → (V → PlacedTree) → Reading → Object V → List (ℕ × TargetMark) → Landing → Turn → Type 0
+IsTurn tree base object marks landing t = IsTurnIn base (tree object.tree.now) object.brought marks landing t
 
 -- the fragment x is the next one
-pub record IsTurnOf (base : Reading) (object : Object) (marks : List TargetMark) (landing : Landing) (x : ObjectFragment) (t : Turn) : Type 0 where
-  pub turn : IsTurn base object marks landing t
+pub record IsTurnOf {V : Type 0} (tree : V → PlacedTree) (base : Reading) (object : Object V) (marks : List (ℕ × TargetMark)) (landing : Landing) (x : ObjectFragment)
+    (t : Turn) : Type 0 where
+  pub turn : IsTurn tree base object marks landing t
   pub name : Name
   pub behind : List Name
   pub next : t.later ≡ name ∷ behind
-  pub fragment : IsFragmentOf object.tree.slots (reading object.tree) x name
+  pub fragment : IsFragmentOf (tree object.tree.now) x name
 
 -- one of the nodes that land at these sites lands too deep
 abbrev pub LandsTooDeep : Reading → List Site → Type 0
@@ -72,35 +77,54 @@ pub record HasAllSites (base : Reading) (fixups : List (Name × Cell)) (object :
   pub sites : landing.sites.items ≡ map (λ (x : Site). x.at) end.sites
   pub known : IsKnown base end.given (landed_paths object end.sites) landing.places
 
+-- ---- numbers
+
+-- the node of the path has its number in the table
+abbrev pub IsNumbered : PlacedTree → List (Path × ℕ) → List (ℕ × ℕ) → Path → Type 0
+IsNumbered t numbers entries p = (k : ℕ) → IsAt t p k → at_node entries k ≡ number_in numbers p
+
+-- each number in the table is that of its node
+abbrev pub AreNumbers : PlacedTree → List (Path × ℕ) → List (ℕ × ℕ) → Type 0
+AreNumbers t numbers entries = (p : Path) (k n : ℕ) → IsAt t p k → at_node entries k ≡ Some n → number_in numbers p ≡ Some n
+
+-- the nodes of these paths have their numbers in the table besides
+pub record NumbersMore (t : PlacedTree) (numbers : List (Path × ℕ)) (paths : List Path) (old new : List (ℕ × ℕ)) : Type 0 where
+  pub sound : AreNumbers t numbers new
+  pub own : (p : Path) → IsIn p paths → IsNumbered t numbers new p
+  pub kept : (p : Path) → IsNumbered t numbers old p → IsNumbered t numbers new p
+
+-- the paths of a node and of those below it
+abbrev pub paths_in : PlacedTree → ℕ → List Path
+paths_in t k = path_at t k ∷ map (λ (n : Placed). n.path) (preorder (path_at t k) (below_at t (path_at t k)))
+
 -- ---- premises that clauses share
 
 -- what holds at a turn
-abbrev pub WhereTurn : Reading → Object → Landing → (Turn → Type 0) → Type 0
-WhereTurn base object landing P = (marks : List TargetMark) (turn : Turn) → IsTurn base object marks landing turn → P turn
+abbrev pub WhereTurn : {V : Type 0} → (V → PlacedTree) → Reading → Object V → Landing → (Turn → Type 0) → Type 0
+WhereTurn tree base object landing P = (marks : List (ℕ × TargetMark)) (turn : Turn) → IsTurn tree base object marks landing turn → P turn
 
 -- what holds at a turn of the name of a fragment whose target is marked so
-abbrev pub WhereMarked : Reading → Object → Landing → TargetMark → (Turn → Name → Type 0) → Type 0
-WhereMarked base object landing mark P = (marks : List TargetMark) (turn : Turn) → IsTurn base object marks landing turn
-    → (f : Name) → IsMark base (reading object.tree) turn.fixups f mark → P turn f
+abbrev pub WhereMarked : {V : Type 0} → (V → PlacedTree) → Reading → Object V → Landing → Option TargetMark → (Turn → Name → Type 0) → Type 0
+WhereMarked tree base object landing mark P = (marks : List (ℕ × TargetMark)) (turn : Turn) → IsTurn tree base object marks landing turn
+    → (f : Name) → IsMark base (reading_of (tree object.tree.now)) turn.fixups f mark → P turn f
 
 -- what holds at the turn of a fragment, which has this name
-abbrev pub WhereTurnOf : Reading → Object → List TargetMark → Landing → ObjectFragment → (Turn → Name → Type 0) → Type 0
-WhereTurnOf base object marks landing x P = (turn : Turn) (is : IsTurnOf base object marks landing x turn) → P turn is.name
+abbrev pub WhereTurnOf : {V : Type 0} → (V → PlacedTree) → Reading → Object V → List (ℕ × TargetMark) → Landing → ObjectFragment → (Turn → Name → Type 0) → Type 0
+WhereTurnOf tree base object marks landing x P = (turn : Turn) (is : IsTurnOf tree base object marks landing x turn) → P turn is.name
 
 -- one of the object's fragments has no site
 abbrev pub LacksSite : Reading → Reading → List (Name × Cell) → FaultKind → Type 0
 LacksSite base object fixups kind = HasNoSite kind base object fixups nothing_walked (fragment_names object.children)
 
--- what holds where a node's fragment is known, and these fragments have these sites
-abbrev pub WhereBrought : List Slot → ℕ → List (Option ℕ) → List Path → (List Site → Path → Type 0) → Type 0
-WhereBrought slots node kept paths P = (names : List Name) (found : List Site) (path : Path) → IsKeptFor slots names kept → AreDistinct names
-    → map (λ (x : Site). x.fragment) found ≡ take (length found) names → paths ≡ map (λ (x : Site). x.at) found
-    → node_from slots 0 path ≡ Some node → P found path
+-- what holds where these fragments of the object, the first of all, have these sites
+abbrev pub WhereBrought : PlacedTree → Brought → List Path → (List Site → Type 0) → Type 0
+WhereBrought t b paths P = (found : List Site) → AreContents t (fragment_names (reading_of t).children) b.contents.entries
+    → map (λ (x : Site). x.fragment) found ≡ take (length found) (fragment_names (reading_of t).children) → paths ≡ map (λ (x : Site). x.at) found → P found
 
--- what holds where these fragments of the object have these sites
-abbrev pub WhereLanded : Arena → Brought → List Path → (List Site → Type 0) → Type 0
-WhereLanded object b paths P = (found : List Site) → AreBrought object.slots (fragment_names (reading object).children) [] b
-    → map (λ (x : Site). x.fragment) found ≡ take (length found) (fragment_names (reading object).children) → paths ≡ map (λ (x : Site). x.at) found → P found
+-- what holds of the new numbers of nodes where all fragments have sites
+abbrev pub WhereSited : Reading → PlacedTree → Landing → (List (Path × ℕ) → Type 0) → Type 0
+WhereSited base t landing P =
+    (fixups : List (Name × Cell)) (is : HasAllSites base fixups (reading_of t) landing) → P (new_numbers base (reading_of t) is.end)
 
 -- what holds where it is known what has landed of an object on some sites
 abbrev pub WhereNoted : Reading → Known → (Reading → List Site → Type 0) → Type 0
@@ -108,8 +132,8 @@ WhereNoted base a P = (object : Reading) (sites : List Site) (given : List (Path
     → IsKnown base given (landed_paths object sites) a → AreLandings object sites → P object sites
 
 -- a node lands too deep
-abbrev pub IsTooDeep : FaultKind → List Site → Path → Type 0
-IsTooDeep kind found path = (kind ≡ Limit) × ((q : Path) × (merged.landing found path ≡ Some q) × (most_names < length q))
+abbrev pub IsTooDeep : FaultKind → Reading → List Site → Type 0
+IsTooDeep kind object found = (kind ≡ Limit) × LandsTooDeep object found
 
 -- the node that the number in a fragment's target names, according to the object's lists
 abbrev pub node_marked : Reading → Reading → Turn → Name → ℕ → Option Path

@@ -1,11 +1,17 @@
--- The values of an object's properties into which numbers are written, and its nodes with these.
-use Rattle.std.specs.Prelude.{◌≡◌, ℕ, suc, ◌&&◌, List, [], ◌∷◌, map, nat_eq, Option, Some, None, unwrap_or, if◌then◌else◌}
+-- The values of an object's properties into which numbers are written.
+use Rattle.std.specs.Prelude.{◌≡◌, ℕ, ◌&&◌, false, List, [], ◌∷◌, length, map, nat_eq, Option, Some, None, unwrap_or, if◌then◌else◌, codes}
 use Rattle.std.specs.Borrow.{Bor}
 use Rattle.std.specs.Global.{Vec}
+use Rattle.std.specs.List.{AllByRecursion}
 use Rattle.std.specs.Str.{bytes_eq}
+use Rattle.dt_model.specs.Applied.{Write, value_after_writes}
 use Rattle.dt_model.specs.Names.{Name}
-use Rattle.dt_model.specs.Tree.{Property}
-use Rattle.dt_flat.specs.Arena.{Slot}
+use Rattle.dt_model.specs.Object.{HasCell}
+use Rattle.dt_model.specs.Path.{Path}
+use Rattle.dt_model.specs.Tree.{Property, value_in}
+use Rattle.dt_overlay_object.specs.Plans.{AreWritesOf, IsWriteOf}
+use Rattle.dt_overlay_object.specs.declared.kept.Write.{Write as KeptWrite}
+use Rattle.dt_trees.specs.Placed.{PlacedTree, reading_of, IsAt}
 
 -- a node's property, and the value that is kept of it
 pub record Kept : Type 0 where
@@ -25,10 +31,29 @@ Keeps old new k x w = (j : ℕ) (y : Name) → value_kept new j y ≡ (if nat_eq
 abbrev pub with_kept : List Kept → ℕ → Property → Property
 with_kept es k p = record { name = p.name; value = unwrap_or (value_kept es k p.name) p.value }
 
--- the nodes from number i on, with the values that are kept of their properties
-abbrev pub with_values : List Kept → ℕ → List Slot → List Slot
-with_values es i [] = []
-with_values es i (n ∷ ns) = record n { properties = map (with_kept es i) n.properties } ∷ with_values es (suc i) ns
+-- ---- what is written
+
+-- the value of a property, with what is written into it
+pub record IsKept (es : List Kept) (written : List Write) (p : Path) (k : ℕ) (x : Name) (v : List ℕ) : Type 0 where
+  pub is : bytes_eq x (codes "phandle") ≡ false → unwrap_or (value_kept es k x) v ≡ value_after_writes p x written v
+  pub long : length (unwrap_or (value_kept es k x) v) ≡ length v
+
+-- the values of the tree's properties have these numbers in their cells, but for those of `phandle`
+abbrev pub AreKept : PlacedTree → List Kept → List Write → Type 0
+AreKept t es written =
+    (p : Path) (k : ℕ) (x : Name) (v : List ℕ) → IsAt t p k → value_in (reading_of t) p x ≡ Some v → IsKept es written p k x v
+
+-- behind these, one more may be written
+pub record MayWrite (t : PlacedTree) (es : List Kept) (written : List Write) (x : KeptWrite) (w : Write) : Type 0 where
+  pub kept : AreKept t es written
+  pub is : IsWriteOf t x w
+  pub cell : HasCell (reading_of t) w.cell
+
+-- or more
+pub record MayWriteAll (t : PlacedTree) (es : List Kept) (written : List Write) (xs : List KeptWrite) (ws : List Write) : Type 0 where
+  pub kept : AreKept t es written
+  pub are : AreWritesOf t xs ws
+  pub cells : AllByRecursion (λ (w : Write). HasCell (reading_of t) w.cell) ws
 
 -- ---- the table
 

@@ -10,70 +10,78 @@ ghost use Rattle.dt_model.specs.Changes.{with_child_at, with_property_at};
 ghost use Rattle.dt_overlay_laws.specs.Steps.{land_properties, land_node, MayLandProperties, MayLandNode, MaySetValue};
 ghost use Rattle.dt_overlay_laws.specs.Steps.{FullAtProperties, FullAtNode};
 ghost use Rattle.dt_overlay_object.specs.Objects.{Seen, IsToLandOn};
-ghost use Rattle.dt_overlay_landing.specs.Landed.{landed_as, landed_each, landed_properties, landed_with, seen_landed};
-ghost use Rattle.dt_overlay_landing.specs.Landed.{MayLandEachOf, MayLandSeen, FullAtEachOf, FullAtSeen};
+ghost use Rattle.dt_overlay_landing.specs.Landed.{landed_as, land_each as each_landed, landed_properties, landed_with, seen_landed};
+ghost use Rattle.dt_overlay_landing.specs.Landed.{MayLandEach, MayLandSeen, FullAtEach, FullAtSeen};
 ghost use Rattle.dt_overlay_base.specs.Targets.{HasNoRoom, IsWant};
+ghost use Rattle.dt_trees.specs.Placed.{IsNode};
+ghost use Rattle.dt_trees.specs.Views.{prop_said};
 
 use crate::values::Values;
-use dt_flat::{NodeId, Props};
-use dt_names::{Fault, NodeName, Path, PropName};
+use dt_names::{Fault, NodeId, NodeName, Path, PropName};
 use dt_overlay_base::{Target, child_path};
-use dt_overlay_object::{Landing, Object};
+use dt_overlay_object::{Brought, Landing, Object};
+use dt_trees::{Prop, TreeView};
 use std::alloc::Global;
 
-/// A node of the object that lands: its place in the object's tree, the number that it gets, and the values that are kept of properties.
+/// A node of the object that lands, the numbers that nodes get, and the values that are kept of properties.
 #[derive(Drop)]
-pub(crate) struct LandingNode<'v, 'w> {
+pub(crate) struct LandingNode<'v, 'o> {
     node: NodeId,
-    number: Option<u32>,
-    values: &'v Values<'w>,
+    brought: &'v Brought,
+    values: &'v Values<'o>,
 }
 
 /// Sets a property of a node that lands: a `phandle` to its new number, another one to the value that is kept of it, or to its own.
 fn land_property<T: Target>(
     target: &mut T,
     path: &Path,
-    name: &[u8],
-    value: &[u8],
+    prop: &Prop<'_>,
     landing: &LandingNode<'_, '_>,
 ) -> Result<(), Fault>
     requires stands { stands_in (T.reading target.old) path.now ≡ true }
-    requires named { IsPropertyName name.now }
-    requires may { MaySetValue path.now name.now (landed_as landing.now (record { name = name.now; value = value.now })).value (T.reading target.old) }
-    ensures set { OnOk result (T.reading target.new ≡ with_property_at path.now name.now
-        (landed_as landing.now (record { name = name.now; value = value.now })).value (T.reading target.old)) }
-    ensures refused { IfErr result (IsWant (HasNoRoom T.reading T.has_room T.follows target.old (T.reading target.old) (with_property_at path.now name.now
-        (landed_as landing.now (record { name = name.now; value = value.now })).value (T.reading target.old)))) }
+    requires named { IsPropertyName prop.now.name.now }
+    requires may { MaySetValue path.now prop.now.name.now (landed_as landing.now (prop_said prop.now)).value (T.reading target.old) }
+    ensures set { OnOk result (T.reading target.new ≡ with_property_at path.now prop.now.name.now
+        (landed_as landing.now (prop_said prop.now)).value (T.reading target.old)) }
+    ensures refused { IfErr result (IsWant (HasNoRoom T.reading T.has_room T.follows target.old (T.reading target.old) (with_property_at path.now
+        prop.now.name.now (landed_as landing.now (prop_said prop.now)).value (T.reading target.old)))) }
     ensures follows { T.follows target.old target.new }
 {
-    let property = PropName::new(name)?;
-    if name == b"phandle".as_slice() {
-        return target.set_prop(path, &property, &landing.number.unwrap_or(0).to_be_bytes());
+    let property = PropName::new(prop.name)?;
+    if prop.name == b"phandle".as_slice() {
+        let number = landing.brought.number(landing.node).unwrap_or(0);
+        return target.set_prop(path, &property, &number.to_be_bytes());
     }
     target.set_prop(
         path,
         &property,
-        landing.values.get(landing.node, name).unwrap_or(value),
+        landing
+            .values
+            .get(landing.node, prop.name)
+            .unwrap_or(prop.value),
     )
 }
 
 /// Sets the properties of a node that lands.
-fn set_properties<T: Target>(
+fn set_properties<'o, T: Target, V: TreeView>(
     target: &mut T,
     path: &Path,
-    props: Props<'_>,
-    landing: &LandingNode<'_, '_>,
+    object: &'o V,
+    landing: &LandingNode<'_, 'o>,
 ) -> Result<(), Fault>
+    requires node { IsNode (V.tree object.now) landing.now.node }
     requires stands { stands_in (T.reading target.old) path.now ≡ true }
-    requires named { AllByRecursion (λ p. IsPropertyName p.name) props }
-    requires may { MayLandProperties path.now (landed_properties landing.now props) (T.reading target.old) }
-    ensures landed { OnOk result (T.reading target.new ≡ land_properties path.now (landed_properties landing.now props.entry) (T.reading target.old)) }
+    requires may { MayLandProperties path.now (landed_properties (V.tree object.now) landing.now) (T.reading target.old) }
+    ensures landed { OnOk result (T.reading target.new ≡ land_properties path.now (landed_properties (V.tree object.now) landing.now)
+        (T.reading target.old)) }
     ensures refused { IfErr result (IsWant (FullAtProperties (HasNoRoom T.reading T.has_room T.follows target.old) path.now
-        (landed_properties landing.now props.entry) (T.reading target.old))) }
+        (landed_properties (V.tree object.now) landing.now) (T.reading target.old))) }
     ensures follows { T.follows target.old target.new }
 {
-    for (name, value) in props {
-        land_property(target, path, name, value, landing)?;
+    object.validity();
+    let props = object.props(landing.values.alloc(), landing.node)?;
+    for prop in &props {
+        land_property(target, path, prop, landing)?;
     }
     Ok(())
 }
@@ -102,49 +110,51 @@ fn add_child<T: Target>(
 }
 
 /// A node lands on one that is there, with what is below it.
-fn land<T: Target>(
+fn land<'o, T: Target, V: TreeView>(
     target: &mut T,
-    object: &Object,
-    values: &Values<'_>,
+    object: &Object<'o, V>,
+    values: &Values<'o>,
     node: NodeId,
     path: &Path,
 ) -> Result<(), Fault>
-    requires node { node < length object.now.tree.slots }
-    requires numbers { length object.now.brought.numbers.items ≡ length object.now.tree.slots }
+    requires node { IsNode (V.tree object.now.tree.now) node }
     requires stands { stands_in (T.reading target.old) path.now ≡ true }
-    requires may { MayLandNode path.now (landed_with object.now values.now node) (T.reading target.old) }
-    ensures landed { OnOk result (T.reading target.new ≡ land_node path.now (landed_with object.now values.now node) (T.reading target.old)) }
-    ensures refused { IfErr result (IsWant (FullAtNode (HasNoRoom T.reading T.has_room T.follows target.old) path.now (landed_with object.now values.now node)
-        (T.reading target.old))) }
+    requires may { MayLandNode path.now (landed_with V.tree object.now values.now node) (T.reading target.old) }
+    ensures landed { OnOk result (T.reading target.new ≡ land_node path.now (landed_with V.tree object.now values.now node) (T.reading target.old)) }
+    ensures refused { IfErr result (IsWant (FullAtNode (HasNoRoom T.reading T.has_room T.follows target.old) path.now
+        (landed_with V.tree object.now values.now node) (T.reading target.old))) }
     ensures follows { T.follows target.old target.new }
 {
-    object.tree.validity();
+    let tree = object.tree;
+    tree.validity();
     let landing = LandingNode {
         node,
-        number: object.brought.numbers[node],
+        brought: &object.brought,
         values,
     };
-    set_properties(target, path, object.tree.props(node), &landing)?;
-    for child in object.tree.children(node) {
-        let path = add_child(values.alloc(), target, path, object.tree.name(child))?;
+    set_properties(target, path, tree, &landing)?;
+    let mut next = tree.first_child(node);
+    while let Some(child) = next {
+        let path = add_child(values.alloc(), target, path, tree.name(child))?;
         land(target, object, values, child, &path)?;
+        next = tree.next_sibling(child);
     }
     Ok(())
 }
 
 /// Lands what the fragments bring, each on its site, one after another.
-fn land_each<T: Target>(
+fn land_each<'o, T: Target, V: TreeView>(
     target: &mut T,
-    object: &Object,
-    values: &Values<'_>,
+    object: &Object<'o, V>,
+    values: &Values<'o>,
     sites: &[Path],
 ) -> Result<(), Fault>
-    requires nodes { AllByRecursion (λ x. x.content < length object.now.tree.slots) object.now.fragments.items }
-    requires numbers { length object.now.brought.numbers.items ≡ length object.now.tree.slots }
-    requires may { MayLandEachOf object.now values.now sites.now (T.reading target.old) }
-    ensures landed { OnOk result (T.reading target.new ≡ landed_each object.now values.now sites.now (T.reading target.old)) }
-    ensures refused { IfErr result (IsWant (FullAtEachOf (HasNoRoom T.reading T.has_room T.follows target.old) object.now values.now sites.now
-        (T.reading target.old))) }
+    requires nodes { AllByRecursion (λ x. IsNode (V.tree object.now.tree.now) x.content) object.now.fragments.items }
+    requires may { MayLandEach (landed_with V.tree object.now values.now) object.now.fragments.items sites.now (T.reading target.old) }
+    ensures landed { OnOk result (T.reading target.new ≡ each_landed (landed_with V.tree object.now values.now) object.now.fragments.items sites.now
+        (T.reading target.old)) }
+    ensures refused { IfErr result (IsWant (FullAtEach (HasNoRoom T.reading T.has_room T.follows target.old) (landed_with V.tree object.now values.now)
+        object.now.fragments.items sites.now (T.reading target.old))) }
     ensures follows { T.follows target.old target.new }
 {
     for (fragment, site) in object.fragments.iter().zip(sites) {
@@ -154,24 +164,24 @@ fn land_each<T: Target>(
 }
 
 /// Lands what the fragments bring, by a table of values that is empty.
-fn land_by<'o, T: Target>(
+fn land_by<'o, T: Target, V: TreeView>(
     target: &mut T,
-    object: &'o Object,
+    object: &Object<'o, V>,
     sites: &[Path],
     values: &mut Values<'o>,
 ) -> Result<(), Fault>
     requires none { values.old ≡ [] }
-    requires sited { (seen : Seen) × (found : List Site) × IsToLandOn object.now seen found sites.now
+    requires sited { (seen : Seen) × (found : List Site) × IsToLandOn V.tree object.now seen found sites.now
         × MayLandSeen (T.reading target.old) seen found }
-    ensures landed { (seen : Seen) (found : List Site) → IsToLandOn object.now seen found sites.now →
+    ensures landed { (seen : Seen) (found : List Site) → IsToLandOn V.tree object.now seen found sites.now →
         OnOk result (T.reading target.new ≡ seen_landed (T.reading target.old) seen found) }
-    ensures refused { (seen : Seen) (found : List Site) → IsToLandOn object.now seen found sites.now →
+    ensures refused { (seen : Seen) (found : List Site) → IsToLandOn V.tree object.now seen found sites.now →
         IfErr result (IsWant (FullAtSeen (HasNoRoom T.reading T.has_room T.follows target.old) (T.reading target.old) seen found)) }
     ensures follows { T.follows target.old target.new }
 {
     object.tree.validity();
-    values.write_all(&object.tree, &object.own_writes)?;
-    values.write_all(&object.tree, &object.label_writes)?;
+    values.write_all(object.tree, &object.own_writes)?;
+    values.write_all(object.tree, &object.label_writes)?;
     land_each(target, object, values, sites)
 }
 
@@ -181,21 +191,20 @@ fn land_by<'o, T: Target>(
 /// # Errors
 ///
 /// `Limit` where the tree has no room for a change on the way, and `NoMemory`. What landed before stays. None has a place.
-pub fn land_all<T: Target>(
-    alloc: Global,
+pub fn land_all<'o, T: Target, V: TreeView>(
     target: &mut T,
-    object: &Object,
+    object: &Object<'o, V>,
     landing: &Landing,
 ) -> Result<(), Fault>
-    requires { (seen : Seen) × (found : List Site) × IsToLandOn object.now seen found landing.now.sites.items
+    requires { (seen : Seen) × (found : List Site) × IsToLandOn V.tree object.now seen found landing.now.sites.items
         × MayLandSeen (T.reading target.old) seen found }
-    ensures landed { (seen : Seen) (found : List Site) → IsToLandOn object.now seen found landing.now.sites.items →
+    ensures landed { (seen : Seen) (found : List Site) → IsToLandOn V.tree object.now seen found landing.now.sites.items →
         OnOk result (T.reading target.new ≡ seen_landed (T.reading target.old) seen found) }
-    ensures refused { (seen : Seen) (found : List Site) → IsToLandOn object.now seen found landing.now.sites.items →
+    ensures refused { (seen : Seen) (found : List Site) → IsToLandOn V.tree object.now seen found landing.now.sites.items →
         IfErr result (IsWant (FullAtSeen (HasNoRoom T.reading T.has_room T.follows target.old) (T.reading target.old) seen found)) }
     ensures follows { T.follows target.old target.new }
 {
-    let mut values = Values::new(alloc, object.seed());
+    let mut values = Values::new(landing.places.alloc(), object.seed());
     let done = land_by(target, object, &landing.sites, &mut values);
     // Let go of by hand: what goes at an exit by itself is proved there field by field.
     drop(values);

@@ -2,10 +2,10 @@
 //! of the tree, one for each fragment; all sites are found before anything is changed.
 //!
 //! ```text
-//! find_sites(alloc, &tree, &object, &mut landing)?; // of `/plugin/; &{/} { d { }; };`: the root
+//! find_sites(&tree, &object, &mut landing)?;      // of `/plugin/; &{/} { d { }; };`: the root
 //! number_all(&tree, &landing, &mut object)?;
 //! renumber(&mut object);
-//! land_all(alloc, &mut tree, &object, &landing)?;   // /d is there
+//! land_all(&mut tree, &object, &landing)?;        // /d is there
 //! set_symbols(&mut tree, &object, &mut landing)?;
 //! ```
 //!

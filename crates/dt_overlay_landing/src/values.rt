@@ -1,27 +1,27 @@
 //! Values of an object's properties, with numbers written into their cells.
 
-ghost use Rattle.std.specs.Prelude.{◌≡◌, ◌<◌, [], Some, None, length, option_map, unwrap_or, OnOk, IfOk};
-ghost use Rattle.dt_model.specs.Tree.{value_of};
-ghost use Rattle.dt_flat.specs.Arena.{properties};
-ghost use Rattle.dt_overlay_landing.specs.Values.{Keeps, value_kept, with_values};
-ghost use Rattle.dt_overlay_object.specs.Writing.{IsWritable, AreWritable, with_write, with_writes};
+ghost use Rattle.std.specs.Prelude.{◌≡◌, [], ◌∷◌, ◌++◌, List, Some, None, option_map, unwrap_or, OnOk, IfOk};
+ghost use Rattle.dt_model.specs.Applied.{Write as ModelWrite};
+ghost use Rattle.dt_model.specs.Tree.{value_in};
+ghost use Rattle.dt_overlay_landing.specs.Values.{Keeps, value_kept, AreKept, MayWrite, MayWriteAll};
+ghost use Rattle.dt_trees.specs.Placed.{path_at, reading_of, IsNode};
 
 use dt_bytes::put32;
-use dt_flat::FlatTree;
 use dt_names::{NodeId, Seed};
 use dt_overlay_object::Write;
+use dt_trees::TreeView;
 use std::alloc::{AllocError, Global};
 use std::collections::HashMap;
 use std::marker::Model;
 
 /// The values of an object's properties into which numbers were written, by their nodes and names.
 #[derive(Drop)]
-pub(crate) struct Values<'w> {
+pub(crate) struct Values<'o> {
     alloc: Global,
-    map: HashMap<(NodeId, &'w [u8]), Vec<u8>, Seed>,
+    map: HashMap<(NodeId, &'o [u8]), Vec<u8>, Seed>,
 }
 
-impl<'w> Model for Values<'w> {
+impl<'o> Model for Values<'o> {
     ghost use Rattle.std.specs.Prelude.{List};
     ghost use Rattle.dt_overlay_landing.specs.Values.{Kept, values_kept};
 
@@ -30,7 +30,7 @@ impl<'w> Model for Values<'w> {
     ghost view = { λ a. values_kept a.map.entries };
 }
 
-impl<'w> Values<'w> {
+impl<'o> Values<'o> {
     /// No value. Names will be hashed behind the seed.
     pub fn new(alloc: Global, seed: Seed) -> Self
         ensures { result ≡ [] }
@@ -56,14 +56,14 @@ impl<'w> Values<'w> {
         }
     }
 
-    fn take(&mut self, node: NodeId, name: &'w [u8]) -> Option<Vec<u8>>
+    fn take(&mut self, node: NodeId, name: &'o [u8]) -> Option<Vec<u8>>
         ensures value { option_map (λ value. value.items) result ≡ value_kept self.old node name.now }
         ensures others { Keeps self.old self.new node name.now None }
     {
         self.map.remove(&(node, name))
     }
 
-    fn put(&mut self, node: NodeId, name: &'w [u8], value: Vec<u8>) -> Result<(), AllocError>
+    fn put(&mut self, node: NodeId, name: &'o [u8], value: Vec<u8>) -> Result<(), AllocError>
         ensures { OnOk result (Keeps self.old self.new node name.now (Some value.items)) }
     {
         self.map.insert((node, name), value)?;
@@ -71,31 +71,37 @@ impl<'w> Values<'w> {
     }
 
     /// The value that a node's property has so far, which is kept no more.
-    fn take_value(&mut self, object: &FlatTree, write: &'w Write) -> Result<Vec<u8>, AllocError>
-        requires { write.now.node < length object.now.slots }
-        ensures value { IfOk result (λ value. value.items ≡ unwrap_or (value_kept self.old write.now.node write.now.property.items)
-            (unwrap_or (value_of (properties object.now.slots write.now.node) write.now.property.items) [])) }
-        ensures others { Keeps self.old self.new write.now.node write.now.property.items None }
+    fn take_value<V: TreeView>(
+        &mut self,
+        object: &V,
+        node: NodeId,
+        name: &'o [u8],
+    ) -> Result<Vec<u8>, AllocError>
+        requires { IsNode (V.tree object.now) node }
+        ensures value { IfOk result (λ value. value.items ≡ unwrap_or (value_kept self.old node name.now)
+            (unwrap_or (value_in (reading_of (V.tree object.now)) (path_at (V.tree object.now) node) name.now) [])) }
+        ensures others { Keeps self.old self.new node name.now None }
     {
-        if let Some(value) = self.take(write.node, &write.property) {
+        if let Some(value) = self.take(node, name) {
             return Ok(value);
         }
-        let value = object.value(write.node, &write.property);
+        let value = object.value(node, name);
         Vec::from_slice(self.alloc, value.unwrap_or(b"".as_slice()))
     }
 
     /// A number is written. A `phandle` keeps its value here: it gets its node's new number where it lands.
-    fn write(&mut self, object: &FlatTree, write: &'w Write) -> Result<(), AllocError>
-        requires { IsWritable (with_values self.old 0 object.now.slots) write.now }
-        ensures { OnOk result (with_values self.new 0 object.now.slots ≡ with_write write.now (with_values self.old 0 object.now.slots)) }
+    fn write<V: TreeView>(&mut self, object: &V, write: &Write<'o>) -> Result<(), AllocError>
+        requires { (written : List ModelWrite) × (w : ModelWrite) × MayWrite (V.tree object.now) self.old written write.now w }
+        ensures { (written : List ModelWrite) (w : ModelWrite) → MayWrite (V.tree object.now) self.old written write.now w →
+            OnOk result (AreKept (V.tree object.now) self.new (written ++ w ∷ [])) }
     {
         object.validity();
-        if write.property.as_slice() == b"phandle".as_slice() {
+        if write.property == b"phandle".as_slice() {
             return Ok(());
         }
-        let mut value = self.take_value(object, write)?;
+        let mut value = self.take_value(object, write.node, write.property)?;
         put32(&mut value, write.offset, write.number);
-        self.put(write.node, &write.property, value)
+        self.put(write.node, write.property, value)
     }
 
     /// Writes numbers into the object's cells, one after another, the highest byte first; but into no `phandle`.
@@ -103,9 +109,14 @@ impl<'w> Values<'w> {
     /// # Errors
     ///
     /// Where memory is refused.
-    pub fn write_all(&mut self, object: &FlatTree, writes: &'w [Write]) -> Result<(), AllocError>
-        requires { AreWritable (with_values self.old 0 object.now.slots) writes.now }
-        ensures { OnOk result (with_values self.new 0 object.now.slots ≡ with_writes writes.now (with_values self.old 0 object.now.slots)) }
+    pub fn write_all<V: TreeView>(
+        &mut self,
+        object: &V,
+        writes: &[Write<'o>],
+    ) -> Result<(), AllocError>
+        requires { (written : List ModelWrite) × (more : List ModelWrite) × MayWriteAll (V.tree object.now) self.old written writes.now more }
+        ensures { (written more : List ModelWrite) → MayWriteAll (V.tree object.now) self.old written writes.now more →
+            OnOk result (AreKept (V.tree object.now) self.new (written ++ more)) }
     {
         for write in writes {
             self.write(object, write)?;

@@ -1,6 +1,4 @@
 pub mod Elements
+pub mod Contents
 pub mod OwnNumbers
-pub mod NumbersBrought
-pub mod NumbersTurns
-pub mod NumbersWalk
 pub mod Results

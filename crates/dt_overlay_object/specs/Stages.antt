@@ -14,6 +14,7 @@ use Rattle.dt_overlay_object.specs.Objects.{Seen, IsSeenAs}
 use Rattle.dt_overlay_object.specs.declared.landing.Landing.{Landing}
 use Rattle.dt_overlay_object.specs.declared.object.Object.{Object}
 use Rattle.dt_overlay_base.specs.Known.{IsKnown}
+use Rattle.dt_trees.specs.Placed.{PlacedTree}
 
 -- nothing has landed so far
 pub record IsEmptyLanding (l : Landing) : Type 0 where
@@ -30,23 +31,23 @@ seen_with base object fixups numbers = record {
 }
 
 -- the object is read, and has no fault
-pub record IsReadFor (base object : Reading) (o : Object) : Type 0 where
+pub record IsReadFor {V : Type 0} (tree : V → PlacedTree) (base object : Reading) (o : Object V) : Type 0 where
   pub valid : IsValid object
   pub few : IsWithinLimits object
   pub fixups : List (Name × Cell)
   pub listed : HasFixups object fixups
   pub well : IsWellFormed base object
-  pub seen : IsSeenAs o (seen_with base object fixups [])
+  pub seen : IsSeenAs tree o (seen_with base object fixups [])
 
 -- and its fragments have sites, and its nodes numbers
-pub record IsSitedFor (base object : Reading) (fixups : List (Name × Cell)) (o : Object) (sites : List Path) : Type 0 where
+pub record IsSitedFor {V : Type 0} (tree : V → PlacedTree) (base object : Reading) (fixups : List (Name × Cell)) (o : Object V) (sites : List Path) : Type 0 where
   pub end : Walked
   pub sited : AreSited base object fixups nothing_walked (fragment_names object.children) end
   pub at : sites ≡ map (λ (x : Site). x.at) end.sites
-  pub seen : IsSeenAs o (record (seen_with base object fixups []) { numbers = new_numbers base object end })
+  pub seen : IsSeenAs tree o (record (seen_with base object fixups []) { numbers = new_numbers base object end })
 
 -- and these are those of its cells
-pub record IsNumberedFor (base object : Reading) (o : Object) (sites : List Path) : Type 0 where
+pub record IsNumberedFor {V : Type 0} (tree : V → PlacedTree) (base object : Reading) (o : Object V) (sites : List Path) : Type 0 where
   pub valid : IsValid object
   pub few : IsWithinLimits object
   pub fixups : List (Name × Cell)
@@ -55,4 +56,4 @@ pub record IsNumberedFor (base object : Reading) (o : Object) (sites : List Path
   pub end : Walked
   pub sited : AreSited base object fixups nothing_walked (fragment_names object.children) end
   pub at : sites ≡ map (λ (x : Site). x.at) end.sites
-  pub seen : IsSeenAs o (seen_with base object fixups (new_numbers base object end))
+  pub seen : IsSeenAs tree o (seen_with base object fixups (new_numbers base object end))

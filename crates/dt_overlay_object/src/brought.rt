@@ -1,63 +1,114 @@
 //! Which nodes an object's fragments bring, and the numbers that they get.
 
-ghost use Rattle.std.specs.Prelude.{◌≡◌, ◌<◌, [], length, IfOk};
+ghost use Rattle.std.specs.Prelude.{◌≡◌, ℕ, [], List, OnOk};
+ghost use Rattle.dt_model.specs.Names.{Name};
+ghost use Rattle.dt_model.specs.Numbers.{is_brought};
 ghost use Rattle.dt_model.specs.Object.{fragment_names};
-ghost use Rattle.dt_flat.specs.Arena.{reading};
-ghost use Rattle.dt_overlay_object.specs.NumbersGiven.{walk, with_fragment};
-ghost use Rattle.dt_overlay_object.specs.Plans.{AreFragmentsOf, AreBrought, IsUnbrought};
+ghost use Rattle.dt_overlay_object.specs.Plans.{at_node, AreContents, AreFragmentsOf, AreBroughtBy, IsUnbrought, PutsAt};
+ghost use Rattle.dt_trees.specs.Placed.{path_at, reading_of, IsNode};
 
 use crate::kept::ObjectFragment;
-use dt_flat::FlatTree;
-use dt_names::NodeId;
+use dt_names::{NodeId, Seed};
+use dt_trees::TreeView;
 use std::alloc::{AllocError, Global};
+use std::collections::HashMap;
 
-/// What becomes of the nodes of an object, by their numbers in its tree.
+/// What becomes of the nodes of an object.
 #[derive(Drop)]
 pub struct Brought {
-    /// Which of the fragments brings the node.
-    pub fragments: Vec<Option<usize>>,
-    /// The number that the node gets, if it gets one.
-    pub numbers: Vec<Option<u32>>,
+    alloc: Global,
+    /// The fragment whose content a node is. It brings the node and those below it.
+    pub contents: HashMap<NodeId, usize, Seed>,
+    /// The number that a node gets, if it gets one.
+    pub numbers: HashMap<NodeId, u32, Seed>,
 }
 
 impl Brought {
-    /// For an object of so many nodes, with none brought so far.
+    /// No node is brought so far. Nodes will be hashed behind the seed. Takes no memory.
+    pub fn new(alloc: Global, seed: Seed) -> Brought
+        ensures { IsUnbrought result }
+    {
+        Brought {
+            alloc,
+            contents: HashMap::with_hasher(alloc, seed),
+            numbers: HashMap::with_hasher(alloc, seed),
+        }
+    }
+
+    /// The allocator behind the tables.
+    pub fn alloc(&self) -> Global {
+        self.alloc
+    }
+
+    fn put_content(&mut self, content: NodeId, fragment: usize) -> Result<(), AllocError>
+        ensures contents { OnOk result (PutsAt self.old.contents.entries self.new.contents.entries content fragment) }
+        ensures numbers { self.new.numbers ≡ self.old.numbers }
+    {
+        self.contents.insert(content, fragment)?;
+        Ok(())
+    }
+
+    /// A node gets a number.
     ///
     /// # Errors
     ///
     /// Where memory is refused.
-    pub fn new(alloc: Global, nodes: usize) -> Result<Brought, AllocError>
-        ensures { IfOk result (IsUnbrought nodes) }
+    pub fn put_number(&mut self, node: NodeId, number: u32) -> Result<(), AllocError>
+        ensures numbers { OnOk result (PutsAt self.old.numbers.entries self.new.numbers.entries node number) }
+        ensures contents { self.new.contents ≡ self.old.contents }
     {
-        Ok(Brought {
-            fragments: vec![in alloc; None; nodes]?,
-            numbers: vec![in alloc; None; nodes]?,
-        })
+        self.numbers.insert(node, number)?;
+        Ok(())
+    }
+
+    /// The fragment whose content a node is.
+    pub fn content(&self, node: NodeId) -> Option<usize>
+        ensures { result ≡ at_node self.now.contents.entries node }
+    {
+        self.contents.get(&node).copied()
+    }
+
+    /// The number that a node gets, if it gets one.
+    pub fn number(&self, node: NodeId) -> Option<u32>
+        ensures { result ≡ at_node self.now.numbers.entries node }
+    {
+        self.numbers.get(&node).copied()
+    }
+
+    /// Whether a fragment brings a node: it is the fragment's content, or below it. Takes no memory.
+    pub fn brings<V: TreeView>(&self, object: &V, node: NodeId) -> bool
+        requires { IsNode (V.tree object.now) node }
+        ensures { (names : List Name) → AreContents (V.tree object.now) names self.now.contents.entries →
+            result ≡ is_brought names (path_at (V.tree object.now) node) }
+    {
+        object.validity();
+        if self.content(node).is_some() {
+            return true;
+        }
+        match object.parent(node) {
+            Some(above) => self.brings(object, above),
+            None => false,
+        }
     }
 }
 
-/// A fragment brings a node and those below it.
-fn bring_nodes(object: &FlatTree, node: NodeId, fragment: usize, brought: &mut Brought)
-    requires node { node < length object.now.slots }
-    requires all { length brought.old.fragments.items ≡ length object.now.slots }
-    ensures fragments { brought.new.fragments.items ≡ with_fragment fragment (walk object.now.slots node) brought.old.fragments.items }
-    ensures numbers { brought.new.numbers.items ≡ brought.old.numbers.items }
-{
-    object.validity();
-    brought.fragments[node] = Some(fragment);
-    for child in object.children(node) {
-        bring_nodes(object, child, fragment, brought);
-    }
-}
-
-/// The nodes that the fragments bring (dtc's notes on overlay objects). None has a number so far. Takes no memory.
-pub fn bring_all(object: &FlatTree, fragments: &[ObjectFragment], brought: &mut Brought)
-    requires fragments { AreFragmentsOf object.now.slots (reading object.now) fragments.now (fragment_names (reading object.now).children) }
-    requires unbrought { IsUnbrought (length object.now.slots) brought.old }
-    ensures brought { AreBrought object.now.slots (fragment_names (reading object.now).children) [] brought.new }
+/// The fragments bring their contents (dtc's notes on overlay objects). No node has a number so far.
+///
+/// # Errors
+///
+/// Where memory is refused.
+pub fn bring_all<V: TreeView>(
+    object: &V,
+    fragments: &[ObjectFragment<'_>],
+    brought: &mut Brought,
+) -> Result<(), AllocError>
+    requires fragments { AreFragmentsOf (V.tree object.now) fragments.now (fragment_names (reading_of (V.tree object.now)).children) }
+    requires unbrought { IsUnbrought brought.old }
+    ensures brought { OnOk result (AreBroughtBy (V.tree object.now) [] brought.new) }
 {
     object.validity();
     for (i, fragment) in fragments.iter().enumerate() {
-        bring_nodes(object, fragment.content, i, brought);
+        brought.put_content(fragment.content, i)?;
     }
+    Ok(())
 }

@@ -1,19 +1,17 @@
 -- What is listed for labels, as a loop goes over the properties of `__fixups__`.
-use Rattle.std.proofs.Common.{◌≡◌, ℕ, ◌<◌, ◌^◌, List, [], ◌∷◌, ◌++◌, map, Option, Some, None, unwrap_or, option_map, refl, sym, ap, subst, ◌∙◌, ◌⊎◌, inl, inr, append_assoc, codes}
-use Rattle.std.specs.Prelude.{option_and_then}
+use Rattle.std.proofs.Common.{◌≡◌, ℕ, ◌<◌, ◌^◌, List, [], ◌∷◌, ◌++◌, map, Option, Some, unwrap_or, refl, sym, ap, subst, ◌∙◌, ◌⊎◌, inl, inr, append_assoc, codes}
 use Rattle.std.specs.List.{AllByRecursion}
 use Rattle.std.proofs.lemmas.List.{append-nil}
 use Rattle.std.proofs.lemmas.Nat.{from_be_bytes-to_be_bytes_4}
 use Rattle.dt_model.specs.Meaning.{cell}
 use Rattle.dt_model.specs.Names.{Name}
-use Rattle.dt_model.specs.Object.{Cell, properties_of, HasCell}
+use Rattle.dt_model.specs.Object.{Cell, HasCell}
 use Rattle.dt_model.specs.Path.{Path}
-use Rattle.dt_model.specs.Tree.{Property, Reading, node_at, value_in}
+use Rattle.dt_model.specs.Tree.{Property, Reading, value_in}
 use Rattle.dt_model.specs.Applied.{Write, symbol, number_at, label_write}
 use Rattle.dt_names.specs.declared.fault.FaultKind.{FaultKind}
 use Rattle.dt_names.specs.declared.fault.FaultKind.TheVariants.{NoMemory, NoSymbol, BadSymbol, BadFixup}
-use Rattle.dt_flat.specs.Arena.{Arena, reading, node_from, child_of, named_children, properties}
-use Rattle.dt_flat.proofs.ByPath.{has, reading_at}
+use Rattle.dt_trees.specs.Placed.{PlacedTree, reading_of}
 use Rattle.dt_model.proofs.Tests.{each_append}
 use Rattle.dt_overlay_laws.specs.Objects.{AreCellsOf, SymbolHasNumber, IsFixup, fixups_in}
 use Rattle.dt_overlay_laws.specs.Refusals.{WhyNoFixup, HasNoFixup}
@@ -44,21 +42,21 @@ each_there object l [] h = tt
 each_there object l (c ∷ cells) h = (h.0, each_there object l cells h.1)
 
 -- the cells of a property's value get the number of its label
-pub ListsLabels-one : (base : Reading) (object : Arena) (x : Property) (n : ℕ) (old new : List KeptWrite) → SymbolHasNumber base x.name n → n < 2 ^ 32 → ListsCells object x.value n old new
+pub ListsLabels-one : (base : Reading) (object : PlacedTree) (x : Property) (n : ℕ) (old new : List KeptWrite) → SymbolHasNumber base x.name n → n < 2 ^ 32 → ListsCells object x.value n old new
     → ListsLabels base object (x ∷ []) old new
 ListsLabels-one base object x n old new has fits told = record {
   more = told.more;
   appended = told.appended;
   fixups = map (λ (c : Cell). (x.name, c)) told.cells;
   listed = (told.cells, [], sym (append-nil (map (λ (c : Cell). (x.name, c)) told.cells)), told.listed.texts, refl);
-  writes = subst (λ (ws : List Write). AreWritesOf object.slots told.more ws) (sym (labels_numbered base x.name n told.cells has fits)) told.writes;
-  cells = each_there (reading object) x.name told.cells told.listed.there;
+  writes = subst (λ (ws : List Write). AreWritesOf object told.more ws) (sym (labels_numbered base x.name n told.cells has fits)) told.writes;
+  cells = each_there (reading_of object) x.name told.cells told.listed.there;
   well = (record { cells = told.cells; listed = told.listed; number = n; numbered = has }, tt);
 }
 
 -- ---- several
 
-pub ListsLabels-none : (base : Reading) (object : Arena) (out : List KeptWrite) → ListsLabels base object [] out out
+pub ListsLabels-none : (base : Reading) (object : PlacedTree) (out : List KeptWrite) → ListsLabels base object [] out out
 ListsLabels-none base object out = record { more = []; appended = sym (append-nil out); fixups = []; listed = refl; writes = tt; cells = tt; well = tt }
 
 map-append : (base : Reading) (xs ys : List (Name × Cell)) → map (label_write base) (xs ++ ys) ≡ map (label_write base) xs ++ map (label_write base) ys
@@ -71,7 +69,7 @@ both_there object [] ys h k = k
 both_there object (x ∷ xs) ys h k = (h.0, both_there object xs ys h.1 k)
 
 -- what is listed for one, and then for others
-pub ListsLabels-more : (base : Reading) (object : Arena) (x : Property) (rest : List Property) (old mid new : List KeptWrite) → ListsLabels base object (x ∷ []) old mid → ListsLabels base object rest mid new
+pub ListsLabels-more : (base : Reading) (object : PlacedTree) (x : Property) (rest : List Property) (old mid new : List KeptWrite) → ListsLabels base object (x ∷ []) old mid → ListsLabels base object rest mid new
     → ListsLabels base object (x ∷ rest) old new
 ListsLabels-more base object x rest old mid new first others =
     let cells = first.listed.0 in
@@ -82,22 +80,22 @@ ListsLabels-more base object x rest old mid new first others =
       appended = others.appended ∙ ap (λ (xs : List KeptWrite). xs ++ others.more) first.appended ∙ append_assoc old first.more others.more;
       fixups = first.fixups ++ others.fixups;
       listed = (cells, others.fixups, ap (λ (fs : List (Name × Cell)). fs ++ others.fixups) alone, first.listed.3, others.listed);
-      writes = subst (λ (ws : List Write). AreWritesOf object.slots (first.more ++ others.more) ws) (sym (map-append base first.fixups others.fixups))
-          (AreWritesOf-append object.slots first.more others.more (map (label_write base) first.fixups) (map (label_write base) others.fixups) first.writes others.writes);
-      cells = both_there (reading object) first.fixups others.fixups first.cells others.cells;
+      writes = subst (λ (ws : List Write). AreWritesOf object (first.more ++ others.more) ws) (sym (map-append base first.fixups others.fixups))
+          (AreWritesOf-append object first.more others.more (map (label_write base) first.fixups) (map (label_write base) others.fixups) first.writes others.writes);
+      cells = both_there (reading_of object) first.fixups others.fixups first.cells others.cells;
       well = (first.well.0, others.well);
     }
 
 -- ---- as a loop goes on
 
 -- what is listed for the properties that are left completes what is listed for all, and those before have numbers
-pub record LabelsLeft (base : Reading) (object : Arena) (all left : List Property) (before after : List KeptWrite) : Type 0 where
+pub record LabelsLeft (base : Reading) (object : PlacedTree) (all left : List Property) (before after : List KeptWrite) : Type 0 where
   pub listed : (new : List KeptWrite) → ListsLabels base object left after new → ListsLabels base object all before new
   pub front : List Property
   pub split : all ≡ front ++ left
-  pub well : AllByRecursion (IsFixup base (reading object)) front
+  pub well : AllByRecursion (IsFixup base (reading_of object)) front
 
-pub labels_begin : (base : Reading) (object : Arena) (all left : List Property) (out : List KeptWrite) → left ≡ all → LabelsLeft base object all left out out
+pub labels_begin : (base : Reading) (object : PlacedTree) (all left : List Property) (out : List KeptWrite) → left ≡ all → LabelsLeft base object all left out out
 labels_begin base object all left out e = record {
   listed = λ new l. subst (λ (ps : List Property). ListsLabels base object ps out new) e l;
   front = [];
@@ -105,36 +103,23 @@ labels_begin base object all left out e = record {
   well = tt;
 }
 
-pub labels_step : (base : Reading) (object : Arena) (all left rest : List Property) (x : Property) (before after out : List KeptWrite) → left ≡ x ∷ rest → LabelsLeft base object all left before after
+pub labels_step : (base : Reading) (object : PlacedTree) (all left rest : List Property) (x : Property) (before after out : List KeptWrite) → left ≡ x ∷ rest → LabelsLeft base object all left before after
     → ListsLabels base object (x ∷ []) after out → LabelsLeft base object all rest before out
 labels_step base object all left rest x before after out e so_far first = record {
   listed = λ new others. so_far.listed new (subst (λ (ps : List Property). ListsLabels base object ps after new) (sym e) (ListsLabels-more base object x rest after out new first others));
   front = so_far.front ++ x ∷ [];
   split = so_far.split ∙ ap (λ (ps : List Property). so_far.front ++ ps) e ∙ sym (append_assoc so_far.front (x ∷ []) rest);
-  well = each_append (IsFixup base (reading object)) so_far.front (x ∷ []) so_far.well first.well;
+  well = each_append (IsFixup base (reading_of object)) so_far.front (x ∷ []) so_far.well first.well;
 }
 
 -- ---- all of them
 
--- the child of the root is the node to which its name leads
-pub child_led : (a : Arena) (root : ℕ) (name x : Name) (o : Option ℕ) → root ≡ 0 → name ≡ x → o ≡ child_of (named_children a.slots root) name → node_from a.slots 0 (x ∷ []) ≡ option_and_then (λ i. Some i) o
-child_led a root name x o at is e =
-    ap (option_and_then (λ i. Some i)) (ap (λ (i : ℕ). child_of (named_children a.slots i) x) (sym at) ∙ ap (child_of (named_children a.slots root)) (sym is) ∙ sym e)
-
--- the properties of the node to which a path leads
-pub properties_led : (a : Arena) (p : Path) (i : ℕ) → node_from a.slots 0 p ≡ Some i → properties_of (node_at (reading a) p) ≡ properties a.slots i
-properties_led a p i leads = ap properties_of (reading_at a p ∙ ap (λ (o : Option ℕ). option_map (has a.slots) o) leads)
-
--- where it leads nowhere there are none
-pub no_properties_led : (a : Arena) (p : Path) → node_from a.slots 0 p ≡ None → properties_of (node_at (reading a) p) ≡ []
-no_properties_led a p leads = ap properties_of (reading_at a p ∙ ap (λ (o : Option ℕ). option_map (has a.slots) o) leads)
-
-pub fixups_listed : (base : Reading) (object : Arena) (ps : List Property) (old new : List KeptWrite) → fixups_in (reading object) ≡ ps → ListsLabels base object ps old new → ListsFixups base object old new
+pub fixups_listed : (base : Reading) (object : PlacedTree) (ps : List Property) (old new : List KeptWrite) → fixups_in (reading_of object) ≡ ps → ListsLabels base object ps old new → ListsFixups base object old new
 fixups_listed base object ps old new e labels =
-    let l : ListsLabels base object (fixups_in (reading object)) old new = subst (λ (qs : List Property). ListsLabels base object qs old new) (sym e) labels in
+    let l : ListsLabels base object (fixups_in (reading_of object)) old new = subst (λ (qs : List Property). ListsLabels base object qs old new) (sym e) labels in
     record { more = l.more; appended = l.appended; fixups = l.fixups; listed = l.listed; writes = l.writes; cells = l.cells; well = l.well }
 
-pub labels_over : (base : Reading) (object : Arena) (all left : List Property) (before after : List KeptWrite) → fixups_in (reading object) ≡ all → left ≡ [] → LabelsLeft base object all left before after
+pub labels_over : (base : Reading) (object : PlacedTree) (all left : List Property) (before after : List KeptWrite) → fixups_in (reading_of object) ≡ all → left ≡ [] → LabelsLeft base object all left before after
     → ListsFixups base object before after
 labels_over base object all left before after is e so_far =
     fixups_listed base object all before after is (so_far.listed after (subst (λ (ps : List Property). ListsLabels base object ps after after) (sym e) (ListsLabels-none base object after)))
@@ -156,8 +141,8 @@ unlisted base object x kind (inl memory) = inl memory
 unlisted base object x kind (inr (is, never)) = inr (subst (λ (k : FaultKind). WhyNoFixup k base object x) (sym is) never)
 
 -- the first property whose cells get no number
-pub first_unnumbered : (base : Reading) (object : Arena) (all left rest : List Property) (x : Property) (before after : List KeptWrite) (kind : FaultKind) → fixups_in (reading object) ≡ all → left ≡ x ∷ rest
-    → LabelsLeft base object all left before after → (kind ≡ NoMemory) ⊎ WhyNoFixup kind base (reading object) x → (kind ≡ NoMemory) ⊎ HasNoFixup kind base (reading object)
+pub first_unnumbered : (base : Reading) (object : PlacedTree) (all left rest : List Property) (x : Property) (before after : List KeptWrite) (kind : FaultKind) → fixups_in (reading_of object) ≡ all → left ≡ x ∷ rest
+    → LabelsLeft base object all left before after → (kind ≡ NoMemory) ⊎ WhyNoFixup kind base (reading_of object) x → (kind ≡ NoMemory) ⊎ HasNoFixup kind base (reading_of object)
 first_unnumbered base object all left rest x before after kind is e so_far (inl memory) = inl memory
 first_unnumbered base object all left rest x before after kind is e so_far (inr why) = inr (record {
   front = so_far.front;

@@ -5,7 +5,7 @@ use Rattle.std.proofs.lemmas.List.{append-nil}
 use Rattle.dt_model.specs.Object.{Cell, HasCell}
 use Rattle.dt_model.specs.Tree.{Reading}
 use Rattle.dt_model.specs.Applied.{Write}
-use Rattle.dt_flat.specs.Arena.{Arena, Slot, reading}
+use Rattle.dt_trees.specs.Placed.{PlacedTree, reading_of}
 use Rattle.dt_overlay_texts.specs.Texts.{AreTexts, TellCells, TextsAreOne, CellTextsAreTexts}
 use Rattle.dt_overlay_laws.specs.Objects.{AreCellsOf}
 use Rattle.dt_overlay_object.specs.declared.kept.Write.{Write as KeptWrite}
@@ -71,22 +71,22 @@ told_all object value left e so_far = so_far.1 (subst (HasAllTold object) (sym e
 -- ---- what is listed for them
 
 -- writes behind writes
-pub AreWritesOf-append : (slots : List Slot) (xs ys : List KeptWrite) (ws vs : List Write) → AreWritesOf slots xs ws → AreWritesOf slots ys vs → AreWritesOf slots (xs ++ ys) (ws ++ vs)
+pub AreWritesOf-append : (slots : PlacedTree) (xs ys : List KeptWrite) (ws vs : List Write) → AreWritesOf slots xs ws → AreWritesOf slots ys vs → AreWritesOf slots (xs ++ ys) (ws ++ vs)
 AreWritesOf-append slots [] ys [] vs a b = b
 AreWritesOf-append slots [] ys (w ∷ ws) vs a b = absurd a
 AreWritesOf-append slots (x ∷ xs) ys [] vs a b = absurd a
 AreWritesOf-append slots (x ∷ xs) ys (w ∷ ws) vs a b = (a.0, AreWritesOf-append slots xs ys ws vs a.1 b)
 
 -- what is listed for no texts is nothing
-pub ListsTold-none : (object : Arena) (n : ℕ) (out : List KeptWrite) → ListsTold object [] n out out
+pub ListsTold-none : (object : PlacedTree) (n : ℕ) (out : List KeptWrite) → ListsTold object [] n out out
 ListsTold-none object n out = record { more = []; appended = sym (append-nil out); cells = []; told = tt; there = tt; writes = tt }
 
 -- what is listed for one, and then for others
-pub ListsTold-more : (object : Arena) (text : List ℕ) (rest : List (List ℕ)) (n : ℕ) (old mid new : List KeptWrite) → ListsTold object (text ∷ []) n old mid → ListsTold object rest n mid new
+pub ListsTold-more : (object : PlacedTree) (text : List ℕ) (rest : List (List ℕ)) (n : ℕ) (old mid new : List KeptWrite) → ListsTold object (text ∷ []) n old mid → ListsTold object rest n mid new
     → ListsTold object (text ∷ rest) n old new
 ListsTold-more object text rest n old mid new first others = by first.cells first.told first.there first.writes
   where
-    by : (cells : List Cell) → TellCells (text ∷ []) cells → AllByRecursion (HasCell (reading object)) cells → AreWritesOf object.slots first.more (map (numbered n) cells) → ListsTold object (text ∷ rest) n old new
+    by : (cells : List Cell) → TellCells (text ∷ []) cells → AllByRecursion (HasCell (reading_of object)) cells → AreWritesOf object first.more (map (numbered n) cells) → ListsTold object (text ∷ rest) n old new
     by [] told there writes = absurd told
     by (c ∷ d ∷ cells) told there writes = absurd told.1
     by (c ∷ []) told there writes = record {
@@ -95,21 +95,21 @@ ListsTold-more object text rest n old mid new first others = by first.cells firs
       cells = c ∷ others.cells;
       told = (told.0, others.told);
       there = (there.0, others.there);
-      writes = AreWritesOf-append object.slots first.more others.more (numbered n c ∷ []) (map (numbered n) others.cells) writes others.writes;
+      writes = AreWritesOf-append object first.more others.more (numbered n c ∷ []) (map (numbered n) others.cells) writes others.writes;
     }
 
 -- ---- as a loop goes on
 
 -- what is listed for the texts that are left completes what is listed for the value
-pub record CellsLeft (object : Arena) (value : List ℕ) (left : List (List ℕ)) (n : ℕ) (before after : List KeptWrite) : Type 0 where
+pub record CellsLeft (object : PlacedTree) (value : List ℕ) (left : List (List ℕ)) (n : ℕ) (before after : List KeptWrite) : Type 0 where
   pub listed : (new : List KeptWrite) → ListsTold object left n after new → ListsCells object value n before new
-  pub has : HasCells (reading object) value ↔ HasAllTold (reading object) left
+  pub has : HasCells (reading_of object) value ↔ HasAllTold (reading_of object) left
 
-pub cells_begin : TextsAreOne → CellTextsAreTexts → (object : Arena) (value : List ℕ) (texts left : List (List ℕ)) (n : ℕ) (out : List KeptWrite) → left ≡ texts → AreTexts value texts → texts ≢ []
+pub cells_begin : TextsAreOne → CellTextsAreTexts → (object : PlacedTree) (value : List ℕ) (texts left : List (List ℕ)) (n : ℕ) (out : List KeptWrite) → left ≡ texts → AreTexts value texts → texts ≢ []
     → CellsLeft object value left n out out
 cells_begin one law object value texts left n out e are some = record {
   listed = λ new told. whole new (subst (λ (xs : List (List ℕ)). ListsTold object xs n out new) e told);
-  has = subst (λ (xs : List (List ℕ)). HasCells (reading object) value ↔ HasAllTold (reading object) xs) (sym e) (told_begins one law (reading object) value texts are some);
+  has = subst (λ (xs : List (List ℕ)). HasCells (reading_of object) value ↔ HasAllTold (reading_of object) xs) (sym e) (told_begins one law (reading_of object) value texts are some);
 }
   where
     whole : (new : List KeptWrite) → ListsTold object texts n out new → ListsCells object value n out new
@@ -117,21 +117,21 @@ cells_begin one law object value texts left n out e are some = record {
       more = told.more;
       appended = told.appended;
       cells = told.cells;
-      listed = are_told law (reading object) value texts told.cells are some told.told told.there;
+      listed = are_told law (reading_of object) value texts told.cells are some told.told told.there;
       writes = told.writes;
     }
 
-pub cells_step : (object : Arena) (value text : List ℕ) (left rest : List (List ℕ)) (n : ℕ) (before after out : List KeptWrite) → left ≡ text ∷ rest → CellsLeft object value left n before after
+pub cells_step : (object : PlacedTree) (value text : List ℕ) (left rest : List (List ℕ)) (n : ℕ) (before after out : List KeptWrite) → left ≡ text ∷ rest → CellsLeft object value left n before after
     → ListsTold object (text ∷ []) n after out → CellsLeft object value rest n before out
 cells_step object value text left rest n before after out e so_far first = record {
   listed = λ new others. so_far.listed new (subst (λ (xs : List (List ℕ)). ListsTold object xs n after new) (sym e) (ListsTold-more object text rest n after out new first others));
   has = by first.cells first.told first.there;
 }
   where
-    by : (cells : List Cell) → TellCells (text ∷ []) cells → AllByRecursion (HasCell (reading object)) cells → HasCells (reading object) value ↔ HasAllTold (reading object) rest
+    by : (cells : List Cell) → TellCells (text ∷ []) cells → AllByRecursion (HasCell (reading_of object)) cells → HasCells (reading_of object) value ↔ HasAllTold (reading_of object) rest
     by [] told there = absurd told
-    by (c ∷ cells) told there = told_others (reading object) value text left rest c e (told.0, there.0) so_far.has
+    by (c ∷ cells) told there = told_others (reading_of object) value text left rest c e (told.0, there.0) so_far.has
 
-pub cells_over : (object : Arena) (value : List ℕ) (left : List (List ℕ)) (n : ℕ) (before after : List KeptWrite) → left ≡ [] → CellsLeft object value left n before after → ListsCells object value n before after
+pub cells_over : (object : PlacedTree) (value : List ℕ) (left : List (List ℕ)) (n : ℕ) (before after : List KeptWrite) → left ≡ [] → CellsLeft object value left n before after → ListsCells object value n before after
 cells_over object value left n before after e so_far =
     so_far.listed after (subst (λ (xs : List (List ℕ)). ListsTold object xs n after after) (sym e) (ListsTold-none object n after))

@@ -10,4 +10,5 @@ pub mod SymbolsFragments
 pub mod SymbolsListed
 pub mod SymbolsNodes
 pub mod ReadObjects
+pub mod RootChildren
 pub mod Told

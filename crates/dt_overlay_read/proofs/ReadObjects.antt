@@ -7,14 +7,14 @@ use Rattle.dt_model.specs.Tree.{Reading}
 use Rattle.dt_model.specs.Valid.{IsValid, IsWithinLimits}
 use Rattle.dt_model.specs.Object.{Cell, fragment_names, local_cells, HasCell}
 use Rattle.dt_model.specs.Applied.{Write, label_write, local_write}
-use Rattle.dt_flat.specs.Arena.{reading}
+use Rattle.dt_trees.specs.Placed.{PlacedTree, reading_of}
 use Rattle.dt_overlay_laws.specs.Objects.{symbols_in}
 use Rattle.dt_overlay_object.specs.Stages.{IsReadFor}
 use Rattle.dt_overlay_object.specs.declared.object.Object.{Object}
 use Rattle.dt_overlay_read.proofs.Told.{all_held}
 use Rattle.dt_overlay_object.specs.declared.kept.Symbol.{Symbol}
 use Rattle.dt_overlay_object.specs.declared.kept.Write.{Write as KeptWrite}
-use Rattle.dt_overlay_object.specs.Plans.{AreFragmentsOf, AreWritesOf, AreBrought, AreSymbolsOf, ListsFixups, ListsLocalFixups, ListsSymbols, symbol_brought}
+use Rattle.dt_overlay_object.specs.Plans.{AreFragmentsOf, AreWritesOf, AreBroughtBy, AreSymbolsOf, ListsFixups, ListsLocalFixups, ListsSymbols, symbol_brought}
 
 -- ---- cells
 
@@ -30,32 +30,34 @@ own_cells object numbers (c ∷ cells) h = (h.0, own_cells object numbers cells 
 
 -- ---- what is read
 
-pub read_for : (base : Reading) (o : Object) → IsValid (reading o.tree) → IsWithinLimits (reading o.tree)
-    → AreFragmentsOf o.tree.slots (reading o.tree) o.fragments.items (fragment_names (reading o.tree).children)
-    → ListsFixups base o.tree [] o.label_writes.items
-    → AreBrought o.tree.slots (fragment_names (reading o.tree).children) [] o.brought
-    → ListsLocalFixups o.tree [] [] o.own_writes.items
-    → ListsSymbols o.tree [] o.symbols.items
-    → IsReadFor base (reading o.tree) o
-read_for base o valid few fragments labels brought locals symbols = record {
-  valid = valid;
-  few = few;
-  fixups = labels.fixups;
-  listed = labels.listed;
-  well = record {
-    targets = all_held o.tree.slots (reading o.tree) o.fragments.items (fragment_names (reading o.tree).children) fragments;
-    fixups = labels.well;
-    mirror = locals.well;
-    symbols = symbols.well;
-  };
-  seen = record {
-    reads = refl;
-    fragments = fragments;
-    own = subst (λ (xs : List KeptWrite). AreWritesOf o.tree.slots xs (map (local_write (reading o.tree) []) (local_cells (reading o.tree)))) (sym locals.appended) locals.writes;
-    labels = subst (λ (xs : List KeptWrite). AreWritesOf o.tree.slots xs (map (label_write base) labels.fixups)) (sym labels.appended) labels.writes;
-    own_there = own_cells (reading o.tree) [] (local_cells (reading o.tree)) locals.cells;
-    labels_there = label_cells base (reading o.tree) labels.fixups labels.cells;
-    symbols = subst (λ (xs : List Symbol). AreSymbolsOf o.tree.slots xs (flat_map (symbol_brought (reading o.tree)) (symbols_in (reading o.tree)))) (sym symbols.appended) symbols.symbols;
-    brought = brought;
-  };
-}
+pub read_for : {V : Type 0} (tree : V → PlacedTree) (base : Reading) (o : Object V) → IsValid (reading_of (tree o.tree.now)) → IsWithinLimits (reading_of (tree o.tree.now))
+    → AreFragmentsOf (tree o.tree.now) o.fragments.items (fragment_names (reading_of (tree o.tree.now)).children)
+    → ListsFixups base (tree o.tree.now) [] o.label_writes.items
+    → AreBroughtBy (tree o.tree.now) [] o.brought
+    → ListsLocalFixups (tree o.tree.now) [] [] o.own_writes.items
+    → ListsSymbols (tree o.tree.now) [] o.symbols.items
+    → IsReadFor tree base (reading_of (tree o.tree.now)) o
+read_for tree base o valid few fragments labels brought locals symbols =
+    let t = tree o.tree.now in
+    record {
+      valid = valid;
+      few = few;
+      fixups = labels.fixups;
+      listed = labels.listed;
+      well = record {
+        targets = all_held t o.fragments.items (fragment_names (reading_of t).children) fragments;
+        fixups = labels.well;
+        mirror = locals.well;
+        symbols = symbols.well;
+      };
+      seen = record {
+        reads = refl;
+        fragments = fragments;
+        own = subst (λ (xs : List KeptWrite). AreWritesOf t xs (map (local_write (reading_of t) []) (local_cells (reading_of t)))) (sym locals.appended) locals.writes;
+        labels = subst (λ (xs : List KeptWrite). AreWritesOf t xs (map (label_write base) labels.fixups)) (sym labels.appended) labels.writes;
+        own_there = own_cells (reading_of t) [] (local_cells (reading_of t)) locals.cells;
+        labels_there = label_cells base (reading_of t) labels.fixups labels.cells;
+        symbols = subst (λ (xs : List Symbol). AreSymbolsOf t xs (flat_map (symbol_brought (reading_of t)) (symbols_in (reading_of t)))) (sym symbols.appended) symbols.symbols;
+        brought = brought;
+      };
+    }

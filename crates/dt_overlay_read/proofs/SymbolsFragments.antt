@@ -1,5 +1,5 @@
 -- Texts that begin with the path of what a fragment brings.
-use Rattle.std.proofs.Common.{◌≡◌, ◌≢◌, ◌⊎◌, ℕ, Bool, true, false, List, ◌∷◌, ◌++◌, ◌↔◌, Option, Some, None, MatchOption, IsTrue, is_some, option_map, refl, sym, ap, subst, ◌∙◌, inl, inr, append_assoc, codes, true≢false, arith}
+use Rattle.std.proofs.Common.{◌≡◌, ◌≢◌, ◌⊎◌, ℕ, Bool, true, false, List, [], ◌∷◌, ◌++◌, ◌↔◌, Option, Some, None, MatchOption, IsTrue, is_some, refl, sym, ap, subst, ◌∙◌, inl, inr, append_assoc, codes, true≢false, arith}
 use Rattle.std.specs.Prelude.{if◌then◌else◌}
 use Rattle.std.specs.List.{AllByRecursion}
 use Rattle.std.specs.Str.{bytes_eq}
@@ -7,12 +7,12 @@ use Rattle.dt_model.specs.Lists.{IsIn}
 use Rattle.dt_model.specs.Names.{Name, IsNodeName}
 use Rattle.dt_model.specs.Object.{is_fragment, fragment_names}
 use Rattle.dt_model.specs.Overlay.{content}
-use Rattle.dt_model.specs.Path.{path_text}
-use Rattle.dt_model.specs.Tree.{Forest, no_nodes, branch, Node, Reading, sibling}
+use Rattle.dt_model.specs.Path.{Path, path_text}
+use Rattle.dt_model.specs.Tree.{Forest, no_nodes, branch, Node, Reading, node_at, root_of, sibling}
 use Rattle.dt_model.specs.Valid.{AreDistinct, AreNodes, IsValid, names}
-use Rattle.dt_flat.specs.Arena.{Arena, Slot, reading, below as forest_below, named_children, child_of, name_of}
-use Rattle.dt_flat.proofs.Edges.{edge}
-use Rattle.dt_flat.proofs.ByPath.{has, sibling_below}
+use Rattle.dt_trees.specs.Placed.{PlacedTree, reading_of, place_of, path_at, last_name, forest_under, below_at, below_in, IsAt}
+use Rattle.dt_trees.proofs.NodePlaces.{stands_place}
+use Rattle.dt_trees.proofs.Walked.{below_last}
 use Rattle.dt_model.proofs.Tests.{bytes_eq_refl, bytes_eq_true, bytes_eq_other, each_in}
 use Rattle.dt_model.proofs.Texts.{node_name_has_no}
 use Rattle.dt_model_laws.proofs.FragmentOrder.{each_fragment}
@@ -62,25 +62,24 @@ found_fragment (branch y ps c s) x n e h = step (bytes_eq x y) refl e (found_fra
         first (is_fragment y c) is same
     step false t later more = behind (is_fragment y c) (more later h)
 
-module _ (slots : List Slot) where
-  -- the child of a name is no fragment's node where that name isn't a fragment's
-  pub child_fragment : (x : Name) (i : ℕ) → child_of (named_children slots 0) x ≡ Some i → is_fragment x (forest_below slots i) ≡ true → IsIn x (fragment_names (forest_below slots 0))
-  child_fragment x i e h = found_fragment (forest_below slots 0) x (has slots i) (sibling_below slots 0 x ∙ ap (λ (o : Option ℕ). option_map (has slots) o) e) h
+module _ (t : PlacedTree) (x : Name) where
+  root_sibling : node_at (reading_of t) (x ∷ []) ≡ sibling (reading_of t).children x
+  root_sibling = below_last [] (root_of (reading_of t)) x
 
-  -- the node of a fragment is the child of its name
-  pub fragment_child : (x : Name) → AreDistinct (names (forest_below slots 0)) → IsIn x (fragment_names (forest_below slots 0))
-      → (i : ℕ) × (child_of (named_children slots 0) x ≡ Some i) × (is_fragment x (forest_below slots i) ≡ true)
-  fragment_child x d i =
-      let found = fragment_found (forest_below slots 0) x d i in
-      by (child_of (named_children slots 0) x) refl found.0 (sym (sibling_below slots 0 x) ∙ found.1) found.2
+  -- a child of the root is a fragment where it is one by what is below it
+  pub child_fragment : (i : ℕ) → IsAt t (x ∷ []) i → is_fragment x (below_at t (x ∷ [])) ≡ true → IsIn x (fragment_names (reading_of t).children)
+  child_fragment i at h = by (node_at (reading_of t) (x ∷ [])) refl h
     where
-      by : (o : Option ℕ) → child_of (named_children slots 0) x ≡ o → (n : Node) → option_map (has slots) (child_of (named_children slots 0) x) ≡ Some n → is_fragment x n.children ≡ true
-          → (j : ℕ) × (child_of (named_children slots 0) x ≡ Some j) × (is_fragment x (forest_below slots j) ≡ true)
-      by None e n at h = absurd (let z : None ≡ Some n = sym (ap (λ (o : Option ℕ). option_map (has slots) o) e) ∙ at in cc)
-      by (Some j) e n at h =
-          let z : Some (has slots j) ≡ Some n = sym (ap (λ (o : Option ℕ). option_map (has slots) o) e) ∙ at in
-          let node : has slots j ≡ n = cc in
-          (j, e, ap (λ (m : Node). is_fragment x m.children) node ∙ h)
+      by : (o : Option Node) → node_at (reading_of t) (x ∷ []) ≡ o → is_fragment x (forest_under o) ≡ true → IsIn x (fragment_names (reading_of t).children)
+      by None e h = absurd (true≢false (sym (ap is_some at) ∙ stands_place t (x ∷ []) ∙ ap is_some e))
+      by (Some n) e h = found_fragment (reading_of t).children x n (sym root_sibling ∙ e) h
+
+  -- a fragment is there, with what makes it one below it
+  pub fragment_child : AreDistinct (names (reading_of t).children) → IsIn x (fragment_names (reading_of t).children) → (is_some (place_of t (x ∷ [])) ≡ true) × (is_fragment x (below_at t (x ∷ [])) ≡ true)
+  fragment_child d i =
+      let found = fragment_found (reading_of t).children x d i in
+      let e = root_sibling ∙ found.1 in
+      (stands_place t (x ∷ []) ∙ ap is_some e, ap (λ (o : Option Node). is_fragment x (forest_under o)) e ∙ found.2)
 
 -- the names of the root's children are names
 each_named : (f : Forest) → AreNodes f → AllByRecursion IsNodeName (names f)
@@ -169,29 +168,19 @@ module _ (t : Reading) (valid : IsValid t) (text others name rest : List ℕ) (w
 -- ---- a child of the root
 
 -- where the root has no child of the name there is no such fragment
-pub no_child : (a : Arena) (x : Name) → IsValid (reading a) → child_of (named_children a.slots 0) x ≡ None → ¬ IsIn x (fragment_names (reading a).children)
-no_child a x valid none i =
-    let w = fragment_child a.slots x valid.siblings i in
-    let both : None ≡ Some w.0 = sym none ∙ w.1 in
-    cc
+pub no_child : (t : PlacedTree) (x : Name) → IsValid (reading_of t) → place_of t (x ∷ []) ≡ None → ¬ IsIn x (fragment_names (reading_of t).children)
+no_child t x valid none i = true≢false (sym (fragment_child t x valid.siblings i).0 ∙ ap is_some none)
 
--- where it has one, this tells whether there is
-pub child_tells : (a : Arena) (x : Name) (i : ℕ) (b : Bool) (o : Option ℕ) (content : ℕ → Type 0) → IsValid (reading a) → child_of (named_children a.slots 0) x ≡ Some i → b ≡ is_some o
-    → MatchOption o (is_fragment (name_of a.slots i) (forest_below a.slots i) ≡ false) (λ k. (is_fragment (name_of a.slots i) (forest_below a.slots i) ≡ true) × content k)
-    → IsTrue b ↔ IsIn x (fragment_names (reading a).children)
-child_tells a x i b None content valid at is m = (
-  (λ h. absurd (true≢false (sym h ∙ is))),
-  λ j. absurd (
-      let w = fragment_child a.slots x valid.siblings j in
-      let both : Some i ≡ Some w.0 = sym at ∙ w.1 in
-      let node : w.0 ≡ i = cc in
-      let name : name_of a.slots i ≡ x = (edge a.slots 0 x i at).name in
-      let yes : is_fragment (name_of a.slots i) (forest_below a.slots i) ≡ true = ap (λ (n : Name). is_fragment n (forest_below a.slots i)) name ∙ ap (λ (k : ℕ). is_fragment x (forest_below a.slots k)) (sym node) ∙ w.2 in
-      true≢false (sym yes ∙ m)),
-)
-child_tells a x i b (Some k) content valid at is m = (
-  (λ h.
-      let name : name_of a.slots i ≡ x = (edge a.slots 0 x i at).name in
-      child_fragment a.slots x i at (ap (λ (n : Name). is_fragment n (forest_below a.slots i)) (sym name) ∙ m.0)),
-  λ j. is,
-)
+-- where it has one, this says whether there is
+pub child_says : (t : PlacedTree) (x : Name) (i : ℕ) (b : Bool) (o : Option ℕ) (content : ℕ → Type 0) → IsValid (reading_of t) → IsAt t (x ∷ []) i → path_at t i ≡ x ∷ [] → b ≡ is_some o
+    → MatchOption o (is_fragment (last_name (path_at t i)) (below_in t i) ≡ false) (λ k. (is_fragment (last_name (path_at t i)) (below_in t i) ≡ true) × content k)
+    → IsTrue b ↔ IsIn x (fragment_names (reading_of t).children)
+child_says t x i b o content valid at path is m = by o is m
+  where
+    same : is_fragment (last_name (path_at t i)) (below_in t i) ≡ is_fragment x (below_at t (x ∷ []))
+    same = ap (λ (p : Path). is_fragment (last_name p) (below_at t p)) path
+
+    by : (o : Option ℕ) → b ≡ is_some o → MatchOption o (is_fragment (last_name (path_at t i)) (below_in t i) ≡ false) (λ k. (is_fragment (last_name (path_at t i)) (below_in t i) ≡ true) × content k)
+        → IsTrue b ↔ IsIn x (fragment_names (reading_of t).children)
+    by None is m = (λ h. absurd (true≢false (sym h ∙ is)), λ j. absurd (true≢false (sym (same ∙ (fragment_child t x valid.siblings j).1) ∙ m)))
+    by (Some k) is m = (λ h. child_fragment t x i at (sym same ∙ m.0), λ j. is)

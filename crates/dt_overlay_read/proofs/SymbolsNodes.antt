@@ -12,7 +12,8 @@ use Rattle.dt_model.specs.Tree.{Reading, nodes_of, stands_in}
 use Rattle.dt_model.specs.Valid.{IsValid}
 use Rattle.dt_model.specs.Applied.{node_named}
 use Rattle.dt_names.specs.Paths.{IsPathOf}
-use Rattle.dt_flat.specs.Arena.{Arena, reading, node_from}
+use Rattle.dt_trees.specs.Placed.{PlacedTree, reading_of, place_of, IsAt}
+use Rattle.dt_trees.proofs.NodePlaces.{stands_place}
 use Rattle.dt_model.proofs.Finding.{node_of_text}
 use Rattle.dt_model_laws.proofs.Lands.{below-append, append-below}
 use Rattle.dt_model.proofs.Tests.{any_from, any_here}
@@ -20,7 +21,6 @@ use Rattle.dt_model.proofs.Texts.{one_text, node_name_has_no}
 use Rattle.dt_overlay_texts.specs.Cuts.{Lacks}
 use Rattle.dt_overlay_texts.proofs.TextCuts.{cut_once, never_cut}
 use Rattle.dt_overlay_laws.specs.Objects.{IsOfFragment}
-use Rattle.dt_overlay_base.proofs.Reached.{stands-led}
 use Rattle.dt_overlay_read.proofs.FixupsNumbers.{found_by_text}
 use Rattle.dt_overlay_read.proofs.SymbolsFragments.{IsContentText, alone, longer, overlay_without_slash, fragment_without_slash, parts_of, of_parts}
 
@@ -41,22 +41,22 @@ no_path_named t text valid never = by (node_named (nodes_of t) (text ++ 0 ∷ []
     by (Some q) e = absurd (never q (text_names t text q valid e).1)
 
 -- a text of a path that leads nowhere names none
-pub nowhere_named : (a : Arena) (text : List ℕ) (p : Path) → IsValid (reading a) → IsPathOf text p → node_from a.slots 0 p ≡ None → node_named (nodes_of (reading a)) (text ++ 0 ∷ []) ≡ None
-nowhere_named a text p valid of none = by (node_named (nodes_of (reading a)) (text ++ 0 ∷ [])) refl
+pub nowhere_named : (a : PlacedTree) (text : List ℕ) (p : Path) → IsValid (reading_of a) → IsPathOf text p → place_of a p ≡ None → node_named (nodes_of (reading_of a)) (text ++ 0 ∷ []) ≡ None
+nowhere_named a text p valid of none = by (node_named (nodes_of (reading_of a)) (text ++ 0 ∷ [])) refl
   where
-    by : (o : Option Path) → node_named (nodes_of (reading a)) (text ++ 0 ∷ []) ≡ o → node_named (nodes_of (reading a)) (text ++ 0 ∷ []) ≡ None
+    by : (o : Option Path) → node_named (nodes_of (reading_of a)) (text ++ 0 ∷ []) ≡ o → node_named (nodes_of (reading_of a)) (text ++ 0 ∷ []) ≡ None
     by None e = e
     by (Some q) e =
-        let found = text_names (reading a) text q valid e in
+        let found = text_names (reading_of a) text q valid e in
         let same : q ≡ p = one_text q p found.1.named of.named (sym found.1.written ∙ of.written) in
-        let stands : is_some (node_from a.slots 0 p) ≡ true = sym (stands-led a p) ∙ ap (stands_in (reading a)) (sym same) ∙ found.0 in
+        let stands : is_some (place_of a p) ≡ true = stands_place a p ∙ ap (stands_in (reading_of a)) (sym same) ∙ found.0 in
         absurd (true≢false (sym stands ∙ ap is_some none))
 
 -- one of a path that leads to a node names that
-pub led_named : (a : Arena) (text : List ℕ) (p : Path) (i : ℕ) → IsValid (reading a) → IsPathOf text p → node_from a.slots 0 p ≡ Some i → node_named (nodes_of (reading a)) (text ++ 0 ∷ []) ≡ Some p
+pub led_named : (a : PlacedTree) (text : List ℕ) (p : Path) (i : ℕ) → IsValid (reading_of a) → IsPathOf text p → IsAt a p i → node_named (nodes_of (reading_of a)) (text ++ 0 ∷ []) ≡ Some p
 led_named a text p i valid of leads =
-    ap (λ (x : List ℕ). node_named (nodes_of (reading a)) (x ++ 0 ∷ [])) of.written
-    ∙ node_of_text (reading a) p valid (stands-led a p ∙ ap is_some leads)
+    ap (λ (x : List ℕ). node_named (nodes_of (reading_of a)) (x ++ 0 ∷ [])) of.written
+    ∙ node_of_text (reading_of a) p valid (sym (stands_place a p) ∙ ap is_some leads)
 
 -- ---- whether a fragment brings the node
 

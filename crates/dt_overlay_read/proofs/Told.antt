@@ -8,7 +8,7 @@ use Rattle.dt_model.specs.Tree.{Property, Reading, stands_in}
 use Rattle.dt_names.specs.declared.fault.Fault.{Fault}
 use Rattle.dt_names.specs.declared.fault.FaultKind.{FaultKind}
 use Rattle.dt_names.specs.declared.fault.FaultKind.TheVariants.{NoMemory, NoSymbol, BadSymbol, BadFixup, BadLocalFixup}
-use Rattle.dt_flat.specs.Arena.{Slot}
+use Rattle.dt_trees.specs.Placed.{PlacedTree, reading_of}
 use Rattle.dt_overlay_laws.specs.Objects.{HasTarget, HaveTargets, AreFixedUp, IsMirror, AreMirrors, IsSymbol, symbols_in}
 use Rattle.dt_overlay_laws.specs.Refusals.{HasNoFixup, WhyNotApplied}
 use Rattle.dt_overlay_object.specs.declared.kept.ObjectFragment.{ObjectFragment}
@@ -23,11 +23,11 @@ held : (object : Reading) (f : Name) (t : ObjectTarget) → IsTargetOf object f 
 held object f Number is = inl is
 held object f (TargetPath value) is = inr (is.0, (is.2.0, is.1 ∙ ap (λ (bytes : List ℕ). Some bytes) is.2.1.text, is.2.1.named))
 
-pub all_held : (slots : List Slot) (object : Reading) (xs : List ObjectFragment) (fs : List Name) → AreFragmentsOf slots object xs fs → AllByRecursion (HasTarget object) fs
-all_held slots object [] [] h = tt
-all_held slots object [] (f ∷ fs) h = absurd h
-all_held slots object (x ∷ xs) [] h = absurd h
-all_held slots object (x ∷ xs) (f ∷ fs) h = (held object f x.target h.0.target, all_held slots object xs fs h.1)
+pub all_held : (t : PlacedTree) (xs : List ObjectFragment) (fs : List Name) → AreFragmentsOf t xs fs → AllByRecursion (HasTarget (reading_of t)) fs
+all_held t [] [] h = tt
+all_held t [] (f ∷ fs) h = absurd h
+all_held t (x ∷ xs) [] h = absurd h
+all_held t (x ∷ xs) (f ∷ fs) h = (held (reading_of t) f x.target h.0.target, all_held t xs fs h.1)
 
 -- ---- faults
 

@@ -5,7 +5,7 @@ use Rattle.dt_model.specs.Names.{Name}
 use Rattle.dt_model.specs.Tree.{Property, Reading, value_in}
 use Rattle.dt_model.specs.Object.{Cell, AreFixups, IsCellText, HasCell}
 use Rattle.dt_model.specs.Applied.{Write, label_write}
-use Rattle.dt_flat.specs.Arena.{Arena, reading}
+use Rattle.dt_trees.specs.Placed.{PlacedTree, reading_of}
 use Rattle.dt_names.specs.declared.fault.FaultKind.{FaultKind}
 use Rattle.dt_names.specs.declared.fault.FaultKind.TheVariants.{NoMemory, NoSymbol, BadSymbol}
 use Rattle.dt_overlay_texts.specs.Texts.{TellCells}
@@ -27,31 +27,31 @@ abbrev pub numbered : ℕ → Cell → Write
 numbered n c = record { cell = c; number = n }
 
 -- the cells that the texts name are listed behind what was
-pub record ListsTold (object : Arena) (texts : List (List ℕ)) (n : ℕ) (old new : List KeptWrite) : Type 0 where
+pub record ListsTold (t : PlacedTree) (texts : List (List ℕ)) (n : ℕ) (old new : List KeptWrite) : Type 0 where
   pub more : List KeptWrite
   pub appended : new ≡ old ++ more
   pub cells : List Cell
   pub told : TellCells texts cells
-  pub there : AllByRecursion (HasCell (reading object)) cells
-  pub writes : AreWritesOf object.slots more (map (numbered n) cells)
+  pub there : AllByRecursion (HasCell (reading_of t)) cells
+  pub writes : AreWritesOf t more (map (numbered n) cells)
 
 -- the cells whose texts the value is are
-pub record ListsCells (object : Arena) (value : List ℕ) (n : ℕ) (old new : List KeptWrite) : Type 0 where
+pub record ListsCells (t : PlacedTree) (value : List ℕ) (n : ℕ) (old new : List KeptWrite) : Type 0 where
   pub more : List KeptWrite
   pub appended : new ≡ old ++ more
   pub cells : List Cell
-  pub listed : AreCellsOf (reading object) value cells
-  pub writes : AreWritesOf object.slots more (map (numbered n) cells)
+  pub listed : AreCellsOf (reading_of t) value cells
+  pub writes : AreWritesOf t more (map (numbered n) cells)
 
 -- the cells that wait for the labels of these properties are
-pub record ListsLabels (base : Reading) (object : Arena) (ps : List Property) (old new : List KeptWrite) : Type 0 where
+pub record ListsLabels (base : Reading) (t : PlacedTree) (ps : List Property) (old new : List KeptWrite) : Type 0 where
   pub more : List KeptWrite
   pub appended : new ≡ old ++ more
   pub fixups : List (Name × Cell)
   pub listed : AreFixups ps fixups
-  pub writes : AreWritesOf object.slots more (map (label_write base) fixups)
-  pub cells : AllByRecursion (λ (x : Name × Cell). HasCell (reading object) x.1) fixups
-  pub well : AllByRecursion (IsFixup base (reading object)) ps
+  pub writes : AreWritesOf t more (map (label_write base) fixups)
+  pub cells : AllByRecursion (λ (x : Name × Cell). HasCell (reading_of t) x.1) fixups
+  pub well : AllByRecursion (IsFixup base (reading_of t)) ps
 
 -- the base has no number for a label
 abbrev pub WhyNoNumber : FaultKind → Reading → Name → Type 0

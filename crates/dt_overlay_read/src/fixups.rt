@@ -9,7 +9,8 @@ ghost use Rattle.dt_model.specs.Path.{Path as Names};
 ghost use Rattle.dt_model.specs.Tree.{value_in};
 ghost use Rattle.dt_model.specs.Valid.{IsPhandle};
 ghost use Rattle.dt_names.specs.declared.fault.FaultKind.TheVariants.{NoMemory, BadSymbol, BadFixup};
-ghost use Rattle.dt_flat.specs.Arena.{reading, node_from};
+ghost use Rattle.dt_trees.specs.Placed.{reading_of, IsAt};
+ghost use Rattle.dt_trees.specs.Views.{prop_said};
 ghost use Rattle.dt_overlay_texts.specs.Texts.{IsPathValue};
 ghost use Rattle.dt_overlay_laws.specs.Objects.{AreCellsOf, SymbolHasNumber};
 ghost use Rattle.dt_overlay_laws.specs.Refusals.{WhyNoFixup, HasNoFixup};
@@ -17,18 +18,18 @@ ghost use Rattle.dt_overlay_object.specs.Plans.{ListsFixups};
 ghost use Rattle.dt_overlay_read.specs.Fixups.{cell_told, HasTold, ListsTold, ListsCells, ListsLabels, WhyNoNumber};
 ghost use Rattle.dt_names.specs.Fault.{IsMemoryOr};
 
-use dt_flat::FlatTree;
 use dt_names::{Fault, FaultKind, NodeId, Path, PathRef, phandle_of};
-use dt_overlay_base::{Target, node_of};
-use dt_overlay_object::Write;
+use dt_overlay_base::Target;
+use dt_overlay_object::{Landing, Write};
 use dt_overlay_texts::{
     CellText, cell_text, cell_texts_are_texts, cut, has_cell, symbol_path, texts, texts_are_one,
 };
+use dt_trees::{Prop, TreeView, node_of};
 use std::alloc::Global;
 
 /// The value of the property whose cell a text names, wherever in it the cell is.
-fn value_of<'a>(object: &'a FlatTree, text: &[u8]) -> Option<&'a [u8]>
-    ensures { (c : Cell) → IsCellText text.now c → option_copied result ≡ value_in (reading object.now) c.path c.property }
+fn value_of<'a, V: TreeView>(object: &'a V, text: &[u8]) -> Option<&'a [u8]>
+    ensures { (c : Cell) → IsCellText text.now c → option_copied result ≡ value_in (reading_of (V.tree object.now)) c.path c.property }
 {
     object.validity();
     let (path, rest) = cut(text, b':')?;
@@ -39,10 +40,10 @@ fn value_of<'a>(object: &'a FlatTree, text: &[u8]) -> Option<&'a [u8]>
 }
 
 /// The node of the cell that a text names, and the cell.
-fn cell_at<'a>(object: &FlatTree, text: &'a [u8]) -> Option<(NodeId, CellText<'a>)>
-    ensures { MatchOption result ((c : Cell) → ¬ HasTold (reading object.now) text.now c)
-        (λ found. HasTold (reading object.now) text.now (cell_told found.1)
-        × (node_from object.now.slots 0 found.1.path ≡ Some found.0)) }
+fn cell_at<'a, V: TreeView>(object: &V, text: &'a [u8]) -> Option<(NodeId, CellText<'a>)>
+    ensures { MatchOption result ((c : Cell) → ¬ HasTold (reading_of (V.tree object.now)) text.now c)
+        (λ found. HasTold (reading_of (V.tree object.now)) text.now (cell_told found.1)
+        × IsAt (V.tree object.now) found.1.path found.0) }
 {
     texts_are_one();
     object.validity();
@@ -60,8 +61,8 @@ fn cell_at<'a>(object: &FlatTree, text: &'a [u8]) -> Option<(NodeId, CellText<'a
 }
 
 /// Is the value texts of cells that the object has?
-fn are_cells(object: &FlatTree, value: &[u8]) -> bool
-    ensures { IsTrue result ↔ ((cells : List Cell) × AreCellsOf (reading object.now) value.now cells) }
+fn are_cells<V: TreeView>(object: &V, value: &[u8]) -> bool
+    ensures { IsTrue result ↔ ((cells : List Cell) × AreCellsOf (reading_of (V.tree object.now)) value.now cells) }
 {
     texts_are_one();
     cell_texts_are_texts();
@@ -77,23 +78,21 @@ fn are_cells(object: &FlatTree, value: &[u8]) -> bool
 }
 
 /// A cell of the object gets a number.
-fn list_cell(
-    alloc: Global,
-    object: &FlatTree,
-    text: &[u8],
+fn list_cell<'o, V: TreeView>(
+    object: &V,
+    text: &'o [u8],
     number: u32,
-    out: &mut Vec<Write>,
+    out: &mut Vec<Write<'o>>,
 ) -> Result<(), Fault>
-    ensures listed { OnOk result (ListsTold object.now (text.now ∷ []) number out.old.items out.new.items) }
-    ensures refused { IfErr result (IsMemoryOr (λ kind. (kind ≡ BadFixup) × ((c : Cell) → ¬ HasTold (reading object.now) text.now c))) }
+    ensures listed { OnOk result (ListsTold (V.tree object.now) (text.now ∷ []) number out.old.items out.new.items) }
+    ensures refused { IfErr result (IsMemoryOr (λ kind. (kind ≡ BadFixup) × ((c : Cell) → ¬ HasTold (reading_of (V.tree object.now)) text.now c))) }
 {
     let Some((node, cell)) = cell_at(object, text) else {
         return Err(Fault::of(FaultKind::BadFixup));
     };
-    let property = Vec::from_slice(alloc, cell.property)?;
     out.push(Write {
         node,
-        property,
+        property: cell.property,
         offset: cell.offset,
         number,
     })?;
@@ -101,15 +100,15 @@ fn list_cell(
 }
 
 /// The cells of a value's texts get a number.
-fn list_cells(
-    alloc: Global,
-    object: &FlatTree,
-    value: &[u8],
+fn list_cells<'o, V: TreeView>(
+    object: &V,
+    value: &'o [u8],
     number: u32,
-    out: &mut Vec<Write>,
+    out: &mut Vec<Write<'o>>,
 ) -> Result<(), Fault>
-    ensures listed { OnOk result (ListsCells object.now value.now number out.old.items out.new.items) }
-    ensures refused { IfErr result (IsMemoryOr (λ kind. (kind ≡ BadFixup) × ((cells : List Cell) → ¬ AreCellsOf (reading object.now) value.now cells))) }
+    ensures listed { OnOk result (ListsCells (V.tree object.now) value.now number out.old.items out.new.items) }
+    ensures refused { IfErr result (IsMemoryOr
+        (λ kind. (kind ≡ BadFixup) × ((cells : List Cell) → ¬ AreCellsOf (reading_of (V.tree object.now)) value.now cells))) }
 {
     texts_are_one();
     cell_texts_are_texts();
@@ -117,7 +116,7 @@ fn list_cells(
         return Err(Fault::of(FaultKind::BadFixup));
     };
     for text in texts {
-        list_cell(alloc, object, text, number, out)?;
+        list_cell(object, text, number, out)?;
     }
     Ok(())
 }
@@ -141,48 +140,38 @@ fn cell_number(value: &[u8]) -> Option<u32>
 }
 
 /// The number of the node that the base has for a label.
-fn number_of<T: Target>(
-    alloc: Global,
-    target: &T,
-    symbols: &Path,
-    label: &[u8],
-) -> Result<u32, Fault>
-    requires { symbols.now ≡ codes "__symbols__" ∷ [] }
+fn number_of<T: Target>(target: &T, landing: &Landing, label: &[u8]) -> Result<u32, Fault>
     ensures number { IfOk result (SymbolHasNumber (T.reading target.now) label.now) }
     ensures refused { IfErr result (λ fault. (fault.at ≡ None) × WhyNoNumber fault.kind (T.reading target.now) label.now) }
 {
     target.validity();
-    let Some(value) = target.prop(symbols, label) else {
+    let Some(value) = target.prop(landing.symbols.path(), label) else {
         return Err(Fault::of(FaultKind::NoSymbol));
     };
-    let path = path_of_symbol(alloc, value)?;
+    let path = path_of_symbol(landing.places.alloc(), value)?;
     match target.prop(&path, b"phandle".as_slice()) {
         Some(value) => cell_number(value).ok_or(Fault::of(FaultKind::BadSymbol)),
         None => Err(Fault::of(FaultKind::BadSymbol)),
     }
 }
 
-/// The cells that wait for a label.
-fn list_fixup<T: Target>(
-    alloc: Global,
+/// The cells that wait for a label, by the label and the value that lists them.
+fn list_fixup<'o, T: Target, V: TreeView>(
     target: &T,
-    symbols: &Path,
-    object: &FlatTree,
-    label: &[u8],
-    value: &[u8],
-    out: &mut Vec<Write>,
+    landing: &Landing,
+    object: &V,
+    fixup: &Prop<'o>,
+    out: &mut Vec<Write<'o>>,
 ) -> Result<(), Fault>
-    requires { symbols.now ≡ codes "__symbols__" ∷ [] }
-    ensures listed { OnOk result (ListsLabels (T.reading target.now) object.now
-        (record { name = label.now; value = value.now } ∷ []) out.old.items out.new.items) }
+    ensures listed { OnOk result (ListsLabels (T.reading target.now) (V.tree object.now) (prop_said fixup.now ∷ []) out.old.items out.new.items) }
     ensures refused { IfErr result (IsMemoryOr
-        (λ kind. WhyNoFixup kind (T.reading target.now) (reading object.now) (record { name = label.now; value = value.now }))) }
+        (λ kind. WhyNoFixup kind (T.reading target.now) (reading_of (V.tree object.now)) (prop_said fixup.now))) }
 {
-    if !are_cells(object, value) {
+    if !are_cells(object, fixup.value) {
         return Err(Fault::of(FaultKind::BadFixup));
     }
-    let number = number_of(alloc, target, symbols, label)?;
-    list_cells(alloc, object, value, number, out)
+    let number = number_of(target, landing, fixup.name)?;
+    list_cells(object, fixup.value, number, out)
 }
 
 /// Lists what is written into the cells that the object's `__fixups__` lists (dtc's notes on overlay objects), label by label, in the
@@ -192,22 +181,22 @@ fn list_fixup<T: Target>(
 ///
 /// Of the first label that has one: `BadFixup` where its value isn't texts of cells that the object has; `NoSymbol` where the tree's
 /// `__symbols__` hasn't the label; `BadSymbol` where it has, but for no node with a number; and `NoMemory`. None has a place.
-pub(crate) fn list_fixups<T: Target>(
-    alloc: Global,
+pub(crate) fn list_fixups<'o, T: Target, V: TreeView>(
     target: &T,
-    symbols: &Path,
-    object: &FlatTree,
-    out: &mut Vec<Write>,
+    landing: &Landing,
+    object: &'o V,
+    out: &mut Vec<Write<'o>>,
 ) -> Result<(), Fault>
-    requires { symbols.now ≡ codes "__symbols__" ∷ [] }
-    ensures listed { OnOk result (ListsFixups (T.reading target.now) object.now out.old.items out.new.items) }
-    ensures refused { IfErr result (IsMemoryOr (λ kind. HasNoFixup kind (T.reading target.now) (reading object.now))) }
+    ensures listed { OnOk result (ListsFixups (T.reading target.now) (V.tree object.now) out.old.items out.new.items) }
+    ensures refused { IfErr result (IsMemoryOr (λ kind. HasNoFixup kind (T.reading target.now) (reading_of (V.tree object.now)))) }
 {
+    object.validity();
     let Some(node) = object.child(object.root(), b"__fixups__".as_slice()) else {
         return Ok(());
     };
-    for (label, value) in object.props(node) {
-        list_fixup(alloc, target, symbols, object, label, value, out)?;
+    let fixups = object.props(landing.places.alloc(), node)?;
+    for fixup in &fixups {
+        list_fixup(target, landing, object, fixup, out)?;
     }
     Ok(())
 }

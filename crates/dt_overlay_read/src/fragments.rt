@@ -1,28 +1,28 @@
 //! The fragments of an object.
 
-ghost use Rattle.std.specs.Prelude.{◌≡◌, ◌<◌, ◌++◌, ◌∷◌, [], ℕ, List, None, Some, true, false, length, codes, OnOk, IfOk, IfErr, MatchOption};
+ghost use Rattle.std.specs.Prelude.{◌≡◌, ◌++◌, ◌∷◌, [], ℕ, List, None, Some, true, false, codes, OnOk, IfErr, MatchOption};
 ghost use Rattle.dt_model.specs.Names.{Name};
 ghost use Rattle.dt_model.specs.Lists.{IsIn};
 ghost use Rattle.dt_model.specs.Object.{is_fragment, fragment_names};
-ghost use Rattle.dt_flat.specs.Arena.{reading, named_children, child_of, name_of, below, node_from};
 ghost use Rattle.dt_names.specs.declared.fault.FaultKind.TheVariants.{NoMemory, NoFragmentTarget};
 ghost use Rattle.dt_overlay_laws.specs.Objects.{HasTarget};
 ghost use Rattle.dt_overlay_object.specs.Plans.{IsTargetOf, AreFragmentsOf};
 ghost use Rattle.dt_names.specs.Fault.{IsMemoryOr};
+ghost use Rattle.dt_trees.specs.Placed.{below_in, last_name, path_at, reading_of, IsAt, IsNode};
 
-use dt_flat::FlatTree;
 use dt_names::{Fault, FaultKind, NodeId, is_bookkeeping_name};
 use dt_overlay_object::{ObjectFragment, ObjectTarget};
 use dt_overlay_texts::is_path_value;
-use std::alloc::Global;
+use dt_trees::TreeView;
 
 /// The node that a child of the root brings, if it is a fragment: no bookkeeping node, and with a child `__overlay__`.
-pub(crate) fn content_of(object: &FlatTree, node: NodeId) -> Option<NodeId>
-    requires { node < length object.now.slots }
-    ensures value { MatchOption result (is_fragment (name_of object.now.slots node) (below object.now.slots node) ≡ false)
-        (λ content. (is_fragment (name_of object.now.slots node) (below object.now.slots node) ≡ true)
-        × (child_of (named_children object.now.slots node) (codes "__overlay__") ≡ Some content)) }
+pub(crate) fn content_of<V: TreeView>(object: &V, node: NodeId) -> Option<NodeId>
+    requires { IsNode (V.tree object.now) node }
+    ensures { MatchOption result (is_fragment (last_name (path_at (V.tree object.now) node)) (below_in (V.tree object.now) node) ≡ false)
+        (λ content. (is_fragment (last_name (path_at (V.tree object.now) node)) (below_in (V.tree object.now) node) ≡ true)
+        × IsAt (V.tree object.now) (path_at (V.tree object.now) node ++ codes "__overlay__" ∷ []) content) }
 {
+    object.validity();
     if is_bookkeeping_name(object.name(node)) {
         return None;
     }
@@ -30,25 +30,22 @@ pub(crate) fn content_of(object: &FlatTree, node: NodeId) -> Option<NodeId>
 }
 
 /// What a fragment's node says of its target: four bytes as `target`, or else a path's text with its NUL as `target-path`.
-fn target_of(alloc: Global, object: &FlatTree, node: NodeId) -> Result<ObjectTarget, Fault>
-    requires { node < length object.now.slots }
-    ensures value { (f : Name) → node_from object.now.slots 0 (f ∷ []) ≡ Some node → IfOk result (IsTargetOf (reading object.now) f) }
-    ensures refused { (f : Name) → node_from object.now.slots 0 (f ∷ []) ≡ Some node
-        → IfErr result (IsMemoryOr (λ kind. (kind ≡ NoFragmentTarget) × ¬ HasTarget (reading object.now) f)) }
+fn target_of<'o, V: TreeView>(object: &'o V, node: NodeId) -> Option<ObjectTarget<'o>>
+    requires { IsNode (V.tree object.now) node }
+    ensures { (f : Name) → IsAt (V.tree object.now) (f ∷ []) node →
+        MatchOption result (¬ HasTarget (reading_of (V.tree object.now)) f) (IsTargetOf (reading_of (V.tree object.now)) f) }
 {
-    if let Some(value) = object.value(node, b"target".as_slice()) {
-        return if value.len() == 4 {
-            Ok(ObjectTarget::Number)
-        } else {
-            Err(Fault::of(FaultKind::NoFragmentTarget))
-        };
-    }
-    match object.value(node, b"target-path".as_slice()) {
-        Some(value) if is_path_value(value) => {
-            let value = Vec::from_slice(alloc, value)?;
-            Ok(ObjectTarget::Path(value))
+    object.validity();
+    match object.value(node, b"target".as_slice()) {
+        Some(value) if value.len() == 4 => Some(ObjectTarget::Number),
+        Some(_) => None,
+        None => {
+            let value = object.value(node, b"target-path".as_slice())?;
+            if !is_path_value(value) {
+                return None;
+            }
+            Some(ObjectTarget::Path(value))
         }
-        _ => Err(Fault::of(FaultKind::NoFragmentTarget)),
     }
 }
 
@@ -59,27 +56,29 @@ fn target_of(alloc: Global, object: &FlatTree, node: NodeId) -> Result<ObjectTar
 ///
 /// `NoFragmentTarget` where one of them has no target: neither four bytes as `target` nor, without a `target`, a path's text with its NUL
 /// as `target-path`; and `NoMemory`. None has a place.
-pub(crate) fn list_fragments(
-    alloc: Global,
-    object: &FlatTree,
-    out: &mut Vec<ObjectFragment>,
+pub(crate) fn list_fragments<'o, V: TreeView>(
+    object: &'o V,
+    out: &mut Vec<ObjectFragment<'o>>,
 ) -> Result<(), Fault>
     requires { out.old.items ≡ [] }
-    ensures listed { OnOk result (AreFragmentsOf object.now.slots (reading object.now) out.new.items (fragment_names (reading object.now).children)) }
-    ensures refused { IfErr result (IsMemoryOr (λ kind. (kind ≡ NoFragmentTarget)
-        × ((f : Name) × IsIn f (fragment_names (reading object.now).children) × ¬ HasTarget (reading object.now) f))) }
+    ensures listed { OnOk result (AreFragmentsOf (V.tree object.now) out.new.items (fragment_names (reading_of (V.tree object.now)).children)) }
+    ensures refused { IfErr result (IsMemoryOr (λ kind. (kind ≡ NoFragmentTarget) × ((f : Name)
+        × IsIn f (fragment_names (reading_of (V.tree object.now)).children) × ¬ HasTarget (reading_of (V.tree object.now)) f))) }
 {
     object.validity();
-    for node in object.children(object.root()) {
-        let Some(content) = content_of(object, node) else {
-            continue;
-        };
-        let target = target_of(alloc, object, node)?;
-        out.push(ObjectFragment {
-            node,
-            content,
-            target,
-        })?;
+    let mut next = object.first_child(object.root());
+    while let Some(node) = next {
+        if let Some(content) = content_of(object, node) {
+            let Some(target) = target_of(object, node) else {
+                return Err(Fault::of(FaultKind::NoFragmentTarget));
+            };
+            out.push(ObjectFragment {
+                node,
+                content,
+                target,
+            })?;
+        }
+        next = object.next_sibling(node);
     }
     Ok(())
 }

@@ -2,8 +2,8 @@
 //! the base, those that hold numbers of its own nodes, and its labels; or the first thing that is wrong with it.
 //!
 //! ```text
-//! read(alloc, &tree, &landing, &mut object)?; // of `/plugin/; &{/} { d { }; }; &gic { };`
-//! object.fragments;                           // two
+//! read(&tree, &landing, &mut object)?; // of `/plugin/; &{/} { d { }; }; &gic { };`
+//! object.fragments;                    // two
 //! ```
 //!
 //! That object is a case of overlays.cases (docs/CASES.md).

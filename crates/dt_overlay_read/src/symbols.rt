@@ -4,19 +4,19 @@ ghost use Rattle.std.specs.Prelude.{◌≡◌, ◌↔◌, ◌∷◌, [], ℕ, Li
 ghost use Rattle.dt_model.specs.Lists.{IsIn};
 ghost use Rattle.dt_model.specs.Tree.{Property};
 ghost use Rattle.dt_names.specs.declared.fault.FaultKind.TheVariants.{NoMemory, BadSymbol};
-ghost use Rattle.dt_flat.specs.Arena.{reading};
 ghost use Rattle.dt_overlay_texts.specs.Cuts.{IsCut};
 ghost use Rattle.dt_overlay_laws.specs.Objects.{IsOfFragment, IsSymbol, symbols_in};
 ghost use Rattle.dt_overlay_object.specs.Plans.{ListsSymbols};
 ghost use Rattle.dt_overlay_read.specs.Symbols.{IsFirstName, IsWhatTextNames, ListsNamed};
 ghost use Rattle.dt_names.specs.Fault.{IsMemoryOr};
+ghost use Rattle.dt_trees.specs.Placed.{reading_of};
+ghost use Rattle.dt_trees.specs.Views.{prop_said};
 
 use crate::fragments::content_of;
-use dt_flat::FlatTree;
 use dt_names::{Fault, FaultKind, NodeId, PathRef};
-use dt_overlay_base::node_of;
 use dt_overlay_object::Symbol;
 use dt_overlay_texts::cut;
+use dt_trees::{Prop, TreeView, node_of};
 use memchr::memchr;
 use std::alloc::Global;
 
@@ -50,8 +50,8 @@ fn first_name(bytes: &[u8]) -> &[u8]
 }
 
 /// Does a text begin with the path of what a fragment brings?
-fn is_within_fragment(object: &FlatTree, text: &[u8]) -> bool
-    ensures { IsTrue result ↔ IsOfFragment (reading object.now) text.now }
+fn is_within_fragment<V: TreeView>(object: &V, text: &[u8]) -> bool
+    ensures { IsTrue result ↔ IsOfFragment (reading_of (V.tree object.now)) text.now }
 {
     object.validity();
     let Some((b'/', names)) = text.split_first() else {
@@ -70,8 +70,8 @@ fn is_within_fragment(object: &FlatTree, text: &[u8]) -> bool
 }
 
 /// The node that a text names, if a fragment brings it.
-fn symbol_names(object: &FlatTree, text: &[u8]) -> SymbolNames
-    ensures { IsWhatTextNames object.now text.now result }
+fn symbol_names<V: TreeView>(object: &V, text: &[u8]) -> SymbolNames
+    ensures { IsWhatTextNames (V.tree object.now) text.now result }
 {
     object.validity();
     if !is_within_fragment(object, text) {
@@ -87,26 +87,26 @@ fn symbol_names(object: &FlatTree, text: &[u8]) -> SymbolNames
 }
 
 /// A symbol of the object, if its node lands.
-fn list_symbol(
-    alloc: Global,
-    object: &FlatTree,
-    label: &[u8],
-    value: &[u8],
-    out: &mut Vec<Symbol>,
+fn list_symbol<'o, V: TreeView>(
+    object: &V,
+    symbol: &Prop<'o>,
+    out: &mut Vec<Symbol<'o>>,
 ) -> Result<(), Fault>
-    ensures listed { OnOk result (ListsNamed object.now (record { name = label.now; value = value.now } ∷ []) out.old.items out.new.items) }
-    ensures refused { IfErr result (IsMemoryOr (λ kind. (kind ≡ BadSymbol) × ¬ IsSymbol (reading object.now) value.now)) }
+    ensures listed { OnOk result (ListsNamed (V.tree object.now) (prop_said symbol.now ∷ []) out.old.items out.new.items) }
+    ensures refused { IfErr result (IsMemoryOr (λ kind. (kind ≡ BadSymbol) × ¬ IsSymbol (reading_of (V.tree object.now)) (prop_said symbol.now).value)) }
 {
     object.validity();
-    let Some(text) = whole_text(value) else {
+    let Some(text) = whole_text(symbol.value) else {
         return Err(Fault::of(FaultKind::BadSymbol));
     };
     match symbol_names(object, text) {
         SymbolNames::Nothing => Ok(()),
         SymbolNames::Missing => Err(Fault::of(FaultKind::BadSymbol)),
         SymbolNames::Node(node) => {
-            let label = Vec::from_slice(alloc, label)?;
-            out.push(Symbol { label, node })?;
+            out.push(Symbol {
+                label: symbol.name,
+                node,
+            })?;
             Ok(())
         }
     }
@@ -118,20 +118,22 @@ fn list_symbol(
 ///
 /// `BadSymbol` where a value isn't a text with its NUL, or names a node that a fragment would bring if it were there; and `NoMemory`.
 /// None has a place.
-pub(crate) fn list_symbols(
+pub(crate) fn list_symbols<'o, V: TreeView>(
     alloc: Global,
-    object: &FlatTree,
-    out: &mut Vec<Symbol>,
+    object: &'o V,
+    out: &mut Vec<Symbol<'o>>,
 ) -> Result<(), Fault>
-    ensures listed { OnOk result (ListsSymbols object.now out.old.items out.new.items) }
-    ensures refused { IfErr result (IsMemoryOr (λ kind. (kind ≡ BadSymbol)
-        × ((x : Property) × IsIn x (symbols_in (reading object.now)) × ¬ IsSymbol (reading object.now) x.value))) }
+    ensures listed { OnOk result (ListsSymbols (V.tree object.now) out.old.items out.new.items) }
+    ensures refused { IfErr result (IsMemoryOr (λ kind. (kind ≡ BadSymbol) × ((x : Property)
+        × IsIn x (symbols_in (reading_of (V.tree object.now))) × ¬ IsSymbol (reading_of (V.tree object.now)) x.value))) }
 {
+    object.validity();
     let Some(node) = object.child(object.root(), b"__symbols__".as_slice()) else {
         return Ok(());
     };
-    for (label, value) in object.props(node) {
-        list_symbol(alloc, object, label, value, out)?;
+    let symbols = object.props(alloc, node)?;
+    for symbol in &symbols {
+        list_symbol(object, symbol, out)?;
     }
     Ok(())
 }

@@ -1,18 +1,19 @@
 //! A blob as a view. A blob's tokens name no parent, so the node above a node is found by two walks from the root up to it: for a boot loader, which
 //! asks seldom and has no memory to spend.
 
-ghost use Rattle.std.specs.Prelude.{◌≡◌, ◌↔◌, ◌∷◌, ◌++◌, ℕ, [], IfSome, IsTrue, length, option_map};
+ghost use Rattle.std.specs.Prelude.{◌≡◌, ◌↔◌, ◌∷◌, ◌++◌, ℕ, [], IfOk, IfSome, IsTrue, length, option_map};
 ghost use Rattle.std.specs.Option.{option_copied};
 ghost use Rattle.dt_model.specs.Applied.{is_cell, node_numbered};
 ghost use Rattle.dt_model.specs.Tree.{nodes_of, value_in};
-ghost use Rattle.dt_trees.specs.Placed.{PlacedTree, last_name, path_at, place_of, reading_of, IsAt, IsNode};
-ghost use Rattle.dt_trees.specs.Views.{first_child_of, next_sibling_of, AreAbove, IsAbove};
+ghost use Rattle.dt_trees.specs.Placed.{PlacedTree, last_name, path_at, place_of, properties_at, reading_of, IsAt, IsNode};
+ghost use Rattle.dt_trees.specs.Views.{first_child_of, next_sibling_of, props_said, AreAbove, IsAbove};
 
 use crate::blob::Blob;
 use crate::open_nodes::OpenNodes;
 use crate::steps::NodeStep;
 use dt_names::NodeId;
-use dt_trees::TreeView;
+use dt_trees::{Prop, TreeView};
+use std::alloc::{AllocError, Global};
 
 /// The root.
 fn root_of(blob: &Blob<'_>) -> NodeId
@@ -180,6 +181,22 @@ fn numbered(blob: &Blob<'_>, number: u32) -> Option<NodeId>
     None
 }
 
+/// The properties of a node.
+fn props_of<'b>(
+    blob: &'b Blob<'_>,
+    alloc: Global,
+    node: NodeId,
+) -> Result<Vec<Prop<'b>>, AllocError>
+    requires { IsNode blob.now node }
+    ensures { IfOk result (λ props. props_said props.items ≡ properties_at blob.now (path_at blob.now node)) }
+{
+    let mut props = Vec::new(alloc);
+    for (name, value) in blob.props(node) {
+        props.push(Prop { name, value })?;
+    }
+    Ok(props)
+}
+
 impl<'a> TreeView for Blob<'a> {
     ghost tree = { λ blob. blob };
 
@@ -213,6 +230,10 @@ impl<'a> TreeView for Blob<'a> {
 
     fn value(&self, node: NodeId, name: &[u8]) -> Option<&[u8]> {
         value_of(self, node, name)
+    }
+
+    fn props(&self, alloc: Global, node: NodeId) -> Result<Vec<Prop<'_>>, AllocError> {
+        props_of(self, alloc, node)
     }
 
     fn by_phandle(&self, number: u32) -> Option<NodeId> {

@@ -18,7 +18,7 @@ use Rattle.dt_flat.proofs.ByPath.{first_slot, reading_at}
 use Rattle.dt_flat.proofs.Counting.{nodes-counted}
 use Rattle.dt_flat.proofs.Descent.{path-same, path-within, path-further}
 use Rattle.dt_flat.proofs.Edges.{edge}
-use Rattle.dt_trees.specs.Placed.{node, forest_of, PlacedTree, reading_of, place_below, place_of, path_at, names_under, last_name, child_names, first_place_of, names_behind, IsAt, IsNode, HasPlacesApart}
+use Rattle.dt_trees.specs.Placed.{node, forest_of, PlacedTree, reading_of, place_below, place_of, path_at, properties_at, properties_found, names_under, last_name, child_names, first_place_of, names_behind, IsAt, IsNode, HasPlacesApart}
 use Rattle.dt_trees.proofs.NamesBehind.{differs, behind_all}
 use Rattle.dt_trees.proofs.NodePlaces.{path_is, at_node}
 use Rattle.dt_resolve_model.specs.Above.{front}
@@ -129,6 +129,9 @@ content a p k e = ap (λ (t : Reading). node_at t p) (reads_same a) ∙ reading_
 
 pub value_at : (a : Arena) (k : ℕ) (name : Name) → IsNode (numbered_tree a) k → value_of (properties a.slots k) name ≡ value_in (reading_of (numbered_tree a)) (path_at (numbered_tree a) k) name
 value_at a k name is = sym (ap (λ (o : Option Node). option_and_then (λ n. value_of n.properties name) o) (content a (path_at (numbered_tree a) k) k (reached a k is)))
+
+pub properties_same : (a : Arena) (k : ℕ) → IsNode (numbered_tree a) k → properties a.slots k ≡ properties_at (numbered_tree a) (path_at (numbered_tree a) k)
+properties_same a k is = sym (ap properties_found (content a (path_at (numbered_tree a) k) k (reached a k is)))
 
 names_same : (i : ℕ) (ns : List Slot) (p : ℕ) → names (forest_among i ns p) ≡ map (λ c. c.name) (named_among i ns p)
 names_same i [] p = refl

@@ -80,6 +80,10 @@ abbrev pub names_under : Option Node → List Name
 names_under None = []
 names_under (Some n) = names n.children
 
+abbrev pub forest_under : Option Node → Forest
+forest_under None = tree.no_nodes
+forest_under (Some n) = n.children
+
 -- the properties of the path's node, in order
 abbrev pub properties_at : PlacedTree → Path → List Property
 properties_at t path = properties_found (node_at (reading_of t) path)
@@ -87,6 +91,14 @@ properties_at t path = properties_found (node_at (reading_of t) path)
 -- the names of its children, in order
 abbrev pub child_names : PlacedTree → Path → List Name
 child_names t path = names_under (node_at (reading_of t) path)
+
+-- what is below it
+abbrev pub below_at : PlacedTree → Path → Forest
+below_at t path = forest_under (node_at (reading_of t) path)
+
+-- what is below a node
+abbrev pub below_in : PlacedTree → ℕ → Forest
+below_in t k = below_at t (path_at t k)
 
 -- the place of the first of some children
 abbrev pub first_place_of : PlacedTree → Path → List Name → Option ℕ

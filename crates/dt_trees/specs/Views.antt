@@ -1,13 +1,14 @@
 -- What a view of a tree answers.
-use Rattle.std.specs.Prelude.{◌≡◌, ◌≢◌, ℕ, List, [], ◌∷◌, Option, Some, None, codes}
+use Rattle.std.specs.Prelude.{◌≡◌, ◌≢◌, ℕ, List, [], ◌∷◌, map, Option, Some, None, codes}
 use Rattle.dt_model.specs.Meaning.{cell}
 use Rattle.dt_model.specs.Path.{Path}
-use Rattle.dt_model.specs.Tree.{value_in}
+use Rattle.dt_model.specs.Tree.{Property, value_in}
 use Rattle.dt_names.specs.Paths.{IsPathOf}
 use Rattle.dt_names.specs.declared.fault.FaultKind.{FaultKind}
 use Rattle.dt_names.specs.declared.fault.FaultKind.TheVariants.{BadName, NoNode}
 use Rattle.dt_trees.specs.Placed.{PlacedTree, path_at, place_of, last_name, reading_of, child_names, first_place_of, names_behind, IsAt, IsNode}
 use Rattle.dt_resolve_model.specs.Above.{front}
+use Rattle.dt_trees.specs.declared.view.Prop.{Prop}
 
 -- the node above one, none above the root
 abbrev pub IsAbove : PlacedTree → ℕ → Option ℕ → Type 0
@@ -31,6 +32,14 @@ next_sibling_of t (x ∷ p) = first_place_of t (front (x ∷ p)) (names_behind (
 -- the node has the number
 abbrev pub HasNumber : PlacedTree → ℕ → ℕ → Type 0
 HasNumber t k n = value_in (reading_of t) (path_at t k) (codes "phandle") ≡ Some (cell n)
+
+-- ---- properties
+
+abbrev pub prop_said : Prop → Property
+prop_said p = record { name = p.name.now; value = p.value.now }
+
+abbrev pub props_said : List Prop → List Property
+props_said ps = map prop_said ps
 
 -- ---- nodes by the texts of their paths
 

@@ -7,8 +7,8 @@ ghost use Rattle.dt_trees.specs.Views.{IsFoundBy, WhyNotFound};
 use crate::view::TreeView;
 use dt_names::{Fault, FaultKind, NodeId, PathRef};
 
-/// The node of a path.
-fn node_of<V: TreeView>(view: &V, path: &PathRef<'_>) -> Option<NodeId>
+/// The node of a path. Takes no memory.
+pub fn node_of<V: TreeView>(view: &V, path: &PathRef<'_>) -> Option<NodeId>
     ensures is { result ≡ place_of (V.tree view.now) path.now }
     ensures node { IfSome result (IsNode (V.tree view.now)) }
 {

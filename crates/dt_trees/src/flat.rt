@@ -1,18 +1,19 @@
 //! A tree that can be changed, as a view. Its nodes go by the numbers that they have in it.
 
-ghost use Rattle.std.specs.Prelude.{◌≡◌, ◌∷◌, ◌++◌, [], ℕ, length, IfSome, option_map};
+ghost use Rattle.std.specs.Prelude.{◌≡◌, ◌∷◌, ◌++◌, [], ℕ, length, IfOk, IfSome, option_map};
 ghost use Rattle.std.specs.Option.{option_copied};
 ghost use Rattle.dt_model.specs.Applied.{node_numbered};
 ghost use Rattle.dt_model.specs.Path.{Path};
 ghost use Rattle.dt_model.specs.Tree.{nodes_of, value_in};
 ghost use Rattle.dt_model.specs.Valid.{IsValid, IsWithinLimits};
-ghost use Rattle.dt_trees.specs.Placed.{PlacedTree, last_name, path_at, place_of, reading_of, IsAt, IsNode, HasPlacesApart};
+ghost use Rattle.dt_trees.specs.Placed.{PlacedTree, last_name, path_at, place_of, properties_at, reading_of, IsAt, IsNode, HasPlacesApart};
 ghost use Rattle.dt_trees.specs.Trees.{numbered_tree};
-ghost use Rattle.dt_trees.specs.Views.{first_child_of, next_sibling_of, IsAbove};
+ghost use Rattle.dt_trees.specs.Views.{first_child_of, next_sibling_of, props_said, IsAbove};
 
-use crate::view::TreeView;
+use crate::view::{Prop, TreeView};
 use dt_flat::FlatTree;
 use dt_names::NodeId;
+use std::alloc::{AllocError, Global};
 
 fn tree_validity(tree: &FlatTree)
     ensures valid { IsValid (reading_of (numbered_tree tree.now)) }
@@ -96,6 +97,18 @@ fn count_of(tree: &FlatTree) -> usize
     tree.node_count()
 }
 
+fn props_of(tree: &FlatTree, alloc: Global, node: NodeId) -> Result<Vec<Prop<'_>>, AllocError>
+    requires { IsNode (numbered_tree tree.now) node }
+    ensures { IfOk result (λ props. props_said props.items ≡ properties_at (numbered_tree tree.now) (path_at (numbered_tree tree.now) node)) }
+{
+    tree.validity();
+    let mut props = Vec::new(alloc);
+    for (name, value) in tree.props(node) {
+        props.push(Prop { name, value })?;
+    }
+    Ok(props)
+}
+
 impl TreeView for FlatTree {
     ghost tree = { λ tree. numbered_tree tree };
 
@@ -129,6 +142,10 @@ impl TreeView for FlatTree {
 
     fn value(&self, node: NodeId, name: &[u8]) -> Option<&[u8]> {
         value_of(self, node, name)
+    }
+
+    fn props(&self, alloc: Global, node: NodeId) -> Result<Vec<Prop<'_>>, AllocError> {
+        props_of(self, alloc, node)
     }
 
     fn by_phandle(&self, number: u32) -> Option<NodeId> {

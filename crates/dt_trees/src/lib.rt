@@ -14,6 +14,6 @@ mod flat;
 mod laws;
 mod view;
 
-pub use finding::node_at;
+pub use finding::{node_at, node_of};
 pub use laws::{one_finding, tree_is_seen};
-pub use view::TreeView;
+pub use view::{Prop, TreeView};

@@ -1,18 +1,26 @@
 //! A view of a tree.
 
-ghost use Rattle.std.specs.Prelude.{◌≡◌, ◌∷◌, ◌++◌, ℕ, [], length, IfSome, option_map};
+ghost use Rattle.std.specs.Prelude.{◌≡◌, ◌∷◌, ◌++◌, ℕ, [], length, IfOk, IfSome, option_map};
 ghost use Rattle.std.specs.Option.{option_copied};
 ghost use Rattle.dt_model.specs.Applied.{node_numbered};
 ghost use Rattle.dt_model.specs.Path.{Path};
 ghost use Rattle.dt_model.specs.Tree.{nodes_of, value_in};
 ghost use Rattle.dt_model.specs.Valid.{IsValid, IsWithinLimits};
-ghost use Rattle.dt_trees.specs.Placed.{PlacedTree, last_name, path_at, place_of, reading_of, IsAt, IsNode, HasPlacesApart};
-ghost use Rattle.dt_trees.specs.Views.{first_child_of, next_sibling_of, IsAbove};
+ghost use Rattle.dt_trees.specs.Placed.{PlacedTree, last_name, path_at, place_of, properties_at, reading_of, IsAt, IsNode, HasPlacesApart};
+ghost use Rattle.dt_trees.specs.Views.{first_child_of, next_sibling_of, props_said, IsAbove};
 
 use dt_names::NodeId;
+use std::alloc::{AllocError, Global};
+
+/// A property of a node: its name and its value.
+#[derive(Clone, Copy)]
+pub struct Prop<'v> {
+    pub name: &'v [u8],
+    pub value: &'v [u8],
+}
 
 /// A tree as its readers see it, whatever holds it. Its nodes go by numbers of the view's own; it is seen as the tree
-/// with these as its nodes' places. None of its calls takes memory.
+/// with these as its nodes' places. None of its calls but `props` takes memory.
 pub trait TreeView {
     ghost tree: { Self → PlacedTree };
 
@@ -60,6 +68,15 @@ pub trait TreeView {
     fn value(&self, node: NodeId, name: &[u8]) -> Option<&[u8]>
         requires { IsNode (tree self.now) node }
         ensures { option_copied result ≡ value_in (reading_of (tree self.now)) (path_at (tree self.now) node) name.now };
+
+    /// The properties of a node, in order.
+    ///
+    /// # Errors
+    ///
+    /// Where memory is refused.
+    fn props(&self, alloc: Global, node: NodeId) -> Result<Vec<Prop<'_>>, AllocError>
+        requires { IsNode (tree self.now) node }
+        ensures { IfOk result (λ props. props_said props.items ≡ properties_at (tree self.now) (path_at (tree self.now) node)) };
 
     /// The node that has a number as its phandle, None where no node has it (Devicetree Specification v0.4, 2.3.3).
     fn by_phandle(&self, number: u32) -> Option<NodeId>

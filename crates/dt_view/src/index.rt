@@ -11,8 +11,8 @@ use crate::tables::{
 };
 use dt_names::{Fault, NodeId};
 use dt_read::Blob;
-use dt_trees::{TreeView, node_at};
-use std::alloc::Global;
+use dt_trees::{Prop, TreeView, node_at};
+use std::alloc::{AllocError, Global};
 use std::collections::HashMap;
 use std::marker::Model;
 
@@ -53,9 +53,9 @@ impl<'a> Index<'a> {
     ghost use Rattle.dt_model.specs.Path.{Path};
     ghost use Rattle.dt_model.specs.Tree.{nodes_of, value_in};
     ghost use Rattle.dt_model.specs.Valid.{IsValid, IsWithinLimits};
-    ghost use Rattle.dt_trees.specs.Placed.{last_name, path_at, place_of, reading_of, IsAt, IsNode};
+    ghost use Rattle.dt_trees.specs.Placed.{last_name, path_at, place_of, properties_at, reading_of, IsAt, IsNode};
     ghost use Rattle.dt_view.specs.Tables.{is_whole_name};
-    ghost use Rattle.dt_trees.specs.Views.{first_child_of, next_sibling_of, IsAbove, IsFoundBy, WhyNotFound};
+    ghost use Rattle.dt_trees.specs.Views.{first_child_of, next_sibling_of, props_said, IsAbove, IsFoundBy, WhyNotFound};
 
     /// Makes the index of a blob, in two walks through its tree.
     ///
@@ -199,6 +199,14 @@ impl<'a> Index<'a> {
         TreeView::next_sibling(self.blob, node)
     }
 
+    /// The properties of a node.
+    fn props_in_blob(&self, alloc: Global, node: NodeId) -> Result<Vec<Prop<'_>>, AllocError>
+        requires { IsNode self.now node }
+        ensures { IfOk result (λ props. props_said props.items ≡ properties_at self.now (path_at self.now node)) }
+    {
+        TreeView::props(self.blob, alloc, node)
+    }
+
     /// The value of a node's property of a name that is asked for whole.
     fn value_in_row(&self, node: NodeId, name: &[u8]) -> Option<&[u8]>
         requires node { IsNode self.now node }
@@ -260,6 +268,10 @@ impl<'a> TreeView for Index<'a> {
 
     fn value(&self, node: NodeId, name: &[u8]) -> Option<&[u8]> {
         self.value_in_tables(node, name)
+    }
+
+    fn props(&self, alloc: Global, node: NodeId) -> Result<Vec<Prop<'_>>, AllocError> {
+        self.props_in_blob(alloc, node)
     }
 
     fn by_phandle(&self, number: u32) -> Option<NodeId> {

@@ -18,10 +18,10 @@ land_all-requires g c =
     let object = c.requires.numbered.0 in
     let n = c.requires.numbered.1 in
     let v = c.validity.ensures in (
-      seen_of base object o qs n,
+      seen_of g.V.TreeView.tree base object o qs n,
       n.end.sites,
-      sited_on c.sited_is_applied.ensures c.fragments_are_merged.ensures base object o qs n v.valid v.within v.cells qs refl,
-      may_land c.sited_is_applied.ensures c.fragments_are_merged.ensures base object o qs n v.valid v.within v.cells,
+      sited_on c.sited_is_applied.ensures c.fragments_are_merged.ensures g.V.TreeView.tree base object o qs n v.valid v.within v.cells qs refl,
+      may_land c.sited_is_applied.ensures c.fragments_are_merged.ensures g.V.TreeView.tree base object o qs n v.valid v.within v.cells,
     )
 
 pub returns-in_err-land_all-clause-refused : goal.returns-in_err-land_all-clause-refused
@@ -32,9 +32,9 @@ returns-in_err-land_all-clause-refused g c object n =
     let v = c.validity.ensures in
     let e = err_from_is_err_and c.from_residual.result c.from_residual.ensures.1 in
     rw (e.1, e.2)
-    (told_landing c.sited_is_applied.ensures c.fragments_are_merged.ensures base object o qs n v.valid v.within v.cells (HasNoRoom g.T.Target.reading g.T.Target.has_room g.T.Target.follows c.args.target.now) c.in_err-land_all.field-0.0
-    (c.in_err-land_all.ensures.refused (seen_of base object o qs n) n.end.sites
-    (sited_on c.sited_is_applied.ensures c.fragments_are_merged.ensures base object o qs n v.valid v.within v.cells qs refl)))
+    (told_landing c.sited_is_applied.ensures c.fragments_are_merged.ensures g.V.TreeView.tree base object o qs n v.valid v.within v.cells (HasNoRoom g.T.Target.reading g.T.Target.has_room g.T.Target.follows c.args.target.now) c.in_err-land_all.field-0.0
+    (c.in_err-land_all.ensures.refused (seen_of g.V.TreeView.tree base object o qs n) n.end.sites
+    (sited_on c.sited_is_applied.ensures c.fragments_are_merged.ensures g.V.TreeView.tree base object o qs n v.valid v.within v.cells qs refl)))
 
 pub set_symbols-requires : goal.set_symbols-requires
 set_symbols-requires g c =
@@ -46,10 +46,10 @@ set_symbols-requires g c =
     let v = c.validity.ensures in
     record {
       sited = (
-        seen_of base object o qs n,
+        seen_of g.V.TreeView.tree base object o qs n,
         n.end.sites,
-        sited_on c.sited_is_applied.ensures c.fragments_are_merged.ensures base object o qs n v.valid v.within v.cells qs refl,
-        shallow c.sited_is_applied.ensures c.fragments_are_merged.ensures base object o qs n v.valid v.within v.cells,
+        sited_on c.sited_is_applied.ensures c.fragments_are_merged.ensures g.V.TreeView.tree base object o qs n v.valid v.within v.cells qs refl,
+        shallow c.sited_is_applied.ensures c.fragments_are_merged.ensures g.V.TreeView.tree base object o qs n v.valid v.within v.cells,
       );
     }
 
@@ -61,12 +61,12 @@ returns-clause-applied g c object n =
     let v = c.validity.ensures in
     let law = c.sited_is_applied.ensures in
     let merge = c.fragments_are_merged.ensures in
-    let seen = seen_of base object o qs n in
+    let seen = seen_of g.V.TreeView.tree base object o qs n in
     on_ok c.set_symbols.result
-    (carried law merge base object o qs n v.valid v.within v.cells (g.T.Target.reading c.land_all.new.target) (g.T.Target.reading c.set_symbols.new.target)
-    (c.in_ok-land_all.ensures.landed seen n.end.sites (sited_on law merge base object o qs n v.valid v.within v.cells qs refl)))
-    (c.set_symbols.ensures.set seen n.end.sites (sited_on law merge base object o qs n v.valid v.within v.cells qs refl)
-    (shallow law merge base object o qs n v.valid v.within v.cells))
+    (carried law merge g.V.TreeView.tree base object o qs n v.valid v.within v.cells (g.T.Target.reading c.land_all.new.target) (g.T.Target.reading c.set_symbols.new.target)
+    (c.in_ok-land_all.ensures.landed seen n.end.sites (sited_on law merge g.V.TreeView.tree base object o qs n v.valid v.within v.cells qs refl)))
+    (c.set_symbols.ensures.set seen n.end.sites (sited_on law merge g.V.TreeView.tree base object o qs n v.valid v.within v.cells qs refl)
+    (shallow law merge g.V.TreeView.tree base object o qs n v.valid v.within v.cells))
 
 pub returns-clause-refused : goal.returns-clause-refused
 returns-clause-refused g c object n =
@@ -76,15 +76,15 @@ returns-clause-refused g c object n =
     let v = c.validity.ensures in
     let law = c.sited_is_applied.ensures in
     let merge = c.fragments_are_merged.ensures in
-    let seen = seen_of base object o qs n in
+    let seen = seen_of g.V.TreeView.tree base object o qs n in
     if_err c.set_symbols.result
-    (λ fault want. told_symbols law merge base object o qs n v.valid v.within v.cells (HasNoRoom g.T.Target.reading g.T.Target.has_room g.T.Target.follows c.args.target.now) (g.T.Target.reading c.land_all.new.target)
-    (c.in_ok-land_all.ensures.landed seen n.end.sites (sited_on law merge base object o qs n v.valid v.within v.cells qs refl)) fault
+    (λ fault want. told_symbols law merge g.V.TreeView.tree base object o qs n v.valid v.within v.cells (HasNoRoom g.T.Target.reading g.T.Target.has_room g.T.Target.follows c.args.target.now) (g.T.Target.reading c.land_all.new.target)
+    (c.in_ok-land_all.ensures.landed seen n.end.sites (sited_on law merge g.V.TreeView.tree base object o qs n v.valid v.within v.cells qs refl)) fault
     (want_whole _ _ fault (symbols_more (HasNoRoom g.T.Target.reading g.T.Target.has_room g.T.Target.follows c.land_all.new.target) (HasNoRoom g.T.Target.reading g.T.Target.has_room g.T.Target.follows c.args.target.now)
     (behind g.T.Target.reading g.T.Target.has_room g.T.Target.follows g.T.Target.follows_trans c.args.target.now c.land_all.new.target c.land_all.ensures.follows)
     (landed_symbols object n.end.sites (symbols_in object)) (g.T.Target.reading c.land_all.new.target)) want))
-    (c.set_symbols.ensures.refused seen n.end.sites (sited_on law merge base object o qs n v.valid v.within v.cells qs refl)
-    (shallow law merge base object o qs n v.valid v.within v.cells))
+    (c.set_symbols.ensures.refused seen n.end.sites (sited_on law merge g.V.TreeView.tree base object o qs n v.valid v.within v.cells qs refl)
+    (shallow law merge g.V.TreeView.tree base object o qs n v.valid v.within v.cells))
 
 pub returns-clause-follows : goal.returns-clause-follows
 returns-clause-follows g c = g.T.Target.follows_trans c.args.target.now c.land_all.new.target c.set_symbols.new.target c.land_all.ensures.follows c.set_symbols.ensures.follows

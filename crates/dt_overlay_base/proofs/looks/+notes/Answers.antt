@@ -5,9 +5,9 @@ use Rattle.dt_model.specs.Names.{IsNodeName}
 use Rattle.dt_model.specs.Tree.{Forest, Placed, preorder}
 use Rattle.dt_model.specs.Valid.{names}
 use Rattle.dt_overlay_laws.specs.Landings.{MayAllLand}
-use Rattle.dt_trees.specs.Placed.{path_at}
-use Rattle.dt_overlay_base.proofs.Walked.{IsWalked, walk_begins, walk_ends, visit, walked_first, left_counted}
-use Rattle.dt_overlay_base.specs.Known.{HasRoom, alone, below_in}
+use Rattle.dt_trees.specs.Placed.{path_at, below_in}
+use Rattle.dt_trees.proofs.Walked.{IsWalked, walk_begins, walk_ends, visit, walked_first, left_counted}
+use Rattle.dt_overlay_base.specs.Known.{HasRoom, alone}
 use Rattle.dt_overlay_base.proofs.LooksNames.{node_named, path_short}
 use Rattle.dt_overlay_base.proofs.LooksLanded.{room_first, left_begun, left_on, left_failed, left_ended}
 use Rattle.dt_overlay_base.proofs.looks.+notes.Goals as goal

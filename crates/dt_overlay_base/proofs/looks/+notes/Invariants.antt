@@ -1,9 +1,8 @@
 use Rattle.std.proofs.Common.{◌+◌, ◌*◌, ◌-◌, suc, length}
 use Rattle.dt_model.specs.Limits.{most_names}
 use Rattle.dt_model.specs.Tree.{Forest, preorder}
-use Rattle.dt_trees.specs.Placed.{path_at}
-use Rattle.dt_overlay_base.proofs.Walked.{IsWalked, count_left}
-use Rattle.dt_overlay_base.specs.Known.{below_in}
+use Rattle.dt_trees.specs.Placed.{path_at, below_in}
+use Rattle.dt_trees.proofs.Walked.{IsWalked, count_left}
 use Rattle.dt_overlay_base.proofs.LooksLanded.{AreLeft}
 use Rattle.dt_overlay_base.proofs.looks.+notes.Given as goal
 

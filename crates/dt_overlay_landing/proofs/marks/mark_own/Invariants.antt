@@ -1,10 +1,9 @@
-use Rattle.std.proofs.Common.{◌≡◌, ◌<◌, length, drop}
-use Rattle.std.specs.List.{AllByRecursion}
+-- The writes that are left give the marks of all.
+use Rattle.std.proofs.Common.{◌≡◌, ℕ, drop}
+use Rattle.dt_overlay_object.specs.Plans.{at_node}
 use Rattle.dt_overlay_landing.specs.Marks.{with_own}
 use Rattle.dt_overlay_landing.proofs.marks.mark_own.Given as goal
 
 abbrev pub invariant-loop-write : goal.invariant-loop-write
-invariant-loop-write l = record {
-  nodes : AllByRecursion (λ w. w.node < length l.marks.items) (drop l.write-index l.writes);
-  left : with_own (drop l.write-index l.writes) l.marks.items ≡ with_own l.writes l.initial.marks.items;
-}
+invariant-loop-write l =
+    (k : ℕ) → with_own (drop l.write-index l.writes) k (at_node l.marks.entries k) ≡ with_own l.writes k (at_node l.initial.marks.entries k)

@@ -1,10 +1,10 @@
-use Rattle.std.proofs.Common.{◌≡◌, length, drop}
-use Rattle.dt_overlay_object.specs.NumbersGiven.{with_fragments}
+-- The contents of the fragments so far are in the table.
+use Rattle.std.proofs.Common.{◌≡◌}
+use Rattle.dt_overlay_object.proofs.Contents.{AreSoFar}
 use Rattle.dt_overlay_object.proofs.brought.bring_all.Given as goal
 
 abbrev pub invariant-loop-i : goal.invariant-loop-i
-invariant-loop-i l = record {
-  all : length l.brought.fragments.items ≡ length l.object.slots;
-  fragments : with_fragments l.object.slots l.i (drop l.i l.fragments) l.brought.fragments.items ≡ with_fragments l.object.slots 0 l.fragments l.initial.brought.fragments.items;
-  numbers : l.brought.numbers.items ≡ l.initial.brought.numbers.items;
+invariant-loop-i g l = record {
+  contents : AreSoFar l.fragments l.i l.brought.contents.entries;
+  numbers : l.brought.numbers ≡ l.initial.brought.numbers;
 }

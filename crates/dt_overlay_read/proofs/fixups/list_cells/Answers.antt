@@ -3,31 +3,31 @@ use Rattle.std.proofs.lemmas.Result.{IfErr-weaker}
 use Rattle.dt_model.specs.Object.{Cell}
 use Rattle.dt_names.specs.declared.fault.Fault.{Fault}
 use Rattle.dt_names.specs.declared.fault.FaultKind.TheVariants.{NoMemory, BadFixup}
-use Rattle.dt_flat.specs.Arena.{reading}
+use Rattle.dt_trees.specs.Placed.{reading_of}
 use Rattle.dt_overlay_laws.specs.Objects.{AreCellsOf}
 use Rattle.dt_overlay_read.specs.Fixups.{HasTold}
 use Rattle.dt_overlay_read.proofs.FixupsTold.{cells_begin, cells_step, told_not}
 use Rattle.dt_overlay_read.proofs.fixups.list_cells.Goals as goal
 
 pub loop-text-init : goal.loop-text-init
-loop-text-init c = record {
+loop-text-init g c = record {
   next = tt;
   ends = tt;
-  left = cells_begin c.texts_are_one.ensures.texts c.cell_texts_are_texts.ensures c.args.object.now c.args.value.now c.in-Some.texts c.into_iter-text-iterator.result c.args.number
+  left = cells_begin c.texts_are_one.ensures.texts c.cell_texts_are_texts.ensures (g.V.TreeView.tree c.args.object.now) c.args.value.now c.in-Some.texts c.into_iter-text-iterator.result c.args.number
       c.args.out.now.items c.into_iter-text-iterator.ensures.into_iter_gives c.in-Some.ensures.0 c.in-Some.ensures.1;
 }
 
 pub loop-text-preserved : goal.loop-text-preserved
-loop-text-preserved c = record {
+loop-text-preserved g c = record {
   next = tt;
   ends = tt;
-  left = cells_step c.args.object.now c.args.value.now c.in-Some-text.text.now c.loop-text.text-iterator c.next.new.self c.args.number c.args.out.now.items c.loop-text.out.items
+  left = cells_step (g.V.TreeView.tree c.args.object.now) c.args.value.now c.in-Some-text.text.now c.loop-text.text-iterator c.next.new.self c.args.number c.args.out.now.items c.loop-text.out.items
       c.list_cell.new.out.items c.in-Some-text.ensures.steps c.loop-text.invariant.left c.in_ok-list_cell.ensures.listed;
 }
 
 pub returns-in_err-list_cell-clause-refused : goal.returns-in_err-list_cell-clause-refused
-returns-in_err-list_cell-clause-refused c =
-    let object = reading c.args.object.now in
+returns-in_err-list_cell-clause-refused g c =
+    let object = reading_of (g.V.TreeView.tree c.args.object.now) in
     let text = c.in-Some-text.text.now in
     let value = c.args.value.now in
     let told : IfErr c.from_residual.result (λ (fault : Fault). (fault.at ≡ None) × ((fault.kind ≡ NoMemory) ⊎ ((fault.kind ≡ BadFixup) × ((d : Cell) → ¬ HasTold object text d)))) = search rules in

@@ -30,7 +30,7 @@ returns-in_err-path-clause-refused g c =
     let t = g.T.Target.reading c.args.target.now in
     let l = c.args.label.now in
     let value = c.in-Some.value.now in
-    let there = label_at t c.args.symbols.now l value c.requires c.in-Some.ensures in
+    let there = label_at t c.path.result.now l value c.path.ensures c.in-Some.ensures in
     let told : IfErr c.from_residual.result (λ (fault : Fault). (fault.at ≡ None) × ((fault.kind ≡ NoMemory) ⊎ ((fault.kind ≡ BadSymbol) × ((path : Path) → IsPathValue value path → most_names < length path)))) = search rules in
     IfErr-weaker c.from_residual.result (λ (fault : Fault). (fault.at ≡ None) × ((fault.kind ≡ NoMemory) ⊎ ((fault.kind ≡ BadSymbol) × ((path : Path) → IsPathValue value path → most_names < length path))))
     (λ (fault : Fault). (fault.at ≡ None) × WhyNoNumber fault.kind t l)
@@ -61,7 +61,7 @@ returns-in-Some-prop-clause-number g c =
     let value = c.in-Some.value.now in
     let path = c.in_ok-path.path in
     let v = c.in-Some-prop.value.now in
-    let there = label_at t c.args.symbols.now l value c.requires c.in-Some.ensures in
+    let there = label_at t c.path.result.now l value c.path.ensures c.in-Some.ensures in
     let at = phandle_at t path c.as_slice.result.now (Some v) c.as_slice.ensures c.in-Some-prop.ensures in
     subst (λ (r : Result ℕ Fault). IfOk r (SymbolHasNumber t l)) (sym c.ok_or.ensures.value)
     (found_number t l value path v c.validity.ensures.valid there c.in_ok-path.ensures.value at c.cell_number.result c.of-in-Some-prop.result c.cell_number.ensures)
@@ -82,7 +82,7 @@ returns-clause-refused g c =
     let l = c.args.label.now in
     let value = c.in-Some.value.now in
     let path = c.in_ok-path.path in
-    let there = label_at t c.args.symbols.now l value c.requires c.in-Some.ensures in
+    let there = label_at t c.path.result.now l value c.path.ensures c.in-Some.ensures in
     let none = phandle_at t path c.as_slice.result.now None c.as_slice.ensures c.in-None.ensures in (
       c.of-in-None.ensures.at,
       subst (λ (k : FaultKind). WhyNoNumber k t l) (sym c.of-in-None.ensures.kind)

@@ -1,61 +1,94 @@
-use Rattle.std.proofs.Common.{◌<◌, ℕ, All, length, refl, ap, subst, ◌∙◌}
-use Rattle.std.proofs.lemmas.Result.{err_from_is_err_and}
-use Rattle.dt_flat.specs.Arena.{children, name_of}
-use Rattle.dt_overlay_read.proofs.FragmentsListed.{listing_begins, listing_passes, listing_keeps, listing_within, listing_leads, listing_ends, not_listed}
+use Rattle.std.proofs.Common.{◌≡◌, ◌∙◌, ◌∷◌, [], ℕ, List, Option, inr, length, refl, sym, ap, subst, arith}
+use Rattle.dt_model.specs.Path.{Path}
+use Rattle.dt_model.specs.Tree.{Forest}
+use Rattle.dt_model.specs.Valid.{names}
+use Rattle.dt_overlay_object.specs.declared.kept.ObjectFragment.{ObjectFragment}
+use Rattle.dt_trees.specs.Placed.{PlacedTree, place_of, path_at, last_name, below_at}
+use Rattle.dt_trees.specs.Views.{first_child_of}
+use Rattle.dt_trees.proofs.NodePlaces.{path_is}
+use Rattle.dt_trees.proofs.Walked.{IsWalked, IsVisited, walk_begins, walk_ends, visit, left_counted, last_of}
+use Rattle.dt_overlay_read.proofs.FragmentsListed.{Listing, listing_begins, listing_passes, listing_keeps, listing_ends, not_listed}
+use Rattle.dt_overlay_read.proofs.fragments.list_fragments.Goals.{in-Some-content_of+in-Some-target_of+in_ok-push, in_default-content_of}
 use Rattle.dt_overlay_read.proofs.fragments.list_fragments.Goals as goal
 
-pub loop-node-init : goal.loop-node-init
-loop-node-init c =
-    let slots = c.args.object.now.slots in
-    let top = c.root.ensures.node in
-    let all = c.into_iter-node-iterator.ensures.into_iter_gives ∙ c.children-node-items.ensures.rest ∙ ap (children slots) top in
-    let within : All (λ k. (0 < k) × (k < length slots)) (children slots 0) =
-    subst (λ (r : ℕ). All (λ k. (r < k) × (k < length slots)) (children slots r)) top c.children-node-items.ensures.below in
+-- a child of the root has its name for a path
+named_path : (t : PlacedTree) (k : ℕ) (left : Forest) (v : IsVisited t [] k left) → path_at t k ≡ last_name (path_at t k) ∷ []
+named_path t k left v = v.path ∙ ap (λ x. x ∷ []) (sym (ap last_name v.path ∙ last_of [] v.name))
+
+pub loop-next-init : goal.loop-next-init
+loop-next-init g c =
+    let t = g.V.TreeView.tree c.args.object.now in
+    let root = path_is t c.validity.ensures.places [] c.root.result c.root.ensures.at in
     record {
-      next = tt;
-      ends = tt;
-      listing = listing_begins c.args.object.now c.args.out.now.items c.into_iter-node-iterator.result c.validity.ensures.valid c.requires all within;
+      forest = below_at t [];
+      walked = walk_begins t [] c.first_child-next.result (c.first_child-next.ensures.is ∙ ap (first_child_of t) root);
+      listing = subst (λ (p : Path). Listing t c.args.out.now.items (below_at t p)) root (listing_begins t c.args.out.now.items c.root.result c.validity.ensures.places c.root.ensures.at c.requires);
     }
 
 pub content_of-requires : goal.content_of-requires
-content_of-requires c =
-    listing_within c.args.object.now c.loop-node.out.items c.loop-node.node-iterator c.next.new.self c.in-Some.node c.in-Some.ensures.steps c.loop-node.invariant.listing
+content_of-requires g c =
+    let t = g.V.TreeView.tree c.args.object.now in
+    let w = c.loop-next.invariant in
+    (visit t [] c.in-Some.node w.forest c.validity.ensures.valid c.validity.ensures.places (subst (λ (n : Option ℕ). IsWalked t [] n w.forest) c.in-Some.is w.walked)).there
 
 pub target_of-requires : goal.target_of-requires
-target_of-requires c =
-    listing_within c.args.object.now c.loop-node.out.items c.loop-node.node-iterator c.next.new.self c.in-Some.node c.in-Some.ensures.steps c.loop-node.invariant.listing
+target_of-requires g c =
+    let t = g.V.TreeView.tree c.args.object.now in
+    let w = c.loop-next.invariant in
+    (visit t [] c.in-Some.node w.forest c.validity.ensures.valid c.validity.ensures.places (subst (λ (n : Option ℕ). IsWalked t [] n w.forest) c.in-Some.is w.walked)).there
 
-pub returns-in_err-target-clause-refused : goal.returns-in_err-target-clause-refused
-returns-in_err-target-clause-refused c =
-    let object = c.args.object.now in
-    let node = c.in-Some.node in
-    let so_far = c.loop-node.invariant.listing in
-    let steps = c.in-Some.ensures.steps in
-    let e = err_from_is_err_and c.from_residual.result c.from_residual.ensures.1 in
-    let r = c.in_err-target.ensures.refused (name_of object.slots node) (listing_leads object c.loop-node.out.items c.loop-node.node-iterator c.next.new.self node steps so_far) in
-    rw (e.1, e.2) (r.0, not_listed object c.loop-node.out.items c.loop-node.node-iterator c.next.new.self node c.in_err-target.field-0.0.kind steps c.in-Some-content_of.ensures.value.0 r.1 so_far)
+pub returns-in_default-target_of-clause-refused : goal.returns-in_default-target_of-clause-refused
+returns-in_default-target_of-clause-refused g c =
+    let t = g.V.TreeView.tree c.args.object.now in
+    let w = c.loop-next.invariant in
+    let k = c.in-Some.node in
+    let v = visit t [] k w.forest c.validity.ensures.valid c.validity.ensures.places (subst (λ (n : Option ℕ). IsWalked t [] n w.forest) c.in-Some.is w.walked) in
+    let path = named_path t k w.forest v in
+    let none = c.in_default-target_of.ensures (last_name (path_at t k)) (ap (place_of t) (sym path) ∙ v.there) in
+    (c.of.ensures.at, inr (c.of.ensures.kind, not_listed t c.loop-next.out.items w.forest v.rest k v.split c.in-Some-content_of.ensures.0 none w.listing))
 
-pub loop-node-preserved : goal.loop-node-preserved
-loop-node-preserved c =
-    let object = c.args.object.now in
-    let node = c.in-Some.node in
-    let so_far = c.loop-node.invariant.listing in
-    let steps = c.in-Some.ensures.steps in
-    let target = c.in_ok-target.ensures.value (name_of object.slots node) (listing_leads object c.loop-node.out.items c.loop-node.node-iterator c.next.new.self node steps so_far) in
+pub next_sibling-next-requires : goal.next_sibling-next-requires
+next_sibling-next-requires g c =
+    let t = g.V.TreeView.tree c.args.object.now in
+    let w = c.loop-next.invariant in
+    (visit t [] c.in-Some.node w.forest c.validity.ensures.valid c.validity.ensures.places (subst (λ (n : Option ℕ). IsWalked t [] n w.forest) c.in-Some.is w.walked)).there
+
+pub loop-next-smaller : goal.loop-next-smaller
+loop-next-smaller g c =
+    let t = g.V.TreeView.tree c.args.object.now in
+    let w = c.loop-next.invariant in
+    let valid = c.validity.ensures.valid in
+    let apart = c.validity.ensures.places in
+    let v = visit t [] c.in-Some.node w.forest valid apart (subst (λ (n : Option ℕ). IsWalked t [] n w.forest) c.in-Some.is w.walked) in
+    let before = left_counted t [] c.loop-next.next w.forest valid apart w.walked in
+    let behind = left_counted t [] c.next_sibling-next.result v.rest valid apart (v.on c.next_sibling-next.result c.next_sibling-next.ensures.is) in
+    let one = ap (λ (f : Forest). length (names f)) v.split in
+    omega (arith, before, behind, one)
+
+pub loop-next-preserved : goal.loop-next-preserved
+loop-next-preserved g c =
+    let t = g.V.TreeView.tree c.args.object.now in
+    let w = c.loop-next.invariant in
+    let k = c.in-Some.node in
+    let v = visit t [] k w.forest c.validity.ensures.valid c.validity.ensures.places (subst (λ (n : Option ℕ). IsWalked t [] n w.forest) c.in-Some.is w.walked) in
+    let path = named_path t k w.forest v in
     record {
-      next = tt;
-      ends = tt;
-      listing = listing_keeps object c.loop-node.out.items c.push.new.self.items c.loop-node.node-iterator c.next.new.self node
-          (record { node = node; content = c.in-Some-content_of.content; target = c.in_ok-target.target })
-          steps c.in-Some-content_of.ensures.value.0 c.in_ok-push.ensures.items refl c.in-Some-content_of.ensures.value.1 target so_far;
+      forest = v.rest;
+      walked = v.on c.next_sibling-next.result c.next_sibling-next.ensures.is;
+      listing = elim c.match-content_of.branch as (λ b. Listing t c.match-content_of.out.items v.rest) [
+        | in-Some-content_of+in-Some-target_of+in_ok-push m ↦
+            listing_keeps t c.loop-next.out.items c.match-content_of.out.items w.forest v.rest k (record { node = k; content = m.in-Some-content_of.content; target = m.in-Some-target_of.target })
+            v.split v.there path m.in-Some-content_of.ensures.0 (ap (λ o. o.items) m.out-is ∙ m.in_ok-push.ensures.items) refl m.in-Some-content_of.ensures.1
+            (m.in-Some-target_of.ensures (last_name (path_at t k)) (ap (place_of t) (sym path) ∙ v.there)) w.listing
+        | in_default-content_of m ↦
+            subst (λ (xs : List ObjectFragment). Listing t xs v.rest) (sym (ap (λ o. o.items) m.out-is))
+            (listing_passes t c.loop-next.out.items w.forest v.rest k v.split m.in_default-content_of.ensures w.listing)
+      ];
     }
 
-pub loop-node-preserved-in_default : goal.loop-node-preserved-in_default
-loop-node-preserved-in_default c = record {
-  next = tt;
-  ends = tt;
-  listing = listing_passes c.args.object.now c.loop-node.out.items c.loop-node.node-iterator c.next.new.self c.in-Some.node c.in-Some.ensures.steps c.in_default.ensures.value c.loop-node.invariant.listing;
-}
-
 pub returns-clause-listed : goal.returns-clause-listed
-returns-clause-listed c = listing_ends c.args.object.now c.loop-node.out.items c.loop-node.node-iterator c.in-None.ensures.steps.0 c.loop-node.invariant.listing
+returns-clause-listed g c =
+    let t = g.V.TreeView.tree c.args.object.now in
+    let w = c.loop-next.invariant in
+    listing_ends t c.loop-next.out.items w.forest
+    (walk_ends t [] w.forest c.validity.ensures.valid (subst (λ (n : Option ℕ). IsWalked t [] n w.forest) c.in_default.is w.walked)) w.listing

@@ -1,48 +1,48 @@
-use Rattle.std.proofs.Common.{◌≡◌, None, Some, true, false, inr, ap, ◌∙◌, refl}
-use Rattle.dt_flat.specs.Arena.{properties, reading}
-use Rattle.dt_overlay_laws.specs.Objects.{HasTarget}
-use Rattle.dt_model.specs.Path.{path_value}
-use Rattle.dt_model.specs.Tree.{value_of}
-use Rattle.dt_overlay_read.proofs.FragmentsTargets.{number_target, no_number, path_target, no_path}
-use Rattle.dt_overlay_read.proofs.fragments.target_of.Goals.{in_default-value-via-in-Some-value+else-is_path_value, in_default-value-via-in_default-value}
+use Rattle.std.proofs.Common.{◌≡◌, None, Some, true, false, refl, codes, ◌∙◌}
+use Rattle.dt_overlay_read.proofs.FragmentsTargets.{value_there, number_target, no_number, no_path}
 use Rattle.dt_overlay_read.proofs.fragments.target_of.Goals as goal
 
-pub returns-then-value-eq4-clause-value : goal.returns-then-value-eq4-clause-value
-returns-then-value-eq4-clause-value c = λ f leads.
-    let own = properties c.args.object.now.slots c.args.node in
-    number_target c.args.object.now f c.args.node leads c.in-Some.value.now (c.in-Some.ensures ∙ ap (value_of own) c.as_slice.ensures) c.if-value-eq4.true
+pub returns-in-Some : goal.returns-in-Some
+returns-in-Some g c f at =
+    let t = g.V.TreeView.tree c.args.object.now in
+    let value = c.in-Some.value.now in
+    number_target t c.validity.ensures.places f c.args.node at value
+    (value_there t c.validity.ensures.places f c.args.node at (codes "target") c.as_slice.result.now (Some value) c.as_slice.ensures c.in-Some.ensures) c.if-value-eq4.true
 
-pub returns-else-value-eq4-clause-refused : goal.returns-else-value-eq4-clause-refused
-returns-else-value-eq4-clause-refused c = λ f leads.
-    let own = properties c.args.object.now.slots c.args.node in
-    let none = no_number c.args.object.now f c.args.node leads c.in-Some.value.now (c.in-Some.ensures ∙ ap (value_of own) c.as_slice.ensures) c.if-value-eq4.false in
-    (c.of.ensures.at, inr (c.of.ensures.kind, none))
+pub returns-in-Some-2 : goal.returns-in-Some-2
+returns-in-Some-2 g c f at =
+    let t = g.V.TreeView.tree c.args.object.now in
+    let value = c.in-Some.value.now in
+    no_number t c.validity.ensures.places f c.args.node at value
+    (value_there t c.validity.ensures.places f c.args.node at (codes "target") c.as_slice.result.now (Some value) c.as_slice.ensures c.in-Some.ensures) c.if-value-eq4.false
 
-pub returns-in_ok-value-in-Some-value-clause-value :
-    goal.returns-in_ok-value-in-Some-value-clause-value
-returns-in_ok-value-in-Some-value-clause-value c = λ f leads.
-    let own = properties c.args.object.now.slots c.args.node in
-    path_target c.args.object.now f c.args.node leads c.in-Some-value.value.now c.in_ok-value-in-Some-value.value.items (c.in_default.ensures ∙ ap (value_of own) c.as_slice.ensures)
-    (c.in-Some-value.ensures ∙ ap (value_of own) c.as_slice-2.ensures) c.in_ok-value-in-Some-value.ensures.items (c.if-is_path_value.ensures.0 refl)
+pub returns-in_err-value-in-None : goal.returns-in_err-value-in-None
+returns-in_err-value-in-None g c f at =
+    let t = g.V.TreeView.tree c.args.object.now in
+    let apart = c.validity.ensures.places in
+    rw c.from_residual.ensures
+    (no_path t apart f c.args.node at None (value_there t apart f c.args.node at (codes "target") c.as_slice.result.now None c.as_slice.ensures c.in-None.ensures)
+    (value_there t apart f c.args.node at (codes "target-path") c.as_slice-in-None.result.now None c.as_slice-in-None.ensures c.in_err-value-in-None.ensures)
+    (λ p w. let none : None ≡ Some w.0 = w.1 in absurd cc))
 
-pub returns-in_default-value-clause-refused : goal.returns-in_default-value-clause-refused
-returns-in_default-value-clause-refused c = λ f leads.
-    let object = c.args.object.now in
-    let node = c.args.node in
-    let own = properties object.slots node in
-    let none = c.in_default.ensures ∙ ap (value_of own) c.as_slice.ensures in
-    let no = elim c.in_default-value.branch as (λ b. ¬ HasTarget (reading object) f) [
-      | in_default-value-via-in-Some-value+else-is_path_value w ↦
-          let value = w.in-Some-value.value.now in
-          no_path object f node leads (Some value) none (w.in-Some-value.ensures ∙ ap (value_of own) c.as_slice-2.ensures)
-          (
-          λ p named is.
-          let same : value ≡ path_value p = cc in
-          let yes : false ≡ true = w.if-is_path_value.ensures.1 (p, record { text = same; named = named }) in
-          absurd cc
-          )
-      | in_default-value-via-in_default-value w ↦
-          no_path object f node leads None none (w.in_default-value.ensures ∙ ap (value_of own) c.as_slice-2.ensures)
-          (λ p named is. absurd cc)
-    ] in
-    (c.of-in_default-value.ensures.at, inr (c.of-in_default-value.ensures.kind, no))
+pub returns-then-not-is_path_value : goal.returns-then-not-is_path_value
+returns-then-not-is_path_value g c f at =
+    let t = g.V.TreeView.tree c.args.object.now in
+    let apart = c.validity.ensures.places in
+    let value = c.in_ok-value-in-None.value.now in
+    no_path t apart f c.args.node at (Some value) (value_there t apart f c.args.node at (codes "target") c.as_slice.result.now None c.as_slice.ensures c.in-None.ensures)
+    (value_there t apart f c.args.node at (codes "target-path") c.as_slice-in-None.result.now (Some value) c.as_slice-in-None.ensures c.in_ok-value-in-None.ensures)
+    (λ p w.
+    let same : value ≡ w.0 = (let both : Some value ≡ Some w.0 = w.1 in cc) in
+    let yes : false ≡ true = c.if-not-is_path_value.ensures.1 (p, record { text = same ∙ w.2.text; named = w.2.named }) in
+    absurd cc)
+
+pub returns-else-not-is_path_value : goal.returns-else-not-is_path_value
+returns-else-not-is_path_value g c f at =
+    let t = g.V.TreeView.tree c.args.object.now in
+    let apart = c.validity.ensures.places in
+    let value = c.in_ok-value-in-None.value.now in (
+      value_there t apart f c.args.node at (codes "target") c.as_slice.result.now None c.as_slice.ensures c.in-None.ensures,
+      value_there t apart f c.args.node at (codes "target-path") c.as_slice-in-None.result.now (Some value) c.as_slice-in-None.ensures c.in_ok-value-in-None.ensures,
+      c.if-not-is_path_value.ensures.0 refl,
+    )

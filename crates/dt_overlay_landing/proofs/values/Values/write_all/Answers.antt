@@ -1,27 +1,28 @@
-use Rattle.std.proofs.Common.{◌+◌, ◌∙◌, List, drop, sym, ap, subst}
-use Rattle.dt_flat.specs.Arena.{Slot}
-use Rattle.dt_overlay_object.specs.declared.kept.Write.{Write}
-use Rattle.dt_overlay_landing.specs.Values.{with_values}
-use Rattle.dt_overlay_object.specs.Writing.{AreWritable, with_writes}
-use Rattle.dt_overlay_landing.proofs.WritesKept.{next_write, still_writable}
+use Rattle.std.proofs.Common.{◌+◌, drop, arith}
+use Rattle.std.proofs.lemmas.List.{drop_all, drop_more}
+use Rattle.dt_overlay_landing.proofs.ValuesKept.{writes_begun, next_write, writes_over}
 use Rattle.dt_overlay_landing.proofs.values.Values.write_all.Goals as goal
 
-pub write-requires : goal.write-requires
-write-requires c =
-    let xs = c.args.writes.now in
-    let next = next_write xs c.loop-write.write-index c.write-item.result c.loop-write-test.true c.write-item.is in
-    (subst (AreWritable (with_values c.loop-write.self 0 c.args.object.now.slots)) next c.loop-write.invariant.writable).0
+pub loop-write-init : goal.loop-write-init
+loop-write-init g c written all may = writes_begun (g.V.TreeView.tree c.args.object.now) c.args.self.now written c.args.writes.now all may
 
-pub loop-write-preserved : goal.loop-write-preserved
-loop-write-preserved c =
-    let before = with_values c.loop-write.self 0 c.args.object.now.slots in
+pub write-requires : goal.write-requires
+write-requires g c =
     let xs = c.args.writes.now in
     let i = c.loop-write.write-index in
-    let w = c.write-item.result in
-    let next = next_write xs i w c.loop-write-test.true c.write-item.is in
-    let can = subst (AreWritable before) next c.loop-write.invariant.writable in
-    let changed = c.in_ok-write.ensures in
-    record {
-      writable = subst (λ (ns : List Slot). AreWritable ns (drop (i + 1) xs)) (sym changed) (still_writable before w (drop (i + 1) xs) can.0 can.1);
-      same = ap (with_writes (drop (i + 1) xs)) changed ∙ ap (λ (zs : List Write). with_writes zs before) (sym next) ∙ c.loop-write.invariant.same;
-    }
+    let next = next_write (g.V.TreeView.tree c.args.object.now) c.loop-write.self c.requires.0 (drop i xs) (drop (i + 1) xs) _ c.requires.1 (drop_more xs i _ (omega arith))
+    (c.loop-write.invariant c.requires.0 c.requires.1 c.requires.2) in
+    (next.done, next.write, next.may)
+
+pub loop-write-preserved : goal.loop-write-preserved
+loop-write-preserved g c written all may =
+    let xs = c.args.writes.now in
+    let i = c.loop-write.write-index in
+    let next = next_write (g.V.TreeView.tree c.args.object.now) c.loop-write.self written (drop i xs) (drop (i + 1) xs) _ all (drop_more xs i _ (omega arith))
+    (c.loop-write.invariant written all may) in
+    next.on c.write.new.self (c.in_ok-write.ensures next.done next.write next.may)
+
+pub returns : goal.returns
+returns g c written more may =
+    let i = c.loop-write.write-index in
+    writes_over (g.V.TreeView.tree c.args.object.now) c.loop-write.self written (drop i c.args.writes.now) more (drop_all i c.args.writes.now (omega arith)) (c.loop-write.invariant written more may)

@@ -1,11 +1,11 @@
 -- The writes that are left give all.
-use Rattle.std.proofs.Common.{◌≡◌, drop}
-use Rattle.dt_overlay_landing.specs.Values.{with_values}
-use Rattle.dt_overlay_object.specs.Writing.{AreWritable, with_writes}
+use Rattle.std.proofs.Common.{List, drop}
+use Rattle.dt_model.specs.Applied.{Write as ModelWrite}
+use Rattle.dt_overlay_landing.specs.Values.{MayWriteAll}
+use Rattle.dt_overlay_landing.proofs.ValuesKept.{WritesLeft}
 use Rattle.dt_overlay_landing.proofs.values.Values.write_all.Given as goal
 
 abbrev pub invariant-loop-write : goal.invariant-loop-write
-invariant-loop-write l = record {
-  writable : AreWritable (with_values l.self 0 l.object.slots) (drop l.write-index l.writes);
-  same : with_writes (drop l.write-index l.writes) (with_values l.self 0 l.object.slots) ≡ with_writes l.writes (with_values l.fn.self 0 l.object.slots);
-}
+invariant-loop-write g l =
+    let t = g.V.TreeView.tree l.object in
+    (written all : List ModelWrite) → MayWriteAll t l.initial.self written l.writes all → WritesLeft t l.self written (drop l.write-index l.writes) all

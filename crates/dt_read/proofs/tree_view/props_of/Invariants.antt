@@ -1,0 +1,12 @@
+-- The properties so far are in the list.
+use Rattle.std.proofs.Common.{◌≡◌, ◌++◌}
+use Rattle.dt_trees.specs.Placed.{path_at, properties_at}
+use Rattle.dt_trees.specs.Views.{props_said}
+use Rattle.dt_read.proofs.tree_view.props_of.Given as goal
+
+abbrev pub invariant-loop-name : goal.invariant-loop-name
+invariant-loop-name l = record {
+  next : (goal.iterator-loop-name).can_next l.name-iterator;
+  ends : (goal.iterator-loop-name).is_finite l.name-iterator;
+  said : props_said l.props.items ++ l.name-iterator ≡ properties_at l.blob (path_at l.blob l.node);
+}
