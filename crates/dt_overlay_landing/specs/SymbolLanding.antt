@@ -69,6 +69,10 @@ WhereShallow tree o l P =
 abbrev pub with_label : Symbol → Path → Reading → Reading
 with_label x q = with_property_at (codes "__symbols__" ∷ []) x.label.now (path_value q)
 
--- a tree with the labels of an object that has landed on these sites
+-- the labels of an object that has landed on these sites
+abbrev pub labels_of : Reading → List Site → List Property
+labels_of read found = landed_symbols read found (symbols_in read)
+
+-- a tree with them
 abbrev pub with_labels_of : Reading → List Site → Reading → Reading
-with_labels_of read found = with_symbols_merged (landed_symbols read found (symbols_in read))
+with_labels_of read found = with_symbols_merged (labels_of read found)

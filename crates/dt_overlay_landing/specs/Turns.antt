@@ -14,7 +14,7 @@ use Rattle.dt_model.specs.Valid.{IsValid}
 use Rattle.dt_names.specs.declared.fault.FaultKind.{FaultKind}
 use Rattle.dt_names.specs.declared.fault.FaultKind.TheVariants.{Limit}
 use Rattle.dt_overlay_model.specs.Walk.{Walked, nothing_walked, site, landings, landed_on, named_node, new_numbers, target_label, is_target}
-use Rattle.dt_overlay_laws.specs.Landings.{target_in, MayAllLand, AreSited, HasNoSite}
+use Rattle.dt_overlay_laws.specs.Landings.{target_in, MayAllLand, AreSited, HasNoSite, WhyNoSite}
 use Rattle.dt_overlay_object.specs.declared.kept.ObjectFragment.{ObjectFragment}
 use Rattle.dt_overlay_landing.specs.declared.marks.TargetMark.{TargetMark}
 use Rattle.dt_overlay_object.specs.declared.brought.Brought.{Brought}
@@ -23,6 +23,7 @@ use Rattle.dt_overlay_object.specs.declared.object.Object.{Object}
 use Rattle.dt_overlay_base.specs.Known.{Known, IsKnown, landed_paths}
 use Rattle.dt_overlay_landing.specs.Marks.{AreMarked, IsMark}
 use Rattle.dt_overlay_object.specs.Plans.{at_node, AreBroughtBy, AreContents, IsFragmentOf}
+use Rattle.dt_overlay_object.specs.Stages.{IsReadFor}
 use Rattle.dt_trees.specs.Placed.{PlacedTree, reading_of, path_at, below_at, IsAt}
 
 -- a turn: the cells that wait for labels, the names of the fragments that have sites and of those behind them, and what they have brought
@@ -93,6 +94,10 @@ pub record NumbersMore (t : PlacedTree) (numbers : List (Path × ℕ)) (paths : 
   pub own : (p : Path) → IsIn p paths → IsNumbered t numbers new p
   pub kept : (p : Path) → IsNumbered t numbers old p → IsNumbered t numbers new p
 
+-- the nodes of these paths get their numbers
+abbrev pub PutsNumbers : PlacedTree → List (Path × ℕ) → List Path → Brought → Brought → Type 0
+PutsNumbers t numbers paths old new = NumbersMore t numbers paths old.numbers.entries new.numbers.entries
+
 -- the paths of a node and of those below it
 abbrev pub paths_in : PlacedTree → ℕ → List Path
 paths_in t k = path_at t k ∷ map (λ (n : Placed). n.path) (preorder (path_at t k) (below_at t (path_at t k)))
@@ -126,10 +131,31 @@ abbrev pub WhereSited : Reading → PlacedTree → Landing → (List (Path × �
 WhereSited base t landing P =
     (fixups : List (Name × Cell)) (is : HasAllSites base fixups (reading_of t) landing) → P (new_numbers base (reading_of t) is.end)
 
+-- what holds of the new numbers of nodes, where each number in the table is one of them
+abbrev pub WhereNumbered : Reading → PlacedTree → Landing → Brought → (List (Path × ℕ) → Type 0) → Type 0
+WhereNumbered base t landing b P = WhereSited base t landing (λ numbers. AreNumbers t numbers b.numbers.entries → P numbers)
+
+-- what holds of an object that was read, and whose fragments have sites
+abbrev pub WhereReadSited : {V : Type 0} → (V → PlacedTree) → Reading → Object V → Landing → (Reading → List (Name × Cell) → Type 0) → Type 0
+WhereReadSited tree base object landing P =
+    (read : Reading) (is : IsReadFor tree base read object) → HasAllSites base is.fixups read landing → P read is.fixups
+
 -- what holds where it is known what has landed of an object on some sites
 abbrev pub WhereNoted : Reading → Known → (Reading → List Site → Type 0) → Type 0
 WhereNoted base a P = (object : Reading) (sites : List Site) (given : List (Path × ℕ)) → IsValid object
     → IsKnown base given (landed_paths object sites) a → AreLandings object sites → P object sites
+
+-- the node that a fragment names, at a turn
+abbrev pub target_at : {V : Type 0} → (V → PlacedTree) → Reading → Object V → Turn → Name → Option Path
+target_at tree base object turn f = target_in base (reading_of (tree object.tree.now)) turn.fixups turn.walked f
+
+-- the fragment lands on this path, and these places are known then
+abbrev pub IsSitedAt : {V : Type 0} → (V → PlacedTree) → Reading → Object V → Turn → Name → Path → Known → Type 0
+IsSitedAt tree base object turn f q a = IsSitedOn base turn.fixups (reading_of (tree object.tree.now)) turn.walked f q a
+
+-- the fragment has no site, for this reason
+abbrev pub LacksSiteAt : {V : Type 0} → (V → PlacedTree) → Reading → Object V → Turn → Name → FaultKind → Type 0
+LacksSiteAt tree base object turn f kind = WhyNoSite kind base (reading_of (tree object.tree.now)) turn.fixups turn.walked f
 
 -- a node lands too deep
 abbrev pub IsTooDeep : FaultKind → Reading → List Site → Type 0

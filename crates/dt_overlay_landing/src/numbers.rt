@@ -1,13 +1,12 @@
 //! The numbers that the nodes of an object get.
 
 ghost use Rattle.std.specs.Prelude.{◌≡◌, [], ◌∷◌, ℕ, List, map, OnOk, IfErr};
-ghost use Rattle.dt_model.specs.Applied.{local_write};
-ghost use Rattle.dt_model.specs.Object.{Cell, fragment_names, local_cells};
+ghost use Rattle.dt_model.specs.Object.{Cell, fragment_names};
 ghost use Rattle.dt_model.specs.Names.{Name};
 ghost use Rattle.dt_model.specs.Path.{Path as Names};
 ghost use Rattle.dt_model.specs.Tree.{Reading};
-ghost use Rattle.dt_overlay_landing.specs.Turns.{HasAllSites, AreNumbers, NumbersMore, paths_in, WhereSited};
-ghost use Rattle.dt_overlay_object.specs.Objects.{Seen, IsSeenAs};
+ghost use Rattle.dt_overlay_landing.specs.Turns.{HasAllSites, PutsNumbers, paths_in, WhereNumbered, WhereReadSited, WhereSited};
+ghost use Rattle.dt_overlay_object.specs.Objects.{Seen, own_with, IsSeenAs};
 ghost use Rattle.dt_overlay_object.specs.Plans.{AreBroughtBy, AreContents, AreFragmentsOf, own_number, renumbered};
 ghost use Rattle.dt_overlay_object.specs.Stages.{IsReadFor, IsSitedFor};
 ghost use Rattle.dt_names.specs.Fault.{IsNoMemory};
@@ -30,8 +29,8 @@ fn number_node<T: Target, V: TreeView>(
     requires node { IsNode (V.tree object.now) node }
     requires sited { (fixups : List (Name × Cell)) × HasAllSites (T.reading target.now) fixups (reading_of (V.tree object.now)) landing.now }
     requires contents { AreContents (V.tree object.now) (fragment_names (reading_of (V.tree object.now)).children) brought.old.contents.entries }
-    ensures numbered { WhereSited (T.reading target.now) (V.tree object.now) landing.now (λ numbers. AreNumbers (V.tree object.now) numbers brought.old.numbers.entries →
-        OnOk result (NumbersMore (V.tree object.now) numbers (path_at (V.tree object.now) node ∷ []) brought.old.numbers.entries brought.new.numbers.entries)) }
+    ensures numbered { WhereNumbered (T.reading target.now) (V.tree object.now) landing.now brought.old (λ numbers.
+        OnOk result (PutsNumbers (V.tree object.now) numbers (path_at (V.tree object.now) node ∷ []) brought.old brought.new)) }
     ensures contents { brought.new.contents ≡ brought.old.contents }
     ensures refused { IfErr result IsNoMemory }
 {
@@ -60,8 +59,8 @@ fn number_content<T: Target, V: TreeView>(
     requires node { IsNode (V.tree object.now) node }
     requires sited { (fixups : List (Name × Cell)) × HasAllSites (T.reading target.now) fixups (reading_of (V.tree object.now)) landing.now }
     requires contents { AreContents (V.tree object.now) (fragment_names (reading_of (V.tree object.now)).children) brought.old.contents.entries }
-    ensures numbered { WhereSited (T.reading target.now) (V.tree object.now) landing.now (λ numbers. AreNumbers (V.tree object.now) numbers brought.old.numbers.entries →
-        OnOk result (NumbersMore (V.tree object.now) numbers (paths_in (V.tree object.now) node) brought.old.numbers.entries brought.new.numbers.entries)) }
+    ensures numbered { WhereNumbered (T.reading target.now) (V.tree object.now) landing.now brought.old (λ numbers.
+        OnOk result (PutsNumbers (V.tree object.now) numbers (paths_in (V.tree object.now) node) brought.old brought.new)) }
     ensures contents { brought.new.contents ≡ brought.old.contents }
     ensures refused { IfErr result IsNoMemory }
 {
@@ -111,8 +110,8 @@ pub fn number_all<'o, T: Target, V: TreeView>(
 ) -> Result<(), Fault>
     requires sited { (read : Reading) × (is : IsReadFor V.tree (T.reading target.now) read object.old)
         × HasAllSites (T.reading target.now) is.fixups read landing.now }
-    ensures numbered { (r : Reading) (is : IsReadFor V.tree (T.reading target.now) r object.old) → HasAllSites (T.reading target.now) is.fixups r landing.now →
-        OnOk result (IsSitedFor V.tree (T.reading target.now) r is.fixups object.new landing.now.sites.items) }
+    ensures numbered { WhereReadSited V.tree (T.reading target.now) object.old landing.now (λ read fixups.
+        OnOk result (IsSitedFor V.tree (T.reading target.now) read fixups object.new landing.now.sites.items)) }
     ensures same { object.new.tree ≡ object.old.tree }
     ensures refused { IfErr result IsNoMemory }
 {
@@ -149,8 +148,8 @@ fn renumber_writes<V: TreeView>(object: &V, brought: &Brought, writes: &mut Vec<
 
 /// The cells of an object that hold numbers of its own nodes get those that the nodes have now. Takes no memory.
 pub fn renumber<'o, V: TreeView>(object: &mut Object<'o, V>)
-    ensures renumbered { (seen : Seen) → IsSeenAs V.tree object.old seen → seen.own ≡ map (local_write seen.reading []) (local_cells seen.reading) →
-        IsSeenAs V.tree object.new (record seen { own = map (local_write seen.reading seen.numbers) (local_cells seen.reading) }) }
+    ensures renumbered { (seen : Seen) → IsSeenAs V.tree object.old seen → seen.own ≡ own_with seen [] →
+        IsSeenAs V.tree object.new (record seen { own = own_with seen seen.numbers }) }
     ensures same { object.new.tree ≡ object.old.tree }
 {
     renumber_writes(object.tree, &object.brought, &mut object.own_writes);

@@ -14,13 +14,12 @@ ghost use Rattle.dt_model.specs.Applied.{node_numbered, node_named, landed_named
 ghost use Rattle.dt_names.specs.declared.fault.FaultKind.TheVariants.{NoMemory, Limit};
 ghost use Rattle.dt_trees.specs.Placed.{path_at, reading_of, IsNode};
 ghost use Rattle.dt_overlay_model.specs.Walk.{nothing_walked, is_target, target_label, named_node, place_given as place_known};
-ghost use Rattle.dt_overlay_laws.specs.Landings.{target_in, WhyNoSite};
 ghost use Rattle.dt_overlay_base.specs.Known.{kept_at, IsKnown, landed_paths};
 ghost use Rattle.dt_overlay_landing.specs.Marks.{AreMarked};
 ghost use Rattle.dt_overlay_object.specs.Plans.{AreBrought, AreBroughtBy, AreFragmentsOf};
 ghost use Rattle.dt_overlay_object.specs.Stages.{IsEmptyLanding, IsReadFor};
-ghost use Rattle.dt_overlay_landing.specs.Turns.{Turn, IsTurnOf, IsSitedOn, HasAllSites, LandsTooDeep, IsTooDeep, LacksSite};
-ghost use Rattle.dt_overlay_landing.specs.Turns.{WhereBrought, WhereMarked, WhereNoted, WhereTurn, WhereTurnOf, node_marked};
+ghost use Rattle.dt_overlay_landing.specs.Turns.{Turn, IsTurnOf, IsSitedAt, HasAllSites, LandsTooDeep, IsTooDeep, LacksSite, LacksSiteAt};
+ghost use Rattle.dt_overlay_landing.specs.Turns.{WhereBrought, WhereMarked, WhereNoted, WhereTurn, WhereTurnOf, node_marked, target_at};
 ghost use Rattle.dt_overlay_landing.specs.declared.marks.TargetMark.{TargetMark};
 ghost use Rattle.dt_names.specs.Fault.{IsNoMemory, IsMemoryOr};
 
@@ -195,7 +194,7 @@ fn target_path<'o, T: Target, V: TreeView>(
 ) -> Result<Option<Path>, Fault>
     requires { IsNode (V.tree object.now.tree.now) fragment.now.node }
     ensures value { WhereTurnOf V.tree (T.reading target.now) object.now marks.now.entries landing.now fragment.now (λ turn name.
-        IfOk result (λ found. found ≡ target_in (T.reading target.now) (reading_of (V.tree object.now.tree.now)) turn.fixups turn.walked name)) }
+        IfOk result (λ found. found ≡ target_at V.tree (T.reading target.now) object.now turn name)) }
     ensures refused { WhereTurnOf V.tree (T.reading target.now) object.now marks.now.entries landing.now fragment.now (λ _ _. IfErr result IsNoMemory) }
 {
     object.tree.validity();
@@ -223,12 +222,12 @@ fn find_site<'o, T: Target, V: TreeView>(
     fragment: &ObjectFragment<'_>,
 ) -> Result<Path, Fault>
     requires { (turn : Turn) × IsTurnOf V.tree (T.reading target.now) object.now marks.now.entries landing.old fragment.now turn }
-    ensures found { WhereTurnOf V.tree (T.reading target.now) object.now marks.now.entries landing.old fragment.now (λ turn name. IfOk result (λ path.
-        IsSitedOn (T.reading target.now) turn.fixups (reading_of (V.tree object.now.tree.now)) turn.walked name path landing.new.places)) }
+    ensures found { WhereTurnOf V.tree (T.reading target.now) object.now marks.now.entries landing.old fragment.now (λ turn name.
+        IfOk result (λ path. IsSitedAt V.tree (T.reading target.now) object.now turn name path landing.new.places)) }
     ensures kept { OnOk result (landing.new.sites ≡ landing.old.sites) }
     ensures named { IfOk result (λ path. AllByRecursion IsNodeName path) }
-    ensures refused { WhereTurnOf V.tree (T.reading target.now) object.now marks.now.entries landing.old fragment.now (λ turn name. IfErr result
-        (IsMemoryOr (λ kind. WhyNoSite kind (T.reading target.now) (reading_of (V.tree object.now.tree.now)) turn.fixups turn.walked name))) }
+    ensures refused { WhereTurnOf V.tree (T.reading target.now) object.now marks.now.entries landing.old fragment.now (λ turn name.
+        IfErr result (IsMemoryOr (LacksSiteAt V.tree (T.reading target.now) object.now turn name))) }
 {
     target.validity();
     object.tree.validity();

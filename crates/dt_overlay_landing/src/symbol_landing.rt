@@ -1,17 +1,15 @@
 //! The labels of the nodes that landed.
 
 ghost use Rattle.std.specs.Prelude.{◌≡◌, ◌+◌, ◌<◌, ◌∷◌, ◌⊎◌, [], true, List, codes, OnOk, IfErr};
-ghost use Rattle.dt_model.specs.Applied.{with_symbols_merged, landed_symbols};
 ghost use Rattle.dt_model.specs.Changes.{with_child_at, with_property_at};
 ghost use Rattle.dt_model.specs.Merged.{Site};
 ghost use Rattle.dt_model.specs.Path.{path_value, Path as Names};
 ghost use Rattle.dt_model.specs.Tree.{stands_in};
 ghost use Rattle.dt_names.specs.declared.fault.FaultKind.TheVariants.{NoMemory, Limit};
-ghost use Rattle.dt_overlay_laws.specs.Objects.{symbols_in};
 ghost use Rattle.dt_overlay_laws.specs.Laws.{AreShallow};
 ghost use Rattle.dt_overlay_laws.specs.Steps.{FullAtSymbols};
 ghost use Rattle.dt_overlay_object.specs.Objects.{Seen, IsToLandOn};
-ghost use Rattle.dt_overlay_landing.specs.SymbolLanding.{HasLabels, HasLanded, WhereShallow, with_label, with_labels_of};
+ghost use Rattle.dt_overlay_landing.specs.SymbolLanding.{HasLabels, HasLanded, WhereShallow, labels_of, with_label, with_labels_of};
 ghost use Rattle.dt_overlay_base.specs.Targets.{HasNoRoom, IsWant};
 ghost use Rattle.dt_trees.specs.Placed.{reading_of};
 
@@ -77,7 +75,7 @@ fn set_each_symbol<'o, T: Target, V: TreeView>(
         OnOk result (T.reading target.new ≡ with_labels_of (reading_of (V.tree object.now.tree.now)) found (T.reading target.old)) }
     ensures refused { (found : List Site) → HasLabels V.tree found object.now landing.old →
         IfErr result (IsWant (FullAtSymbols (HasNoRoom T.reading T.has_room T.follows target.old)
-        (landed_symbols (reading_of (V.tree object.now.tree.now)) found (symbols_in (reading_of (V.tree object.now.tree.now)))) (T.reading target.old))) }
+        (labels_of (reading_of (V.tree object.now.tree.now)) found) (T.reading target.old))) }
     ensures follows { T.follows target.old target.new }
 {
     object.tree.validity();
@@ -107,7 +105,7 @@ pub fn set_symbols<'o, T: Target, V: TreeView>(
     ensures set { WhereShallow V.tree object.now landing.old (λ read found.
         OnOk result (T.reading target.new ≡ with_labels_of read found (T.reading target.old))) }
     ensures refused { WhereShallow V.tree object.now landing.old (λ read found.
-        IfErr result (IsWant (FullAtSymbols (HasNoRoom T.reading T.has_room T.follows target.old) (landed_symbols read found (symbols_in read))
+        IfErr result (IsWant (FullAtSymbols (HasNoRoom T.reading T.has_room T.follows target.old) (labels_of read found)
         (T.reading target.old)))) }
     ensures follows { T.follows target.old target.new }
 {

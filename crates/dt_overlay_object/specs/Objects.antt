@@ -4,8 +4,8 @@ use Rattle.std.specs.List.{AllByRecursion, flat_map}
 use Rattle.dt_model.specs.Path.{Path}
 use Rattle.dt_model.specs.Tree.{Reading}
 use Rattle.dt_model.specs.Merged.{Site}
-use Rattle.dt_model.specs.Object.{fragment_names, HasCell}
-use Rattle.dt_model.specs.Applied.{Write}
+use Rattle.dt_model.specs.Object.{fragment_names, local_cells, HasCell}
+use Rattle.dt_model.specs.Applied.{Write, local_write}
 use Rattle.dt_overlay_laws.specs.Objects.{symbols_in}
 use Rattle.dt_overlay_object.specs.declared.object.Object.{Object}
 use Rattle.dt_overlay_object.specs.Plans.{AreBroughtBy, AreFragmentsOf, AreSymbolsOf, AreWritesOf, IsUnbrought, symbol_brought}
@@ -19,6 +19,10 @@ pub record Seen : Type 0 where
   pub own : List Write
   pub labels : List Write
   pub numbers : List (Path × ℕ)
+
+-- what its own numbers are, where its nodes have these
+abbrev pub own_with : Seen → List (Path × ℕ) → List Write
+own_with s numbers = map (local_write s.reading numbers) (local_cells s.reading)
 
 -- the object's own numbers are written first
 abbrev pub writes_of : Seen → List Write

@@ -2,4 +2,5 @@
 pub mod LocalFixups
 -- inside
 pub mod Fixups
+pub mod Fragments
 pub mod Symbols

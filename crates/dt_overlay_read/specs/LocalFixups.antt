@@ -5,13 +5,15 @@ use Rattle.dt_model.specs.Names.{Name}
 use Rattle.dt_model.specs.Path.{Path}
 use Rattle.dt_model.specs.Valid.{names}
 use Rattle.dt_model.specs.Tree.{Property, Reading, Forest, stands_in, preorder}
-use Rattle.dt_model.specs.Object.{Cell, cells_of, words_of, HasCell}
+use Rattle.dt_model.specs.Numbers.{is_brought}
+use Rattle.dt_model.specs.Object.{Cell, cells_of, fragment_names, words_of, HasCell}
 use Rattle.dt_model.specs.Applied.{local_write}
 use Rattle.dt_names.specs.declared.fault.Fault.{Fault}
 use Rattle.dt_names.specs.declared.fault.FaultKind.TheVariants.{NoMemory, BadLocalFixup}
 use Rattle.dt_overlay_laws.specs.Objects.{IsLocalCell, IsLocalFixup, IsMirror}
+use Rattle.dt_overlay_object.specs.declared.brought.Brought.{Brought}
 use Rattle.dt_overlay_object.specs.declared.kept.Write.{Write as KeptWrite}
-use Rattle.dt_overlay_object.specs.Plans.{AreWritesOf}
+use Rattle.dt_overlay_object.specs.Plans.{AreBroughtBy, AreWritesOf, IsLocalNumber}
 use Rattle.dt_trees.specs.Placed.{PlacedTree, reading_of, path_at, properties_at, below_at, IsNode}
 
 -- the path of a node's mirror
@@ -27,6 +29,26 @@ pub record AreCounterparts (t : PlacedTree) (mirror node : ℕ) : Type 0 where
 -- memory is refused, or else this is why
 abbrev pub IsLocalFault : Type 0 → Fault → Type 0
 IsLocalFault why fault = (fault.at ≡ None) × ((fault.kind ≡ NoMemory) ⊎ ((fault.kind ≡ BadLocalFixup) × why))
+
+-- what holds of the numbers of the nodes that are brought
+abbrev pub WhereBroughtBy : PlacedTree → Brought → (List (Path × ℕ) → Type 0) → Type 0
+WhereBroughtBy t b P = (numbers : List (Path × ℕ)) → AreBroughtBy t numbers b → P numbers
+
+-- what a fragment brings names nothing else
+abbrev pub MayName : PlacedTree → ℕ → ℕ → Type 0
+MayName t node named =
+    is_brought (fragment_names (reading_of t).children) (path_at t node) ≡ true → is_brought (fragment_names (reading_of t).children) (path_at t named) ≡ true
+
+-- a node's value has a cell of a node's number there
+abbrev pub IsCellAt : PlacedTree → ℕ → List ℕ → ℕ → Type 0
+IsCellAt t node value offset = IsLocalCell (reading_of t) (path_at t node) value offset
+
+-- and this is what the cell gets
+abbrev pub IsNumberAt : PlacedTree → List (Path × ℕ) → ℕ → List ℕ → ℕ → ℕ → Type 0
+IsNumberAt t numbers node value offset number = IsLocalNumber (reading_of t) numbers (path_at t node) value offset number
+
+abbrev pub properties_of : PlacedTree → ℕ → List Property
+properties_of t k = properties_at t (path_at t k)
 
 -- ---- what is listed
 

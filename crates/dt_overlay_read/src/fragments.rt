@@ -3,12 +3,13 @@
 ghost use Rattle.std.specs.Prelude.{◌≡◌, ◌++◌, ◌∷◌, [], ℕ, List, None, Some, true, false, codes, OnOk, IfErr, MatchOption};
 ghost use Rattle.dt_model.specs.Names.{Name};
 ghost use Rattle.dt_model.specs.Lists.{IsIn};
-ghost use Rattle.dt_model.specs.Object.{is_fragment, fragment_names};
+ghost use Rattle.dt_model.specs.Object.{fragment_names};
 ghost use Rattle.dt_names.specs.declared.fault.FaultKind.TheVariants.{NoMemory, NoFragmentTarget};
 ghost use Rattle.dt_overlay_laws.specs.Objects.{HasTarget};
 ghost use Rattle.dt_overlay_object.specs.Plans.{IsTargetOf, AreFragmentsOf};
+ghost use Rattle.dt_overlay_read.specs.Fragments.{is_fragment_node};
 ghost use Rattle.dt_names.specs.Fault.{IsMemoryOr};
-ghost use Rattle.dt_trees.specs.Placed.{below_in, last_name, path_at, reading_of, IsAt, IsNode};
+ghost use Rattle.dt_trees.specs.Placed.{path_at, reading_of, IsAt, IsNode};
 
 use dt_names::{Fault, FaultKind, NodeId, is_bookkeeping_name};
 use dt_overlay_object::{ObjectFragment, ObjectTarget};
@@ -18,8 +19,7 @@ use dt_trees::TreeView;
 /// The node that a child of the root brings, if it is a fragment: no bookkeeping node, and with a child `__overlay__`.
 pub(crate) fn content_of<V: TreeView>(object: &V, node: NodeId) -> Option<NodeId>
     requires { IsNode (V.tree object.now) node }
-    ensures { MatchOption result (is_fragment (last_name (path_at (V.tree object.now) node)) (below_in (V.tree object.now) node) ≡ false)
-        (λ content. (is_fragment (last_name (path_at (V.tree object.now) node)) (below_in (V.tree object.now) node) ≡ true)
+    ensures { MatchOption result (is_fragment_node (V.tree object.now) node ≡ false) (λ content. (is_fragment_node (V.tree object.now) node ≡ true)
         × IsAt (V.tree object.now) (path_at (V.tree object.now) node ++ codes "__overlay__" ∷ []) content) }
 {
     object.validity();

@@ -2,17 +2,16 @@
 
 ghost use Rattle.std.specs.Prelude.{◌≡◌, ◌↔◌, IsTrue, ◌∷◌, [], ℕ, List, true, Some, None, length, OnOk, IfErr, MatchOption, codes};
 ghost use Rattle.std.specs.Int.{w32, from_be_bytes};
-ghost use Rattle.dt_model.specs.Numbers.{is_brought};
-ghost use Rattle.dt_model.specs.Object.{fragment_names};
 ghost use Rattle.dt_model.specs.Path.{Path};
 ghost use Rattle.dt_model.specs.Lists.{IsIn};
 ghost use Rattle.dt_model.specs.Tree.{Property, stands_in};
 ghost use Rattle.dt_names.specs.declared.fault.FaultKind.TheVariants.{NoMemory, BadLocalFixup};
-ghost use Rattle.dt_overlay_laws.specs.Objects.{IsLocalCell, IsLocalFixup, IsMirror};
-ghost use Rattle.dt_overlay_read.specs.LocalFixups.{AreCounterparts, IsLocalFault, ListsProperties, ListsMirror, HasBadMirror};
-ghost use Rattle.dt_overlay_object.specs.Plans.{AreBroughtBy, IsLocalNumber, ListsLocalFixups};
+ghost use Rattle.dt_overlay_laws.specs.Objects.{IsLocalFixup, IsMirror};
+ghost use Rattle.dt_overlay_read.specs.LocalFixups.{AreCounterparts, HasBadMirror, IsCellAt, IsLocalFault, IsNumberAt, ListsMirror, ListsProperties};
+ghost use Rattle.dt_overlay_read.specs.LocalFixups.{MayName, WhereBroughtBy, properties_of};
+ghost use Rattle.dt_overlay_object.specs.Plans.{AreBroughtBy, ListsLocalFixups};
 ghost use Rattle.dt_names.specs.Fault.{IsMemoryOr};
-ghost use Rattle.dt_trees.specs.Placed.{path_at, properties_at, reading_of, IsNode};
+ghost use Rattle.dt_trees.specs.Placed.{path_at, reading_of, IsNode};
 ghost use Rattle.dt_trees.specs.Views.{prop_said};
 
 use dt_names::{Fault, FaultKind, NodeId};
@@ -32,9 +31,7 @@ fn cell_number(bytes: &[u8]) -> u32
 fn may_name<V: TreeView>(object: &V, brought: &Brought, node: NodeId, named: NodeId) -> bool
     requires node { IsNode (V.tree object.now) node }
     requires named { IsNode (V.tree object.now) named }
-    ensures { (numbers : List (Path × ℕ)) → AreBroughtBy (V.tree object.now) numbers brought.now →
-        IsTrue result ↔ (is_brought (fragment_names (reading_of (V.tree object.now)).children) (path_at (V.tree object.now) node) ≡ true
-        → is_brought (fragment_names (reading_of (V.tree object.now)).children) (path_at (V.tree object.now) named) ≡ true) }
+    ensures { WhereBroughtBy (V.tree object.now) brought.now (λ _. IsTrue result ↔ MayName (V.tree object.now) node named) }
 {
     !brought.brings(object, node) || brought.brings(object, named)
 }
@@ -49,9 +46,8 @@ fn local_number<V: TreeView>(
     offset: usize,
 ) -> Option<u32>
     requires { IsNode (V.tree object.now) node }
-    ensures { (numbers : List (Path × ℕ)) → AreBroughtBy (V.tree object.now) numbers brought.now →
-        MatchOption result (¬ IsLocalCell (reading_of (V.tree object.now)) (path_at (V.tree object.now) node) value.now offset)
-        (IsLocalNumber (reading_of (V.tree object.now)) numbers (path_at (V.tree object.now) node) value.now offset) }
+    ensures { WhereBroughtBy (V.tree object.now) brought.now (λ numbers. MatchOption result
+        (¬ IsCellAt (V.tree object.now) node value.now offset) (IsNumberAt (V.tree object.now) numbers node value.now offset)) }
 {
     object.validity();
     if !has_cell(value, offset) {
@@ -75,9 +71,9 @@ fn list_offsets<'o, V: TreeView>(
 ) -> Result<(), Fault>
     requires node { IsNode (V.tree object.now) node }
     requires brought { (numbers : List (Path × ℕ)) × AreBroughtBy (V.tree object.now) numbers brought.now }
-    ensures listed { (numbers : List (Path × ℕ)) → AreBroughtBy (V.tree object.now) numbers brought.now →
+    ensures listed { WhereBroughtBy (V.tree object.now) brought.now (λ numbers.
         OnOk result (ListsProperties (V.tree object.now) numbers (path_at (V.tree object.now) node)
-        (prop_said listed.now ∷ []) out.old.items out.new.items) }
+        (prop_said listed.now ∷ []) out.old.items out.new.items)) }
     ensures refused { IfErr result (IsLocalFault (¬ IsLocalFixup (reading_of (V.tree object.now)) (path_at (V.tree object.now) node)
         (prop_said listed.now))) }
 {
@@ -113,10 +109,10 @@ fn list_properties<'o, V: TreeView>(
     requires mirror { IsNode (V.tree object.now) mirror }
     requires node { IsNode (V.tree object.now) node }
     requires brought { (numbers : List (Path × ℕ)) × AreBroughtBy (V.tree object.now) numbers brought.now }
-    ensures listed { (numbers : List (Path × ℕ)) → AreBroughtBy (V.tree object.now) numbers brought.now →
+    ensures listed { WhereBroughtBy (V.tree object.now) brought.now (λ numbers.
         OnOk result (ListsProperties (V.tree object.now) numbers (path_at (V.tree object.now) node)
-        (properties_at (V.tree object.now) (path_at (V.tree object.now) mirror)) out.old.items out.new.items) }
-    ensures refused { IfErr result (IsLocalFault ((x : Property) × IsIn x (properties_at (V.tree object.now) (path_at (V.tree object.now) mirror))
+        (properties_of (V.tree object.now) mirror) out.old.items out.new.items)) }
+    ensures refused { IfErr result (IsLocalFault ((x : Property) × IsIn x (properties_of (V.tree object.now) mirror)
         × ¬ IsLocalFixup (reading_of (V.tree object.now)) (path_at (V.tree object.now) node) x)) }
 {
     let props = object.props(brought.alloc(), mirror)?;
@@ -136,8 +132,8 @@ fn list_mirrored<'o, V: TreeView>(
 ) -> Result<(), Fault>
     requires counterparts { AreCounterparts (V.tree object.now) mirror node }
     requires brought { (numbers : List (Path × ℕ)) × AreBroughtBy (V.tree object.now) numbers brought.now }
-    ensures listed { (numbers : List (Path × ℕ)) → AreBroughtBy (V.tree object.now) numbers brought.now →
-        OnOk result (ListsMirror (V.tree object.now) numbers (path_at (V.tree object.now) node) out.old.items out.new.items) }
+    ensures listed { WhereBroughtBy (V.tree object.now) brought.now (λ numbers.
+        OnOk result (ListsMirror (V.tree object.now) numbers (path_at (V.tree object.now) node) out.old.items out.new.items)) }
     ensures refused { IfErr result (IsLocalFault (HasBadMirror (reading_of (V.tree object.now)))) }
 {
     object.validity();
@@ -166,8 +162,8 @@ pub(crate) fn list_local_fixups<'o, V: TreeView>(
     out: &mut Vec<Write<'o>>,
 ) -> Result<(), Fault>
     requires { (numbers : List (Path × ℕ)) × AreBroughtBy (V.tree object.now) numbers brought.now }
-    ensures listed { (numbers : List (Path × ℕ)) → AreBroughtBy (V.tree object.now) numbers brought.now →
-        OnOk result (ListsLocalFixups (V.tree object.now) numbers out.old.items out.new.items) }
+    ensures listed { WhereBroughtBy (V.tree object.now) brought.now (λ numbers.
+        OnOk result (ListsLocalFixups (V.tree object.now) numbers out.old.items out.new.items)) }
     ensures refused { IfErr result (IsMemoryOr (λ kind. (kind ≡ BadLocalFixup)
         × ((p : Path) × (stands_in (reading_of (V.tree object.now)) (codes "__local_fixups__" ∷ p) ≡ true)
         × ¬ IsMirror (reading_of (V.tree object.now)) p))) }

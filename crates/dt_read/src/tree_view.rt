@@ -142,7 +142,7 @@ fn first_child_of(blob: &Blob<'_>, node: NodeId) -> Option<NodeId>
     ensures node { IfSome result (IsNode blob.now) }
 {
     blob.validity();
-    blob.children(node).next()
+    blob.children(node).first()
 }
 
 /// The sibling behind a node.

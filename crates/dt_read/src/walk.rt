@@ -119,6 +119,8 @@ impl<'a> Model for Siblings<'a> {
 }
 
 impl<'a> Siblings<'a> {
+    ghost use Rattle.std.specs.Prelude.{map};
+    ghost use Rattle.std.specs.List.{slice_get};
     ghost use Rattle.dt_read.specs.TreeTokens.{heads_left, AreSiblings};
 
     pub(crate) fn new(cursor: Cursor<'a>) -> Siblings<'a>
@@ -126,6 +128,18 @@ impl<'a> Siblings<'a> {
         ensures { result ≡ heads_left cursor.entry }
     {
         Siblings { cursor }
+    }
+
+    /// The first of them. It reads one token.
+    fn first(&self) -> Option<NodeId>
+        ensures { result ≡ slice_get (map (λ head. head.0) self.now) 0 }
+    {
+        let mut ahead = self.cursor.copy();
+        let (node, token) = ahead.next()?;
+        let Token::BeginNode(_) = token else {
+            return None;
+        };
+        Some(node)
     }
 }
 
@@ -169,11 +183,19 @@ impl<'a> Model for Children<'a> {
 
 impl<'a> Children<'a> {
     ghost use Rattle.std.specs.Prelude.{map};
+    ghost use Rattle.std.specs.List.{slice_get};
 
     pub(crate) fn new(siblings: Siblings<'a>) -> Children<'a>
         ensures { result ≡ map (λ head. head.0) siblings.entry }
     {
         Children { siblings }
+    }
+
+    /// The first of them. It reads one token, where a step of the iterator goes behind the child.
+    pub(crate) fn first(&self) -> Option<NodeId>
+        ensures { result ≡ slice_get self.now 0 }
+    {
+        self.siblings.first()
     }
 }
 
