@@ -1,9 +1,9 @@
 -- The cell of which a text tells is found exactly where the tree has it.
-use Rattle.std.proofs.Common.{rules, ◌⊎◌, ◌≡◌, ℕ, ◌+◌, ◌≤◌, ◌<◌, ◌^◌, ◌==◌, Bool, true, false, cond, nat_le, nat_lt, List, [], ◌∷◌, ◌++◌, length, Option, Some, None, refl, sym, ap, subst, ◌∙◌, arith, true≢false, inl, inr}
+use Rattle.std.proofs.Common.{rules, ◌⊎◌, ◌≡◌, ℕ, ◌+◌, ◌≤◌, ◌==◌, Bool, true, false, cond, nat_le, nat_lt, List, [], ◌∷◌, ◌++◌, length, Option, Some, None, refl, sym, ap, subst, ◌∙◌, arith, true≢false, inl, inr}
 use Rattle.std.specs.Prelude.{is_some, option_and_then}
 use Rattle.std.proofs.lemmas.Option.{same_Some}
 use Rattle.std.proofs.lemmas.Bool.{ne_eqb, eqb-true, eqb-false, le-leb, leb-true, lt-ltb, ltb-true}
-use Rattle.std.proofs.lemmas.List.{append_assoc, append_cancel_right}
+use Rattle.std.proofs.lemmas.List.{append_cancel_right}
 use Rattle.std.specs.List.{AllByRecursion, list_all}
 use Rattle.std.specs.Str.{bytes_eq}
 use Rattle.std.specs.Char.{digit_value}
@@ -11,8 +11,8 @@ use Rattle.std.specs.Str.Parse.{IsNumeral, AllDigits, digits_value}
 use Rattle.dt_model.specs.Names.{Name, IsNodeName, IsPropertyName, is_property_name}
 use Rattle.dt_model.specs.Path.{Path, path_text, path_value}
 use Rattle.dt_model.specs.Lists.{IsIn}
-use Rattle.dt_model.specs.Object.{Cell, IsCellText, properties_of, HasCell}
-use Rattle.dt_model.specs.Tree.{Node, Reading, Placed, node_at, stands_in, value_in, nodes_of}
+use Rattle.dt_model.specs.Object.{Cell, IsCellText, HasCell}
+use Rattle.dt_model.specs.Tree.{Reading, Placed, stands_in, value_in, nodes_of}
 use Rattle.dt_model.specs.Valid.{IsValid}
 use Rattle.dt_model.specs.Applied.{node_named}
 use Rattle.dt_model.proofs.NameTests.{property_tests}
@@ -22,8 +22,9 @@ use Rattle.dt_model.proofs.Listed.{listed_stands, value_stands}
 use Rattle.dt_model.proofs.Preorder.{listed_named}
 use Rattle.dt_model.proofs.Tests.{and_both, and_left, and_right, bytes_eq_true}
 use Rattle.dt_names.specs.Paths.{IsPathOf}
-use Rattle.dt_trees.specs.Placed.{Nodes, no_nodes, node, PlacedTree, reading_of, place_below, place_of}
+use Rattle.dt_trees.specs.Placed.{PlacedTree, reading_of, place_of}
 use Rattle.dt_trees.proofs.NodePlaces.{stands_place}
+use Rattle.dt_overlay_texts.specs.Cells.{HasTold}
 use Rattle.dt_overlay_texts.specs.Cuts.{Lacks, IsCut, IsNumeralOf}
 use Rattle.dt_overlay_texts.specs.Texts.{IsPathValue}
 use Rattle.dt_marks_read.specs.Listed.{ListedCell, IsListed}
@@ -31,12 +32,6 @@ use Rattle.dt_marks_read.specs.FixupsLeft.{onto_front, cut_in, are_digits, numbe
 use Rattle.dt_overlay_texts.proofs.CellTexts.{path_without_colon, property_without_colon}
 
 -- ---- cuts
-
--- what lacks the separator isn't cut
-pub cut_none : (s : ℕ) (bytes : List ℕ) → Lacks s bytes → cut_in s bytes ≡ None
-cut_none s [] l = refl
-cut_none s (b ∷ bytes) l =
-    ap (λ (v : Bool). cond v (Some ([], bytes)) (onto_front b (cut_in s bytes))) (ne_eqb b s l.0) ∙ ap (onto_front b) (cut_none s bytes l.1)
 
 -- what is cut is cut so
 pub cut_some : (s : ℕ) (front rest : List ℕ) → Lacks s front → cut_in s (front ++ s ∷ rest) ≡ Some (front, rest)
@@ -111,17 +106,6 @@ cell_in_value k offset property value digits is less = ap (cell_within k propert
 
 -- ---- nodes by paths and by texts
 
--- a path without a place has no properties
-pub unplaced : (t : PlacedTree) (p : Path) → place_of t p ≡ None → node_at (reading_of t) p ≡ None
-unplaced t p e = step (node_at (reading_of t) p) refl
-  where
-    step : (o : Option Node) → node_at (reading_of t) p ≡ o → o ≡ None
-    step None f = refl
-    step (Some n) f = absurd (true≢false (sym (ap is_some f) ∙ sym (stands_place t p) ∙ ap is_some e))
-
-pub unplaced_properties : (t : PlacedTree) (p : Path) → place_of t p ≡ None → properties_of (node_at (reading_of t) p) ≡ []
-unplaced_properties t p e = ap properties_of (unplaced t p e)
-
 -- the node that is found by a text is among those that are looked at, and has the text
 named_from : (nodes : List Placed) (value : List ℕ) (p : Path) → node_named nodes value ≡ Some p → (x : Placed) × IsIn x nodes × (x.path ≡ p) × (path_value x.path ≡ value)
 named_from [] value p h = absurd cc
@@ -146,17 +130,6 @@ path_before_nul front q is = record { written = append_cancel_right front (path_
 
 -- ---- a text's parts
 
--- a text without a colon
-pub not_cut : (t : PlacedTree) (text : List ℕ) → Lacks 58 text → cell_in t text ≡ None
-not_cut t text lacks =
-    ap (option_and_then (λ (a : List ℕ × List ℕ). option_and_then (λ (b : List ℕ × List ℕ). cell_of_parts t a.0 b.0 b.1) (cut_in 58 a.1))) (cut_none 58 text lacks)
-
--- one with one colon
-pub not_cut_twice : (t : PlacedTree) (text front rest : List ℕ) → IsCut 58 text front rest → Lacks 58 rest → cell_in t text ≡ None
-not_cut_twice t text front rest first lacks =
-    ap (option_and_then (λ (a : List ℕ × List ℕ). option_and_then (λ (b : List ℕ × List ℕ). cell_of_parts t a.0 b.0 b.1) (cut_in 58 a.1))) (cut_is 58 text front rest first)
-    ∙ ap (option_and_then (λ (b : List ℕ × List ℕ). cell_of_parts t front b.0 b.1)) (cut_none 58 rest lacks)
-
 -- the parts of a text that is cut twice
 pub cut_twice : (t : PlacedTree) (text front rest property digits : List ℕ) → IsCut 58 text front rest → IsCut 58 rest property digits → cell_in t text ≡ cell_of_parts t front property digits
 cut_twice t text front rest property digits first second =
@@ -166,26 +139,6 @@ cut_twice t text front rest property digits first second =
 -- ---- the cell of parts
 
 module _ (t : PlacedTree) (valid : IsValid (reading_of t)) where
-  -- a text of no path
-  pub no_path : (front property digits : List ℕ) → ((p : Path) → ¬ IsPathOf front p) → cell_of_parts t front property digits ≡ None
-  no_path front property digits none = step (is_property_name property)
-    where
-      found : (o : Option Path) → node_named (nodes_of (reading_of t)) (front ++ 0 ∷ []) ≡ o → option_and_then (λ (p : Path). cell_at t p property (number_of_digits digits)) o ≡ None
-      found None e = refl
-      found (Some q) e = absurd (none q (path_before_nul front q (found_by_text (reading_of t) (front ++ 0 ∷ []) q valid e).1))
-
-      step : (b : Bool) → cond b (option_and_then (λ (p : Path). cell_at t p property (number_of_digits digits)) (node_named (nodes_of (reading_of t)) (front ++ 0 ∷ []))) None ≡ None
-      step true = found (node_named (nodes_of (reading_of t)) (front ++ 0 ∷ [])) refl
-      step false = refl
-
-  -- no name of a property
-  pub no_property : (front property digits : List ℕ) → ¬ IsPropertyName property → cell_of_parts t front property digits ≡ None
-  no_property front property digits other = step (is_property_name property) refl
-    where
-      step : (b : Bool) → is_property_name property ≡ b → cond b (option_and_then (λ (p : Path). cell_at t p property (number_of_digits digits)) (node_named (nodes_of (reading_of t)) (front ++ 0 ∷ []))) None ≡ None
-      step true e = absurd (other ((property_tests property).0 e))
-      step false e = refl
-
   -- the node of a path's text is the path's, where there is one
   by_path : (p : Path) (property : Name) (offset : Option ℕ) → AllByRecursion IsNodeName p
       → option_and_then (λ (q : Path). cell_at t q property offset) (node_named (nodes_of (reading_of t)) (path_value p)) ≡ cell_at t p property offset
@@ -287,50 +240,16 @@ module _ (t : PlacedTree) (valid : IsValid (reading_of t)) where
       ∙ cell_there c.path c.property x.node c.offset listed.there.0 is.digits listed.node listed.there.1 (record { numeral = is.numeral; value = is.offset }) listed.there.2
       ∙ ap (λ (y : ListedCell). Some y) (sym is_made)
 
+  -- a text that names no cell of the tree
+  pub none_found : (text : List ℕ) → ((c : Cell) → ¬ HasTold (reading_of t) text c) → cell_in t text ≡ None
+  none_found text none = by (cell_in t text) refl
+    where
+      by : (o : Option ListedCell) → cell_in t text ≡ o → cell_in t text ≡ None
+      by None e = e
+      by (Some x) e = let w = found_is_told text x e in absurd (none w.0 (w.1, w.2.there))
+
   -- a cell that the tree has is listed
   pub listed_there : (c : Cell) → HasCell (reading_of t) c → (x : ListedCell) × IsListed t c x
   listed_there c has =
       let k = some_there (place_of t c.path) (stands_place t c.path ∙ value_stands (reading_of t) c.path c.property has.0 has.1) in
       (record { node = k.0; property = c.property; offset = c.offset }, record { there = has; node = k.1; property = refl; offset = refl })
-
--- ---- what is missing
-
-pub node_missing : (t : PlacedTree) (p : Path) (property : Name) (offset : Option ℕ) → place_of t p ≡ None → cell_at t p property offset ≡ None
-node_missing t p property offset e = rw e refl
-
-pub value_missing : (t : PlacedTree) (p : Path) (property : Name) (k : ℕ) (offset : Option ℕ) → place_of t p ≡ Some k → value_in (reading_of t) p property ≡ None → cell_at t p property offset ≡ None
-value_missing t p property k offset e f = rw e (rw f refl)
-
-pub value_there : (t : PlacedTree) (p : Path) (property : Name) (k : ℕ) (value : List ℕ) (offset : Option ℕ) → place_of t p ≡ Some k → value_in (reading_of t) p property ≡ Some value
-    → cell_at t p property offset ≡ cell_within k property value offset
-value_there t p property k value offset e f = rw e (rw f refl)
-
-pub number_missing : (k : ℕ) (property : Name) (value digits : List ℕ) → length value < 2 ^ 64 → ((n : ℕ) → n < 2 ^ 64 → ¬ IsNumeralOf digits n) → cell_within k property value (number_of_digits digits) ≡ None
-number_missing k property value digits short none = step (number_of_digits digits) refl
-  where
-    step : (o : Option ℕ) → number_of_digits digits ≡ o → cell_within k property value o ≡ None
-    step None e = refl
-    step (Some n) e = inner (nat_le (n + 4) (length value)) refl
-      where
-        inner : (b : Bool) → nat_le (n + 4) (length value) ≡ b → cond {A = Option ListedCell} b (Some (record { node = k; property = property; offset = n })) None ≡ None
-        inner true less = let within = leb-true (n + 4) (length value) less in absurd (none n (omega (arith, within, short)) (number_from digits n e))
-        inner false less = refl
-
--- where a path has no place, none below it has one
-no_place_below : (nodes : Nodes) (at : ℕ) (x : Name) (p q : Path) → place_below at nodes (x ∷ p) ≡ None → place_below at nodes ((x ∷ p) ++ q) ≡ None
-no_place_below no_nodes at x p q e = refl
-no_place_below (node place name properties children siblings) at x p q e =
-    step p refl (λ (y : Name) (r : Path). no_place_below children place y r q) (no_place_below siblings at x p q) (bytes_eq x name) refl
-  where
-    step : (r : Path) → r ≡ p → ((y : Name) (s : Path) → place_below place children (y ∷ s) ≡ None → place_below place children ((y ∷ s) ++ q) ≡ None)
-        → (place_below at siblings (x ∷ p) ≡ None → place_below at siblings ((x ∷ p) ++ q) ≡ None)
-        → (b : Bool) → bytes_eq x name ≡ b → cond b (place_below place children (p ++ q)) (place_below at siblings ((x ∷ p) ++ q)) ≡ None
-    step r same inside after false is = after (let z : place_below at siblings (x ∷ p) ≡ None = rw is at e in z)
-    step [] same inside after true is = let z : place_below place children p ≡ None = rw is at e in let w : Some place ≡ None = ap (place_below place children) same ∙ z in absurd cc
-    step (y ∷ s) same inside after true is =
-        let z : place_below place children p ≡ None = rw is at e in
-        ap (λ (u : Path). place_below place children (u ++ q)) (sym same) ∙ inside y s (ap (place_below place children) same ∙ z)
-
-pub no_place_behind : (t : PlacedTree) (p : Path) (x : Name) (q : Path) → place_of t (p ++ x ∷ []) ≡ None → place_of t (p ++ x ∷ q) ≡ None
-no_place_behind t [] x q e = no_place_below t.children t.place x [] q e
-no_place_behind t (y ∷ p) x q e = ap (place_of t) (sym (append_assoc (y ∷ p) (x ∷ []) q)) ∙ no_place_below t.children t.place y (p ++ x ∷ []) q e

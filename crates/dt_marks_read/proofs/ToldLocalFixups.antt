@@ -15,7 +15,7 @@ use Rattle.dt_read.specs.Walked.{Step, opens, holds, closes, steps_of_nodes, Wal
 use Rattle.dt_marks_read.specs.Listed.{LocalFixup, AreOffsets, AreLocalProperties, AreLocalNodes, AreLocalFixupsOf}
 use Rattle.dt_marks_read.specs.LocalFixupsLeft.{offsets_told, property_told, counterpart_told, step_told, walk_told, local_fixups_left}
 use Rattle.dt_trees.proofs.NodePlaces.{stands_place, path_is}
-use Rattle.dt_marks_read.proofs.ListedCells.{unplaced}
+use Rattle.dt_overlay_texts.proofs.NoNodes.{unplaced}
 
 -- ---- offsets
 

@@ -3,7 +3,7 @@
 ghost use Rattle.std.specs.Prelude.{◌≡◌, ◌∷◌, [], List};
 ghost use Rattle.std.specs.Option.{MatchOption};
 ghost use Rattle.std.specs.Iterator.{YieldsFirstBy, item_count};
-ghost use Rattle.dt_marks_read.specs.FixupsLeft.{cell_in, told_next, told_of_texts, fixups_left};
+ghost use Rattle.dt_marks_read.specs.FixupsLeft.{cell_in, told_next, fixups_left};
 ghost use Rattle.dt_marks_read.specs.ListedViews.{fixup_view};
 
 use crate::listed::{ListedCell, told_cell};

@@ -1,6 +1,6 @@
 //! The cells that hold numbers of an object's own nodes, as the object lists them.
 
-ghost use Rattle.std.specs.Prelude.{◌≡◌, ◌∷◌, ◌++◌, [], ℕ, suc, List, length, drop};
+ghost use Rattle.std.specs.Prelude.{◌≡◌, ◌∷◌, ◌++◌, [], List, drop};
 ghost use Rattle.std.specs.Option.{MatchOption, option_copied};
 ghost use Rattle.std.specs.Iterator.{YieldsFirstBy, item_count};
 ghost use Rattle.dt_model.specs.Object.{words_of};
@@ -13,7 +13,7 @@ ghost use Rattle.dt_names.specs.Fault.{placeless};
 ghost use Rattle.dt_names.specs.declared.fault.FaultKind.TheVariants.{BadLocalFixup};
 ghost use Rattle.dt_marks_read.specs.ListedViews.{local_view};
 ghost use Rattle.dt_marks_read.specs.LocalFixupsLeft.{step_told, walk_told, MayWalk};
-ghost use Rattle.dt_marks_read.specs.MirrorViews.{mirror_left, steps_left, MayGoOn, IsStepTaken};
+ghost use Rattle.dt_marks_read.specs.MirrorViews.{mirror_left, MayGoOn, IsStepTaken};
 
 use crate::listed::ListedCell;
 use dt_bytes::be32;

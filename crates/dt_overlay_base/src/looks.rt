@@ -1,16 +1,14 @@
 //! A look at where things land.
 
-ghost use Rattle.std.specs.Prelude.{◌≡◌, ◌≢◌, ◌≤◌, ◌*◌, ◌++◌, ◌∷◌, [], true, false, ℕ, List, None, length, map, OnOk, IfOk, IfErr};
+ghost use Rattle.std.specs.Prelude.{◌≡◌, ◌≢◌, ◌≤◌, ◌∷◌, [], false, None, length, OnOk, IfOk, IfErr};
 ghost use Rattle.std.specs.List.{AllByRecursion};
-ghost use Rattle.dt_model.specs.Limits.{most_names, most_nodes};
+ghost use Rattle.dt_model.specs.Limits.{most_names};
 ghost use Rattle.dt_model.specs.Lists.{IsIn};
 ghost use Rattle.dt_model.specs.Names.{IsNodeName};
-ghost use Rattle.dt_model.specs.Numbers.{numbers_of};
-ghost use Rattle.dt_model.specs.Path.{Path as Names};
 ghost use Rattle.dt_model.specs.Path.{is_bookkeeping as is_bookkeeping_path};
-ghost use Rattle.dt_model.specs.Tree.{Placed, preorder};
+ghost use Rattle.dt_model.specs.Tree.{preorder};
 ghost use Rattle.dt_trees.specs.Placed.{path_at, below_in, IsNode};
-ghost use Rattle.dt_overlay_model.specs.Walk.{number_there as number_known, with_place, with_places};
+ghost use Rattle.dt_overlay_model.specs.Walk.{number_there as number_known, with_place};
 ghost use Rattle.dt_overlay_laws.specs.Landings.{MayLand, WhyNotLands, MayAllLand, IsStuck};
 ghost use Rattle.dt_overlay_base.specs.Known.{IsKnown, IsKnownBehind, WhereKnownOf, HasRoom, placed, alone, content_at};
 ghost use Rattle.dt_names.specs.Fault.{IsNoMemory, IsMemoryOr};

@@ -1,6 +1,6 @@
 //! Trees that take an overlay.
 
-ghost use Rattle.std.specs.Prelude.{◌≡◌, ◌+◌, ◌*◌, ◌≤◌, true, false, ◌++◌, ◌∷◌, [], ℕ, List, None, Some, length, OnOk, OnErr, IsOk, IfOk, IfErr, MatchOption};
+ghost use Rattle.std.specs.Prelude.{◌≡◌, ◌+◌, ◌*◌, ◌≤◌, true, ℕ, List, None, Some, length, OnOk, OnErr, IsOk, IfOk, IfErr, MatchOption};
 ghost use Rattle.std.specs.Option.{option_copied};
 ghost use Rattle.dt_model.specs.Applied.{with_cell};
 ghost use Rattle.dt_model.specs.Changes.{with_child_at, with_property_at};

@@ -1,24 +1,22 @@
 //! Where the fragments land: looked at as a whole, before anything is changed.
 
-ghost use Rattle.std.specs.Prelude.{◌≡◌, ◌<◌, ◌≤◌, ◌||◌, [], ℕ, List, Some, None, is_some, take, map, length, option_and_then, codes, OnOk, IfOk, IfErr, IfSome};
+ghost use Rattle.std.specs.Prelude.{◌≡◌, ◌<◌, ◌≤◌, ◌||◌, [], ℕ, List, Some, None, is_some, length, option_and_then, codes, OnOk, IfOk, IfErr, IfSome};
 ghost use Rattle.std.specs.Option.{option_or};
-ghost use Rattle.std.specs.List.{AllByRecursion, list_any};
-ghost use Rattle.dt_model.specs.Limits.{most_names};
+ghost use Rattle.std.specs.List.{AllByRecursion};
 ghost use Rattle.dt_model.specs.Path.{Path as Names};
 ghost use Rattle.dt_model.specs.Names.{Name, IsNodeName};
 ghost use Rattle.dt_model.specs.Tree.{Reading, nodes_of, stands_in, value_in};
-ghost use Rattle.dt_model.specs.Valid.{AreDistinct, IsValid};
-ghost use Rattle.dt_model.specs.Merged.{Site, landing as landing_by};
-ghost use Rattle.dt_model.specs.Object.{Cell, fragment_names, local_cells};
+ghost use Rattle.dt_model.specs.Merged.{landing as landing_by};
+ghost use Rattle.dt_model.specs.Object.{Cell, fragment_names};
 ghost use Rattle.dt_model.specs.Applied.{node_numbered, node_named, landed_named, number_at};
 ghost use Rattle.dt_names.specs.declared.fault.FaultKind.TheVariants.{NoMemory, Limit};
 ghost use Rattle.dt_trees.specs.Placed.{path_at, reading_of, IsNode};
-ghost use Rattle.dt_overlay_model.specs.Walk.{nothing_walked, is_target, target_label, named_node, place_given as place_known};
-ghost use Rattle.dt_overlay_base.specs.Known.{kept_at, IsKnown, landed_paths};
+ghost use Rattle.dt_overlay_model.specs.Walk.{place_given as place_known};
+ghost use Rattle.dt_overlay_base.specs.Known.{kept_at, IsKnown};
 ghost use Rattle.dt_overlay_landing.specs.Marks.{AreMarked};
-ghost use Rattle.dt_overlay_object.specs.Plans.{AreBrought, AreBroughtBy, AreFragmentsOf};
+ghost use Rattle.dt_overlay_object.specs.Plans.{AreBroughtBy, AreFragmentsOf};
 ghost use Rattle.dt_overlay_object.specs.Stages.{IsEmptyLanding, IsReadFor};
-ghost use Rattle.dt_overlay_landing.specs.Turns.{Turn, IsTurnOf, IsSitedAt, HasAllSites, LandsTooDeep, IsTooDeep, LacksSite, LacksSiteAt};
+ghost use Rattle.dt_overlay_landing.specs.Turns.{Turn, IsTurnOf, IsSitedAt, HasAllSites, IsTooDeep, LacksSite, LacksSiteAt};
 ghost use Rattle.dt_overlay_landing.specs.Turns.{WhereBrought, WhereMarked, WhereNoted, WhereTurn, WhereTurnOf, node_marked, target_at};
 ghost use Rattle.dt_overlay_landing.specs.declared.marks.TargetMark.{TargetMark};
 ghost use Rattle.dt_names.specs.Fault.{IsNoMemory, IsMemoryOr};

@@ -1,9 +1,9 @@
 //! The labels of the nodes that landed.
 
-ghost use Rattle.std.specs.Prelude.{◌≡◌, ◌+◌, ◌<◌, ◌∷◌, ◌⊎◌, [], true, List, codes, OnOk, IfErr};
-ghost use Rattle.dt_model.specs.Changes.{with_child_at, with_property_at};
+ghost use Rattle.std.specs.Prelude.{◌≡◌, ◌<◌, ◌∷◌, [], true, List, codes, OnOk, IfErr};
+ghost use Rattle.dt_model.specs.Changes.{with_child_at};
 ghost use Rattle.dt_model.specs.Merged.{Site};
-ghost use Rattle.dt_model.specs.Path.{path_value, Path as Names};
+ghost use Rattle.dt_model.specs.Path.{Path as Names};
 ghost use Rattle.dt_model.specs.Tree.{stands_in};
 ghost use Rattle.dt_names.specs.declared.fault.FaultKind.TheVariants.{NoMemory, Limit};
 ghost use Rattle.dt_overlay_laws.specs.Laws.{AreShallow};

@@ -1,6 +1,6 @@
 //! Which nodes an object's fragments bring, and the numbers that they get.
 
-ghost use Rattle.std.specs.Prelude.{◌≡◌, ℕ, [], List, OnOk};
+ghost use Rattle.std.specs.Prelude.{◌≡◌, [], List, OnOk};
 ghost use Rattle.dt_model.specs.Names.{Name};
 ghost use Rattle.dt_model.specs.Numbers.{is_brought};
 ghost use Rattle.dt_model.specs.Object.{fragment_names};

@@ -10,7 +10,8 @@ use Rattle.dt_overlay_texts.specs.Texts.{AreTexts, TellCells, TextsAreOne, CellT
 use Rattle.dt_overlay_laws.specs.Objects.{AreCellsOf}
 use Rattle.dt_overlay_object.specs.declared.kept.Write.{Write as KeptWrite}
 use Rattle.dt_overlay_object.specs.Plans.{AreWritesOf}
-use Rattle.dt_overlay_read.specs.Fixups.{HasTold, numbered, ListsTold, ListsCells}
+use Rattle.dt_overlay_read.specs.Fixups.{numbered, ListsTold, ListsCells}
+use Rattle.dt_overlay_texts.specs.Cells.{HasTold}
 
 -- the value is texts of cells that the object has
 abbrev pub HasCells : Reading → List ℕ → Type 0

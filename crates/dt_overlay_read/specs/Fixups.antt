@@ -3,24 +3,15 @@ use Rattle.std.specs.Prelude.{◌≡◌, ◌≢◌, ℕ, List, [], ◌∷◌, �
 use Rattle.std.specs.List.{AllByRecursion}
 use Rattle.dt_model.specs.Names.{Name}
 use Rattle.dt_model.specs.Tree.{Property, Reading, value_in}
-use Rattle.dt_model.specs.Object.{Cell, AreFixups, IsCellText, HasCell}
+use Rattle.dt_model.specs.Object.{Cell, AreFixups, HasCell}
 use Rattle.dt_model.specs.Applied.{Write, label_write}
 use Rattle.dt_trees.specs.Placed.{PlacedTree, reading_of}
 use Rattle.dt_names.specs.declared.fault.FaultKind.{FaultKind}
 use Rattle.dt_names.specs.declared.fault.FaultKind.TheVariants.{NoMemory, NoSymbol, BadSymbol}
 use Rattle.dt_overlay_texts.specs.Texts.{TellCells}
-use Rattle.dt_overlay_texts.specs.declared.reading.CellText.{CellText}
 use Rattle.dt_overlay_laws.specs.Objects.{AreCellsOf, SymbolHasNumber, IsFixup}
 use Rattle.dt_overlay_object.specs.declared.kept.Write.{Write as KeptWrite}
 use Rattle.dt_overlay_object.specs.Plans.{AreWritesOf}
-
--- the cell that a text names
-abbrev pub cell_told : CellText → Cell
-cell_told x = record { path = x.path; property = x.property.now; offset = x.offset }
-
--- the object has the cell that the text names
-abbrev pub HasTold : Reading → List ℕ → Cell → Type 0
-HasTold object text c = IsCellText text c × HasCell object c
 
 -- a cell gets a number
 abbrev pub numbered : ℕ → Cell → Write

@@ -1,64 +1,28 @@
 //! The cells that wait for a label of the base.
 
-ghost use Rattle.std.specs.Prelude.{◌≡◌, ◌↔◌, ◌∷◌, ◌<◌, [], List, None, length, IsTrue, MatchOption, OnOk, IfOk, IfErr, codes};
-ghost use Rattle.std.specs.Option.{option_copied};
+ghost use Rattle.std.specs.Prelude.{◌≡◌, ◌↔◌, ◌∷◌, ◌<◌, [], List, None, length, IsTrue, MatchOption, OnOk, IfOk, IfErr};
 ghost use Rattle.dt_model.specs.Limits.{most_names};
 ghost use Rattle.dt_model.specs.Meaning.{cell};
-ghost use Rattle.dt_model.specs.Object.{Cell, IsCellText};
+ghost use Rattle.dt_model.specs.Object.{Cell};
 ghost use Rattle.dt_model.specs.Path.{Path as Names};
-ghost use Rattle.dt_model.specs.Tree.{value_in};
 ghost use Rattle.dt_model.specs.Valid.{IsPhandle};
 ghost use Rattle.dt_names.specs.declared.fault.FaultKind.TheVariants.{NoMemory, BadSymbol, BadFixup};
-ghost use Rattle.dt_trees.specs.Placed.{reading_of, IsAt};
+ghost use Rattle.dt_trees.specs.Placed.{reading_of};
 ghost use Rattle.dt_trees.specs.Views.{prop_said};
+ghost use Rattle.dt_overlay_texts.specs.Cells.{HasTold};
 ghost use Rattle.dt_overlay_texts.specs.Texts.{IsPathValue};
 ghost use Rattle.dt_overlay_laws.specs.Objects.{AreCellsOf, SymbolHasNumber};
 ghost use Rattle.dt_overlay_laws.specs.Refusals.{WhyNoFixup, HasNoFixup};
 ghost use Rattle.dt_overlay_object.specs.Plans.{ListsFixups};
-ghost use Rattle.dt_overlay_read.specs.Fixups.{cell_told, HasTold, ListsTold, ListsCells, ListsLabels, WhyNoNumber};
+ghost use Rattle.dt_overlay_read.specs.Fixups.{ListsTold, ListsCells, ListsLabels, WhyNoNumber};
 ghost use Rattle.dt_names.specs.Fault.{IsMemoryOr};
 
-use dt_names::{Fault, FaultKind, NodeId, Path, PathRef, phandle_of};
+use dt_names::{Fault, FaultKind, Path, phandle_of};
 use dt_overlay_base::Target;
 use dt_overlay_object::{Landing, Write};
-use dt_overlay_texts::{
-    CellText, cell_text, cell_texts_are_texts, cut, has_cell, symbol_path, texts, texts_are_one,
-};
-use dt_trees::{Prop, TreeView, node_of};
+use dt_overlay_texts::{cell_at, cell_texts_are_texts, symbol_path, texts, texts_are_one};
+use dt_trees::{Prop, TreeView};
 use std::alloc::Global;
-
-/// The value of the property whose cell a text names, wherever in it the cell is.
-fn value_of<'a, V: TreeView>(object: &'a V, text: &[u8]) -> Option<&'a [u8]>
-    ensures { (c : Cell) → IsCellText text.now c → option_copied result ≡ value_in (reading_of (V.tree object.now)) c.path c.property }
-{
-    object.validity();
-    let (path, rest) = cut(text, b':')?;
-    let (property, _) = cut(rest, b':')?;
-    let path = PathRef::new(path)?;
-    let node = node_of(object, &path)?;
-    object.value(node, property)
-}
-
-/// The node of the cell that a text names, and the cell.
-fn cell_at<'a, V: TreeView>(object: &V, text: &'a [u8]) -> Option<(NodeId, CellText<'a>)>
-    ensures { MatchOption result ((c : Cell) → ¬ HasTold (reading_of (V.tree object.now)) text.now c)
-        (λ found. HasTold (reading_of (V.tree object.now)) text.now (cell_told found.1)
-        × IsAt (V.tree object.now) found.1.path found.0) }
-{
-    texts_are_one();
-    object.validity();
-    let Some(cell) = cell_text(text) else {
-        // An offset of 2^64 or more isn't within a value.
-        let _ = value_of(object, text);
-        return None;
-    };
-    let node = node_of(object, &cell.path)?;
-    let value = object.value(node, cell.property)?;
-    if !has_cell(value, cell.offset) {
-        return None;
-    }
-    Some((node, cell))
-}
 
 /// Is the value texts of cells that the object has?
 fn are_cells<V: TreeView>(object: &V, value: &[u8]) -> bool

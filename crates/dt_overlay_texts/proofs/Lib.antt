@@ -1,3 +1,4 @@
 pub mod TextCuts
 pub mod CellTexts
 pub mod OnePath
+pub mod NoNodes

@@ -1,7 +1,7 @@
 use Rattle.std.proofs.Common.{◌≡◌, ◌∷◌, [], codes, ℕ, List, sym, ap, subst, Some, None, ◌∙◌}
 use Rattle.dt_trees.specs.Placed.{place_of}
 use Rattle.dt_marks_read.specs.Listed.{AreFixupsOf}
-use Rattle.dt_marks_read.proofs.ListedCells.{unplaced_properties}
+use Rattle.dt_overlay_texts.proofs.NoNodes.{unplaced_properties}
 use Rattle.dt_marks_read.proofs.ToldFixups.{all_told}
 use Rattle.dt_marks_read.proofs.objects.fixups.Goals as goal
 

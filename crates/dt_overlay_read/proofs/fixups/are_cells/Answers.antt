@@ -1,7 +1,7 @@
 use Rattle.std.proofs.Common.{◌≡◌, ◌↔◌, ℕ, List, Option, Some, None, is_some, true, false, MatchOption, sym, subst}
 use Rattle.dt_model.specs.Object.{Cell}
 use Rattle.dt_trees.specs.Placed.{reading_of, IsAt}
-use Rattle.dt_overlay_read.specs.Fixups.{cell_told, HasTold}
+use Rattle.dt_overlay_texts.specs.Cells.{cell_told, HasTold}
 use Rattle.dt_overlay_read.proofs.FixupsTold.{HasCells, HasAllTold, told_begins, told_others, told_not}
 use Rattle.dt_overlay_read.proofs.fixups.are_cells.Goals as goal
 

@@ -1,5 +1,5 @@
 use Rattle.std.proofs.Common.{◌∷◌, [], refl}
-use Rattle.dt_overlay_read.specs.Fixups.{cell_told}
+use Rattle.dt_overlay_texts.specs.Cells.{cell_told}
 use Rattle.dt_overlay_read.proofs.fixups.list_cell.Goals as goal
 
 pub returns-clause-listed : goal.returns-clause-listed

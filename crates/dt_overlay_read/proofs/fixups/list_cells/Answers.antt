@@ -5,7 +5,7 @@ use Rattle.dt_names.specs.declared.fault.Fault.{Fault}
 use Rattle.dt_names.specs.declared.fault.FaultKind.TheVariants.{NoMemory, BadFixup}
 use Rattle.dt_trees.specs.Placed.{reading_of}
 use Rattle.dt_overlay_laws.specs.Objects.{AreCellsOf}
-use Rattle.dt_overlay_read.specs.Fixups.{HasTold}
+use Rattle.dt_overlay_texts.specs.Cells.{HasTold}
 use Rattle.dt_overlay_read.proofs.FixupsTold.{cells_begin, cells_step, told_not}
 use Rattle.dt_overlay_read.proofs.fixups.list_cells.Goals as goal
 

@@ -1,7 +1,8 @@
 use Rattle.std.proofs.Common.{◌∷◌, [], ◌+◌, drop, Some, None, refl, sym, ap, ◌∙◌, codes, arith}
 use Rattle.std.proofs.lemmas.Result.{err_from_is_err_and}
 use Rattle.dt_overlay_read.proofs.FixupsLabels.{ListsLabels-none, labels_begin, labels_step, labels_over, first_unnumbered, fixups_listed}
-use Rattle.dt_overlay_read.proofs.RootChildren.{root_child, listed_at, none_listed}
+use Rattle.dt_overlay_read.proofs.RootChildren.{root_child, listed_at}
+use Rattle.dt_overlay_texts.proofs.NoNodes.{unplaced_properties}
 use Rattle.dt_trees.specs.Views.{props_said}
 use Rattle.dt_trees.proofs.Props.{next_prop, no_prop}
 use Rattle.dt_overlay_read.proofs.fixups.list_fixups.Goals as goal
@@ -11,7 +12,7 @@ returns-in_default-clause-listed g c =
     let t = g.V.TreeView.tree c.args.object.now in
     let base = g.T.Target.reading c.args.target.now in
     let nowhere = root_child t c.validity.ensures.places c.root.result c.as_slice.result.now (codes "__fixups__") None c.root.ensures.at c.as_slice.ensures c.in_default.ensures.is in
-    fixups_listed base t [] c.args.out.now.items c.args.out.now.items (none_listed t (codes "__fixups__" ∷ []) nowhere) (ListsLabels-none base t c.args.out.now.items)
+    fixups_listed base t [] c.args.out.now.items c.args.out.now.items (unplaced_properties t (codes "__fixups__" ∷ []) nowhere) (ListsLabels-none base t c.args.out.now.items)
 
 pub loop-fixup-init : goal.loop-fixup-init
 loop-fixup-init g c =

@@ -1,7 +1,8 @@
 use Rattle.std.proofs.Common.{◌∷◌, [], ◌+◌, ◌∙◌, drop, Some, None, inl, inr, refl, sym, ap, subst, codes, arith}
 use Rattle.std.proofs.lemmas.Result.{err_from_is_err_and}
 use Rattle.dt_model.specs.Lists.{IsIn}
-use Rattle.dt_overlay_read.proofs.RootChildren.{root_child, listed_at, none_listed}
+use Rattle.dt_overlay_read.proofs.RootChildren.{root_child, listed_at}
+use Rattle.dt_overlay_texts.proofs.NoNodes.{unplaced_properties}
 use Rattle.dt_overlay_read.proofs.SymbolsListed.{ListsNamed-none, named_begin, named_step, named_over, named_among, symbols_listed}
 use Rattle.dt_trees.specs.Views.{props_said}
 use Rattle.dt_trees.proofs.Props.{next_prop, no_prop}
@@ -11,7 +12,7 @@ pub returns-in_default-clause-listed : goal.returns-in_default-clause-listed
 returns-in_default-clause-listed g c =
     let t = g.V.TreeView.tree c.args.object.now in
     let nowhere = root_child t c.validity.ensures.places c.root.result c.as_slice.result.now (codes "__symbols__") None c.root.ensures.at c.as_slice.ensures c.in_default.ensures.is in
-    symbols_listed t [] c.args.out.now.items c.args.out.now.items (none_listed t (codes "__symbols__" ∷ []) nowhere) (ListsNamed-none t c.args.out.now.items)
+    symbols_listed t [] c.args.out.now.items c.args.out.now.items (unplaced_properties t (codes "__symbols__" ∷ []) nowhere) (ListsNamed-none t c.args.out.now.items)
 
 pub loop-symbol-init : goal.loop-symbol-init
 loop-symbol-init g c =

@@ -5,8 +5,8 @@ use Rattle.dt_model.proofs.Texts.{one_text}
 use Rattle.dt_overlay_texts.proofs.CellTexts.{no_colon, no_second, path_first, property_second}
 use Rattle.dt_trees.specs.Placed.{place_of, reading_of, IsAt}
 use Rattle.dt_trees.proofs.NodePlaces.{path_is}
-use Rattle.dt_overlay_read.proofs.RootChildren.{no_value_at}
-use Rattle.dt_overlay_read.proofs.fixups.value_of.Goals as goal
+use Rattle.dt_overlay_texts.proofs.NoNodes.{no_value_at}
+use Rattle.dt_overlay_texts.proofs.cells.value_of.Goals as goal
 
 pub returns-in_err-path : goal.returns-in_err-path
 returns-in_err-path g c cell is = absurd (no_colon c.args.text.now c.in_err-path.ensures cell is)

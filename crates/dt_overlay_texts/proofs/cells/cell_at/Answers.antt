@@ -2,11 +2,11 @@ use Rattle.std.proofs.Common.{◌≡◌, ◌∙◌, ◌≤◌, ◌+◌, ℕ, Lis
 use Rattle.dt_model.specs.Object.{HasCell}
 use Rattle.dt_model.specs.Path.{Path}
 use Rattle.dt_model.specs.Tree.{value_in}
-use Rattle.dt_overlay_read.specs.Fixups.{cell_told}
+use Rattle.dt_overlay_texts.specs.Cells.{cell_told}
 use Rattle.dt_trees.specs.Placed.{reading_of}
 use Rattle.dt_trees.proofs.NodePlaces.{path_is}
-use Rattle.dt_overlay_read.proofs.RootChildren.{no_value_at}
-use Rattle.dt_overlay_read.proofs.fixups.cell_at.Goals as goal
+use Rattle.dt_overlay_texts.proofs.NoNodes.{no_value_at}
+use Rattle.dt_overlay_texts.proofs.cells.cell_at.Goals as goal
 
 pub returns-in_err-node : goal.returns-in_err-node
 returns-in_err-node g c = rw c.from_residual.ensures (λ cell has.
