@@ -10,14 +10,14 @@ use Rattle.dt_model.specs.Path.{Path}
 use Rattle.dt_model.specs.Tree.{Property, Reading, value_in}
 use Rattle.dt_model.specs.Applied.{Write, symbol, number_at, label_write}
 use Rattle.dt_names.specs.declared.fault.FaultKind.{FaultKind}
-use Rattle.dt_names.specs.declared.fault.FaultKind.TheVariants.{NoMemory, NoSymbol, BadSymbol, BadFixup}
+use Rattle.dt_names.specs.declared.fault.FaultKind.TheVariants.{NoMemory}
 use Rattle.dt_trees.specs.Placed.{PlacedTree, reading_of}
 use Rattle.dt_model.proofs.Tests.{each_append}
-use Rattle.dt_overlay_laws.specs.Objects.{AreCellsOf, SymbolHasNumber, IsFixup, fixups_in}
+use Rattle.dt_overlay_laws.specs.Objects.{SymbolHasNumber, IsFixup, fixups_in}
 use Rattle.dt_overlay_laws.specs.Refusals.{WhyNoFixup, HasNoFixup}
 use Rattle.dt_overlay_object.specs.declared.kept.Write.{Write as KeptWrite}
 use Rattle.dt_overlay_object.specs.Plans.{AreWritesOf, ListsFixups}
-use Rattle.dt_overlay_read.specs.Fixups.{numbered, ListsCells, ListsLabels, WhyNoNumber}
+use Rattle.dt_overlay_read.specs.Fixups.{numbered, ListsCells, ListsLabels}
 use Rattle.dt_overlay_read.proofs.FixupsTold.{AreWritesOf-append}
 
 -- ---- one label
@@ -125,20 +125,6 @@ labels_over base object all left before after is e so_far =
     fixups_listed base object all before after is (so_far.listed after (subst (λ (ps : List Property). ListsLabels base object ps after after) (sym e) (ListsLabels-none base object after)))
 
 -- ---- why not
-
--- cells that the object has get no number for the label's sake
-pub unnumbered : (base object : Reading) (x : Property) (kind : FaultKind) → (cells : List Cell) × AreCellsOf object x.value cells → WhyNoNumber kind base x.name
-    → (kind ≡ NoMemory) ⊎ WhyNoFixup kind base object x
-unnumbered base object x NoMemory has why = inl refl
-unnumbered base object x NoSymbol has why = inr (has, why)
-unnumbered base object x BadSymbol has why = inr (has, why.0, why.1)
-unnumbered base object x _ has why = absurd why
-
--- the value isn't texts of cells that the object has
-pub unlisted : (base object : Reading) (x : Property) (kind : FaultKind) → (kind ≡ NoMemory) ⊎ ((kind ≡ BadFixup) × ((cells : List Cell) → ¬ AreCellsOf object x.value cells))
-    → (kind ≡ NoMemory) ⊎ WhyNoFixup kind base object x
-unlisted base object x kind (inl memory) = inl memory
-unlisted base object x kind (inr (is, never)) = inr (subst (λ (k : FaultKind). WhyNoFixup k base object x) (sym is) never)
 
 -- the first property whose cells get no number
 pub first_unnumbered : (base : Reading) (object : PlacedTree) (all left rest : List Property) (x : Property) (before after : List KeptWrite) (kind : FaultKind) → fixups_in (reading_of object) ≡ all → left ≡ x ∷ rest

@@ -131,11 +131,12 @@ fn list_fixup<'o, T: Target, V: TreeView>(
     ensures refused { IfErr result (IsMemoryOr
         (λ kind. WhyNoFixup kind (T.reading target.now) (reading_of (V.tree object.now)) (prop_said fixup.now))) }
 {
-    if !are_cells(object, fixup.value) {
-        return Err(Fault::of(FaultKind::BadFixup));
+    match number_of(target, landing, fixup.name) {
+        Ok(number) => list_cells(object, fixup.value, number, out),
+        // Texts that are off are reported before their label.
+        Err(_) if !are_cells(object, fixup.value) => Err(Fault::of(FaultKind::BadFixup)),
+        Err(fault) => Err(fault),
     }
-    let number = number_of(target, landing, fixup.name)?;
-    list_cells(object, fixup.value, number, out)
 }
 
 /// Lists what is written into the cells that the object's `__fixups__` lists (dtc's notes on overlay objects), label by label, in the

@@ -3,6 +3,7 @@ use Rattle.std.proofs.Common.{◌≡◌, ℕ, List, [], ◌∷◌, ◌++◌, map
 use Rattle.std.specs.Option.{MatchOption}
 use Rattle.dt_model.specs.Tree.{Property}
 use Rattle.dt_read.specs.declared.token.Tag.{Tag}
+use Rattle.dt_read.specs.declared.token.Tag.TheVariants as tags
 use Rattle.dt_read.specs.declared.token.Token.{Token}
 use Rattle.dt_read.specs.declared.token.Token.TheVariants as code
 use Rattle.dt_read.specs.View.{tag_mark, view_at}
@@ -70,6 +71,17 @@ begin_only code.End h at place name e = cc
 
 pub no_sibling_at : (marks : List Mark) (at : ℕ) (token : Token) (rest : List Mark) → AreSiblings marks → marks ≡ view_at at token ∷ rest → ((name : Bor (List ℕ)) → token ≡ code.BeginNode name → ⊥) → heads_left marks ≡ []
 no_sibling_at marks at token rest a e h = no_sibling marks (view_at at token) rest a e (begin_only token h at)
+
+-- the same by a tag
+begin_tag_only : (tag : Tag) (p : Property) → ((name : Bor (List ℕ)) → tag ≡ tags.BeginNode name → ⊥) → (at place : ℕ) (name : List ℕ) → tag_mark at tag p ≡ begin_mark place name → ⊥
+begin_tag_only (tags.BeginNode text) p h at place name e = h text refl
+begin_tag_only tags.EndNode p h at place name e = cc
+begin_tag_only (tags.Property bytes) p h at place name e = cc
+begin_tag_only tags.Nop p h at place name e = cc
+begin_tag_only tags.End p h at place name e = cc
+
+pub no_sibling_by : (marks : List Mark) (at : ℕ) (tag : Tag) (p : Property) (rest : List Mark) → AreSiblings marks → marks ≡ tag_mark at tag p ∷ rest → ((name : Bor (List ℕ)) → tag ≡ tags.BeginNode name → ⊥) → heads_left marks ≡ []
+no_sibling_by marks at tag p rest a e h = no_sibling marks (tag_mark at tag p) rest a e (begin_tag_only tag p h at)
 
 pub no_property_at : (marks : List Mark) (at : ℕ) (token : Token) (rest : List Mark) → marks ≡ view_at at token ∷ rest → (token ≡ code.Nop → ⊥) → ((name value : Bor (List ℕ)) → token ≡ code.Property name value → ⊥) → (left_by marks).properties ≡ []
 no_property_at marks at (code.BeginNode name) rest e n h = ap (λ (x : List Mark). (left_by x).properties) e

@@ -10,7 +10,7 @@ ghost use Rattle.std.specs.Iterator.{YieldsFirst, YieldsFirstBy, item_count};
 use crate::NodeId;
 use crate::cursor::{Cursor, skip_node};
 use crate::property::Sought;
-use crate::token::Token;
+use crate::token::{Tag, Token};
 use std::marker::Model;
 
 /// Reads the property at the front.
@@ -135,8 +135,8 @@ impl<'a> Siblings<'a> {
         ensures { result ≡ slice_get (map (λ head. head.0) self.now) 0 }
     {
         let mut ahead = self.cursor.copy();
-        let (node, token) = ahead.next()?;
-        let Token::BeginNode(_) = token else {
+        let (node, tag) = ahead.next_tag()?;
+        let Tag::BeginNode(_) = tag else {
             return None;
         };
         Some(node)

@@ -225,11 +225,8 @@ impl<'a> Index<'a> {
         if is_whole_name(name) {
             return self.value_in_row(node, name);
         }
-        if let Some(value) = self.kinds.get(&(node, name)) {
-            return Some(*value);
-        }
         if is_kind_name(name) {
-            return None;
+            return self.kinds.get(&(node, name)).copied();
         }
         TreeView::value(self.blob, node, name)
     }
