@@ -1,5 +1,5 @@
 -- The numbers of nodes that land.
-use Rattle.std.proofs.Common.{◌≡◌, ℕ, zero, suc, ◌<◌, ◌≤◌, Bool, true, false, cond, ◌&&◌, List, [], ◌∷◌, ◌++◌, length, get_or, map, take, drop, codes, Option, Some, None, refl, sym, ap, subst, ◌∙◌, ◌⊎◌, inl, inr, append-nil, true≢false, arith}
+use Rattle.std.proofs.Common.{◌≡◌, ℕ, zero, suc, ◌<◌, Bool, true, false, cond, ◌&&◌, List, [], ◌∷◌, ◌++◌, length, get_or, map, take, drop, codes, Option, Some, None, refl, sym, ap, subst, ◌∙◌, ◌⊎◌, inl, inr, append-nil, true≢false, arith}
 use Rattle.std.specs.Prelude.{nat_eq, slice_set, is_some}
 use Rattle.std.specs.List.{filter, flat_map}
 use Rattle.std.specs.Option.{option_or}
@@ -52,12 +52,6 @@ set_next {X} f xs ys i x y e lt at is = ap (λ zs. slice_set zs i y) e ∙ step 
     step [] i lt at = absurd (omega arith)
     step (z ∷ xs) zero lt at = ap (λ w. w ∷ xs) (is ∙ ap f at)
     step (z ∷ xs) (suc i) lt at = ap (λ zs. f z ∷ zs) (step xs i (omega arith) at)
-
-pub all_set : {X : Type 0} (f : X → X) (xs : List X) (i : ℕ) → length xs ≤ i → map f (take i xs) ++ drop i xs ≡ map f xs
-all_set f [] zero le = refl
-all_set f [] (suc i) le = refl
-all_set f (x ∷ xs) zero le = absurd (omega arith)
-all_set f (x ∷ xs) (suc i) le = ap (λ zs. f x ∷ zs) (all_set f xs i (omega arith))
 
 pub length_set : {X : Type 0} (f : X → X) (xs ys : List X) (i : ℕ) → ys ≡ map f (take i xs) ++ drop i xs → length ys ≡ length xs
 length_set {X} f xs ys i e = ap (λ zs. length zs) e ∙ step xs i

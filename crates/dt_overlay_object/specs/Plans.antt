@@ -1,9 +1,9 @@
 -- What the code keeps of an object while it is applied, and what that means.
-use Rattle.std.specs.Prelude.{◌≡◌, ℕ, List, [], ◌∷◌, ◌++◌, map, nat_eq, cond, slice_get, Option, Some, None, true, is_some, option_and_then, unwrap_or, if◌then◌else◌, codes}
+use Rattle.std.specs.Prelude.{◌≡◌, ℕ, List, [], ◌∷◌, ◌++◌, map, nat_eq, cond, slice_get, Option, Some, None, true, option_and_then, unwrap_or, if◌then◌else◌, codes}
 use Rattle.std.specs.List.{AllByRecursion, flat_map}
 use Rattle.std.specs.Map.{lookup}
 use Rattle.dt_model.specs.Names.{Name}
-use Rattle.dt_model.specs.Path.{Path, below}
+use Rattle.dt_model.specs.Path.{Path}
 use Rattle.dt_model.specs.Tree.{Property, Reading, stands_in, value_in, nodes_of}
 use Rattle.dt_model.specs.Overlay.{content}
 use Rattle.dt_model.specs.Object.{Cell, HasFixups, fragment_names, local_cells, HasCell}
@@ -89,10 +89,6 @@ at_node entries k = lookup (nat_eq k) entries
 abbrev pub PutsAt : {A : Type 0} → List (ℕ × A) → List (ℕ × A) → ℕ → A → Type 0
 PutsAt old new node x = (k : ℕ) → at_node new k ≡ cond (nat_eq node k) (Some x) (at_node old k)
 
--- the fragment that brings a node is the one of this index
-abbrev pub IsBroughtAt : List Name → ℕ → Path → Type 0
-IsBroughtAt names i p = (f : Name) × (slice_get names i ≡ Some f) × (is_some (below (content f) p) ≡ true)
-
 -- the table has the contents of the fragments, each with its fragment's index
 pub record AreContents (t : PlacedTree) (names : List Name) (entries : List (ℕ × ℕ)) : Type 0 where
   pub has : (k i : ℕ) → at_node entries k ≡ Some i → (f : Name) × (slice_get names i ≡ Some f) × IsAt t (content f) k
@@ -109,7 +105,7 @@ AreBroughtBy t numbers b = AreBrought t (fragment_names (reading_of t).children)
 -- the four bytes at an offset name a node, and the cell gets this number of it
 pub record IsLocalNumber (object : Reading) (numbers : List (Path × ℕ)) (p : Path) (value : List ℕ) (offset number : ℕ) : Type 0 where
   pub cell : IsLocalCell object p value offset
-  pub is : number ≡ unwrap_or (option_and_then (number_in numbers) (node_numbered (nodes_of object) (number_at value offset))) (number_at value offset)
+  pub is : number ≡ own_number object numbers (number_at value offset)
 
 -- nothing is brought so far
 pub record IsUnbrought (b : Brought) : Type 0 where

@@ -65,10 +65,6 @@ told_not object text left rest e never has = first (subst (HasAllTold object) e 
     first ([], told, there) = told
     first (c ∷ cells, told, there) = never c (told.0, there.0)
 
--- where none is left, it is
-pub told_all : (object : Reading) (value : List ℕ) (left : List (List ℕ)) → left ≡ [] → HasCells object value ↔ HasAllTold object left → HasCells object value
-told_all object value left e so_far = so_far.1 (subst (HasAllTold object) (sym e) ([], tt, tt))
-
 -- ---- what is listed for them
 
 -- writes behind writes
@@ -132,7 +128,3 @@ cells_step object value text left rest n before after out e so_far first = recor
     by : (cells : List Cell) → TellCells (text ∷ []) cells → AllByRecursion (HasCell (reading_of object)) cells → HasCells (reading_of object) value ↔ HasAllTold (reading_of object) rest
     by [] told there = absurd told
     by (c ∷ cells) told there = told_others (reading_of object) value text left rest c e (told.0, there.0) so_far.has
-
-pub cells_over : (object : PlacedTree) (value : List ℕ) (left : List (List ℕ)) (n : ℕ) (before after : List KeptWrite) → left ≡ [] → CellsLeft object value left n before after → ListsCells object value n before after
-cells_over object value left n before after e so_far =
-    so_far.listed after (subst (λ (xs : List (List ℕ)). ListsTold object xs n after after) (sym e) (ListsTold-none object n after))
