@@ -60,7 +60,7 @@ fn carry_out<'o, T: Target, V: TreeView>(
 {
     read(target, landing, object)?;
     find_sites(target, object, landing)?;
-    number_all(target, landing, object)?;
+    number_all(landing, object);
     renumber(object);
     land(target, object, landing)
 }

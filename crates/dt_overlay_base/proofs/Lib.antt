@@ -3,7 +3,9 @@ pub mod FreeNumbers
 pub mod LooksLanded
 pub mod LooksNames
 pub mod LooksNumbers
+pub mod NodesNumbered
 pub mod PlacesKept
 pub mod Reached
+pub mod Results
 pub mod Rooms
 pub mod TextsOfPaths

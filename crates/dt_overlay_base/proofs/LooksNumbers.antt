@@ -9,15 +9,16 @@ use Rattle.dt_model.specs.Limits.{most_nodes}
 use Rattle.dt_model.specs.Lists.{IsIn}
 use Rattle.dt_model.specs.Names.{Name, IsNodeName}
 use Rattle.dt_model.specs.Numbers.{numbers_of, number_in}
-use Rattle.dt_model.specs.Path.{Path}
-use Rattle.dt_model.specs.Tree.{Property, Reading, value_of, value_in}
+use Rattle.dt_model.specs.Path.{Path, path_eq}
+use Rattle.dt_model.specs.Tree.{Reading, value_in}
 use Rattle.dt_model.specs.Valid.{IsValid, IsWithinLimits, IsPhandle}
+use Rattle.dt_model.proofs.Tests.{path_eq_refl}
 use Rattle.dt_model_laws.proofs.Fresh.{few_below}
 use Rattle.dt_model_laws.proofs.LeastNumbers.{one_least}
 use Rattle.dt_model_laws.proofs.Numbered.{few_taken}
 use Rattle.dt_overlay_model.specs.Walk.{number_there, with_place, least_free}
 use Rattle.dt_overlay_model.proofs.Least.{least_is_free}
-use Rattle.dt_overlay_model.proofs.Places.{none_there, numbers}
+use Rattle.dt_overlay_model.proofs.Places.{none_there, number_in-last, numbers}
 use Rattle.dt_overlay_laws.proofs.PlainSymbols.{phandle_there}
 use Rattle.std.specs.List.{AllByRecursion}
 use Rattle.dt_overlay_base.specs.Known.{Known, IsKnown, HasRoom}
@@ -26,12 +27,7 @@ use Rattle.dt_overlay_base.proofs.PlacesKept.{next_is_least}
 
 -- ---- something is there
 
--- where a value is read
-pub value_there : (ps : List Property) (o : Option (Bor (List ℕ))) (name key : Name) → option_map (λ value. value.now) o ≡ value_of ps name → name ≡ key → is_some o ≡ is_some (value_of ps key)
-value_there ps None name key e same = ap is_some (e ∙ ap (value_of ps) same)
-value_there ps (Some x) name key e same = ap is_some (e ∙ ap (value_of ps) same)
-
--- and where one is read by a path
+-- where a value is read by a path
 pub prop_there : (t : Reading) (q : Path) (o : Option (Bor (List ℕ))) (name key : Name) → option_copied o ≡ value_in t q name → name ≡ key → is_some o ≡ is_some (value_in t q key)
 prop_there t q None name key e same = ap is_some (e ∙ ap (value_in t q) same)
 prop_there t q (Some x) name key e same = ap is_some (e ∙ ap (value_in t q) same)
@@ -72,3 +68,14 @@ place_given_next base given landed a known q named there n none next =
     one_least (numbers given ++ numbers_of base) (least_free (numbers given ++ numbers_of base)) n (least_is_free (numbers given ++ numbers_of base)) (next_is_least base given landed a known q named n there bare.1 next) in
     ap (λ (b : Bool). if b then given else given ++ (q, least_free (numbers given ++ numbers_of base)) ∷ []) none
     ∙ ap (λ (m : ℕ). given ++ (q, m) ∷ []) least
+
+-- and has it
+pub given_there : (base : Reading) (given : List (Path × ℕ)) (q : Path) (n : ℕ) → is_some (number_there base given q) ≡ false → number_there base (given ++ (q, n) ∷ []) q ≡ Some n
+given_there base given q n none =
+    let bare = none_there_at base given q none in
+    ap (λ (o : Option (List ℕ)). option_or (option_map (from_be_bytes w32) o) (number_in (given ++ (q, n) ∷ []) q)) bare.0
+    ∙ number_in-last given q q n ∙ ap (λ (o : Option ℕ). option_or o (if path_eq q q then Some n else None)) bare.1 ∙ ap (λ (b : Bool). if b then Some n else None) (path_eq_refl q)
+
+-- a place that has a number keeps it
+pub placed_there : (base : Reading) (given : List (Path × ℕ)) (q : Path) (n : ℕ) → number_there base given q ≡ Some n → with_place base q given ≡ given
+placed_there base given q n there = ap (λ (b : Bool). if b then given else given ++ (q, least_free (numbers given ++ numbers_of base)) ∷ []) (ap is_some there)

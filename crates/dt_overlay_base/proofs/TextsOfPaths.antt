@@ -1,14 +1,8 @@
 -- Texts of paths, name by name.
-use Rattle.std.proofs.Common.{◌≡◌, ◌<◌, ◌⊎◌, ℕ, suc, List, [], ◌∷◌, ◌++◌, Bor, length, drop, refl, sym, ap, ◌∙◌, inl, inr, arith, append_assoc, length-append}
+use Rattle.std.proofs.Common.{◌≡◌, ℕ, List, [], ◌∷◌, ◌++◌, length, sym, ap, ◌∙◌, arith}
 use Rattle.std.proofs.lemmas.List.{append-nil}
-use Rattle.std.specs.Iterator.{Yields, YieldsFirstRef}
-use Rattle.std.specs.List.{AllByRecursion}
-use Rattle.dt_model.specs.Limits.{most_names}
-use Rattle.dt_model.specs.Names.{Name, IsNodeName}
+use Rattle.dt_model.specs.Names.{Name}
 use Rattle.dt_model.specs.Path.{Path, path_text, path_value}
-use Rattle.dt_names.specs.Paths.{WhyNotPushed}
-use Rattle.dt_names.specs.declared.fault.FaultKind.{FaultKind}
-use Rattle.dt_names.specs.declared.fault.FaultKind.TheVariants.{NoMemory, Limit}
 
 -- each name with a `/` before it
 abbrev pub with_slashes : Path → List ℕ

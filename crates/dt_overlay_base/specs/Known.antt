@@ -1,5 +1,5 @@
 -- What is kept of the places on which an object's nodes land, and what it means.
-use Rattle.std.specs.Prelude.{◌≡◌, ◌↔◌, ℕ, ◌<◌, ◌≤◌, true, false, List, ◌∷◌, ◌++◌, length, map, Option, Some, None, is_some, option_and_then, nat_eq}
+use Rattle.std.specs.Prelude.{◌≡◌, ◌↔◌, ℕ, ◌<◌, ◌≤◌, true, false, List, ◌∷◌, ◌++◌, length, map, Option, is_some, option_and_then, nat_eq}
 use Rattle.std.specs.Global.{Vec}
 use Rattle.std.specs.List.{AllByRecursion, list_any, flat_map}
 use Rattle.std.specs.Map.{lookup}
@@ -35,11 +35,12 @@ abbrev pub kept_at : List (Vec ℕ × Option ℕ) → Path → Option (Option �
 kept_at entries q = lookup (λ (k : Vec ℕ). bytes_eq (path_value q) k.items) entries
 
 -- What is known of places: those on which something has landed, by the texts of their paths, each with the number that it got, if it got one;
--- which place got a number; and the last number that one got, 0 before the first.
+-- which place got a number; the last number that one got, 0 before the first; and the number of each node that landed and has a `phandle`.
 pub record Known : Type 0 where
   pub landed : List (Vec ℕ × Option ℕ)
   pub numbered : List (ℕ × Path)
   pub last : ℕ
+  pub nodes : List (ℕ × ℕ)
 
 -- the place that got a number
 abbrev pub place_of_number : Known → ℕ → Option Path

@@ -2,3 +2,4 @@
 pub mod Targets
 pub mod FlatTargets
 pub mod Known
+pub mod NodeNumbers

@@ -9,22 +9,28 @@ ghost use Rattle.dt_model.specs.Numbers.{numbers_of, number_in};
 ghost use Rattle.dt_model.specs.Path.{path_value};
 ghost use Rattle.dt_model.specs.Tree.{Reading};
 ghost use Rattle.dt_overlay_base.specs.Known.{IsKnown, IsNext, WhereKnown, kept_at, number_at_place, place_of_number};
+ghost use Rattle.dt_overlay_base.specs.NodeNumbers.{PutsAt};
 
 use crate::texts::put_path;
-use dt_names::{Path, Seed};
+use dt_names::{NodeId, Path, Seed};
 use indexmap::IndexMap;
 use std::alloc::{AllocError, Global};
+use std::collections::HashMap;
 use std::marker::Model;
+use std::mem::replace;
 
-/// The places on which nodes have landed so far, each once, with the number that it got, if it got one. It is seen as what is known of each
-/// path, and of each number.
+/// The places on which nodes have landed so far, each once, with the number that it got, if it got one, and the numbers of the nodes. It is seen as
+/// what is known of each path, of each number, and of each node.
 #[derive(Drop)]
 pub struct Places {
     alloc: Global,
+    seed: Seed,
     /// By the text of the place's path.
     numbers: IndexMap<Vec<u8>, Option<u32>, Seed>,
     paths: IndexMap<u32, Path, Seed>,
     last: u32,
+    /// The number of each node that landed and has a `phandle`.
+    nodes: HashMap<NodeId, u32, Seed>,
 }
 
 impl Model for Places {
@@ -32,7 +38,7 @@ impl Model for Places {
 
     ghost Value = { Known };
 
-    ghost view = { λ a. record { landed = a.numbers.entries; numbered = a.paths.entries; last = a.last } };
+    ghost view = { λ a. record { landed = a.numbers.entries; numbered = a.paths.entries; last = a.last; nodes = a.nodes.entries } };
 }
 
 fn text_of(alloc: Global, path: &Path) -> Result<Vec<u8>, AllocError>
@@ -44,15 +50,18 @@ fn text_of(alloc: Global, path: &Path) -> Result<Vec<u8>, AllocError>
 }
 
 impl Places {
-    /// Nothing has landed. Paths and numbers will be hashed behind the seed.
+    /// Nothing has landed. Paths, numbers and nodes will be hashed behind the seed.
     pub fn new(alloc: Global, seed: Seed) -> Places
-        ensures { (base : Reading) → IsKnown base [] [] result }
+        ensures known { (base : Reading) → IsKnown base [] [] result }
+        ensures nodes { result.nodes ≡ [] }
     {
         Places {
             alloc,
+            seed,
             numbers: IndexMap::with_hasher(alloc, seed),
             paths: IndexMap::with_hasher(alloc, seed),
             last: 0,
+            nodes: HashMap::with_hasher(alloc, seed),
         }
     }
 
@@ -97,7 +106,8 @@ impl Places {
     /// A node lands on the path.
     pub fn enter(&mut self, path: &Path) -> Result<(), AllocError>
         requires { AllByRecursion IsNodeName path.now }
-        ensures { WhereKnown self.old (λ base given landed. OnOk result (IsKnown base given (landed ++ path.now ∷ []) self.new)) }
+        ensures known { WhereKnown self.old (λ base given landed. OnOk result (IsKnown base given (landed ++ path.now ∷ []) self.new)) }
+        ensures nodes { self.new.nodes ≡ self.old.nodes }
     {
         let text = text_of(self.alloc, path)?;
         if self.numbers.get(text.as_slice()).is_none() {
@@ -109,9 +119,10 @@ impl Places {
     /// The path's place gets the next number that is free.
     pub fn give(&mut self, path: &Path, number: u32) -> Result<(), AllocError>
         requires { AllByRecursion IsNodeName path.now }
-        ensures { WhereKnown self.old (λ base given landed. IsIn path.now landed → number_in given path.now ≡ None
+        ensures known { WhereKnown self.old (λ base given landed. IsIn path.now landed → number_in given path.now ≡ None
             → IsNext (numbers_of base) self.old.last number →
             OnOk result (IsKnown base (given ++ (path.now, number) ∷ []) landed self.new)) }
+        ensures nodes { self.new.nodes ≡ self.old.nodes }
     {
         let text = text_of(self.alloc, path)?;
         let place = path.copy(self.alloc)?;
@@ -119,5 +130,21 @@ impl Places {
         self.paths.insert(number, place)?;
         self.last = number;
         Ok(())
+    }
+
+    /// A node that landed has the number.
+    pub fn put_node(&mut self, node: NodeId, number: u32) -> Result<(), AllocError>
+        ensures known { WhereKnown self.old (λ base given landed. OnOk result (IsKnown base given landed self.new)) }
+        ensures nodes { OnOk result (PutsAt self.old.nodes self.new.nodes node number) }
+    {
+        self.nodes.insert(node, number)?;
+        Ok(())
+    }
+
+    /// Hands out the numbers of the nodes. None is kept here.
+    pub fn take_nodes(&mut self) -> HashMap<NodeId, u32, Seed>
+        ensures { result.entries ≡ self.old.nodes }
+    {
+        replace(&mut self.nodes, HashMap::with_hasher(self.alloc, self.seed))
     }
 }

@@ -17,9 +17,9 @@ use Rattle.dt_model.proofs.Tests.{bytes_eq_refl, bytes_eq_other, each_in}
 use Rattle.dt_overlay_base.proofs.LooksNames.{value_under}
 use Rattle.dt_overlay_laws.specs.Steps.{land_node, land_fragments, MayLandNode, MayLandFragments, FullAtNode, FullAtFragments}
 use Rattle.dt_overlay_object.specs.declared.kept.ObjectFragment.{ObjectFragment}
-use Rattle.dt_overlay_object.specs.Plans.{at_node, AreFragmentsOf}
+use Rattle.dt_overlay_base.specs.NodeNumbers.{at_node, IsNumbered}
+use Rattle.dt_overlay_object.specs.Plans.{AreFragmentsOf}
 use Rattle.dt_overlay_landing.specs.Landed.{number_at, property_landed, forest_landed, node_landed, land_each, MayLandEach, FullAtEach}
-use Rattle.dt_overlay_landing.specs.Turns.{IsNumbered}
 use Rattle.dt_overlay_landing.specs.Values.{Kept, AreKept, value_kept}
 use Rattle.dt_overlay_landing.proofs.LandingNodes.{good_node}
 use Rattle.dt_trees.specs.Placed.{PlacedTree, reading_of, place_of, path_at, properties_at, properties_found, forest_under, below_at, HasPlacesApart, IsAt, IsNode}

@@ -18,7 +18,7 @@ use Rattle.dt_overlay_laws.proofs.SingleChanges.{child_stands, child_kept, prope
 use Rattle.dt_overlay_landing.specs.Landed.{forest_landed, landed_as, landed_properties, node_landed, property_landed}
 use Rattle.dt_overlay_landing.specs.Values.{Kept, with_kept}
 use Rattle.dt_overlay_landing.specs.declared.landing.LandingNode.{LandingNode}
-use Rattle.dt_overlay_object.specs.Plans.{at_node}
+use Rattle.dt_overlay_base.specs.NodeNumbers.{at_node}
 use Rattle.dt_overlay_base.specs.Targets.{IsWant, MaySetAt, WhyNotAddedAt, WhyNotSetAt}
 use Rattle.dt_trees.specs.Placed.{PlacedTree, reading_of, path_at, last_name, properties_at, properties_found, below_at, IsNode}
 use Rattle.dt_trees.proofs.NodePlaces.{stands_place}

@@ -15,7 +15,8 @@ use Rattle.dt_model.specs.Applied.{Write as ModelWrite, label_write, local_write
 use Rattle.dt_model.proofs.Tests.{path_eq_refl, path_eq_true}
 use Rattle.dt_overlay_model.specs.Walk.{is_target, target_label}
 use Rattle.dt_overlay_laws.specs.Objects.{HasCells, IsFixup, SymbolHasNumber, fixups_in}
-use Rattle.dt_overlay_object.specs.Plans.{at_node, IsWriteOf, AreWritesOf}
+use Rattle.dt_overlay_base.specs.NodeNumbers.{at_node}
+use Rattle.dt_overlay_object.specs.Plans.{IsWriteOf, AreWritesOf}
 use Rattle.dt_overlay_landing.specs.Marks.{IsMark, AreMarked, is_target_write, with_own, with_labels}
 use Rattle.dt_overlay_landing.specs.declared.marks.TargetMark.{TargetMark}
 use Rattle.dt_overlay_landing.specs.declared.marks.TargetMark.TheVariants.{Own, Label}

@@ -1,5 +1,5 @@
 -- The sites of fragments, one after another.
-use Rattle.std.proofs.Common.{◌≡◌, ℕ, ◌+◌, List, [], ◌∷◌, ◌++◌, drop, refl, sym, ap, subst, ◌∙◌, inl, inr, append_assoc, append-nil}
+use Rattle.std.proofs.Common.{◌≡◌, ℕ, ◌+◌, List, [], ◌∷◌, ◌++◌, drop, Some, None, refl, sym, ap, subst, ◌∙◌, inl, inr, append_assoc, append-nil, true≢false}
 use Rattle.std.specs.List.{AllByRecursion}
 use Rattle.std.proofs.lemmas.List.{map-append}
 use Rattle.dt_model.specs.Names.{Name, IsNodeName}
@@ -7,9 +7,10 @@ use Rattle.dt_model.specs.Path.{Path}
 use Rattle.dt_model.specs.Merged.{Site}
 use Rattle.dt_model.specs.Object.{Cell, fragment_names}
 use Rattle.dt_model.specs.Tree.{Reading}
+use Rattle.dt_model.specs.Valid.{IsValid, IsWithinLimits}
 use Rattle.dt_names.specs.declared.fault.FaultKind.{FaultKind}
-use Rattle.dt_trees.specs.Placed.{PlacedTree, reading_of}
-use Rattle.dt_overlay_model.specs.Walk.{Walked, nothing_walked, site, landed_on}
+use Rattle.dt_trees.specs.Placed.{PlacedTree, reading_of, HasPlacesApart}
+use Rattle.dt_overlay_model.specs.Walk.{Walked, nothing_walked, new_numbers, site, landed_on}
 use Rattle.dt_overlay_laws.specs.Landings.{AreSited, WhyNoSite, HasNoSite}
 use Rattle.dt_overlay_object.specs.declared.kept.ObjectFragment.{ObjectFragment}
 use Rattle.dt_overlay_landing.specs.declared.marks.TargetMark.{TargetMark}
@@ -19,7 +20,9 @@ use Rattle.dt_overlay_object.specs.declared.brought.Brought.{Brought}
 use Rattle.dt_overlay_landing.specs.Marks.{AreMarked}
 use Rattle.dt_overlay_object.specs.Plans.{IsFragmentOf, AreFragmentsOf, AreBroughtBy}
 use Rattle.dt_overlay_object.specs.Stages.{IsEmptyLanding}
-use Rattle.dt_overlay_landing.specs.Turns.{Turn, IsTurnIn, IsTurnOf, IsSitedOn, HasAllSites}
+use Rattle.dt_overlay_landing.specs.Turns.{Turn, AreNumberedBy, AreNumberedSoFar, IsTurnIn, IsTurnOf, IsSitedOn, HasAllSites, NumbersFragment}
+use Rattle.dt_overlay_base.specs.NodeNumbers.{at_node}
+use Rattle.dt_overlay_landing.proofs.NumbersLanded.{all_fit, all_numbered, brought_last, content_has, fit_before}
 use Rattle.dt_overlay_landing.proofs.SitesTurns.{sited_behind, none_behind}
 
 -- the fragments up to an index have sites
@@ -44,6 +47,10 @@ found_begun base fixups o brought all marks landing is marked listed empty = rec
     sites = empty.sites;
     good = subst (AllByRecursion (λ (q : Path). AllByRecursion IsNodeName q)) (sym empty.sites) tt;
     known = empty.places base;
+    numbered = λ numbers fit. record {
+      sound = λ p k n at e. absurd (let none : None ≡ Some n = sym (ap (λ (entries : List (ℕ × ℕ)). at_node entries k) empty.nodes) ∙ e in cc);
+      own = λ p there brought. absurd (true≢false (sym brought));
+    };
   };
   left = listed;
 }
@@ -83,9 +90,9 @@ module _ (base : Reading) (fixups : List (Name × Cell)) (o : PlacedTree) (broug
     }
 
     -- it has a site
-    pub found_on : (q : Path) → AllByRecursion IsNodeName q → (then : Landing) → IsSitedOn base fixups (reading_of o) so_far.walked next.name q then.places
-        → then.sites.items ≡ landing.sites.items ++ q ∷ [] → AreFound base fixups o brought all marks (i + 1) then
-    found_on q good then h e = record {
+    pub found_on : HasPlacesApart o → (q : Path) → AllByRecursion IsNodeName q → (then : Landing) → IsSitedOn base fixups (reading_of o) so_far.walked next.name q then.places
+        → NumbersFragment base o so_far.walked next.name q x.content landing.places then.places → then.sites.items ≡ landing.sites.items ++ q ∷ [] → AreFound base fixups o brought all marks (i + 1) then
+    found_on apart q good then h notes e = record {
       walked = landed_on base (reading_of o) so_far.walked next.name q;
       done = so_far.done ++ next.name ∷ [];
       later = next.later;
@@ -97,10 +104,23 @@ module _ (base : Reading) (fixups : List (Name × Cell)) (o : PlacedTree) (broug
         sites = e ∙ ap (λ (ps : List Path). ps ++ q ∷ []) so_far.turn.sites ∙ sym (map-append (λ (s : Site). s.at) so_far.walked.sites (site next.name q ∷ []));
         good = subst (AllByRecursion (λ (p : Path). AllByRecursion IsNodeName p)) (sym e) (both_good landing.sites.items so_far.turn.good);
         known = h.known;
+        numbered = numbered;
       };
       left = next.left;
     }
       where
+        numbered : AreNumberedSoFar base o (landed_on base (reading_of o) so_far.walked next.name q) (so_far.done ++ next.name ∷ []) then.places.nodes
+        numbered numbers fit =
+            let before = so_far.turn.numbered numbers (fit_before base o so_far.walked next.name q numbers fit) in
+            let more = notes numbers fit before.sound in
+            record {
+              sound = more.sound;
+              own = λ p there is. elim (brought_last p so_far.done next.name is) [
+                | inl earlier ↦ more.kept p (before.own p there earlier)
+                | inr inside ↦ more.own p (content_has o apart next.name x.content p next.own.content there inside)
+              ];
+            }
+
         both_good : (ps : List Path) → AllByRecursion (λ (p : Path). AllByRecursion IsNodeName p) ps → AllByRecursion (λ (p : Path). AllByRecursion IsNodeName p) (ps ++ q ∷ [])
         both_good [] k = (good, tt)
         both_good (p ∷ ps) k = (k.0, both_good ps k.1)
@@ -112,14 +132,24 @@ module _ (base : Reading) (fixups : List (Name × Cell)) (o : PlacedTree) (broug
         (none_behind base (reading_of o) fixups (HasNoSite kind base (reading_of o) fixups) (λ w f fs q named may more. inr (q, named, may, more)) so_far.done (next.name ∷ next.later) nothing_walked so_far.walked so_far.turn.sited (inl why))
 
   -- all have
-  pub found_ended : drop i all ≡ [] → HasAllSites base fixups (reading_of o) landing
-  found_ended over = record {
+  pub found_ended : IsValid (reading_of o) → IsWithinLimits base → IsWithinLimits (reading_of o) → drop i all ≡ [] → HasAllSites base fixups o landing
+  found_ended valid few_base few over = record {
     end = so_far.walked;
-    sited = subst (λ (fs : List Name). AreSited base (reading_of o) fixups nothing_walked fs so_far.walked) (sym (append-nil so_far.done) ∙ ap (λ (fs : List Name). so_far.done ++ fs) (sym (none so_far.later refl)) ∙ sym so_far.turn.names) so_far.turn.sited;
+    sited = sited;
     sites = so_far.turn.sites;
-    known = so_far.turn.known;
+    numbered = all_numbered base o valid few_base few fixups so_far.walked sited landing.places.nodes
+        (subst (λ (fs : List Name). AreNumberedBy o fs landing.places.nodes numbers) whole (so_far.turn.numbered numbers (all_fit base o valid few_base few fixups so_far.walked sited)));
   }
     where
+      numbers : List (Path × ℕ)
+      numbers = new_numbers base (reading_of o) so_far.walked
+
       none : (fs : List Name) → so_far.later ≡ fs → so_far.later ≡ []
       none [] e = e
       none (f ∷ fs) e = absurd (subst (λ (gs : List Name). AreFragmentsOf o [] gs) e (subst (λ (xs : List ObjectFragment). AreFragmentsOf o xs so_far.later) over so_far.left))
+
+      whole : so_far.done ≡ names
+      whole = sym (append-nil so_far.done) ∙ ap (λ (fs : List Name). so_far.done ++ fs) (sym (none so_far.later refl)) ∙ sym so_far.turn.names
+
+      sited : AreSited base (reading_of o) fixups nothing_walked names so_far.walked
+      sited = subst (λ (fs : List Name). AreSited base (reading_of o) fixups nothing_walked fs so_far.walked) whole so_far.turn.sited

@@ -20,7 +20,8 @@ use Rattle.dt_names.specs.Paths.{WhyNotPushed}
 use Rattle.dt_names.specs.declared.fault.FaultKind.{FaultKind}
 use Rattle.dt_names.specs.declared.fault.FaultKind.TheVariants.{NoMemory, Limit}
 use Rattle.dt_overlay_landing.specs.Turns.{LandsTooDeep}
-use Rattle.dt_overlay_object.specs.Plans.{at_node, AreContents}
+use Rattle.dt_overlay_base.specs.NodeNumbers.{at_node}
+use Rattle.dt_overlay_object.specs.Plans.{AreContents}
 use Rattle.dt_overlay_object.proofs.Contents.{content_is, no_content, path_above}
 use Rattle.dt_overlay_object.proofs.Elements.{get_in, in_get, one_index}
 use Rattle.dt_trees.specs.Placed.{PlacedTree, reading_of, path_at, last_name, HasPlacesApart, IsNode}

@@ -188,6 +188,13 @@ room_for base fixups object valid few a w done later f q h all plain known = rec
       omega (arith, le, same);
 }
 
+-- then no two fragments that have sites have one name
+pub sites_apart : (base : Reading) (fixups : List (Name × Cell)) (object : Reading) (valid : IsValid object) (w : Walked) (done later : List Name) (f : Name) (q : Path)
+    → IsWalked base object done w → done ++ f ∷ later ≡ fragment_names object.children → is_bookkeeping q ≡ false → AreDistinct (site_names (w.sites ++ site f q ∷ []))
+sites_apart base fixups object valid w done later f q h all plain =
+    let next = walked_more base object fixups valid done later w f q h all plain in
+    apart object valid (landed_on base object w f q).sites (done ++ f ∷ []) later next.named (append_assoc done (f ∷ []) later ∙ all)
+
 -- what is known behind it
 pub known_behind : (base object : Reading) (w : Walked) (f : Name) (q : Path) (a : Known) → IsKnown base (with_places base (landings object (site f q)) w.given) (landed_paths object w.sites ++ map (λ (n : Placed). n.path) (landings object (site f q))) a
     → IsKnown base (landed_on base object w f q).given (landed_paths object (landed_on base object w f q).sites) a

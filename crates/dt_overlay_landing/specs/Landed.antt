@@ -6,7 +6,7 @@ use Rattle.dt_model.specs.Merged.{Site}
 use Rattle.dt_overlay_laws.specs.Steps.{land_fragments, land_node, MayLandFragments, MayLandNode, FullAtFragments, FullAtNode}
 use Rattle.dt_overlay_laws.specs.Writing.{landed_property}
 use Rattle.dt_overlay_object.specs.Objects.{Seen, writes_of}
-use Rattle.dt_overlay_object.specs.Plans.{at_node}
+use Rattle.dt_overlay_base.specs.NodeNumbers.{at_node}
 use Rattle.dt_overlay_object.specs.declared.object.Object.{Object}
 use Rattle.dt_overlay_object.specs.declared.kept.ObjectFragment.{ObjectFragment}
 use Rattle.dt_overlay_landing.specs.declared.landing.LandingNode.{LandingNode}

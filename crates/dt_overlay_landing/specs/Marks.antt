@@ -9,7 +9,7 @@ use Rattle.dt_overlay_model.specs.Walk.{is_target, target_label}
 use Rattle.dt_overlay_laws.specs.Objects.{SymbolHasNumber}
 use Rattle.dt_overlay_landing.specs.declared.marks.TargetMark.{TargetMark}
 use Rattle.dt_overlay_landing.specs.declared.marks.TargetMark.TheVariants.{Own, Label}
-use Rattle.dt_overlay_object.specs.Plans.{at_node}
+use Rattle.dt_overlay_base.specs.NodeNumbers.{at_node}
 use Rattle.dt_overlay_object.specs.declared.kept.Write.{Write}
 use Rattle.dt_trees.specs.Placed.{PlacedTree, reading_of, IsAt}
 

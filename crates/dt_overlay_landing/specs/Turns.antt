@@ -1,19 +1,19 @@
 -- What is known when a fragment's turn comes.
-use Rattle.std.specs.Prelude.{◌≡◌, ◌<◌, ◌≤◌, ℕ, true, List, [], ◌∷◌, ◌++◌, length, take, map, Option, Some}
+use Rattle.std.specs.Prelude.{◌≡◌, ◌<◌, ◌≤◌, ℕ, true, false, List, [], ◌++◌, ◌∷◌, length, take, map, Option, Some, None}
 use Rattle.dt_model.specs.Limits.{most_names}
 use Rattle.dt_model.specs.Lists.{IsIn}
 use Rattle.std.specs.List.{AllByRecursion, list_any}
 use Rattle.dt_model.specs.Names.{Name, IsNodeName}
-use Rattle.dt_model.specs.Numbers.{number_in}
+use Rattle.dt_model.specs.Numbers.{number_in, is_brought}
 use Rattle.dt_model.specs.Path.{Path}
-use Rattle.dt_model.specs.Tree.{Reading, Placed, preorder, stands_in}
+use Rattle.dt_model.specs.Tree.{Reading, stands_in}
 use Rattle.dt_model.specs.Merged.{Site}
 use Rattle.dt_model.specs.Merged as merged
 use Rattle.dt_model.specs.Object.{Cell, fragment_names, local_cells}
 use Rattle.dt_model.specs.Valid.{IsValid}
 use Rattle.dt_names.specs.declared.fault.FaultKind.{FaultKind}
 use Rattle.dt_names.specs.declared.fault.FaultKind.TheVariants.{Limit}
-use Rattle.dt_overlay_model.specs.Walk.{Walked, nothing_walked, site, landings, landed_on, named_node, new_numbers, target_label, is_target}
+use Rattle.dt_overlay_model.specs.Walk.{Walked, nothing_walked, site, landings, landed_on, named_node, number_there, new_numbers, target_label, is_target}
 use Rattle.dt_overlay_laws.specs.Landings.{target_in, MayAllLand, AreSited, HasNoSite, WhyNoSite}
 use Rattle.dt_overlay_object.specs.declared.kept.ObjectFragment.{ObjectFragment}
 use Rattle.dt_overlay_landing.specs.declared.marks.TargetMark.{TargetMark}
@@ -22,9 +22,34 @@ use Rattle.dt_overlay_object.specs.declared.landing.Landing.{Landing}
 use Rattle.dt_overlay_object.specs.declared.object.Object.{Object}
 use Rattle.dt_overlay_base.specs.Known.{Known, IsKnown, landed_paths}
 use Rattle.dt_overlay_landing.specs.Marks.{AreMarked, IsMark}
-use Rattle.dt_overlay_object.specs.Plans.{at_node, AreBroughtBy, AreContents, IsFragmentOf}
+use Rattle.dt_overlay_base.specs.NodeNumbers.{IsNumbered, AreNumbers, NumbersMore, has_phandle_at, paths_in}
+use Rattle.dt_overlay_object.specs.Plans.{AreBroughtBy, AreContents, IsFragmentOf}
 use Rattle.dt_overlay_object.specs.Stages.{IsReadFor}
-use Rattle.dt_trees.specs.Placed.{PlacedTree, reading_of, path_at, below_at, IsAt}
+use Rattle.dt_trees.specs.Placed.{PlacedTree, reading_of}
+
+-- ---- numbers
+
+-- These numbers of nodes fit those of the places so far: a node with a `phandle` that has landed has the number of its place, if that has one; a node
+-- without has none.
+pub record FitSoFar (base : Reading) (t : PlacedTree) (w : Walked) (numbers : List (Path × ℕ)) : Type 0 where
+  pub keyed : (p q : Path) (n : ℕ) → has_phandle_at t p ≡ true → merged.landing w.sites p ≡ Some q → number_there base w.given q ≡ Some n → number_in numbers p ≡ Some n
+  pub bare : (p : Path) → has_phandle_at t p ≡ false → number_in numbers p ≡ None
+
+-- the nodes of the object that these fragments bring have their numbers in a table, and none has another one
+pub record AreNumberedBy (t : PlacedTree) (done : List Name) (entries : List (ℕ × ℕ)) (numbers : List (Path × ℕ)) : Type 0 where
+  pub sound : AreNumbers t numbers entries
+  pub own : (p : Path) → stands_in (reading_of t) p ≡ true → is_brought done p ≡ true → IsNumbered t numbers entries p
+
+-- so it is whatever numbers of nodes fit
+abbrev pub AreNumberedSoFar : Reading → PlacedTree → Walked → List Name → List (ℕ × ℕ) → Type 0
+AreNumberedSoFar base t w done entries = (numbers : List (Path × ℕ)) → FitSoFar base t w numbers → AreNumberedBy t done entries numbers
+
+-- a fragment has landed on q: its nodes have their numbers besides
+abbrev pub NumbersFragment : Reading → PlacedTree → Walked → Name → Path → ℕ → Known → Known → Type 0
+NumbersFragment base t w f q k old new = (numbers : List (Path × ℕ)) → FitSoFar base t (landed_on base (reading_of t) w f q) numbers → AreNumbers t numbers old.nodes
+    → NumbersMore t numbers (paths_in t k) old.nodes new.nodes
+
+-- ---- turns
 
 -- a turn: the cells that wait for labels, the names of the fragments that have sites and of those behind them, and what they have brought
 pub record Turn : Type 0 where
@@ -42,6 +67,7 @@ pub record IsTurnIn (base : Reading) (o : PlacedTree) (b : Brought) (marks : Lis
   pub sites : landing.sites.items ≡ map (λ (x : Site). x.at) t.walked.sites
   pub good : AllByRecursion (λ q. AllByRecursion IsNodeName q) landing.sites.items
   pub known : IsKnown base t.walked.given (landed_paths (reading_of o) t.walked.sites) landing.places
+  pub numbered : AreNumberedSoFar base o t.walked t.done landing.places.nodes
 
 abbrev pub IsTurn : {V : Type 0} → (V → PlacedTree) → Reading → Object V → List (ℕ × TargetMark) → Landing → Turn → Type 0
 IsTurn tree base object marks landing t = IsTurnIn base (tree object.tree.now) object.brought marks landing t
@@ -71,36 +97,12 @@ pub record IsSitedOn (base : Reading) (fixups : List (Name × Cell)) (object : R
   pub may : MayAllLand (landings object (site f q))
   pub known : IsKnown base (landed_on base object w f q).given (landed_paths object (landed_on base object w f q).sites) a
 
--- all fragments have sites, and what is known is what they bring
-pub record HasAllSites (base : Reading) (fixups : List (Name × Cell)) (object : Reading) (landing : Landing) : Type 0 where
+-- all fragments have sites, and each node that they bring has its number
+pub record HasAllSites (base : Reading) (fixups : List (Name × Cell)) (t : PlacedTree) (landing : Landing) : Type 0 where
   pub end : Walked
-  pub sited : AreSited base object fixups nothing_walked (fragment_names object.children) end
+  pub sited : AreSited base (reading_of t) fixups nothing_walked (fragment_names (reading_of t).children) end
   pub sites : landing.sites.items ≡ map (λ (x : Site). x.at) end.sites
-  pub known : IsKnown base end.given (landed_paths object end.sites) landing.places
-
--- ---- numbers
-
--- the node of the path has its number in the table
-abbrev pub IsNumbered : PlacedTree → List (Path × ℕ) → List (ℕ × ℕ) → Path → Type 0
-IsNumbered t numbers entries p = (k : ℕ) → IsAt t p k → at_node entries k ≡ number_in numbers p
-
--- each number in the table is that of its node
-abbrev pub AreNumbers : PlacedTree → List (Path × ℕ) → List (ℕ × ℕ) → Type 0
-AreNumbers t numbers entries = (p : Path) (k n : ℕ) → IsAt t p k → at_node entries k ≡ Some n → number_in numbers p ≡ Some n
-
--- the nodes of these paths have their numbers in the table besides
-pub record NumbersMore (t : PlacedTree) (numbers : List (Path × ℕ)) (paths : List Path) (old new : List (ℕ × ℕ)) : Type 0 where
-  pub sound : AreNumbers t numbers new
-  pub own : (p : Path) → IsIn p paths → IsNumbered t numbers new p
-  pub kept : (p : Path) → IsNumbered t numbers old p → IsNumbered t numbers new p
-
--- the nodes of these paths get their numbers
-abbrev pub PutsNumbers : PlacedTree → List (Path × ℕ) → List Path → Brought → Brought → Type 0
-PutsNumbers t numbers paths old new = NumbersMore t numbers paths old.numbers.entries new.numbers.entries
-
--- the paths of a node and of those below it
-abbrev pub paths_in : PlacedTree → ℕ → List Path
-paths_in t k = path_at t k ∷ map (λ (n : Placed). n.path) (preorder (path_at t k) (below_at t (path_at t k)))
+  pub numbered : (p : Path) → IsNumbered t (new_numbers base (reading_of t) end) landing.places.nodes p
 
 -- ---- premises that clauses share
 
@@ -126,19 +128,10 @@ abbrev pub WhereBrought : PlacedTree → Brought → List Path → (List Site �
 WhereBrought t b paths P = (found : List Site) → AreContents t (fragment_names (reading_of t).children) b.contents.entries
     → map (λ (x : Site). x.fragment) found ≡ take (length found) (fragment_names (reading_of t).children) → paths ≡ map (λ (x : Site). x.at) found → P found
 
--- what holds of the new numbers of nodes where all fragments have sites
-abbrev pub WhereSited : Reading → PlacedTree → Landing → (List (Path × ℕ) → Type 0) → Type 0
-WhereSited base t landing P =
-    (fixups : List (Name × Cell)) (is : HasAllSites base fixups (reading_of t) landing) → P (new_numbers base (reading_of t) is.end)
-
--- what holds of the new numbers of nodes, where each number in the table is one of them
-abbrev pub WhereNumbered : Reading → PlacedTree → Landing → Brought → (List (Path × ℕ) → Type 0) → Type 0
-WhereNumbered base t landing b P = WhereSited base t landing (λ numbers. AreNumbers t numbers b.numbers.entries → P numbers)
-
 -- what holds of an object that was read, and whose fragments have sites
 abbrev pub WhereReadSited : {V : Type 0} → (V → PlacedTree) → Reading → Object V → Landing → (Reading → List (Name × Cell) → Type 0) → Type 0
 WhereReadSited tree base object landing P =
-    (read : Reading) (is : IsReadFor tree base read object) → HasAllSites base is.fixups read landing → P read is.fixups
+    (read : Reading) (is : IsReadFor tree base read object) → HasAllSites base is.fixups (tree object.tree.now) landing → P read is.fixups
 
 -- what holds where it is known what has landed of an object on some sites
 abbrev pub WhereNoted : Reading → Known → (Reading → List Site → Type 0) → Type 0
@@ -152,6 +145,10 @@ target_at tree base object turn f = target_in base (reading_of (tree object.tree
 -- the fragment lands on this path, and these places are known then
 abbrev pub IsSitedAt : {V : Type 0} → (V → PlacedTree) → Reading → Object V → Turn → Name → Path → Known → Type 0
 IsSitedAt tree base object turn f q a = IsSitedOn base turn.fixups (reading_of (tree object.tree.now)) turn.walked f q a
+
+-- and the nodes of its content, which is k, have their numbers besides
+abbrev pub IsNumberedAt : {V : Type 0} → (V → PlacedTree) → Reading → Object V → Turn → Name → Path → ℕ → Known → Known → Type 0
+IsNumberedAt tree base object turn f q k old new = NumbersFragment base (tree object.tree.now) turn.walked f q k old new
 
 -- the fragment has no site, for this reason
 abbrev pub LacksSiteAt : {V : Type 0} → (V → PlacedTree) → Reading → Object V → Turn → Name → FaultKind → Type 0

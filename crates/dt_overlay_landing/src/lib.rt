@@ -3,7 +3,7 @@
 //!
 //! ```text
 //! find_sites(&tree, &object, &mut landing)?;      // of `/plugin/; &{/} { d { }; };`: the root
-//! number_all(&tree, &landing, &mut object)?;
+//! number_all(&mut landing, &mut object);
 //! renumber(&mut object);
 //! land_all(&mut tree, &object, &landing)?;        // /d is there
 //! set_symbols(&mut tree, &object, &mut landing)?;

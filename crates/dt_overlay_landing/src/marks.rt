@@ -2,7 +2,7 @@
 
 ghost use Rattle.std.specs.Prelude.{◌≡◌, ℕ, None, OnOk, IfOk};
 ghost use Rattle.dt_overlay_landing.specs.Marks.{with_own, with_labels};
-ghost use Rattle.dt_overlay_object.specs.Plans.{at_node, PutsAt};
+ghost use Rattle.dt_overlay_base.specs.NodeNumbers.{at_node, PutsAt};
 
 use dt_names::{NodeId, Seed};
 use dt_overlay_object::Write;

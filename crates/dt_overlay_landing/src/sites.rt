@@ -16,7 +16,7 @@ ghost use Rattle.dt_overlay_base.specs.Known.{kept_at, IsKnown};
 ghost use Rattle.dt_overlay_landing.specs.Marks.{AreMarked};
 ghost use Rattle.dt_overlay_object.specs.Plans.{AreBroughtBy, AreFragmentsOf};
 ghost use Rattle.dt_overlay_object.specs.Stages.{IsEmptyLanding, IsReadFor};
-ghost use Rattle.dt_overlay_landing.specs.Turns.{Turn, IsTurnOf, IsSitedAt, HasAllSites, IsTooDeep, LacksSite, LacksSiteAt};
+ghost use Rattle.dt_overlay_landing.specs.Turns.{Turn, IsTurnOf, IsSitedAt, IsNumberedAt, HasAllSites, IsTooDeep, LacksSite, LacksSiteAt};
 ghost use Rattle.dt_overlay_landing.specs.Turns.{WhereBrought, WhereMarked, WhereNoted, WhereTurn, WhereTurnOf, node_marked, target_at};
 ghost use Rattle.dt_overlay_landing.specs.declared.marks.TargetMark.{TargetMark};
 ghost use Rattle.dt_names.specs.Fault.{IsNoMemory, IsMemoryOr};
@@ -222,6 +222,8 @@ fn find_site<'o, T: Target, V: TreeView>(
     requires { (turn : Turn) × IsTurnOf V.tree (T.reading target.now) object.now marks.now.entries landing.old fragment.now turn }
     ensures found { WhereTurnOf V.tree (T.reading target.now) object.now marks.now.entries landing.old fragment.now (λ turn name.
         IfOk result (λ path. IsSitedAt V.tree (T.reading target.now) object.now turn name path landing.new.places)) }
+    ensures numbered { WhereTurnOf V.tree (T.reading target.now) object.now marks.now.entries landing.old fragment.now (λ turn name. IfOk result
+        (λ path. IsNumberedAt V.tree (T.reading target.now) object.now turn name path fragment.now.content landing.old.places landing.new.places)) }
     ensures kept { OnOk result (landing.new.sites ≡ landing.old.sites) }
     ensures named { IfOk result (λ path. AllByRecursion IsNodeName path) }
     ensures refused { WhereTurnOf V.tree (T.reading target.now) object.now marks.now.entries landing.old fragment.now (λ turn name.
@@ -258,7 +260,7 @@ fn find_each_site<'o, T: Target, V: TreeView>(
         (fragment_names (reading_of (V.tree object.now.tree.now)).children) }
     requires empty { IsEmptyLanding landing.old }
     ensures found { (fixups : List (Name × Cell)) → AreMarked (T.reading target.now) fixups (V.tree object.now.tree.now) marks.now.entries →
-        OnOk result (HasAllSites (T.reading target.now) fixups (reading_of (V.tree object.now.tree.now)) landing.new) }
+        OnOk result (HasAllSites (T.reading target.now) fixups (V.tree object.now.tree.now) landing.new) }
     ensures refused { (fixups : List (Name × Cell)) → AreMarked (T.reading target.now) fixups (V.tree object.now.tree.now) marks.now.entries →
         IfErr result (IsMemoryOr (LacksSite (T.reading target.now) (reading_of (V.tree object.now.tree.now)) fixups)) }
 {
@@ -286,7 +288,7 @@ pub fn find_sites<'o, T: Target, V: TreeView>(
     requires read { (read : Reading) × IsReadFor V.tree (T.reading target.now) read object.now }
     requires empty { IsEmptyLanding landing.old }
     ensures found { (read : Reading) (is : IsReadFor V.tree (T.reading target.now) read object.now) →
-        OnOk result (HasAllSites (T.reading target.now) is.fixups read landing.new) }
+        OnOk result (HasAllSites (T.reading target.now) is.fixups (V.tree object.now.tree.now) landing.new) }
     ensures refused { (read : Reading) (is : IsReadFor V.tree (T.reading target.now) read object.now) →
         IfErr result (IsMemoryOr (LacksSite (T.reading target.now) read is.fixups)) }
 {

@@ -12,7 +12,8 @@ use Rattle.dt_model.proofs.Tests.{any_from, any_here, bytes_eq_true}
 use Rattle.dt_model_laws.proofs.Lands.{below-append}
 use Rattle.dt_resolve_model.specs.Above.{front}
 use Rattle.dt_overlay_object.specs.declared.kept.ObjectFragment.{ObjectFragment}
-use Rattle.dt_overlay_object.specs.Plans.{at_node, AreContents, AreFragmentsOf, IsFragmentOf, PutsAt}
+use Rattle.dt_overlay_base.specs.NodeNumbers.{at_node, PutsAt}
+use Rattle.dt_overlay_object.specs.Plans.{AreContents, AreFragmentsOf, IsFragmentOf}
 use Rattle.dt_overlay_object.proofs.Elements.{get_in, in_get, one_index}
 use Rattle.dt_trees.specs.Placed.{PlacedTree, place_of, path_at, last_name, HasPlacesApart, IsNode}
 use Rattle.dt_trees.specs.Views.{IsAbove}

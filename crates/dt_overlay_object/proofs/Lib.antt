@@ -1,4 +1,3 @@
 pub mod Elements
 pub mod Contents
 pub mod OwnNumbers
-pub mod Results

@@ -1,7 +1,6 @@
 -- What the code keeps of an object while it is applied, and what that means.
-use Rattle.std.specs.Prelude.{◌≡◌, ℕ, List, [], ◌∷◌, ◌++◌, map, nat_eq, cond, slice_get, Option, Some, None, true, option_and_then, unwrap_or, if◌then◌else◌, codes}
+use Rattle.std.specs.Prelude.{◌≡◌, ℕ, List, [], ◌∷◌, ◌++◌, map, slice_get, Option, Some, None, true, option_and_then, unwrap_or, if◌then◌else◌, codes}
 use Rattle.std.specs.List.{AllByRecursion, flat_map}
-use Rattle.std.specs.Map.{lookup}
 use Rattle.dt_model.specs.Names.{Name}
 use Rattle.dt_model.specs.Path.{Path}
 use Rattle.dt_model.specs.Tree.{Property, Reading, stands_in, value_in, nodes_of}
@@ -10,6 +9,7 @@ use Rattle.dt_model.specs.Object.{Cell, HasFixups, fragment_names, local_cells, 
 use Rattle.dt_model.specs.Numbers.{number_in, is_brought}
 use Rattle.dt_model.specs.Applied.{Write, label_write, local_write, node_named, node_numbered, number_at}
 use Rattle.dt_trees.specs.Placed.{PlacedTree, reading_of, IsAt}
+use Rattle.dt_overlay_base.specs.NodeNumbers.{at_node, IsNumbered}
 use Rattle.dt_overlay_object.specs.declared.kept.ObjectFragment.{ObjectFragment}
 use Rattle.dt_overlay_object.specs.declared.kept.ObjectTarget.{ObjectTarget}
 use Rattle.dt_overlay_object.specs.declared.kept.ObjectTarget.TheVariants.{Number, Path as TargetPath}
@@ -81,14 +81,6 @@ pub record ListsLocalFixups (t : PlacedTree) (numbers : List (Path × ℕ)) (old
 
 -- ---- the nodes that are brought
 
--- what a table has for a node
-abbrev pub at_node : {A : Type 0} → List (ℕ × A) → ℕ → Option A
-at_node entries k = lookup (nat_eq k) entries
-
--- the new table is the old one, with this for a node
-abbrev pub PutsAt : {A : Type 0} → List (ℕ × A) → List (ℕ × A) → ℕ → A → Type 0
-PutsAt old new node x = (k : ℕ) → at_node new k ≡ cond (nat_eq node k) (Some x) (at_node old k)
-
 -- the table has the contents of the fragments, each with its fragment's index
 pub record AreContents (t : PlacedTree) (names : List Name) (entries : List (ℕ × ℕ)) : Type 0 where
   pub has : (k i : ℕ) → at_node entries k ≡ Some i → (f : Name) × (slice_get names i ≡ Some f) × IsAt t (content f) k
@@ -96,7 +88,7 @@ pub record AreContents (t : PlacedTree) (names : List Name) (entries : List (ℕ
 
 pub record AreBrought (t : PlacedTree) (names : List Name) (numbers : List (Path × ℕ)) (b : Brought) : Type 0 where
   pub contents : AreContents t names b.contents.entries
-  pub numbered : (p : Path) (k : ℕ) → IsAt t p k → at_node b.numbers.entries k ≡ number_in numbers p
+  pub numbered : (p : Path) → IsNumbered t numbers b.numbers.entries p
 
 -- the nodes that the object's fragments bring have these numbers
 abbrev pub AreBroughtBy : PlacedTree → List (Path × ℕ) → Brought → Type 0

@@ -20,6 +20,7 @@ use Rattle.dt_trees.specs.Placed.{PlacedTree}
 pub record IsEmptyLanding (l : Landing) : Type 0 where
   pub sites : l.sites.items ≡ []
   pub places : (base : Reading) → IsKnown base [] [] l.places
+  pub nodes : l.places.nodes ≡ []
 
 -- an object that lists these cells for labels, with the writes that these new numbers of its nodes make
 abbrev pub seen_with : (base object : Reading) → List (Name × Cell) → (numbers : List (Path × ℕ)) → Seen

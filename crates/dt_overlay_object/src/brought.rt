@@ -4,7 +4,8 @@ ghost use Rattle.std.specs.Prelude.{◌≡◌, [], List, OnOk};
 ghost use Rattle.dt_model.specs.Names.{Name};
 ghost use Rattle.dt_model.specs.Numbers.{is_brought};
 ghost use Rattle.dt_model.specs.Object.{fragment_names};
-ghost use Rattle.dt_overlay_object.specs.Plans.{at_node, AreContents, AreFragmentsOf, AreBroughtBy, IsUnbrought, PutsAt};
+ghost use Rattle.dt_overlay_base.specs.NodeNumbers.{at_node, PutsAt};
+ghost use Rattle.dt_overlay_object.specs.Plans.{AreContents, AreFragmentsOf, AreBroughtBy, IsUnbrought};
 ghost use Rattle.dt_trees.specs.Placed.{path_at, reading_of, IsNode};
 
 use crate::kept::ObjectFragment;
@@ -45,19 +46,6 @@ impl Brought {
         ensures numbers { self.new.numbers ≡ self.old.numbers }
     {
         self.contents.insert(content, fragment)?;
-        Ok(())
-    }
-
-    /// A node gets a number.
-    ///
-    /// # Errors
-    ///
-    /// Where memory is refused.
-    pub fn put_number(&mut self, node: NodeId, number: u32) -> Result<(), AllocError>
-        ensures numbers { OnOk result (PutsAt self.old.numbers.entries self.new.numbers.entries node number) }
-        ensures contents { self.new.contents ≡ self.old.contents }
-    {
-        self.numbers.insert(node, number)?;
         Ok(())
     }
 

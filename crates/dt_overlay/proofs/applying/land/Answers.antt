@@ -1,7 +1,7 @@
 use Rattle.std.proofs.Common.{refl}
 use Rattle.std.proofs.lemmas.Result.{err_from_is_err_and}
 use Rattle.dt_overlay.proofs.CarriedOut.{seen_of, sited_on, may_land, shallow, carried, told_landing, told_symbols}
-use Rattle.dt_overlay_object.proofs.Results.{on_ok, if_err}
+use Rattle.dt_overlay_base.proofs.Results.{on_ok, if_err}
 use Rattle.dt_model.specs.Applied.{landed_symbols}
 use Rattle.dt_overlay_base.specs.Targets.{HasNoRoom}
 use Rattle.dt_overlay_base.proofs.Rooms.{behind}

@@ -4,6 +4,7 @@ use Rattle.dt_model.specs.Tree.{Forest, preorder}
 use Rattle.dt_trees.specs.Placed.{path_at, below_in}
 use Rattle.dt_trees.proofs.Walked.{IsWalked, count_left}
 use Rattle.dt_overlay_base.proofs.LooksLanded.{AreLeft}
+use Rattle.dt_overlay_base.proofs.NodesNumbered.{LeftNumbers}
 use Rattle.dt_overlay_base.proofs.looks.+notes.Given as goal
 
 abbrev pub decreases-note_child : goal.decreases-note_child
@@ -19,6 +20,7 @@ invariant-note_children-loop-next g l =
       forest : Forest;
       walked : IsWalked t (path_at t l.node) l.next forest;
       left : AreLeft (g.T.Target.reading l.target) (preorder l.path (below_in t l.node)) (preorder l.path forest) l.initial.places l.places;
+      numbered : LeftNumbers (g.T.Target.reading l.target) t l.node l.path (preorder l.path (below_in t l.node)) forest l.initial.places l.places;
     }
 
 abbrev pub decreases-note_children-loop-next : goal.decreases-note_children-loop-next

@@ -1,6 +1,6 @@
 use Rattle.std.proofs.Common.{◌∙◌, []}
 use Rattle.dt_overlay_base.specs.Targets.{HasNoRoom}
-use Rattle.dt_overlay_object.proofs.Results.{on_ok, if_err}
+use Rattle.dt_overlay_base.proofs.Results.{on_ok, if_err}
 use Rattle.dt_overlay_landing.specs.Landed.{FullAtSeen}
 use Rattle.dt_overlay_landing.proofs.LandingNodes.{want_whole}
 use Rattle.dt_overlay_landing.proofs.SeenObjects.{nodes_there, own_may, labels_may, landed_is, may_land, landing_stuck}

@@ -1,6 +1,6 @@
 -- The writes that are left give the marks of all.
 use Rattle.std.proofs.Common.{◌≡◌, ℕ, drop}
-use Rattle.dt_overlay_object.specs.Plans.{at_node}
+use Rattle.dt_overlay_base.specs.NodeNumbers.{at_node}
 use Rattle.dt_overlay_landing.specs.Marks.{with_labels}
 use Rattle.dt_overlay_landing.proofs.marks.mark_labels.Given as goal
 

@@ -9,7 +9,7 @@ use Rattle.dt_model.specs.Object.{fragment_names}
 use Rattle.dt_model.specs.Path.{Path}
 use Rattle.dt_overlay_base.proofs.LooksNames.{node_named}
 use Rattle.dt_overlay_model.proofs.Brought.{fragments_distinct}
-use Rattle.dt_overlay_object.specs.Plans.{at_node}
+use Rattle.dt_overlay_base.specs.NodeNumbers.{at_node}
 use Rattle.dt_overlay_object.proofs.Contents.{path_above}
 use Rattle.dt_overlay_object.proofs.Elements.{at_index}
 use Rattle.dt_overlay_landing.proofs.SitesLanding.{landing_here, landing_later, landing_above, pushed_deep, root_nowhere, too_deep}

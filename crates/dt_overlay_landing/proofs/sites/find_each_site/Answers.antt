@@ -56,8 +56,10 @@ loop-fragment-preserved g c fixups marked =
     let i = c.loop-fragment.fragment-index in
     let so_far = c.loop-fragment.invariant fixups marked in
     let first = drop_more xs i (record { node = 0; content = 0; target = Number }) c.loop-fragment-test.true in
-    found_on base fixups o c.args.object.now.brought xs c.args.marks.now.entries i c.loop-fragment.landing so_far _ first c.in_ok-path.path c.in_ok-path.ensures.named (record c.find_site.new.landing { sites = c.push.new.self })
+    found_on base fixups o c.args.object.now.brought xs c.args.marks.now.entries i c.loop-fragment.landing so_far _ first c.validity-2.ensures.places c.in_ok-path.path c.in_ok-path.ensures.named (record c.find_site.new.landing { sites = c.push.new.self })
     (c.in_ok-path.ensures.found (this base fixups o c.args.object.now.brought xs c.args.marks.now.entries i c.loop-fragment.landing so_far _ first)
+    (turn_of base fixups o c.args.object.now.brought xs c.args.marks.now.entries i c.loop-fragment.landing so_far _ first g.V.TreeView.tree c.args.object.now refl refl))
+    (c.in_ok-path.ensures.numbered (this base fixups o c.args.object.now.brought xs c.args.marks.now.entries i c.loop-fragment.landing so_far _ first)
     (turn_of base fixups o c.args.object.now.brought xs c.args.marks.now.entries i c.loop-fragment.landing so_far _ first g.V.TreeView.tree c.args.object.now refl refl))
     (c.in_ok-push.ensures.items ∙ ap (λ sites. sites.items ++ c.in_ok-path.path ∷ []) c.in_ok-path.ensures.kept)
 
@@ -66,4 +68,4 @@ returns-clause-found g c fixups marked =
     let xs = c.deref-fragment-items.result.now in
     let i = c.loop-fragment.fragment-index in
     found_ended (g.T.Target.reading c.args.target.now) fixups (g.V.TreeView.tree c.args.object.now.tree.now) c.args.object.now.brought xs c.args.marks.now.entries i c.loop-fragment.landing (c.loop-fragment.invariant fixups marked)
-    (drop_all i xs c.loop-fragment-test.false)
+    c.validity-2.ensures.valid c.validity.ensures.within c.validity-2.ensures.within (drop_all i xs c.loop-fragment-test.false)

@@ -8,7 +8,8 @@ use Rattle.dt_names.specs.declared.fault.FaultKind.TheVariants.{ReservedPlace}
 use Rattle.dt_overlay_model.specs.Walk.{site, landings, with_places}
 use Rattle.dt_overlay_laws.specs.Landings.{target_in, MayAllLand, IsStuck}
 use Rattle.dt_overlay_base.specs.Known.{IsKnown, HasRoom, landed_paths}
-use Rattle.dt_overlay_landing.proofs.SitesTurns.{turn_walked, content_is, room_for, known_behind}
+use Rattle.dt_overlay_landing.proofs.NumbersLanded.{fit_content}
+use Rattle.dt_overlay_landing.proofs.SitesTurns.{turn_walked, content_is, room_for, sites_apart, known_behind}
 use Rattle.dt_trees.specs.Placed.{reading_of}
 use Rattle.dt_trees.proofs.NodePlaces.{at_node}
 use Rattle.dt_overlay_landing.proofs.sites.find_site.Goals as goal
@@ -80,3 +81,16 @@ returns-clause-found g c turn t =
           (subst (λ (ns : List Placed). IsKnown base (with_places base ns turn.walked.given) (landed_paths (reading_of a) turn.walked.sites ++ map (λ (n : Placed). n.path) ns) c.note_content.new.places) (sym same)
           (c.in_ok-note_content.ensures.known turn.walked.given (landed_paths (reading_of a) turn.walked.sites) t.turn.known));
     }
+
+pub returns-clause-numbered : goal.returns-clause-numbered
+returns-clause-numbered g c turn t numbers fit sound =
+    let base = g.T.Target.reading c.args.target.now in
+    let a = g.V.TreeView.tree c.args.object.now.tree.now in
+    let q = c.in-Some.path in
+    let k = c.args.fragment.now.content in
+    let w = turn.walked in
+    let walked = turn_walked base a c.args.object.now.brought c.validity-2.ensures.valid c.args.marks.now.entries c.args.landing.now turn t.turn in
+    let distinct = sites_apart base turn.fixups (reading_of a) c.validity-2.ensures.valid w turn.done t.behind t.name q walked
+    (ap (λ (fs : List Name). turn.done ++ fs) (sym t.next) ∙ sym t.turn.names) (sym c.is_bookkeeping.ensures ∙ c.if-is_bookkeeping.false) in
+    c.in_ok-note_content.ensures.numbered w.given (landed_paths (reading_of a) w.sites) t.turn.known numbers
+    (fit_content base a w t.name q numbers fit k c.validity-2.ensures.places t.fragment.content distinct) sound

@@ -1,8 +1,8 @@
 use Rattle.std.proofs.Common.{subst}
-use Rattle.std.specs.Prelude.{OnOk, IfErr}
+use Rattle.std.specs.Prelude.{IfErr}
 use Rattle.dt_model.specs.Tree.{Reading}
 use Rattle.dt_names.specs.Fault.{IsMemoryOr}
-use Rattle.dt_overlay_landing.specs.Turns.{HasAllSites, LacksSite}
+use Rattle.dt_overlay_landing.specs.Turns.{LacksSite}
 use Rattle.dt_overlay_landing.proofs.MarksMade.{marks_read}
 use Rattle.dt_overlay_landing.proofs.sites.find_sites.Goals as goal
 
@@ -19,7 +19,7 @@ returns-clause-found g c object read =
     let base = g.T.Target.reading c.args.target.now in
     let marked = marks_read g.V.TreeView.tree base object c.args.object.now read c.validity-2.ensures.places c.validity.ensures.cells
     c.deref.result.now c.deref-2.result.now c.in_ok-marks.marks.entries c.deref.ensures.value c.deref-2.ensures.value c.in_ok-marks.ensures in
-    subst (λ (r : Reading). OnOk c.find_each_site.result (HasAllSites base read.fixups r c.find_each_site.new.landing)) read.seen.reads (c.find_each_site.ensures.found read.fixups marked)
+    c.find_each_site.ensures.found read.fixups marked
 
 pub returns-clause-refused : goal.returns-clause-refused
 returns-clause-refused g c object read =

@@ -11,7 +11,8 @@ use Rattle.dt_overlay_model.specs.Walk.{target_of, named_node, target_label, is_
 use Rattle.dt_overlay_laws.specs.Landings.{target_in}
 use Rattle.dt_overlay_laws.specs.Objects.{HoldsNumber}
 use Rattle.dt_overlay_landing.specs.Marks.{IsMark}
-use Rattle.dt_overlay_object.specs.Plans.{at_node, IsTargetOf}
+use Rattle.dt_overlay_base.specs.NodeNumbers.{at_node}
+use Rattle.dt_overlay_object.specs.Plans.{IsTargetOf}
 use Rattle.dt_overlay_object.specs.declared.kept.ObjectTarget.TheVariants.{Path as TargetPath}
 use Rattle.dt_overlay_landing.proofs.SitesTurns.{turn_landings}
 use Rattle.dt_trees.specs.Placed.{path_at, reading_of}

@@ -2,7 +2,7 @@ use Rattle.std.proofs.Common.{get_or, refl, ap, ◌∙◌, arith}
 use Rattle.dt_model.specs.Object.{fragment_names}
 use Rattle.dt_overlay_model.proofs.Brought.{fragments_distinct}
 use Rattle.dt_trees.specs.Placed.{reading_of}
-use Rattle.dt_overlay_object.specs.Plans.{at_node}
+use Rattle.dt_overlay_base.specs.NodeNumbers.{at_node}
 use Rattle.dt_overlay_object.proofs.Contents.{so_far_begun, so_far_more, all_contents}
 use Rattle.dt_overlay_object.specs.declared.kept.ObjectTarget.TheVariants.{Number}
 use Rattle.std.proofs.lemmas.Option.{slice_get-get_or}

@@ -3,7 +3,7 @@ use Rattle.std.proofs.lemmas.Result.{err_from_is_err_and}
 use Rattle.dt_model.specs.Object.{fragment_names}
 use Rattle.dt_overlay_read.proofs.ReadObjects.{read_for}
 use Rattle.dt_overlay_read.proofs.Told.{all_held, label_told, local_told, symbol_told}
-use Rattle.dt_overlay_object.proofs.Results.{on_ok, if_err}
+use Rattle.dt_overlay_base.proofs.Results.{on_ok, if_err}
 use Rattle.dt_overlay_object.specs.Plans.{ListsFixups, ListsLocalFixups, ListsSymbols}
 use Rattle.dt_overlay_object.specs.declared.kept.Symbol.{Symbol}
 use Rattle.dt_overlay_object.specs.declared.kept.Write.{Write}

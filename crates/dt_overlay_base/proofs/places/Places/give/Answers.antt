@@ -7,8 +7,8 @@ use Rattle.dt_overlay_base.specs.Known.{Known, IsKnown, IsNext}
 use Rattle.dt_overlay_base.proofs.PlacesKept.{kept_after, given_more}
 use Rattle.dt_overlay_base.proofs.places.Places.give.Goals as goal
 
-pub returns : goal.returns
-returns c base given landed known there bare next =
+pub returns-clause-known : goal.returns-clause-known
+returns-clause-known c base given landed known there bare next =
     given_more base given landed _ (subst (IsKnown base given landed) (sym c.self.view_is) known) c.args.path.now c.requires c.args.number there bare
     (subst (λ (a : Known). IsNext (numbers_of base) a.last c.args.number) (sym c.self.view_is) next) _
     (λ q named. kept_after c.self.inside.numbers c.insert.new.self c.in_ok-text.text (Some c.args.number) c.args.path.now q c.requires named c.in_ok-text.ensures c.in_ok-insert.ensures.updates)
