@@ -141,10 +141,12 @@ impl Places {
         Ok(())
     }
 
-    /// Hands out the numbers of the nodes. None is kept here.
+    /// Hands out the numbers of the nodes, once all that lands is known. All else is let go of, so that the landing has its memory.
     pub fn take_nodes(&mut self) -> HashMap<NodeId, u32, Seed>
         ensures { result.entries ≡ self.old.nodes }
     {
-        replace(&mut self.nodes, HashMap::with_hasher(self.alloc, self.seed))
+        let nothing = Places::new(self.alloc, self.seed);
+        let Places { nodes, .. } = replace(self, nothing);
+        nodes
     }
 }

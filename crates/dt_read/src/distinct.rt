@@ -20,7 +20,7 @@ use crate::cursor::Cursor;
 use crate::filter::{put, seems_to_hold};
 use crate::keys::{Key, Keys, Wanted};
 use crate::structure::Structure;
-use crate::token::Token;
+use crate::token::Tag;
 use dt_names::NodeId;
 use std::hash::{FoldHasher, Hash, Hasher};
 
@@ -132,6 +132,17 @@ pub(crate) fn are_distinct(
     true
 }
 
+/// Whether a node has no two properties, and so none of one name. The cursor is behind the node's BEGIN_NODE.
+fn has_no_two_properties(cursor: &Cursor<'_>) -> bool
+    ensures { OnTrue result (AreDistinct (property_names (left_by cursor.now).properties)) }
+{
+    let mut ahead = cursor.copy();
+    let Some((_, Tag::Property(_))) = ahead.next_tag() else {
+        return true;
+    };
+    !matches!(ahead.next_tag(), Some((_, Tag::Property(_))))
+}
+
 /// Whether the names of a node's properties differ. The cursor is behind the node's BEGIN_NODE.
 fn has_distinct_properties(
     cursor: &Cursor<'_>,
@@ -145,6 +156,9 @@ fn has_distinct_properties(
     ensures size { length words.new ≡ length words.old }
     ensures is { IsTrue result ↔ AreDistinct (property_names (left_by cursor.now).properties) }
 {
+    if has_no_two_properties(cursor) {
+        return true;
+    }
     let own = Keys::own(cursor.copy(), place);
     let count = own.copy().count();
     are_distinct(&own, seed, count, words, held)
@@ -163,8 +177,8 @@ fn have_distinct_properties(
     ensures is { IsTrue result ↔ AreDistinctInEach (marks_of structure.now ++ last_mark ∷ []) }
 {
     let mut cursor = structure.start();
-    while let Some((place, token)) = cursor.next() {
-        let begins = matches!(token, Token::BeginNode(_));
+    while let Some((place, tag)) = cursor.next_tag() {
+        let begins = matches!(tag, Tag::BeginNode(_));
         if begins && !has_distinct_properties(&cursor, place, seed, words, held) {
             return false;
         }

@@ -62,14 +62,24 @@ fn key_at<'a>(wanted: Wanted, open_nodes: &OpenNodes, token: Token<'a>) -> Optio
 }
 
 /// Whether a node's own keys end at a token.
-fn ends(wanted: Wanted, token: Token<'_>) -> bool
-    ensures { (place : ℕ) → result ≡ ends_at wanted (view_at place token.entry) }
+fn ends(token: Token<'_>) -> bool
+    ensures { (place : ℕ) → result ≡ ends_at Own (view_at place token.entry) }
 {
-    match (wanted, token) {
-        (Wanted::Own, Token::Property(_, _) | Token::Nop) => false,
-        (Wanted::Own, _) => true,
-        _ => false,
+    !matches!(token, Token::Property(_, _) | Token::Nop)
+}
+
+/// Reads a token, where a node's own keys don't end there.
+fn next_own<'a>(cursor: &mut Cursor<'a>) -> Option<(usize, Token<'a>)>
+    ensures next { MatchOption result (IsAtEnd Own cursor.old × (cursor.new ≡ cursor.old))
+        (λ found. (cursor.old ≡ view_at found.0 found.1 ∷ cursor.new) × (ends_at Own (view_at found.0 found.1) ≡ false)) }
+{
+    let mut ahead = cursor.copy();
+    let (place, token) = ahead.next()?;
+    if ends(token) {
+        return None;
     }
+    *cursor = ahead;
+    Some((place, token))
 }
 
 /// Reads a token, where the keys don't end there.
@@ -77,13 +87,10 @@ fn next_token<'a>(wanted: Wanted, cursor: &mut Cursor<'a>) -> Option<(usize, Tok
     ensures next { MatchOption result (IsAtEnd wanted cursor.old × (cursor.new ≡ cursor.old))
         (λ found. (cursor.old ≡ view_at found.0 found.1 ∷ cursor.new) × (ends_at wanted (view_at found.0 found.1) ≡ false)) }
 {
-    let mut ahead = cursor.copy();
-    let (place, token) = ahead.next()?;
-    if ends(wanted, token) {
-        return None;
+    match wanted {
+        Wanted::Own => next_own(cursor),
+        Wanted::Names | Wanted::Children | Wanted::Phandles => cursor.next(),
     }
-    *cursor = ahead;
-    Some((place, token))
 }
 
 /// Reads up to the next phandle, and keeps the open nodes.
