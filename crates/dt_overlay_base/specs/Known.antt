@@ -66,7 +66,11 @@ WhereKnown a P = (base : Reading) (given : List (Path × ℕ)) (landed : List Pa
 abbrev pub WhereKnownOf : Reading → Known → (List (Path × ℕ) → List Path → Type 0) → Type 0
 WhereKnownOf base a P = (given : List (Path × ℕ)) (landed : List Path) → IsKnown base given landed a → P given landed
 
--- the same, where these nodes have landed besides
+-- where something has landed on q, whose place got this number, if it got one
+abbrev pub WhereKnownAt : Reading → Known → Path → Option ℕ → (List (Path × ℕ) → List Path → Type 0) → Type 0
+WhereKnownAt base a q got P = (given : List (Path × ℕ)) (landed : List Path) → IsKnown base given landed a → IsIn q landed → got ≡ number_in given q → P given landed
+
+-- what is known, where these nodes have landed besides
 abbrev pub IsKnownBehind : Reading → List Placed → List (Path × ℕ) → List Path → Known → Type 0
 IsKnownBehind base nodes given landed a = IsKnown base (with_places base nodes given) (landed ++ map (λ (n : Placed). n.path) nodes) a
 

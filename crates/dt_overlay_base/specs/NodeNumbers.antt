@@ -1,13 +1,13 @@
 -- The numbers of an object's nodes that land, by its nodes.
-use Rattle.std.specs.Prelude.{◌≡◌, ℕ, Bool, true, false, List, ◌∷◌, ◌++◌, map, nat_eq, cond, Option, Some, None, is_some, codes}
+use Rattle.std.specs.Prelude.{◌≡◌, ℕ, Bool, true, false, List, [], ◌∷◌, ◌++◌, map, nat_eq, cond, Option, Some, None, is_some, codes}
 use Rattle.std.specs.Map.{lookup}
 use Rattle.dt_model.specs.Lists.{IsIn}
 use Rattle.dt_model.specs.Numbers.{number_in}
 use Rattle.dt_model.specs.Path.{Path}
 use Rattle.dt_model.specs.Tree.{Reading, Placed, preorder, value_in}
-use Rattle.dt_trees.specs.Placed.{PlacedTree, reading_of, path_at, below_in, IsAt}
+use Rattle.dt_trees.specs.Placed.{PlacedTree, reading_of, path_at, last_name, below_in, IsAt}
 use Rattle.dt_overlay_model.specs.Walk.{number_there, with_places}
-use Rattle.dt_overlay_base.specs.Known.{Known}
+use Rattle.dt_overlay_base.specs.Known.{Known, alone, content_at, placed}
 
 -- ---- tables by nodes
 
@@ -62,3 +62,17 @@ pub record FitBelow (base : Reading) (t : PlacedTree) (given : List (Path × ℕ
 abbrev pub NotesNumbers : Reading → PlacedTree → List Placed → ℕ → Path → List Path → List (Path × ℕ) → Known → Known → Type 0
 NotesNumbers base t landing k q paths given old new =
     (numbers : List (Path × ℕ)) → FitBelow base t (with_places base landing given) k q numbers → AreNumbers t numbers old.nodes → NumbersMore t numbers paths old.nodes new.nodes
+
+-- a node lands on q; so do the nodes below it, where it landed; and it and they
+abbrev pub NotesNode : Reading → PlacedTree → ℕ → Path → List (Path × ℕ) → Known → Known → Type 0
+NotesNode base t k q given old new = NotesNumbers base t (placed t k q ∷ []) k q (path_at t k ∷ []) given old new
+
+abbrev pub NotesBelow : Reading → PlacedTree → ℕ → Path → List (Path × ℕ) → Known → Known → Type 0
+NotesBelow base t k q given old new = NotesNumbers base t (preorder q (below_in t k)) k q (paths_below t k) given old new
+
+abbrev pub NotesContent : Reading → PlacedTree → ℕ → Path → List (Path × ℕ) → Known → Known → Type 0
+NotesContent base t k q given old new = NotesNumbers base t (content_at t k q) k q (paths_in t k) given old new
+
+-- a node lands below q, and those below it with it
+abbrev pub NotesChild : Reading → PlacedTree → ℕ → Path → List (Path × ℕ) → Known → Known → Type 0
+NotesChild base t k q given old new = NotesNumbers base t (preorder q (alone t k)) k (q ++ last_name (path_at t k) ∷ []) (paths_in t k) given old new

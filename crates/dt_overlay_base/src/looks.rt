@@ -1,17 +1,18 @@
 //! A look at where things land.
 
-ghost use Rattle.std.specs.Prelude.{◌≡◌, ◌≢◌, ◌≤◌, ◌∷◌, ◌++◌, [], false, None, Some, length, OnOk, IfOk, IfErr};
+ghost use Rattle.std.specs.Prelude.{◌≡◌, ◌≢◌, ◌≤◌, ◌∷◌, ℕ, List, [], false, Some, length, OnOk, IfOk, IfErr};
 ghost use Rattle.std.specs.List.{AllByRecursion};
 ghost use Rattle.dt_model.specs.Limits.{most_names};
 ghost use Rattle.dt_model.specs.Lists.{IsIn};
 ghost use Rattle.dt_model.specs.Names.{IsNodeName};
-ghost use Rattle.dt_model.specs.Path.{is_bookkeeping as is_bookkeeping_path};
+ghost use Rattle.dt_model.specs.Numbers.{number_in};
+ghost use Rattle.dt_model.specs.Path.{Path as Names, is_bookkeeping as is_bookkeeping_path};
 ghost use Rattle.dt_model.specs.Tree.{preorder};
-ghost use Rattle.dt_trees.specs.Placed.{path_at, last_name, below_in, IsNode};
+ghost use Rattle.dt_trees.specs.Placed.{path_at, below_in, IsNode};
 ghost use Rattle.dt_overlay_model.specs.Walk.{number_there as number_known, with_place};
 ghost use Rattle.dt_overlay_laws.specs.Landings.{MayLand, WhyNotLands, MayAllLand, IsStuck};
-ghost use Rattle.dt_overlay_base.specs.Known.{IsKnown, IsKnownBehind, WhereKnownOf, HasRoom, placed, alone, content_at};
-ghost use Rattle.dt_overlay_base.specs.NodeNumbers.{NotesNumbers, paths_below, paths_in};
+ghost use Rattle.dt_overlay_base.specs.Known.{IsKnown, IsKnownBehind, WhereKnownAt, WhereKnownOf, HasRoom, placed, alone, content_at};
+ghost use Rattle.dt_overlay_base.specs.NodeNumbers.{NotesBelow, NotesChild, NotesContent, NotesNode};
 ghost use Rattle.dt_names.specs.Fault.{IsNoMemory, IsMemoryOr};
 
 use crate::Target;
@@ -32,35 +33,34 @@ pub fn is_bookkeeping(path: &Path) -> bool
 }
 
 /// The number of the node at a place: the base's, or the one that the place got.
-fn number_there<T: Target>(target: &T, places: &Places, path: &Path) -> Result<Option<u32>, Fault>
-    requires named { AllByRecursion IsNodeName path.now }
-    ensures number { WhereKnownOf (T.reading target.now) places.now
-        (λ given _. IfOk result (λ number. number ≡ number_known (T.reading target.now) given path.now)) }
-    ensures refused { IfErr result IsNoMemory }
+fn number_there<T: Target>(target: &T, path: &Path, got: Option<u32>) -> Option<u32>
+    ensures { (given : List (Names × ℕ)) → got ≡ number_in given path.now → result ≡ number_known (T.reading target.now) given path.now }
 {
     target.validity();
     match target.prop(path, b"phandle".as_slice()) {
-        Some(value) => Ok(phandle_of(value)),
-        None => {
-            let number = places.number(path)?;
-            Ok(number)
-        }
+        Some(value) => phandle_of(value),
+        None => got,
     }
 }
 
-/// A node with a phandle lands on a place, which gets a number where it has none. Answers the place's number.
-fn number_place<T: Target>(target: &T, path: &Path, places: &mut Places) -> Result<u32, Fault>
+/// A node with a phandle lands on a place, which gets a number where it has none: the base has none there, and it got none. Answers its number.
+fn number_place<T: Target>(
+    target: &T,
+    path: &Path,
+    got: Option<u32>,
+    places: &mut Places,
+) -> Result<u32, Fault>
     requires named { AllByRecursion IsNodeName path.now }
     requires room { HasRoom (T.reading target.now) [] places.old }
-    ensures known { WhereKnownOf (T.reading target.now) places.old (λ given landed. IsIn path.now landed
-        → OnOk result (IsKnown (T.reading target.now) (with_place (T.reading target.now) path.now given) landed places.new)) }
-    ensures number { WhereKnownOf (T.reading target.now) places.old (λ given landed. IsIn path.now landed
-        → IfOk result (λ number. number_known (T.reading target.now) (with_place (T.reading target.now) path.now given) path.now ≡ Some number)) }
+    ensures known { WhereKnownAt (T.reading target.now) places.old path.now got (λ given landed.
+        OnOk result (IsKnown (T.reading target.now) (with_place (T.reading target.now) path.now given) landed places.new)) }
+    ensures number { WhereKnownAt (T.reading target.now) places.old path.now got (λ given _. IfOk result
+        (λ number. number_known (T.reading target.now) (with_place (T.reading target.now) path.now given) path.now ≡ Some number)) }
     ensures nodes { places.new.nodes ≡ places.old.nodes }
     ensures refused { IfErr result IsNoMemory }
 {
     target.validity();
-    if let Some(number) = number_there(target, places, path)? {
+    if let Some(number) = number_there(target, path, got) {
         return Ok(number);
     }
     let number = target.free_above(places.last());
@@ -82,8 +82,8 @@ fn note_node<T: Target, V: TreeView>(
     requires room { HasRoom (T.reading target.now) [] places.old }
     ensures known { WhereKnownOf (T.reading target.now) places.old
         (λ given landed. OnOk result (IsKnownBehind (T.reading target.now) (placed (V.tree object.now) node path.now ∷ []) given landed places.new)) }
-    ensures numbered { WhereKnownOf (T.reading target.now) places.old (λ given _. OnOk result (NotesNumbers (T.reading target.now) (V.tree object.now)
-        (placed (V.tree object.now) node path.now ∷ []) node path.now (path_at (V.tree object.now) node ∷ []) given places.old places.new)) }
+    ensures numbered { WhereKnownOf (T.reading target.now) places.old (λ given _.
+        OnOk result (NotesNode (T.reading target.now) (V.tree object.now) node path.now given places.old places.new)) }
     ensures may { OnOk result (MayLand (placed (V.tree object.now) node path.now)) }
     ensures refused { IfErr result (IsMemoryOr (λ kind. WhyNotLands kind (placed (V.tree object.now) node path.now))) }
 {
@@ -91,9 +91,9 @@ fn note_node<T: Target, V: TreeView>(
     if is_bookkeeping(path) {
         return Err(Fault::of(FaultKind::ReservedPlace));
     }
-    places.enter(path)?;
+    let got = places.enter(path)?;
     if object.value(node, b"phandle".as_slice()).is_some() {
-        let number = number_place(target, path, places)?;
+        let number = number_place(target, path, got, places)?;
         places.put_node(node, number)?;
     }
     Ok(())
@@ -116,9 +116,8 @@ fn note_child<T: Target, V: TreeView>(
     ensures known { WhereKnownOf (T.reading target.now) places.old
         (λ given landed. OnOk result (IsKnownBehind (T.reading target.now)
         (preorder parent.now (alone (V.tree object.now) node)) given landed places.new)) }
-    ensures numbered { WhereKnownOf (T.reading target.now) places.old (λ given _. OnOk result (NotesNumbers (T.reading target.now) (V.tree object.now)
-        (preorder parent.now (alone (V.tree object.now) node)) node (parent.now ++ last_name (path_at (V.tree object.now) node) ∷ [])
-        (paths_in (V.tree object.now) node) given places.old places.new)) }
+    ensures numbered { WhereKnownOf (T.reading target.now) places.old (λ given _.
+        OnOk result (NotesChild (T.reading target.now) (V.tree object.now) node parent.now given places.old places.new)) }
     ensures may { OnOk result (MayAllLand (preorder parent.now (alone (V.tree object.now) node))) }
     ensures refused { IfErr result (IsMemoryOr (λ kind. IsStuck kind (preorder parent.now (alone (V.tree object.now) node)))) }
 {
@@ -143,8 +142,8 @@ fn note_children<T: Target, V: TreeView>(
     requires room { HasRoom (T.reading target.now) (preorder path.now (below_in (V.tree object.now) node)) places.old }
     ensures known { WhereKnownOf (T.reading target.now) places.old
         (λ given landed. OnOk result (IsKnownBehind (T.reading target.now) (preorder path.now (below_in (V.tree object.now) node)) given landed places.new)) }
-    ensures numbered { WhereKnownOf (T.reading target.now) places.old (λ given _. OnOk result (NotesNumbers (T.reading target.now) (V.tree object.now)
-        (preorder path.now (below_in (V.tree object.now) node)) node path.now (paths_below (V.tree object.now) node) given places.old places.new)) }
+    ensures numbered { WhereKnownOf (T.reading target.now) places.old (λ given _.
+        OnOk result (NotesBelow (T.reading target.now) (V.tree object.now) node path.now given places.old places.new)) }
     ensures may { OnOk result (MayAllLand (preorder path.now (below_in (V.tree object.now) node))) }
     ensures refused { IfErr result (IsMemoryOr (λ kind. IsStuck kind (preorder path.now (below_in (V.tree object.now) node)))) }
 {
@@ -175,8 +174,8 @@ pub fn note_content<T: Target, V: TreeView>(
     requires room { HasRoom (T.reading target.now) (content_at (V.tree object.now) content path.now) places.old }
     ensures known { WhereKnownOf (T.reading target.now) places.old
         (λ given landed. OnOk result (IsKnownBehind (T.reading target.now) (content_at (V.tree object.now) content path.now) given landed places.new)) }
-    ensures numbered { WhereKnownOf (T.reading target.now) places.old (λ given _. OnOk result (NotesNumbers (T.reading target.now) (V.tree object.now)
-        (content_at (V.tree object.now) content path.now) content path.now (paths_in (V.tree object.now) content) given places.old places.new)) }
+    ensures numbered { WhereKnownOf (T.reading target.now) places.old (λ given _.
+        OnOk result (NotesContent (T.reading target.now) (V.tree object.now) content path.now given places.old places.new)) }
     ensures may { OnOk result (MayAllLand (content_at (V.tree object.now) content path.now)) }
     ensures refused { IfErr result (IsMemoryOr (λ kind. IsStuck kind (content_at (V.tree object.now) content path.now))) }
 {

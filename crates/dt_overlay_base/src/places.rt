@@ -78,17 +78,6 @@ impl Places {
         Ok(self.numbers.get(text.as_slice()).is_some())
     }
 
-    /// The number that the path's place got.
-    pub fn number(&self, path: &Path) -> Result<Option<u32>, AllocError>
-        ensures { IfOk result (λ number. number ≡ number_at_place self.now path.now) }
-    {
-        let text = text_of(self.alloc, path)?;
-        match self.numbers.get(text.as_slice()) {
-            Some(number) => Ok(*number),
-            None => Ok(None),
-        }
-    }
-
     /// The place that got a number.
     pub fn place(&self, number: u32) -> Option<&Path>
         ensures { option_copied result ≡ place_of_number self.now number }
@@ -103,17 +92,19 @@ impl Places {
         self.last
     }
 
-    /// A node lands on the path.
-    pub fn enter(&mut self, path: &Path) -> Result<(), AllocError>
+    /// A node lands on the path. Answers the number that its place got before, if it got one.
+    pub fn enter(&mut self, path: &Path) -> Result<Option<u32>, AllocError>
         requires { AllByRecursion IsNodeName path.now }
         ensures known { WhereKnown self.old (λ base given landed. OnOk result (IsKnown base given (landed ++ path.now ∷ []) self.new)) }
+        ensures number { IfOk result (λ number. number ≡ number_at_place self.old path.now) }
         ensures nodes { self.new.nodes ≡ self.old.nodes }
     {
         let text = text_of(self.alloc, path)?;
-        if self.numbers.get(text.as_slice()).is_none() {
-            self.numbers.insert(text, None)?;
+        if let Some(number) = self.numbers.get(text.as_slice()) {
+            return Ok(*number);
         }
-        Ok(())
+        self.numbers.insert(text, None)?;
+        Ok(None)
     }
 
     /// The path's place gets the next number that is free.

@@ -73,6 +73,10 @@ with_label x q = with_property_at (codes "__symbols__" ∷ []) x.label.now (path
 abbrev pub labels_of : Reading → List Site → List Property
 labels_of read found = landed_symbols read found (symbols_in read)
 
+-- the same of an object that is kept
+abbrev pub object_labels : {V : Type 0} → (V → PlacedTree) → Object V → List Site → List Property
+object_labels tree o found = labels_of (reading_of (tree o.tree.now)) found
+
 -- a tree with them
 abbrev pub with_labels_of : Reading → List Site → Reading → Reading
 with_labels_of read found = with_symbols_merged (labels_of read found)

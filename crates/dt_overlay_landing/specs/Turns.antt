@@ -146,9 +146,9 @@ target_at tree base object turn f = target_in base (reading_of (tree object.tree
 abbrev pub IsSitedAt : {V : Type 0} → (V → PlacedTree) → Reading → Object V → Turn → Name → Path → Known → Type 0
 IsSitedAt tree base object turn f q a = IsSitedOn base turn.fixups (reading_of (tree object.tree.now)) turn.walked f q a
 
--- and the nodes of its content, which is k, have their numbers besides
-abbrev pub IsNumberedAt : {V : Type 0} → (V → PlacedTree) → Reading → Object V → Turn → Name → Path → ℕ → Known → Known → Type 0
-IsNumberedAt tree base object turn f q k old new = NumbersFragment base (tree object.tree.now) turn.walked f q k old new
+-- and the nodes that it brings have their numbers besides
+abbrev pub IsNumberedAt : {V : Type 0} → (V → PlacedTree) → Reading → Object V → Turn → ObjectFragment → Name → Path → Landing → Landing → Type 0
+IsNumberedAt tree base object turn x f q old new = NumbersFragment base (tree object.tree.now) turn.walked f q x.content old.places new.places
 
 -- the fragment has no site, for this reason
 abbrev pub LacksSiteAt : {V : Type 0} → (V → PlacedTree) → Reading → Object V → Turn → Name → FaultKind → Type 0

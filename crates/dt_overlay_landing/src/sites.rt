@@ -222,8 +222,8 @@ fn find_site<'o, T: Target, V: TreeView>(
     requires { (turn : Turn) × IsTurnOf V.tree (T.reading target.now) object.now marks.now.entries landing.old fragment.now turn }
     ensures found { WhereTurnOf V.tree (T.reading target.now) object.now marks.now.entries landing.old fragment.now (λ turn name.
         IfOk result (λ path. IsSitedAt V.tree (T.reading target.now) object.now turn name path landing.new.places)) }
-    ensures numbered { WhereTurnOf V.tree (T.reading target.now) object.now marks.now.entries landing.old fragment.now (λ turn name. IfOk result
-        (λ path. IsNumberedAt V.tree (T.reading target.now) object.now turn name path fragment.now.content landing.old.places landing.new.places)) }
+    ensures numbered { WhereTurnOf V.tree (T.reading target.now) object.now marks.now.entries landing.old fragment.now (λ turn f.
+        IfOk result (λ q. IsNumberedAt V.tree (T.reading target.now) object.now turn fragment.now f q landing.old landing.new)) }
     ensures kept { OnOk result (landing.new.sites ≡ landing.old.sites) }
     ensures named { IfOk result (λ path. AllByRecursion IsNodeName path) }
     ensures refused { WhereTurnOf V.tree (T.reading target.now) object.now marks.now.entries landing.old fragment.now (λ turn name.

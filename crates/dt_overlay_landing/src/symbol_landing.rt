@@ -9,7 +9,7 @@ ghost use Rattle.dt_names.specs.declared.fault.FaultKind.TheVariants.{NoMemory, 
 ghost use Rattle.dt_overlay_laws.specs.Laws.{AreShallow};
 ghost use Rattle.dt_overlay_laws.specs.Steps.{FullAtSymbols};
 ghost use Rattle.dt_overlay_object.specs.Objects.{Seen, IsToLandOn};
-ghost use Rattle.dt_overlay_landing.specs.SymbolLanding.{HasLabels, HasLanded, WhereShallow, labels_of, with_label, with_labels_of};
+ghost use Rattle.dt_overlay_landing.specs.SymbolLanding.{HasLabels, HasLanded, WhereShallow, labels_of, object_labels, with_label, with_labels_of};
 ghost use Rattle.dt_overlay_base.specs.Targets.{HasNoRoom, IsWant};
 ghost use Rattle.dt_trees.specs.Placed.{reading_of};
 
@@ -75,7 +75,7 @@ fn set_each_symbol<'o, T: Target, V: TreeView>(
         OnOk result (T.reading target.new ≡ with_labels_of (reading_of (V.tree object.now.tree.now)) found (T.reading target.old)) }
     ensures refused { (found : List Site) → HasLabels V.tree found object.now landing.old →
         IfErr result (IsWant (FullAtSymbols (HasNoRoom T.reading T.has_room T.follows target.old)
-        (labels_of (reading_of (V.tree object.now.tree.now)) found) (T.reading target.old))) }
+        (object_labels V.tree object.now found) (T.reading target.old))) }
     ensures follows { T.follows target.old target.new }
 {
     object.tree.validity();

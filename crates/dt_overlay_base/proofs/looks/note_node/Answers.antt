@@ -22,7 +22,7 @@ returns-in_ok-put_node-clause-known g c given landed known =
     ap is_some (value_under t own (codes "phandle")) ∙ sym (prop_there (reading_of t) own c.value.result c.as_slice.result.now (codes "phandle") c.value.ensures c.as_slice.ensures) ∙ sym c.is_some.ensures ∙ c.if-is_some.true in
     subst (λ (b : Bool). IsKnown base (if b then with_place base q given else given) (landed ++ q ∷ []) c.put_node.new.self) (sym has)
     (c.in_ok-put_node.ensures.known base (with_place base q given) (landed ++ q ∷ [])
-    (c.in_ok-number.ensures.known given (landed ++ q ∷ []) (c.in_ok-enter.ensures.known base given landed known) (in_right q landed (q ∷ []) (inl refl))))
+    (c.in_ok-number.ensures.known given (landed ++ q ∷ []) (c.in_ok-got.ensures.known base given landed known) (in_right q landed (q ∷ []) (inl refl)) (c.in_ok-got.ensures.number ∙ known.numbers q c.requires.named)))
 
 pub returns-in_ok-put_node-clause-numbered : goal.returns-in_ok-put_node-clause-numbered
 returns-in_ok-put_node-clause-numbered g c given landed known numbers fit sound =
@@ -38,9 +38,9 @@ returns-in_ok-put_node-clause-numbered g c given landed known numbers fit sound 
     let same : now ≡ with_place base q given = ap (λ (b : Bool). if b then with_place base q given else given) has in
     let number : number_there base now q ≡ Some c.in_ok-number.number =
     ap (λ (more : List (Path × ℕ)). number_there base more q) same
-    ∙ c.in_ok-number.ensures.number given (landed ++ q ∷ []) (c.in_ok-enter.ensures.known base given landed known) (in_right q landed (q ∷ []) (inl refl)) in
+    ∙ c.in_ok-number.ensures.number given (landed ++ q ∷ []) (c.in_ok-got.ensures.known base given landed known) (in_right q landed (q ∷ []) (inl refl)) (c.in_ok-got.ensures.number ∙ known.numbers q c.requires.named) in
     let old = c.args.places.now.nodes in
-    let kept : c.number_place.new.places.nodes ≡ old = c.in_ok-number.ensures.nodes ∙ c.in_ok-enter.ensures.nodes in
+    let kept : c.number_place.new.places.nodes ≡ old = c.in_ok-number.ensures.nodes ∙ c.in_ok-got.ensures.nodes in
     more_put t numbers c.validity.ensures.places old c.put_node.new.self.nodes own k c.in_ok-number.number sound c.requires.node
     (fit_own base t numbers now k c.in_ok-number.number q fit there number)
     (subst (λ (entries : List (ℕ × ℕ)). PutsAt entries c.put_node.new.self.nodes k c.in_ok-number.number) kept c.in_ok-put_node.ensures.nodes)
