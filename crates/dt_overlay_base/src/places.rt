@@ -134,7 +134,9 @@ impl Places {
 
     /// Hands out the numbers of the nodes, once all that lands is known. All else is let go of, so that the landing has its memory.
     pub fn take_nodes(&mut self) -> HashMap<NodeId, u32, Seed>
-        ensures { result.entries ≡ self.old.nodes }
+        ensures handed { result.entries ≡ self.old.nodes }
+        ensures known { (base : Reading) → IsKnown base [] [] self.new }
+        ensures nodes { self.new.nodes ≡ [] }
     {
         let nothing = Places::new(self.alloc, self.seed);
         let Places { nodes, .. } = replace(self, nothing);

@@ -26,7 +26,7 @@ returns-clause-numbered g c base object given =
       at = sited.sites;
       seen = seen_numbered t o (seen_with base (reading_of t) read.fixups []) new ns read.seen (record {
         contents = read.seen.brought.contents;
-        numbered = λ p. subst (λ (entries : List (ℕ × ℕ)). IsNumbered t ns entries p) (sym c.take_nodes.ensures) (sited.numbered p);
+        numbered = λ p. subst (λ (entries : List (ℕ × ℕ)). IsNumbered t ns entries p) (sym c.take_nodes.ensures.handed) (sited.numbered p);
       });
     })
     given
