@@ -1,5 +1,5 @@
 -- The names of a tree differ exactly where the keys of its children do, and the names of each node's properties.
-use Rattle.std.proofs.Common.{◌↔◌, ◌≡◌, ℕ, ◌+◌, List, [], ◌∷◌, ◌++◌, map, refl, sym, ap, subst, ◌∙◌, append_assoc, arith, inl, inr}
+use Rattle.std.proofs.Common.{◌↔◌, ◌≡◌, ℕ, ◌+◌, ◌<◌, List, [], ◌∷◌, ◌++◌, length, map, refl, sym, ap, subst, ◌∙◌, append_assoc, arith, inl, inr}
 use Rattle.std.proofs.Math.Dec.{eqb}
 use Rattle.std.proofs.lemmas.List.{append-nil}
 use Rattle.std.proofs.lemmas.Option.{same_Some}
@@ -19,6 +19,12 @@ use Rattle.dt_read.proofs.Tokens.{chosen}
 use Rattle.dt_read.proofs.Ordering.{HasBelow, found_below}
 use Rattle.dt_read.proofs.Apart.{below_is_node, root_is_node}
 use Rattle.dt_read.proofs.NameKeys.{child_key, property_key, own_keys, node_keys, own_names, sibling_names, own_apart, keys_apart}
+
+-- a node with no two properties has no two of one name
+pub few_differ : (properties : List Property) → length properties < 2 → AreDistinct (property_names properties)
+few_differ [] few = tt
+few_differ (p ∷ []) few = (tt, tt)
+few_differ (p ∷ q ∷ properties) few = absurd (omega (arith, few))
 
 -- ---- the keys of one node's properties
 

@@ -134,7 +134,7 @@ pub(crate) fn are_distinct(
 
 /// Whether a node has no two properties, and so none of one name. The cursor is behind the node's BEGIN_NODE.
 fn has_no_two_properties(cursor: &Cursor<'_>) -> bool
-    ensures { OnTrue result (AreDistinct (property_names (left_by cursor.now).properties)) }
+    ensures { IsTrue result ↔ (length (left_by cursor.now).properties < 2) }
 {
     let mut ahead = cursor.copy();
     let Some((_, Tag::Property(_))) = ahead.next_tag() else {

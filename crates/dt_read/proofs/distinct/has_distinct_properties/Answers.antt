@@ -1,8 +1,9 @@
-use Rattle.std.proofs.Common.{◌≡◌, ◌∷◌, [], sym, ap, subst, ◌∙◌}
+use Rattle.std.proofs.Common.{◌≡◌, ◌∷◌, [], refl, sym, ap, subst, ◌∙◌}
 use Rattle.dt_model.specs.Valid.{AreDistinct}
 use Rattle.dt_read.specs.Keys.{keys_in}
 use Rattle.dt_read.specs.declared.keys.Wanted.TheVariants.{Own}
-use Rattle.dt_read.proofs.NamesApart.{own_differ}
+use Rattle.dt_read.specs.Parsing.{left_by}
+use Rattle.dt_read.proofs.NamesApart.{few_differ, own_differ}
 use Rattle.dt_read.proofs.distinct.has_distinct_properties.Goals as goal
 
 pub returns-clause-is : goal.returns-clause-is
@@ -12,3 +13,9 @@ returns-clause-is c =
       λ t. names.0 (subst AreDistinct same (c.are_distinct.ensures.is.0 t)),
       λ d. c.are_distinct.ensures.is.1 (subst AreDistinct (sym same) (names.1 d)),
     )
+
+pub returns-then-has_no_two_properties-clause-is : goal.returns-then-has_no_two_properties-clause-is
+returns-then-has_no_two_properties-clause-is c = (
+  (λ t. few_differ (left_by c.args.cursor.now).properties (c.has_no_two_properties.ensures.0 c.if-has_no_two_properties.true)),
+  (λ d. refl),
+)
