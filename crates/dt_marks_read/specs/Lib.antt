@@ -2,5 +2,6 @@
 pub mod Listed
 pub mod FixupsLeft
 pub mod ListedViews
+pub mod LabelViews
 pub mod LocalFixupsLeft
 pub mod MirrorViews

@@ -3,7 +3,8 @@
 ghost use Rattle.std.specs.Prelude.{◌≡◌, ◌∷◌, [], List};
 ghost use Rattle.std.specs.Option.{MatchOption};
 ghost use Rattle.std.specs.Iterator.{YieldsFirstBy, item_count};
-ghost use Rattle.dt_marks_read.specs.FixupsLeft.{cell_in, told_next, fixups_left};
+ghost use Rattle.dt_marks_read.specs.FixupsLeft.{cell_in, told_next};
+ghost use Rattle.dt_marks_read.specs.LabelViews.{labels_left};
 ghost use Rattle.dt_marks_read.specs.ListedViews.{fixup_view};
 
 use crate::listed::{ListedCell, told_cell};
@@ -22,11 +23,9 @@ struct Labels<'a> {
 }
 
 impl<'a> Labels<'a> {
-    /// Tells the cell of a text of the label. Nothing comes behind a fault.
+    /// Answers the cell of a text of the label. Nothing comes behind a fault.
     fn tell(&mut self, text: &'a [u8]) -> Result<(&'a [u8], ListedCell<'a>), Fault>
-        ensures { told_next self.old.label.now (cell_in self.old.blob.now text.now)
-            (fixups_left self.old.blob.now self.old.rest self.old.label.now self.old.texts)
-            ≡ fixup_view result ∷ fixups_left self.new.blob.now self.new.rest self.new.label.now self.new.texts }
+        ensures { told_next self.old.label.now (cell_in self.old.blob.now text.now) (labels_left self.old) ≡ fixup_view result ∷ labels_left self.new }
     {
         match told_cell(self.blob, text) {
             Some(cell) => Ok((self.label, cell)),
@@ -41,11 +40,8 @@ impl<'a> Labels<'a> {
     /// Goes on to the next label, and answers the cell of its first text.
     fn next_label(&mut self) -> Option<Result<(&'a [u8], ListedCell<'a>), Fault>>
         requires { self.old.texts ≡ [] }
-        ensures { MatchOption result
-            ((fixups_left self.old.blob.now self.old.rest self.old.label.now self.old.texts ≡ [])
-            × (fixups_left self.new.blob.now self.new.rest self.new.label.now self.new.texts ≡ []))
-            (λ told. fixups_left self.old.blob.now self.old.rest self.old.label.now self.old.texts
-            ≡ fixup_view told ∷ fixups_left self.new.blob.now self.new.rest self.new.label.now self.new.texts) }
+        ensures { MatchOption result ((labels_left self.old ≡ []) × (labels_left self.new ≡ []))
+            (λ told. labels_left self.old ≡ fixup_view told ∷ labels_left self.new) }
     {
         let mut rest = self.rest.take()?;
         let (label, value) = rest.next()?;
@@ -60,11 +56,8 @@ impl<'a> Labels<'a> {
     }
 
     fn next(&mut self) -> Option<Result<(&'a [u8], ListedCell<'a>), Fault>>
-        ensures { MatchOption result
-            ((fixups_left self.old.blob.now self.old.rest self.old.label.now self.old.texts ≡ [])
-            × (fixups_left self.new.blob.now self.new.rest self.new.label.now self.new.texts ≡ []))
-            (λ told. fixups_left self.old.blob.now self.old.rest self.old.label.now self.old.texts
-            ≡ fixup_view told ∷ fixups_left self.new.blob.now self.new.rest self.new.label.now self.new.texts) }
+        ensures { MatchOption result ((labels_left self.old ≡ []) × (labels_left self.new ≡ []))
+            (λ told. labels_left self.old ≡ fixup_view told ∷ labels_left self.new) }
     {
         match self.texts.next() {
             Some(text) => Some(self.tell(text)),
@@ -82,12 +75,12 @@ pub struct Fixups<'a> {
 
 impl<'a> Model for Fixups<'a> {
     ghost use Rattle.std.specs.Prelude.{List};
-    ghost use Rattle.dt_marks_read.specs.FixupsLeft.{fixups_left};
+    ghost use Rattle.dt_marks_read.specs.LabelViews.{labels_left};
     ghost use Rattle.dt_marks_read.specs.Listed.{Fixup};
 
     ghost Value = { List Fixup };
 
-    ghost view = { λ f. fixups_left f.labels.blob.now f.labels.rest f.labels.label.now f.labels.texts };
+    ghost view = { λ f. labels_left f.labels };
 }
 
 impl<'a> Fixups<'a> {

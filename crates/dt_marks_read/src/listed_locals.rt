@@ -144,7 +144,7 @@ impl<'a> Mirror<'a> {
         }
     }
 
-    /// Tells the next offset of the property that came last.
+    /// Answers the cell at the next offset of the property that came last.
     fn next_offset(&mut self) -> Option<Result<ListedCell<'a>, Fault>>
         requires { MayGoOn self.old }
         ensures told { MatchOption result ((words_of self.old.offsets.now ≡ []) × (self.new ≡ self.old))
