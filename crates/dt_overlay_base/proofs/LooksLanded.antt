@@ -9,7 +9,7 @@ use Rattle.dt_names.specs.declared.fault.FaultKind.{FaultKind}
 use Rattle.dt_overlay_model.specs.Walk.{number_there, with_place, with_places, has_phandle, least_free}
 use Rattle.dt_overlay_laws.specs.Landings.{MayAllLand, IsStuck}
 use Rattle.dt_model.specs.Numbers.{numbers_of}
-use Rattle.dt_overlay_base.specs.Known.{Known, IsKnown, HasRoom}
+use Rattle.dt_overlay_base.specs.Known.{Known, IsKnown, HasRoom, paths_of}
 
 -- ---- nodes behind others
 
@@ -65,10 +65,10 @@ room_first base xs ys a h = record {
 
 -- and for those behind them, once they have landed
 pub room_behind : (base : Reading) (xs ys : List Placed) (a b : Known) → HasRoom base (xs ++ ys) a
-    → ((given : List (Path × ℕ)) (landed : List Path) → IsKnown base given landed a → IsKnown base (with_places base xs given) (landed ++ map (λ (n : Placed). n.path) xs) b) → HasRoom base ys b
+    → ((given : List (Path × ℕ)) (landed : List Path) → IsKnown base given landed a → IsKnown base (with_places base xs given) (landed ++ paths_of xs) b) → HasRoom base ys b
 room_behind base xs ys a b h f = record {
   given = with_places base xs h.given;
-  landed = h.landed ++ map (λ (n : Placed). n.path) xs;
+  landed = h.landed ++ paths_of xs;
   known = f h.given h.landed h.known;
   few = subst (λ (g : List (Path × ℕ)). length g ≤ most_nodes) (with_places-append base xs ys h.given) h.few;
 }
@@ -78,7 +78,7 @@ room_behind base xs ys a b h f = record {
 -- nodes have landed, and these are left
 pub record AreLeft (base : Reading) (all left : List Placed) (a b : Known) : Type 0 where
   pub known : (given : List (Path × ℕ)) (landed : List Path) → IsKnown base given landed a
-      → (done : List Placed) × (all ≡ done ++ left) × IsKnown base (with_places base done given) (landed ++ map (λ (n : Placed). n.path) done) b
+      → (done : List Placed) × (all ≡ done ++ left) × IsKnown base (with_places base done given) (landed ++ paths_of done) b
   pub room : HasRoom base left b
   pub may : MayAllLand left → MayAllLand all
   pub stuck : (kind : FaultKind) → IsStuck kind left → IsStuck kind all
@@ -93,23 +93,22 @@ left_begun base all left a e room = record {
 
 -- what lands first lands behind what did
 landed_more : (base : Reading) (first rest : List Placed) (given : List (Path × ℕ)) (landed : List Path) (done : List Placed) (b : Known)
-    → IsKnown base (with_places base first (with_places base done given)) ((landed ++ map (λ (n : Placed). n.path) done) ++ map (λ (n : Placed). n.path) first) b
-    → IsKnown base (with_places base (done ++ first) given) (landed ++ map (λ (n : Placed). n.path) (done ++ first)) b
+    → IsKnown base (with_places base first (with_places base done given)) ((landed ++ paths_of done) ++ paths_of first) b
+    → IsKnown base (with_places base (done ++ first) given) (landed ++ paths_of (done ++ first)) b
 landed_more base first rest given landed done b h =
-    let paths = λ (ns : List Placed). map (λ (n : Placed). n.path) ns in
-    subst (λ (g : List (Path × ℕ)). IsKnown base g (landed ++ paths (done ++ first)) b) (sym (with_places-append base done first given))
+    subst (λ (g : List (Path × ℕ)). IsKnown base g (landed ++ paths_of (done ++ first)) b) (sym (with_places-append base done first given))
     (subst (λ (ps : List Path). IsKnown base (with_places base first (with_places base done given)) ps b)
-    (append_assoc landed (paths done) (paths first) ∙ ap (λ (ps : List Path). landed ++ ps) (sym (map-append (λ (n : Placed). n.path) done first))) h)
+    (append_assoc landed (paths_of done) (paths_of first) ∙ ap (λ (ps : List Path). landed ++ ps) (sym (map-append (λ (n : Placed). n.path) done first))) h)
 
 pub left_on : (base : Reading) (all left first rest : List Placed) (a b c : Known) → left ≡ first ++ rest → AreLeft base all left a b
-    → ((given : List (Path × ℕ)) (landed : List Path) → IsKnown base given landed b → IsKnown base (with_places base first given) (landed ++ map (λ (n : Placed). n.path) first) c) → MayAllLand first
+    → ((given : List (Path × ℕ)) (landed : List Path) → IsKnown base given landed b → IsKnown base (with_places base first given) (landed ++ paths_of first) c) → MayAllLand first
     → AreLeft base all rest a c
 left_on base all left first rest a b c e w f may = record {
   known = λ given landed k.
       let before = w.known given landed k in (
         before.0 ++ first,
         before.1 ∙ ap (λ (ns : List Placed). before.0 ++ ns) e ∙ sym (append_assoc before.0 first rest),
-        landed_more base first rest given landed before.0 c (f (with_places base before.0 given) (landed ++ map (λ (n : Placed). n.path) before.0) before.2),
+        landed_more base first rest given landed before.0 c (f (with_places base before.0 given) (landed ++ paths_of before.0) before.2),
       );
   room = room_behind base first rest b c (subst (λ (ns : List Placed). HasRoom base ns b) e w.room) f;
   may = λ h. w.may (subst MayAllLand (sym e) (all_land first rest may h));
@@ -120,8 +119,8 @@ pub left_failed : (base : Reading) (all left first rest : List Placed) (a b : Kn
 left_failed base all left first rest a b kind e w h = w.stuck kind (subst (IsStuck kind) (sym e) (stuck_first kind first rest h))
 
 pub left_ended : (base : Reading) (all left : List Placed) (a b : Known) (given : List (Path × ℕ)) (landed : List Path) → left ≡ [] → AreLeft base all left a b → IsKnown base given landed a
-    → IsKnown base (with_places base all given) (landed ++ map (λ (n : Placed). n.path) all) b
+    → IsKnown base (with_places base all given) (landed ++ paths_of all) b
 left_ended base all left a b given landed e w known =
     let before = w.known given landed known in
     let whole : before.0 ≡ all = sym (append-nil before.0) ∙ ap (λ (ns : List Placed). before.0 ++ ns) (sym e) ∙ sym before.1 in
-    subst (λ (ns : List Placed). IsKnown base (with_places base ns given) (landed ++ map (λ (n : Placed). n.path) ns) b) whole before.2
+    subst (λ (ns : List Placed). IsKnown base (with_places base ns given) (landed ++ paths_of ns) b) whole before.2

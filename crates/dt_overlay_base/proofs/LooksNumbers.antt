@@ -1,5 +1,5 @@
 -- The number of a place, and the next that is free.
-use Rattle.std.proofs.Common.{◌≡◌, ◌↔◌, ℕ, ◌+◌, ◌*◌, ◌≤◌, Bool, false, List, ◌∷◌, ◌++◌, [], Option, Some, None, refl, sym, ap, ◌∙◌, codes, true≢false, arith}
+use Rattle.std.proofs.Common.{◌≡◌, ◌↔◌, ℕ, ◌+◌, ◌*◌, ◌≤◌, Bool, false, List, ◌∷◌, ◌++◌, [], Option, Some, None, sym, ap, ◌∙◌, codes, true≢false, arith}
 use Rattle.std.specs.Prelude.{is_some, option_map, if◌then◌else◌, IsSome, IfSome}
 use Rattle.std.specs.Option.{option_copied, option_or}
 use Rattle.std.specs.Borrow.{Bor}
@@ -9,16 +9,15 @@ use Rattle.dt_model.specs.Limits.{most_nodes}
 use Rattle.dt_model.specs.Lists.{IsIn}
 use Rattle.dt_model.specs.Names.{Name, IsNodeName}
 use Rattle.dt_model.specs.Numbers.{numbers_of, number_in}
-use Rattle.dt_model.specs.Path.{Path, path_eq}
+use Rattle.dt_model.specs.Path.{Path}
 use Rattle.dt_model.specs.Tree.{Reading, value_in}
 use Rattle.dt_model.specs.Valid.{IsValid, IsWithinLimits, IsPhandle}
-use Rattle.dt_model.proofs.Tests.{path_eq_refl}
 use Rattle.dt_model_laws.proofs.Fresh.{few_below}
 use Rattle.dt_model_laws.proofs.LeastNumbers.{one_least}
 use Rattle.dt_model_laws.proofs.Numbered.{few_taken}
 use Rattle.dt_overlay_model.specs.Walk.{number_there, with_place, least_free}
 use Rattle.dt_overlay_model.proofs.Least.{least_is_free}
-use Rattle.dt_overlay_model.proofs.Places.{none_there, number_in-last, numbers}
+use Rattle.dt_overlay_model.proofs.Places.{none_there, numbers}
 use Rattle.dt_overlay_laws.proofs.PlainSymbols.{phandle_there}
 use Rattle.std.specs.List.{AllByRecursion}
 use Rattle.dt_overlay_base.specs.Known.{Known, IsKnown, HasRoom}
@@ -33,13 +32,6 @@ prop_there t q None name key e same = ap is_some (e ∙ ap (value_in t q) same)
 prop_there t q (Some x) name key e same = ap is_some (e ∙ ap (value_in t q) same)
 
 -- ---- the number of a place
-
-pub none_there_at : (base : Reading) (given : List (Path × ℕ)) (q : Path) → is_some (number_there base given q) ≡ false → (value_in base q (codes "phandle") ≡ None) × (number_in given q ≡ None)
-none_there_at base given q none = none_there base given q (nothing (number_there base given q) none)
-  where
-    nothing : (o : Option ℕ) → is_some o ≡ false → o ≡ None
-    nothing None e = refl
-    nothing (Some x) e = absurd cc
 
 -- a phandle of the base is its number
 pub number_read : (base : Reading) (given : List (Path × ℕ)) (q : Path) (v : List ℕ) (o : Option ℕ) → IsValid base → value_in base q (codes "phandle") ≡ Some v → (IsSome o ↔ IsPhandle v) → IfSome o (λ number. number ≡ from_be_bytes w32 v)
@@ -63,18 +55,11 @@ last_low base a within h =
 pub place_given_next : (base : Reading) (given : List (Path × ℕ)) (landed : List Path) (a : Known) (known : IsKnown base given landed a) (q : Path) → AllByRecursion IsNodeName q → IsIn q landed
     → (n : ℕ) → is_some (number_there base given q) ≡ false → IsNext (numbers_of base) a.last n → with_place base q given ≡ given ++ (q, n) ∷ []
 place_given_next base given landed a known q named there n none next =
-    let bare = none_there_at base given q none in
+    let bare = none_there base given q none in
     let least : least_free (numbers given ++ numbers_of base) ≡ n =
     one_least (numbers given ++ numbers_of base) (least_free (numbers given ++ numbers_of base)) n (least_is_free (numbers given ++ numbers_of base)) (next_is_least base given landed a known q named n there bare.1 next) in
     ap (λ (b : Bool). if b then given else given ++ (q, least_free (numbers given ++ numbers_of base)) ∷ []) none
     ∙ ap (λ (m : ℕ). given ++ (q, m) ∷ []) least
-
--- and has it
-pub given_there : (base : Reading) (given : List (Path × ℕ)) (q : Path) (n : ℕ) → is_some (number_there base given q) ≡ false → number_there base (given ++ (q, n) ∷ []) q ≡ Some n
-given_there base given q n none =
-    let bare = none_there_at base given q none in
-    ap (λ (o : Option (List ℕ)). option_or (option_map (from_be_bytes w32) o) (number_in (given ++ (q, n) ∷ []) q)) bare.0
-    ∙ number_in-last given q q n ∙ ap (λ (o : Option ℕ). option_or o (if path_eq q q then Some n else None)) bare.1 ∙ ap (λ (b : Bool). if b then Some n else None) (path_eq_refl q)
 
 -- a place that has a number keeps it
 pub placed_there : (base : Reading) (given : List (Path × ℕ)) (q : Path) (n : ℕ) → number_there base given q ≡ Some n → with_place base q given ≡ given

@@ -1,57 +1,28 @@
 -- Numbers of an object's nodes, which land one after another.
-use Rattle.std.proofs.Common.{◌≡◌, ℕ, Bool, true, false, cond, List, [], ◌∷◌, ◌++◌, map, codes, Option, Some, None, refl, sym, ap, subst, ◌∙◌, ◌⊎◌, inl, inr, append_assoc, append-nil, true≢false}
-use Rattle.std.specs.Prelude.{nat_eq, is_some, option_map, if◌then◌else◌}
-use Rattle.std.specs.Int.{w32, from_be_bytes}
-use Rattle.std.specs.Option.{option_or}
+use Rattle.std.proofs.Common.{◌≡◌, ℕ, Bool, true, false, cond, List, [], ◌∷◌, ◌++◌, Option, Some, None, refl, sym, ap, subst, ◌∙◌, ◌⊎◌, inl, inr, append_assoc, append-nil, true≢false}
+use Rattle.std.specs.Prelude.{nat_eq}
 use Rattle.std.proofs.lemmas.Bool.{eqb-true, eq-eqb}
 use Rattle.std.proofs.lemmas.List.{map-append}
 use Rattle.dt_model.specs.Lists.{IsIn}
 use Rattle.dt_model.specs.Names.{Name}
-use Rattle.dt_model.specs.Numbers.{numbers_of, number_in}
-use Rattle.dt_model.specs.Path.{Path, path_eq}
-use Rattle.dt_model.specs.Tree.{Forest, Reading, Placed, preorder, value_in}
+use Rattle.dt_model.specs.Numbers.{number_in}
+use Rattle.dt_model.specs.Path.{Path}
+use Rattle.dt_model.specs.Tree.{Forest, Reading, Placed, preorder}
 use Rattle.dt_model.proofs.Tests.{in_append}
-use Rattle.dt_overlay_model.specs.Walk.{has_phandle, least_free, number_there, with_place, with_places}
-use Rattle.dt_overlay_model.proofs.Places.{number_in-last}
+use Rattle.dt_overlay_model.specs.Walk.{number_there, with_places}
+use Rattle.dt_overlay_model.proofs.Places.{places_kept}
 use Rattle.dt_trees.specs.Placed.{PlacedTree, path_at, last_name, below_at, below_in, HasPlacesApart, IsAt}
 use Rattle.dt_trees.proofs.Walked.{last_of, node_before, walked_first}
-use Rattle.dt_overlay_base.specs.Known.{Known, IsKnown, alone}
-use Rattle.dt_overlay_base.specs.NodeNumbers.{at_node, PutsAt, IsNumbered, AreNumbers, NumbersMore, NotesNumbers, FitBelow, has_phandle_at, paths_below, paths_in, paths_of}
+use Rattle.dt_overlay_base.specs.Known.{Known, IsKnown, alone, paths_of}
+use Rattle.dt_overlay_base.specs.NodeNumbers.{at_node, PutsAt, IsNumbered, AreNumbers, NumbersMore, NotesNumbers, FitBelow, has_phandle_at, paths_below, paths_in}
 use Rattle.dt_overlay_base.proofs.LooksLanded.{AreLeft, with_places-append}
-
--- ---- a number of a place stays
-
-pub there_kept : (base : Reading) (nodes : List Placed) (given : List (Path × ℕ)) (q : Path) (n : ℕ) → number_there base given q ≡ Some n → number_there base (with_places base nodes given) q ≡ Some n
-there_kept base [] given q n there = there
-there_kept base (x ∷ nodes) given q n there = there_kept base nodes (if has_phandle x then with_place base x.path given else given) q n (by (has_phandle x))
-  where
-    own : Option ℕ
-    own = option_map (from_be_bytes w32) (value_in base q (codes "phandle"))
-
-    more : List (Path × ℕ) → ℕ → List (Path × ℕ)
-    more given m = given ++ (x.path, m) ∷ []
-
-    behind : (mine first later : Option ℕ) → option_or mine first ≡ Some n → option_or mine (option_or first later) ≡ Some n
-    behind None None later e = absurd cc
-    behind None (Some m) later e = e
-    behind (Some m) first later e = e
-
-    placed : (b : Bool) → number_there base (if b then given else more given (least_free (map (λ (y : Path × ℕ). y.1) given ++ numbers_of base))) q ≡ Some n
-    placed true = there
-    placed false =
-        let m = least_free (map (λ (y : Path × ℕ). y.1) given ++ numbers_of base) in
-        ap (option_or own) (number_in-last given x.path q m) ∙ behind own (number_in given q) (if path_eq x.path q then Some m else None) there
-
-    by : (b : Bool) → number_there base (if b then with_place base x.path given else given) q ≡ Some n
-    by true = placed (is_some (number_there base given x.path))
-    by false = there
 
 -- ---- numbers that fit
 
 module _ (base : Reading) (t : PlacedTree) (numbers : List (Path × ℕ)) where
   -- they fitted before other nodes landed
   pub fitted : (nodes : List Placed) (given : List (Path × ℕ)) (k : ℕ) (q : Path) → FitBelow base t (with_places base nodes given) k q numbers → FitBelow base t given k q numbers
-  fitted nodes given k q fit = record { keyed = λ r n has there. fit.keyed r n has (there_kept base nodes given (q ++ r) n there); bare = fit.bare }
+  fitted nodes given k q fit = record { keyed = λ r n has there. fit.keyed r n has (places_kept base nodes given (q ++ r) n there); bare = fit.bare }
 
   -- they fit a child
   pub fit_child : (given : List (Path × ℕ)) (k child : ℕ) (q : Path) (x : Name) → path_at t child ≡ path_at t k ++ x ∷ [] → FitBelow base t given k q numbers → FitBelow base t given child (q ++ x ∷ []) numbers
@@ -158,10 +129,10 @@ module _ (t : PlacedTree) (numbers : List (Path × ℕ)) where
 
 -- those of the nodes below a node, the first of them first
 pub paths_first : (t : PlacedTree) (p : Path) (k : ℕ) (x : Name) (rest : Forest) → path_at t k ≡ p ++ x ∷ [] → last_name (path_at t k) ≡ x
-    → map (λ (n : Placed). n.path) (preorder p (node_before t k rest)) ≡ paths_in t k ++ map (λ (n : Placed). n.path) (preorder p rest)
+    → paths_of (preorder p (node_before t k rest)) ≡ paths_in t k ++ paths_of (preorder p rest)
 paths_first t p k x rest path named =
     let here : p ++ last_name (path_at t k) ∷ [] ≡ path_at t k = ap (λ (y : Name). p ++ y ∷ []) named ∙ sym path in
-    (λ i. here i ∷ map (λ (n : Placed). n.path) (preorder (here i) (below_at t (path_at t k)) ++ preorder p rest))
+    (λ i. here i ∷ paths_of (preorder (here i) (below_at t (path_at t k)) ++ preorder p rest))
     ∙ ap (λ (ps : List Path). path_at t k ∷ ps) (map-append (λ (n : Placed). n.path) (preorder (path_at t k) (below_at t (path_at t k))) (preorder p rest))
 
 -- ---- nodes behind others
@@ -191,7 +162,7 @@ left_noted base t k child q x left rest old now new path split w so_far notes gi
     let here : path_at t child ≡ path_at t k ++ last_name (path_at t child) ∷ [] = path ∙ ap (λ (y : Name). path_at t k ++ y ∷ []) (sym named) in
     let first : preorder q left ≡ preorder q (alone t child) ++ preorder q rest = ap (preorder q) split ∙ walked_first q t child rest in
     let done = so_far given landed known numbers fit sound in
-    let more = notes (with_places base before.0 given) (landed ++ map (λ (n : Placed). n.path) before.0) before.2 numbers
+    let more = notes (with_places base before.0 given) (landed ++ paths_of before.0) before.2 numbers
     (fit_next base t numbers all before.0 (preorder q left) (preorder q (alone t child)) (preorder q rest) given k child q (last_name (path_at t child)) before.1 first here fit) done.sound in
     numbers_on t numbers (paths_below t k) (paths_of (preorder (path_at t k) left)) (paths_in t child) (paths_of (preorder (path_at t k) rest)) old.nodes now.nodes new.nodes
     (ap (λ (f : Forest). paths_of (preorder (path_at t k) f)) split ∙ paths_first t (path_at t k) child x rest path named) done more

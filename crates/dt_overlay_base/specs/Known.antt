@@ -28,6 +28,10 @@ placed t k q = record { path = q; properties = properties_at t (path_at t k) }
 abbrev pub content_at : PlacedTree → ℕ → Path → List Placed
 content_at t k q = placed t k q ∷ preorder q (below_in t k)
 
+-- the paths of some nodes
+abbrev pub paths_of : List Placed → List Path
+paths_of nodes = map (λ (n : Placed). n.path) nodes
+
 -- ---- places
 
 -- what is kept for a path, by its text
@@ -72,7 +76,7 @@ WhereKnownAt base a q got P = (given : List (Path × ℕ)) (landed : List Path) 
 
 -- what is known, where these nodes have landed besides
 abbrev pub IsKnownBehind : Reading → List Placed → List (Path × ℕ) → List Path → Known → Type 0
-IsKnownBehind base nodes given landed a = IsKnown base (with_places base nodes given) (landed ++ map (λ (n : Placed). n.path) nodes) a
+IsKnownBehind base nodes given landed a = IsKnown base (with_places base nodes given) (landed ++ paths_of nodes) a
 
 -- where these nodes land, at most 65,536 places have a number then
 pub record HasRoom (base : Reading) (nodes : List Placed) (a : Known) : Type 0 where
@@ -83,7 +87,7 @@ pub record HasRoom (base : Reading) (nodes : List Placed) (a : Known) : Type 0 w
 
 -- the paths on which nodes of an object land, fragment by fragment
 abbrev pub landed_paths : Reading → List Site → List Path
-landed_paths object sites = flat_map (λ (x : Site). map (λ (n : Placed). n.path) (landings object x)) sites
+landed_paths object sites = flat_map (λ (x : Site). paths_of (landings object x)) sites
 
 -- ---- numbers
 

@@ -1,5 +1,5 @@
 -- The numbers of an object's nodes that land, by its nodes.
-use Rattle.std.specs.Prelude.{◌≡◌, ℕ, Bool, true, false, List, [], ◌∷◌, ◌++◌, map, nat_eq, cond, Option, Some, None, is_some, codes}
+use Rattle.std.specs.Prelude.{◌≡◌, ℕ, Bool, true, false, List, [], ◌∷◌, ◌++◌, nat_eq, cond, Option, Some, None, is_some, codes}
 use Rattle.std.specs.Map.{lookup}
 use Rattle.dt_model.specs.Lists.{IsIn}
 use Rattle.dt_model.specs.Numbers.{number_in}
@@ -7,7 +7,7 @@ use Rattle.dt_model.specs.Path.{Path}
 use Rattle.dt_model.specs.Tree.{Reading, Placed, preorder, value_in}
 use Rattle.dt_trees.specs.Placed.{PlacedTree, reading_of, path_at, last_name, below_in, IsAt}
 use Rattle.dt_overlay_model.specs.Walk.{number_there, with_places}
-use Rattle.dt_overlay_base.specs.Known.{Known, alone, content_at, placed}
+use Rattle.dt_overlay_base.specs.Known.{Known, alone, content_at, paths_of, placed}
 
 -- ---- tables by nodes
 
@@ -39,10 +39,6 @@ pub record NumbersMore (t : PlacedTree) (numbers : List (Path × ℕ)) (paths : 
 
 abbrev pub has_phandle_at : PlacedTree → Path → Bool
 has_phandle_at t p = is_some (value_in (reading_of t) p (codes "phandle"))
-
--- the paths of some nodes
-abbrev pub paths_of : List Placed → List Path
-paths_of nodes = map (λ (n : Placed). n.path) nodes
 
 -- the paths of the nodes below a node
 abbrev pub paths_below : PlacedTree → ℕ → List Path

@@ -19,12 +19,13 @@ use Rattle.dt_model_laws.proofs.Placed.{site_names}
 use Rattle.dt_overlay_model.specs.Walk.{Walked, nothing_walked, number_there, new_numbers, site, landed_on, landings, with_places}
 use Rattle.dt_overlay_model.proofs.Brought.{landing_more, lands_below, new_has, source_is_new}
 use Rattle.dt_overlay_model.proofs.NewNumbers.{number_given, number_new}
+use Rattle.dt_overlay_model.proofs.Places.{places_kept}
 use Rattle.dt_overlay_model.proofs.Walks.{IsWalked}
 use Rattle.dt_overlay_laws.specs.Landings.{AreSited}
 use Rattle.dt_overlay_laws.proofs.Landed.{lands_listed}
-use Rattle.dt_overlay_base.specs.Known.{content_at}
+use Rattle.dt_overlay_base.specs.Known.{content_at, paths_of}
 use Rattle.dt_overlay_base.specs.NodeNumbers.{at_node, IsNumbered, FitBelow, paths_in}
-use Rattle.dt_overlay_base.proofs.NodesNumbered.{numbered_none, there_kept}
+use Rattle.dt_overlay_base.proofs.NodesNumbered.{numbered_none}
 use Rattle.dt_overlay_landing.specs.Turns.{AreNumberedBy, FitSoFar}
 use Rattle.dt_overlay_landing.proofs.SitesTurns.{front_walked, content_is}
 use Rattle.dt_trees.specs.Placed.{PlacedTree, reading_of, path_at, below_at, HasPlacesApart, IsAt}
@@ -126,8 +127,8 @@ content_has t apart f k p at there inside = by (below (content f) p) refl inside
         let one : w.0 ≡ own = only w.0 own w.2 in
         let listed : IsIn w.1 (landings (reading_of t) own) = subst (λ (x : Site). IsIn w.1 (landings (reading_of t) x)) one w.3 in
         let among = in_map (λ (n : Placed). n.path) (landings (reading_of t) own) w.1 listed in
-        let same : map (λ (n : Placed). n.path) (landings (reading_of t) own) ≡ paths_in t k =
-        ap (map (λ (n : Placed). n.path)) (content_is t f (content f) k apart at) ∙ (λ i. sym (path_is t apart (content f) k at) i ∷ map (λ (n : Placed). n.path) (preorder (sym (path_is t apart (content f) k at) i) (below_at t (path_at t k)))) in
+        let same : paths_of (landings (reading_of t) own) ≡ paths_in t k =
+        ap paths_of (content_is t f (content f) k apart at) ∙ (λ i. sym (path_is t apart (content f) k at) i ∷ paths_of (preorder (sym (path_is t apart (content f) k at) i) (below_at t (path_at t k)))) in
         subst (λ (q : Path). IsIn q (paths_in t k)) w.4 (subst (IsIn w.1.path) same among)
       where
         only : (x y : Site) → IsIn x (y ∷ []) → x ≡ y
@@ -152,7 +153,7 @@ module _ (base : Reading) (t : PlacedTree) (w : Walked) (f : Name) (q : Path) (n
   -- they fitted before the last fragment landed
   pub fit_before : FitSoFar base t w numbers
   fit_before = record {
-    keyed = λ p r n has lands there. fit.keyed p r n has (landing_more w.sites (site f q ∷ []) p r lands) (there_kept base (landings object (site f q)) w.given r n there);
+    keyed = λ p r n has lands there. fit.keyed p r n has (landing_more w.sites (site f q ∷ []) p r lands) (places_kept base (landings object (site f q)) w.given r n there);
     bare = fit.bare;
   }
 

@@ -28,7 +28,7 @@ use Rattle.dt_overlay_laws.proofs.Sited.{sited_walks}
 use Rattle.dt_overlay_landing.specs.declared.marks.TargetMark.{TargetMark}
 use Rattle.dt_overlay_object.specs.declared.landing.Landing.{Landing}
 use Rattle.dt_overlay_object.specs.declared.brought.Brought.{Brought}
-use Rattle.dt_overlay_base.specs.Known.{Known, IsKnown, HasRoom, content_at, landed_paths}
+use Rattle.dt_overlay_base.specs.Known.{Known, IsKnown, HasRoom, content_at, landed_paths, paths_of}
 use Rattle.dt_trees.specs.Placed.{PlacedTree, reading_of, forest_under, properties_found, IsAt, HasPlacesApart}
 use Rattle.dt_trees.proofs.NodePlaces.{path_is, stands_place}
 use Rattle.dt_overlay_landing.specs.Turns.{Turn, IsTurnIn, AreLandings, LandsTooDeep}
@@ -94,7 +94,7 @@ module _ (object : Reading) (valid : IsValid object) (sites : List Site) (done l
 
   landed_from : (q : Path) → IsIn q (landed_paths object sites) → IsLanded q
   landed_from q i =
-      let w = from_flat (λ (x : Site). map (λ (n : Placed). n.path) (landings object x)) sites q i in
+      let w = from_flat (λ (x : Site). paths_of (landings object x)) sites q i in
       let v = in_map_from (λ (n : Placed). n.path) (landings object w.0) q w.2 in
       record { site' = w.0; node = v.0; sited = w.1; lands = v.1; at = sym v.2 }
 
@@ -114,7 +114,7 @@ module _ (object : Reading) (valid : IsValid object) (sites : List Site) (done l
         (content w.site'.fragment ++ from.0, from.2, lands_below sites w.site' from.0 apart w.sited ∙ ap (λ (p : Path). Some p) (sym from.1 ∙ w.at));
     complete = λ p q h l.
         let w = lands_listed object sites p q h l in
-        in_flat (λ (x : Site). map (λ (n : Placed). n.path) (landings object x)) sites w.0 q w.2 (subst (λ (r : Path). IsIn r (map (λ (n : Placed). n.path) (landings object w.0))) w.4 (in_map (λ (n : Placed). n.path) (landings object w.0) w.1 w.3));
+        in_flat (λ (x : Site). paths_of (landings object x)) sites w.0 q w.2 (subst (λ (r : Path). IsIn r (paths_of (landings object w.0))) w.4 (in_map (λ (n : Placed). n.path) (landings object w.0) w.1 w.3));
   }
     where
       both_named : (p r : Path) → AllByRecursion IsNodeName p → AllByRecursion IsNodeName r → AllByRecursion IsNodeName (p ++ r)
@@ -196,9 +196,9 @@ sites_apart base fixups object valid w done later f q h all plain =
     apart object valid (landed_on base object w f q).sites (done ++ f ∷ []) later next.named (append_assoc done (f ∷ []) later ∙ all)
 
 -- what is known behind it
-pub known_behind : (base object : Reading) (w : Walked) (f : Name) (q : Path) (a : Known) → IsKnown base (with_places base (landings object (site f q)) w.given) (landed_paths object w.sites ++ map (λ (n : Placed). n.path) (landings object (site f q))) a
+pub known_behind : (base object : Reading) (w : Walked) (f : Name) (q : Path) (a : Known) → IsKnown base (with_places base (landings object (site f q)) w.given) (landed_paths object w.sites ++ paths_of (landings object (site f q))) a
     → IsKnown base (landed_on base object w f q).given (landed_paths object (landed_on base object w f q).sites) a
 known_behind base object w f q a h =
-    let paths = λ (x : Site). map (λ (n : Placed). n.path) (landings object x) in
+    let paths = λ (x : Site). paths_of (landings object x) in
     subst (λ (ps : List Path). IsKnown base (landed_on base object w f q).given ps a)
     (ap (λ (ps : List Path). landed_paths object w.sites ++ ps) (sym (append-nil (paths (site f q)))) ∙ sym (flat_map-append paths w.sites (site f q ∷ []))) h

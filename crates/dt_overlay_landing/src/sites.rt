@@ -3,6 +3,7 @@
 ghost use Rattle.std.specs.Prelude.{◌≡◌, ◌<◌, ◌≤◌, ◌||◌, [], ℕ, List, Some, None, is_some, length, option_and_then, codes, OnOk, IfOk, IfErr, IfSome};
 ghost use Rattle.std.specs.Option.{option_or};
 ghost use Rattle.std.specs.List.{AllByRecursion};
+ghost use Rattle.dt_model.specs.Format.{word_at};
 ghost use Rattle.dt_model.specs.Path.{Path as Names};
 ghost use Rattle.dt_model.specs.Names.{Name, IsNodeName};
 ghost use Rattle.dt_model.specs.Tree.{Reading, nodes_of, stands_in, value_in};
@@ -22,6 +23,7 @@ ghost use Rattle.dt_overlay_landing.specs.declared.marks.TargetMark.{TargetMark}
 ghost use Rattle.dt_names.specs.Fault.{IsNoMemory, IsMemoryOr};
 
 use crate::marks::{TargetMark, TargetMarks, target_marks};
+use dt_bytes::be32;
 use dt_names::{Fault, FaultKind, NodeId, NodeName, Path};
 use dt_overlay_base::{Places, Target, is_bookkeeping, note_content};
 use dt_overlay_object::{Brought, Landing, Object, ObjectFragment, ObjectTarget};
@@ -150,14 +152,9 @@ fn named<T: Target>(
 /// The number in the first four bytes of a node's property `target`.
 fn target_number<V: TreeView>(object: &V, node: NodeId) -> Option<u32>
     requires { IsNode (V.tree object.now) node }
-    ensures { (value : List ℕ) → value_in (reading_of (V.tree object.now)) (path_at (V.tree object.now) node) (codes "target") ≡ Some value →
-        4 ≤ length value → result ≡ Some (number_at value 0) }
+    ensures { result ≡ option_and_then (λ (value : List ℕ). word_at value 0) (value_in (reading_of (V.tree object.now)) (path_at (V.tree object.now) node) (codes "target")) }
 {
-    let value = object.value(node, b"target".as_slice())?;
-    if value.len() < 4 {
-        return None;
-    }
-    Some(u32::from_be_bytes([value[0], value[1], value[2], value[3]]))
+    be32(object.value(node, b"target".as_slice())?, 0)
 }
 
 /// The node of the tree so far that a number in `target` names, according to the object's lists.

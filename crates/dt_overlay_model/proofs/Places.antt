@@ -84,16 +84,20 @@ found_place ((r, k) ∷ given) q n h = step (path_eq r q) refl h (found_place gi
 
 -- ---- where there is no number
 
-pub none_there : (base : Reading) (given : List (Path × ℕ)) (q : Path) → number_there base given q ≡ None → (value_in base q (codes "phandle") ≡ None) × (number_in given q ≡ None)
-none_there base given q h = step (value_in base q (codes "phandle")) h
+pub none_there : (base : Reading) (given : List (Path × ℕ)) (q : Path) → is_some (number_there base given q) ≡ false → (value_in base q (codes "phandle") ≡ None) × (number_in given q ≡ None)
+none_there base given q h = step (value_in base q (codes "phandle")) (number_in given q) h
   where
-    step : (y : Option (List ℕ)) → option_or (option_map (from_be_bytes w32) y) (number_in given q) ≡ None → (y ≡ None) × (number_in given q ≡ None)
-    step None e = (refl, e)
-    step (Some v) e = absurd (let z : Some (from_be_bytes w32 v) ≡ None = e in cc)
+    step : (y : Option (List ℕ)) (m : Option ℕ) → is_some (option_or (option_map (from_be_bytes w32) y) m) ≡ false → (y ≡ None) × (m ≡ None)
+    step None None e = (refl, refl)
+    step None (Some n) e = absurd (true≢false e)
+    step (Some v) m e = absurd (true≢false e)
 
-not_some : {A : Type 0} (y : Option A) → is_some y ≡ false → y ≡ None
-not_some None e = refl
-not_some (Some x) e = absurd (true≢false e)
+-- a place that gets one has it
+pub given_there : (base : Reading) (given : List (Path × ℕ)) (q : Path) (n : ℕ) → is_some (number_there base given q) ≡ false → number_there base (given ++ (q, n) ∷ []) q ≡ Some n
+given_there base given q n none =
+    let bare = none_there base given q none in
+    ap (λ (o : Option (List ℕ)). option_or (option_map (from_be_bytes w32) o) (number_in (given ++ (q, n) ∷ []) q)) bare.0
+    ∙ number_in-last given q q n ∙ ap (λ (o : Option ℕ). option_or o (if path_eq q q then Some n else None)) bare.1 ∙ ap (λ (b : Bool). if b then Some n else None) (path_eq_refl q)
 
 in_single : (x q : Path) → IsIn x (q ∷ []) → x ≡ q
 in_single x q (inl same) = same
@@ -105,7 +109,7 @@ in_last x y [] (inr i) = absurd i
 in_last x y (z ∷ xs) (inl same) = inl (inl same)
 in_last x y (z ∷ xs) (inr i) = elim (in_last x y xs i) [ inl j ↦ inl (inr j) | inr e ↦ inr e ]
 
-more_given : (base : Reading) (given : List (Path × ℕ)) (q : Path) (n : ℕ) → AreGiven base given → number_there base given q ≡ None → IsLeastFree (numbers given ++ numbers_of base) n
+more_given : (base : Reading) (given : List (Path × ℕ)) (q : Path) (n : ℕ) → AreGiven base given → is_some (number_there base given q) ≡ false → IsLeastFree (numbers given ++ numbers_of base) n
     → AreGiven base (given ++ (q, n) ∷ [])
 more_given base given q n are none least = record {
   numbered = numbers_more (numbers_of base) given q n are.numbered least;
@@ -119,43 +123,50 @@ more_given base given q n are none least = record {
   ];
 }
 
-or_kept : {A : Type 0} (a b c : Option A) (x : A) → option_or a b ≡ Some x → option_or a (option_or b c) ≡ Some x
-or_kept None b c x h = rw h refl
-or_kept (Some y) b c x h = h
+-- ---- a number of a place stays
 
-or_now : {A : Type 0} (a b : Option A) (x : A) → is_some (option_or a (option_or b (Some x))) ≡ true
-or_now None None x = refl
-or_now None (Some y) x = refl
-or_now (Some y) b x = refl
+pub place_kept : (base : Reading) (q : Path) (given : List (Path × ℕ)) (p : Path) (n : ℕ) → number_there base given p ≡ Some n → number_there base (with_place base q given) p ≡ Some n
+place_kept base q given p n there = step (is_some (number_there base given q))
+  where
+    own : Option ℕ
+    own = option_map (from_be_bytes w32) (value_in base p (codes "phandle"))
+
+    behind : (mine first later : Option ℕ) → option_or mine first ≡ Some n → option_or mine (option_or first later) ≡ Some n
+    behind None first later e = rw e refl
+    behind (Some m) first later e = e
+
+    step : (b : Bool) → number_there base (if b then given else given ++ (q, least_free (numbers given ++ numbers_of base)) ∷ []) p ≡ Some n
+    step true = there
+    step false =
+        let k : ℕ = least_free (numbers given ++ numbers_of base) in
+        ap (option_or own) (number_in-last given q p k) ∙ behind own (number_in given p) (if path_eq q p then Some k else None) there
+
+pub places_kept : (base : Reading) (nodes : List Placed) (given : List (Path × ℕ)) (p : Path) (n : ℕ) → number_there base given p ≡ Some n → number_there base (with_places base nodes given) p ≡ Some n
+places_kept base [] given p n there = there
+places_kept base (x ∷ nodes) given p n there = places_kept base nodes (if has_phandle x then with_place base x.path given else given) p n (step (has_phandle x))
+  where
+    step : (b : Bool) → number_there base (if b then with_place base x.path given else given) p ≡ Some n
+    step true = place_kept base x.path given p n there
+    step false = there
 
 -- ---- one node lands
 
--- What a landing on q leaves: what has a number keeps it, and so has q.
+-- What a landing on q leaves: q has a number.
 pub record IsPlaced (base : Reading) (q : Path) (given new : List (Path × ℕ)) : Type 0 where
   pub are : AreGiven base new
-  pub kept : (p : Path) (n : ℕ) → number_there base given p ≡ Some n → number_there base new p ≡ Some n
   pub now : is_some (number_there base new q) ≡ true
   pub only : (p : Path) → IsIn p (places new) → IsIn p (places given) ⊎ (p ≡ q)
 
 pub placed : (base : Reading) (q : Path) (given : List (Path × ℕ)) → AreGiven base given → IsPlaced base q given (with_place base q given)
 placed base q given are = step (is_some (number_there base given q)) refl
   where
-    n : ℕ
-    n = least_free (numbers given ++ numbers_of base)
-
     step : (b : Bool) → is_some (number_there base given q) ≡ b → IsPlaced base q given (if b then given else given ++ (q, least_free (numbers given ++ numbers_of base)) ∷ [])
-    step true e = record { are = are; kept = λ p k h. h; now = e; only = λ p i. inl i }
+    step true e = record { are = are; now = e; only = λ p i. inl i }
     step false e =
         let k : ℕ = least_free (numbers given ++ numbers_of base) in
         record {
-          are = more_given base given q k are (not_some (number_there base given q) e) (least_is_free (numbers given ++ numbers_of base));
-          kept = λ p i h.
-              ap (option_or (option_map (from_be_bytes w32) (value_in base p (codes "phandle")))) (number_in-last given q p k)
-              ∙ or_kept (option_map (from_be_bytes w32) (value_in base p (codes "phandle"))) (number_in given p) (if path_eq q p then Some k else None) i h;
-          now =
-              ap is_some (ap (option_or (option_map (from_be_bytes w32) (value_in base q (codes "phandle"))))
-              (number_in-last given q q k ∙ ap (λ b. option_or (number_in given q) (if b then Some k else None)) (path_eq_refl q)))
-              ∙ or_now (option_map (from_be_bytes w32) (value_in base q (codes "phandle"))) (number_in given q) k;
+          are = more_given base given q k are e (least_is_free (numbers given ++ numbers_of base));
+          now = ap is_some (given_there base given q k e);
           only = λ p i. in_last p q (places given) (subst (IsIn p) (places_last given q k) i);
         }
 
@@ -163,7 +174,6 @@ placed base q given are = step (is_some (number_there base given q)) refl
 
 pub record ArePlaced (base : Reading) (nodes : List Placed) (given new : List (Path × ℕ)) : Type 0 where
   pub are : AreGiven base new
-  pub kept : (p : Path) (n : ℕ) → number_there base given p ≡ Some n → number_there base new p ≡ Some n
   pub now : (n : Placed) → IsIn n nodes → has_phandle n ≡ true → is_some (number_there base new n.path) ≡ true
   pub only : (p : Path) → IsIn p (places new) → IsIn p (places given) ⊎ ((n : Placed) × IsIn n nodes × (has_phandle n ≡ true) × (n.path ≡ p))
 
@@ -176,7 +186,7 @@ still_some base given new q kept h = step (number_there base given q) refl h
     step (Some n) e k = ap is_some (kept q n e)
 
 pub all_placed : (base : Reading) (nodes : List Placed) (given : List (Path × ℕ)) → AreGiven base given → ArePlaced base nodes given (with_places base nodes given)
-all_placed base [] given are = record { are = are; kept = λ p k h. h; now = λ n i. absurd i; only = λ p i. inl i }
+all_placed base [] given are = record { are = are; now = λ n i. absurd i; only = λ p i. inl i }
 all_placed base (n ∷ nodes) given are = step (all_placed base nodes) (has_phandle n) refl
   where
     step : ((g : List (Path × ℕ)) → AreGiven base g → ArePlaced base nodes g (with_places base nodes g)) → (b : Bool) → has_phandle n ≡ b → ArePlaced base (n ∷ nodes) given (with_places base nodes (if b then with_place base n.path given else given))
@@ -185,9 +195,8 @@ all_placed base (n ∷ nodes) given are = step (all_placed base nodes) (has_phan
         let rest = more (with_place base n.path given) here.are in
         record {
           are = rest.are;
-          kept = λ p k h. rest.kept p k (here.kept p k h);
           now = λ x i has. elim i [
-            | inl same ↦ still_some base (with_place base n.path given) (with_places base nodes (with_place base n.path given)) x.path rest.kept
+            | inl same ↦ still_some base (with_place base n.path given) (with_places base nodes (with_place base n.path given)) x.path (places_kept base nodes (with_place base n.path given))
                 (ap (λ (y : Placed). is_some (number_there base (with_place base n.path given) y.path)) same ∙ here.now)
             | inr j ↦ rest.now x j has
           ];
@@ -200,7 +209,6 @@ all_placed base (n ∷ nodes) given are = step (all_placed base nodes) (has_phan
         let rest = more given are in
         record {
           are = rest.are;
-          kept = rest.kept;
           now = λ x i has. elim i [
             | inl same ↦ absurd (true≢false (sym has ∙ ap has_phandle same ∙ e))
             | inr j ↦ rest.now x j has

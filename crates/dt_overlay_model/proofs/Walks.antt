@@ -14,7 +14,7 @@ use Rattle.dt_model.proofs.Tests.{in_right}
 use Rattle.dt_model.proofs.Distinct.{distinct_left}
 use Rattle.dt_model_laws.proofs.Placed.{site_names}
 use Rattle.dt_overlay_model.specs.Walk.{Walked, nothing_walked, number_there, has_phandle, target_of, site, landings, landed_on, if_plain, walk_one, walk}
-use Rattle.dt_overlay_model.proofs.Places.{AreGiven, places, all_placed, still_some}
+use Rattle.dt_overlay_model.proofs.Places.{AreGiven, places, all_placed, places_kept, still_some}
 use Rattle.dt_overlay_model.proofs.Brought.{fragments_distinct, lands_below, landing_more, landing_is_new}
 
 -- a fragment's target is a node of the tree so far, and what it brings has landed there
@@ -83,7 +83,7 @@ module _ (base object : Reading) (fixups : List (Name × Cell)) (valid : IsValid
           | inr v ↦ new v.0 v.1 v.2 r v.3
         ];
         numbered = λ x n i k has. elim (last_in x (site f q) w.sites i) [
-          | inl j ↦ still_some base w.given (landed_on base object w f q).given n.path here.kept (h.numbered x n j k has)
+          | inl j ↦ still_some base w.given (landed_on base object w f q).given n.path (places_kept base (landings object (site f q)) w.given) (h.numbered x n j k has)
           | inr same ↦ here.now n (subst (λ z. IsIn n (landings object z)) same k) has
         ];
       }

@@ -9,8 +9,8 @@ use Rattle.dt_model.specs.Valid.{names}
 use Rattle.dt_overlay_laws.specs.Landings.{MayAllLand}
 use Rattle.dt_trees.specs.Placed.{path_at, last_name, below_in}
 use Rattle.dt_trees.proofs.Walked.{IsWalked, walk_begins, walk_ends, visit, walked_first, left_counted}
-use Rattle.dt_overlay_base.specs.Known.{HasRoom, alone, placed}
-use Rattle.dt_overlay_base.specs.NodeNumbers.{NotesNumbers, paths_below, paths_in, paths_of}
+use Rattle.dt_overlay_base.specs.Known.{HasRoom, alone, paths_of, placed}
+use Rattle.dt_overlay_base.specs.NodeNumbers.{NotesNumbers, paths_below, paths_in}
 use Rattle.dt_overlay_model.specs.Walk.{with_places}
 use Rattle.dt_overlay_base.proofs.NodesNumbered.{left_noted, notes_behind, numbers_begun, numbers_over}
 use Rattle.dt_overlay_base.proofs.Results.{on_ok}

@@ -4,7 +4,8 @@ use Rattle.dt_model.specs.Path.{Path}
 use Rattle.dt_overlay_model.specs.Walk.{number_there}
 use Rattle.dt_model.specs.Numbers.{numbers_of}
 use Rattle.dt_overlay_base.specs.Known.{IsKnown, IsNext}
-use Rattle.dt_overlay_base.proofs.LooksNumbers.{last_low, place_given_next, none_there_at, given_there, placed_there}
+use Rattle.dt_overlay_model.proofs.Places.{none_there, given_there}
+use Rattle.dt_overlay_base.proofs.LooksNumbers.{last_low, place_given_next, placed_there}
 use Rattle.dt_overlay_base.proofs.looks.number_place.Goals as goal
 
 pub free_above-number-requires : goal.free_above-number-requires
@@ -32,7 +33,7 @@ returns-clause-known g c given landed known there got =
     let none : is_some (number_there base given q) ≡ false = ap is_some (sym (c.number_there.ensures given got) ∙ c.in_default.is) in
     subst (λ (more : List (Path × ℕ)). IsKnown base more landed c.give.new.self)
     (sym (place_given_next base given landed c.args.places.now known q c.requires.named there c.free_above-number.result none next))
-    (c.in_ok-give.ensures.known base given landed known there (none_there_at base given q none).1 next)
+    (c.in_ok-give.ensures.known base given landed known there (none_there base given q none).1 next)
 
 pub returns-clause-number : goal.returns-clause-number
 returns-clause-number g c given landed known there got =

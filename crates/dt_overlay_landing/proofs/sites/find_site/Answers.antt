@@ -1,4 +1,4 @@
-use Rattle.std.proofs.Common.{◌≡◌, List, [], ◌∷◌, ◌++◌, ◌∙◌, Some, map, inl, inr, sym, ap, subst}
+use Rattle.std.proofs.Common.{◌≡◌, List, [], ◌∷◌, ◌++◌, ◌∙◌, Some, inl, inr, sym, ap, subst}
 use Rattle.std.proofs.lemmas.Result.{err_from_is_err_and}
 use Rattle.dt_model.specs.Names.{Name}
 use Rattle.dt_model.specs.Overlay.{content}
@@ -7,7 +7,7 @@ use Rattle.dt_names.specs.declared.fault.FaultKind.{FaultKind}
 use Rattle.dt_names.specs.declared.fault.FaultKind.TheVariants.{ReservedPlace}
 use Rattle.dt_overlay_model.specs.Walk.{site, landings, with_places}
 use Rattle.dt_overlay_laws.specs.Landings.{target_in, MayAllLand, IsStuck}
-use Rattle.dt_overlay_base.specs.Known.{IsKnown, HasRoom, landed_paths}
+use Rattle.dt_overlay_base.specs.Known.{IsKnown, HasRoom, landed_paths, paths_of}
 use Rattle.dt_overlay_landing.proofs.NumbersLanded.{fit_content}
 use Rattle.dt_overlay_landing.proofs.SitesTurns.{turn_walked, content_is, room_for, sites_apart, known_behind}
 use Rattle.dt_trees.specs.Placed.{reading_of}
@@ -78,7 +78,7 @@ returns-clause-found g c turn t =
       named = sym (c.in_ok-path.ensures.value turn t) ∙ c.in-Some.is;
       may = subst MayAllLand (sym same) c.in_ok-note_content.ensures.may;
       known = known_behind base (reading_of a) turn.walked t.name q c.note_content.new.places
-          (subst (λ (ns : List Placed). IsKnown base (with_places base ns turn.walked.given) (landed_paths (reading_of a) turn.walked.sites ++ map (λ (n : Placed). n.path) ns) c.note_content.new.places) (sym same)
+          (subst (λ (ns : List Placed). IsKnown base (with_places base ns turn.walked.given) (landed_paths (reading_of a) turn.walked.sites ++ paths_of ns) c.note_content.new.places) (sym same)
           (c.in_ok-note_content.ensures.known turn.walked.given (landed_paths (reading_of a) turn.walked.sites) t.turn.known));
     }
 

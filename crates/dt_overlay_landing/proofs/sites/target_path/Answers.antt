@@ -1,8 +1,10 @@
-use Rattle.std.proofs.Common.{◌≡◌, ◌∙◌, ◌∷◌, [], ℕ, List, Option, Some, None, codes, sym, ap, subst, arith}
+use Rattle.std.proofs.Common.{◌≡◌, ◌∙◌, ◌∷◌, [], ℕ, List, Option, Some, None, codes, sym, ap, subst}
 use Rattle.std.specs.Option.{option_or}
-use Rattle.std.specs.Prelude.{option_and_then}
+use Rattle.std.specs.Prelude.{option_and_then, if◌then◌else◌, nat_le}
 use Rattle.std.specs.List.{list_any}
 use Rattle.std.proofs.lemmas.Result.{IfOk-weaker}
+use Rattle.dt_model.specs.Format.{word_at}
+use Rattle.dt_model.specs.Names.{Name}
 use Rattle.dt_model.specs.Object.{local_cells}
 use Rattle.dt_model.specs.Path.{Path}
 use Rattle.dt_model.specs.Tree.{Reading, nodes_of, value_in}
@@ -18,6 +20,11 @@ use Rattle.dt_overlay_landing.proofs.SitesTurns.{turn_landings}
 use Rattle.dt_trees.specs.Placed.{path_at, reading_of}
 use Rattle.dt_trees.proofs.NodePlaces.{path_is}
 use Rattle.dt_overlay_landing.proofs.sites.target_path.Goals as goal
+
+-- the number that a `target` of four bytes holds
+number_held : (object : Reading) (f : Name) (p : Path) (is : HoldsNumber object f) → value_in object p (codes "target") ≡ Some is.0
+    → option_and_then (λ (value : List ℕ). word_at value 0) (value_in object p (codes "target")) ≡ Some (number_at is.0 0)
+number_held object f p is there = ap (option_and_then (λ (value : List ℕ). word_at value 0)) there ∙ ap (λ (n : ℕ). if nat_le 4 n then Some (number_at is.0 0) else None) is.2
 
 pub returns-in-Path-clause-value : goal.returns-in-Path-clause-value
 returns-in-Path-clause-value g c turn t =
@@ -47,7 +54,7 @@ returns-in-Some-clause-value g c turn t =
     let is : HoldsNumber (reading_of o) f = subst (IsTargetOf (reading_of o) f) c.in-Number.is t.fragment.target in
     let there : value_in (reading_of o) (path_at o k) (codes "target") ≡ Some is.0 =
     ap (λ (p : Path). value_in (reading_of o) p (codes "target")) (path_is o c.validity.ensures.places (f ∷ []) k t.fragment.node) ∙ is.1 in
-    let read : Some c.in-Some.number ≡ Some (number_at is.0 0) = c.in-Some.ensures is.0 there (omega (arith, is.2)) in
+    let read : Some c.in-Some.number ≡ Some (number_at is.0 0) = c.in-Some.ensures ∙ number_held (reading_of o) f (path_at o k) is there in
     let number : c.in-Some.number ≡ number_at is.0 0 = cc in
     let own = list_any (is_target f) (local_cells (reading_of o)) in
     let got : at_node c.args.marks.now.entries k ≡ c.copied.result = sym (c.copied.ensures ∙ c.get.ensures.value) in
@@ -68,5 +75,5 @@ returns-in-None-clause-value g c turn t =
     let is : HoldsNumber (reading_of o) f = subst (IsTargetOf (reading_of o) f) c.in-Number.is t.fragment.target in
     let there : value_in (reading_of o) (path_at o k) (codes "target") ≡ Some is.0 =
     ap (λ (p : Path). value_in (reading_of o) p (codes "target")) (path_is o c.validity.ensures.places (f ∷ []) k t.fragment.node) ∙ is.1 in
-    let read : None ≡ Some (number_at is.0 0) = c.in-None.ensures is.0 there (omega (arith, is.2)) in
+    let read : None ≡ Some (number_at is.0 0) = c.in-None.ensures ∙ number_held (reading_of o) f (path_at o k) is there in
     absurd cc
