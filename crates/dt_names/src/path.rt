@@ -116,6 +116,16 @@ fn add(text: &mut Vec<u8>, name: &[u8]) -> Result<(), AllocError>
     Ok(())
 }
 
+/// A text with a name at its end, as `add` adds it, in memory of its own for no more.
+fn text_with(alloc: Global, text: &[u8], name: &[u8]) -> Result<Vec<u8>, AllocError>
+    ensures { IfOk result (λ longer. longer.items ≡ text.now ++ 47 ∷ name.now) }
+{
+    let mut longer = Vec::with_capacity(alloc, text.len() + 1 + name.len())?;
+    longer.extend_from_slice(text)?;
+    add(&mut longer, name)?;
+    Ok(longer)
+}
+
 impl<'a> PathRef<'a> {
     /// The path of a text; none where the text is of no path. Takes no memory.
     pub fn new(text: &'a [u8]) -> Option<PathRef<'a>>
@@ -229,6 +239,26 @@ impl Path {
         Ok(())
     }
 
+    /// The path of a child, with bytes of its own.
+    ///
+    /// # Errors
+    ///
+    /// `Limit` where the path has 64 names; and `NoMemory`, where it has fewer. None has a place.
+    pub fn child(&self, alloc: Global, name: &NodeName<'_>) -> Result<Path, Fault>
+        ensures ok { IfOk result (λ child. child ≡ self.now ++ name.now ∷ []) }
+        ensures room { IsOk result → length self.now < most_names }
+        ensures refused { IfErr result (λ fault. WhyNotPushed fault.kind self.now × (fault.at ≡ None)) }
+    {
+        if self.count >= MOST_NAMES {
+            return Err(Fault::of(FaultKind::Limit));
+        }
+        let text = text_with(alloc, &self.text, name.as_bytes())?;
+        Ok(Path {
+            text,
+            count: self.count + 1,
+        })
+    }
+
     /// The same path, with bytes of its own.
     ///
     /// # Errors
@@ -279,8 +309,8 @@ impl Path {
         PathNames { rest }
     }
 
-    /// The text of the path.
-    fn text(&self) -> &[u8]
+    /// The text of the path: `/` for the root, or else each name with a `/` before it (Devicetree Specification v0.4, 2.2.3).
+    pub fn text(&self) -> &[u8]
         ensures { result.now ≡ path_text self.now }
     {
         if self.text.is_empty() {

@@ -8,4 +8,3 @@ pub mod PlacesKept
 pub mod Reached
 pub mod Results
 pub mod Rooms
-pub mod TextsOfPaths

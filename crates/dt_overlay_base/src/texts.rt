@@ -14,14 +14,10 @@ use std::alloc::{AllocError, Global};
 pub fn put_path(out: &mut Vec<u8>, path: &Path) -> Result<(), AllocError>
     ensures { OnOk result (out.new.items ≡ path_value path.now) }
 {
+    let text = path.text();
     out.clear();
-    for name in path.names() {
-        out.push(b'/')?;
-        out.extend_from_slice(name)?;
-    }
-    if out.is_empty() {
-        out.push(b'/')?;
-    }
+    out.reserve(text.len() + 1)?;
+    out.extend_from_slice(text)?;
     out.push(0)?;
     Ok(())
 }
@@ -33,8 +29,5 @@ pub fn child_path(alloc: Global, path: &Path, name: &[u8]) -> Result<Path, Fault
     ensures room { IfOk result (λ child. length path.now < most_names) }
     ensures refused { IfErr result (IsMemoryOr (λ kind. (kind ≡ Limit) × (most_names ≤ length path.now))) }
 {
-    let name = NodeName::new(name)?;
-    let mut child = path.copy(alloc)?;
-    child.push(&name)?;
-    Ok(child)
+    path.child(alloc, &NodeName::new(name)?)
 }

@@ -9,9 +9,9 @@ use Rattle.dt_model.specs.Names.{Name}
 use Rattle.dt_model.specs.Path.{Path}
 use Rattle.dt_model.specs.Tree.{Property, node_below}
 use Rattle.dt_model.specs.Valid.{AreDistinct, AreNodes, names}
-use Rattle.dt_read.specs.declared.token.Token.{Token}
-use Rattle.dt_read.specs.declared.token.Token.TheVariants as code
-use Rattle.dt_read.specs.View.{view_at}
+use Rattle.dt_read.specs.declared.token.Tag.{Tag}
+use Rattle.dt_read.specs.declared.token.Tag.TheVariants as tags
+use Rattle.dt_read.specs.View.{tag_mark}
 use Rattle.dt_trees.specs.Placed.{Nodes, no_nodes, node, forest_of, PlacedTree, place_below, IsAt, names_under, child_names, first_place_of, names_behind}
 use Rattle.dt_read.specs.Marks.{Mark, begin_mark, marks_of_nodes}
 use Rattle.dt_read.specs.TreeTokens.{Parts, node_of, IsEnd, first_place}
@@ -31,12 +31,12 @@ pub none_begins : (siblings : Nodes) (rest marks : List Mark) → marks_of_nodes
 none_begins no_nodes rest marks e ends = refl
 none_begins (node other x properties children siblings) rest marks e ends = absurd (subst IsEnd (sym e) ends)
 
-pub ends_at : (at : ℕ) (token : Token) (marks : List Mark) → ((name : Bor (List ℕ)) → token ≡ code.BeginNode name → ⊥) → IsEnd (view_at at token ∷ marks)
-ends_at at (code.BeginNode name) marks h = absurd (h name refl)
-ends_at at code.EndNode marks h = tt
-ends_at at (code.Property name value) marks h = tt
-ends_at at code.Nop marks h = tt
-ends_at at code.End marks h = tt
+pub ends_at : (at : ℕ) (tag : Tag) (p : Property) (marks : List Mark) → ((name : Bor (List ℕ)) → tag ≡ tags.BeginNode name → ⊥) → IsEnd (tag_mark at tag p ∷ marks)
+ends_at at (tags.BeginNode name) p marks h = absurd (h name refl)
+ends_at at tags.EndNode p marks h = tt
+ends_at at (tags.Property bytes) p marks h = tt
+ends_at at tags.Nop p marks h = tt
+ends_at at tags.End p marks h = tt
 
 -- ---- names and places
 

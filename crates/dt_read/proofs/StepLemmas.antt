@@ -1,11 +1,11 @@
 -- The tokens of a tree are the steps of a walk through it.
-use Rattle.std.proofs.Common.{◌≡◌, ℕ, ◌+◌, List, [], ◌∷◌, ◌++◌, length, drop, map, Option, Some, refl, sym, ap, subst, ◌∙◌, append_assoc, inl, inr}
+use Rattle.std.proofs.Common.{◌≡◌, ℕ, ◌+◌, List, [], ◌∷◌, ◌++◌, length, drop, map, Option, Some, None, refl, sym, ap, subst, ◌∙◌, append_assoc, inl, inr}
 use Rattle.std.specs.Option.{IfSome}
 use Rattle.dt_model.specs.Format.{Token, begin_node, word_at}
 use Rattle.dt_model.specs.Lexing.{begin_in}
 use Rattle.dt_model.specs.Tree.{Property}
 use Rattle.dt_trees.specs.Placed.{Nodes, no_nodes, node}
-use Rattle.dt_read.specs.Marks.{Mark, end_mark, prop_mark, last_mark, mark_at, Root, marks_of_nodes, marks_of, without_nop_marks}
+use Rattle.dt_read.specs.Marks.{Mark, begin_mark, end_mark, prop_mark, last_mark, mark_at, Root, marks_of_nodes, marks_of, without_nop_marks}
 use Rattle.dt_read.specs.Parsing.{lexed}
 use Rattle.dt_read.specs.TreeTokens.{AreTokens, marks_in, Parts, marks_of_parts}
 use Rattle.dt_read.specs.StepsLeft.{steps_left}
@@ -53,15 +53,21 @@ steps_of_tree boot_cpu reservations root =
     ∙ steps_of_properties root.properties (marks_of_nodes root.children ++ end_mark ∷ last_mark ∷ [])
     ∙ ap (λ (s : List Step). map holds root.properties ++ s) (steps_of_siblings root.children (end_mark ∷ last_mark ∷ [])))
 
--- no property leads where a node begins
-pub none_leads : (strings : List ℕ) (at : ℕ) (bytes : List ℕ) → AreTokens strings at bytes → word_at bytes 0 ≡ Some 1 → leading (steps_left (marks_in strings at bytes)) ≡ []
+-- a node begins where the number of its token comes
+pub begins_mark : (strings : List ℕ) (at : ℕ) (bytes : List ℕ) → AreTokens strings at bytes → word_at bytes 0 ≡ Some 1 → (name : List ℕ) × (later : List Mark) × (marks_in strings at bytes ≡ begin_mark at name ∷ later)
 unfolding lexed
-none_leads strings at bytes a e = elim (first_token strings at bytes a) [
-  | inl none ↦ subst (λ (b : List ℕ). leading (steps_left (marks_in strings at b)) ≡ []) (sym none) refl
+begins_mark strings at bytes a e = elim (first_token strings at bytes a) [
+  | inl none ↦ absurd (let z : None ≡ Some 1 = sym (ap (λ (b : List ℕ). word_at b 0) none) ∙ e in cc)
   | inr f ↦
       let Begins : Token × ℕ → Type 0 = λ r. (name : List ℕ) × (r.0 ≡ begin_node name) in
       let begins : Begins (f.0, f.1) = subst (λ (o : Option (Token × ℕ)). IfSome o Begins) f.2 (of_number strings bytes 1 (begin_in bytes) Begins e refl (of_begin bytes)) in
-      ap (λ (marks : List Mark). leading (steps_left marks)) (
-      (next_from strings at bytes f.0 f.1 a f.2 f.3).marks
-      ∙ ap (λ (token : Token). without_nop_marks (mark_at at token ∷ lexed (length (drop f.1 bytes)) strings (at + f.1) (drop f.1 bytes))) begins.1)
+      let later : List Mark = lexed (length (drop f.1 bytes)) strings (at + f.1) (drop f.1 bytes) in (
+        begins.0,
+        without_nop_marks later,
+        (next_from strings at bytes f.0 f.1 a f.2 f.3).marks ∙ ap (λ (token : Token). without_nop_marks (mark_at at token ∷ later)) begins.1,
+      )
 ]
+
+-- no property leads there
+pub none_leads : (strings : List ℕ) (at : ℕ) (bytes : List ℕ) → AreTokens strings at bytes → word_at bytes 0 ≡ Some 1 → leading (steps_left (marks_in strings at bytes)) ≡ []
+none_leads strings at bytes a e = let b = begins_mark strings at bytes a e in ap (λ (marks : List Mark). leading (steps_left marks)) b.2

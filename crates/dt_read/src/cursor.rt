@@ -10,7 +10,7 @@ ghost use Rattle.dt_read.specs.Marks.{mark_at};
 ghost use Rattle.dt_read.specs.TreeTokens.{AreTokens, marks_in, past, past_others, past_properties};
 
 use crate::property::{Sought, look_for};
-use crate::token::{Tag, Token, tag_at, token_at};
+use crate::token::{Tag, Token, begins_a_node, tag_at, token_at};
 use std::marker::Model;
 
 /// A token, its place, and what follows it.
@@ -117,6 +117,9 @@ impl<'a> Model for Cursor<'a> {
 }
 
 impl<'a> Cursor<'a> {
+    ghost use Rattle.dt_model.specs.Names.{Name};
+    ghost use Rattle.dt_read.specs.Marks.{Mark, begin_mark};
+
     pub fn new(strings: &'a [u8], at: usize, rest: &'a [u8]) -> Cursor<'a>
         requires { AreTokens strings.now at rest.now }
         ensures { result ≡ marks_in strings.now at rest.now }
@@ -167,6 +170,18 @@ impl<'a> Cursor<'a> {
         self.at = found.behind;
         self.rest = found.rest;
         Some((found.at, found.tag))
+    }
+
+    /// The place of the node that begins next, where its BEGIN_NODE is the very next token. It costs less than `next_tag`, which looks for the end of the
+    /// node's name.
+    pub fn node_at_front(&self) -> Option<usize>
+        ensures { IfSome result (λ place. (name : Name) × (later : List Mark) × (self.now ≡ begin_mark place name ∷ later)) }
+    {
+        if begins_a_node(self.rest) {
+            Some(self.at)
+        } else {
+            None
+        }
     }
 
     /// Skips the properties of other names, and reads what comes then, with its offset.

@@ -6,7 +6,7 @@ use crate::NodeId;
 use crate::cursor::{Cursor, skip_node, skip_properties};
 use crate::scan::{BadTagAt, first_bad_tag};
 use crate::steps::Steps;
-use crate::token::{Tag, Token};
+use crate::token::Tag;
 use crate::walk::{Props, Siblings, sibling_in, value_in};
 use std::hash::{DefaultHasher, Hasher};
 use std::marker::Model;
@@ -158,8 +158,11 @@ impl<'a> Structure<'a> {
         let mut cursor = self.cursor_at(node);
         let _ = cursor.next_tag();
         skip_node(&mut cursor);
-        let (sibling, token) = cursor.next()?;
-        let Token::BeginNode(_) = token else {
+        if let Some(sibling) = cursor.node_at_front() {
+            return Some(sibling);
+        }
+        let (sibling, tag) = cursor.next_tag()?;
+        let Tag::BeginNode(_) = tag else {
             return None;
         };
         Some(sibling)
