@@ -133,6 +133,7 @@ fn list_fixup<'o, T: Target, V: TreeView>(
 {
     match number_of(target, landing, fixup.name) {
         Ok(number) => list_cells(object, fixup.value, number, out),
+        Err(fault) if fault.kind == FaultKind::NoMemory => Err(fault),
         // Texts that are off are reported before their label.
         Err(_) if !are_cells(object, fixup.value) => Err(Fault::of(FaultKind::BadFixup)),
         Err(fault) => Err(fault),
