@@ -152,7 +152,8 @@ fn named<T: Target>(
 /// The number in the first four bytes of a node's property `target`.
 fn target_number<V: TreeView>(object: &V, node: NodeId) -> Option<u32>
     requires { IsNode (V.tree object.now) node }
-    ensures { result ≡ option_and_then (λ (value : List ℕ). word_at value 0) (value_in (reading_of (V.tree object.now)) (path_at (V.tree object.now) node) (codes "target")) }
+    ensures { result ≡ option_and_then (λ (value : List ℕ). word_at value 0)
+        (value_in (reading_of (V.tree object.now)) (path_at (V.tree object.now) node) (codes "target")) }
 {
     be32(object.value(node, b"target".as_slice())?, 0)
 }
