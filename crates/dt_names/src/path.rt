@@ -1,6 +1,7 @@
 //! Paths of nodes (Devicetree Specification v0.4, 2.2.3).
 
-ghost use Rattle.std.specs.Prelude.{◌≡◌, ℕ, ◌<◌, ◌≤◌, ◌++◌, ◌∷◌, [], length, take, false, true, None, OnOk, OnErr, IsOk, IfOk, IfErr, IfSome, MatchOption, slice_get};
+ghost use Rattle.std.specs.Prelude.{◌≡◌, ℕ, ◌<◌, ◌≤◌, ◌++◌, ◌∷◌, [], length, take, false, true, None, slice_get};
+ghost use Rattle.std.specs.Prelude.{OnOk, OnErr, IsOk, IfOk, IfErr, IfSome, MatchOption};
 ghost use Rattle.std.specs.Iterator.{YieldsFirstRef, item_count};
 ghost use Rattle.std.specs.List.{AllByRecursion};
 ghost use Rattle.std.specs.Option.{option_copied};
@@ -116,7 +117,7 @@ fn add(text: &mut Vec<u8>, name: &[u8]) -> Result<(), AllocError>
     Ok(())
 }
 
-/// A text with a name at its end, as `add` adds it, in memory of its own for no more.
+/// A copy of a text, with a name added at its end. It asks for memory once.
 fn text_with(alloc: Global, text: &[u8], name: &[u8]) -> Result<Vec<u8>, AllocError>
     ensures { IfOk result (λ longer. longer.items ≡ text.now ++ 47 ∷ name.now) }
 {
